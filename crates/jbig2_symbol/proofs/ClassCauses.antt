@@ -19,11 +19,11 @@ use Rattle.jbig2_mmr.specs.Causes.{BreaksMmr}
 use Rattle.jbig2_mmr.specs.T6.{mmr_rows}
 use Rattle.jbig2_mmr.proofs.Causes.{cause-mmr}
 use Rattle.jbig2_text.specs.TextCoding.{in_band}
-use Rattle.jbig2_symbol.specs.Causes.{BreaksCollectiveBitmap, BreaksEmptyClass, BreaksHeightClass, BreaksSized, IsNoSize}
+use Rattle.jbig2_symbol.specs.Causes.{BreaksCollectiveBitmap, BreaksEmptyClass, BreaksHeightClass, BreaksSized, BreaksTallClass, IsNoSize}
 use Rattle.jbig2_symbol.specs.HeightClasses.{empty_class, height_class, size_in_word}
 use Rattle.jbig2_symbol.specs.SymbolBitmaps.{collective_bitmap, mmr_bytes, raw_rows, raw_stride, rows_of_size}
 use Rattle.jbig2_symbol.specs.SymbolReading.{ClassReadings, SymbolInput, SymbolState, by_table, not_negative}
-use Rattle.jbig2_symbol.specs.inner.SymbolViews.{class_behind}
+use Rattle.jbig2_symbol.specs.inner.SymbolViews.{class_behind, tall_class}
 use Rattle.jbig2_region.proofs.Told.{cause-if, cause-last, cause-more}
 use Rattle.jbig2_symbol.proofs.ReadingCauses.{in-steps, own-error, told-size}
 
@@ -79,6 +79,17 @@ collective_causes d width height s =
 pub collective_cause : {X : Type 0} (d : SymbolInput) (width height : ℕ) (s : SymbolState Place) (r : Result X DecodeError) → IfErr r (λ e. (e ≡ errors.OutOfMemory) ⊎ (collective_bitmap d width height s ≡ Err e))
     → HasCauseOrNoMemory r (BreaksCollectiveBitmap d width height s)
 collective_cause d width height s r = call-cause-or-memory (BreaksCollectiveBitmap d width height s) (collective_bitmap d width height s) r (collective_causes d width height s)
+
+-- ---- a class that is too high for its symbols
+last-refused : {X : Type 0} (P Q : DecodeError → Type 0) (step : Result X DecodeError) (last : DecodeError) → IfErr step P → Q last → ((e : DecodeError) → P e → Q e) → IfErr (step >>= λ _. (let r : Result (Unit {0}) DecodeError = Err last in r)) Q
+last-refused P Q (Ok x) last first why more = why
+last-refused P Q (Err e) last first why more = more e first
+
+pub tall_class_cause : {X : Type 0} (d : SymbolInput) (width height : ℕ) (s : SymbolState Place) (r : Result X DecodeError) → 65535 < height → IfErr r (λ e. (e ≡ errors.OutOfMemory) ⊎ (tall_class d width height s ≡ Err e))
+    → HasCauseOrNoMemory r (BreaksTallClass d width height s)
+tall_class_cause d width height s r tall =
+    let causes = last-refused (BreaksCollectiveBitmap d width height s) (BreaksTallClass d width height s) (collective_bitmap d width height s) (errors.Overflow BitmapDimension) (collective_causes d width height s) (inr (refl, tall)) (λ e why. inl why) in
+    call-cause-or-memory (BreaksTallClass d width height s) (tall_class d width height s) r causes
 
 -- ---- a class of no symbol
 no-symbols : (count empty : ℕ) → IfErr (empty_class count empty) (BreaksEmptyClass count empty)

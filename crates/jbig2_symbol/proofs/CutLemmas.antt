@@ -1,9 +1,8 @@
 -- Collective bitmaps: their rows, and the symbols that are cut out of them.
-use Rattle.std.proofs.Common.{◌≡◌, ℕ, ◌+◌, ◌-◌, ◌*◌, ◌/◌, ◌%◌, ◌^◌, min, ◌<◌, ◌≤◌, Bool, true, false, List, [], ◌∷◌, ◌++◌, suc, length, drop, get_or, Result, Ok, Err, refl, sym, ap, subst, ltb, ◌∙◌, ◌⊎◌, inl, inr, append_assoc, drop-cons, arith}
+use Rattle.std.proofs.Common.{◌≡◌, ℕ, ◌+◌, ◌-◌, ◌*◌, ◌/◌, ◌%◌, ◌^◌, min, ◌<◌, ◌≤◌, Bool, true, false, List, [], ◌∷◌, ◌++◌, suc, length, drop, get_or, Result, Ok, Err, refl, sym, ap, ◌∙◌, ◌⊎◌, inl, inr, append_assoc, drop-cons, arith}
 use Rattle.std.specs.Prelude.{sum, nat_lt}
 use Rattle.std.proofs.lemmas.List.Sums.{sum_by-drop_more}
 use Rattle.std.proofs.lemmas.List.{append-nil, drop_all}
-use Rattle.std.proofs.lemmas.Bool.{le-ltb}
 use Rattle.jbig2_base.specs.Answer.{◌>>=◌, refuse_if}
 use Rattle.jbig2_base.specs.Fields.{bytes_at}
 use Rattle.jbig2_base.specs.Grid.{Grid, grid_of, blank, wide_or_overflow}
@@ -17,7 +16,7 @@ use Rattle.jbig2_base.proofs.BitLemmas.{bit-shr}
 use Rattle.jbig2_base.proofs.FillLemmas.{all-filled, filled-store}
 use Rattle.jbig2_base.proofs.GridLemmas.{grid_of-ext}
 use Rattle.jbig2_symbol.specs.SymbolBitmaps.{raw_pixel, raw_rows, raw_stride, symbol_cut, symbols_cut}
-use Rattle.jbig2_symbol.specs.inner.SymbolViews.{put_behind}
+use Rattle.jbig2_symbol.specs.inner.SymbolViews.{bytes_of_rows, put_behind}
 
 -- ---- symbols after others
 behind-cons : (before : List Grid) (symbol : Grid) (others : Result (List Grid) DecodeError) → put_behind before (others >>= λ more. Ok (symbol ∷ more)) ≡ put_behind (before ++ symbol ∷ []) others
@@ -89,16 +88,36 @@ wide-made w h g e = made (nat_lt (65535 * 65535) (w * h)) (blank w h false) g e
 pub wide-blank : (w h : ℕ) (g : Grid) → wide_or_overflow w h ≡ Ok g → g ≡ blank w h false
 wide-blank w h g e = wide-made w h g e
 
-pub raw-none : (w h : ℕ) (g : Grid) (bytes : List ℕ) → w ≡ 0 → wide_or_overflow w h ≡ Ok g → raw_rows w h bytes ≡ Ok (g, bytes)
-unfolding raw_rows
-raw-none w h g bytes none made =
-    let no_bytes : h * raw_stride w ≡ 0 = grind arith in
-    let enough : ltb (length bytes) 0 ≡ false = le-ltb (length bytes) 0 (omega arith) in
-    let white : grid_of w h (raw_pixel [] (raw_stride w)) ≡ g = grid_of-ext w h (raw_pixel [] (raw_stride w)) (λ _ _. false) (λ i j left above. absurd (omega arith)) ∙ sym (wide-made w h g made) in
-    rw (made, no_bytes, enough) (ap (λ (k : Grid). Ok (k, bytes)) white)
+-- a step after two others, of which the second gives what it takes
+both-read : {A B C : Type 0} (first : Result A DecodeError) (second : Result B DecodeError) (f : B → C) (b : B) → (first >>= λ _. second) ≡ Ok b → (first >>= λ _. second >>= λ x. Ok (f x)) ≡ Ok (f b)
+both-read {A} {B} {C} (Ok a) (Ok x) f b is =
+    let same : x ≡ b = cc in
+    let R : Type 0 = Result C DecodeError in
+    ap {B = R} (λ (y : B). Ok (f y)) same
+both-read (Ok a) (Err e) f b is = absurd (cc)
+both-read (Err e) second f b is = absurd (cc)
 
-pub raw-made : (w h stride y : ℕ) (before g : Grid) (bytes rows rest : List ℕ) → wide_or_overflow w h ≡ Ok before → stride ≡ raw_stride w → bytes_at (h * stride) bytes ≡ Ok (rows, rest) → y ≡ h → g ≡ filled w h (raw_pixel rows (raw_stride w)) y 0 → raw_rows w h bytes ≡ Ok (g, rest)
+both-unread : {A B C : Type 0} (first : Result A DecodeError) (second : Result B DecodeError) (f : B → C) (error : DecodeError) → (first >>= λ _. second) ≡ Err error → (first >>= λ _. second >>= λ x. Ok (f x)) ≡ Err error
+both-unread (Ok a) (Ok x) f error is = absurd (cc)
+both-unread (Ok a) (Err e) f error is = cc
+both-unread (Err e) second f error is = cc
+
+abbrev rows_made : ℕ → ℕ → List ℕ × List ℕ → Grid × List ℕ
+rows_made w h rows = (grid_of w h (raw_pixel rows.0 (raw_stride w)), rows.1)
+
+pub raw-read : (w h : ℕ) (bytes rows rest : List ℕ) → bytes_of_rows w h bytes ≡ Ok (rows, rest) → raw_rows w h bytes ≡ Ok (grid_of w h (raw_pixel rows (raw_stride w)), rest)
 unfolding raw_rows
-raw-made w h stride y before g bytes rows rest made wide taken whole e =
-    let read : bytes_at (h * raw_stride w) bytes ≡ Ok (rows, rest) = subst (λ (n : ℕ). bytes_at (h * n) bytes ≡ Ok (rows, rest)) wide taken in
-    rw (made, read) (ap (λ (k : Grid). Ok (k, rest)) (sym (all-filled g w h (raw_pixel rows (raw_stride w)) y whole e)))
+raw-read w h bytes rows rest is = both-read (wide_or_overflow w h) (bytes_at (h * raw_stride w) bytes) (rows_made w h) (rows, rest) is
+
+pub raw-unread : (w h : ℕ) (bytes : List ℕ) (error : DecodeError) → bytes_of_rows w h bytes ≡ Err error → raw_rows w h bytes ≡ Err error
+unfolding raw_rows
+raw-unread w h bytes error is = both-unread (wide_or_overflow w h) (bytes_at (h * raw_stride w) bytes) (rows_made w h) error is
+
+pub raw-none : (w h : ℕ) (g : Grid) (bytes rows rest : List ℕ) → w ≡ 0 → bytes_of_rows w h bytes ≡ Ok (rows, rest) → wide_or_overflow w h ≡ Ok g → raw_rows w h bytes ≡ Ok (g, rest)
+raw-none w h g bytes rows rest none read made =
+    let white : grid_of w h (raw_pixel rows (raw_stride w)) ≡ g = grid_of-ext w h (raw_pixel rows (raw_stride w)) (λ _ _. false) (λ i j left above. absurd (omega arith)) ∙ sym (wide-made w h g made) in
+    rw (raw-read w h bytes rows rest read) (ap (λ (k : Grid). Ok (k, rest)) white)
+
+pub raw-made : (w h y : ℕ) (g : Grid) (bytes rows rest : List ℕ) → bytes_of_rows w h bytes ≡ Ok (rows, rest) → y ≡ h → g ≡ filled w h (raw_pixel rows (raw_stride w)) y 0 → raw_rows w h bytes ≡ Ok (g, rest)
+raw-made w h y g bytes rows rest read whole e =
+    rw (raw-read w h bytes rows rest read) (ap (λ (k : Grid). Ok (k, rest)) (sym (all-filled g w h (raw_pixel rows (raw_stride w)) y whole e)))

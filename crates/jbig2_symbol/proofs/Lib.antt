@@ -10,9 +10,11 @@ pub mod ExportErrors
 pub mod ExportLemmas
 pub mod ExportedLemmas
 mod IdCodes
+pub mod MmrRows
 pub mod PayingLemmas
 pub mod ReadingCauses
 pub mod SymbolCauses
+pub mod TallClasses
 pub mod UsedPixels
 mod WorkedAggregates
 mod WorkedCoded

@@ -132,6 +132,10 @@ BreaksCollectiveBitmap d width height s e =
     InSteps (by_table d.tables.sizes s) (IsOf (by_table d.tables.sizes s) e) (λ value.
     BreaksSized d.header.strict width height value.0 (aligned value.1.coding).bytes e)
 
+-- A class that is too high for its symbols: its collective bitmap, or else the first symbol that is cut from it.
+abbrev pub BreaksTallClass : SymbolInput → ℕ → ℕ → SymbolState Place → DecodeError → Type 0
+BreaksTallClass d width height s e = BreaksCollectiveBitmap d width height s e ⊎ ((e ≡ errors.Overflow BitmapDimension) × (65535 < height))
+
 -- A class of no symbol (6.5.5, step 4), where 2^20 classes before it had none.
 abbrev pub BreaksEmptyClass : ℕ → ℕ → DecodeError → Type 0
 BreaksEmptyClass count empty (errors.Symbol Invalid) = (count ≡ 0) × (1048576 ≤ empty)

@@ -1,8 +1,8 @@
 -- How a dictionary's input, and what its reading has come to, are seen by the definitions (our own rule).
-use Rattle.std.specs.{Borrow.{Bor}, Prelude.{ℕ, ◌+◌, ◌-◌, ◌==◌, ◌≡◌, ◌++◌, List, length, map, Option, Some, None, option_map, Result, Ok}}
-use Rattle.jbig2_base.specs.{Answer.{◌>>=◌}, declared.error.DecodeError.{DecodeError}, Bits.{Place}, Grid.{Grid, bit_number}}
-use Rattle.jbig2_text.specs.TextCoding.{Coded}
-use Rattle.jbig2_symbol.specs.{SymbolReading.{BitmapContexts, SymbolInput, SymbolState, SymbolTables}, Symbols.{Symbols}, inner.HeaderViews.{contexts_view, header_view}, declared.symbol.{coded.CodedSymbols.{CodedSymbols}, dictionary.{RetainedContexts.{RetainedContexts}, SymbolDictionary.{SymbolDictionary}}, input.{SymbolInput.{SymbolInput as Input}, SymbolTables.{SymbolTables as Tables}}, prefixed.PrefixedSymbols.{PrefixedSymbols}, widths.RunningWidths.{RunningWidths}}}
+use Rattle.std.specs.{Borrow.{Bor}, Prelude.{ℕ, ◌+◌, ◌-◌, ◌*◌, ◌==◌, ◌≡◌, ◌++◌, List, length, map, Option, Some, None, option_map, Result, Ok, Err}}
+use Rattle.jbig2_base.specs.{Answer.{◌>>=◌}, declared.error.{DecodeError.{DecodeError, TheVariants.{Huffman, Overflow}}, HuffmanError.TheVariants.{UnexpectedOob}, OverflowError.TheVariants.{BitmapDimension}}, Bits.{Place, aligned}, Fields.{bytes_at}, Grid.{Grid, bit_number, wide_or_overflow}}
+use Rattle.jbig2_text.specs.TextCoding.{Coded, in_band}
+use Rattle.jbig2_symbol.specs.{SymbolBitmaps.{collective_bitmap, raw_stride}, SymbolReading.{BitmapContexts, SymbolInput, SymbolState, SymbolTables, by_table, not_negative}, Symbols.{Symbols}, inner.HeaderViews.{contexts_view, header_view}, declared.symbol.{coded.CodedSymbols.{CodedSymbols}, dictionary.{RetainedContexts.{RetainedContexts}, SymbolDictionary.{SymbolDictionary}}, input.{SymbolInput.{SymbolInput as Input}, SymbolTables.{SymbolTables as Tables}}, prefixed.PrefixedSymbols.{PrefixedSymbols}, widths.RunningWidths.{RunningWidths}}}
 use Rattle.jbig2_text.specs.inner.TextViews as texts
 
 abbrev pub tables_view : {T : Type 0} → Tables T → SymbolTables
@@ -28,6 +28,26 @@ coded_view r = record { coding = texts.coded_view r.coded; contexts = r.contexts
 
 abbrev pub prefixed_view : {A : Type 0} → PrefixedSymbols A → SymbolState Place
 prefixed_view r = record { coding = r.reader; contexts = r.contexts }
+
+-- an answer of which only the error matters
+abbrev pub with_no_value : {X : Type 0} → Result X DecodeError → Result (Unit {0}) DecodeError
+with_no_value answer = answer >>= λ _. Ok tt
+
+-- the bytes of rows that are not coded, with those after them
+abbrev pub bytes_of_rows : ℕ → ℕ → List ℕ → Result (List ℕ × List ℕ) DecodeError
+bytes_of_rows width height bytes = wide_or_overflow width height >>= λ _. bytes_at (height * raw_stride width) bytes
+
+-- how many bytes a collective bitmap has, and the state at the first of them
+abbrev pub size_of_rows : SymbolInput → SymbolState Place → Result (ℕ × SymbolState Place) DecodeError
+size_of_rows d s = do
+  value ← by_table d.tables.sizes s
+  number ← in_band (Huffman UnexpectedOob) value.0
+  size ← not_negative (Overflow BitmapDimension) number
+  Ok (size, record value.1 { coding = aligned value.1.coding })
+
+-- why a class is refused that is too high for its symbols: by its collective bitmap, or else by its first symbol
+abbrev pub tall_class : SymbolInput → ℕ → ℕ → SymbolState Place → Result (Unit {0}) DecodeError
+tall_class d width height s = collective_bitmap d width height s >>= λ _. Err (Overflow BitmapDimension)
 
 -- what is read, after others
 abbrev pub behind : {X S : Type 0} → List X → Result (List X × S) DecodeError → Result (List X × S) DecodeError

@@ -1,18 +1,19 @@
 //! The bitmaps of symbols that prefix codes describe: those of a height class stand side by side in
 //! one collective bitmap (T.88, 6.5.9).
-ghost use Rattle.std.specs.Prelude.{◌≡◌, ◌+◌, ◌*◌, ◌/◌, ◌<◌, ◌≤◌, length, sum, OnOk};
-ghost use Rattle.jbig2_base.specs.Answer.{Gives};
+ghost use Rattle.std.specs.Prelude.{◌≡◌, ◌+◌, ◌*◌, ◌/◌, ◌<◌, ◌≤◌, false, length, sum, OnOk};
+ghost use Rattle.jbig2_base.specs.Answer.{Answers, Gives};
 ghost use Rattle.jbig2_base.specs.Bits.{IsAligned};
 ghost use Rattle.jbig2_base.specs.Counts.{WritesWithin};
+ghost use Rattle.jbig2_base.specs.Grid.{blank, wide_or_overflow};
 ghost use Rattle.jbig2_base.specs.inner.Filled.{filled};
 ghost use Rattle.jbig2_steps.specs.Work.{Paid, price_of_bitmap};
 ghost use Rattle.jbig2_symbol.specs.SymbolBitmaps.{symbols_cut, raw_pixel, raw_stride, raw_rows, mmr_bytes, rows_of_size};
-ghost use Rattle.jbig2_symbol.specs.inner.SymbolViews.{put_behind};
+ghost use Rattle.jbig2_symbol.specs.inner.SymbolViews.{bytes_of_rows, put_behind, with_no_value};
 
 use jbig2_base::bitmap::Bitmap;
 use jbig2_base::bitmap::part::Area;
 use jbig2_base::bitmap::steps::{Steps, Work};
-use jbig2_base::error::{DecodeError, OverflowError, Result};
+use jbig2_base::error::{DecodeError, OverflowError, RegionError, Result};
 use jbig2_base::field::bytes_field;
 use jbig2_base::reader::Reader;
 use jbig2_mmr::mmr;
@@ -49,6 +50,28 @@ fn fill_row<A: Allocator, L: Ledger>(
     }
 }
 
+/// Refuses more pixels than a collective bitmap may have.
+fn check_pixels(width: u32, height: u32) -> Result<()>
+    ensures { Answers (λ _. blank width height false) result (wide_or_overflow width height) }
+{
+    if u64::from(width) * u64::from(height) > MOST_PIXELS {
+        return Err(DecodeError::Overflow(OverflowError::BitmapDimension));
+    }
+    Ok(())
+}
+
+/// The bytes of rows that are not coded, at the reader's place (T.88, 6.5.9).
+fn raw_bytes<'a>(width: u32, height: u32, reader: &mut Reader<'a>) -> Result<&'a [u8]>
+    requires { IsAligned reader.old }
+    ensures value { let meant = bytes_of_rows width height reader.old.bytes in
+        Answers (λ rows. (rows.now, reader.new.bytes)) result meant }
+    ensures aligned { IsAligned reader.new }
+{
+    check_pixels(width, height)?;
+    let stride = width.div_ceil(8) as usize;
+    bytes_field(reader, height as usize * stride)
+}
+
 /// Rows that are not coded, at the reader's place (T.88, 6.5.9). Memory is taken for them once their
 /// bytes are there.
 #[tactic(auto, unfolding(crate::specs::SymbolBitmaps::raw_rows))]
@@ -65,15 +88,11 @@ fn read_raw_rows<A: Allocator, L: Ledger>(
     ensures aligned { IsAligned reader.new }
     ensures paid { Paid work.old work.new }
 {
-    if u64::from(width) * u64::from(height) > MOST_PIXELS {
-        return Err(DecodeError::Overflow(OverflowError::BitmapDimension));
-    }
+    let bytes = raw_bytes(width, height, reader)?;
     if width == 0 {
         let empty = Bitmap::new_wide(alloc, width, height)?;
         return Ok(empty);
     }
-    let stride = width.div_ceil(8) as usize;
-    let bytes = bytes_field(reader, height as usize * stride)?;
     work.pay_bitmap(width, height)?;
     let mut bitmap = Bitmap::new_wide(alloc, width, height)?;
     for y in 0..height {
@@ -129,6 +148,59 @@ pub fn read_rows<A: Allocator, L: Ledger>(
         return read_raw_rows(alloc, width, height, reader, work);
     }
     read_mmr_rows(alloc, strict, size, width, height, reader, work)
+}
+
+/// Refuses MMR data of `size` bytes as `read_mmr_rows` does. Only strict mode decodes it, and only
+/// where the bytes may have all rows: each takes a bit at least.
+#[tactic(auto, unfolding(crate::specs::SymbolBitmaps::mmr_bytes))]
+fn check_mmr_rows<A: Allocator, L: Ledger>(
+    alloc: A,
+    strict: bool,
+    size: usize,
+    width: u32,
+    height: u32,
+    reader: &mut Reader<'_>,
+    work: &mut Work<L>,
+) -> Result<()>
+    requires { IsAligned reader.old }
+    ensures value { let meant = mmr_bytes strict size width height reader.old.bytes in
+        Gives (λ _. tt) result (with_no_value meant) }
+    ensures paid { Paid work.old work.new }
+{
+    let is_checked = strict && width > 0;
+    if is_checked && height.div_ceil(8) as usize <= size {
+        read_mmr_rows(alloc, strict, size, width, height, reader, work)?;
+        return Ok(());
+    }
+    bytes_field(reader, size)?;
+    check_pixels(width, height)?;
+    if is_checked {
+        return Err(DecodeError::Region(RegionError::InvalidMmrData));
+    }
+    Ok(())
+}
+
+/// Refuses the rows of a collective bitmap as `read_rows` does, where the bitmap itself is not
+/// needed (T.88, 6.5.9).
+pub fn check_rows<A: Allocator, L: Ledger>(
+    alloc: A,
+    strict: bool,
+    size: usize,
+    width: u32,
+    height: u32,
+    reader: &mut Reader<'_>,
+    work: &mut Work<L>,
+) -> Result<()>
+    requires { IsAligned reader.old }
+    ensures value { let meant = rows_of_size strict size width height reader.old.bytes in
+        Gives (λ _. tt) result (with_no_value meant) }
+    ensures paid { Paid work.old work.new }
+{
+    if size > 0 {
+        return check_mmr_rows(alloc, strict, size, width, height, reader, work);
+    }
+    raw_bytes(width, height, reader)?;
+    Ok(())
 }
 
 /// Puts the symbols of these widths, which stand side by side in a collective bitmap, after those

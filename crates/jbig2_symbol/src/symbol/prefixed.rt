@@ -1,24 +1,24 @@
 //! Symbol dictionaries by prefix codes (T.88, 6.5).
-ghost use Rattle.std.specs.Prelude.{◌≡◌, ◌+◌, ◌*◌, ◌≤◌, length, OnOk};
+ghost use Rattle.std.specs.Prelude.{◌≡◌, ◌+◌, ◌*◌, ◌<◌, ◌≤◌, length, OnOk};
 ghost use Rattle.jbig2_base.specs.Answer.{Answers, Gives};
-ghost use Rattle.jbig2_base.specs.Bits.{Place};
+ghost use Rattle.jbig2_base.specs.Bits.{IsAligned, Place};
 ghost use Rattle.jbig2_text.specs.TextCoding.{by_prefix_codes};
 ghost use Rattle.jbig2_text.specs.inner.TextViews as texts;
 ghost use Rattle.jbig2_steps.specs.Work.{Paid, PaidBut};
 ghost use Rattle.jbig2_text.specs.Paying.{number_steps};
 ghost use Rattle.jbig2_symbol.specs.Paying.{PaidButSymbols, PaysSymbols};
-ghost use Rattle.jbig2_symbol.specs.Causes.{BreaksCollectiveBitmap, BreaksPrefixedAggregate};
+ghost use Rattle.jbig2_symbol.specs.Causes.{BreaksCollectiveBitmap, BreaksPrefixedAggregate, BreaksTallClass};
 ghost use Rattle.jbig2_symbol.specs.SymbolBitmaps.{by_instances, collective_bitmap, plain_id, prefixed_aggregate, prefixed_instances};
 ghost use Rattle.jbig2_symbol.specs.SymbolCoding.{collective_class, prefix_codes_begun};
 ghost use Rattle.jbig2_symbol.specs.SymbolReading.{SymbolState, by_table};
 ghost use Rattle.jbig2_symbol.specs.inner.HeaderViews.{contexts_view};
-ghost use Rattle.jbig2_symbol.specs.inner.SymbolViews.{behind, input_view, prefixed_view};
+ghost use Rattle.jbig2_symbol.specs.inner.SymbolViews.{behind, input_view, prefixed_view, size_of_rows, tall_class};
 ghost use Rattle.jbig2_base.specs.Causes.{HasCauseOrNoMemory};
 
 use crate::symbol::aggregates::{
     SymbolSize, aggregate_params, id_bits, instance_count, put_together, refine_alone,
 };
-use crate::symbol::bitmaps::{cut_symbols, read_rows};
+use crate::symbol::bitmaps::{check_rows, cut_symbols, read_rows};
 use crate::symbol::classes::{check_class, read_drawn_class};
 use crate::symbol::contexts::WorkingContexts;
 use crate::symbol::dictionary::RetainedContexts;
@@ -34,6 +34,9 @@ use jbig2_coder::huffman_table::HuffmanTable;
 use jbig2_text::text::{PrefixedReadings, Refining, TextParams, TextRegionHuffmanTables};
 use std::alloc::Allocator;
 use std::sync::ledger::Ledger;
+
+/// The most rows of a symbol.
+const MOST_ROWS: u32 = 65535;
 
 /// A symbol by prefix codes, with an id of this many bits where there is one instance.
 fn read_by_instances<T: Allocator, A: Allocator, M: Allocator + Clone, C: Allocator, L: Ledger>(
@@ -154,6 +157,27 @@ impl<'a, A: Allocator> PrefixedSymbols<'a, A> {
         self.read_instances(alloc, input, &params, size, work)
     }
 
+    /// How many bytes the rows of a collective bitmap have, from the next whole byte on (T.88,
+    /// 6.5.9).
+    fn read_size<S: Allocator, T: Allocator>(
+        &mut self,
+        input: &SymbolInput<'_, S, T>,
+    ) -> Result<usize>
+        ensures value { let d = input_view input.now in
+            let meant = size_of_rows d (prefixed_view self.old) in
+            Answers (λ size. (size, prefixed_view self.new)) result meant }
+        ensures aligned { OnOk result (IsAligned self.new.reader) }
+    {
+        let Some(size) = self.number(input.tables.sizes)? else {
+            return Err(DecodeError::Huffman(HuffmanError::UnexpectedOob));
+        };
+        if size < 0 {
+            return Err(DecodeError::Overflow(OverflowError::BitmapDimension));
+        }
+        self.reader.align();
+        Ok(size as usize)
+    }
+
     /// The collective bitmap of a height class (T.88, 6.5.9).
     #[tactic(auto, using(crate::proofs::ClassCauses::collective_cause), unfolding(crate::specs::SymbolBitmaps::collective_bitmap))]
     fn read_collective<M: Allocator, S: Allocator, T: Allocator, L: Ledger>(
@@ -172,22 +196,50 @@ impl<'a, A: Allocator> PrefixedSymbols<'a, A> {
             HasCauseOrNoMemory result (BreaksCollectiveBitmap d width height state) }
         ensures paid { Paid work.old work.new }
     {
-        let Some(size) = self.number(input.tables.sizes)? else {
-            return Err(DecodeError::Huffman(HuffmanError::UnexpectedOob));
-        };
-        if size < 0 {
-            return Err(DecodeError::Overflow(OverflowError::BitmapDimension));
-        }
-        self.reader.align();
+        let size = self.read_size(input)?;
         read_rows(
             alloc,
             input.header.strict,
-            size as usize,
+            size,
             width,
             height,
             &mut self.reader,
             work,
         )
+    }
+
+    /// Refuses a height class that is too high for a symbol: with the error of its collective
+    /// bitmap, if it has one, or else with that of the first symbol (T.88, 6.5.9). The bitmap is
+    /// not made, unless strict mode has MMR data to decode.
+    #[tactic(auto, using(crate::proofs::ClassCauses::tall_class_cause), unfolding(crate::specs::SymbolBitmaps::collective_bitmap))]
+    fn refuse_tall_class<M: Allocator, S: Allocator, T: Allocator, L: Ledger>(
+        &mut self,
+        alloc: M,
+        input: &SymbolInput<'_, S, T>,
+        width: u32,
+        height: u32,
+        work: &mut Work<L>,
+    ) -> Result<()>
+        requires { 65535 < height }
+        ensures value { let d = input_view input.now in
+            let meant = tall_class d width height (prefixed_view self.old) in
+            Gives (λ _. tt) result meant }
+        ensures causes { let d = input_view input.now in
+            let state = prefixed_view self.old in
+            HasCauseOrNoMemory result (BreaksTallClass d width height state) }
+        ensures paid { Paid work.old work.new }
+    {
+        let size = self.read_size(input)?;
+        check_rows(
+            alloc,
+            input.header.strict,
+            size,
+            width,
+            height,
+            &mut self.reader,
+            work,
+        )?;
+        Err(DecodeError::Overflow(OverflowError::BitmapDimension))
     }
 
     /// Puts the symbols of a class, cut out of its collective bitmap, after the others.
@@ -218,6 +270,9 @@ impl<'a, A: Allocator> PrefixedSymbols<'a, A> {
         let widths = read_widths(alloc.clone()?, input, room, self, work)?;
         check_class(widths.each.len(), empty)?;
         let total = widths.total;
+        if height > MOST_ROWS && !widths.each.is_empty() {
+            return self.refuse_tall_class(alloc, input, total, height, work);
+        }
         let collective = self.read_collective(alloc.clone()?, input, total, height, work)?;
         cut_symbols(alloc, &collective, height, &widths.each, bitmaps, work)
     }

@@ -8,7 +8,7 @@ use Rattle.jbig2_symbol.proofs.PayingLemmas.{raw-paid, row-worth}
 use Rattle.jbig2_symbol.proofs.symbol.bitmaps.read_raw_rows.Goals as goal
 
 pub returns-then-width-eq0-clause-value : goal.returns-then-width-eq0-clause-value
-returns-then-width-eq0-clause-value g c = raw-none c.args.width c.args.height c.in_ok-empty.empty c.args.reader.now.bytes c.if-width-eq0.true c.in_ok-empty.ensures.value
+returns-then-width-eq0-clause-value g c = raw-none c.args.width c.args.height c.in_ok-empty.empty c.args.reader.now.bytes c.in_ok-bytes.bytes.now c.raw_bytes.new.reader.bytes c.if-width-eq0.true c.in_ok-bytes.ensures.value c.in_ok-empty.ensures.value
 
 pub loop-y-init : goal.loop-y-init
 loop-y-init g c = record {
@@ -26,7 +26,7 @@ loop-y-preserved g c =
     }
 
 pub returns-clause-value : goal.returns-clause-value
-returns-clause-value g c = raw-made c.args.width c.args.height c.div_ceil-stride.result c.loop-y.y c.in_ok-bitmap.bitmap c.loop-y.bitmap c.args.reader.now.bytes c.in_ok-bytes.bytes.now _ c.in_ok-bitmap.ensures.value (omega arith) c.in_ok-bytes.ensures.parses.value (omega arith) c.loop-y.invariant.filled
+returns-clause-value g c = raw-made c.args.width c.args.height c.loop-y.y c.loop-y.bitmap c.args.reader.now.bytes c.in_ok-bytes.bytes.now _ c.in_ok-bytes.ensures.value (omega arith) c.loop-y.invariant.filled
 
 pub returns-clause-paid : goal.returns-clause-paid
 returns-clause-paid g c =
