@@ -1,7 +1,17 @@
 //! The limit of work.
-use crate::bytes::bytes_of;
-use hayro_jbig2::{DecodeError, DecodeSettings, DecoderContext, Globals, Page, Result};
+ghost use Rattle.std.specs.Prelude.{◌≡◌};
+
+use crate::bytes::{FILE, bytes_of};
+use crate::sizes::WhiteRows;
+use hayro_jbig2::{
+    DecodeError, DecodeSettings, DecoderContext, Globals, Jbig2Decoder, Jbig2Error, Page, Result,
+};
+use jbig2_permit::Permit;
+use jbig2_steps::Work;
 use std::alloc::Global;
+use std::io::Cursor;
+use std::marker::Brand;
+use std::sync::ledger::{Blank, Ledger};
 
 /// Pages with a generic region, symbols and text, patterns and a halftone, and without a region.
 const PAGES: &[&str] = &["P G8", "P S X", "P D T", "P"];
@@ -119,4 +129,67 @@ fn globals_are_decoded_within_a_limit(rt: HostRuntime) {
     assert!(rt; holds == Ok(true));
     let holds = salvaged_globals_hold(rt.alloc()).or_else(|_| salvaged_globals_hold(rt.alloc()));
     assert!(rt; holds == Ok(true));
+}
+
+/// Whether a page of 8 by 1 pixels is white, which a decoder reads within this limit.
+fn is_white_within(
+    alloc: Global,
+    bytes: &[u8],
+    work: u64,
+) -> std::result::Result<bool, Jbig2Error> {
+    let decoder = Jbig2Decoder::new_within(alloc, Cursor::new(bytes), Some(work))?;
+    let mut image = [7; 8];
+    decoder.read_image(&mut image)?;
+    Ok(image == [255; 8])
+}
+
+/// Whether a decoder reads its page within some limits: below a number never, from there on always.
+fn reader_holds(alloc: Global) -> Result<bool> {
+    let bytes = bytes_of(alloc, FILE)?;
+    let mut is_read = false;
+    for work in 0..4_000 {
+        match is_white_within(alloc, &bytes, work) {
+            Ok(true) => is_read = true,
+            Err(Jbig2Error::Decode(DecodeError::OutOfMemory)) if !is_read => {}
+            _ => return Ok(false),
+        }
+    }
+    Ok(is_read)
+}
+
+#[test]
+fn a_reader_is_decoded_within_a_limit(rt: HostRuntime) {
+    let holds = reader_holds(rt.alloc()).or_else(|_| reader_holds(rt.alloc()));
+    assert!(rt; holds == Ok(true));
+}
+
+/// What a white page of 8 by 1 pixels leaves of these units: drawn, then read, then made into calls.
+fn left_by_page<L: Ledger>(alloc: Global, units: u64, blank: Blank) -> Result<[u64; 3]>
+    requires name { blank.name ≡ L.name }
+    requires parts { blank.parts ≡ L.parts }
+    requires enough { blank.parts ≡ 6 }
+{
+    let bytes = bytes_of(alloc, "P")?;
+    let page = Page::new_embedded(alloc, &bytes, None, &LENIENT)?;
+    let mut context = DecoderContext::new(alloc)?;
+    let mut work: Work<L> = Work::within(Permit::grant(), blank, units);
+    page.draw_within(&mut context, &mut work)?;
+    let drawn = work.left;
+    let mut image = [7; 8];
+    page.read_within(&mut image, &mut work)?;
+    let read = work.left;
+    let mut rows = WhiteRows::new(8);
+    page.decode_within(&mut rows, &mut context, &mut work)?;
+    if image != [255; 8] || !rows.is_white(1) {
+        return Err(DecodeError::Unsupported);
+    }
+    Ok([drawn, read, work.left])
+}
+
+/// A segment takes 1024 units, and a page two bitmaps of 128 units (`docs/FORMAT.md` 12.6).
+#[test]
+fn pages_take_units_of_a_counter(rt: HostRuntime) {
+    let left = left_by_page::<Brand>(rt.alloc(), 10_000, Blank::new(6))
+        .or_else(|_| left_by_page::<Brand>(rt.alloc(), 10_000, Blank::new(6)));
+    assert!(rt; left == Ok([8_720, 7_440, 6_160]));
 }

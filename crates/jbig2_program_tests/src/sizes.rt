@@ -26,7 +26,7 @@ const DICTIONARIES: [(u32, &str, u32); 4] = [
 
 /// Takes white rows as long chunks and single pixels spell them.
 #[derive(Drop)]
-struct WhiteRows {
+pub struct WhiteRows {
     width: u32,
     column: u32,
     rows: u32,
@@ -34,6 +34,21 @@ struct WhiteRows {
 }
 
 impl WhiteRows {
+    /// No row yet, of this width.
+    pub fn new(width: u32) -> WhiteRows {
+        WhiteRows {
+            width,
+            column: 0,
+            rows: 0,
+            differs: false,
+        }
+    }
+
+    /// Whether there are this many rows, and all are white.
+    pub fn is_white(&self, height: u32) -> bool {
+        !self.differs && self.rows == height
+    }
+
     fn take(&mut self, black: bool, from: u32, count: u32) {
         self.differs = self.differs || black || self.column != from;
         self.column = self.column.saturating_add(count);
@@ -84,14 +99,9 @@ fn is_drawn_white(
     height: u32,
     context: &mut DecoderContext<Global>,
 ) -> Result<bool> {
-    let mut rows = WhiteRows {
-        width,
-        column: 0,
-        rows: 0,
-        differs: false,
-    };
+    let mut rows = WhiteRows::new(width);
     page.decode_with(&mut rows, context)?;
-    Ok(!rows.differs && rows.rows == height && page.dimensions() == (width, height))
+    Ok(rows.is_white(height) && page.dimensions() == (width, height))
 }
 
 /// Whether such a page of this size is drawn white, and one with a region of its size is drawn.
