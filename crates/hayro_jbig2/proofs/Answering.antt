@@ -75,6 +75,9 @@ returned view (Err e) meant is gives = returned_error meant e is gives
 pub drawn-returned : {X : Type 0} (d : X → Drawing) (r : Result X DecodeError) (page : ReadPage) → IfErr page.globals IsAnswered → Gives d r (drawing_of_page page) → IfErr r IsReturned
 drawn-returned d r page is gives = returned d r (drawing_of_page page) (drawing_answered page is) gives
 
+pub grid-returned : (page : ReadPage) (e : DecodeError) → IfErr page.globals IsAnswered → (e ≡ errors.OutOfMemory) ⊎ (grid_of_page page ≡ Err e) → IsReturned e
+grid-returned page e is refused = returned_error (grid_of_page page) e (answered-grid page (to-answer page.globals is)) refused
+
 pub image-returned : {X : Type 0} (image : X → List ℕ) (r : Result X DecodeError) (page : ReadPage) → IfErr page.globals IsAnswered → Gives image r (image_of_page page) → IfErr r IsReturned
 image-returned image r page is gives =
     returned image r (image_of_page page) (base.answered-next (grid_of_page page) _ (answered-grid page (to-answer page.globals is)) (λ g. tt)) gives

@@ -12,7 +12,7 @@ use Rattle.jbig2_steps.proofs.WorkLemmas.{counts-worth, price-least, row-paid}
 use Rattle.jbig2_steps.specs.declared.work.Work.{Work}
 use Rattle.jbig2_steps.specs.Counts.{Counts}
 use Rattle.jbig2_steps.specs.Work.{CountsWithin, Paid, PaidBut, price_of_bitmap, words_of_row, worth}
-use Rattle.hayro_jbig2.specs.Page.{Drawing, ReadPage, drawing_of_page, grid_of_page}
+use Rattle.hayro_jbig2.specs.Page.{Drawing, ReadPage, drawing_of_page}
 use Rattle.hayro_jbig2.specs.declared.parsed_region.ParsedRegion.{ParsedRegion}
 use Rattle.hayro_jbig2.specs.declared.parsed_region.ParsedRegion.TheVariants.{Text, Halftone, Generic, Refinement, PageRefinement}
 use Rattle.hayro_jbig2.specs.inner.Parsed.{drawn, info_of}

@@ -282,9 +282,11 @@ impl<'a, A: Allocator + Clone> Page<'a, A> {
         requires { length buf.old ≡ self.now.initial_page.width * self.now.initial_page.height }
         ensures value { Gives (λ _. buf.new) result (image_of_page self.now) }
         ensures unchanged { OnErr result (buf.new ≡ buf.old) }
+        ensures errors { IfErr result IsReturned }
         ensures limit { IsWithinLimit work.old work.new }
         ensures paid { Paid work.old work.new }
     {
+        let _globals = &self.globals;
         let context = self.drawn(work)?;
         write_image(&context.bitmap, &self.initial_page, buf, &mut work.steps);
         Ok(())
@@ -371,12 +373,14 @@ impl<'a, A: Allocator + Clone> Page<'a, A> {
         work: &mut Work<L>,
     ) -> Result<()>
         ensures drawing { Gives (λ _. context.new) result (drawing_of_page self.now) }
+        ensures errors { IfErr result IsReturned }
         ensures limit { IsWithinLimit work.old work.new }
         ensures paid { Paid work.old work.new }
         ensures ahead { let page = self.now.initial_page in
             let price = price_of_bitmap page.width page.height in
             IfOk result (λ _. worth work.new + 32 * price ≤ worth work.old) }
     {
+        let _globals = &self.globals;
         let drawn = self.draw_into(context, work);
         context.end(work);
         drawn
@@ -453,9 +457,12 @@ impl<'a, A: Allocator + Clone> Page<'a, A> {
         requires { IsCountable D.conduct decoder.old }
         ensures calls { Decodes D.conduct (grid_of_page self.now) result decoder.old decoder.new }
         ensures drawing { IfOk (drawing_of_page self.now) (Leaves result context.new) }
+        ensures errors { D.conduct.refusals decoder.new ≡ D.conduct.refusals decoder.old
+            → IfErr result IsReturned }
         ensures limit { IsWithinLimit work.old work.new }
         ensures paid { Paid work.old work.new }
     {
+        let _globals = &self.globals;
         match self.draw_within(context, work) {
             Ok(()) => push_bitmap(&context.bitmap, decoder, &mut work.steps),
             Err(error) => Err(error),

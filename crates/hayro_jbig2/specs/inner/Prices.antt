@@ -1,5 +1,5 @@
 -- What a region costs once its header is read and what it refers to is found, and what decoding it counts (our own rule).
-use Rattle.std.specs.Prelude.{ℕ, ◌+◌, ◌*◌, length}
+use Rattle.std.specs.Prelude.{ℕ, ◌*◌, length}
 use Rattle.jbig2_steps.specs.Work.{price_of_bitmap}
 use Rattle.jbig2_region.specs.GenericSteps.{price_of_region}
 use Rattle.jbig2_halftone.specs.{Steps.{price_of_halftone}, inner.DictionaryViews.{dictionary_view}}

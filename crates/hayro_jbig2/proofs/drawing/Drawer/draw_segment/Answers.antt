@@ -1,11 +1,11 @@
-use Rattle.std.proofs.Common.{◌≡◌, ◌<◌, ◌⊎◌, ℕ, Result, Ok, Err, inl, inr, ⊎_elim, refl, sym, ap, subst, arith}
+use Rattle.std.proofs.Common.{◌≡◌, ◌⊎◌, ℕ, Result, Err, inl, inr, ⊎_elim, refl, sym, ap, subst, arith}
 use Rattle.jbig2_base.specs.Answer.{Gives}
 use Rattle.jbig2_base.specs.Reading.{is_strict}
 use Rattle.jbig2_base.specs.inner.SegmentViews.{segment_view}
 use Rattle.jbig2_base.specs.declared.error.DecodeError.{DecodeError}
 use Rattle.jbig2_base.specs.declared.error.DecodeError.TheVariants.{OutOfMemory}
 use Rattle.jbig2_base.specs.declared.reading.Reading.{Reading}
-use Rattle.hayro_jbig2.specs.Page.{Drawing, or_left_out, passing, segment_by}
+use Rattle.hayro_jbig2.specs.Page.{Drawing, or_left_out, segment_by}
 use Rattle.hayro_jbig2.specs.inner.Whole.{touched}
 use Rattle.hayro_jbig2.proofs.drawing.Drawer.draw_segment.Goals as goal
 

@@ -1,6 +1,9 @@
-use Rattle.std.proofs.Common.{ap, arith}
+use Rattle.std.proofs.Common.{ap, subst, arith}
+use Rattle.std.specs.Prelude.{IfErr}
+use Rattle.hayro_jbig2.specs.Causes.{IsAnswered}
+use Rattle.hayro_jbig2.proofs.Answering.{decoded-returned}
 use Rattle.jbig2_steps.proofs.WorkLemmas.{paid-limit}
-use Rattle.hayro_jbig2.specs.Page.{Drawing, drawing_of_page}
+use Rattle.hayro_jbig2.specs.Page.{Drawing, ReadPage, drawing_of_page}
 use Rattle.hayro_jbig2.proofs.DrawnPages.{left-drawn, left-refused, sent, unsent}
 use Rattle.hayro_jbig2.proofs.Paying.{counts-paid, page-price}
 use Rattle.hayro_jbig2.proofs.page.Page.decode_within.Goals as goal
@@ -28,3 +31,6 @@ returns-clause-paid g c = elim c.match-draw_within.branch [
 
 pub returns-clause-limit : goal.returns-clause-limit
 returns-clause-limit g c = paid-limit c.args.work.now _ (returns-clause-paid g c)
+
+pub returns-clause-errors : goal.returns-clause-errors
+returns-clause-errors g c = decoded-returned g.D.Decoder.conduct c.args.self.now c.match-draw_within.result c.args.decoder.now c.match-draw_within.decoder (subst (λ (p : ReadPage). IfErr p.globals IsAnswered) c.self.view_is c.self.invariant.1) (returns-clause-calls g c)
