@@ -189,7 +189,9 @@ fn left_by_page<L: Ledger>(alloc: Global, units: u64, blank: Blank) -> Result<[u
 /// A segment takes 1024 units, and a page two bitmaps of 128 units (`docs/FORMAT.md` 12.6).
 #[test]
 fn pages_take_units_of_a_counter(rt: HostRuntime) {
-    let left = left_by_page::<Brand>(rt.alloc(), 10_000, Blank::new(6))
-        .or_else(|_| left_by_page::<Brand>(rt.alloc(), 10_000, Blank::new(6)));
+    let mut left = left_by_page::<Brand>(rt.alloc(), 10_000, Blank::new(6));
+    if left == Err(DecodeError::OutOfMemory) {
+        left = left_by_page::<Brand>(rt.alloc(), 10_000, Blank::new(6));
+    }
     assert!(rt; left == Ok([8_720, 7_440, 6_160]));
 }
