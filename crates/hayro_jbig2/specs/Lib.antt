@@ -1,5 +1,6 @@
 pub mod Calls
 pub mod Causes
+pub mod Context
 pub mod Files
 pub mod Image
 pub mod Lenient

@@ -117,6 +117,9 @@ abbrev pub segments_drawn : Reading → Names → List SegmentView → Drawing �
 segments_drawn reading globals [] d = Ok d
 segments_drawn reading globals (p ∷ ps) d = if ends_page p.header.segment_type then Ok d else (segment_on reading globals p d >>= λ e. segments_drawn reading globals ps e)
 
+abbrev pub nothing_drawn : Drawing  -- a page of no pixels
+nothing_drawn = record { grid = blank 0 0 false; regions = []; names = no_names; untouched = true; passed_over = nothing_passed }
+
 abbrev pub page_begun : InitialPage → Drawing  -- the page begins in its default pixel
 page_begun initial_page = record { grid = blank initial_page.width initial_page.height initial_page.default_pixel; regions = []; names = no_names; untouched = true; passed_over = nothing_passed }
 

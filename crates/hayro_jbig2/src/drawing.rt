@@ -12,7 +12,7 @@ ghost use Rattle.hayro_jbig2.specs.inner.Parsed.{drawing_of};
 ghost use Rattle.hayro_jbig2.specs.inner.Whole.{touched};
 ghost use Rattle.jbig2_steps.specs.Work.{Paid, worth};
 
-use crate::context::DecoderContext;
+use crate::canvas::Canvas;
 use crate::dictionaries::{extension, keep_patterns, keep_symbols, keep_table};
 use crate::kept::Kept;
 use crate::names::{KeptNames, Lookup};
@@ -84,22 +84,22 @@ impl<'a, A: Allocator + Clone> Drawer<'a, A> {
     pub(crate) fn draw_segments<L: Ledger>(
         &self,
         segments: &[Segment<'_, A>],
-        context: &mut DecoderContext<A>,
+        canvas: &mut Canvas<A>,
         work: &mut Work<L>,
     ) -> Result<()>
-        requires { context.old.passed_over.count ≡ 0 }
-        ensures value { Gives (λ _. context.new) result
+        requires { canvas.old.passed_over.count ≡ 0 }
+        ensures value { Gives (λ _. canvas.new) result
             (segments_drawn self.now.reading self.now.globals.now (segment_views segments.now)
-            context.old) }
+            canvas.old) }
         ensures paid { Paid work.old work.new }
     {
         for segment in segments {
             if ends_page(segment.header.segment_type) {
                 return Ok(());
             }
-            let kept = context.names.count().saturating_add(self.globals.count());
+            let kept = canvas.names.count().saturating_add(self.globals.count());
             pay_segment(segment, kept, work)?;
-            match self.draw_segment(segment, context, work) {
+            match self.draw_segment(segment, canvas, work) {
                 Ok(()) => {}
                 Err(error) => return Err(error),
             }
@@ -111,18 +111,18 @@ impl<'a, A: Allocator + Clone> Drawer<'a, A> {
     fn draw_segment<L: Ledger>(
         &self,
         segment: &Segment<'_, A>,
-        context: &mut DecoderContext<A>,
+        canvas: &mut Canvas<A>,
         work: &mut Work<L>,
     ) -> Result<()>
-        requires { context.old.passed_over.count < usize.MAX }
-        ensures value { Gives (λ _. context.new) result
+        requires { canvas.old.passed_over.count < usize.MAX }
+        ensures value { Gives (λ _. canvas.new) result
             (segment_on self.now.reading self.now.globals.now (segment_view segment.now)
-            context.old) }
+            canvas.old) }
         ensures paid { Paid work.old work.new }
     {
-        match self.try_segment(segment, context, work) {
+        match self.try_segment(segment, canvas, work) {
             Ok(()) => Ok(()),
-            Err(error) => self.leave_out(segment.header.segment_number, error, context),
+            Err(error) => self.leave_out(segment.header.segment_number, error, canvas),
         }
     }
 
@@ -131,17 +131,17 @@ impl<'a, A: Allocator + Clone> Drawer<'a, A> {
         &self,
         segment_number: u32,
         error: DecodeError,
-        context: &mut DecoderContext<A>,
+        canvas: &mut Canvas<A>,
     ) -> Result<()>
-        requires { (error ≡ OutOfMemory) ⊎ (context.old.passed_over.count < usize.MAX) }
-        ensures value { Gives (λ _. context.new) result
-            (or_left_out self.now.reading segment_number context.old (Err error)) }
+        requires { (error ≡ OutOfMemory) ⊎ (canvas.old.passed_over.count < usize.MAX) }
+        ensures value { Gives (λ _. canvas.new) result
+            (or_left_out self.now.reading segment_number canvas.old (Err error)) }
         ensures memory { error ≡ OutOfMemory → result ≡ Err OutOfMemory }
     {
         if !self.reading.is_salvaged(&error) {
             return Err(error);
         }
-        context.pass(segment_number, error);
+        canvas.pass(segment_number, error);
         Ok(())
     }
 
@@ -149,45 +149,45 @@ impl<'a, A: Allocator + Clone> Drawer<'a, A> {
     fn try_segment<L: Ledger>(
         &self,
         segment: &Segment<'_, A>,
-        context: &mut DecoderContext<A>,
+        canvas: &mut Canvas<A>,
         work: &mut Work<L>,
     ) -> Result<()>
-        requires { context.old.passed_over.count < usize.MAX }
-        ensures value { Gives (λ _. context.new) result
+        requires { canvas.old.passed_over.count < usize.MAX }
+        ensures value { Gives (λ _. canvas.new) result
             (segment_by (is_strict self.now.reading) self.now.globals.now
-            (segment_view segment.now) context.old) }
+            (segment_view segment.now) canvas.old) }
         ensures err { IfErr result (λ e. (e ≡ OutOfMemory) ⊎
-            (touched context.new ≡ touched context.old)) }
+            (touched canvas.new ≡ touched canvas.old)) }
         ensures paid { Paid work.old work.new }
     {
         match segment.header.segment_type {
-            SegmentType::SymbolDictionary => self.keep_symbols(segment, context, work),
-            SegmentType::PatternDictionary => self.keep_patterns(segment, context, work),
-            SegmentType::Tables => keep_table(&mut context.names, segment, &context.workspace),
+            SegmentType::SymbolDictionary => self.keep_symbols(segment, canvas, work),
+            SegmentType::PatternDictionary => self.keep_patterns(segment, canvas, work),
+            SegmentType::Tables => keep_table(&mut canvas.names, segment, &canvas.workspace),
             SegmentType::IntermediateTextRegion => {
-                self.keep_region(RegionKind::Text, segment, context, work)
+                self.keep_region(RegionKind::Text, segment, canvas, work)
             }
             SegmentType::ImmediateTextRegion | SegmentType::ImmediateLosslessTextRegion => {
-                self.draw_region(RegionKind::Text, segment, context, work)
+                self.draw_region(RegionKind::Text, segment, canvas, work)
             }
             SegmentType::IntermediateHalftoneRegion => {
-                self.keep_region(RegionKind::Halftone, segment, context, work)
+                self.keep_region(RegionKind::Halftone, segment, canvas, work)
             }
             SegmentType::ImmediateHalftoneRegion | SegmentType::ImmediateLosslessHalftoneRegion => {
-                self.draw_region(RegionKind::Halftone, segment, context, work)
+                self.draw_region(RegionKind::Halftone, segment, canvas, work)
             }
             SegmentType::IntermediateGenericRegion => {
-                self.keep_region(RegionKind::Generic, segment, context, work)
+                self.keep_region(RegionKind::Generic, segment, canvas, work)
             }
             SegmentType::ImmediateGenericRegion | SegmentType::ImmediateLosslessGenericRegion => {
-                self.draw_region(RegionKind::Generic, segment, context, work)
+                self.draw_region(RegionKind::Generic, segment, canvas, work)
             }
             SegmentType::IntermediateGenericRefinementRegion => {
-                self.keep_region(RegionKind::GenericRefinement, segment, context, work)
+                self.keep_region(RegionKind::GenericRefinement, segment, canvas, work)
             }
             SegmentType::ImmediateGenericRefinementRegion
             | SegmentType::ImmediateLosslessGenericRefinementRegion => {
-                self.draw_region(RegionKind::GenericRefinement, segment, context, work)
+                self.draw_region(RegionKind::GenericRefinement, segment, canvas, work)
             }
             SegmentType::Extension => extension(self.reading.is_strict(), segment.bytes),
             SegmentType::PageInformation
@@ -204,18 +204,18 @@ impl<'a, A: Allocator + Clone> Drawer<'a, A> {
     fn keep_symbols<L: Ledger>(
         &self,
         segment: &Segment<'_, A>,
-        context: &mut DecoderContext<A>,
+        canvas: &mut Canvas<A>,
         work: &mut Work<L>,
     ) -> Result<()>
-        ensures value { Gives (λ _. context.new) result
-            (keeping context.old (with_symbols (is_strict self.now.reading) self.now.globals.now
-            (segment_view segment.now) context.old.names)) }
-        ensures err { IfErr result (λ e. (e ≡ OutOfMemory) ⊎ (context.new ≡ context.old)) }
+        ensures value { Gives (λ _. canvas.new) result
+            (keeping canvas.old (with_symbols (is_strict self.now.reading) self.now.globals.now
+            (segment_view segment.now) canvas.old.names)) }
+        ensures err { IfErr result (λ e. (e ≡ OutOfMemory) ⊎ (canvas.new ≡ canvas.old)) }
         ensures paid { Paid work.old work.new }
     {
-        let (strict, workspace) = (self.reading.is_strict(), &context.workspace);
+        let (strict, workspace) = (self.reading.is_strict(), &canvas.workspace);
         keep_symbols(
-            &mut context.names,
+            &mut canvas.names,
             strict,
             self.globals,
             segment,
@@ -228,20 +228,20 @@ impl<'a, A: Allocator + Clone> Drawer<'a, A> {
     fn keep_patterns<L: Ledger>(
         &self,
         segment: &Segment<'_, A>,
-        context: &mut DecoderContext<A>,
+        canvas: &mut Canvas<A>,
         work: &mut Work<L>,
     ) -> Result<()>
-        ensures value { Gives (λ _. context.new) result
-            (keeping context.old (with_patterns (is_strict self.now.reading)
-            (segment_view segment.now) context.old.names)) }
-        ensures err { IfErr result (λ e. (e ≡ OutOfMemory) ⊎ (context.new ≡ context.old)) }
+        ensures value { Gives (λ _. canvas.new) result
+            (keeping canvas.old (with_patterns (is_strict self.now.reading)
+            (segment_view segment.now) canvas.old.names)) }
+        ensures err { IfErr result (λ e. (e ≡ OutOfMemory) ⊎ (canvas.new ≡ canvas.old)) }
         ensures paid { Paid work.old work.new }
     {
-        let (strict, workspace) = (self.reading.is_strict(), &mut context.workspace);
-        keep_patterns(&mut context.names, strict, segment, workspace, work)
+        let (strict, workspace) = (self.reading.is_strict(), &mut canvas.workspace);
+        keep_patterns(&mut canvas.names, strict, segment, workspace, work)
     }
 
-    /// What a region may refer to, among the parts of a context.
+    /// What a region may refer to, among the parts of a canvas.
     fn references<'n, 'r, 'p>(
         &'n self,
         own: &'n KeptNames<A>,
@@ -276,20 +276,20 @@ impl<'a, A: Allocator + Clone> Drawer<'a, A> {
         &self,
         kind: RegionKind,
         segment: &Segment<'_, A>,
-        context: &mut DecoderContext<A>,
+        canvas: &mut Canvas<A>,
         work: &mut Work<L>,
     ) -> Result<()>
-        requires { context.old.passed_over.count < usize.MAX }
-        ensures value { Gives (λ _. context.new) result
+        requires { canvas.old.passed_over.count < usize.MAX }
+        ensures value { Gives (λ _. canvas.new) result
             (immediate (is_strict self.now.reading) self.now.globals.now kind
-            (segment_view segment.now) context.old) }
+            (segment_view segment.now) canvas.old) }
         ensures err { IfErr result (λ e. (e ≡ OutOfMemory) ⊎
-            (touched context.new ≡ touched context.old)) }
+            (touched canvas.new ≡ touched canvas.old)) }
         ensures paid { Paid work.old work.new }
     {
-        match self.show_region(kind, segment, context, work) {
+        match self.show_region(kind, segment, canvas, work) {
             Ok(()) => Ok(()),
-            Err(error) => self.pass_over(segment.header.segment_number, error, context),
+            Err(error) => self.pass_over(segment.header.segment_number, error, canvas),
         }
     }
 
@@ -299,28 +299,28 @@ impl<'a, A: Allocator + Clone> Drawer<'a, A> {
         &self,
         kind: RegionKind,
         segment: &Segment<'_, A>,
-        context: &mut DecoderContext<A>,
+        canvas: &mut Canvas<A>,
         work: &mut Work<L>,
     ) -> Result<()>
-        ensures value { Gives (λ _. context.new) result
-            (shown context.old (region_at (is_strict self.now.reading) self.now.globals.now kind false
-            (segment_view segment.now) context.old)) }
+        ensures value { Gives (λ _. canvas.new) result
+            (shown canvas.old (region_at (is_strict self.now.reading) self.now.globals.now kind false
+            (segment_view segment.now) canvas.old)) }
         ensures err { IfErr result (λ e. (e ≡ OutOfMemory) ⊎
-            (touched context.new ≡ touched context.old)) }
-        ensures passed { context.new.passed_over ≡ context.old.passed_over }
+            (touched canvas.new ≡ touched canvas.old)) }
+        ensures passed { canvas.new.passed_over ≡ canvas.old.passed_over }
         ensures paid { Paid work.old work.new }
     {
-        let is_white = context.is_white();
-        let references = self.references(&context.names, &context.regions, &context.bitmap);
-        let workspace = &context.workspace;
+        let is_white = canvas.is_white();
+        let references = self.references(&canvas.names, &canvas.regions, &canvas.bitmap);
+        let workspace = &canvas.workspace;
         let parsed = references.parse_region(kind, false, segment, workspace, work)?;
-        if is_white && parsed.makes_up(&context.bitmap) {
-            context.untouched = false;
-            return parsed.decode_onto(&mut context.bitmap, &mut context.workspace, work);
+        if is_white && parsed.makes_up(&canvas.bitmap) {
+            canvas.untouched = false;
+            return parsed.decode_onto(&mut canvas.bitmap, &mut canvas.workspace, work);
         }
-        let seen = parsed.above_end(context.bitmap.height());
-        let region = seen.decode(&mut context.workspace, work)?;
-        context.combine(&region, work);
+        let seen = parsed.above_end(canvas.bitmap.height());
+        let region = seen.decode(&mut canvas.workspace, work)?;
+        canvas.combine(&region, work);
         Ok(())
     }
 
@@ -329,18 +329,18 @@ impl<'a, A: Allocator + Clone> Drawer<'a, A> {
         &self,
         segment_number: u32,
         error: DecodeError,
-        context: &mut DecoderContext<A>,
+        canvas: &mut Canvas<A>,
     ) -> Result<()>
-        requires { context.old.passed_over.count < usize.MAX }
-        ensures value { Gives (λ _. context.new) result
-            (or_passed_over (is_strict self.now.reading) segment_number context.old (Err error)) }
-        ensures err { IfErr result (λ e. context.new ≡ context.old) }
+        requires { canvas.old.passed_over.count < usize.MAX }
+        ensures value { Gives (λ _. canvas.new) result
+            (or_passed_over (is_strict self.now.reading) segment_number canvas.old (Err error)) }
+        ensures err { IfErr result (λ e. canvas.new ≡ canvas.old) }
         ensures memory { error ≡ OutOfMemory → result ≡ Err OutOfMemory }
     {
         if self.reading.is_strict() || matches!(error, DecodeError::OutOfMemory) {
             return Err(error);
         }
-        context.pass(segment_number, error);
+        canvas.pass(segment_number, error);
         Ok(())
     }
 
@@ -350,19 +350,19 @@ impl<'a, A: Allocator + Clone> Drawer<'a, A> {
         &self,
         kind: RegionKind,
         segment: &Segment<'_, A>,
-        context: &mut DecoderContext<A>,
+        canvas: &mut Canvas<A>,
         work: &mut Work<L>,
     ) -> Result<()>
-        ensures value { Gives (λ _. context.new) result
+        ensures value { Gives (λ _. canvas.new) result
             (intermediate (is_strict self.now.reading) self.now.globals.now kind
-            (segment_view segment.now) context.old) }
-        ensures err { IfErr result (λ e. (e ≡ OutOfMemory) ⊎ (context.new ≡ context.old)) }
+            (segment_view segment.now) canvas.old) }
+        ensures err { IfErr result (λ e. (e ≡ OutOfMemory) ⊎ (canvas.new ≡ canvas.old)) }
         ensures paid { Paid work.old work.new }
     {
-        let references = self.references(&context.names, &context.regions, &context.bitmap);
-        let workspace = &context.workspace;
+        let references = self.references(&canvas.names, &canvas.regions, &canvas.bitmap);
+        let workspace = &canvas.workspace;
         let parsed = references.parse_region(kind, true, segment, workspace, work)?;
-        let region = parsed.decode(&mut context.workspace, work)?;
-        context.store(segment.header.segment_number, region)
+        let region = parsed.decode(&mut canvas.workspace, work)?;
+        canvas.store(segment.header.segment_number, region)
     }
 }

@@ -8,6 +8,7 @@
 
 mod beginning;
 mod calls;
+mod canvas;
 mod context;
 mod decoder;
 mod dictionaries;

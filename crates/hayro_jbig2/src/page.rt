@@ -6,6 +6,7 @@ ghost use Rattle.jbig2_base.specs.Grid.{Grid, blank};
 ghost use Rattle.jbig2_base.specs.Table.{IsTable};
 ghost use Rattle.jbig2_base.specs.declared.bitmap.operator.CombinationOperator.{CombinationOperator};
 ghost use Rattle.hayro_jbig2.specs.Calls.{CallsAreFew, ChunksFit, DrawsGrid, calls_of, Decodes, IsCountable};
+ghost use Rattle.hayro_jbig2.specs.Context.{IsLeft};
 ghost use Rattle.hayro_jbig2.specs.Image.{PackedBitsAreBytes, image_of_page, packed_of_page, packed_size};
 ghost use Rattle.hayro_jbig2.specs.Page.{HasSides, IsSide, ReadPage, segments_drawn, drawing_of_page, embedded, grid_of_page, draws_over, page_begun, PagesKeepTheirSize, StrictPassesNothing, UntouchedIsBlank};
 ghost use Rattle.jbig2_base.specs.Reading.{reading_of};
@@ -20,6 +21,7 @@ ghost use Rattle.jbig2_steps.specs.Work.{IsWithinLimit, Paid, price_of_bitmap, w
 
 use crate::beginning::beginning_of;
 use crate::calls::push_bitmap;
+use crate::canvas::Canvas;
 use crate::context::{DecoderContext, work_within};
 use crate::decoder::Decoder;
 use crate::drawing::Drawer;
@@ -287,8 +289,8 @@ impl<'a, A: Allocator + Clone> Page<'a, A> {
         ensures paid { Paid work.old work.new }
     {
         let _globals = &self.globals;
-        let context = self.drawn(work)?;
-        write_image(&context.bitmap, &self.initial_page, buf, &mut work.steps);
+        let canvas = self.drawn(work)?;
+        write_image(canvas.page(), &self.initial_page, buf, &mut work.steps);
         Ok(())
     }
 
@@ -343,8 +345,9 @@ impl<'a, A: Allocator + Clone> Page<'a, A> {
     ///
     /// Returns the first fault of a segment that lenient reading does not pass over.
     pub fn draw_in(&self, context: &mut DecoderContext<A>) -> Result<()>
-        ensures value { Gives (λ _. context.new.grid) result (grid_of_page self.now) }
-        ensures drawing { Gives (λ _. context.new) result (drawing_of_page self.now) }
+        ensures value { Gives (λ _. context.new.drawing.grid) result (grid_of_page self.now) }
+        ensures drawing { Gives (λ _. context.new.drawing) result (drawing_of_page self.now) }
+        ensures kept { context.new.work_limit ≡ context.old.work_limit }
         ensures size { PagesKeepTheirSize }
         ensures strict { StrictPassesNothing }
         ensures errors { IfErr result IsReturned }
@@ -357,7 +360,8 @@ impl<'a, A: Allocator + Clone> Page<'a, A> {
         requires name { blank.name ≡ L.name }
         requires parts { blank.parts ≡ L.parts }
         requires enough { blank.parts ≡ 6 }
-        ensures { Gives (λ _. context.new) result (drawing_of_page self.now) }
+        ensures drawing { Gives (λ _. context.new.drawing) result (drawing_of_page self.now) }
+        ensures kept { context.new.work_limit ≡ context.old.work_limit }
     {
         let mut work = context.new_work::<L>(blank);
         self.draw_within(context, &mut work)
@@ -372,7 +376,8 @@ impl<'a, A: Allocator + Clone> Page<'a, A> {
         context: &mut DecoderContext<A>,
         work: &mut Work<L>,
     ) -> Result<()>
-        ensures drawing { Gives (λ _. context.new) result (drawing_of_page self.now) }
+        ensures drawing { Gives (λ _. context.new.drawing) result (drawing_of_page self.now) }
+        ensures left { IsLeft work.new context.old context.new }
         ensures errors { IfErr result IsReturned }
         ensures limit { IsWithinLimit work.old work.new }
         ensures paid { Paid work.old work.new }
@@ -381,22 +386,22 @@ impl<'a, A: Allocator + Clone> Page<'a, A> {
             IfOk result (λ _. worth work.new + 32 * price ≤ worth work.old) }
     {
         let _globals = &self.globals;
-        let drawn = self.draw_into(context, work);
+        let drawn = self.draw_onto(&mut context.canvas, work);
         context.end(work);
         drawn
     }
 
-    /// The context that the page is drawn in, a fresh one.
-    fn drawn<L: Ledger>(&self, work: &mut Work<L>) -> Result<DecoderContext<A>>
-        ensures value { Gives (λ context. context.grid) result (grid_of_page self.now) }
+    /// A fresh canvas that the page is drawn on.
+    fn drawn<L: Ledger>(&self, work: &mut Work<L>) -> Result<Canvas<A>>
+        ensures value { Gives (λ canvas. canvas.grid) result (grid_of_page self.now) }
         ensures paid { Paid work.old work.new }
         ensures ahead { let page = self.now.initial_page in
             let price = price_of_bitmap page.width page.height in
             IfOk result (λ _. worth work.new + 32 * price ≤ worth work.old) }
     {
-        let mut context = DecoderContext::new(self.segments.as_vec().allocator().clone()?)?;
-        self.draw_into(&mut context, work)?;
-        Ok(context)
+        let mut canvas = Canvas::new(self.segments.as_vec().allocator().clone()?)?;
+        self.draw_onto(&mut canvas, work)?;
+        Ok(canvas)
     }
 
     /// Makes the calls that spell the page, in the room of a context that earlier pages may have
@@ -411,7 +416,8 @@ impl<'a, A: Allocator + Clone> Page<'a, A> {
     ) -> Result<()>
         requires { IsCountable D.conduct decoder.old }
         ensures calls { Decodes D.conduct (grid_of_page self.now) result decoder.old decoder.new }
-        ensures drawing { IfOk (drawing_of_page self.now) (Leaves result context.new) }
+        ensures drawing { IfOk (drawing_of_page self.now) (Leaves result context.new.drawing) }
+        ensures kept { context.new.work_limit ≡ context.old.work_limit }
         ensures spelling { (g : Grid) → DrawsGrid (calls_of g) g }
         ensures chunks { (g : Grid) → ChunksFit g.width 0 (calls_of g) }
         ensures few { (g : Grid) → CallsAreFew g }
@@ -438,7 +444,8 @@ impl<'a, A: Allocator + Clone> Page<'a, A> {
         requires parts { blank.parts ≡ L.parts }
         requires enough { blank.parts ≡ 6 }
         ensures calls { Decodes D.conduct (grid_of_page self.now) result decoder.old decoder.new }
-        ensures drawing { IfOk (drawing_of_page self.now) (Leaves result context.new) }
+        ensures drawing { IfOk (drawing_of_page self.now) (Leaves result context.new.drawing) }
+        ensures kept { context.new.work_limit ≡ context.old.work_limit }
     {
         let mut work = context.new_work::<L>(blank);
         self.decode_within(decoder, context, &mut work)
@@ -456,7 +463,8 @@ impl<'a, A: Allocator + Clone> Page<'a, A> {
     ) -> Result<()>
         requires { IsCountable D.conduct decoder.old }
         ensures calls { Decodes D.conduct (grid_of_page self.now) result decoder.old decoder.new }
-        ensures drawing { IfOk (drawing_of_page self.now) (Leaves result context.new) }
+        ensures drawing { IfOk (drawing_of_page self.now) (Leaves result context.new.drawing) }
+        ensures left { IsLeft work.new context.old context.new }
         ensures errors { D.conduct.refusals decoder.new ≡ D.conduct.refusals decoder.old
             → IfErr result IsReturned }
         ensures limit { IsWithinLimit work.old work.new }
@@ -464,28 +472,24 @@ impl<'a, A: Allocator + Clone> Page<'a, A> {
     {
         let _globals = &self.globals;
         match self.draw_within(context, work) {
-            Ok(()) => push_bitmap(&context.bitmap, decoder, &mut work.steps),
+            Ok(()) => push_bitmap(context.canvas.page(), decoder, &mut work.steps),
             Err(error) => Err(error),
         }
     }
 
-    /// Draws the whole page into the context's bitmap.
-    fn draw_into<L: Ledger>(
-        &self,
-        context: &mut DecoderContext<A>,
-        work: &mut Work<L>,
-    ) -> Result<()>
-        ensures value { Gives (λ _. context.new) result (drawing_of_page self.now) }
+    /// Draws the whole page.
+    fn draw_onto<L: Ledger>(&self, canvas: &mut Canvas<A>, work: &mut Work<L>) -> Result<()>
+        ensures value { Gives (λ _. canvas.new) result (drawing_of_page self.now) }
         ensures paid { Paid work.old work.new }
         ensures ahead { let page = self.now.initial_page in
             let price = price_of_bitmap page.width page.height in
             IfOk result (λ _. worth work.new + 32 * price ≤ worth work.old) }
     {
         match &self.globals {
-            Ok(Some(globals)) => self.draw_with(globals.names(), context, work),
+            Ok(Some(globals)) => self.draw_with(globals.names(), canvas, work),
             Ok(None) => {
                 let none = KeptNames::new(self.segments.as_vec().allocator().clone()?)?;
-                self.draw_with(&none, context, work)
+                self.draw_with(&none, canvas, work)
             }
             Err(error) => Err(error.duplicate()),
         }
@@ -495,10 +499,10 @@ impl<'a, A: Allocator + Clone> Page<'a, A> {
     fn draw_with<L: Ledger>(
         &self,
         globals: &KeptNames<A>,
-        context: &mut DecoderContext<A>,
+        canvas: &mut Canvas<A>,
         work: &mut Work<L>,
     ) -> Result<()>
-        ensures value { Gives (λ _. context.new) result
+        ensures value { Gives (λ _. canvas.new) result
             (segments_drawn self.now.reading globals.now self.now.segments
             (page_begun self.now.initial_page)) }
         ensures paid { Paid work.old work.new }
@@ -509,11 +513,11 @@ impl<'a, A: Allocator + Clone> Page<'a, A> {
         // A page is cleared, and then handed out.
         let (width, height) = self.dimensions();
         work.pay_bitmaps(2, width, height)?;
-        context.begin(&self.initial_page)?;
+        canvas.begin(&self.initial_page)?;
         let drawer = Drawer {
             reading: self.reading,
             globals,
         };
-        drawer.draw_segments(self.segments.as_vec(), context, work)
+        drawer.draw_segments(self.segments.as_vec(), canvas, work)
     }
 }

@@ -184,8 +184,9 @@ impl<'a, 'n, 'r, A: Allocator + Clone> ParsedRegion<'a, 'n, 'r, A> {
         ensures ahead { IfOk result (λ region. let page = region.bitmap in
             worth work.new + 32 * price_of_bitmap page.width page.height ≤ worth work.old) }
     {
-        self.pay_bitmaps(2, work)?;
         let info = self.region_info();
+        text::check_sides(info.width, info.height)?;
+        self.pay_bitmaps(2, work)?;
         let alloc = workspace.alloc.clone()?;
         let mut bitmap = Bitmap::new_with(alloc, info.width, info.height, self.initial_pixel())?;
         self.decode_into(&mut bitmap, workspace, work)?;

@@ -7,7 +7,7 @@ ghost use Rattle.hayro_jbig2.specs.inner.Parsed.{IsDecodable, drawn, info_of, in
 ghost use Rattle.hayro_jbig2.specs.inner.Whole.{IsBegun, IsWhole};
 ghost use Rattle.jbig2_steps.specs.Work.{Paid};
 
-use crate::context::DecoderContext;
+use crate::canvas::Canvas;
 use crate::parsed_region::ParsedRegion;
 use crate::workspace::Workspace;
 use jbig2_base::bitmap::steps::Work;
@@ -26,7 +26,7 @@ fn draws_over_white(operator: CombinationOperator) -> bool
     }
 }
 
-impl<A: Allocator> DecoderContext<A> {
+impl<A: Allocator> Canvas<A> {
     /// Whether the page is still white.
     pub(crate) fn is_white(&self) -> bool
         ensures { result ≡ true → IsBegun false self.now.grid }

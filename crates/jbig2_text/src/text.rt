@@ -34,7 +34,7 @@ use crate::text::header::{
 pub use crate::text::instances::draw_instances_by;
 pub use crate::text::prefixed::PrefixedReadings;
 pub use crate::text::readings::ReadInstances;
-pub use crate::text::refined::new_symbol;
+pub use crate::text::refined::{check_sides, new_symbol};
 pub use crate::text::refining::{Refining, pixels_of_template};
 pub use crate::text::symbol_list::SymbolList;
 pub use crate::text::symbols::TextParams;
@@ -241,6 +241,7 @@ pub fn decode<H: Allocator, B: Allocator, T: Allocator, M: Allocator + Clone, L:
     ensures paid { Paid work.old work.new }
 {
     let region_info = &header.region_info;
+    check_sides(region_info.width, region_info.height)?;
     work.pay_bitmap(region_info.width, region_info.height)?;
     let mut bitmap = Bitmap::new_with(
         alloc.clone()?,

@@ -149,8 +149,7 @@ pub fn refine_alone<R: ReadInstances, A: Allocator, M: Allocator, C: Allocator, 
     let Some(bitmap) = symbols.symbol(id) else {
         return Err(DecodeError::Symbol(SymbolError::OutOfRange));
     };
-    work.pay_bitmap(size.width, size.height)?;
-    let mut refined = new_symbol(alloc, size.width, size.height)?;
+    let mut refined = new_symbol(alloc, size.width, size.height, work)?;
     let reference = ReferenceBitmap { bitmap, dx, dy };
     readings.refine(&reference, refining, &mut refined, work)?;
     Ok(refined)
@@ -173,8 +172,7 @@ pub fn put_together<R: ReadInstances, A: Allocator, M: Allocator + Clone, C: All
         Gives (λ g. (g, refining.new, R.state readings.new)) result meant }
     ensures paid { Paid work.old work.new }
 {
-    work.pay_bitmap(size.width, size.height)?;
-    let mut symbol = new_symbol(alloc.clone()?, size.width, size.height)?;
+    let mut symbol = new_symbol(alloc.clone()?, size.width, size.height, work)?;
     draw_instances_by(alloc, readings, refining, params, &mut symbol, work)?;
     Ok(symbol)
 }

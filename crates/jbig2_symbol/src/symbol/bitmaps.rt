@@ -119,6 +119,7 @@ fn read_mmr_rows<A: Allocator, L: Ledger>(
     ensures paid { Paid work.old work.new }
 {
     let bytes = bytes_field(reader, size)?;
+    check_pixels(width, height)?;
     // Codes may stand for no pixel.
     work.pay(size as u64)?;
     work.pay_bitmap(width, height)?;

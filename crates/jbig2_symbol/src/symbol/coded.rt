@@ -28,7 +28,7 @@ use jbig2_base::error::Result;
 use jbig2_coder::integer_procedures::IntegerProcedure;
 use jbig2_region::generic::decode_coded;
 use jbig2_region::template::GenericTemplatePixels;
-use jbig2_text::text::{CodedReadings, TextParams};
+use jbig2_text::text::{CodedReadings, TextParams, new_symbol};
 use std::alloc::Allocator;
 use std::sync::ledger::Ledger;
 
@@ -90,8 +90,7 @@ impl<A: Allocator> CodedSymbols<'_, A> {
             Gives (λ symbol. (symbol, coded_view self.new)) result meant }
         ensures paid { Paid work.old work.new }
     {
-        work.pay_bitmap(width, height)?;
-        let mut bitmap = Bitmap::new(alloc, width, height)?;
+        let mut bitmap = new_symbol(alloc, width, height, work)?;
         decode_coded(
             self.contexts.template,
             false,

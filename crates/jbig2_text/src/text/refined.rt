@@ -1,8 +1,9 @@
 //! Symbols that are refined from others as their numbers are read (T.88, 6.4.11).
-ghost use Rattle.std.specs.Prelude.{◌≡◌, ◌≤◌, false, IfOk};
+ghost use Rattle.std.specs.Prelude.{◌≡◌, ◌+◌, ◌*◌, ◌≤◌, ◌⊎◌, false, IfErr, IfOk};
 ghost use Rattle.jbig2_base.specs.Answer.{Answers, Gives};
 ghost use Rattle.jbig2_base.specs.Grid.{blank, blank_or_overflow};
-ghost use Rattle.jbig2_steps.specs.Work.{PaidBut};
+ghost use Rattle.jbig2_base.specs.declared.error.DecodeError.TheVariants.{OutOfMemory};
+ghost use Rattle.jbig2_steps.specs.Work.{Paid, PaidBut, price_of_bitmap, worth};
 ghost use Rattle.jbig2_text.specs.Paying.{number_steps};
 ghost use Rattle.jbig2_text.specs.Text.{refinement_deltas, refined_outline, refined_symbol};
 ghost use Rattle.jbig2_text.specs.inner.TextViews.{list_view};
@@ -13,10 +14,13 @@ use crate::text::refining::Refining;
 use crate::text::symbol_list::SymbolList;
 use jbig2_base::bitmap::Bitmap;
 use jbig2_base::bitmap::steps::Work;
-use jbig2_base::error::{DecodeError, Result, SymbolError};
+use jbig2_base::error::{DecodeError, OverflowError, Result, SymbolError};
 use jbig2_region::generic_refinement::ReferenceBitmap;
 use std::alloc::Allocator;
 use std::sync::ledger::Ledger;
+
+/// The longest side of a bitmap.
+const MAX_DIMENSION: u32 = 65535;
 
 /// How much wider and higher a refined symbol is (RDW, RDH), and how far it lies to the right and
 /// below (RDX, RDY).
@@ -75,15 +79,38 @@ fn outline_of<B: Allocator>(from: &Bitmap<B>, deltas: &RefinementDeltas) -> Resu
     })
 }
 
-/// A white bitmap for a refined symbol.
-pub fn new_symbol<M: Allocator>(alloc: M, width: u32, height: u32) -> Result<Bitmap<M>>
+/// Refuses a size that a bitmap can't have: a side above 65535 (`OverflowError::BitmapDimension`).
+pub fn check_sides(width: u32, height: u32) -> Result<()>
+    ensures { let meant = blank_or_overflow width height false in
+        Answers (λ _. blank width height false) result meant }
+{
+    if width > MAX_DIMENSION || height > MAX_DIMENSION {
+        return Err(DecodeError::Overflow(OverflowError::BitmapDimension));
+    }
+    Ok(())
+}
+
+/// A white bitmap for a symbol. Its work is taken once its size is checked, so that a size which is
+/// refused takes none.
+pub fn new_symbol<M: Allocator, L: Ledger>(
+    alloc: M,
+    width: u32,
+    height: u32,
+    work: &mut Work<L>,
+) -> Result<Bitmap<M>>
     ensures value { Gives (λ b. b) result (blank_or_overflow width height false) }
     ensures width { IfOk result (λ b. b.width ≡ width) }
     ensures height { IfOk result (λ b. b.height ≡ height) }
     ensures columns { IfOk result (λ b. b.width ≤ 65535) }
     ensures rows { IfOk result (λ b. b.height ≤ 65535) }
     ensures white { IfOk result (λ b. b ≡ blank b.width b.height false) }
+    ensures paid { Paid work.old work.new }
+    ensures taken { IfOk result
+        (λ b. worth work.new + 32 * price_of_bitmap b.width b.height ≤ worth work.old) }
+    ensures untaken { IfErr result (λ e. (e ≡ OutOfMemory) ⊎ (worth work.new ≡ worth work.old)) }
 {
+    check_sides(width, height)?;
+    work.pay_bitmap(width, height)?;
     Bitmap::new(alloc, width, height)
 }
 
@@ -107,8 +134,7 @@ pub fn read_refined<R: ReadInstances, B: Allocator, M: Allocator, C: Allocator, 
     };
     let deltas = read_deltas(readings, work)?;
     let outline = outline_of(bitmap, &deltas)?;
-    work.pay_bitmap(outline.width, outline.height)?;
-    let mut refined = new_symbol(alloc, outline.width, outline.height)?;
+    let mut refined = new_symbol(alloc, outline.width, outline.height, work)?;
     let reference = ReferenceBitmap {
         bitmap,
         dx: outline.dx,

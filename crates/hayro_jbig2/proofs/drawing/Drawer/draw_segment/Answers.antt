@@ -19,18 +19,18 @@ left reading number d d1 d' meant e answer (inr failed) (inr same) refused gives
     (subst (λ (b : Drawing). Gives (λ _. d') answer (or_left_out reading number b (Err e))) same gives)
 
 pub returns-in-Ok-clause-value : goal.returns-in-Ok-clause-value
-returns-in-Ok-clause-value g c = ap (λ (r : Result Drawing DecodeError). or_left_out c.args.self.now.reading c.args.segment.now.header.segment_number c.args.context.now r) c.in-Ok.ensures.value
+returns-in-Ok-clause-value g c = ap (λ (r : Result Drawing DecodeError). or_left_out c.args.self.now.reading c.args.segment.now.header.segment_number c.args.canvas.now r) c.in-Ok.ensures.value
 
 pub returns-in-Err-clause-value : goal.returns-in-Err-clause-value
 returns-in-Err-clause-value g c =
-    let d : Drawing = c.args.context.now in
+    let d : Drawing = c.args.canvas.now in
     let meant : Result Drawing DecodeError = segment_by (is_strict c.args.self.now.reading) c.args.self.now.globals.now (segment_view c.args.segment.now) d in
-    left c.args.self.now.reading c.args.segment.now.header.segment_number d c.try_segment.new.context c.leave_out.new.context meant c.in-Err.error _
+    left c.args.self.now.reading c.args.segment.now.header.segment_number d c.try_segment.new.canvas c.leave_out.new.canvas meant c.in-Err.error _
     c.in-Err.ensures.value c.in-Err.ensures.err c.leave_out.ensures.memory c.leave_out.ensures.value
 
 pub leave_out-requires : goal.leave_out-requires
 leave_out-requires g c =
     ⊎_elim
     (λ (memory : c.in-Err.error ≡ OutOfMemory). inl memory)
-    (λ (same : touched c.try_segment.new.context ≡ touched c.args.context.now). inr (omega (arith, c.requires, ap (λ (d : Drawing). d.passed_over.count) same)))
+    (λ (same : touched c.try_segment.new.canvas ≡ touched c.args.canvas.now). inr (omega (arith, c.requires, ap (λ (d : Drawing). d.passed_over.count) same)))
     c.in-Err.ensures.err

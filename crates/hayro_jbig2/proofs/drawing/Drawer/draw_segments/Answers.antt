@@ -27,13 +27,13 @@ drawn-end reading globals segments i segment d inside is ends =
 pub loop-segment-preserved : goal.loop-segment-preserved
 loop-segment-preserved g c =
     let i = c.loop-segment.segment-index in
-    let more : c.draw_segment.new.context.passed_over.count ≤ c.loop-segment.context.passed_over.count + 1 =
-    subst (λ (r : Result Drawing DecodeError). IfOk r (λ e. e.passed_over.count ≤ c.loop-segment.context.passed_over.count + 1)) c.in-Ok.ensures.value
-    (counts-on c.args.self.now.reading c.args.self.now.globals.now (segment_view c.segment-item.result) c.loop-segment.context) in
+    let more : c.draw_segment.new.canvas.passed_over.count ≤ c.loop-segment.canvas.passed_over.count + 1 =
+    subst (λ (r : Result Drawing DecodeError). IfOk r (λ e. e.passed_over.count ≤ c.loop-segment.canvas.passed_over.count + 1)) c.in-Ok.ensures.value
+    (counts-on c.args.self.now.reading c.args.self.now.globals.now (segment_view c.segment-item.result) c.loop-segment.canvas) in
     record {
       drawn =
           sym
-          (drawn-first c.args.self.now.reading c.args.self.now.globals.now c.args.segments.now i c.segment-item.result c.loop-segment.context (omega arith) c.segment-item.is (sym c.ends_page.ensures ∙ c.if-ends_page.false)
+          (drawn-first c.args.self.now.reading c.args.self.now.globals.now c.args.segments.now i c.segment-item.result c.loop-segment.canvas (omega arith) c.segment-item.is (sym c.ends_page.ensures ∙ c.if-ends_page.false)
           ∙ ap (λ drawn. drawn >>= λ e. segments_drawn c.args.self.now.reading c.args.self.now.globals.now (segment_views (drop (i + 1) c.args.segments.now)) e) c.in-Ok.ensures.value)
           ∙ c.loop-segment.invariant.drawn;
       paid = omega (arith, c.in_ok-pay_segment.ensures.paid, c.in-Ok.ensures.paid, c.loop-segment.invariant.paid);
@@ -43,7 +43,7 @@ loop-segment-preserved g c =
 pub returns-then-ends_page-clause-value : goal.returns-then-ends_page-clause-value
 returns-then-ends_page-clause-value g c =
     sym c.loop-segment.invariant.drawn
-    ∙ drawn-end c.args.self.now.reading c.args.self.now.globals.now c.args.segments.now c.loop-segment.segment-index c.segment-item.result c.loop-segment.context (omega arith) c.segment-item.is (sym c.ends_page.ensures ∙ c.if-ends_page.true)
+    ∙ drawn-end c.args.self.now.reading c.args.self.now.globals.now c.args.segments.now c.loop-segment.segment-index c.segment-item.result c.loop-segment.canvas (omega arith) c.segment-item.is (sym c.ends_page.ensures ∙ c.if-ends_page.true)
 
 pub returns-in-Err-clause-value : goal.returns-in-Err-clause-value
 returns-in-Err-clause-value g c =
@@ -53,6 +53,6 @@ returns-in-Err-clause-value g c =
     (λ refused.
     inr
     (sym c.loop-segment.invariant.drawn
-    ∙ drawn-first c.args.self.now.reading c.args.self.now.globals.now c.args.segments.now i c.segment-item.result c.loop-segment.context (omega arith) c.segment-item.is (sym c.ends_page.ensures ∙ c.if-ends_page.false)
+    ∙ drawn-first c.args.self.now.reading c.args.self.now.globals.now c.args.segments.now i c.segment-item.result c.loop-segment.canvas (omega arith) c.segment-item.is (sym c.ends_page.ensures ∙ c.if-ends_page.false)
     ∙ ap (λ drawn. drawn >>= λ e. segments_drawn c.args.self.now.reading c.args.self.now.globals.now (segment_views (drop (i + 1) c.args.segments.now)) e) refused))
     c.in-Err.ensures.value

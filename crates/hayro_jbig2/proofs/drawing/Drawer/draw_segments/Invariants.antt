@@ -6,8 +6,8 @@ use Rattle.hayro_jbig2.proofs.drawing.Drawer.draw_segments.Given as goal
 
 abbrev pub invariant-loop-segment : goal.invariant-loop-segment
 invariant-loop-segment g l = record {
-  drawn : segments_drawn l.self.reading l.self.globals.now (segment_views (drop l.segment-index l.segments)) l.context
-      ≡ segments_drawn l.self.reading l.self.globals.now (segment_views l.segments) l.fn.context;
+  drawn : segments_drawn l.self.reading l.self.globals.now (segment_views (drop l.segment-index l.segments)) l.canvas
+      ≡ segments_drawn l.self.reading l.self.globals.now (segment_views l.segments) l.fn.canvas;
   paid : worth l.work ≤ worth l.fn.work;
-  few : l.context.passed_over.count ≤ l.segment-index;
+  few : l.canvas.passed_over.count ≤ l.segment-index;
 }

@@ -17,49 +17,49 @@ use Rattle.hayro_jbig2.proofs.drawing.Drawer.show_region.Goals as goal
 
 pub returns-in_err-region-clause-value : goal.returns-in_err-region-clause-value
 returns-in_err-region-clause-value g c =
-    let d : Drawing = c.args.context.now in
+    let d : Drawing = c.args.canvas.now in
     let e = err_from_is_err_and c.from_residual-in_err-region.result c.from_residual-in_err-region.ensures.1 in
     let meant : Result PlacedRegion DecodeError = region_at (is_strict c.args.self.now.reading) c.args.self.now.globals.now c.args.kind false (segment_view c.args.segment.now) d in
-    let leads : meant ≡ apart c.in_ok-parsed.parsed = led c.references-references.result (is_strict c.args.self.now.reading) c.args.self.now.globals.now c.args.kind false (segment_view c.args.segment.now) c.context.inside.bitmap c.deref.result.now c.context.inside.regions.items c.context.inside.names c.context.inside.untouched c.context.inside.passed_over d (apart c.in_ok-parsed.parsed) c.references-references.ensures.strict c.references-references.ensures.globals c.references-references.ensures.drawing c.deref.ensures.value c.context.view_is c.in_ok-parsed.ensures.value in
-    let height : d.grid.height ≡ c.height.result = sym (c.height.ensures.value ∙ ap (λ (b : Drawing). b.grid.height) c.context.view_is) in
+    let leads : meant ≡ apart c.in_ok-parsed.parsed = led c.references-references.result (is_strict c.args.self.now.reading) c.args.self.now.globals.now c.args.kind false (segment_view c.args.segment.now) c.canvas.inside.bitmap c.deref.result.now c.canvas.inside.regions.items c.canvas.inside.names c.canvas.inside.untouched c.canvas.inside.passed_over d (apart c.in_ok-parsed.parsed) c.references-references.ensures.strict c.references-references.ensures.globals c.references-references.ensures.drawing c.deref.ensures.value c.canvas.view_is c.in_ok-parsed.ensures.value in
+    let height : d.grid.height ≡ c.height.result = sym (c.height.ensures.value ∙ ap (λ (b : Drawing). b.grid.height) c.canvas.view_is) in
     rw (e.1, e.2) (cut-refused d meant (apart c.in_ok-parsed.parsed) (apart c.above_end-seen.result) c.in_err-region.field-0.0 leads (c.above_end-seen.ensures.shown d height) c.in_err-region.ensures.value)
 
 pub returns-in_err-region-clause-err : goal.returns-in_err-region-clause-err
 returns-in_err-region-clause-err g c =
     let e = err_from_is_err_and c.from_residual-in_err-region.result c.from_residual-in_err-region.ensures.1 in
-    rw (e.1) (inr (ap (λ (b : Drawing). touched b) c.context.view_is))
+    rw (e.1) (inr (ap (λ (b : Drawing). touched b) c.canvas.view_is))
 
 pub returns-clause-value : goal.returns-clause-value
 returns-clause-value g c =
-    let d : Drawing = c.args.context.now in
+    let d : Drawing = c.args.canvas.now in
     let meant : Result PlacedRegion DecodeError = region_at (is_strict c.args.self.now.reading) c.args.self.now.globals.now c.args.kind false (segment_view c.args.segment.now) d in
-    let leads : meant ≡ apart c.in_ok-parsed.parsed = led c.references-references.result (is_strict c.args.self.now.reading) c.args.self.now.globals.now c.args.kind false (segment_view c.args.segment.now) c.context.inside.bitmap c.deref.result.now c.context.inside.regions.items c.context.inside.names c.context.inside.untouched c.context.inside.passed_over d (apart c.in_ok-parsed.parsed) c.references-references.ensures.strict c.references-references.ensures.globals c.references-references.ensures.drawing c.deref.ensures.value c.context.view_is c.in_ok-parsed.ensures.value in
-    let drawn : Ok c.combine.new.self ≡ shown d (Ok (region_view c.in_ok-region.region)) = c.combine.ensures.value ∙ ap (λ (b : Drawing). shown b (Ok (region_view c.in_ok-region.region))) c.context.view_is in
-    let height : d.grid.height ≡ c.height.result = sym (c.height.ensures.value ∙ ap (λ (b : Drawing). b.grid.height) c.context.view_is) in
+    let leads : meant ≡ apart c.in_ok-parsed.parsed = led c.references-references.result (is_strict c.args.self.now.reading) c.args.self.now.globals.now c.args.kind false (segment_view c.args.segment.now) c.canvas.inside.bitmap c.deref.result.now c.canvas.inside.regions.items c.canvas.inside.names c.canvas.inside.untouched c.canvas.inside.passed_over d (apart c.in_ok-parsed.parsed) c.references-references.ensures.strict c.references-references.ensures.globals c.references-references.ensures.drawing c.deref.ensures.value c.canvas.view_is c.in_ok-parsed.ensures.value in
+    let drawn : Ok c.combine.new.self ≡ shown d (Ok (region_view c.in_ok-region.region)) = c.combine.ensures.value ∙ ap (λ (b : Drawing). shown b (Ok (region_view c.in_ok-region.region))) c.canvas.view_is in
+    let height : d.grid.height ≡ c.height.result = sym (c.height.ensures.value ∙ ap (λ (b : Drawing). b.grid.height) c.canvas.view_is) in
     cut-shown d c.combine.new.self meant (apart c.in_ok-parsed.parsed) (apart c.above_end-seen.result) (region_view c.in_ok-region.region) leads (c.above_end-seen.ensures.shown d height) c.in_ok-region.ensures.value drawn
 
 pub returns-then-makes_up-clause-value : goal.returns-then-makes_up-clause-value
 returns-then-makes_up-clause-value g c =
-    let d : Drawing = c.args.context.now in
-    let inside : Drawing = record { grid = c.context.inside.bitmap; regions = seen region_view c.context.inside.regions.items; names = c.context.inside.names; untouched = c.context.inside.untouched; passed_over = c.context.inside.passed_over } in
+    let d : Drawing = c.args.canvas.now in
+    let inside : Drawing = record { grid = c.canvas.inside.bitmap; regions = seen region_view c.canvas.inside.regions.items; names = c.canvas.inside.names; untouched = c.canvas.inside.untouched; passed_over = c.canvas.inside.passed_over } in
     let meant : Result PlacedRegion DecodeError = region_at (is_strict c.args.self.now.reading) c.args.self.now.globals.now c.args.kind false (segment_view c.args.segment.now) d in
-    let leads : meant ≡ apart c.in_ok-parsed.parsed = led c.references-references.result (is_strict c.args.self.now.reading) c.args.self.now.globals.now c.args.kind false (segment_view c.args.segment.now) c.context.inside.bitmap c.deref.result.now c.context.inside.regions.items c.context.inside.names c.context.inside.untouched c.context.inside.passed_over d (apart c.in_ok-parsed.parsed) c.references-references.ensures.strict c.references-references.ensures.globals c.references-references.ensures.drawing c.deref.ensures.value c.context.view_is c.in_ok-parsed.ensures.value in
-    let begun : IsBegun false c.context.inside.bitmap = subst (λ (p : Grid). IsBegun false p) (sym (ap (λ (b : Drawing). b.grid) c.context.view_is)) (c.is_white-is_white.ensures c.if-is_white.true) in
-    let whole : IsWhole (info_of c.in_ok-parsed.parsed) (initial_of c.in_ok-parsed.parsed) c.context.inside.bitmap = c.makes_up.ensures c.if-makes_up.true begun in
-    subst (λ (b : Drawing). Gives (λ _. record inside { grid = c.decode_onto.new.page; untouched = false }) c.decode_onto.result (shown b meant)) c.context.view_is
+    let leads : meant ≡ apart c.in_ok-parsed.parsed = led c.references-references.result (is_strict c.args.self.now.reading) c.args.self.now.globals.now c.args.kind false (segment_view c.args.segment.now) c.canvas.inside.bitmap c.deref.result.now c.canvas.inside.regions.items c.canvas.inside.names c.canvas.inside.untouched c.canvas.inside.passed_over d (apart c.in_ok-parsed.parsed) c.references-references.ensures.strict c.references-references.ensures.globals c.references-references.ensures.drawing c.deref.ensures.value c.canvas.view_is c.in_ok-parsed.ensures.value in
+    let begun : IsBegun false c.canvas.inside.bitmap = subst (λ (p : Grid). IsBegun false p) (sym (ap (λ (b : Drawing). b.grid) c.canvas.view_is)) (c.is_white-is_white.ensures c.if-is_white.true) in
+    let whole : IsWhole (info_of c.in_ok-parsed.parsed) (initial_of c.in_ok-parsed.parsed) c.canvas.inside.bitmap = c.makes_up.ensures c.if-makes_up.true begun in
+    subst (λ (b : Drawing). Gives (λ _. record inside { grid = c.decode_onto.new.page; untouched = false }) c.decode_onto.result (shown b meant)) c.canvas.view_is
     (whole-gives c.in_ok-parsed.parsed meant inside c.decode_onto.new.page c.decode_onto.result whole leads c.decode_onto.ensures.value)
 
 pub returns-then-makes_up-clause-err : goal.returns-then-makes_up-clause-err
 returns-then-makes_up-clause-err g c =
-    let inside : Drawing = record { grid = c.context.inside.bitmap; regions = seen region_view c.context.inside.regions.items; names = c.context.inside.names; untouched = c.context.inside.untouched; passed_over = c.context.inside.passed_over } in
-    left-as-was inside c.args.context.now c.decode_onto.new.page c.decode_onto.result c.context.view_is c.decode_onto.ensures.err
+    let inside : Drawing = record { grid = c.canvas.inside.bitmap; regions = seen region_view c.canvas.inside.regions.items; names = c.canvas.inside.names; untouched = c.canvas.inside.untouched; passed_over = c.canvas.inside.passed_over } in
+    left-as-was inside c.args.canvas.now c.decode_onto.new.page c.decode_onto.result c.canvas.view_is c.decode_onto.ensures.err
 
 pub returns-in_err-parsed-clause-value : goal.returns-in_err-parsed-clause-value
 returns-in_err-parsed-clause-value g c =
-    let d : Drawing = c.args.context.now in
+    let d : Drawing = c.args.canvas.now in
     let e = err_from_is_err_and c.from_residual.result c.from_residual.ensures.1 in
     let r = c.references-references.result in
     let meant : Result PlacedRegion DecodeError = region_at (is_strict c.args.self.now.reading) c.args.self.now.globals.now c.args.kind false (segment_view c.args.segment.now) d in
     let other : Result PlacedRegion DecodeError = region_at r.names.strict r.names.globals.now c.args.kind false (segment_view c.args.segment.now) (drawing_of r) in
-    let same : meant ≡ other = led r (is_strict c.args.self.now.reading) c.args.self.now.globals.now c.args.kind false (segment_view c.args.segment.now) c.context.inside.bitmap c.deref.result.now c.context.inside.regions.items c.context.inside.names c.context.inside.untouched c.context.inside.passed_over d other c.references-references.ensures.strict c.references-references.ensures.globals c.references-references.ensures.drawing c.deref.ensures.value c.context.view_is refl in
+    let same : meant ≡ other = led r (is_strict c.args.self.now.reading) c.args.self.now.globals.now c.args.kind false (segment_view c.args.segment.now) c.canvas.inside.bitmap c.deref.result.now c.canvas.inside.regions.items c.canvas.inside.names c.canvas.inside.untouched c.canvas.inside.passed_over d other c.references-references.ensures.strict c.references-references.ensures.globals c.references-references.ensures.drawing c.deref.ensures.value c.canvas.view_is refl in
     rw (e.1, e.2) (shown-refused d meant c.in_err-parsed.field-0.0 (refused-too meant other c.in_err-parsed.field-0.0 same c.in_err-parsed.ensures.value))

@@ -11,20 +11,20 @@ use Rattle.hayro_jbig2.proofs.page.Page.decode_within.Goals.{in-Ok, in-Err}
 
 pub returns-clause-calls : goal.returns-clause-calls
 returns-clause-calls g c = elim c.match-draw_within.branch [
-  | in-Ok w ↦ rw (w.decoder-is, w.result-is) (sent g.D.Decoder.conduct c.args.self.now c.draw_within.new.context c.context.inside.bitmap w.push_bitmap.result c.args.decoder.now w.push_bitmap.new.decoder w.in-Ok.ensures.drawing (ap (λ (d : Drawing). d.grid) c.context.view_is) w.push_bitmap.ensures.calls)
+  | in-Ok w ↦ rw (w.decoder-is, w.result-is) (sent g.D.Decoder.conduct c.args.self.now c.draw_within.new.context.drawing c.canvas.inside.bitmap w.push_bitmap.result c.args.decoder.now w.push_bitmap.new.decoder w.in-Ok.ensures.drawing (ap (λ (d : Drawing). d.grid) c.canvas.view_is) w.push_bitmap.ensures.calls)
   | in-Err w ↦ rw (w.decoder-is, w.result-is) (unsent g.D.Decoder.conduct c.args.self.now w.in-Err.error c.args.decoder.now w.in-Err.ensures.drawing)
 ]
 
 pub returns-clause-drawing : goal.returns-clause-drawing
 returns-clause-drawing g c = elim c.match-draw_within.branch [
-  | in-Ok w ↦ rw (w.result-is) (left-drawn (drawing_of_page c.args.self.now) c.draw_within.new.context w.push_bitmap.result w.in-Ok.ensures.drawing)
-  | in-Err w ↦ rw (w.result-is) (left-refused (drawing_of_page c.args.self.now) c.draw_within.new.context w.in-Err.error w.in-Err.ensures.drawing)
+  | in-Ok w ↦ rw (w.result-is) (left-drawn (drawing_of_page c.args.self.now) c.draw_within.new.context.drawing w.push_bitmap.result w.in-Ok.ensures.drawing)
+  | in-Err w ↦ rw (w.result-is) (left-refused (drawing_of_page c.args.self.now) c.draw_within.new.context.drawing w.in-Err.error w.in-Err.ensures.drawing)
 ]
 
 pub returns-clause-paid : goal.returns-clause-paid
 returns-clause-paid g c = elim c.match-draw_within.branch [
   | in-Ok w ↦
-      let same = page-price c.args.self.now c.draw_within.new.context c.context.inside.bitmap w.in-Ok.ensures.drawing (ap (λ (d : Drawing). d.grid) c.context.view_is) in
+      let same = page-price c.args.self.now c.draw_within.new.context.drawing c.canvas.inside.bitmap w.in-Ok.ensures.drawing (ap (λ (d : Drawing). d.grid) c.canvas.view_is) in
       rw (w.work-is) (counts-paid c.args.work.now c.draw_within.new.work w.push_bitmap.new.steps _ (omega (arith, w.in-Ok.ensures.ahead, same)) w.push_bitmap.ensures.paid)
   | in-Err w ↦ rw (w.work-is) c.draw_within.ensures.paid
 ]

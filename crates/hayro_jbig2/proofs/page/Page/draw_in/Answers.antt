@@ -8,7 +8,7 @@ use Rattle.hayro_jbig2.proofs.Untouched.{pages_keep_their_size, strict_passes_no
 use Rattle.hayro_jbig2.proofs.page.Page.draw_in.Goals as goal
 
 pub returns-clause-value : goal.returns-clause-value
-returns-clause-value g c = gives-grid c.args.self.now c.draw_counted.result c.draw_counted.new.context c.draw_counted.ensures
+returns-clause-value g c = gives-grid c.args.self.now c.draw_counted.result c.draw_counted.new.context.drawing c.draw_counted.ensures.drawing
 
 pub returns-clause-size : goal.returns-clause-size
 returns-clause-size g c = pages_keep_their_size
@@ -18,4 +18,4 @@ returns-clause-strict g c = strict_passes_nothing
 
 pub returns-clause-errors : goal.returns-clause-errors
 returns-clause-errors g c =
-    drawn-returned _ c.draw_counted.result c.args.self.now (subst (λ (p : ReadPage). IfErr p.globals IsAnswered) c.self.view_is c.self.invariant.1) c.draw_counted.ensures
+    drawn-returned _ c.draw_counted.result c.args.self.now (subst (λ (p : ReadPage). IfErr p.globals IsAnswered) c.self.view_is c.self.invariant.1) c.draw_counted.ensures.drawing

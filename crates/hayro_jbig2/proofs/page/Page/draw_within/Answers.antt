@@ -7,7 +7,7 @@ use Rattle.jbig2_steps.proofs.WorkLemmas.{paid-limit}
 use Rattle.hayro_jbig2.proofs.page.Page.draw_within.Goals as goal
 
 pub returns-clause-limit : goal.returns-clause-limit
-returns-clause-limit g c = paid-limit c.args.work.now c.draw_into-drawn.new.work c.draw_into-drawn.ensures.paid
+returns-clause-limit g c = paid-limit c.args.work.now c.draw_onto-drawn.new.work c.draw_onto-drawn.ensures.paid
 
 pub returns-clause-errors : goal.returns-clause-errors
-returns-clause-errors g c = drawn-returned _ c.draw_into-drawn.result c.args.self.now (subst (λ (p : ReadPage). IfErr p.globals IsAnswered) c.self.view_is c.self.invariant.1) c.draw_into-drawn.ensures.value
+returns-clause-errors g c = drawn-returned _ c.draw_onto-drawn.result c.args.self.now (subst (λ (p : ReadPage). IfErr p.globals IsAnswered) c.self.view_is c.self.invariant.1) c.draw_onto-drawn.ensures.value

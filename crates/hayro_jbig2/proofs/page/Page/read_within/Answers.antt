@@ -9,21 +9,21 @@ use Rattle.hayro_jbig2.specs.Page.{ReadPage}
 use Rattle.hayro_jbig2.proofs.Paying.{counts-paid}
 use Rattle.hayro_jbig2.proofs.page.Page.read_within.Goals as goal
 
-pub returns-in_err-context-clause-limit : goal.returns-in_err-context-clause-limit
-returns-in_err-context-clause-limit g c = paid-limit c.args.work.now c.drawn.new.work c.drawn.ensures.paid
+pub returns-in_err-canvas-clause-limit : goal.returns-in_err-canvas-clause-limit
+returns-in_err-canvas-clause-limit g c = paid-limit c.args.work.now c.drawn.new.work c.drawn.ensures.paid
 
 pub returns-clause-paid : goal.returns-clause-paid
 returns-clause-paid g c =
     let page = c.args.self.now.initial_page in
     let inside = c.self.inside.initial_page in
     let same = price-same inside.width page.width inside.height page.height (ap (λ (p : ReadPage). p.initial_page.width) c.self.view_is) (ap (λ (p : ReadPage). p.initial_page.height) c.self.view_is) in
-    counts-paid c.args.work.now c.drawn.new.work c.write_image.new.steps _ (omega (arith, c.in_ok-context.ensures.ahead, same)) c.write_image.ensures.paid
+    counts-paid c.args.work.now c.drawn.new.work c.write_image.new.steps _ (omega (arith, c.in_ok-canvas.ensures.ahead, same)) c.write_image.ensures.paid
 
 pub returns-clause-limit : goal.returns-clause-limit
 returns-clause-limit g c = paid-limit c.args.work.now _ (returns-clause-paid g c)
 
-pub returns-in_err-context-clause-errors : goal.returns-in_err-context-clause-errors
-returns-in_err-context-clause-errors g c =
+pub returns-in_err-canvas-clause-errors : goal.returns-in_err-canvas-clause-errors
+returns-in_err-canvas-clause-errors g c =
     let e = err_from_is_err_and c.from_residual.result c.from_residual.ensures.1 in
     let known : IfErr c.args.self.now.globals IsAnswered = subst (λ (p : ReadPage). IfErr p.globals IsAnswered) c.self.view_is c.self.invariant.1 in
-    rw (e.1, e.2) (grid-returned c.args.self.now c.in_err-context.field-0.0 known c.in_err-context.ensures.value)
+    rw (e.1, e.2) (grid-returned c.args.self.now c.in_err-canvas.field-0.0 known c.in_err-canvas.ensures.value)

@@ -1,5 +1,4 @@
 use Rattle.std.proofs.Common.{◌*◌, List, take, false, ap, arith, rules, ◌∙◌}
-use Rattle.jbig2_base.proofs.Prices.{price-same}
 use Rattle.jbig2_steps.specs.Work.{price_of_bitmap}
 use Rattle.jbig2_steps.proofs.WorkLemmas.{counts-worth}
 use Rattle.jbig2_region.specs.Generic.{coding_of}
@@ -17,7 +16,7 @@ use Rattle.jbig2_symbol.proofs.symbol.coded.CodedSymbols.decode_symbol.Goals as 
 pub returns-clause-value : goal.returns-clause-value
 returns-clause-value g c =
     let same = ap coded_view c.self.view_is in
-    filled-made (header_view c.args.header.now) _ (coded_view c.args.self.now) c.args.width c.args.height c.in_ok-bitmap.bitmap c.decode_coded.new.bitmap c.deref_mut.result.now c.decode_coded.new.decoder c.decode_coded.new.contexts _ c.symbol_pixels.result (whole-slice c.self.inside.0.1.0.generic.len c.decode_coded.new.contexts _ (c.decode_coded.auto.contexts ∙ c.deref_mut.ensures.len)) same (search rules) c.in_ok-bitmap.ensures c.symbol_pixels.ensures c.decode_coded.ensures.holds
+    filled-made (header_view c.args.header.now) _ (coded_view c.args.self.now) c.args.width c.args.height c.in_ok-bitmap.bitmap c.decode_coded.new.bitmap c.deref_mut.result.now c.decode_coded.new.decoder c.decode_coded.new.contexts _ c.symbol_pixels.result (whole-slice c.self.inside.0.1.0.generic.len c.decode_coded.new.contexts _ (c.decode_coded.auto.contexts ∙ c.deref_mut.ensures.len)) same (search rules) c.in_ok-bitmap.ensures.value c.symbol_pixels.ensures c.decode_coded.ensures.holds
 
 pub returns-clause-paid : goal.returns-clause-paid
 returns-clause-paid g c =
@@ -25,6 +24,6 @@ returns-clause-paid g c =
     let template : Template = c.self.inside.0.1.0.template in
     let pixels : List AdaptiveTemplatePixel = take (adaptive_pixel_count false false template) c.symbol_pixels.result in
     let coding : Coding = coding_of false template (template_pixels false template pixels) in
-    let within = coded-paid false template pixels coding b.width b.height _ _ c.pay_bitmap.new.self.steps c.decode_coded.new.steps c.decode_coded.ensures.steps in
-    let more = counts-worth c.pay_bitmap.new.self c.decode_coded.new.steps (32 * price_of_bitmap b.width b.height) within in
-    omega (arith, more, c.in_ok-pay_bitmap.ensures.taken, price-same b.width c.args.width b.height c.args.height (search rules) (search rules))
+    let within = coded-paid false template pixels coding b.width b.height _ _ c.new_symbol.new.work.steps c.decode_coded.new.steps c.decode_coded.ensures.steps in
+    let more = counts-worth c.new_symbol.new.work c.decode_coded.new.steps (32 * price_of_bitmap b.width b.height) within in
+    omega (arith, more, c.in_ok-bitmap.ensures.taken)

@@ -2,7 +2,7 @@ use Rattle.std.proofs.Common.{ap, ◌≡◌, Bool, false, subst}
 use Rattle.jbig2_base.specs.Grid.{Grid}
 use Rattle.hayro_jbig2.specs.Page.{Drawing}
 use Rattle.hayro_jbig2.specs.inner.Whole.{IsBegun}
-use Rattle.hayro_jbig2.proofs.context.DecoderContext.is_white.Goals as goal
+use Rattle.hayro_jbig2.proofs.canvas.Canvas.is_white.Goals as goal
 
 pub returns : goal.returns
 returns g c = λ is.

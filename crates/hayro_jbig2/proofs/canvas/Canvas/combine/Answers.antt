@@ -2,7 +2,7 @@ use Rattle.jbig2_base.proofs.Prices.{combined-paid}
 use Rattle.jbig2_steps.specs.Work.{price_of_bitmap}
 use Rattle.jbig2_steps.proofs.WorkLemmas.{counts-worth}
 use Rattle.std.specs.Prelude.{◌*◌}
-use Rattle.hayro_jbig2.proofs.context.DecoderContext.combine.Goals as goal
+use Rattle.hayro_jbig2.proofs.canvas.Canvas.combine.Goals as goal
 
 pub returns-clause-paid : goal.returns-clause-paid
 returns-clause-paid g c =

@@ -1,0 +1,27 @@
+-- What a context keeps from page to page (our own rule): the page that was drawn last, how many units of work a page may
+-- take, and what the last page left of them.
+use Rattle.std.specs.Prelude.{◌≡◌, ◌-◌, ◌^◌, ℕ, [], false, true, Option, Some, None, unwrap_or}
+use Rattle.jbig2_steps.specs.declared.work.Work.{Work}
+use Rattle.hayro_jbig2.specs.Page.{Drawing, nothing_drawn}
+
+pub record Context : Type 0 where
+  pub drawing : Drawing
+  pub work_limit : Option ℕ
+  pub work_left : Option ℕ
+
+abbrev pub new_context : Context
+new_context = record { drawing = nothing_drawn; work_limit = None; work_left = None }
+
+abbrev pub units_of : Option ℕ → ℕ  -- without a limit there are as many units as a counter can hold
+units_of limit = unwrap_or limit (2 ^ 64 - 1)
+
+abbrev pub after_page : {L : Type 0} → Work L → Context → Context  -- after a page that left these units
+after_page work c = record c { work_left = left c.work_limit }
+  where
+    left : Option ℕ → Option ℕ
+    left None = None
+    left (Some units) = Some work.left
+
+-- What is left after a page, which may have been refused. Its drawing has clauses of its own.
+abbrev pub IsLeft : {L : Type 0} → Work L → Context → Context → Type 0
+IsLeft work old new = new ≡ record (after_page work old) { drawing = new.drawing }
