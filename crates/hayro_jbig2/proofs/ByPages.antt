@@ -15,7 +15,7 @@ use Rattle.jbig2_base.specs.Segment.{SegmentView}
 use Rattle.jbig2_base.specs.inner.SegmentViews.{segment_view, segment_views}
 use Rattle.jbig2_base.specs.declared.segment.Segment.{Segment}
 use Rattle.hayro_jbig2.specs.inner.ByPages.{pages_view, first_place_of, HoldsByPage}
-use Rattle.hayro_jbig2.specs.declared.segments_by_page.SegmentsByPage.{SegmentsByPage}
+use Rattle.hayro_jbig2.specs.declared.file.segments_by_page.SegmentsByPage.{SegmentsByPage}
 use Rattle.hayro_jbig2.specs.Files.{numbers_after, of_page, by_pages}
 
 flipped : (m n : ℕ) → (m == n) ≡ false → (n == m) ≡ false

@@ -27,10 +27,10 @@ use Rattle.jbig2_region.specs.declared.region_info.RegionSegmentInfo.{RegionSegm
 use Rattle.jbig2_text.specs.inner.TextViews as texts
 use Rattle.hayro_jbig2.specs.Names.{Names, nothing_passed, with_passed}
 use Rattle.hayro_jbig2.specs.Page.{Drawing, draws_over, or_passed_over, region_at, shown, with_region}
-use Rattle.hayro_jbig2.specs.declared.passed_over.PassedOver.{PassedOver}
-use Rattle.hayro_jbig2.specs.declared.parsed_region.ParsedRegion.{ParsedRegion}
-use Rattle.hayro_jbig2.specs.declared.parsed_region.ParsedRegion.TheVariants.{Text, Halftone, Generic, Refinement, PageRefinement}
-use Rattle.hayro_jbig2.specs.declared.references.References.{References}
+use Rattle.hayro_jbig2.specs.declared.drawing.passed_over.PassedOver.{PassedOver}
+use Rattle.hayro_jbig2.specs.declared.region.parsed_region.ParsedRegion.{ParsedRegion}
+use Rattle.hayro_jbig2.specs.declared.region.parsed_region.ParsedRegion.TheVariants.{Text, Halftone, Generic, Refinement, PageRefinement}
+use Rattle.hayro_jbig2.specs.declared.region.references.References.{References}
 use Rattle.hayro_jbig2.specs.declared.region.RegionKind.{RegionKind}
 use Rattle.hayro_jbig2.specs.declared.region.RegionKind.TheVariants as kinds
 use Rattle.hayro_jbig2.specs.Regions.{page_area}

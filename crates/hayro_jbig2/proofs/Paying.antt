@@ -13,8 +13,8 @@ use Rattle.jbig2_steps.specs.declared.work.Work.{Work}
 use Rattle.jbig2_steps.specs.Counts.{Counts}
 use Rattle.jbig2_steps.specs.Work.{CountsWithin, Paid, PaidBut, price_of_bitmap, words_of_row, worth}
 use Rattle.hayro_jbig2.specs.Page.{Drawing, ReadPage, drawing_of_page}
-use Rattle.hayro_jbig2.specs.declared.parsed_region.ParsedRegion.{ParsedRegion}
-use Rattle.hayro_jbig2.specs.declared.parsed_region.ParsedRegion.TheVariants.{Text, Halftone, Generic, Refinement, PageRefinement}
+use Rattle.hayro_jbig2.specs.declared.region.parsed_region.ParsedRegion.{ParsedRegion}
+use Rattle.hayro_jbig2.specs.declared.region.parsed_region.ParsedRegion.TheVariants.{Text, Halftone, Generic, Refinement, PageRefinement}
 use Rattle.hayro_jbig2.specs.inner.Parsed.{drawn, info_of}
 use Rattle.hayro_jbig2.specs.inner.Prices.{counts_of, price_besides, price_of_info}
 use Rattle.hayro_jbig2.proofs.Direct.{drawn-made}

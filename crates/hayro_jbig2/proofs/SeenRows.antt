@@ -30,7 +30,7 @@ use Rattle.jbig2_region.specs.declared.template.AdaptiveTemplatePixel.{AdaptiveT
 use Rattle.jbig2_region.proofs.PlaceLemmas.{first_pixels-length}
 use Rattle.jbig2_region.proofs.RasterLemmas.{row_begun-pixels}
 use Rattle.hayro_jbig2.specs.Page.{Drawing, shown}
-use Rattle.hayro_jbig2.specs.declared.parsed_region.ParsedRegion.TheVariants.{Generic}
+use Rattle.hayro_jbig2.specs.declared.region.parsed_region.ParsedRegion.TheVariants.{Generic}
 use Rattle.hayro_jbig2.specs.inner.Parsed.{apart}
 
 -- ---- the pixels so far, seen in a grid of h rows and in one of k

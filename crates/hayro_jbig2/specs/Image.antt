@@ -3,7 +3,7 @@
 use Rattle.std.specs.{Prelude.{◌≡◌, ◌≢◌, ◌<◌, ◌⊎◌, ℕ, ◌+◌, ◌-◌, ◌*◌, ◌/◌, ◌%◌, Bool, List, map, slice_index, Option, Result, Ok, Err, IfSome, if◌then◌else◌}, IoError.{error_kind}, List.{range_with_len}, declared.io.ErrorKind.TheVariants.{Interrupted}}
 use Rattle.jbig2_base.specs.{Answer.{◌>>=◌, some_or}, Bits.{bit}, Grid.{Grid, pixel_at}, declared.{error.{DecodeError.{DecodeError, TheVariants.{Format, OutOfMemory}}, FormatError.TheVariants.{MissingPageInfo}}, reading.Reading.TheVariants.{Lenient}}}
 use Rattle.jbig2_coder.specs.Integers.{value_of_bits}
-use Rattle.hayro_jbig2.specs.{Files.{book_at, page_of}, Page.{ReadPage, grid_of_page}, declared.jbig2_error.Jbig2Error.{Jbig2Error, TheVariants.{Io, Decode}}}
+use Rattle.hayro_jbig2.specs.{Files.{book_at, page_of}, Page.{ReadPage, grid_of_page}, declared.jbig2_decoder.jbig2_error.Jbig2Error.{Jbig2Error, TheVariants.{Io, Decode}}}
 
 abbrev pub shade : Bool → ℕ
 shade black = if black then 0 else 255

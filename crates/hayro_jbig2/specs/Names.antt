@@ -6,7 +6,7 @@ use Rattle.jbig2_base.specs.{Answer.{◌>>=◌, refuse_if}, Bits.{start_of}, Fie
 use Rattle.jbig2_coder.specs.{CustomTable.{answer_of, custom_table}, PrefixCode.{Member}}
 use Rattle.jbig2_halftone.specs.{PatternHeader.{pattern_header_at}, Patterns.{Patterns, patterns_decoded}}
 use Rattle.jbig2_symbol.specs.{SymbolHeader.{symbol_header_at}, SymbolReading.{BitmapContexts}, Symbols.{Symbols, symbols_decoded}}
-use Rattle.hayro_jbig2.specs.declared.{kept.Kept.{Kept}, passed_over.PassedOver.{PassedOver}}
+use Rattle.hayro_jbig2.specs.declared.{kept.Kept.{Kept}, drawing.passed_over.PassedOver.{PassedOver}}
 use Rattle.jbig2_base.specs.declared.segment.SegmentType.TheVariants as types
 
 abbrev pub kept_under : {V : Type 0} → ℕ → V → List (Kept V) → List (Kept V)  -- after what is kept already

@@ -3,7 +3,7 @@
 use Rattle.std.specs.{Prelude.{◌≡◌, ◌≤◌, ℕ, ◌+◌, ◌-◌, ◌==◌, ◌||◌, nat_lt, max, min, Bool, true, false, not, List, [], ◌∷◌, Option, Some, None, Result, Ok, Err, IfOk, IsTrue, if◌then◌else◌}, Int.{w32, cast_signed}}
 use Rattle.jbig2_base.specs.{Answer.{◌>>=◌}, Combination.{combined}, Grid.{Grid, blank}, PageInfo.{initial_page_by, stripes_height}, Reading.{fault_of, is_salvaged, is_strict}, Segment.{SegmentView}, Sequential.{sequential, sorted_segments}, declared.{bitmap.operator.CombinationOperator.{CombinationOperator, TheVariants.{Or, And, Xor, Xnor, Replace}}, error.DecodeError.{DecodeError}, page_info.InitialPage.{InitialPage}, reading.Reading.{Reading, TheVariants.{Lenient, Salvage}}, segment.SegmentType.{SegmentType}}}
 use Rattle.jbig2_region.specs.{Refinement.{is_far}, RegionInfo.{PlacedRegion, region_info_at}, declared.region_info.RegionSegmentInfo.{RegionSegmentInfo}}
-use Rattle.hayro_jbig2.specs.{Names.{Names, no_names, nothing_passed, kept_by, kept_under, with_passed}, Regions.{generic_at, halftone_at, refinement_at, text_at}, declared.{kept.Kept.{Kept}, passed_over.PassedOver.{PassedOver}, region.RegionKind.{RegionKind}}}
+use Rattle.hayro_jbig2.specs.{Names.{Names, no_names, nothing_passed, kept_by, kept_under, with_passed}, Regions.{generic_at, halftone_at, refinement_at, text_at}, declared.{kept.Kept.{Kept}, drawing.passed_over.PassedOver.{PassedOver}, region.RegionKind.{RegionKind}}}
 use Rattle.jbig2_base.specs.declared.segment.SegmentType.TheVariants as types
 use Rattle.hayro_jbig2.specs.declared.region.RegionKind.TheVariants as kinds
 

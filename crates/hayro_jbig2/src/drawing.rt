@@ -12,12 +12,18 @@ ghost use Rattle.hayro_jbig2.specs.inner.Parsed.{drawing_of};
 ghost use Rattle.hayro_jbig2.specs.inner.Whole.{touched};
 ghost use Rattle.jbig2_steps.specs.Work.{Paid, worth};
 
-use crate::canvas::Canvas;
-use crate::dictionaries::{extension, keep_patterns, keep_symbols, keep_table};
+pub(crate) mod canvas;
+pub(crate) mod context;
+pub(crate) mod dictionaries;
+pub(crate) mod passed_over;
+pub(crate) mod workspace;
+
+use crate::drawing::canvas::Canvas;
+use crate::drawing::dictionaries::{extension, keep_patterns, keep_symbols, keep_table};
 use crate::kept::Kept;
-use crate::names::{KeptNames, Lookup};
-use crate::references::References;
-use crate::region::RegionKind;
+use crate::kept::names::{KeptNames, Lookup};
+use crate::region::references::References;
+use crate::region::{RegionKind, parse_region};
 use jbig2_base::bitmap::Bitmap;
 use jbig2_base::bitmap::steps::Work;
 use jbig2_base::error::{DecodeError, Result};
@@ -313,7 +319,7 @@ impl<'a, A: Allocator + Clone> Drawer<'a, A> {
         let is_white = canvas.is_white();
         let references = self.references(&canvas.names, &canvas.regions, &canvas.bitmap);
         let workspace = &canvas.workspace;
-        let parsed = references.parse_region(kind, false, segment, workspace, work)?;
+        let parsed = parse_region(&references, kind, false, segment, workspace, work)?;
         if is_white && parsed.makes_up(&canvas.bitmap) {
             canvas.untouched = false;
             return parsed.decode_onto(&mut canvas.bitmap, &mut canvas.workspace, work);
@@ -361,7 +367,7 @@ impl<'a, A: Allocator + Clone> Drawer<'a, A> {
     {
         let references = self.references(&canvas.names, &canvas.regions, &canvas.bitmap);
         let workspace = &canvas.workspace;
-        let parsed = references.parse_region(kind, true, segment, workspace, work)?;
+        let parsed = parse_region(&references, kind, true, segment, workspace, work)?;
         let region = parsed.decode(&mut canvas.workspace, work)?;
         canvas.store(segment.header.segment_number, region)
     }

@@ -15,11 +15,14 @@ ghost use Rattle.hayro_jbig2.specs.inner.PageViews.{kept_names};
 ghost use Rattle.hayro_jbig2.specs.Causes.{BreaksBook};
 ghost use Rattle.jbig2_base.specs.Causes.{HasCauseOrNoMemory};
 
-use crate::beginning::beginning_of;
-use crate::globals::Globals;
+pub(crate) mod pages;
+mod segments_by_page;
+
+use crate::file::pages::Pages;
+use crate::file::segments_by_page::SegmentsByPage;
+use crate::kept::globals::Globals;
 use crate::page::Page;
-use crate::pages::Pages;
-use crate::segments_by_page::SegmentsByPage;
+use crate::page::beginning::beginning_of;
 use crate::settings::DecodeSettings;
 use jbig2_base::error::{DecodeError, FormatError, Result, SegmentError};
 use jbig2_base::file::{file_fault, parse_file};

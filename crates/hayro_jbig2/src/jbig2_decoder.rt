@@ -8,10 +8,13 @@ ghost use Rattle.hayro_jbig2.specs.Page.{IsSide};
 ghost use Rattle.hayro_jbig2.specs.Returned.{IsReturned, IsReturnedOrIo};
 ghost use Rattle.hayro_jbig2.specs.Image.{first_size, first_image, first_packed, IsLasting, Opens, GivesAgain, packed_size};
 
+pub(crate) mod jbig2_error;
+pub mod reading;
+
 use crate::file::File;
-use crate::jbig2_error::Jbig2Error;
+use crate::jbig2_decoder::jbig2_error::Jbig2Error;
+use crate::jbig2_decoder::reading::read_all;
 use crate::page::Page;
-use crate::reading::read_all;
 use crate::settings::DecodeSettings;
 use jbig2_base::error::{DecodeError, FormatError};
 use std::alloc::Allocator;

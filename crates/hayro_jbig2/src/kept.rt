@@ -3,6 +3,10 @@ ghost use Rattle.std.specs.Prelude.{◌≡◌};
 ghost use Rattle.hayro_jbig2.specs.Names.{first_named, named};
 ghost use Rattle.hayro_jbig2.specs.inner.KeptViews.{found};
 
+pub(crate) mod globals;
+pub(crate) mod names;
+pub(crate) mod referred;
+
 /// What a segment left for later ones, under its number.
 #[derive(Drop)]
 pub(crate) struct Kept<T> {

@@ -6,54 +6,28 @@
 //! packed rows.
 #![tactic(auto)]
 
-mod beginning;
-mod calls;
-mod canvas;
-mod context;
-mod decoder;
-mod dictionaries;
 mod drawing;
-mod drawn_page;
 mod file;
-mod generics;
-mod globals;
-mod halftones;
-mod image;
 mod jbig2_decoder;
-mod jbig2_error;
 mod kept;
 pub mod laws;
-mod names;
-mod packed;
 mod page;
-mod pages;
-mod parsed_region;
 pub mod parts;
-mod passed_over;
-pub mod reading;
-mod references;
-mod referred;
-mod refinement;
 mod region;
-mod segments_by_page;
 mod settings;
-mod texts;
-mod unseen;
-mod whole_page;
-mod workspace;
 
-pub use context::DecoderContext;
-pub use decoder::Decoder;
-pub use drawn_page::DrawnPage;
+pub use drawing::context::DecoderContext;
+pub use drawing::passed_over::{PassedOver, PassedSegment};
 pub use file::File;
-pub use globals::Globals;
+pub use file::pages::Pages;
 pub use jbig2_base::error::{
     DecodeError, FormatError, HuffmanError, OverflowError, ParseError, RegionError, Result,
     SegmentError, SymbolError, TemplateError,
 };
-pub use jbig2_decoder::Jbig2Decoder;
-pub use jbig2_error::Jbig2Error;
+pub use jbig2_decoder::jbig2_error::Jbig2Error;
+pub use jbig2_decoder::{Jbig2Decoder, reading};
+pub use kept::globals::Globals;
 pub use page::Page;
-pub use pages::Pages;
-pub use passed_over::{PassedOver, PassedSegment};
+pub use page::decoder::Decoder;
+pub use page::drawn_page::DrawnPage;
 pub use settings::DecodeSettings;

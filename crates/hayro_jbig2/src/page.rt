@@ -1,14 +1,7 @@
 //! Pages.
-ghost use Rattle.std.specs.Prelude.{◌≡◌, ℕ, ◌+◌, ◌-◌, ◌*◌, ◌^◌, ◌<◌, ◌≤◌, Bool, IfErr, IfOk, IsTrue, OnErr, length, pos};
-ghost use Rattle.jbig2_base.specs.Answer.{Gives, Leaves};
-ghost use Rattle.jbig2_base.specs.Combination.{combined};
-ghost use Rattle.jbig2_base.specs.Grid.{Grid, blank};
-ghost use Rattle.jbig2_base.specs.Table.{IsTable};
-ghost use Rattle.jbig2_base.specs.declared.bitmap.operator.CombinationOperator.{CombinationOperator};
-ghost use Rattle.hayro_jbig2.specs.Calls.{CallsAreFew, ChunksFit, DrawsGrid, calls_of, Decodes, IsCountable};
-ghost use Rattle.hayro_jbig2.specs.Context.{IsLeft};
-ghost use Rattle.hayro_jbig2.specs.Image.{PackedBitsAreBytes, image_of_page, packed_of_page, packed_size};
-ghost use Rattle.hayro_jbig2.specs.Page.{HasSides, IsSide, ReadPage, segments_drawn, drawing_of_page, embedded, grid_of_page, draws_over, page_begun, PagesKeepTheirSize, StrictPassesNothing, UntouchedIsBlank};
+ghost use Rattle.std.specs.Prelude.{◌≡◌, IfErr};
+ghost use Rattle.jbig2_base.specs.Answer.{Gives};
+ghost use Rattle.hayro_jbig2.specs.Page.{HasSides, IsSide, ReadPage, embedded};
 ghost use Rattle.jbig2_base.specs.Reading.{reading_of};
 ghost use Rattle.jbig2_base.specs.declared.reading.Reading.TheVariants.{Salvage};
 ghost use Rattle.hayro_jbig2.specs.inner.KeptViews.{found};
@@ -17,20 +10,18 @@ ghost use Rattle.hayro_jbig2.specs.Returned.{IsReturned};
 ghost use Rattle.hayro_jbig2.specs.inner.PageViews.{given_names, kept_names};
 ghost use Rattle.hayro_jbig2.specs.inner.SegmentLists.{segment_list};
 ghost use Rattle.jbig2_base.specs.inner.SegmentViews.{segment_views};
-ghost use Rattle.jbig2_steps.specs.Work.{IsWithinLimit, Paid, price_of_bitmap, worth};
 
-use crate::beginning::beginning_of;
-use crate::calls::push_bitmap;
-use crate::canvas::Canvas;
-use crate::context::{DecoderContext, work_within};
-use crate::decoder::Decoder;
-use crate::drawing::Drawer;
-use crate::drawn_page::DrawnPage;
-use crate::globals::Globals;
-use crate::image::write_image;
-use crate::names::KeptNames;
+pub(crate) mod beginning;
+mod calls;
+pub(crate) mod decoder;
+pub(crate) mod drawn_page;
+mod image;
+mod output;
+mod packed;
+
+use crate::kept::globals::Globals;
+use crate::page::beginning::beginning_of;
 use crate::settings::DecodeSettings;
-use jbig2_base::bitmap::steps::Work;
 use jbig2_base::error::{DecodeError, Result};
 use jbig2_base::file::{parse_segments_sequential, sequence_fault};
 use jbig2_base::page_info::InitialPage;
@@ -38,8 +29,7 @@ use jbig2_base::reading::Reading;
 use jbig2_base::segment::Segment;
 use jbig2_base::sort::sort_segments;
 use std::alloc::Allocator;
-use std::marker::{Brand, Model};
-use std::sync::ledger::{Blank, Ledger};
+use std::marker::Model;
 
 /// The segments of a page in order: its own, or those that its file holds.
 #[derive(Drop)]
@@ -217,307 +207,5 @@ impl<'a, A: Allocator + Clone> Page<'a, A> {
             globals: Ok(globals),
             fault,
         })
-    }
-
-    /// Makes the calls that spell the page, under a fresh context.
-    ///
-    /// Returns the first fault of a segment that lenient reading does not pass over, or the
-    /// Decoder's own refusal.
-    pub fn decode<D: Decoder>(&self, decoder: &mut D) -> Result<()>
-        requires { IsCountable D.conduct decoder.old }
-        ensures calls { Decodes D.conduct (grid_of_page self.now) result decoder.old decoder.new }
-        ensures errors { D.conduct.refusals decoder.new ≡ D.conduct.refusals decoder.old
-            → IfErr result IsReturned }
-    {
-        let mut context = DecoderContext::new(self.segments.as_vec().allocator().clone()?)?;
-        self.decode_with(decoder, &mut context)
-    }
-
-    /// Writes the page into `buf`, which holds a byte for each pixel: rows from the top, 0 for
-    /// black and 255 for white.
-    ///
-    /// Returns the first fault of a segment that lenient reading does not pass over; `buf` is then
-    /// as it was.
-    pub fn read_image(&self, buf: &mut [u8]) -> Result<()>
-        requires { length buf.old ≡ self.now.initial_page.width * self.now.initial_page.height }
-        ensures value { Gives (λ _. buf.new) result (image_of_page self.now) }
-        ensures unchanged { OnErr result (buf.new ≡ buf.old) }
-        ensures errors { IfErr result IsReturned }
-    {
-        self.read_image_limited(buf, None)
-    }
-
-    /// Writes the page as `read_image` does, for at most `work` units of work; `None` is no limit.
-    pub(crate) fn read_image_limited(&self, buf: &mut [u8], work: Option<u64>) -> Result<()>
-        requires { length buf.old ≡ self.now.initial_page.width * self.now.initial_page.height }
-        ensures value { Gives (λ _. buf.new) result (image_of_page self.now) }
-        ensures unchanged { OnErr result (buf.new ≡ buf.old) }
-        ensures errors { IfErr result IsReturned }
-    {
-        let _globals = &self.globals;
-        self.read_counted::<Brand>(buf, work, Blank::new(6))
-    }
-
-    fn read_counted<L: Ledger>(
-        &self,
-        buf: &mut [u8],
-        limit: Option<u64>,
-        blank: Blank,
-    ) -> Result<()>
-        requires sized { length buf.old
-            ≡ self.now.initial_page.width * self.now.initial_page.height }
-        requires name { blank.name ≡ L.name }
-        requires parts { blank.parts ≡ L.parts }
-        requires enough { blank.parts ≡ 6 }
-        ensures value { Gives (λ _. buf.new) result (image_of_page self.now) }
-        ensures unchanged { OnErr result (buf.new ≡ buf.old) }
-    {
-        let mut work = work_within::<L>(limit, blank);
-        self.read_within(buf, &mut work)
-    }
-
-    /// Writes the page as `read_image` does, with the caller's counter.
-    ///
-    /// At most 32 steps are counted for each unit of work that is left in `work`. Where more are needed it is
-    /// `DecodeError::OutOfMemory`.
-    pub fn read_within<L: Ledger>(&self, buf: &mut [u8], work: &mut Work<L>) -> Result<()>
-        requires { length buf.old ≡ self.now.initial_page.width * self.now.initial_page.height }
-        ensures value { Gives (λ _. buf.new) result (image_of_page self.now) }
-        ensures unchanged { OnErr result (buf.new ≡ buf.old) }
-        ensures errors { IfErr result IsReturned }
-        ensures limit { IsWithinLimit work.old work.new }
-        ensures paid { Paid work.old work.new }
-    {
-        let _globals = &self.globals;
-        let canvas = self.drawn(work)?;
-        write_image(canvas.page(), &self.initial_page, buf, &mut work.steps);
-        Ok(())
-    }
-
-    /// Writes the page into `buf` as packed rows, from the top: a bit for each pixel, 1 for black, the
-    /// leftmost the highest of its byte. A row takes `width.div_ceil(8)` bytes, whose last bits are 0
-    /// past the width: the form of PBM, TIFF and PDF.
-    ///
-    /// Returns the first fault of a segment that lenient reading does not pass over; `buf` is then
-    /// as it was.
-    #[tactic(auto, using(crate::proofs::PackedBits::packed_bits_are_bytes))]
-    pub fn read_packed(&self, buf: &mut [u8]) -> Result<()>
-        requires { length buf.old ≡ packed_size self.now.initial_page.width
-            self.now.initial_page.height }
-        ensures value { Gives (λ _. buf.new) result (packed_of_page self.now) }
-        ensures unchanged { OnErr result (buf.new ≡ buf.old) }
-        ensures bits { PackedBitsAreBytes }
-        ensures errors { IfErr result IsReturned }
-    {
-        self.read_packed_limited(buf, None)
-    }
-
-    /// Writes the page as `read_packed` does, for at most `work` units of work; `None` is no limit.
-    pub(crate) fn read_packed_limited(&self, buf: &mut [u8], work: Option<u64>) -> Result<()>
-        requires { length buf.old ≡ packed_size self.now.initial_page.width
-            self.now.initial_page.height }
-        ensures value { Gives (λ _. buf.new) result (packed_of_page self.now) }
-        ensures unchanged { OnErr result (buf.new ≡ buf.old) }
-        ensures errors { IfErr result IsReturned }
-    {
-        let mut context = DecoderContext::new(self.segments.as_vec().allocator().clone()?)?;
-        context.set_work_limit(work);
-        let drawn = self.draw(&mut context)?;
-        drawn.read_at(0, buf);
-        Ok(())
-    }
-
-    /// Draws the page in the room of a context that earlier pages may have used, which lends it from
-    /// then on: its packed rows, without memory of their own.
-    ///
-    /// Returns the first fault of a segment that lenient reading does not pass over.
-    pub fn draw<'c>(&self, context: &'c mut DecoderContext<A>) -> Result<DrawnPage<'c, A>>
-        ensures value { Gives (λ drawn. drawn) result (packed_of_page self.now) }
-        ensures errors { IfErr result IsReturned }
-    {
-        self.draw_in(context)?;
-        Ok(context.drawn())
-    }
-
-    /// Draws the page in the room of a context that earlier pages may have used, which holds it from then on:
-    /// `DecoderContext::drawn` lends its packed rows, and `DecoderContext::passed_over` says what reading
-    /// passed over.
-    ///
-    /// Returns the first fault of a segment that lenient reading does not pass over.
-    pub fn draw_in(&self, context: &mut DecoderContext<A>) -> Result<()>
-        ensures value { Gives (λ _. context.new.drawing.grid) result (grid_of_page self.now) }
-        ensures drawing { Gives (λ _. context.new.drawing) result (drawing_of_page self.now) }
-        ensures kept { context.new.work_limit ≡ context.old.work_limit }
-        ensures size { PagesKeepTheirSize }
-        ensures strict { StrictPassesNothing }
-        ensures errors { IfErr result IsReturned }
-    {
-        let _globals = &self.globals;
-        self.draw_counted::<Brand>(context, Blank::new(6))
-    }
-
-    fn draw_counted<L: Ledger>(&self, context: &mut DecoderContext<A>, blank: Blank) -> Result<()>
-        requires name { blank.name ≡ L.name }
-        requires parts { blank.parts ≡ L.parts }
-        requires enough { blank.parts ≡ 6 }
-        ensures drawing { Gives (λ _. context.new.drawing) result (drawing_of_page self.now) }
-        ensures kept { context.new.work_limit ≡ context.old.work_limit }
-    {
-        let mut work = context.new_work::<L>(blank);
-        self.draw_within(context, &mut work)
-    }
-
-    /// Draws the page as `draw_in` does, with the caller's counter in place of the context's limit.
-    ///
-    /// At most 32 steps are counted for each unit of work that is left in `work`. Where more are needed it is
-    /// `DecodeError::OutOfMemory`. The work of handing the page out is paid here too.
-    pub fn draw_within<L: Ledger>(
-        &self,
-        context: &mut DecoderContext<A>,
-        work: &mut Work<L>,
-    ) -> Result<()>
-        ensures drawing { Gives (λ _. context.new.drawing) result (drawing_of_page self.now) }
-        ensures left { IsLeft work.new context.old context.new }
-        ensures errors { IfErr result IsReturned }
-        ensures limit { IsWithinLimit work.old work.new }
-        ensures paid { Paid work.old work.new }
-        ensures ahead { let page = self.now.initial_page in
-            let price = price_of_bitmap page.width page.height in
-            IfOk result (λ _. worth work.new + 32 * price ≤ worth work.old) }
-    {
-        let _globals = &self.globals;
-        let drawn = self.draw_onto(&mut context.canvas, work);
-        context.end(work);
-        drawn
-    }
-
-    /// A fresh canvas that the page is drawn on.
-    fn drawn<L: Ledger>(&self, work: &mut Work<L>) -> Result<Canvas<A>>
-        ensures value { Gives (λ canvas. canvas.grid) result (grid_of_page self.now) }
-        ensures paid { Paid work.old work.new }
-        ensures ahead { let page = self.now.initial_page in
-            let price = price_of_bitmap page.width page.height in
-            IfOk result (λ _. worth work.new + 32 * price ≤ worth work.old) }
-    {
-        let mut canvas = Canvas::new(self.segments.as_vec().allocator().clone()?)?;
-        self.draw_onto(&mut canvas, work)?;
-        Ok(canvas)
-    }
-
-    /// Makes the calls that spell the page, in the room of a context that earlier pages may have
-    /// used.
-    ///
-    /// Returns the first fault of a segment that lenient reading does not pass over, or the
-    /// Decoder's own refusal. No call is made before all segments are decoded.
-    pub fn decode_with<D: Decoder>(
-        &self,
-        decoder: &mut D,
-        context: &mut DecoderContext<A>,
-    ) -> Result<()>
-        requires { IsCountable D.conduct decoder.old }
-        ensures calls { Decodes D.conduct (grid_of_page self.now) result decoder.old decoder.new }
-        ensures drawing { IfOk (drawing_of_page self.now) (Leaves result context.new.drawing) }
-        ensures kept { context.new.work_limit ≡ context.old.work_limit }
-        ensures spelling { (g : Grid) → DrawsGrid (calls_of g) g }
-        ensures chunks { (g : Grid) → ChunksFit g.width 0 (calls_of g) }
-        ensures few { (g : Grid) → CallsAreFew g }
-        ensures untouched { UntouchedIsBlank }
-        ensures direct { (operator : CombinationOperator) (black : Bool) (region : Grid) →
-            IsTable region → IsTrue (draws_over operator black)
-            → combined operator (blank region.width region.height black) region (pos 0) (pos 0) ≡
-            region }
-        ensures errors { D.conduct.refusals decoder.new ≡ D.conduct.refusals decoder.old
-            → IfErr result IsReturned }
-    {
-        let _globals = &self.globals;
-        self.decode_counted::<D, Brand>(decoder, context, Blank::new(6))
-    }
-
-    fn decode_counted<D: Decoder, L: Ledger>(
-        &self,
-        decoder: &mut D,
-        context: &mut DecoderContext<A>,
-        blank: Blank,
-    ) -> Result<()>
-        requires countable { IsCountable D.conduct decoder.old }
-        requires name { blank.name ≡ L.name }
-        requires parts { blank.parts ≡ L.parts }
-        requires enough { blank.parts ≡ 6 }
-        ensures calls { Decodes D.conduct (grid_of_page self.now) result decoder.old decoder.new }
-        ensures drawing { IfOk (drawing_of_page self.now) (Leaves result context.new.drawing) }
-        ensures kept { context.new.work_limit ≡ context.old.work_limit }
-    {
-        let mut work = context.new_work::<L>(blank);
-        self.decode_within(decoder, context, &mut work)
-    }
-
-    /// Makes the calls of `decode_with`, with the caller's counter in place of the context's limit.
-    ///
-    /// At most 32 steps are counted for each unit of work that is left in `work`. Where more are needed it is
-    /// `DecodeError::OutOfMemory`, and no call is made.
-    pub fn decode_within<D: Decoder, L: Ledger>(
-        &self,
-        decoder: &mut D,
-        context: &mut DecoderContext<A>,
-        work: &mut Work<L>,
-    ) -> Result<()>
-        requires { IsCountable D.conduct decoder.old }
-        ensures calls { Decodes D.conduct (grid_of_page self.now) result decoder.old decoder.new }
-        ensures drawing { IfOk (drawing_of_page self.now) (Leaves result context.new.drawing) }
-        ensures left { IsLeft work.new context.old context.new }
-        ensures errors { D.conduct.refusals decoder.new ≡ D.conduct.refusals decoder.old
-            → IfErr result IsReturned }
-        ensures limit { IsWithinLimit work.old work.new }
-        ensures paid { Paid work.old work.new }
-    {
-        let _globals = &self.globals;
-        match self.draw_within(context, work) {
-            Ok(()) => push_bitmap(context.canvas.page(), decoder, &mut work.steps),
-            Err(error) => Err(error),
-        }
-    }
-
-    /// Draws the whole page.
-    fn draw_onto<L: Ledger>(&self, canvas: &mut Canvas<A>, work: &mut Work<L>) -> Result<()>
-        ensures value { Gives (λ _. canvas.new) result (drawing_of_page self.now) }
-        ensures paid { Paid work.old work.new }
-        ensures ahead { let page = self.now.initial_page in
-            let price = price_of_bitmap page.width page.height in
-            IfOk result (λ _. worth work.new + 32 * price ≤ worth work.old) }
-    {
-        match &self.globals {
-            Ok(Some(globals)) => self.draw_with(globals.names(), canvas, work),
-            Ok(None) => {
-                let none = KeptNames::new(self.segments.as_vec().allocator().clone()?)?;
-                self.draw_with(&none, canvas, work)
-            }
-            Err(error) => Err(error.duplicate()),
-        }
-    }
-
-    /// Draws the page, whose segments may refer to what `globals` keeps.
-    fn draw_with<L: Ledger>(
-        &self,
-        globals: &KeptNames<A>,
-        canvas: &mut Canvas<A>,
-        work: &mut Work<L>,
-    ) -> Result<()>
-        ensures value { Gives (λ _. canvas.new) result
-            (segments_drawn self.now.reading globals.now self.now.segments
-            (page_begun self.now.initial_page)) }
-        ensures paid { Paid work.old work.new }
-        ensures ahead { let page = self.now.initial_page in
-            let price = price_of_bitmap page.width page.height in
-            IfOk result (λ _. worth work.new + 32 * price ≤ worth work.old) }
-    {
-        // A page is cleared, and then handed out.
-        let (width, height) = self.dimensions();
-        work.pay_bitmaps(2, width, height)?;
-        canvas.begin(&self.initial_page)?;
-        let drawer = Drawer {
-            reading: self.reading,
-            globals,
-        };
-        drawer.draw_segments(self.segments.as_vec(), canvas, work)
     }
 }

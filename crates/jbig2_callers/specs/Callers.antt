@@ -2,7 +2,7 @@
 -- bytes give a grid or an image. Both read leniently.
 use Rattle.std.specs.{Prelude.{◌≡◌, ◌⊎◌, ℕ, List, Option, Result, Ok, Err}, Option.{option_map_or}}
 use Rattle.jbig2_base.specs.{Answer.{◌>>=◌, some_or}, Grid.{Grid}, declared.{error.{DecodeError.{DecodeError, TheVariants.{Format, OutOfMemory}}, FormatError.TheVariants.{MissingPageInfo}}, reading.Reading.TheVariants.{Lenient}}}
-use Rattle.hayro_jbig2.specs.{Files.{book_at, page_of}, Image.{first_size, first_image, image_of_page}, Names.{globals_at, names_of, no_names}, Page.{embedded, grid_of_page}, declared.jbig2_error.Jbig2Error.{Jbig2Error, TheVariants.{Io, Decode}}}
+use Rattle.hayro_jbig2.specs.{Files.{book_at, page_of}, Image.{first_size, first_image, image_of_page}, Names.{globals_at, names_of, no_names}, Page.{embedded, grid_of_page}, declared.jbig2_decoder.jbig2_error.Jbig2Error.{Jbig2Error, TheVariants.{Io, Decode}}}
 
 -- the grid of a stream of a PDF file, with its globals where it has some
 abbrev pub grid_of_stream : Option (List ℕ) → List ℕ → Result Grid DecodeError

@@ -4,7 +4,7 @@ use Rattle.jbig2_base.specs.{Answer.{◌>>=◌, refuse_if}, Grid.{Grid}, declare
 use Rattle.jbig2_region.specs.{RegionInfo.{PlacedRegion, placed}, Generic.{generic_answer}, inner.RegionViews.{region_view}, Refinement.{refined_answer}, declared.region_info.RegionSegmentInfo.{RegionSegmentInfo}, GenericHeader.{IsParsed}, RefinementHeader.{IsRefinement}}
 use Rattle.jbig2_halftone.specs.{Halftone.{halftone_answer}, inner.DictionaryViews.{dictionary_view}, HalftoneHeader.{HalftoneHeader}}
 use Rattle.jbig2_text.specs.TextRegion.{text_answer}
-use Rattle.hayro_jbig2.specs.{Names.{nothing_passed}, Page.{Drawing}, declared.{parsed_region.ParsedRegion.{ParsedRegion, TheVariants.{Text, Halftone, Generic, Refinement, PageRefinement}}, references.References.{References}}, inner.KeptViews.{seen}}
+use Rattle.hayro_jbig2.specs.{Names.{nothing_passed}, Page.{Drawing}, declared.{region.parsed_region.ParsedRegion.{ParsedRegion, TheVariants.{Text, Halftone, Generic, Refinement, PageRefinement}}, region.references.References.{References}}, inner.KeptViews.{seen}}
 use Rattle.jbig2_region.specs.inner.GenericViews as generics
 use Rattle.jbig2_region.specs.inner.RefinedViews as refinements
 use Rattle.jbig2_halftone.specs.inner.HalftoneHeaderViews as halftones

@@ -4,7 +4,7 @@ use Rattle.jbig2_steps.specs.Work.{price_of_bitmap}
 use Rattle.jbig2_region.specs.GenericSteps.{price_of_region}
 use Rattle.jbig2_halftone.specs.{Steps.{price_of_halftone}, inner.DictionaryViews.{dictionary_view}}
 use Rattle.jbig2_text.specs.Paying.{number_steps}
-use Rattle.hayro_jbig2.specs.{declared.parsed_region.ParsedRegion.{ParsedRegion, TheVariants.{Text, Halftone, Generic, Refinement, PageRefinement}}, inner.Parsed.{info_of}}
+use Rattle.hayro_jbig2.specs.{declared.region.parsed_region.ParsedRegion.{ParsedRegion, TheVariants.{Text, Halftone, Generic, Refinement, PageRefinement}}, inner.Parsed.{info_of}}
 use Rattle.jbig2_region.specs.inner.GenericViews as generics
 use Rattle.jbig2_halftone.specs.inner.HalftoneHeaderViews as halftones
 

@@ -3,7 +3,7 @@ use Rattle.jbig2_base.specs.Reading.{is_strict}
 use Rattle.jbig2_base.specs.inner.SegmentViews.{segment_view}
 use Rattle.jbig2_base.specs.declared.error.DecodeError.{DecodeError}
 use Rattle.hayro_jbig2.specs.Page.{Drawing, immediate, region_at, shown}
-use Rattle.hayro_jbig2.specs.declared.passed_over.PassedOver.{PassedOver}
+use Rattle.hayro_jbig2.specs.declared.drawing.passed_over.PassedOver.{PassedOver}
 use Rattle.hayro_jbig2.proofs.Direct.{drawn-either, passed}
 use Rattle.hayro_jbig2.proofs.drawing.Drawer.draw_region.Goals as goal
 

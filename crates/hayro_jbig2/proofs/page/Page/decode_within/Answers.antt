@@ -1,9 +1,10 @@
-use Rattle.std.proofs.Common.{ap, subst, arith}
+use Rattle.std.proofs.Common.{ap, subst, arith, ◌∙◌}
 use Rattle.std.specs.Prelude.{IfErr}
 use Rattle.hayro_jbig2.specs.Causes.{IsAnswered}
 use Rattle.hayro_jbig2.proofs.Answering.{decoded-returned}
 use Rattle.jbig2_steps.proofs.WorkLemmas.{paid-limit}
-use Rattle.hayro_jbig2.specs.Page.{Drawing, ReadPage, drawing_of_page}
+use Rattle.hayro_jbig2.specs.Context.{Context}
+use Rattle.hayro_jbig2.specs.Page.{ReadPage, drawing_of_page}
 use Rattle.hayro_jbig2.proofs.DrawnPages.{left-drawn, left-refused, sent, unsent}
 use Rattle.hayro_jbig2.proofs.Paying.{counts-paid, page-price}
 use Rattle.hayro_jbig2.proofs.page.Page.decode_within.Goals as goal
@@ -11,7 +12,7 @@ use Rattle.hayro_jbig2.proofs.page.Page.decode_within.Goals.{in-Ok, in-Err}
 
 pub returns-clause-calls : goal.returns-clause-calls
 returns-clause-calls g c = elim c.match-draw_within.branch [
-  | in-Ok w ↦ rw (w.decoder-is, w.result-is) (sent g.D.Decoder.conduct c.args.self.now c.draw_within.new.context.drawing c.canvas.inside.bitmap w.push_bitmap.result c.args.decoder.now w.push_bitmap.new.decoder w.in-Ok.ensures.drawing (ap (λ (d : Drawing). d.grid) c.canvas.view_is) w.push_bitmap.ensures.calls)
+  | in-Ok w ↦ rw (w.decoder-is, w.result-is) (sent g.D.Decoder.conduct c.args.self.now c.draw_within.new.context.drawing w.page.result.now w.push_bitmap.result c.args.decoder.now w.push_bitmap.new.decoder w.in-Ok.ensures.drawing (w.page.ensures ∙ ap (λ (x : Context). x.drawing.grid) c.context.view_is) w.push_bitmap.ensures.calls)
   | in-Err w ↦ rw (w.decoder-is, w.result-is) (unsent g.D.Decoder.conduct c.args.self.now w.in-Err.error c.args.decoder.now w.in-Err.ensures.drawing)
 ]
 
@@ -24,7 +25,7 @@ returns-clause-drawing g c = elim c.match-draw_within.branch [
 pub returns-clause-paid : goal.returns-clause-paid
 returns-clause-paid g c = elim c.match-draw_within.branch [
   | in-Ok w ↦
-      let same = page-price c.args.self.now c.draw_within.new.context.drawing c.canvas.inside.bitmap w.in-Ok.ensures.drawing (ap (λ (d : Drawing). d.grid) c.canvas.view_is) in
+      let same = page-price c.args.self.now c.draw_within.new.context.drawing w.page.result.now w.in-Ok.ensures.drawing (w.page.ensures ∙ ap (λ (x : Context). x.drawing.grid) c.context.view_is) in
       rw (w.work-is) (counts-paid c.args.work.now c.draw_within.new.work w.push_bitmap.new.steps _ (omega (arith, w.in-Ok.ensures.ahead, same)) w.push_bitmap.ensures.paid)
   | in-Err w ↦ rw (w.work-is) c.draw_within.ensures.paid
 ]

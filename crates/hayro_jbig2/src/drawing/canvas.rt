@@ -1,0 +1,144 @@
+//! The page while it is drawn.
+ghost use Rattle.std.specs.Prelude.{◌≡◌, ◌*◌, ◌<◌, ◌≤◌, [], true, false, Ok};
+ghost use Rattle.jbig2_base.specs.Answer.{Gives};
+ghost use Rattle.jbig2_region.specs.inner.RegionViews.{region_view};
+ghost use Rattle.hayro_jbig2.specs.Image.{packed_of};
+ghost use Rattle.hayro_jbig2.specs.Page.{nothing_drawn, page_begun, passing, shown, with_region};
+ghost use Rattle.jbig2_steps.specs.Work.{PaidBut, price_of_bitmap};
+
+use crate::drawing::passed_over::PassedOver;
+use crate::drawing::workspace::Workspace;
+use crate::kept::Kept;
+use crate::kept::names::KeptNames;
+use crate::page::drawn_page::DrawnPage;
+use jbig2_base::bitmap::Bitmap;
+use jbig2_base::bitmap::steps::Work;
+use jbig2_base::error::{DecodeError, Result};
+use jbig2_base::page_info::InitialPage;
+use jbig2_region::generic::DecodedRegion;
+use std::alloc::Allocator;
+use std::marker::Model;
+use std::sync::ledger::Ledger;
+
+/// The page that is drawn, what its segments keep, and the room that drawing uses. The next page
+/// uses it all again, and what it holds from before changes nothing of that.
+#[derive(Drop)]
+pub(crate) struct Canvas<A: Allocator> {
+    pub(crate) bitmap: Bitmap<A>,
+    pub(crate) regions: Vec<Kept<DecodedRegion<A>>, A>,
+    pub(crate) names: KeptNames<A>,
+    pub(crate) untouched: bool,
+    pub(crate) passed_over: PassedOver,
+    /// The colour that the page begins in, and has while it is untouched.
+    pub(crate) default_pixel: bool,
+    pub(crate) workspace: Workspace<A>,
+}
+
+impl<A: Allocator> Model for Canvas<A> {
+    ghost use Rattle.std.specs.Prelude.{◌≡◌, true};
+    ghost use Rattle.jbig2_region.specs.inner.RegionViews.{region_view};
+    ghost use Rattle.hayro_jbig2.specs.Page.{Drawing};
+    ghost use Rattle.hayro_jbig2.specs.inner.KeptViews.{seen};
+    ghost use Rattle.hayro_jbig2.specs.inner.Whole.{IsBegun};
+
+    ghost Value = { Drawing };
+
+    ghost view = { λ c. record {
+      grid = c.bitmap;
+      regions = seen region_view c.regions.items;
+      names = c.names;
+      untouched = c.untouched;
+      passed_over = c.passed_over;
+    } };
+
+    ghost invariant = { λ c. c.untouched ≡ true → IsBegun c.default_pixel c.bitmap };
+}
+
+impl<A: Allocator + Clone> Canvas<A> {
+    /// A page of no pixels. `DecodeError::OutOfMemory` alone refuses it.
+    pub(crate) fn new(alloc: A) -> Result<Canvas<A>>
+        ensures { Gives (λ canvas. canvas) result (Ok nothing_drawn) }
+    {
+        Ok(Canvas {
+            bitmap: Bitmap::new_empty(alloc.clone()?),
+            regions: Vec::new(alloc.clone()?),
+            names: KeptNames::new(alloc.clone()?)?,
+            untouched: true,
+            passed_over: PassedOver::nothing(),
+            default_pixel: false,
+            workspace: Workspace::new(alloc)?,
+        })
+    }
+}
+
+impl<A: Allocator> Canvas<A> {
+    /// What is drawn so far.
+    pub(crate) fn page(&self) -> &Bitmap<A>
+        ensures { result.now ≡ self.now.grid }
+    {
+        &self.bitmap
+    }
+
+    /// The page by its packed rows.
+    pub(crate) fn drawn(&self) -> DrawnPage<'_, A>
+        ensures { result ≡ packed_of self.now.grid.width self.now.grid.height self.now.grid }
+    {
+        DrawnPage::new(&self.bitmap, self.is_white())
+    }
+
+    /// Begins a page: nothing of an earlier one is left.
+    pub(crate) fn begin(&mut self, initial_page: &InitialPage) -> Result<()>
+        requires width { initial_page.now.width ≤ 65535 }
+        requires height { initial_page.now.height ≤ 65535 }
+        ensures { Gives (λ _. self.new) result (Ok (page_begun initial_page.now)) }
+    {
+        self.bitmap.reinitialize(
+            initial_page.width,
+            initial_page.height,
+            initial_page.default_pixel,
+        )?;
+        self.default_pixel = initial_page.default_pixel;
+        self.regions.clear();
+        self.names.clear();
+        self.untouched = true;
+        self.passed_over = PassedOver::nothing();
+        Ok(())
+    }
+
+    /// Combines an immediate region with the page, at its place as signed numbers (T.88, 7.4.1).
+    pub(crate) fn combine<L: Ledger>(&mut self, region: &DecodedRegion<A>, work: &mut Work<L>)
+        ensures value { Ok self.new ≡ shown self.old (Ok (region_view region.now)) }
+        ensures paid { let source = region.now.bitmap in
+            PaidBut (32 * price_of_bitmap source.width source.height) work.old work.new }
+    {
+        self.bitmap.combine(
+            &region.bitmap,
+            region.x_location.cast_signed(),
+            region.y_location.cast_signed(),
+            region.combination_operator,
+            &mut work.steps,
+        );
+        self.untouched = false;
+    }
+
+    /// Passes over a segment that failed and left the page as it was.
+    pub(crate) fn pass(&mut self, segment_number: u32, error: DecodeError)
+        requires { self.old.passed_over.count < usize.MAX }
+        ensures { self.new ≡ passing segment_number error self.old }
+    {
+        self.untouched = false;
+        self.passed_over.add(segment_number, error);
+    }
+
+    /// Keeps an intermediate region under its segment's number.
+    pub(crate) fn store(&mut self, segment_number: u32, region: DecodedRegion<A>) -> Result<()>
+        ensures { Gives (λ _. self.new) result
+            (Ok (with_region segment_number self.old (region_view region))) }
+    {
+        self.regions.push(Kept {
+            segment_number,
+            value: region,
+        })?;
+        Ok(())
+    }
+}

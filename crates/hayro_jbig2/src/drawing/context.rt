@@ -1,0 +1,120 @@
+//! What decoding keeps from page to page.
+ghost use Rattle.std.specs.Prelude.{◌≡◌};
+ghost use Rattle.jbig2_base.specs.Answer.{Gives};
+ghost use Rattle.jbig2_base.specs.Counts.{no_steps};
+ghost use Rattle.hayro_jbig2.specs.Context.{after_page, new_context, units_of};
+ghost use Rattle.hayro_jbig2.specs.Image.{packed_of};
+
+use crate::drawing::canvas::Canvas;
+use crate::drawing::passed_over::PassedOver;
+use crate::page::drawn_page::DrawnPage;
+use jbig2_base::bitmap::steps::Work;
+use jbig2_base::error::Result;
+use jbig2_permit::Permit;
+use std::alloc::Allocator;
+use std::marker::Model;
+use std::sync::ledger::{Blank, Ledger};
+
+/// The room that decoding a page uses and the next page uses again. What it holds from before
+/// changes nothing of a page. It holds the page that was drawn in it last, and the limit of the work that each page
+/// may take.
+#[derive(Drop)]
+pub struct DecoderContext<A: Allocator> {
+    pub(crate) canvas: Canvas<A>,
+    /// The units of work that a page may take.
+    work_limit: Option<u64>,
+    /// What the last page left of them.
+    work_left: Option<u64>,
+}
+
+impl<A: Allocator> Model for DecoderContext<A> {
+    ghost use Rattle.hayro_jbig2.specs.Context.{Context};
+
+    ghost Value = { Context };
+
+    ghost view = { λ c. record {
+      drawing = c.canvas;
+      work_limit = c.work_limit;
+      work_left = c.work_left;
+    } };
+}
+
+/// A counter that may take the work of a limit, where there is one.
+pub(crate) fn work_within<L: Ledger>(limit: Option<u64>, blank: Blank) -> Work<L>
+    requires name { blank.name ≡ L.name }
+    requires parts { blank.parts ≡ L.parts }
+    requires enough { blank.parts ≡ 6 }
+    ensures steps { result.steps ≡ no_steps }
+    ensures left { result.left ≡ units_of limit }
+{
+    Work::within(Permit::grant(), blank, limit.unwrap_or(u64::MAX))
+}
+
+impl<A: Allocator + Clone> DecoderContext<A> {
+    /// A context that holds a page of no pixels, without a limit of work. `DecodeError::OutOfMemory` alone
+    /// refuses it.
+    pub fn new(alloc: A) -> Result<DecoderContext<A>>
+        ensures { Gives (λ context. context) result (Ok new_context) }
+    {
+        Ok(DecoderContext {
+            canvas: Canvas::new(alloc)?,
+            work_limit: None,
+            work_left: None,
+        })
+    }
+}
+
+impl<A: Allocator> DecoderContext<A> {
+    /// What reading passed over in the page that was drawn last. After a page that was refused it is what
+    /// was passed over before the fault.
+    pub fn passed_over(&self) -> &PassedOver
+        ensures { result.now ≡ self.now.drawing.passed_over }
+    {
+        &self.canvas.passed_over
+    }
+
+    /// The page that was drawn last, by its packed rows. After a page that was refused it is what was drawn
+    /// before the fault, and after want of memory any page.
+    pub fn drawn(&self) -> DrawnPage<'_, A>
+        ensures { let page = self.now.drawing.grid in result ≡ packed_of page.width page.height page }
+    {
+        self.canvas.drawn()
+    }
+
+    /// Sets how many units of work each page may take that is decoded in this context from now on; `None` is no
+    /// limit, as in a new context. A page that would take more is refused with `DecodeError::OutOfMemory` before that work
+    /// is begun, as one for which memory is missing, and the context serves the next page.
+    pub fn set_work_limit(&mut self, work: Option<u64>)
+        ensures { self.new ≡ record self.old { work_limit = work; work_left = work } }
+    {
+        self.work_limit = work;
+        self.work_left = work;
+    }
+
+    /// What the page that was decoded last left of its limit; `None` where it had none. It is 0 where the page was refused
+    /// for want of work, so that a caller can tell that from want of memory.
+    pub fn work_left(&self) -> Option<u64>
+        ensures { result ≡ self.now.work_left }
+    {
+        self.work_left
+    }
+
+    /// The counter of a page, which may take the work of the limit. `Page::decode_with` and the other calls that draw a
+    /// page begin with it.
+    pub fn new_work<L: Ledger>(&self, blank: Blank) -> Work<L>
+        requires name { blank.name ≡ L.name }
+        requires parts { blank.parts ≡ L.parts }
+        requires enough { blank.parts ≡ 6 }
+        ensures steps { result.steps ≡ no_steps }
+        ensures left { result.left ≡ units_of self.now.work_limit }
+    {
+        work_within(self.work_limit, blank)
+    }
+
+    /// Notes what a page left of its limit.
+    pub(crate) fn end<L: Ledger>(&mut self, work: &Work<L>)
+        ensures { self.new ≡ after_page work.now self.old }
+    {
+        self.work_left = self.work_limit.map(|_| work.left);
+    }
+}

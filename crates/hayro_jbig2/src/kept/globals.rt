@@ -1,0 +1,241 @@
+//! Segments that several pages share.
+ghost use Rattle.std.specs.Prelude.{◌≡◌, ◌<◌, ◌⊎◌, Ok, IfErr};
+ghost use Rattle.jbig2_base.specs.Answer.{Gives};
+ghost use Rattle.jbig2_base.specs.Reading.{is_strict, reading_of};
+ghost use Rattle.jbig2_base.specs.declared.error.DecodeError.TheVariants.{OutOfMemory};
+ghost use Rattle.jbig2_base.specs.declared.reading.Reading.TheVariants.{Salvage};
+ghost use Rattle.jbig2_base.specs.inner.SegmentViews.{segment_view, segment_views};
+ghost use Rattle.hayro_jbig2.specs.Names.{globals_at, named_from, kept_by, no_names, nothing_shared, or_shared_without};
+ghost use Rattle.hayro_jbig2.specs.Returned.{IsReturned};
+ghost use Rattle.hayro_jbig2.specs.inner.KeptViews.{found};
+ghost use Rattle.jbig2_steps.specs.Work.{IsWithinLimit, Paid};
+
+use crate::drawing::context::work_within;
+use crate::drawing::dictionaries::{extension, keep_patterns, keep_symbols, keep_table};
+use crate::drawing::passed_over::PassedOver;
+use crate::drawing::pay_segment;
+use crate::drawing::workspace::Workspace;
+use crate::kept::names::KeptNames;
+use crate::settings::DecodeSettings;
+use jbig2_base::bitmap::steps::Work;
+use jbig2_base::error::{DecodeError, Result};
+use jbig2_base::file::{parse_segments_sequential, sequence_fault};
+use jbig2_base::reading::Reading;
+use jbig2_base::segment::{Segment, SegmentType};
+use jbig2_base::sort::sort_segments;
+use std::alloc::Allocator;
+use std::marker::{Brand, Model};
+use std::sync::ledger::{Blank, Ledger};
+
+/// Decoded segments that several pages share: what their segments may refer to by a number
+/// (T.88, 7.3).
+#[derive(Drop)]
+pub struct Globals<A: Allocator> {
+    names: KeptNames<A>,
+    passed_over: PassedOver,
+    fault: Option<DecodeError>,
+}
+
+impl<A: Allocator> Model for Globals<A> {
+    ghost use Rattle.hayro_jbig2.specs.Names.{Shared};
+
+    ghost Value = { Shared };
+
+    ghost view = { λ globals. record {
+      names = globals.names;
+      passed_over = globals.passed_over;
+      fault = globals.fault;
+    } };
+}
+
+impl<A: Allocator> Globals<A> {
+    pub(crate) fn names(&self) -> &KeptNames<A>
+        ensures { result.now ≡ self.now.names }
+    {
+        &self.names
+    }
+
+    /// What salvage passed over of their segments.
+    pub fn passed_over(&self) -> &PassedOver
+        ensures { result.now ≡ self.now.passed_over }
+    {
+        &self.passed_over
+    }
+
+    /// The error that ended the list of their segments early, in salvage: that of lenient reading.
+    pub fn fault(&self) -> Option<&DecodeError>
+        ensures { found (λ e. e) result ≡ self.now.fault }
+    {
+        self.fault.as_ref()
+    }
+}
+
+impl<A: Allocator + Clone> Globals<A> {
+    /// Globals that keep nothing, of a list that this error ended.
+    pub(crate) fn empty(alloc: A, fault: Option<DecodeError>) -> Result<Globals<A>>
+        ensures { Gives (λ globals. globals) result (Ok (nothing_shared fault)) }
+    {
+        Ok(Globals {
+            names: KeptNames::new(alloc)?,
+            passed_over: PassedOver::nothing(),
+            fault,
+        })
+    }
+
+    /// The globals whose segments `bytes` hold, one after the other, without a file header.
+    ///
+    /// Dictionaries, tables and extensions are decoded in the order of their numbers, and no other
+    /// segment. Refused by the first fault of reading the segments, else of decoding them.
+    pub fn new(alloc: A, bytes: &[u8], settings: &DecodeSettings) -> Result<Globals<A>>
+        ensures value { Gives (λ globals. globals) result
+            (globals_at (reading_of settings.now.strict) bytes.now) }
+        ensures errors { IfErr result IsReturned }
+    {
+        Globals::new_within(alloc, bytes, settings, None)
+    }
+
+    /// The globals as `new` has them, for at most `work` units of work. Where that isn't enough it is refused with
+    /// `DecodeError::OutOfMemory`, as memory is. `None` is no limit.
+    pub fn new_within(
+        alloc: A,
+        bytes: &[u8],
+        settings: &DecodeSettings,
+        work: Option<u64>,
+    ) -> Result<Globals<A>>
+        ensures value { Gives (λ globals. globals) result
+            (globals_at (reading_of settings.now.strict) bytes.now) }
+        ensures errors { IfErr result IsReturned }
+    {
+        Globals::read(alloc, bytes, settings.reading(), work)
+    }
+
+    /// The globals as lenient reading has them, where damage leaves out as little as it can: the list of their
+    /// segments ends at the first that is refused, and a segment that fails is passed over. Refused for want of
+    /// memory or of work alone.
+    pub fn salvaged(alloc: A, bytes: &[u8], work: Option<u64>) -> Result<Globals<A>>
+        ensures value { Gives (λ globals. globals) result (globals_at Salvage bytes.now) }
+        ensures memory { IfErr result (λ e. e ≡ OutOfMemory) }
+    {
+        Globals::read(alloc, bytes, Reading::Salvage, work)
+    }
+
+    #[tactic(auto, unfolding(crate::specs::Names::globals_at))]
+    fn read(alloc: A, bytes: &[u8], reading: Reading, work: Option<u64>) -> Result<Globals<A>>
+        ensures value { Gives (λ globals. globals) result (globals_at reading bytes.now) }
+        ensures errors { IfErr result IsReturned }
+    {
+        let fault = sequence_fault(alloc.clone()?, bytes, reading)?;
+        let mut segments = parse_segments_sequential(alloc.clone()?, bytes, reading)?;
+        sort_segments(&mut segments)?;
+        Globals::from_segments(alloc, reading, &segments, fault, work)
+    }
+
+    pub(crate) fn from_segments(
+        alloc: A,
+        reading: Reading,
+        segments: &[Segment<'_, A>],
+        fault: Option<DecodeError>,
+        work: Option<u64>,
+    ) -> Result<Globals<A>>
+        ensures { Gives (λ globals. globals) result
+            (named_from reading (segment_views segments.now) (nothing_shared fault)) }
+    {
+        decode_shared::<A, Brand>(alloc, reading, segments, fault, work, Blank::new(6))
+    }
+
+    /// Keeps what one more segment holds. Salvage passes over one that fails.
+    fn add<L: Ledger>(
+        &mut self,
+        reading: Reading,
+        segment: &Segment<'_, A>,
+        workspace: &mut Workspace<A>,
+        work: &mut Work<L>,
+    ) -> Result<()>
+        requires { self.old.passed_over.count < usize.MAX }
+        ensures value { Gives (λ _. self.new) result
+            (or_shared_without reading segment.now.header.segment_number self.old
+            (kept_by (is_strict reading) no_names (segment_view segment.now) self.old.names)) }
+        ensures paid { Paid work.old work.new }
+    {
+        let names = &mut self.names;
+        match keep_segment(names, reading.is_strict(), segment, workspace, work) {
+            Ok(()) => Ok(()),
+            Err(error) => {
+                if !reading.is_salvaged(&error) {
+                    return Err(error);
+                }
+                self.passed_over.add(segment.header.segment_number, error);
+                Ok(())
+            }
+        }
+    }
+}
+
+/// What these segments keep, with a counter that begins with this limit.
+fn decode_shared<A: Allocator + Clone, L: Ledger>(
+    alloc: A,
+    reading: Reading,
+    segments: &[Segment<'_, A>],
+    fault: Option<DecodeError>,
+    work: Option<u64>,
+    blank: Blank,
+) -> Result<Globals<A>>
+    requires name { blank.name ≡ L.name }
+    requires parts { blank.parts ≡ L.parts }
+    requires enough { blank.parts ≡ 6 }
+    ensures { Gives (λ globals. globals) result
+        (named_from reading (segment_views segments.now) (nothing_shared fault)) }
+{
+    let mut work = work_within::<L>(work, blank);
+    shared_within(alloc, reading, segments, fault, &mut work)
+}
+
+/// What these segments keep, each after those before it. At most 32 steps are counted for each unit of work that is
+/// left in `work`.
+fn shared_within<A: Allocator + Clone, L: Ledger>(
+    alloc: A,
+    reading: Reading,
+    segments: &[Segment<'_, A>],
+    fault: Option<DecodeError>,
+    work: &mut Work<L>,
+) -> Result<Globals<A>>
+    ensures value { Gives (λ globals. globals) result
+        (named_from reading (segment_views segments.now) (nothing_shared fault)) }
+    ensures paid { Paid work.old work.new }
+    ensures limit { IsWithinLimit work.old work.new }
+{
+    let mut globals = Globals::empty(alloc.clone()?, fault)?;
+    let mut workspace = Workspace::new(alloc)?;
+    for segment in segments {
+        pay_segment(segment, globals.names.count(), work)?;
+        match globals.add(reading, segment, &mut workspace, work) {
+            Ok(()) => {}
+            Err(error) => return Err(error),
+        }
+    }
+    Ok(globals)
+}
+
+fn keep_segment<A: Allocator + Clone, L: Ledger>(
+    names: &mut KeptNames<A>,
+    strict: bool,
+    segment: &Segment<'_, A>,
+    workspace: &mut Workspace<A>,
+    work: &mut Work<L>,
+) -> Result<()>
+    ensures value { Gives (λ _. names.new) result
+        (kept_by strict no_names (segment_view segment.now) names.old) }
+    ensures unchanged { IfErr result (λ e. (e ≡ OutOfMemory) ⊎ (names.new ≡ names.old)) }
+    ensures paid { Paid work.old work.new }
+{
+    match segment.header.segment_type {
+        SegmentType::SymbolDictionary => {
+            let none = KeptNames::new(workspace.alloc.clone()?)?;
+            keep_symbols(names, strict, &none, segment, workspace, work)
+        }
+        SegmentType::PatternDictionary => keep_patterns(names, strict, segment, workspace, work),
+        SegmentType::Tables => keep_table(names, segment, workspace),
+        SegmentType::Extension => extension(strict, segment.bytes),
+        _ => Ok(()),
+    }
+}

@@ -1,0 +1,81 @@
+//! A page that is drawn, by its packed rows.
+ghost use Rattle.std.specs.Prelude.{◌≡◌, ◌+◌, ◌≤◌, drop, false, length, take, true};
+ghost use Rattle.hayro_jbig2.specs.Image.{packed_of};
+ghost use Rattle.hayro_jbig2.specs.inner.Whole.{IsBegun};
+
+use crate::page::packed::write_packed;
+use jbig2_base::bitmap::Bitmap;
+use jbig2_base::bitmap::steps::Steps;
+use jbig2_permit::Permit;
+use std::alloc::Allocator;
+use std::marker::{Brand, Model};
+use std::sync::ledger::{Blank, Ledger};
+
+/// A drawn page, lent by the context that it was drawn in: its packed rows from the top, which need no memory
+/// beside the page's own. A row is a bit for each pixel, 1 for black, the leftmost the highest of its byte, in
+/// `width.div_ceil(8)` bytes, whose last bits are 0 past the width: the form of PBM, TIFF and PDF.
+#[derive(Drop)]
+pub struct DrawnPage<'c, A: Allocator> {
+    bitmap: &'c Bitmap<A>,
+    width: u32,
+    height: u32,
+    /// Whether nothing was drawn on a white page: its rows need not be read.
+    white: bool,
+}
+
+impl<'c, A: Allocator> Model for DrawnPage<'c, A> {
+    ghost use Rattle.std.specs.Prelude.{List, ℕ, ◌≡◌, ◌≤◌, false, true};
+    ghost use Rattle.hayro_jbig2.specs.Image.{packed_of};
+    ghost use Rattle.hayro_jbig2.specs.inner.Whole.{IsBegun};
+
+    ghost Value = { List ℕ };
+
+    ghost view = { λ page. packed_of page.width page.height page.bitmap.now };
+
+    ghost invariant = { λ page. (page.height ≤ 4294967295)
+        × (page.white ≡ true → IsBegun false page.bitmap.now) };
+}
+
+impl<'c, A: Allocator> DrawnPage<'c, A> {
+    pub(crate) fn new(bitmap: &'c Bitmap<A>, white: bool) -> DrawnPage<'c, A>
+        requires { white ≡ true → IsBegun false bitmap.now }
+        ensures { result ≡ packed_of bitmap.now.width bitmap.now.height bitmap.now }
+    {
+        DrawnPage {
+            bitmap,
+            width: bitmap.width(),
+            height: bitmap.height(),
+            white,
+        }
+    }
+
+    /// The number of bytes of all rows together.
+    pub fn size(&self) -> usize
+        ensures { result ≡ length self.now }
+    {
+        self.width.div_ceil(8) as usize * self.height as usize
+    }
+
+    /// Fills `buf` with the bytes of the rows from byte `place` of them all on.
+    pub fn read_at(&self, place: usize, buf: &mut [u8])
+        requires { place + length buf.old ≤ length self.now }
+        ensures { buf.new ≡ take (length buf.old) (drop place self.now) }
+    {
+        self.read_counted::<Brand>(place, buf, Blank::new(6));
+    }
+
+    fn read_counted<L: Ledger>(&self, place: usize, buf: &mut [u8], blank: Blank)
+        requires inside { place + length buf.old ≤ length self.now }
+        requires name { blank.name ≡ L.name }
+        requires parts { blank.parts ≡ L.parts }
+        requires enough { blank.parts ≡ 6 }
+        ensures { buf.new ≡ take (length buf.old) (drop place self.now) }
+    {
+        if self.white {
+            buf.fill(0);
+            return;
+        }
+        let mut steps = Steps::<L>::new(Permit::grant(), blank);
+        write_packed(self.bitmap, self.width, place, buf, &mut steps);
+    }
+}

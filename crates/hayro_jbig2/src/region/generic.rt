@@ -1,0 +1,30 @@
+//! Generic regions of a page (T.88, 7.4.6).
+ghost use Rattle.std.specs.Prelude.{IfOk};
+ghost use Rattle.jbig2_base.specs.inner.SegmentViews.{segment_view};
+ghost use Rattle.hayro_jbig2.specs.Regions.{generic_at};
+ghost use Rattle.hayro_jbig2.specs.inner.Parsed.{IsDecodable, Leads};
+
+use crate::region::parsed_region::ParsedRegion;
+use crate::region::references::References;
+use jbig2_base::error::Result;
+use jbig2_base::reader::Reader;
+use jbig2_base::segment::Segment;
+use jbig2_region::generic;
+use std::alloc::Allocator;
+
+/// A generic region. Of unknown length only an immediate one has its row count after its data.
+#[tactic(auto, unfolding(crate::specs::Regions::generic_at))]
+pub(crate) fn parse_generic<'a, 'n, 'r, A: Allocator>(
+    references: &References<'n, 'r, '_, A>,
+    is_intermediate: bool,
+    segment: &Segment<'a, A>,
+) -> Result<ParsedRegion<'a, 'n, 'r, A>>
+    ensures value { Leads result (generic_at references.now.names.strict is_intermediate
+        (segment_view segment.now)) }
+    ensures parsed { IfOk result (λ region. IsDecodable region) }
+{
+    let unknown_length = !is_intermediate && segment.header.data_length.is_none();
+    let mut reader = Reader::new(segment.bytes);
+    let header = generic::parse(&mut reader, unknown_length, references.names.strict)?;
+    Ok(ParsedRegion::Generic { header })
+}

@@ -1,0 +1,195 @@
+//! Regions whose headers are read (T.88, 7.4.3 and 7.4.5 to 7.4.7).
+ghost use Rattle.std.specs.Prelude.{◌≡◌, ◌≤◌, ◌+◌, ◌*◌, IfErr, IfOk};
+ghost use Rattle.jbig2_base.specs.Answer.{Gives};
+ghost use Rattle.jbig2_base.specs.Grid.{blank};
+ghost use Rattle.jbig2_region.specs.inner.RegionViews.{region_view};
+ghost use Rattle.hayro_jbig2.specs.inner.Parsed.{IsDecodable, apart, drawn, info_of, initial_of};
+ghost use Rattle.hayro_jbig2.specs.inner.Prices.{counts_of, price_besides, price_of_info};
+ghost use Rattle.jbig2_steps.specs.Work.{Paid, PaidBut, price_of_bitmap, worth};
+
+use crate::drawing::workspace::{MOST_CONTEXTS, Workspace};
+use crate::kept::referred::ReferredSegments;
+use crate::region::halftone::pay_cells;
+use jbig2_base::bitmap::Bitmap;
+use jbig2_base::bitmap::steps::Work;
+use jbig2_base::error::{DecodeError, Result};
+use jbig2_coder::arithmetic_decoder::ArithmeticDecoderContext;
+use jbig2_coder::huffman_table::StandardHuffmanTables;
+use jbig2_halftone::halftone::{self, HalftoneRegionHeader};
+use jbig2_halftone::pattern::PatternDictionary;
+use jbig2_region::generic::{self, DecodedRegion, GenericRegionHeader};
+use jbig2_region::generic_refinement::{self, GenericRefinementRegionHeader};
+use jbig2_region::region_info::RegionSegmentInfo;
+use jbig2_text::text;
+use jbig2_text::text::header::TextRegionHeader;
+use std::alloc::Allocator;
+use std::sync::ledger::Ledger;
+
+/// What a region is decoded by: its header with the coded bytes, and what it refers to.
+#[derive(Drop)]
+pub(crate) enum ParsedRegion<'a, 'n, 'r, A: Allocator> {
+    Text {
+        header: TextRegionHeader<'a, A>,
+        referred: ReferredSegments<'n, A>,
+    },
+    Halftone {
+        header: HalftoneRegionHeader<'a>,
+        patterns: &'n PatternDictionary<A>,
+    },
+    Generic {
+        header: GenericRegionHeader<'a>,
+    },
+    Refinement {
+        header: GenericRefinementRegionHeader<'a>,
+        reference: &'r DecodedRegion<A>,
+    },
+    PageRefinement {
+        header: GenericRefinementRegionHeader<'a>,
+        /// The page's area that is refined.
+        area: DecodedRegion<A>,
+    },
+}
+
+impl<'a, 'n, 'r, A: Allocator + Clone> ParsedRegion<'a, 'n, 'r, A> {
+    pub(crate) fn region_info(&self) -> RegionSegmentInfo
+        ensures { result ≡ info_of self.now }
+    {
+        match self {
+            ParsedRegion::Text { header, .. } => header.region_info,
+            ParsedRegion::Halftone { header, .. } => header.region_info,
+            ParsedRegion::Generic { header } => header.region_info,
+            ParsedRegion::Refinement { header, .. } => header.region_info,
+            ParsedRegion::PageRefinement { header, .. } => header.region_info,
+        }
+    }
+
+    /// The region's colour before anything is drawn, `true` for black.
+    pub(crate) fn initial_pixel(&self) -> bool
+        ensures { result ≡ initial_of self.now }
+    {
+        match self {
+            ParsedRegion::Text { header, .. } => header.flags.default_pixel,
+            ParsedRegion::Halftone { header, .. } => header.flags.initial_pixel_color,
+            ParsedRegion::Generic { .. } => false,
+            ParsedRegion::Refinement { .. } => false,
+            ParsedRegion::PageRefinement { .. } => false,
+        }
+    }
+
+    /// Takes the work of a region besides the bitmaps of its size: of the symbols that it refers to, of its cells, or of
+    /// its coded bytes.
+    fn pay_besides<L: Ledger>(&self, work: &mut Work<L>) -> Result<()>
+        ensures memory { IfErr result (λ e. e ≡ DecodeError.OutOfMemory) }
+        ensures paid { Paid work.old work.new }
+        ensures taken { IfOk result
+            (λ _. worth work.new + 32 * price_besides self.now ≡ worth work.old) }
+    {
+        match self {
+            ParsedRegion::Text { referred, .. } => referred.pay_symbols(work),
+            ParsedRegion::Halftone { header, patterns } => pay_cells(header, patterns, work),
+            ParsedRegion::Generic { header } => Ok(work.pay(header.bytes.len() as u64)?),
+            ParsedRegion::Refinement { .. } => Ok(()),
+            ParsedRegion::PageRefinement { .. } => Ok(()),
+        }
+    }
+
+    /// Takes the work of `count` bitmaps of the region's size, and of what it takes besides.
+    pub(crate) fn pay_bitmaps<L: Ledger>(&self, count: u64, work: &mut Work<L>) -> Result<()>
+        ensures memory { IfErr result (λ e. e ≡ DecodeError.OutOfMemory) }
+        ensures paid { Paid work.old work.new }
+        ensures taken { let price = price_of_info self.now * count + price_besides self.now in
+            IfOk result (λ _. worth work.new + 32 * price ≡ worth work.old) }
+    {
+        self.pay_besides(work)?;
+        let info = self.region_info();
+        work.pay_bitmaps(count, info.width, info.height)?;
+        Ok(())
+    }
+
+    /// Decodes the region into a bitmap of its size that is all in its initial colour.
+    pub(crate) fn decode_into<L: Ledger>(
+        &self,
+        bitmap: &mut Bitmap<A>,
+        workspace: &mut Workspace<A>,
+        work: &mut Work<L>,
+    ) -> Result<()>
+        requires parsed { IsDecodable self.now }
+        requires coloured { let info = info_of self.now in
+            bitmap.old ≡ blank info.width info.height (initial_of self.now) }
+        ensures value { Gives (λ _. bitmap.new) result (drawn self.now) }
+        ensures paid { PaidBut (counts_of self.now) work.old work.new }
+    {
+        let (alloc, tables) = (&workspace.alloc, &workspace.standard_tables);
+        let decoded = self.decode_by(alloc, tables, &mut workspace.contexts, bitmap, work);
+        workspace.contexts.truncate(MOST_CONTEXTS);
+        decoded
+    }
+
+    /// The same, with the parts of a workspace. It may leave more contexts than are kept.
+    fn decode_by<L: Ledger>(
+        &self,
+        alloc: &A,
+        standard_tables: &StandardHuffmanTables<A>,
+        contexts: &mut Vec<ArithmeticDecoderContext, A>,
+        bitmap: &mut Bitmap<A>,
+        work: &mut Work<L>,
+    ) -> Result<()>
+        requires parsed { IsDecodable self.now }
+        requires coloured { let info = info_of self.now in
+            bitmap.old ≡ blank info.width info.height (initial_of self.now) }
+        ensures value { Gives (λ _. bitmap.new) result (drawn self.now) }
+        ensures paid { PaidBut (counts_of self.now) work.old work.new }
+    {
+        match self {
+            ParsedRegion::Text { header, referred } => text::decode_into(
+                alloc.clone()?,
+                header,
+                &referred.symbols,
+                &referred.tables,
+                standard_tables,
+                bitmap,
+                work,
+            ),
+            ParsedRegion::Halftone { header, patterns } => {
+                let alloc = alloc.clone()?;
+                halftone::decode_into(alloc, header, patterns, bitmap, contexts, &mut work.steps)
+            }
+            ParsedRegion::Generic { header } => {
+                generic::decode_into(header, bitmap, contexts, &mut work.steps)
+            }
+            ParsedRegion::Refinement { header, reference } => {
+                generic_refinement::decode_into(
+                    header,
+                    reference,
+                    bitmap,
+                    contexts,
+                    &mut work.steps,
+                )
+            }
+            ParsedRegion::PageRefinement { header, area } => {
+                generic_refinement::decode_into(header, area, bitmap, contexts, &mut work.steps)
+            }
+        }
+    }
+
+    /// Decodes the region into a bitmap of its own. The work of another one is taken ahead, for what becomes of it.
+    pub(crate) fn decode<L: Ledger>(
+        self,
+        workspace: &mut Workspace<A>,
+        work: &mut Work<L>,
+    ) -> Result<DecodedRegion<A>>
+        requires { IsDecodable self }
+        ensures value { Gives (λ region. region_view region) result (apart self.entry) }
+        ensures paid { Paid work.old work.new }
+        ensures ahead { IfOk result (λ region. let page = region.bitmap in
+            worth work.new + 32 * price_of_bitmap page.width page.height ≤ worth work.old) }
+    {
+        let info = self.region_info();
+        text::check_sides(info.width, info.height)?;
+        self.pay_bitmaps(2, work)?;
+        let alloc = workspace.alloc.clone()?;
+        let mut bitmap = Bitmap::new_with(alloc, info.width, info.height, self.initial_pixel())?;
+        self.decode_into(&mut bitmap, workspace, work)?;
+        Ok(DecodedRegion::new(&info, bitmap))
+    }
+}

@@ -1,0 +1,68 @@
+//! Rows of immediate regions that no page shows.
+ghost use Rattle.std.specs.Prelude.{◌≡◌, ◌≤◌, ◌<◌, ◌-ℤ◌, ℕ, pos};
+ghost use Rattle.std.specs.Int.{w32, cast_signed};
+ghost use Rattle.hayro_jbig2.specs.Page.{Drawing, shown};
+ghost use Rattle.hayro_jbig2.specs.inner.Parsed.{IsDecodable, apart};
+
+use crate::region::parsed_region::ParsedRegion;
+use jbig2_region::region_info::RegionSegmentInfo;
+use std::alloc::Allocator;
+
+/// How many of a region's rows, from its first, are not below a page of this height.
+fn rows_above_end(info: &RegionSegmentInfo, page_height: u32) -> u32
+    ensures fewer { result ≤ info.now.height }
+    ensures others { (j n : ℕ) → j < page_height →
+        pos j -ℤ cast_signed w32 info.now.y_location ≡ pos n → n < info.now.height → n < result }
+{
+    let above_end = i64::from(page_height) - i64::from(info.y_location.cast_signed());
+    if above_end <= 0 {
+        return 0;
+    }
+    if above_end < i64::from(info.height) {
+        return above_end as u32;
+    }
+    info.height
+}
+
+impl<'a, 'n, 'r, A: Allocator + Clone> ParsedRegion<'a, 'n, 'r, A> {
+    /// The region without the rows that lie below a page of this height, which change no pixel of it
+    /// and no answer: those of regions by the arithmetic coder, but for text and halftones, and for a
+    /// refinement that is refused by its height.
+    pub(crate) fn above_end(self, page_height: u32) -> ParsedRegion<'a, 'n, 'r, A>
+        requires { IsDecodable self }
+        ensures decodable { IsDecodable result }
+        ensures shown { (d : Drawing) → d.grid.height ≡ page_height →
+            shown d (apart result) ≡ shown d (apart self.entry) }
+    {
+        match self {
+            ParsedRegion::Generic { mut header } => {
+                if header.mmr {
+                    return ParsedRegion::Generic { header };
+                }
+                header.region_info.height = rows_above_end(&header.region_info, page_height);
+                ParsedRegion::Generic { header }
+            }
+            ParsedRegion::Refinement {
+                mut header,
+                reference,
+            } => {
+                if reference.bitmap.height() < header.region_info.height {
+                    return ParsedRegion::Refinement { header, reference };
+                }
+                header.region_info.height = rows_above_end(&header.region_info, page_height);
+                ParsedRegion::Refinement { header, reference }
+            }
+            ParsedRegion::PageRefinement { mut header, area } => {
+                if area.bitmap.height() < header.region_info.height {
+                    return ParsedRegion::PageRefinement { header, area };
+                }
+                header.region_info.height = rows_above_end(&header.region_info, page_height);
+                ParsedRegion::PageRefinement { header, area }
+            }
+            ParsedRegion::Text { header, referred } => ParsedRegion::Text { header, referred },
+            ParsedRegion::Halftone { header, patterns } => {
+                ParsedRegion::Halftone { header, patterns }
+            }
+        }
+    }
+}

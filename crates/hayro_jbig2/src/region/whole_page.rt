@@ -1,0 +1,85 @@
+//! Regions that make up a page by themselves, which are decoded into the page's own bitmap.
+ghost use Rattle.std.specs.Prelude.{◌≡◌, ◌⊎◌, true, false, IfErr};
+ghost use Rattle.jbig2_base.specs.Answer.{Gives};
+ghost use Rattle.jbig2_base.specs.declared.error.DecodeError.TheVariants.{OutOfMemory};
+ghost use Rattle.hayro_jbig2.specs.Page.{draws_over};
+ghost use Rattle.hayro_jbig2.specs.inner.Parsed.{IsDecodable, drawn, info_of, initial_of};
+ghost use Rattle.hayro_jbig2.specs.inner.Whole.{IsBegun, IsWhole};
+ghost use Rattle.jbig2_steps.specs.Work.{Paid};
+
+use crate::drawing::canvas::Canvas;
+use crate::drawing::workspace::Workspace;
+use crate::region::parsed_region::ParsedRegion;
+use jbig2_base::bitmap::steps::Work;
+use jbig2_base::bitmap::{Bitmap, CombinationOperator};
+use jbig2_base::error::Result;
+use std::alloc::Allocator;
+use std::sync::ledger::Ledger;
+
+/// Whether on a white page the operator gives the region's pixels themselves.
+fn draws_over_white(operator: CombinationOperator) -> bool
+    ensures { result ≡ draws_over operator false }
+{
+    match operator {
+        CombinationOperator::Replace | CombinationOperator::Or | CombinationOperator::Xor => true,
+        CombinationOperator::And | CombinationOperator::Xnor => false,
+    }
+}
+
+impl<A: Allocator> Canvas<A> {
+    /// Whether the page is still white.
+    pub(crate) fn is_white(&self) -> bool
+        ensures { result ≡ true → IsBegun false self.now.grid }
+    {
+        if !self.untouched || self.default_pixel {
+            return false;
+        }
+        true
+    }
+}
+
+impl<'a, 'n, 'r, A: Allocator + Clone> ParsedRegion<'a, 'n, 'r, A> {
+    /// Whether a white page is the region once that is drawn: it begins white and has the page's
+    /// size, and its operator draws over white.
+    pub(crate) fn makes_up(&self, page: &Bitmap<A>) -> bool
+        ensures { result ≡ true → IsBegun false page.now →
+            IsWhole (info_of self.now) (initial_of self.now) page.now }
+    {
+        if self.initial_pixel() {
+            return false;
+        }
+        let info = self.region_info();
+        if info.x_location > 0 || info.y_location > 0 {
+            return false;
+        }
+        if info.width != page.width() || info.height != page.height() {
+            return false;
+        }
+        draws_over_white(info.combination_operator)
+    }
+
+    /// Decodes a region that is the whole page into the page's own bitmap. After a refusal that is as
+    /// it was, unless memory is refused.
+    pub(crate) fn decode_onto<L: Ledger>(
+        self,
+        page: &mut Bitmap<A>,
+        workspace: &mut Workspace<A>,
+        work: &mut Work<L>,
+    ) -> Result<()>
+        requires parsed { IsDecodable self }
+        requires whole { IsWhole (info_of self) (initial_of self) page.old }
+        ensures value { Gives (λ _. page.new) result (drawn self.entry) }
+        ensures err { IfErr result (λ e. (e ≡ OutOfMemory) ⊎ (page.new ≡ page.old)) }
+        ensures paid { Paid work.old work.new }
+    {
+        self.pay_bitmaps(1, work)?;
+        match self.decode_into(page, workspace, work) {
+            Ok(()) => Ok(()),
+            Err(error) => {
+                let info = self.region_info();
+                page.reinitialize(info.width, info.height, self.initial_pixel())?;
+                Err(error)
+            }
+        }
+    }
+}
