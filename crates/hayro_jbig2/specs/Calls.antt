@@ -1,8 +1,13 @@
 -- The calls that spell a page (our own rule; T.88 leaves open how a decoder hands a page on), and what a Decoder does with
 -- them. `calls_of` takes a grid and gives its calls, row by row; `rows_after` takes calls and gives the rows that they
 -- draw. `Decodes`, the last, takes the answer of a definition and says what `decode_with` makes of it.
-use Rattle.std.specs.{Prelude.{◌≡◌, ◌<◌, ◌≤◌, ◌⊎◌, All, Option, Some, None, unwrap_or, option_to_list, ℕ, suc, zero, ◌+◌, ◌-◌, ◌*◌, ◌/◌, ◌%◌, ◌^◌, Bool, true, false, ◌&&◌, List, [], ◌∷◌, ◌++◌, length, take, drop, replicate, map, count_by, Result, Ok, Err, if◌then◌else◌}, List.{range_with_len, flat_map}}
-use Rattle.jbig2_base.specs.{Grid.{Grid, pixel_at, same_colour}, declared.error.DecodeError.{DecodeError, TheVariants.{OutOfMemory}}}
+use Rattle.std.specs.Prelude.{◌≡◌, ◌<◌, ◌≤◌, ◌⊎◌, All, Option, Some, None, unwrap_or, option_to_list, ℕ, suc, zero, ◌+◌}
+use Rattle.std.specs.Prelude.{◌-◌, ◌*◌, ◌/◌, ◌%◌, ◌^◌, Bool, true, false, ◌&&◌, List, [], ◌∷◌, ◌++◌, length, take, drop}
+use Rattle.std.specs.Prelude.{replicate, map, count_by, Result, Ok, Err, if◌then◌else◌}
+use Rattle.std.specs.List.{range_with_len, flat_map}
+use Rattle.jbig2_base.specs.Grid.{Grid, pixel_at, same_colour}
+use Rattle.jbig2_base.specs.declared.error.DecodeError.{DecodeError}
+use Rattle.jbig2_base.specs.declared.error.DecodeError.TheVariants.{OutOfMemory}
 
 -- A call of a Decoder: one pixel, that many times eight pixels of one colour, the end of a row.
 pub data Call : Type 0 where

@@ -1,10 +1,37 @@
 -- Which rule is broken where a file or a reference of a segment is refused (docs/FORMAT.md, 1, 4 and 8), a line for each
 -- error. The function that refuses cites its predicate `Breaks..`.
-use Rattle.std.specs.{Prelude.{◌≡◌, ◌≢◌, ◌⊎◌, ◌<◌, ◌≤◌, ℕ, Bool, IsTrue, IsFalse, List, [], length, slice_get, Any, None, Some, option_and_then, unwrap_or, IfErr, IfOk}, List.{flat_map}, Int.{w32}, Option.{option_map_or}}
-use Rattle.jbig2_base.specs.{Causes.{BreaksInitialPage, InSteps, number_in}, File.{file_at}, Grid.{Grid}, Reading.{is_salvaged, is_strict}, Segment.{SegmentView}, declared.{error.{DecodeError.{DecodeError, TheVariants.{OutOfMemory, Parse, Format, Huffman, Segment, Overflow, Template, Unsupported}}, FormatError.TheVariants.{MissingPageInfo, PageCountMismatch, InvalidEndOfPage}, HuffmanError.TheVariants.{ConflictingCodes}, OverflowError.TheVariants.{Index, SymbolCount}, ParseError.TheVariants.{UnexpectedEof}, SegmentError.TheVariants.{InvalidReference, MissingPatternDictionary, MissingPageAssociation}, TemplateError.TheVariants.{Invalid}}, file_header.FileHeader.{FileHeader}, reading.Reading.{Reading}}}
-use Rattle.jbig2_region.specs.{Causes.{BreaksOffset, BreaksRefinementHeader}, RegionInfo.{PlacedRegion}, RefinementHeader.{refinement_header_at}}
+use Rattle.std.specs.Prelude.{◌≡◌, ◌≢◌, ◌⊎◌, ◌<◌, ◌≤◌, ℕ, Bool, IsTrue, IsFalse, List, [], length, slice_get, Any, None}
+use Rattle.std.specs.Prelude.{Some, option_and_then, unwrap_or, IfErr, IfOk}
+use Rattle.std.specs.List.{flat_map}
+use Rattle.std.specs.Int.{w32}
+use Rattle.std.specs.Option.{option_map_or}
+use Rattle.jbig2_base.specs.Causes.{BreaksInitialPage, InSteps, number_in}
+use Rattle.jbig2_base.specs.File.{file_at}
+use Rattle.jbig2_base.specs.Grid.{Grid}
+use Rattle.jbig2_base.specs.Reading.{is_salvaged, is_strict}
+use Rattle.jbig2_base.specs.Segment.{SegmentView}
+use Rattle.jbig2_base.specs.declared.error.DecodeError.{DecodeError}
+use Rattle.jbig2_base.specs.declared.error.DecodeError.TheVariants.{OutOfMemory, Parse, Format, Huffman, Segment}
+use Rattle.jbig2_base.specs.declared.error.DecodeError.TheVariants.{Overflow, Template, Unsupported}
+use Rattle.jbig2_base.specs.declared.error.FormatError.TheVariants.{MissingPageInfo, PageCountMismatch}
+use Rattle.jbig2_base.specs.declared.error.FormatError.TheVariants.{InvalidEndOfPage}
+use Rattle.jbig2_base.specs.declared.error.HuffmanError.TheVariants.{ConflictingCodes}
+use Rattle.jbig2_base.specs.declared.error.OverflowError.TheVariants.{Index, SymbolCount}
+use Rattle.jbig2_base.specs.declared.error.ParseError.TheVariants.{UnexpectedEof}
+use Rattle.jbig2_base.specs.declared.error.SegmentError.TheVariants.{InvalidReference, MissingPatternDictionary}
+use Rattle.jbig2_base.specs.declared.error.SegmentError.TheVariants.{MissingPageAssociation}
+use Rattle.jbig2_base.specs.declared.error.TemplateError.TheVariants.{Invalid}
+use Rattle.jbig2_base.specs.declared.file_header.FileHeader.{FileHeader}
+use Rattle.jbig2_base.specs.declared.reading.Reading.{Reading}
+use Rattle.jbig2_region.specs.Causes.{BreaksOffset, BreaksRefinementHeader}
+use Rattle.jbig2_region.specs.RegionInfo.{PlacedRegion}
+use Rattle.jbig2_region.specs.RefinementHeader.{refinement_header_at}
 use Rattle.jbig2_text.specs.Causes.{Behind}
-use Rattle.hayro_jbig2.specs.{Files.{ReadFile, book_at, by_pages, ends_of, needs_page}, Names.{globals_at, Names, first_named, named}, Page.{ReadPage, drawing_of_page, embedded}, Regions.{page_area, patterns_for}, declared.kept.Kept.{Kept}}
+use Rattle.hayro_jbig2.specs.Files.{ReadFile, book_at, by_pages, ends_of, needs_page}
+use Rattle.hayro_jbig2.specs.Names.{globals_at, Names, first_named, named}
+use Rattle.hayro_jbig2.specs.Page.{ReadPage, drawing_of_page, embedded}
+use Rattle.hayro_jbig2.specs.Regions.{page_area, patterns_for}
+use Rattle.hayro_jbig2.specs.declared.kept.Kept.{Kept}
 
 -- ---- files (7.2.6, 7.4.9 and D.4.3)
 -- The pages of a file with this header and these segments. Three of the rules are those of strict reading alone; else it is

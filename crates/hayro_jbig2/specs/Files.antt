@@ -1,8 +1,24 @@
 -- The pages of a file (T.88, 7.2.6 and 7.4.8), and what they share. `book_at` takes a file's bytes and gives its pages,
 -- each with the segments whose page association is its number, and the names of those of association 0.
-use Rattle.std.specs.{Prelude.{◌≡◌, ℕ, ◌+◌, ◌==◌, Bool, true, false, not, ◌&&◌, ◌||◌, List, [], ◌∷◌, ◌++◌, length, filter, map, slice_get, option_map, is_some, Option, Some, None, Result, Ok, Err, if◌then◌else◌}, List.{flat_map, list_any}}
-use Rattle.jbig2_base.specs.{Answer.{◌>>=◌, refuse_if}, File.{file_at}, Reading.{fault_of, is_salvaged, is_strict}, Segment.{Header, SegmentView}, declared.{error.{DecodeError.{DecodeError, TheVariants.{Format, Segment}}, FormatError.TheVariants.{PageCountMismatch, InvalidEndOfPage}, SegmentError.TheVariants.{MissingPageAssociation}}, file_header.FileHeader.{FileHeader}, page_info.InitialPage.{InitialPage}, reading.Reading.{Reading, TheVariants.{Lenient}}, segment.SegmentType.{SegmentType}}}
-use Rattle.hayro_jbig2.specs.{Names.{named_from, names_of, nothing_shared, Shared}, Page.{ReadPage, beginning_of, region_type}}
+use Rattle.std.specs.Prelude.{◌≡◌, ℕ, ◌+◌, ◌==◌, Bool, true, false, not, ◌&&◌, ◌||◌, List, [], ◌∷◌, ◌++◌, length}
+use Rattle.std.specs.Prelude.{filter, map, slice_get, option_map, is_some, Option, Some, None, Result, Ok, Err}
+use Rattle.std.specs.Prelude.{if◌then◌else◌}
+use Rattle.std.specs.List.{flat_map, list_any}
+use Rattle.jbig2_base.specs.Answer.{◌>>=◌, refuse_if}
+use Rattle.jbig2_base.specs.File.{file_at}
+use Rattle.jbig2_base.specs.Reading.{fault_of, is_salvaged, is_strict}
+use Rattle.jbig2_base.specs.Segment.{Header, SegmentView}
+use Rattle.jbig2_base.specs.declared.error.DecodeError.{DecodeError}
+use Rattle.jbig2_base.specs.declared.error.DecodeError.TheVariants.{Format, Segment}
+use Rattle.jbig2_base.specs.declared.error.FormatError.TheVariants.{PageCountMismatch, InvalidEndOfPage}
+use Rattle.jbig2_base.specs.declared.error.SegmentError.TheVariants.{MissingPageAssociation}
+use Rattle.jbig2_base.specs.declared.file_header.FileHeader.{FileHeader}
+use Rattle.jbig2_base.specs.declared.page_info.InitialPage.{InitialPage}
+use Rattle.jbig2_base.specs.declared.reading.Reading.{Reading}
+use Rattle.jbig2_base.specs.declared.reading.Reading.TheVariants.{Lenient}
+use Rattle.jbig2_base.specs.declared.segment.SegmentType.{SegmentType}
+use Rattle.hayro_jbig2.specs.Names.{named_from, names_of, nothing_shared, Shared}
+use Rattle.hayro_jbig2.specs.Page.{ReadPage, beginning_of, region_type}
 use Rattle.jbig2_base.specs.declared.segment.SegmentType.TheVariants as types
 
 pub record PageInFile : Type 0 where

@@ -1,9 +1,22 @@
 -- A page as bytes (our own rule): those of the grid that the page decodes to, or the page's error. And what a viewer shows
 -- of a file that a reader gives: the first page, read leniently; `ReadsAll` and `Opens` say what a reader's faults add.
-use Rattle.std.specs.{Prelude.{◌≡◌, ◌≢◌, ◌<◌, ◌⊎◌, ℕ, ◌+◌, ◌-◌, ◌*◌, ◌/◌, ◌%◌, Bool, List, map, slice_index, Option, Result, Ok, Err, IfSome, if◌then◌else◌}, IoError.{error_kind}, List.{range_with_len}, declared.io.ErrorKind.TheVariants.{Interrupted}}
-use Rattle.jbig2_base.specs.{Answer.{◌>>=◌, some_or}, Bits.{bit}, Grid.{Grid, pixel_at}, declared.{error.{DecodeError.{DecodeError, TheVariants.{Format, OutOfMemory}}, FormatError.TheVariants.{MissingPageInfo}}, reading.Reading.TheVariants.{Lenient}}}
+use Rattle.std.specs.Prelude.{◌≡◌, ◌≢◌, ◌<◌, ◌⊎◌, ℕ, ◌+◌, ◌-◌, ◌*◌, ◌/◌, ◌%◌, Bool, List, map, slice_index, Option}
+use Rattle.std.specs.Prelude.{Result, Ok, Err, IfSome, if◌then◌else◌}
+use Rattle.std.specs.IoError.{error_kind}
+use Rattle.std.specs.List.{range_with_len}
+use Rattle.std.specs.declared.io.ErrorKind.TheVariants.{Interrupted}
+use Rattle.jbig2_base.specs.Answer.{◌>>=◌, some_or}
+use Rattle.jbig2_base.specs.Bits.{bit}
+use Rattle.jbig2_base.specs.Grid.{Grid, pixel_at}
+use Rattle.jbig2_base.specs.declared.error.DecodeError.{DecodeError}
+use Rattle.jbig2_base.specs.declared.error.DecodeError.TheVariants.{Format, OutOfMemory}
+use Rattle.jbig2_base.specs.declared.error.FormatError.TheVariants.{MissingPageInfo}
+use Rattle.jbig2_base.specs.declared.reading.Reading.TheVariants.{Lenient}
 use Rattle.jbig2_coder.specs.Integers.{value_of_bits}
-use Rattle.hayro_jbig2.specs.{Files.{book_at, page_of}, Page.{ReadPage, grid_of_page}, declared.jbig2_decoder.jbig2_error.Jbig2Error.{Jbig2Error, TheVariants.{Io, Decode}}}
+use Rattle.hayro_jbig2.specs.Files.{book_at, page_of}
+use Rattle.hayro_jbig2.specs.Page.{ReadPage, grid_of_page}
+use Rattle.hayro_jbig2.specs.declared.jbig2_decoder.jbig2_error.Jbig2Error.{Jbig2Error}
+use Rattle.hayro_jbig2.specs.declared.jbig2_decoder.jbig2_error.Jbig2Error.TheVariants.{Io, Decode}
 
 abbrev pub shade : Bool → ℕ
 shade black = if black then 0 else 255

@@ -2,8 +2,21 @@
 -- does; and salvage refuses little.
 use Rattle.std.specs.Prelude.{◌≡◌, ◌≤◌, ℕ, Any, IsTrue, List, Some, Result, Ok, IfOk}
 use Rattle.std.specs.Result.{is_ok}
-use Rattle.jbig2_base.specs.{Answer.{◌>>=◌, some_or}, File.{file_at, file_header_at}, PageInfo.{first_information, height_of, information_at}, Segment.{SegmentView}, Sequential.{sorted_segments}, declared.{error.{DecodeError.{DecodeError, TheVariants.{Format}}, FormatError.TheVariants.{MissingPageInfo}}, file_header.FileHeader.{FileHeader}, page_info.PageInformation.{PageInformation}, reading.Reading.{Reading, TheVariants.{Strict, Lenient, Salvage}}}}
-use Rattle.hayro_jbig2.specs.{Files.{ReadFile, book_at, of_page, page_of}, Names.{Names, globals_at}, Page.{IsSide, ReadPage, drawing_of_page, embedded, told_height}}
+use Rattle.jbig2_base.specs.Answer.{◌>>=◌, some_or}
+use Rattle.jbig2_base.specs.File.{file_at, file_header_at}
+use Rattle.jbig2_base.specs.PageInfo.{first_information, height_of, information_at}
+use Rattle.jbig2_base.specs.Segment.{SegmentView}
+use Rattle.jbig2_base.specs.Sequential.{sorted_segments}
+use Rattle.jbig2_base.specs.declared.error.DecodeError.{DecodeError}
+use Rattle.jbig2_base.specs.declared.error.DecodeError.TheVariants.{Format}
+use Rattle.jbig2_base.specs.declared.error.FormatError.TheVariants.{MissingPageInfo}
+use Rattle.jbig2_base.specs.declared.file_header.FileHeader.{FileHeader}
+use Rattle.jbig2_base.specs.declared.page_info.PageInformation.{PageInformation}
+use Rattle.jbig2_base.specs.declared.reading.Reading.{Reading}
+use Rattle.jbig2_base.specs.declared.reading.Reading.TheVariants.{Strict, Lenient, Salvage}
+use Rattle.hayro_jbig2.specs.Files.{ReadFile, book_at, of_page, page_of}
+use Rattle.hayro_jbig2.specs.Names.{Names, globals_at}
+use Rattle.hayro_jbig2.specs.Page.{IsSide, ReadPage, drawing_of_page, embedded, told_height}
 
 -- What the one reading gives, the other gives too.
 abbrev pub IsSameUnder : {A : Type 0} → Reading → Reading → (Reading → Result A DecodeError) → Type 0

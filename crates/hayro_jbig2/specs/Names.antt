@@ -1,12 +1,33 @@
 -- Names (T.88, 7.3): what segments leave for later ones, each under its segment's number, and what later ones refer to.
 -- A number means the first that is kept under it: among the page's own, else among those of the globals. That the
 -- first of equal numbers counts is our own rule.
-use Rattle.std.specs.{Prelude.{ℕ, ◌+◌, nat_le, nat_lt, ◌==◌, Bool, true, false, List, [], ◌∷◌, ◌++◌, length, Option, Some, None, Result, Ok, Err, if◌then◌else◌}, Int.{w32}, Option.{option_map_or, option_or}}
-use Rattle.jbig2_base.specs.{Answer.{◌>>=◌, refuse_if}, Bits.{start_of}, Fields.{number_at}, Grid.{Grid}, Reading.{fault_of, is_salvaged, is_strict}, Segment.{SegmentView}, declared.{error.{DecodeError.{DecodeError, TheVariants.{Overflow, Segment, Unsupported}}, OverflowError.TheVariants.{SymbolCount}, SegmentError.TheVariants.{InvalidReference}}, reading.Reading.{Reading, TheVariants.{Lenient}}, segment.SegmentType.{SegmentType}}, Sequential.{sequential, sorted_segments}}
-use Rattle.jbig2_coder.specs.{CustomTable.{answer_of, custom_table}, PrefixCode.{Member}}
-use Rattle.jbig2_halftone.specs.{PatternHeader.{pattern_header_at}, Patterns.{Patterns, patterns_decoded}}
-use Rattle.jbig2_symbol.specs.{SymbolHeader.{symbol_header_at}, SymbolReading.{BitmapContexts}, Symbols.{Symbols, symbols_decoded}}
-use Rattle.hayro_jbig2.specs.declared.{kept.Kept.{Kept}, drawing.passed_over.PassedOver.{PassedOver}}
+use Rattle.std.specs.Prelude.{ℕ, ◌+◌, nat_le, nat_lt, ◌==◌, Bool, true, false, List, [], ◌∷◌, ◌++◌, length, Option}
+use Rattle.std.specs.Prelude.{Some, None, Result, Ok, Err, if◌then◌else◌}
+use Rattle.std.specs.Int.{w32}
+use Rattle.std.specs.Option.{option_map_or, option_or}
+use Rattle.jbig2_base.specs.Answer.{◌>>=◌, refuse_if}
+use Rattle.jbig2_base.specs.Bits.{start_of}
+use Rattle.jbig2_base.specs.Fields.{number_at}
+use Rattle.jbig2_base.specs.Grid.{Grid}
+use Rattle.jbig2_base.specs.Reading.{fault_of, is_salvaged, is_strict}
+use Rattle.jbig2_base.specs.Segment.{SegmentView}
+use Rattle.jbig2_base.specs.declared.error.DecodeError.{DecodeError}
+use Rattle.jbig2_base.specs.declared.error.DecodeError.TheVariants.{Overflow, Segment, Unsupported}
+use Rattle.jbig2_base.specs.declared.error.OverflowError.TheVariants.{SymbolCount}
+use Rattle.jbig2_base.specs.declared.error.SegmentError.TheVariants.{InvalidReference}
+use Rattle.jbig2_base.specs.declared.reading.Reading.{Reading}
+use Rattle.jbig2_base.specs.declared.reading.Reading.TheVariants.{Lenient}
+use Rattle.jbig2_base.specs.declared.segment.SegmentType.{SegmentType}
+use Rattle.jbig2_base.specs.Sequential.{sequential, sorted_segments}
+use Rattle.jbig2_coder.specs.CustomTable.{answer_of, custom_table}
+use Rattle.jbig2_coder.specs.PrefixCode.{Member}
+use Rattle.jbig2_halftone.specs.PatternHeader.{pattern_header_at}
+use Rattle.jbig2_halftone.specs.Patterns.{Patterns, patterns_decoded}
+use Rattle.jbig2_symbol.specs.SymbolHeader.{symbol_header_at}
+use Rattle.jbig2_symbol.specs.SymbolReading.{BitmapContexts}
+use Rattle.jbig2_symbol.specs.Symbols.{Symbols, symbols_decoded}
+use Rattle.hayro_jbig2.specs.declared.kept.Kept.{Kept}
+use Rattle.hayro_jbig2.specs.declared.drawing.passed_over.PassedOver.{PassedOver}
 use Rattle.jbig2_base.specs.declared.segment.SegmentType.TheVariants as types
 
 abbrev pub kept_under : {V : Type 0} → ℕ → V → List (Kept V) → List (Kept V)  -- after what is kept already

@@ -1,8 +1,13 @@
 -- Laws (our own rule): the order in which segments of different numbers stand changes nothing, and what stands after the end
 -- of a page changes nothing.
 use Rattle.std.specs.Prelude.{◌≡◌, ◌≢◌, ℕ, IsTrue, List, ◌∷◌, ◌++◌, Ok}
-use Rattle.jbig2_base.specs.{Segment.{SegmentView}, Sequential.{sequential}, Reading.{fault_of}, declared.reading.Reading.{Reading, TheVariants.{Lenient}}}
-use Rattle.hayro_jbig2.specs.{Names.{Names, globals_at}, Page.{ReadPage, drawing_of_page, embedded, ends_page}}
+use Rattle.jbig2_base.specs.Segment.{SegmentView}
+use Rattle.jbig2_base.specs.Sequential.{sequential}
+use Rattle.jbig2_base.specs.Reading.{fault_of}
+use Rattle.jbig2_base.specs.declared.reading.Reading.{Reading}
+use Rattle.jbig2_base.specs.declared.reading.Reading.TheVariants.{Lenient}
+use Rattle.hayro_jbig2.specs.Names.{Names, globals_at}
+use Rattle.hayro_jbig2.specs.Page.{ReadPage, drawing_of_page, embedded, ends_page}
 
 -- The second list comes from the first one where neighbours of different numbers change places, as often as one likes.
 pub data IsReordered : List SegmentView → List SegmentView → Type 0 where

@@ -1,9 +1,30 @@
 -- What a page shows (T.88, 8): the fold of its segments over what was drawn so far. Each segment is drawn onto the page,
 -- kept for later ones, or changes nothing, by its type (7.3).
-use Rattle.std.specs.{Prelude.{◌≡◌, ◌≤◌, ℕ, ◌+◌, ◌-◌, ◌==◌, ◌||◌, nat_lt, max, min, Bool, true, false, not, List, [], ◌∷◌, Option, Some, None, Result, Ok, Err, IfOk, IsTrue, if◌then◌else◌}, Int.{w32, cast_signed}}
-use Rattle.jbig2_base.specs.{Answer.{◌>>=◌}, Combination.{combined}, Grid.{Grid, blank}, PageInfo.{initial_page_by, stripes_height}, Reading.{fault_of, is_salvaged, is_strict}, Segment.{SegmentView}, Sequential.{sequential, sorted_segments}, declared.{bitmap.operator.CombinationOperator.{CombinationOperator, TheVariants.{Or, And, Xor, Xnor, Replace}}, error.DecodeError.{DecodeError}, page_info.InitialPage.{InitialPage}, reading.Reading.{Reading, TheVariants.{Lenient, Salvage}}, segment.SegmentType.{SegmentType}}}
-use Rattle.jbig2_region.specs.{Refinement.{is_far}, RegionInfo.{PlacedRegion, region_info_at}, declared.region_info.RegionSegmentInfo.{RegionSegmentInfo}}
-use Rattle.hayro_jbig2.specs.{Names.{Names, no_names, nothing_passed, kept_by, kept_under, with_passed}, Regions.{generic_at, halftone_at, refinement_at, text_at}, declared.{kept.Kept.{Kept}, drawing.passed_over.PassedOver.{PassedOver}, region.RegionKind.{RegionKind}}}
+use Rattle.std.specs.Prelude.{◌≡◌, ◌≤◌, ℕ, ◌+◌, ◌-◌, ◌==◌, ◌||◌, nat_lt, max, min, Bool, true, false, not, List, []}
+use Rattle.std.specs.Prelude.{◌∷◌, Option, Some, None, Result, Ok, Err, IfOk, IsTrue, if◌then◌else◌}
+use Rattle.std.specs.Int.{w32, cast_signed}
+use Rattle.jbig2_base.specs.Answer.{◌>>=◌}
+use Rattle.jbig2_base.specs.Combination.{combined}
+use Rattle.jbig2_base.specs.Grid.{Grid, blank}
+use Rattle.jbig2_base.specs.PageInfo.{initial_page_by, stripes_height}
+use Rattle.jbig2_base.specs.Reading.{fault_of, is_salvaged, is_strict}
+use Rattle.jbig2_base.specs.Segment.{SegmentView}
+use Rattle.jbig2_base.specs.Sequential.{sequential, sorted_segments}
+use Rattle.jbig2_base.specs.declared.bitmap.operator.CombinationOperator.{CombinationOperator}
+use Rattle.jbig2_base.specs.declared.bitmap.operator.CombinationOperator.TheVariants.{Or, And, Xor, Xnor, Replace}
+use Rattle.jbig2_base.specs.declared.error.DecodeError.{DecodeError}
+use Rattle.jbig2_base.specs.declared.page_info.InitialPage.{InitialPage}
+use Rattle.jbig2_base.specs.declared.reading.Reading.{Reading}
+use Rattle.jbig2_base.specs.declared.reading.Reading.TheVariants.{Lenient, Salvage}
+use Rattle.jbig2_base.specs.declared.segment.SegmentType.{SegmentType}
+use Rattle.jbig2_region.specs.Refinement.{is_far}
+use Rattle.jbig2_region.specs.RegionInfo.{PlacedRegion, region_info_at}
+use Rattle.jbig2_region.specs.declared.region_info.RegionSegmentInfo.{RegionSegmentInfo}
+use Rattle.hayro_jbig2.specs.Names.{Names, no_names, nothing_passed, kept_by, kept_under, with_passed}
+use Rattle.hayro_jbig2.specs.Regions.{generic_at, halftone_at, refinement_at, text_at}
+use Rattle.hayro_jbig2.specs.declared.kept.Kept.{Kept}
+use Rattle.hayro_jbig2.specs.declared.drawing.passed_over.PassedOver.{PassedOver}
+use Rattle.hayro_jbig2.specs.declared.region.RegionKind.{RegionKind}
 use Rattle.jbig2_base.specs.declared.segment.SegmentType.TheVariants as types
 use Rattle.hayro_jbig2.specs.declared.region.RegionKind.TheVariants as kinds
 

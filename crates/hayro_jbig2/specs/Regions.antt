@@ -1,11 +1,25 @@
 -- The regions of a page (T.88, 7.4.3 and 7.4.5 to 7.4.7): what each kind of region decodes to, a grid of its own at a
 -- place. What becomes of it, drawn or kept, is said in `Page`.
 use Rattle.std.specs.Prelude.{ℕ, Bool, ◌&&◌, not, is_none, List, [], ◌∷◌, length, Option, None, unwrap_or, Result, Ok}
-use Rattle.jbig2_base.specs.{Answer.{refuse_if, some_or, ◌>>=◌}, Grid.{Grid, part_of}, Segment.{SegmentView}, declared.error.{DecodeError.{DecodeError, TheVariants.{Segment}}, SegmentError.TheVariants.{InvalidReference, MissingPatternDictionary}}}
-use Rattle.jbig2_region.specs.{RegionInfo.{PlacedRegion, placed}, Generic.{generic_decoded}, GenericHeader.{generic_header_at}, Refinement.{refined_decoded}, RefinementHeader.{refinement_header_at}, declared.region_info.RegionSegmentInfo.{RegionSegmentInfo}}
-use Rattle.jbig2_halftone.specs.{Halftone.{halftone_decoded}, HalftoneHeader.{halftone_header_at}, Patterns.{Patterns}}
-use Rattle.jbig2_text.specs.{TextHeader.{text_header_at}, TextRegion.{text_decoded}}
-use Rattle.hayro_jbig2.specs.{Names.{Names, first_named, named, referred_by}, declared.kept.Kept.{Kept}}
+use Rattle.jbig2_base.specs.Answer.{refuse_if, some_or, ◌>>=◌}
+use Rattle.jbig2_base.specs.Grid.{Grid, part_of}
+use Rattle.jbig2_base.specs.Segment.{SegmentView}
+use Rattle.jbig2_base.specs.declared.error.DecodeError.{DecodeError}
+use Rattle.jbig2_base.specs.declared.error.DecodeError.TheVariants.{Segment}
+use Rattle.jbig2_base.specs.declared.error.SegmentError.TheVariants.{InvalidReference, MissingPatternDictionary}
+use Rattle.jbig2_region.specs.RegionInfo.{PlacedRegion, placed}
+use Rattle.jbig2_region.specs.Generic.{generic_decoded}
+use Rattle.jbig2_region.specs.GenericHeader.{generic_header_at}
+use Rattle.jbig2_region.specs.Refinement.{refined_decoded}
+use Rattle.jbig2_region.specs.RefinementHeader.{refinement_header_at}
+use Rattle.jbig2_region.specs.declared.region_info.RegionSegmentInfo.{RegionSegmentInfo}
+use Rattle.jbig2_halftone.specs.Halftone.{halftone_decoded}
+use Rattle.jbig2_halftone.specs.HalftoneHeader.{halftone_header_at}
+use Rattle.jbig2_halftone.specs.Patterns.{Patterns}
+use Rattle.jbig2_text.specs.TextHeader.{text_header_at}
+use Rattle.jbig2_text.specs.TextRegion.{text_decoded}
+use Rattle.hayro_jbig2.specs.Names.{Names, first_named, named, referred_by}
+use Rattle.hayro_jbig2.specs.declared.kept.Kept.{Kept}
 
 -- A text region (7.4.3), after what it refers to.
 unfoldable pub text_at : Bool → Names → Names → SegmentView → Result PlacedRegion DecodeError

@@ -1,7 +1,8 @@
 -- What a definition gives: a value or the first error, and never `OutOfMemory`; its steps follow each other by
 -- `>>=`, so the errors come in the order of the steps. And how a call's answer compares with that (our own rule).
 use Rattle.std.specs.Prelude.{◌≡◌, Bool, true, false, Option, Some, None, Result, Ok, Err, ◌⊎◌}
-use Rattle.jbig2_base.specs.declared.error.DecodeError.{DecodeError, TheVariants.{OutOfMemory}}
+use Rattle.jbig2_base.specs.declared.error.DecodeError.{DecodeError}
+use Rattle.jbig2_base.specs.declared.error.DecodeError.TheVariants.{OutOfMemory}
 
 infixl 10 ◌>>=◌
 -- the next step, unless the last one refused

@@ -1,6 +1,9 @@
 -- Bytes as a list of bits, high bit first, and a place in it (T.88, 7.1: big-endian). `_next` is what stands there,
 -- `_on` the place after it. A refused read of bits moves to the end, a refused read of bytes moves nothing.
-use Rattle.std.specs.{Prelude.{◌≡◌, ℕ, ◌+◌, ◌*◌, ◌/◌, ◌%◌, nat_lt, ◌==◌, List, [], ◌∷◌, length, take, drop, Option, Some, None, if◌then◌else◌, ◌^◌, Bool}, List.{flat_map}, Int.{Width, byte_len, from_be_bytes}}
+use Rattle.std.specs.Prelude.{◌≡◌, ℕ, ◌+◌, ◌*◌, ◌/◌, ◌%◌, nat_lt, ◌==◌, List, [], ◌∷◌, length, take, drop, Option, Some}
+use Rattle.std.specs.Prelude.{None, if◌then◌else◌, ◌^◌, Bool}
+use Rattle.std.specs.List.{flat_map}
+use Rattle.std.specs.Int.{Width, byte_len, from_be_bytes}
 
 pub record Place : Type 0 where  -- the bytes from the one that is being read on, and how many of its bits are read
   pub bytes : List ℕ

@@ -1,7 +1,11 @@
 -- A block of a page combined with the pixels of a source that lie on it (T.88, 7.4.1.5): the
 -- combination of two bitmaps, once the places where they overlap are known.
 use Rattle.std.specs.Prelude.{◌≡◌, ℕ, ◌+◌, ◌-◌, ◌==◌, ◌≤◌, Bool, ◌&&◌, nat_le, nat_lt, if◌then◌else◌}
-use Rattle.jbig2_base.specs.{declared.bitmap.{operator.CombinationOperator.{CombinationOperator}, rows.blocks.Block.{Block}}, Counts.{Counts, rows_combined}, Grid.{Grid, grid_of, pixel_at}, Combination.{combined_pixel}}
+use Rattle.jbig2_base.specs.declared.bitmap.operator.CombinationOperator.{CombinationOperator}
+use Rattle.jbig2_base.specs.declared.bitmap.rows.blocks.Block.{Block}
+use Rattle.jbig2_base.specs.Counts.{Counts, rows_combined}
+use Rattle.jbig2_base.specs.Grid.{Grid, grid_of, pixel_at}
+use Rattle.jbig2_base.specs.Combination.{combined_pixel}
 
 -- The block has the columns from left up to right of the rows from top up to bottom. The source's
 -- column `from` of row `from_row` lies on its first pixel.

@@ -1,7 +1,21 @@
 -- Which rule the bytes break where a call refuses them (docs/FORMAT.md), a line for each error. A predicate `Breaks..`
 -- takes the bytes and an error; the function that refuses says by `HasCause` that its own error has that cause.
-use Rattle.std.specs.{Prelude.{◌≡◌, ◌≢◌, ◌<◌, ◌≤◌, ◌+◌, ◌*◌, ◌-◌, ◌/◌, ◌%◌, ◌^◌, ◌==◌, ◌⊎◌, ℕ, Bool, true, List, [], ◌∷◌, take, drop, length, All, Any, Option, Some, None, Result, Ok, Err, IfErr, if◌then◌else◌}, Int.{Width, w8, w32, byte_len, from_be_bytes}}
-use Rattle.jbig2_base.specs.{File.{identification}, Segment.{SegmentView, adaptive_bytes, number_width}, declared.{error.{DecodeError.{DecodeError, TheVariants.{OutOfMemory, Parse, Format, Segment, Region, Overflow}}, FormatError.TheVariants.{InvalidHeader, ReservedBits, MissingPageInfo, UnknownPageHeight, EmptyPage}, OverflowError.TheVariants.{BitmapDimension}, ParseError.TheVariants.{UnexpectedEof}, RegionError.TheVariants.{InvalidCombinationOperator}, SegmentError.TheVariants.{UnknownType, InvalidReferredCount, InvalidReference, InvalidUnknownLength, MissingEndMarker}}}}
+use Rattle.std.specs.Prelude.{◌≡◌, ◌≢◌, ◌<◌, ◌≤◌, ◌+◌, ◌*◌, ◌-◌, ◌/◌, ◌%◌, ◌^◌, ◌==◌, ◌⊎◌, ℕ, Bool, true, List, [], ◌∷◌}
+use Rattle.std.specs.Prelude.{take, drop, length, All, Any, Option, Some, None, Result, Ok, Err, IfErr, if◌then◌else◌}
+use Rattle.std.specs.Int.{Width, w8, w32, byte_len, from_be_bytes}
+use Rattle.jbig2_base.specs.File.{identification}
+use Rattle.jbig2_base.specs.Segment.{SegmentView, adaptive_bytes, number_width}
+use Rattle.jbig2_base.specs.declared.error.DecodeError.{DecodeError}
+use Rattle.jbig2_base.specs.declared.error.DecodeError.TheVariants.{OutOfMemory, Parse, Format, Segment, Region}
+use Rattle.jbig2_base.specs.declared.error.DecodeError.TheVariants.{Overflow}
+use Rattle.jbig2_base.specs.declared.error.FormatError.TheVariants.{InvalidHeader, ReservedBits, MissingPageInfo}
+use Rattle.jbig2_base.specs.declared.error.FormatError.TheVariants.{UnknownPageHeight, EmptyPage}
+use Rattle.jbig2_base.specs.declared.error.OverflowError.TheVariants.{BitmapDimension}
+use Rattle.jbig2_base.specs.declared.error.ParseError.TheVariants.{UnexpectedEof}
+use Rattle.jbig2_base.specs.declared.error.RegionError.TheVariants.{InvalidCombinationOperator}
+use Rattle.jbig2_base.specs.declared.error.SegmentError.TheVariants.{UnknownType, InvalidReferredCount}
+use Rattle.jbig2_base.specs.declared.error.SegmentError.TheVariants.{InvalidReference, InvalidUnknownLength}
+use Rattle.jbig2_base.specs.declared.error.SegmentError.TheVariants.{MissingEndMarker}
 use Rattle.jbig2_base.specs.declared.segment.SegmentType.TheVariants as types
 
 -- Where this call refuses, its input breaks the rule that stands there for the error.

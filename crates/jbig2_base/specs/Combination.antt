@@ -1,8 +1,14 @@
 -- The combination operators, and a bitmap combined with another by them (T.88, 7.4.1.5). `operator_of` takes a number
 -- of a region's flags. `combined` takes an operator, the page, a source and the place of its top left pixel, at any
 -- whole numbers, and gives the page afterwards, which stays as it was where the source does not lie.
-use Rattle.std.specs.Prelude.{ℕ, Bool, false, ◌&&◌, nat_lt, if◌then◌else◌, ℤ, pos, negsuc, ◌-ℤ◌, ◌||◌, ◌==◌, not, Result, Ok, Err}
-use Rattle.jbig2_base.specs.{declared.{bitmap.operator.CombinationOperator.{CombinationOperator, TheVariants.{Or, And, Xor, Xnor, Replace}}, error.{DecodeError.{DecodeError, TheVariants.{Region}}, RegionError.TheVariants.{InvalidCombinationOperator}}}, Grid.{Grid, grid_of, pixel_at, pixel}}
+use Rattle.std.specs.Prelude.{ℕ, Bool, false, ◌&&◌, nat_lt, if◌then◌else◌, ℤ, pos, negsuc, ◌-ℤ◌, ◌||◌, ◌==◌, not}
+use Rattle.std.specs.Prelude.{Result, Ok, Err}
+use Rattle.jbig2_base.specs.declared.bitmap.operator.CombinationOperator.{CombinationOperator}
+use Rattle.jbig2_base.specs.declared.bitmap.operator.CombinationOperator.TheVariants.{Or, And, Xor, Xnor, Replace}
+use Rattle.jbig2_base.specs.declared.error.DecodeError.{DecodeError}
+use Rattle.jbig2_base.specs.declared.error.DecodeError.TheVariants.{Region}
+use Rattle.jbig2_base.specs.declared.error.RegionError.TheVariants.{InvalidCombinationOperator}
+use Rattle.jbig2_base.specs.Grid.{Grid, grid_of, pixel_at, pixel}
 
 abbrev pub operator_of : ℕ → Result CombinationOperator DecodeError
 operator_of n =

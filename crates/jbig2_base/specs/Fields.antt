@@ -1,8 +1,14 @@
 -- Fields, read from the front (T.88, 7.1). Each gives its value and the bytes after it; one that the bytes do not
 -- hold returns `Parse(UnexpectedEof)`. `Parses` and `Takes` say what a parser's call makes of its reader (our own
 -- rule).
-use Rattle.std.specs.{Prelude.{ℕ, nat_lt, List, length, take, drop, Result, Ok, Err, ℤ, if◌then◌else◌, ◌≡◌, ◌≤◌, OnOk, OnErr, pos, negsuc}, Int.{Width, byte_len, from_be_bytes, cast_signed}}
-use Rattle.jbig2_base.specs.{Answer.{◌>>=◌, some_or, Answers, Gives}, Bits.{Place, bits_left, bits_next, bits_on, IsAligned}, declared.error.{DecodeError.{DecodeError, TheVariants.{Parse}}, ParseError.TheVariants.{UnexpectedEof}}}
+use Rattle.std.specs.Prelude.{ℕ, nat_lt, List, length, take, drop, Result, Ok, Err, ℤ, if◌then◌else◌, ◌≡◌, ◌≤◌, OnOk}
+use Rattle.std.specs.Prelude.{OnErr, pos, negsuc}
+use Rattle.std.specs.Int.{Width, byte_len, from_be_bytes, cast_signed}
+use Rattle.jbig2_base.specs.Answer.{◌>>=◌, some_or, Answers, Gives}
+use Rattle.jbig2_base.specs.Bits.{Place, bits_left, bits_next, bits_on, IsAligned}
+use Rattle.jbig2_base.specs.declared.error.DecodeError.{DecodeError}
+use Rattle.jbig2_base.specs.declared.error.DecodeError.TheVariants.{Parse}
+use Rattle.jbig2_base.specs.declared.error.ParseError.TheVariants.{UnexpectedEof}
 
 abbrev pub end_of_bytes : DecodeError
 end_of_bytes = Parse UnexpectedEof

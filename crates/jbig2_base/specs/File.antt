@@ -1,7 +1,22 @@
 -- Files (T.88, Annex D), in sequential organisation or in random access, all headers and then all data (D.2).
 -- `file_at` takes a file's bytes and gives its header (D.4) and its segments. `SpellsFile` is the way back.
-use Rattle.std.specs.{Prelude.{◌≡◌, ℕ, suc, zero, Bool, true, false, ◌==◌, List, [], ◌∷◌, ◌++◌, length, Some, Result, Ok, Err, if◌then◌else◌, ◌/◌, ◌%◌, not, Option, None}, List.{flat_map}, Int.{w8, w32}, Str.{bytes_eq}}
-use Rattle.jbig2_base.specs.{Answer.{◌>>=◌, refuse_if}, Reading.{is_strict, is_salvaged}, Segment.{Header, SegmentView, header_at, segment_data_at}, Sequential.{by_number, is_end_of_file, sequential}, declared.{error.{DecodeError.{DecodeError, TheVariants.{Format}}, FormatError.TheVariants.{InvalidHeader, ReservedBits}}, file_header.{FileHeader.{FileHeader}, FileOrganization.{FileOrganization, TheVariants.{Sequential, RandomAccess}}}, reading.Reading.{Reading}}, Fields.{bytes_at, number_at}}
+use Rattle.std.specs.Prelude.{◌≡◌, ℕ, suc, zero, Bool, true, false, ◌==◌, List, [], ◌∷◌, ◌++◌, length, Some, Result, Ok}
+use Rattle.std.specs.Prelude.{Err, if◌then◌else◌, ◌/◌, ◌%◌, not, Option, None}
+use Rattle.std.specs.List.{flat_map}
+use Rattle.std.specs.Int.{w8, w32}
+use Rattle.std.specs.Str.{bytes_eq}
+use Rattle.jbig2_base.specs.Answer.{◌>>=◌, refuse_if}
+use Rattle.jbig2_base.specs.Reading.{is_strict, is_salvaged}
+use Rattle.jbig2_base.specs.Segment.{Header, SegmentView, header_at, segment_data_at}
+use Rattle.jbig2_base.specs.Sequential.{by_number, is_end_of_file, sequential}
+use Rattle.jbig2_base.specs.declared.error.DecodeError.{DecodeError}
+use Rattle.jbig2_base.specs.declared.error.DecodeError.TheVariants.{Format}
+use Rattle.jbig2_base.specs.declared.error.FormatError.TheVariants.{InvalidHeader, ReservedBits}
+use Rattle.jbig2_base.specs.declared.file_header.FileHeader.{FileHeader}
+use Rattle.jbig2_base.specs.declared.file_header.FileOrganization.{FileOrganization}
+use Rattle.jbig2_base.specs.declared.file_header.FileOrganization.TheVariants.{Sequential, RandomAccess}
+use Rattle.jbig2_base.specs.declared.reading.Reading.{Reading}
+use Rattle.jbig2_base.specs.Fields.{bytes_at, number_at}
 
 abbrev pub identification : List ℕ  -- the bytes that each file begins with (D.4.1)
 identification = 151 ∷ 74 ∷ 66 ∷ 50 ∷ 13 ∷ 10 ∷ 26 ∷ 10 ∷ []

@@ -1,8 +1,14 @@
 -- Bitmaps (T.88, 6): a width, a height and a pixel at each pair of whole numbers, white outside. `grid_of` makes one
 -- of a function of column and row, and `pixel` takes it apart again. Parts are cut out of them for symbols (6.5.9),
 -- patterns (6.7.5) and refinements (7.4.7.4); some sizes are refused (our own rule).
-use Rattle.std.specs.{Prelude.{ℕ, ◌+◌, ◌*◌, ◌/◌, ◌%◌, Bool, true, false, not, ◌&&◌, if◌then◌else◌, nat_lt, List, map, slice_index_or, ℤ, pos, ◌||◌, Result, Ok}, List.{range_with_len}}
-use Rattle.jbig2_base.specs.{Answer.{◌>>=◌, refuse_if}, declared.{bitmap.part.Area.{Area}, error.{DecodeError.{DecodeError, TheVariants.{Overflow}}, OverflowError.TheVariants.{BitmapDimension}}}}
+use Rattle.std.specs.Prelude.{ℕ, ◌+◌, ◌*◌, ◌/◌, ◌%◌, Bool, true, false, not, ◌&&◌, if◌then◌else◌, nat_lt, List, map}
+use Rattle.std.specs.Prelude.{slice_index_or, ℤ, pos, ◌||◌, Result, Ok}
+use Rattle.std.specs.List.{range_with_len}
+use Rattle.jbig2_base.specs.Answer.{◌>>=◌, refuse_if}
+use Rattle.jbig2_base.specs.declared.bitmap.part.Area.{Area}
+use Rattle.jbig2_base.specs.declared.error.DecodeError.{DecodeError}
+use Rattle.jbig2_base.specs.declared.error.DecodeError.TheVariants.{Overflow}
+use Rattle.jbig2_base.specs.declared.error.OverflowError.TheVariants.{BitmapDimension}
 
 pub record Grid : Type 0 where  -- the pixels stand row by row from the top, each row from the left; `true` is black
   pub width : ℕ

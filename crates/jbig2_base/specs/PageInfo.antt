@@ -1,8 +1,23 @@
 -- Page information (T.88, 7.4.8), and what a page begins as. `information_at` takes bytes and gives the fields;
 -- `initial_page_of` takes a page's segments and gives its number, size and colour, by the first page information
 -- among them, and by its stripes (7.4.10) where that leaves the height open.
-use Rattle.std.specs.{Prelude.{ℕ, ◌+◌, ◌/◌, ◌%◌, ◌==◌, max, nat_lt, Bool, true, false, not, ◌&&◌, ◌||◌, List, [], ◌∷◌, length, take, Result, Ok, Err, if◌then◌else◌}, Int.{w8, w16, w32, from_be_bytes}}
-use Rattle.jbig2_base.specs.{Answer.{◌>>=◌, refuse_if}, Bits.{nonzero}, Fields.{number_at}, Segment.{SegmentView}, declared.{bitmap.operator.CombinationOperator.{CombinationOperator, TheVariants.{Or, And, Xor, Xnor}}, error.{DecodeError.{DecodeError, TheVariants.{Format, Overflow}}, FormatError.TheVariants.{MissingPageInfo, UnknownPageHeight, EmptyPage}, OverflowError.TheVariants.{BitmapDimension}}, page_info.{PageFlags.{PageFlags}, PageInformation.{PageInformation}, InitialPage.{InitialPage}}, segment.SegmentType.{SegmentType}}}
+use Rattle.std.specs.Prelude.{ℕ, ◌+◌, ◌/◌, ◌%◌, ◌==◌, max, nat_lt, Bool, true, false, not, ◌&&◌, ◌||◌, List, [], ◌∷◌}
+use Rattle.std.specs.Prelude.{length, take, Result, Ok, Err, if◌then◌else◌}
+use Rattle.std.specs.Int.{w8, w16, w32, from_be_bytes}
+use Rattle.jbig2_base.specs.Answer.{◌>>=◌, refuse_if}
+use Rattle.jbig2_base.specs.Bits.{nonzero}
+use Rattle.jbig2_base.specs.Fields.{number_at}
+use Rattle.jbig2_base.specs.Segment.{SegmentView}
+use Rattle.jbig2_base.specs.declared.bitmap.operator.CombinationOperator.{CombinationOperator}
+use Rattle.jbig2_base.specs.declared.bitmap.operator.CombinationOperator.TheVariants.{Or, And, Xor, Xnor}
+use Rattle.jbig2_base.specs.declared.error.DecodeError.{DecodeError}
+use Rattle.jbig2_base.specs.declared.error.DecodeError.TheVariants.{Format, Overflow}
+use Rattle.jbig2_base.specs.declared.error.FormatError.TheVariants.{MissingPageInfo, UnknownPageHeight, EmptyPage}
+use Rattle.jbig2_base.specs.declared.error.OverflowError.TheVariants.{BitmapDimension}
+use Rattle.jbig2_base.specs.declared.page_info.PageFlags.{PageFlags}
+use Rattle.jbig2_base.specs.declared.page_info.PageInformation.{PageInformation}
+use Rattle.jbig2_base.specs.declared.page_info.InitialPage.{InitialPage}
+use Rattle.jbig2_base.specs.declared.segment.SegmentType.{SegmentType}
 use Rattle.jbig2_base.specs.declared.segment.SegmentType.TheVariants as types
 
 abbrev pub default_operator_of : ℕ → CombinationOperator  -- the default operator by its two bits (7.4.8.5)

@@ -1,7 +1,10 @@
 -- How strictly bytes are read (our own rule). Strict reading refuses each fault; lenient reading passes over what a
 -- decoder can do without; salvage goes on as lenient reading does, and leaves out whatever that refuses.
 use Rattle.std.specs.Prelude.{Bool, true, false, Option, Some, None, Result, Err, if◌then◌else◌}
-use Rattle.jbig2_base.specs.declared.{error.DecodeError.{DecodeError, TheVariants.{OutOfMemory}}, reading.Reading.{Reading, TheVariants.{Strict, Lenient, Salvage}}}
+use Rattle.jbig2_base.specs.declared.error.DecodeError.{DecodeError}
+use Rattle.jbig2_base.specs.declared.error.DecodeError.TheVariants.{OutOfMemory}
+use Rattle.jbig2_base.specs.declared.reading.Reading.{Reading}
+use Rattle.jbig2_base.specs.declared.reading.Reading.TheVariants.{Strict, Lenient, Salvage}
 
 abbrev pub reading_of : Bool → Reading
 reading_of strict = if strict then Strict else Lenient

@@ -1,7 +1,19 @@
 -- Segments: their headers and their data (T.88, 7.2). `segment_at` takes the bytes at the beginning of a segment and
 -- gives the segment and the bytes after it, or the first fault.
-use Rattle.std.specs.{Prelude.{ℕ, suc, zero, ◌+◌, ◌*◌, ◌/◌, ◌%◌, ◌==◌, nat_le, nat_lt, Bool, true, false, not, ◌&&◌, ◌||◌, List, [], ◌∷◌, take, drop, length, slice_index, Option, Some, None, Result, Ok, Err, if◌then◌else◌}, List.{list_any}, Int.{Width, w8, w16, w32, byte_len, from_be_bytes}}
-use Rattle.jbig2_base.specs.{Answer.{◌>>=◌, refuse_if}, Fields.{bytes_at, number_at}, Search.{place_from}, declared.{error.{DecodeError.{DecodeError, TheVariants.{Segment}}, SegmentError.TheVariants.{UnknownType, InvalidReferredCount, InvalidReference, InvalidUnknownLength, MissingEndMarker}}, segment.SegmentType.{SegmentType}}}
+use Rattle.std.specs.Prelude.{ℕ, suc, zero, ◌+◌, ◌*◌, ◌/◌, ◌%◌, ◌==◌, nat_le, nat_lt, Bool, true, false, not, ◌&&◌}
+use Rattle.std.specs.Prelude.{◌||◌, List, [], ◌∷◌, take, drop, length, slice_index, Option, Some, None, Result, Ok, Err}
+use Rattle.std.specs.Prelude.{if◌then◌else◌}
+use Rattle.std.specs.List.{list_any}
+use Rattle.std.specs.Int.{Width, w8, w16, w32, byte_len, from_be_bytes}
+use Rattle.jbig2_base.specs.Answer.{◌>>=◌, refuse_if}
+use Rattle.jbig2_base.specs.Fields.{bytes_at, number_at}
+use Rattle.jbig2_base.specs.Search.{place_from}
+use Rattle.jbig2_base.specs.declared.error.DecodeError.{DecodeError}
+use Rattle.jbig2_base.specs.declared.error.DecodeError.TheVariants.{Segment}
+use Rattle.jbig2_base.specs.declared.error.SegmentError.TheVariants.{UnknownType, InvalidReferredCount}
+use Rattle.jbig2_base.specs.declared.error.SegmentError.TheVariants.{InvalidReference, InvalidUnknownLength}
+use Rattle.jbig2_base.specs.declared.error.SegmentError.TheVariants.{MissingEndMarker}
+use Rattle.jbig2_base.specs.declared.segment.SegmentType.{SegmentType}
 use Rattle.jbig2_base.specs.declared.segment.SegmentType.TheVariants as types
 
 pub record Header : Type 0 where  -- a segment's header (7.2.2 to 7.2.7)

@@ -1,7 +1,15 @@
 -- Segments one after the other, header and data by turns: the sequential organisation of a file (T.88, D.1), and the
 -- embedded one (D.3), as PDF keeps pages and globals. Pages take them sorted.
-use Rattle.std.specs.Prelude.{ℕ, suc, zero, nat_lt, Bool, true, false, ◌==◌, List, [], ◌∷◌, length, Result, Ok, Err, if◌then◌else◌}
-use Rattle.jbig2_base.specs.{Answer.{◌>>=◌}, Reading.{is_strict, is_salvaged}, Segment.{SegmentView, segment_at}, declared.{error.DecodeError.{DecodeError, TheVariants.{Parse}}, reading.Reading.{Reading, TheVariants.{Lenient}}, segment.SegmentType.{SegmentType}}}
+use Rattle.std.specs.Prelude.{ℕ, suc, zero, nat_lt, Bool, true, false, ◌==◌, List, [], ◌∷◌, length, Result, Ok, Err}
+use Rattle.std.specs.Prelude.{if◌then◌else◌}
+use Rattle.jbig2_base.specs.Answer.{◌>>=◌}
+use Rattle.jbig2_base.specs.Reading.{is_strict, is_salvaged}
+use Rattle.jbig2_base.specs.Segment.{SegmentView, segment_at}
+use Rattle.jbig2_base.specs.declared.error.DecodeError.{DecodeError}
+use Rattle.jbig2_base.specs.declared.error.DecodeError.TheVariants.{Parse}
+use Rattle.jbig2_base.specs.declared.reading.Reading.{Reading}
+use Rattle.jbig2_base.specs.declared.reading.Reading.TheVariants.{Lenient}
+use Rattle.jbig2_base.specs.declared.segment.SegmentType.{SegmentType}
 use Rattle.jbig2_base.specs.declared.segment.SegmentType.TheVariants as types
 
 abbrev pub is_end_of_file : SegmentType → Bool

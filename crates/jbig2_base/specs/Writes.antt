@@ -1,6 +1,7 @@
 -- Bitmaps after a write of some pixels (our own rule).
 use Rattle.std.specs.Prelude.{ℕ, ◌+◌, ◌-◌, ◌==◌, Bool, ◌&&◌, ◌||◌, nat_le, nat_lt, if◌then◌else◌}
-use Rattle.jbig2_base.specs.{Grid.{Grid, grid_of, pixel_at}, Bits.{bit}}
+use Rattle.jbig2_base.specs.Grid.{Grid, grid_of, pixel_at}
+use Rattle.jbig2_base.specs.Bits.{bit}
 
 -- black where it was black, and at column x of row y where `black` says so
 abbrev pub with_pixel : Grid → ℕ → ℕ → Bool → Grid

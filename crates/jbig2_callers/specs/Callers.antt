@@ -1,8 +1,19 @@
 -- What a PDF reader and a viewer ask for (our own rule), by the definitions of the library. A stream's or a file's
 -- bytes give a grid or an image. Both read leniently.
-use Rattle.std.specs.{Prelude.{◌≡◌, ◌⊎◌, ℕ, List, Option, Result, Ok, Err}, Option.{option_map_or}}
-use Rattle.jbig2_base.specs.{Answer.{◌>>=◌, some_or}, Grid.{Grid}, declared.{error.{DecodeError.{DecodeError, TheVariants.{Format, OutOfMemory}}, FormatError.TheVariants.{MissingPageInfo}}, reading.Reading.TheVariants.{Lenient}}}
-use Rattle.hayro_jbig2.specs.{Files.{book_at, page_of}, Image.{first_size, first_image, image_of_page}, Names.{globals_at, names_of, no_names}, Page.{embedded, grid_of_page}, declared.jbig2_decoder.jbig2_error.Jbig2Error.{Jbig2Error, TheVariants.{Io, Decode}}}
+use Rattle.std.specs.Prelude.{◌≡◌, ◌⊎◌, ℕ, List, Option, Result, Ok, Err}
+use Rattle.std.specs.Option.{option_map_or}
+use Rattle.jbig2_base.specs.Answer.{◌>>=◌, some_or}
+use Rattle.jbig2_base.specs.Grid.{Grid}
+use Rattle.jbig2_base.specs.declared.error.DecodeError.{DecodeError}
+use Rattle.jbig2_base.specs.declared.error.DecodeError.TheVariants.{Format, OutOfMemory}
+use Rattle.jbig2_base.specs.declared.error.FormatError.TheVariants.{MissingPageInfo}
+use Rattle.jbig2_base.specs.declared.reading.Reading.TheVariants.{Lenient}
+use Rattle.hayro_jbig2.specs.Files.{book_at, page_of}
+use Rattle.hayro_jbig2.specs.Image.{first_size, first_image, image_of_page}
+use Rattle.hayro_jbig2.specs.Names.{globals_at, names_of, no_names}
+use Rattle.hayro_jbig2.specs.Page.{embedded, grid_of_page}
+use Rattle.hayro_jbig2.specs.declared.jbig2_decoder.jbig2_error.Jbig2Error.{Jbig2Error}
+use Rattle.hayro_jbig2.specs.declared.jbig2_decoder.jbig2_error.Jbig2Error.TheVariants.{Io, Decode}
 
 -- the grid of a stream of a PDF file, with its globals where it has some
 abbrev pub grid_of_stream : Option (List ℕ) → List ℕ → Result Grid DecodeError

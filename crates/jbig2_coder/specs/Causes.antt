@@ -1,8 +1,16 @@
 -- Which rule the bits break where a read by a prefix code refuses them (docs/FORMAT.md), a line for each error.
 -- `Breaks..` takes a table and the bits, or a table's lines, and an error; the function that refuses cites it.
-use Rattle.std.specs.Prelude.{◌≡◌, ◌<◌, ◌≤◌, ◌⊎◌, ℕ, zero, suc, ◌+◌, ◌-◌, ◌*◌, ◌/◌, ◌^◌, true, false, if◌then◌else◌, List, [], length, drop, All, Any, Ok, ℤ, pos, negsuc, ◌+ℤ◌, int_lt}
-use Rattle.jbig2_base.specs.{Bits.{Place, bits_left, bits_on, number_after}, declared.error.{DecodeError.{DecodeError, TheVariants.{Parse, Huffman}}, ParseError.TheVariants.{UnexpectedEof}, HuffmanError.TheVariants.{InvalidCode, MissingTables, UnexpectedOob}}}
-use Rattle.jbig2_coder.specs.{CustomTable.{custom_header, custom_lines, range_lines}, PrefixCode.{Member, front_number, longest, moved, weight}, declared.huffman_table.{custom.Header.{Header}, line.TableLine.{TableLine}}}
+use Rattle.std.specs.Prelude.{◌≡◌, ◌<◌, ◌≤◌, ◌⊎◌, ℕ, zero, suc, ◌+◌, ◌-◌, ◌*◌, ◌/◌, ◌^◌, true, false, if◌then◌else◌}
+use Rattle.std.specs.Prelude.{List, [], length, drop, All, Any, Ok, ℤ, pos, negsuc, ◌+ℤ◌, int_lt}
+use Rattle.jbig2_base.specs.Bits.{Place, bits_left, bits_on, number_after}
+use Rattle.jbig2_base.specs.declared.error.DecodeError.{DecodeError}
+use Rattle.jbig2_base.specs.declared.error.DecodeError.TheVariants.{Parse, Huffman}
+use Rattle.jbig2_base.specs.declared.error.ParseError.TheVariants.{UnexpectedEof}
+use Rattle.jbig2_base.specs.declared.error.HuffmanError.TheVariants.{InvalidCode, MissingTables, UnexpectedOob}
+use Rattle.jbig2_coder.specs.CustomTable.{custom_header, custom_lines, range_lines}
+use Rattle.jbig2_coder.specs.PrefixCode.{Member, front_number, longest, moved, weight}
+use Rattle.jbig2_coder.specs.declared.huffman_table.custom.Header.{Header}
+use Rattle.jbig2_coder.specs.declared.huffman_table.line.TableLine.{TableLine}
 
 -- The sum of 2^-len over the codes exceeds 1 (B.3): more numbers of the greatest length lie under them than there are.
 abbrev pub AreCrowded : List TableLine → Type 0

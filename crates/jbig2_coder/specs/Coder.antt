@@ -1,8 +1,10 @@
 -- The arithmetic decoder (T.88, Annex E in the software conventions of Annex G), one shift at a time. The annexes
 -- differ where a byte from 80 to 8F follows a byte FF, which no encoder writes, and Annex G decides: in a fresh context
 -- the bytes FF 8F begin with the decision 0, where Annex E has 1.
-use Rattle.std.specs.Prelude.{ℕ, suc, zero, ◌+◌, ◌-◌, ◌*◌, ◌/◌, ◌%◌, ◌^◌, Bool, true, false, not, ◌&&◌, if◌then◌else◌, ◌==◌, nat_lt, nat_le, List, slice_index_or}
-use Rattle.jbig2_coder.specs.{Table.{row_of}, declared.arithmetic_decoder.registers.CodeRegister.{CodeRegister}}
+use Rattle.std.specs.Prelude.{ℕ, suc, zero, ◌+◌, ◌-◌, ◌*◌, ◌/◌, ◌%◌, ◌^◌, Bool, true, false, not, ◌&&◌, if◌then◌else◌}
+use Rattle.std.specs.Prelude.{◌==◌, nat_lt, nat_le, List, slice_index_or}
+use Rattle.jbig2_coder.specs.Table.{row_of}
+use Rattle.jbig2_coder.specs.declared.arithmetic_decoder.registers.CodeRegister.{CodeRegister}
 
 abbrev pub Context : Type 0  -- a row of Table E.1, and the symbol that is likely there
 Context = record { row : ℕ; likely : Bool }

@@ -1,8 +1,18 @@
 -- The lines that a custom table's bits spell (T.88, B.2). Each step takes a place in the bits and reads on from it.
 -- `custom_table` gives the code that the lines make, or the first error, and the place where the reader is left.
-use Rattle.std.specs.{Prelude.{◌≡◌, ◌⊎◌, ℕ, zero, suc, ◌+◌, ◌/◌, ◌%◌, ◌^◌, nat_lt, ◌==◌, List, [], ◌∷◌, ◌++◌, length, All, IfOk, Result, Ok, Err, if◌then◌else◌, ℤ, pos, ◌+ℤ◌, ◌-ℤ◌, int_lt}, Int.{w32, cast_signed}}
-use Rattle.jbig2_base.specs.{Answer.{◌>>=◌, some_or}, Bits.{Place, bits_left, bits_next, bits_on}, declared.error.{DecodeError.{DecodeError, TheVariants.{Parse, Huffman, OutOfMemory}}, ParseError.TheVariants.{UnexpectedEof}, HuffmanError.TheVariants.{InvalidCode}}}
-use Rattle.jbig2_coder.specs.{declared.huffman_table.{line.TableLine.{TableLine}, custom.Header.{Header}}, PrefixCode.{IsFree, Member, table_of, in_word}, Tables.{line, lower, upper, out_of_band, standard_codes, uniform}}
+use Rattle.std.specs.Prelude.{◌≡◌, ◌⊎◌, ℕ, zero, suc, ◌+◌, ◌/◌, ◌%◌, ◌^◌, nat_lt, ◌==◌, List, [], ◌∷◌, ◌++◌, length}
+use Rattle.std.specs.Prelude.{All, IfOk, Result, Ok, Err, if◌then◌else◌, ℤ, pos, ◌+ℤ◌, ◌-ℤ◌, int_lt}
+use Rattle.std.specs.Int.{w32, cast_signed}
+use Rattle.jbig2_base.specs.Answer.{◌>>=◌, some_or}
+use Rattle.jbig2_base.specs.Bits.{Place, bits_left, bits_next, bits_on}
+use Rattle.jbig2_base.specs.declared.error.DecodeError.{DecodeError}
+use Rattle.jbig2_base.specs.declared.error.DecodeError.TheVariants.{Parse, Huffman, OutOfMemory}
+use Rattle.jbig2_base.specs.declared.error.ParseError.TheVariants.{UnexpectedEof}
+use Rattle.jbig2_base.specs.declared.error.HuffmanError.TheVariants.{InvalidCode}
+use Rattle.jbig2_coder.specs.declared.huffman_table.line.TableLine.{TableLine}
+use Rattle.jbig2_coder.specs.declared.huffman_table.custom.Header.{Header}
+use Rattle.jbig2_coder.specs.PrefixCode.{IsFree, Member, table_of, in_word}
+use Rattle.jbig2_coder.specs.Tables.{line, lower, upper, out_of_band, standard_codes, uniform}
 
 abbrev pub Step : Type 0 → Type 0  -- a value or an error, each with the place where the reader is left
 Step A = Result (A × Place) (DecodeError × Place)

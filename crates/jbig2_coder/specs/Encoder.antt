@@ -1,8 +1,10 @@
 -- The arithmetic encoder (T.88, E.2), one shift at a time. A decision in its context takes the registers and the
 -- bytes so far on to the next; FLUSH ends the bytes. Whole lists of decisions come after it, and the law that the
 -- decoder of `Coder` reads them back.
-use Rattle.std.specs.Prelude.{ℕ, suc, zero, ◌+◌, ◌-◌, ◌*◌, ◌/◌, ◌%◌, ◌^◌, Bool, true, false, not, if◌then◌else◌, ◌==◌, nat_lt, nat_le, List, [], ◌∷◌, reverse, map, ◌≡◌}
-use Rattle.jbig2_coder.specs.{Table.{row_of}, Coder.{Context, likely_next, unlikely_next, Registers, fresh, decision, initial_registers}}
+use Rattle.std.specs.Prelude.{ℕ, suc, zero, ◌+◌, ◌-◌, ◌*◌, ◌/◌, ◌%◌, ◌^◌, Bool, true, false, not, if◌then◌else◌, ◌==◌}
+use Rattle.std.specs.Prelude.{nat_lt, nat_le, List, [], ◌∷◌, reverse, map, ◌≡◌}
+use Rattle.jbig2_coder.specs.Table.{row_of}
+use Rattle.jbig2_coder.specs.Coder.{Context, likely_next, unlikely_next, Registers, fresh, decision, initial_registers}
 
 abbrev pub Writer : Type 0  -- C, the shifts before the next byte goes out (CT), and the bytes out, last first
 Writer = record { register : ℕ; wait : ℕ; out : List ℕ }

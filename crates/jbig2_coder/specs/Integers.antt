@@ -1,9 +1,15 @@
 -- Integers and symbol ids (T.88, Annex A): decisions whose contexts the bits read so far name. A reading takes the
 -- coder's registers and a procedure's contexts, and gives a value or out of band with both as they are then. `asked`
 -- takes the name of a procedure (6.4, 6.5), whose contexts go on from integer to integer.
-use Rattle.std.specs.Prelude.{ℕ, suc, zero, ◌+◌, ◌-◌, ◌*◌, ◌%◌, ◌^◌, Bool, true, false, not, ◌&&◌, if◌then◌else◌, ◌==◌, nat_lt, List, [], ◌∷◌, ◌++◌, length, drop, slice_index_or, slice_set, Some, None, Option, ℤ, pos, ◌-ℤ◌, replicate}
+use Rattle.std.specs.Prelude.{ℕ, suc, zero, ◌+◌, ◌-◌, ◌*◌, ◌%◌, ◌^◌, Bool, true, false, not, ◌&&◌, if◌then◌else◌, ◌==◌}
+use Rattle.std.specs.Prelude.{nat_lt, List, [], ◌∷◌, ◌++◌, length, drop, slice_index_or, slice_set, Some, None, Option}
+use Rattle.std.specs.Prelude.{ℤ, pos, ◌-ℤ◌, replicate}
 use Rattle.jbig2_base.specs.Grid.{bit_number}
-use Rattle.jbig2_coder.specs.{Coder.{Context, Decision, Registers, fresh, decision, Coder}, declared.integer_procedures.IntegerProcedure.{IntegerProcedure, TheVariants.{Iaai, Iadh, Iads, Iadt, Iadw, Iaex, Iafs, Iait, Iardh, Iardw, Iardx, Iardy, Iari}}}
+use Rattle.jbig2_coder.specs.Coder.{Context, Decision, Registers, fresh, decision, Coder}
+use Rattle.jbig2_coder.specs.declared.integer_procedures.IntegerProcedure.{IntegerProcedure}
+use Rattle.jbig2_coder.specs.declared.integer_procedures.IntegerProcedure.TheVariants.{Iaai, Iadh, Iads, Iadt, Iadw}
+use Rattle.jbig2_coder.specs.declared.integer_procedures.IntegerProcedure.TheVariants.{Iaex, Iafs, Iait, Iardh, Iardw}
+use Rattle.jbig2_coder.specs.declared.integer_procedures.IntegerProcedure.TheVariants.{Iardx, Iardy, Iari}
 
 unfoldable pub value_of_bits : List Bool → ℕ  -- the number that bits spell, the high bit first
 value_of_bits [] = 0

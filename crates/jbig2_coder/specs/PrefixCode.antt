@@ -1,7 +1,16 @@
 -- Prefix codes (T.88, B.3 and B.4). `prefix_code` takes lines and gives the codes that their prefix lengths make;
 -- `decoded_value` takes these and bits, and gives a value or an error and how many bits are taken.
-use Rattle.std.specs.Prelude.{◌≡◌, AllPairs, ℕ, zero, suc, ◌+◌, ◌-◌, ◌/◌, ◌^◌, ◌≤◌, nat_lt, nat_le, ◌==◌, Bool, false, not, ◌&&◌, ◌||◌, List, [], ◌∷◌, ◌++◌, length, take, drop, max, filter, All, Option, Some, None, is_some, Result, Ok, Err, if◌then◌else◌, ℤ, pos, ◌+ℤ◌, ◌-ℤ◌}
-use Rattle.jbig2_base.specs.{Bits.{Place, bits_left, bits_next, bits_on, number_after}, Search.{place_from}, Answer.{◌>>=◌}, declared.error.{DecodeError.{DecodeError, TheVariants.{Parse, Huffman}}, ParseError.TheVariants.{UnexpectedEof}, HuffmanError.TheVariants.{InvalidCode, UnexpectedOob}}, Fields.{word_or}}
+use Rattle.std.specs.Prelude.{◌≡◌, AllPairs, ℕ, zero, suc, ◌+◌, ◌-◌, ◌/◌, ◌^◌, ◌≤◌, nat_lt, nat_le, ◌==◌, Bool, false}
+use Rattle.std.specs.Prelude.{not, ◌&&◌, ◌||◌, List, [], ◌∷◌, ◌++◌, length, take, drop, max, filter, All, Option, Some}
+use Rattle.std.specs.Prelude.{None, is_some, Result, Ok, Err, if◌then◌else◌, ℤ, pos, ◌+ℤ◌, ◌-ℤ◌}
+use Rattle.jbig2_base.specs.Bits.{Place, bits_left, bits_next, bits_on, number_after}
+use Rattle.jbig2_base.specs.Search.{place_from}
+use Rattle.jbig2_base.specs.Answer.{◌>>=◌}
+use Rattle.jbig2_base.specs.declared.error.DecodeError.{DecodeError}
+use Rattle.jbig2_base.specs.declared.error.DecodeError.TheVariants.{Parse, Huffman}
+use Rattle.jbig2_base.specs.declared.error.ParseError.TheVariants.{UnexpectedEof}
+use Rattle.jbig2_base.specs.declared.error.HuffmanError.TheVariants.{InvalidCode, UnexpectedOob}
+use Rattle.jbig2_base.specs.Fields.{word_or}
 use Rattle.jbig2_coder.specs.declared.huffman_table.line.TableLine.{TableLine}
 
 -- A code: how many bits it has, the number that they spell, high bit first, and the line that it stands for.

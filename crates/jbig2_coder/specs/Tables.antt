@@ -3,8 +3,11 @@
 -- `standard` and `next_custom` are what a segment selects (7.4.2.1.6, 7.4.3.1.6): a table, and the custom ones that
 -- are left.
 use Rattle.std.specs.Prelude.{ℕ, zero, suc, true, false, List, [], ◌∷◌, ◌++◌, map, ℤ, pos, negsuc, Result, Ok, Err}
-use Rattle.jbig2_coder.specs.{declared.huffman_table.line.TableLine.{TableLine}, PrefixCode.{Member, prefix_code}}
-use Rattle.jbig2_base.specs.declared.error.{DecodeError.{DecodeError, TheVariants.{Huffman}}, HuffmanError.TheVariants.{MissingTables}}
+use Rattle.jbig2_coder.specs.declared.huffman_table.line.TableLine.{TableLine}
+use Rattle.jbig2_coder.specs.PrefixCode.{Member, prefix_code}
+use Rattle.jbig2_base.specs.declared.error.DecodeError.{DecodeError}
+use Rattle.jbig2_base.specs.declared.error.DecodeError.TheVariants.{Huffman}
+use Rattle.jbig2_base.specs.declared.error.HuffmanError.TheVariants.{MissingTables}
 
 abbrev pub minus : ℕ → ℤ
 minus zero = pos 0

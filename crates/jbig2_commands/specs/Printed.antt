@@ -1,9 +1,25 @@
 -- What a run prints (our own rule), what standard error is told of it, and its status. `printed` takes the mode, the task
 -- and a file's bytes, and gives the bytes to be printed, or the fault; `RunEnds`, the last, is the statement of `run`.
-use Rattle.std.specs.{Prelude.{◌≡◌, ◌⊎◌, ℕ, Bool, true, List, [], ◌++◌, Option, Some, None, IfSome, IsTrue, ok_or, Result, Ok, Err, codes, if◌then◌else◌}, Fmt.{decimal}, Io.KnownBytes.{Appends, Keeps}, List.{flat_map}, Str.Parse.{digits_value}}
-use Rattle.jbig2_base.specs.{Answer.{◌>>=◌}, ErrorTexts.{error_text}, Grid.{Grid}, Reading.{reading_of}, declared.error.DecodeError.{DecodeError, TheVariants.{OutOfMemory}}}
-use Rattle.hayro_jbig2.specs.{Calls.{Call, Pixel, Chunk, Line, calls_of}, Files.{ReadFile, book_at, page_of, pages_of}, Image.{packed_of_page}, Names.{no_names}, Page.{ReadPage, embedded, grid_of_page}}
-use Rattle.jbig2_commands.specs.{Words.{Task, Pages, Embedded, Calls, Pbm}, declared.fault.Fault.{Fault, TheVariants.{Decode, NoSuchPage, Unreadable, Unwritable}}}
+use Rattle.std.specs.Prelude.{◌≡◌, ◌⊎◌, ℕ, Bool, true, List, [], ◌++◌, Option, Some, None, IfSome, IsTrue, ok_or}
+use Rattle.std.specs.Prelude.{Result, Ok, Err, codes, if◌then◌else◌}
+use Rattle.std.specs.Fmt.{decimal}
+use Rattle.std.specs.Io.KnownBytes.{Appends, Keeps}
+use Rattle.std.specs.List.{flat_map}
+use Rattle.std.specs.Str.Parse.{digits_value}
+use Rattle.jbig2_base.specs.Answer.{◌>>=◌}
+use Rattle.jbig2_base.specs.ErrorTexts.{error_text}
+use Rattle.jbig2_base.specs.Grid.{Grid}
+use Rattle.jbig2_base.specs.Reading.{reading_of}
+use Rattle.jbig2_base.specs.declared.error.DecodeError.{DecodeError}
+use Rattle.jbig2_base.specs.declared.error.DecodeError.TheVariants.{OutOfMemory}
+use Rattle.hayro_jbig2.specs.Calls.{Call, Pixel, Chunk, Line, calls_of}
+use Rattle.hayro_jbig2.specs.Files.{ReadFile, book_at, page_of, pages_of}
+use Rattle.hayro_jbig2.specs.Image.{packed_of_page}
+use Rattle.hayro_jbig2.specs.Names.{no_names}
+use Rattle.hayro_jbig2.specs.Page.{ReadPage, embedded, grid_of_page}
+use Rattle.jbig2_commands.specs.Words.{Task, Pages, Embedded, Calls, Pbm}
+use Rattle.jbig2_commands.specs.declared.fault.Fault.{Fault}
+use Rattle.jbig2_commands.specs.declared.fault.Fault.TheVariants.{Decode, NoSuchPage, Unreadable, Unwritable}
 
 abbrev pub page_line : ReadPage → List ℕ  -- a page's number, width and height
 page_line page = decimal page.initial_page.number ++ codes " " ++ decimal page.initial_page.width ++ codes " " ++ decimal page.initial_page.height ++ codes "\n"

@@ -1,6 +1,9 @@
 -- The words of a run (our own rule): [--strict] pages|embedded FILE, or [--strict] calls|pbm FILE INDEX. `request_of`
 -- takes the words and gives the mode, the task and the file, or None for all others.
-use Rattle.std.specs.{Prelude.{ℕ, ◌==◌, nat_le, Bool, true, false, not, ◌&&◌, List, [], ◌∷◌, length, Option, Some, None, option_map, if◌then◌else◌, codes}, List.{list_all}, Str.{bytes_eq}}
+use Rattle.std.specs.Prelude.{ℕ, ◌==◌, nat_le, Bool, true, false, not, ◌&&◌, List, [], ◌∷◌, length, Option, Some, None}
+use Rattle.std.specs.Prelude.{option_map, if◌then◌else◌, codes}
+use Rattle.std.specs.List.{list_all}
+use Rattle.std.specs.Str.{bytes_eq}
 
 unfoldable pub is_strict : List ℕ → Bool
 is_strict word = bytes_eq word (codes "--strict")

@@ -1,10 +1,23 @@
 -- Which rule the input breaks where patterns or a halftone region are refused (docs/FORMAT.md), a line for each
 -- error. `Breaks..` takes the bytes of a segment, or its header and what it refers to, and an error; the function that
 -- refuses cites it.
-use Rattle.std.specs.{Prelude.{◌≡◌, ◌<◌, ◌≤◌, ◌⊎◌, ℕ, zero, suc, ◌+◌, ◌-◌, ◌*◌, ◌/◌, ◌%◌, true, List, length, drop, Ok}, Int.{w8, w32}}
-use Rattle.jbig2_base.specs.{Causes.{number_in}, Grid.{Grid}, declared.error.{DecodeError.{DecodeError, TheVariants.{Overflow, Parse, Region, Unsupported}}, OverflowError.TheVariants.{BitmapDimension, GridDimension}, ParseError.TheVariants.{UnexpectedEof}, RegionError.TheVariants.{GrayScaleOutOfRange, InvalidCombinationOperator, InvalidMmrData}}}
-use Rattle.jbig2_mmr.specs.{Causes.{BreaksMmr}, T6.{rows_of}}
-use Rattle.jbig2_halftone.specs.{GrayScale.{GrayScale, gray_value, planes_of}, Halftone.{gray_params}, HalftoneHeader.{HalftoneHeader}, PatternHeader.{PatternHeader}, Patterns.{Patterns}}
+use Rattle.std.specs.Prelude.{◌≡◌, ◌<◌, ◌≤◌, ◌⊎◌, ℕ, zero, suc, ◌+◌, ◌-◌, ◌*◌, ◌/◌, ◌%◌, true, List, length, drop, Ok}
+use Rattle.std.specs.Int.{w8, w32}
+use Rattle.jbig2_base.specs.Causes.{number_in}
+use Rattle.jbig2_base.specs.Grid.{Grid}
+use Rattle.jbig2_base.specs.declared.error.DecodeError.{DecodeError}
+use Rattle.jbig2_base.specs.declared.error.DecodeError.TheVariants.{Overflow, Parse, Region, Unsupported}
+use Rattle.jbig2_base.specs.declared.error.OverflowError.TheVariants.{BitmapDimension, GridDimension}
+use Rattle.jbig2_base.specs.declared.error.ParseError.TheVariants.{UnexpectedEof}
+use Rattle.jbig2_base.specs.declared.error.RegionError.TheVariants.{GrayScaleOutOfRange, InvalidCombinationOperator}
+use Rattle.jbig2_base.specs.declared.error.RegionError.TheVariants.{InvalidMmrData}
+use Rattle.jbig2_mmr.specs.Causes.{BreaksMmr}
+use Rattle.jbig2_mmr.specs.T6.{rows_of}
+use Rattle.jbig2_halftone.specs.GrayScale.{GrayScale, gray_value, planes_of}
+use Rattle.jbig2_halftone.specs.Halftone.{gray_params}
+use Rattle.jbig2_halftone.specs.HalftoneHeader.{HalftoneHeader}
+use Rattle.jbig2_halftone.specs.PatternHeader.{PatternHeader}
+use Rattle.jbig2_halftone.specs.Patterns.{Patterns}
 
 -- A pattern dictionary's header has seven bytes: flags, the width and the height of a pattern, GRAYMAX.
 abbrev pub BreaksPatternHeader : List ℕ → DecodeError → Type 0

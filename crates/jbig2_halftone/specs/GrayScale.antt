@@ -1,9 +1,21 @@
 -- Gray-scale images (T.88, Annex C): a value for each pixel, coded as bit planes from the highest on. The definition
 -- `gray_scale_image` takes the parameters of Table C.1 and the coded bytes, and gives the values, or an error.
-use Rattle.std.specs.{Prelude.{ℕ, zero, suc, ◌+◌, ◌-◌, ◌*◌, ◌/◌, ◌%◌, nat_lt, Bool, false, ◌&&◌, ◌||◌, if◌then◌else◌, List, [], ◌∷◌, length, take, drop, map, Option, Result, Ok}, List.{range_with_len}}
-use Rattle.{jbig2_base.specs.{Answer.{◌>>=◌, refuse_if}, Grid.{Grid, pixel_at, differ}, declared.error.{DecodeError.{DecodeError, TheVariants.{Overflow}}, OverflowError.TheVariants.{BitmapDimension}}}, jbig2_mmr.specs.T6.{mmr_rows}}
+use Rattle.std.specs.Prelude.{ℕ, zero, suc, ◌+◌, ◌-◌, ◌*◌, ◌/◌, ◌%◌, nat_lt, Bool, false, ◌&&◌, ◌||◌, if◌then◌else◌}
+use Rattle.std.specs.Prelude.{List, [], ◌∷◌, length, take, drop, map, Option, Result, Ok}
+use Rattle.std.specs.List.{range_with_len}
+use Rattle.jbig2_base.specs.Answer.{◌>>=◌, refuse_if}
+use Rattle.jbig2_base.specs.Grid.{Grid, pixel_at, differ}
+use Rattle.jbig2_base.specs.declared.error.DecodeError.{DecodeError}
+use Rattle.jbig2_base.specs.declared.error.DecodeError.TheVariants.{Overflow}
+use Rattle.jbig2_base.specs.declared.error.OverflowError.TheVariants.{BitmapDimension}
+use Rattle.jbig2_mmr.specs.T6.{mmr_rows}
 use Rattle.jbig2_coder.specs.Coder.{Context, initial_registers}
-use Rattle.jbig2_region.specs.{Generic.{number_of, skipping_coding}, Raster.{Region, so_far, decoded_region, no_pixels, fresh_contexts}, Templates.{context_bits, left, right, template_pixels}, declared.template.{AdaptiveTemplatePixel.{AdaptiveTemplatePixel}, Template.{Template, TheVariants.{Template0, Template1}}}}
+use Rattle.jbig2_region.specs.Generic.{number_of, skipping_coding}
+use Rattle.jbig2_region.specs.Raster.{Region, so_far, decoded_region, no_pixels, fresh_contexts}
+use Rattle.jbig2_region.specs.Templates.{context_bits, left, right, template_pixels}
+use Rattle.jbig2_region.specs.declared.template.AdaptiveTemplatePixel.{AdaptiveTemplatePixel}
+use Rattle.jbig2_region.specs.declared.template.Template.{Template}
+use Rattle.jbig2_region.specs.declared.template.Template.TheVariants.{Template0, Template1}
 
 pub record GrayScale : Type 0 where  -- what an image's coded bytes are decoded by (Table C.1)
   pub use_mmr : Bool

@@ -1,10 +1,22 @@
 -- Halftone regions (T.88, 6.6): patterns drawn at the places of a grid, which may stand at an angle. The header and
 -- the patterns give the region with its place on the page, or an error.
-use Rattle.std.specs.{Prelude.{ℕ, ◌+◌, ◌-◌, ◌*◌, ◌/◌, ◌%◌, nat_lt, Bool, false, not, ◌&&◌, ◌||◌, if◌then◌else◌, ℤ, pos, ◌+ℤ◌, ◌-ℤ◌, int_le, List, [], ◌∷◌, length, slice_index_or, Option, Some, None, Result, Ok, Err}, Int.{int_shr}}
-use Rattle.jbig2_base.specs.{Answer.{◌>>=◌, refuse_if}, Combination.{combined}, Grid.{Grid, grid_of, blank}, declared.error.{DecodeError.{DecodeError, TheVariants.{Overflow, Region}}, OverflowError.TheVariants.{BitmapDimension}, RegionError.TheVariants.{GrayScaleOutOfRange}}, Search.{code_length}}
+use Rattle.std.specs.Prelude.{ℕ, ◌+◌, ◌-◌, ◌*◌, ◌/◌, ◌%◌, nat_lt, Bool, false, not, ◌&&◌, ◌||◌, if◌then◌else◌, ℤ, pos}
+use Rattle.std.specs.Prelude.{◌+ℤ◌, ◌-ℤ◌, int_le, List, [], ◌∷◌, length, slice_index_or, Option, Some, None, Result, Ok}
+use Rattle.std.specs.Prelude.{Err}
+use Rattle.std.specs.Int.{int_shr}
+use Rattle.jbig2_base.specs.Answer.{◌>>=◌, refuse_if}
+use Rattle.jbig2_base.specs.Combination.{combined}
+use Rattle.jbig2_base.specs.Grid.{Grid, grid_of, blank}
+use Rattle.jbig2_base.specs.declared.error.DecodeError.{DecodeError}
+use Rattle.jbig2_base.specs.declared.error.DecodeError.TheVariants.{Overflow, Region}
+use Rattle.jbig2_base.specs.declared.error.OverflowError.TheVariants.{BitmapDimension}
+use Rattle.jbig2_base.specs.declared.error.RegionError.TheVariants.{GrayScaleOutOfRange}
+use Rattle.jbig2_base.specs.Search.{code_length}
 use Rattle.jbig2_coder.specs.Coder.{Context}
 use Rattle.jbig2_region.specs.RegionInfo.{PlacedRegion, placed}
-use Rattle.jbig2_halftone.specs.{GrayScale.{GrayScale, gray_scale_image, gray_contexts}, HalftoneHeader.{HalftoneHeader}, Patterns.{Patterns}}
+use Rattle.jbig2_halftone.specs.GrayScale.{GrayScale, gray_scale_image, gray_contexts}
+use Rattle.jbig2_halftone.specs.HalftoneHeader.{HalftoneHeader}
+use Rattle.jbig2_halftone.specs.Patterns.{Patterns}
 
 -- where the pattern of cell (m, n) stands, row m and column n of the grid (6.6.5.2): parts of 256, rounded down
 abbrev pub column_of : HalftoneHeader → ℕ → ℕ → ℤ

@@ -1,8 +1,13 @@
 -- The data of a pattern dictionary segment up to its coded bytes (T.88, 7.4.4): flags, a pattern's sides and GRAYMAX.
 -- The bytes give the header, and the coded bytes stand after it.
-use Rattle.std.specs.{Prelude.{ℕ, ◌≡◌, ◌/◌, ◌%◌, ◌==◌, Bool, List, Result, Ok}, Int.{w8, w32}}
-use Rattle.jbig2_base.specs.{Answer.{◌>>=◌, refuse_if}, Grid.{Grid}, Fields.{number_at, end_of_bytes}, declared.error.DecodeError.{DecodeError}}
-use Rattle.jbig2_region.specs.{Templates.{template_of}, declared.template.Template.{Template}}
+use Rattle.std.specs.Prelude.{ℕ, ◌≡◌, ◌/◌, ◌%◌, ◌==◌, Bool, List, Result, Ok}
+use Rattle.std.specs.Int.{w8, w32}
+use Rattle.jbig2_base.specs.Answer.{◌>>=◌, refuse_if}
+use Rattle.jbig2_base.specs.Grid.{Grid}
+use Rattle.jbig2_base.specs.Fields.{number_at, end_of_bytes}
+use Rattle.jbig2_base.specs.declared.error.DecodeError.{DecodeError}
+use Rattle.jbig2_region.specs.Templates.{template_of}
+use Rattle.jbig2_region.specs.declared.template.Template.{Template}
 
 -- What a dictionary's coded bytes are decoded by. There is one pattern more than GRAYMAX says (7.4.4.1.4).
 pub record PatternHeader : Type 0 where

@@ -1,9 +1,20 @@
 -- Pattern dictionaries (T.88, 6.7): the patterns stand side by side in one collective bitmap, a generic region. The
 -- header with the coded bytes gives the list of the patterns' grids, one for each gray value.
-use Rattle.std.specs.{Prelude.{ℕ, ◌+◌, ◌*◌, nat_lt, Bool, true, false, if◌then◌else◌, List, [], ◌∷◌, map, Result, Ok}, List.{range_with_len}}
-use Rattle.jbig2_base.specs.{Answer.{refuse_if, ◌>>=◌}, Grid.{Grid, part_of}, declared.{bitmap.operator.CombinationOperator.TheVariants.{Or}, error.{DecodeError.{DecodeError, TheVariants.{Overflow}}, OverflowError.TheVariants.{BitmapDimension}}}}
+use Rattle.std.specs.Prelude.{ℕ, ◌+◌, ◌*◌, nat_lt, Bool, true, false, if◌then◌else◌, List, [], ◌∷◌, map, Result, Ok}
+use Rattle.std.specs.List.{range_with_len}
+use Rattle.jbig2_base.specs.Answer.{refuse_if, ◌>>=◌}
+use Rattle.jbig2_base.specs.Grid.{Grid, part_of}
+use Rattle.jbig2_base.specs.declared.bitmap.operator.CombinationOperator.TheVariants.{Or}
+use Rattle.jbig2_base.specs.declared.error.DecodeError.{DecodeError}
+use Rattle.jbig2_base.specs.declared.error.DecodeError.TheVariants.{Overflow}
+use Rattle.jbig2_base.specs.declared.error.OverflowError.TheVariants.{BitmapDimension}
 use Rattle.jbig2_coder.specs.Coder.{Context}
-use Rattle.jbig2_region.specs.{Generic.{generic_answer, contexts_after}, GenericHeader.{GenericHeader}, Templates.{left, right}, declared.template.{AdaptiveTemplatePixel.{AdaptiveTemplatePixel}, Template.{Template, TheVariants.{Template0}}}}
+use Rattle.jbig2_region.specs.Generic.{generic_answer, contexts_after}
+use Rattle.jbig2_region.specs.GenericHeader.{GenericHeader}
+use Rattle.jbig2_region.specs.Templates.{left, right}
+use Rattle.jbig2_region.specs.declared.template.AdaptiveTemplatePixel.{AdaptiveTemplatePixel}
+use Rattle.jbig2_region.specs.declared.template.Template.{Template}
+use Rattle.jbig2_region.specs.declared.template.Template.TheVariants.{Template0}
 use Rattle.jbig2_halftone.specs.PatternHeader.{PatternHeader}
 
 pub record Patterns : Type 0 where  -- the patterns of a dictionary, which have one size

@@ -2,12 +2,22 @@
 -- read, values that are taken out of them by lanes of eight pixels, patterns that are drawn and patterns that are cut out.
 -- Each `Counts..` takes an image, a region or a dictionary, and the counts before and after it. `Stops..` is the same for one
 -- that is refused: what was done until then is no more than a part of what `Counts..` counts.
-use Rattle.std.specs.Prelude.{ℕ, zero, suc, ◌≡◌, ◌≤◌, ◌+◌, ◌*◌, ◌/◌, ◌%◌, true, false, if◌then◌else◌, List, length, None, is_some, ◌⊎◌}
+use Rattle.std.specs.Prelude.{ℕ, zero, suc, ◌≡◌, ◌≤◌, ◌+◌, ◌*◌, ◌/◌, ◌%◌, true, false, if◌then◌else◌, List, length}
+use Rattle.std.specs.Prelude.{None, is_some, ◌⊎◌}
 use Rattle.jbig2_steps.specs.Work.{price_of_bitmap}
 use Rattle.jbig2_base.specs.Counts.{WritesWithin, overlap, most_words, words_copied, Counts, KeepsLanes}
 use Rattle.jbig2_mmr.specs.Steps.{MovesWithin}
-use Rattle.jbig2_region.specs.{Generic.{coding_of}, GenericSteps.{CountsGeneric}, Raster.{no_pixels}, Steps.{coded_runs, row_loads, row_tests, row_words, kept_pixels, skipping_loads, skipping_words}, Templates.{template_pixels}}
-use Rattle.jbig2_halftone.specs.{GrayScale.{GrayScale, nominal_pixels, after_planes}, Halftone.{column_of, gray_params, row_of, skip_mask}, HalftoneHeader.{HalftoneHeader}, PatternHeader.{PatternHeader}, Patterns.{Patterns, collective_header}}
+use Rattle.jbig2_region.specs.Generic.{coding_of}
+use Rattle.jbig2_region.specs.GenericSteps.{CountsGeneric}
+use Rattle.jbig2_region.specs.Raster.{no_pixels}
+use Rattle.jbig2_region.specs.Steps.{coded_runs, row_loads, row_tests, row_words, kept_pixels, skipping_loads}
+use Rattle.jbig2_region.specs.Steps.{skipping_words}
+use Rattle.jbig2_region.specs.Templates.{template_pixels}
+use Rattle.jbig2_halftone.specs.GrayScale.{GrayScale, nominal_pixels, after_planes}
+use Rattle.jbig2_halftone.specs.Halftone.{column_of, gray_params, row_of, skip_mask}
+use Rattle.jbig2_halftone.specs.HalftoneHeader.{HalftoneHeader}
+use Rattle.jbig2_halftone.specs.PatternHeader.{PatternHeader}
+use Rattle.jbig2_halftone.specs.Patterns.{Patterns, collective_header}
 
 -- how many run bytes the highest planes have, where no pixel is skipped
 unfoldable pub plane_runs : GrayScale → List ℕ → ℕ → ℕ

@@ -1,8 +1,14 @@
 -- Which rule of T.6 the bits break where strict mode refuses MMR data (docs/FORMAT.md). `BreaksMmr` takes the size,
 -- the bytes and an error, and says which row is missing or at fault; `mmr::decode` says that its own error has this cause.
-use Rattle.std.specs.Prelude.{◌≡◌, ◌<◌, ◌≤◌, ◌⊎◌, ℕ, zero, suc, ◌+◌, Bool, true, false, not, List, [], length, All, Some, ℤ, pos, ◌+ℤ◌, ◌<ℤ◌}
-use Rattle.jbig2_base.specs.declared.error.{DecodeError.{DecodeError, TheVariants.{Region}}, RegionError.TheVariants.{InvalidMmrData}}
-use Rattle.jbig2_mmr.specs.{T6.{Head, Step, b1_of, begins, bits_of, ends_block, next_step, pixel_of, read_code, row, row_start, run, runs_of}, T6Codes.{modes}, declared.mmr.codes.Mode.TheVariants.{Horizontal, Vertical}}
+use Rattle.std.specs.Prelude.{◌≡◌, ◌<◌, ◌≤◌, ◌⊎◌, ℕ, zero, suc, ◌+◌, Bool, true, false, not, List, [], length, All}
+use Rattle.std.specs.Prelude.{Some, ℤ, pos, ◌+ℤ◌, ◌<ℤ◌}
+use Rattle.jbig2_base.specs.declared.error.DecodeError.{DecodeError}
+use Rattle.jbig2_base.specs.declared.error.DecodeError.TheVariants.{Region}
+use Rattle.jbig2_base.specs.declared.error.RegionError.TheVariants.{InvalidMmrData}
+use Rattle.jbig2_mmr.specs.T6.{Head, Step, b1_of, begins, bits_of, ends_block, next_step, pixel_of, read_code, row}
+use Rattle.jbig2_mmr.specs.T6.{row_start, run, runs_of}
+use Rattle.jbig2_mmr.specs.T6Codes.{modes}
+use Rattle.jbig2_mmr.specs.declared.mmr.codes.Mode.TheVariants.{Horizontal, Vertical}
 
 abbrev pub BeginNone : {A : Type 0} → List (A × List ℕ) → List ℕ → Type 0  -- no word of the table begins the bits
 BeginNone words bits = All (λ c. begins c.1 bits ≡ false) words

@@ -1,6 +1,7 @@
 -- How many loads and words decoding counts at most (our own rule; no part of the format).
 use Rattle.std.specs.Prelude.{◌≡◌, ℕ, ◌+◌, ◌≤◌, Result, Ok, Err}
-use Rattle.jbig2_base.specs.{Counts.{Counts}, declared.error.DecodeError.{DecodeError}}
+use Rattle.jbig2_base.specs.Counts.{Counts}
+use Rattle.jbig2_base.specs.declared.error.DecodeError.{DecodeError}
 
 -- at most this many loads and words together, and no decision and no run test
 pub record MovesWithin (most : ℕ) (old new : Counts) : Type 0 where

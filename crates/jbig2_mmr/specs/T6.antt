@@ -1,9 +1,19 @@
 -- Two-dimensional coding of bitmaps by ITU-T T.6 (2.2), which T.88 calls MMR (6.2.6). Modes and runs say where a
 -- row's changing elements lie against the row above it, its reference row. `mmr_rows`, at the end, takes a width, a
 -- height and bytes, and gives the bitmap and how many bytes it took, or an error.
-use Rattle.std.specs.{Prelude.{ℕ, zero, suc, ◌+◌, ◌-◌, ◌/◌, ◌%◌, ◌==◌, ℤ, pos, negsuc, ◌+ℤ◌, Bool, true, false, not, ◌&&◌, ◌||◌, nat_le, nat_lt, List, [], ◌∷◌, ◌++◌, length, take, drop, filter, slice_index_or, Option, Some, None, Result, Ok, Err, if◌then◌else◌}, List.{flat_map, list_all}}
-use Rattle.jbig2_base.specs.{Bits.{byte_bits, number_after}, Grid.{Grid, grid_of, differ}, Search.{place_from}, declared.error.{DecodeError.{DecodeError, TheVariants.{Region}}, RegionError.TheVariants.{InvalidMmrData}}}
-use Rattle.jbig2_mmr.specs.{declared.mmr.codes.Mode.{Mode, TheVariants.{Pass, Horizontal, Vertical}}, T6Codes.{modes, white_runs, black_runs}}
+use Rattle.std.specs.Prelude.{ℕ, zero, suc, ◌+◌, ◌-◌, ◌/◌, ◌%◌, ◌==◌, ℤ, pos, negsuc, ◌+ℤ◌, Bool, true, false, not}
+use Rattle.std.specs.Prelude.{◌&&◌, ◌||◌, nat_le, nat_lt, List, [], ◌∷◌, ◌++◌, length, take, drop, filter}
+use Rattle.std.specs.Prelude.{slice_index_or, Option, Some, None, Result, Ok, Err, if◌then◌else◌}
+use Rattle.std.specs.List.{flat_map, list_all}
+use Rattle.jbig2_base.specs.Bits.{byte_bits, number_after}
+use Rattle.jbig2_base.specs.Grid.{Grid, grid_of, differ}
+use Rattle.jbig2_base.specs.Search.{place_from}
+use Rattle.jbig2_base.specs.declared.error.DecodeError.{DecodeError}
+use Rattle.jbig2_base.specs.declared.error.DecodeError.TheVariants.{Region}
+use Rattle.jbig2_base.specs.declared.error.RegionError.TheVariants.{InvalidMmrData}
+use Rattle.jbig2_mmr.specs.declared.mmr.codes.Mode.{Mode}
+use Rattle.jbig2_mmr.specs.declared.mmr.codes.Mode.TheVariants.{Pass, Horizontal, Vertical}
+use Rattle.jbig2_mmr.specs.T6Codes.{modes, white_runs, black_runs}
 
 infixl 10 ◌>>=◌
 -- the next step, unless the last one was a fault

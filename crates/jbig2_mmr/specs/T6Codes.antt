@@ -1,7 +1,8 @@
 -- The code tables of ITU-T T.6 (tables 1 to 3): each line is a mode or the length of a run, and the code word that
 -- stands for it. `modes` lists the first, the lists of runs the others, to be compared with the tables line by line.
 use Rattle.std.specs.Prelude.{ℕ, ◌-◌, pos, ◌-ℤ◌, List, [], ◌∷◌, map, codes}
-use Rattle.jbig2_mmr.specs.declared.mmr.codes.Mode.{Mode, TheVariants.{Pass, Horizontal, Vertical}}
+use Rattle.jbig2_mmr.specs.declared.mmr.codes.Mode.{Mode}
+use Rattle.jbig2_mmr.specs.declared.mmr.codes.Mode.TheVariants.{Pass, Horizontal, Vertical}
 
 abbrev pub word : List ℕ → List ℕ  -- the bits that a text of 0s and 1s spells
 word text = map (λ c. c - 48) text

@@ -1,8 +1,19 @@
 -- Which rule the bytes break where a header or a region is refused (docs/FORMAT.md), a line for each error. A
 -- predicate `Breaks..` takes the bytes, or two regions, and an error; the function that refuses cites it.
-use Rattle.std.specs.{Prelude.{◌≡◌, ◌<◌, ◌≤◌, ◌⊎◌, ℕ, ◌+◌, ◌-◌, ◌*◌, ◌/◌, ◌%◌, ◌^◌, ◌==◌, Bool, true, if◌then◌else◌, List, length, ℤ, pos, ◌<ℤ◌, ◌≤ℤ◌}, Int.{w8, w32, cast_signed}}
-use Rattle.jbig2_base.specs.{Causes.{number_in}, declared.error.{DecodeError.{DecodeError}, OverflowError.TheVariants.{BitmapDimension, ReferenceOffset}, ParseError.TheVariants.{UnexpectedEof}, RegionError.TheVariants.{InvalidCombinationOperator, InvalidDimension}, TemplateError.TheVariants.{InvalidAtPixel}}}
-use Rattle.jbig2_region.specs.{RefinementTemplates.{refinement_pixel_count}, RegionInfo.{PlacedRegion}, Templates.{adaptive_pixel_count, template_of}, declared.{region_info.RegionSegmentInfo.{RegionSegmentInfo}, template.{RefinementTemplate.{RefinementTemplate}}}}
+use Rattle.std.specs.Prelude.{◌≡◌, ◌<◌, ◌≤◌, ◌⊎◌, ℕ, ◌+◌, ◌-◌, ◌*◌, ◌/◌, ◌%◌, ◌^◌, ◌==◌, Bool, true, if◌then◌else◌}
+use Rattle.std.specs.Prelude.{List, length, ℤ, pos, ◌<ℤ◌, ◌≤ℤ◌}
+use Rattle.std.specs.Int.{w8, w32, cast_signed}
+use Rattle.jbig2_base.specs.Causes.{number_in}
+use Rattle.jbig2_base.specs.declared.error.DecodeError.{DecodeError}
+use Rattle.jbig2_base.specs.declared.error.OverflowError.TheVariants.{BitmapDimension, ReferenceOffset}
+use Rattle.jbig2_base.specs.declared.error.ParseError.TheVariants.{UnexpectedEof}
+use Rattle.jbig2_base.specs.declared.error.RegionError.TheVariants.{InvalidCombinationOperator, InvalidDimension}
+use Rattle.jbig2_base.specs.declared.error.TemplateError.TheVariants.{InvalidAtPixel}
+use Rattle.jbig2_region.specs.RefinementTemplates.{refinement_pixel_count}
+use Rattle.jbig2_region.specs.RegionInfo.{PlacedRegion}
+use Rattle.jbig2_region.specs.Templates.{adaptive_pixel_count, template_of}
+use Rattle.jbig2_region.specs.declared.region_info.RegionSegmentInfo.{RegionSegmentInfo}
+use Rattle.jbig2_region.specs.declared.template.RefinementTemplate.{RefinementTemplate}
 use Rattle.jbig2_base.specs.declared.error.DecodeError.TheVariants as errors
 
 -- ---- region information (7.4.1): the two sides and the place, four bytes each, and the flags

@@ -1,11 +1,19 @@
 -- Generic regions (T.88, 6.2): coded by the arithmetic coder in the contexts of a template, or by MMR; some pixels
 -- may be skipped (USESKIP). `generic_decoded` takes the header with the coded bytes and gives the grid at its place;
 -- `contexts_after` says what the contexts have learned.
-use Rattle.std.specs.Prelude.{ℕ, ◌+◌, ◌*◌, Bool, false, if◌then◌else◌, List, [], ◌∷◌, map, Option, Some, None, pos, negsuc, ◌+ℤ◌, Result, Ok}
-use Rattle.jbig2_base.specs.{Answer.{◌>>=◌}, Grid.{Grid, pixel, pixel_at, bit_number}, declared.error.DecodeError.{DecodeError}}
+use Rattle.std.specs.Prelude.{ℕ, ◌+◌, ◌*◌, Bool, false, if◌then◌else◌, List, [], ◌∷◌, map, Option, Some, None, pos}
+use Rattle.std.specs.Prelude.{negsuc, ◌+ℤ◌, Result, Ok}
+use Rattle.jbig2_base.specs.Answer.{◌>>=◌}
+use Rattle.jbig2_base.specs.Grid.{Grid, pixel, pixel_at, bit_number}
+use Rattle.jbig2_base.specs.declared.error.DecodeError.{DecodeError}
 use Rattle.jbig2_coder.specs.Coder.{Context, initial_registers}
 use Rattle.jbig2_mmr.specs.T6.{mmr_rows, grid_of_rows, rows_of}
-use Rattle.jbig2_region.specs.{GenericHeader.{GenericHeader}, Raster.{Coding, Region, so_far, decoded_region, no_pixels, fresh_contexts}, RegionInfo.{placed, PlacedRegion}, Templates.{context_bits, row_context, template_pixels}, declared.template.{AdaptiveTemplatePixel.{AdaptiveTemplatePixel}, Template.{Template}}}
+use Rattle.jbig2_region.specs.GenericHeader.{GenericHeader}
+use Rattle.jbig2_region.specs.Raster.{Coding, Region, so_far, decoded_region, no_pixels, fresh_contexts}
+use Rattle.jbig2_region.specs.RegionInfo.{placed, PlacedRegion}
+use Rattle.jbig2_region.specs.Templates.{context_bits, row_context, template_pixels}
+use Rattle.jbig2_region.specs.declared.template.AdaptiveTemplatePixel.{AdaptiveTemplatePixel}
+use Rattle.jbig2_region.specs.declared.template.Template.{Template}
 
 abbrev pub number_of : List Bool → ℕ  -- the number that bits spell, bit 0 first
 number_of [] = 0

@@ -1,8 +1,19 @@
 -- The data of a generic region segment up to its coded bytes (T.88, 7.4.6): region information, flags and adaptive
 -- pixels. The bytes give the header, and the coded bytes stand after it.
-use Rattle.std.specs.{Prelude.{ℕ, ◌-◌, ◌/◌, ◌%◌, ◌≤◌, ◌==◌, nat_lt, Bool, true, false, ◌||◌, List, length, take, drop, Result, Ok}, Int.{w8, w32}}
-use Rattle.jbig2_base.specs.{Answer.{refuse_if, ◌>>=◌}, Fields.{number_at}, declared.error.{DecodeError.{DecodeError}, OverflowError.TheVariants.{BitmapDimension}, RegionError.TheVariants.{InvalidDimension}}}
-use Rattle.jbig2_region.specs.{RegionInfo.{region_info_at}, Templates.{adaptive_pixel_count, takes_extended, template_of, FitsTemplate, adaptive_pixels_at}, declared.{region_info.RegionSegmentInfo.{RegionSegmentInfo}, template.{Template.{Template}, AdaptiveTemplatePixel.{AdaptiveTemplatePixel}}}}
+use Rattle.std.specs.Prelude.{ℕ, ◌-◌, ◌/◌, ◌%◌, ◌≤◌, ◌==◌, nat_lt, Bool, true, false, ◌||◌, List, length, take, drop}
+use Rattle.std.specs.Prelude.{Result, Ok}
+use Rattle.std.specs.Int.{w8, w32}
+use Rattle.jbig2_base.specs.Answer.{refuse_if, ◌>>=◌}
+use Rattle.jbig2_base.specs.Fields.{number_at}
+use Rattle.jbig2_base.specs.declared.error.DecodeError.{DecodeError}
+use Rattle.jbig2_base.specs.declared.error.OverflowError.TheVariants.{BitmapDimension}
+use Rattle.jbig2_base.specs.declared.error.RegionError.TheVariants.{InvalidDimension}
+use Rattle.jbig2_region.specs.RegionInfo.{region_info_at}
+use Rattle.jbig2_region.specs.Templates.{adaptive_pixel_count, takes_extended, template_of, FitsTemplate}
+use Rattle.jbig2_region.specs.Templates.{adaptive_pixels_at}
+use Rattle.jbig2_region.specs.declared.region_info.RegionSegmentInfo.{RegionSegmentInfo}
+use Rattle.jbig2_region.specs.declared.template.Template.{Template}
+use Rattle.jbig2_region.specs.declared.template.AdaptiveTemplatePixel.{AdaptiveTemplatePixel}
 use Rattle.jbig2_base.specs.declared.error.DecodeError.TheVariants as errors
 
 pub record GenericHeader : Type 0 where

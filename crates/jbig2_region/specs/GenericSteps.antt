@@ -4,7 +4,13 @@ use Rattle.std.specs.Prelude.{ℕ, ◌+◌, ◌*◌, ◌≡◌, Bool, true, fals
 use Rattle.jbig2_steps.specs.Work.{price_of_bitmap}
 use Rattle.jbig2_base.specs.Counts.{Counts}
 use Rattle.jbig2_coder.specs.Coder.{initial_registers}
-use Rattle.jbig2_region.specs.{Generic.{generic_coding}, GenericHeader.{GenericHeader}, Raster.{Coding, Region, no_pixels, fresh_contexts}, Steps.{CountsDecided, CountsRegion}, Templates.{adaptive_pixel_count, context_bits, is_nominal, template_pixels}, declared.template.{AdaptiveTemplatePixel.{AdaptiveTemplatePixel}, Template.{Template}}}
+use Rattle.jbig2_region.specs.Generic.{generic_coding}
+use Rattle.jbig2_region.specs.GenericHeader.{GenericHeader}
+use Rattle.jbig2_region.specs.Raster.{Coding, Region, no_pixels, fresh_contexts}
+use Rattle.jbig2_region.specs.Steps.{CountsDecided, CountsRegion}
+use Rattle.jbig2_region.specs.Templates.{adaptive_pixel_count, context_bits, is_nominal, template_pixels}
+use Rattle.jbig2_region.specs.declared.template.AdaptiveTemplatePixel.{AdaptiveTemplatePixel}
+use Rattle.jbig2_region.specs.declared.template.Template.{Template}
 
 abbrev pub read_pixels : Template → List AdaptiveTemplatePixel → ℕ
 read_pixels template a = if is_nominal template a then 0 else adaptive_pixel_count false false template

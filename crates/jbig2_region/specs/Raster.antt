@@ -1,6 +1,7 @@
 -- Regions that are decoded pixel by pixel, row by row from the top and each from the left (T.88, 6.2.5 and 6.3.5).
 -- `decoded_region` takes how a region is coded, its size, the coded bytes and a beginning, and gives what it becomes.
-use Rattle.std.specs.Prelude.{ℕ, suc, zero, ◌+◌, ◌*◌, ◌/◌, ◌%◌, ◌^◌, ◌==◌, Bool, false, if◌then◌else◌, List, [], ◌∷◌, ◌++◌, length, replicate, slice_index_or, slice_set, Option, Some, None}
+use Rattle.std.specs.Prelude.{ℕ, suc, zero, ◌+◌, ◌*◌, ◌/◌, ◌%◌, ◌^◌, ◌==◌, Bool, false, if◌then◌else◌, List, [], ◌∷◌}
+use Rattle.std.specs.Prelude.{◌++◌, length, replicate, slice_index_or, slice_set, Option, Some, None}
 use Rattle.jbig2_base.specs.Grid.{Grid, grid_of, differ}
 use Rattle.jbig2_coder.specs.Coder.{Context, Registers, fresh, decision}
 

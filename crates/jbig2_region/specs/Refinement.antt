@@ -1,9 +1,23 @@
 -- Refinements (T.88, 6.3): as generic regions, with templates that lie in two grids. `refined_decoded` takes the
 -- header and the region that is refined, and gives the refined one at its place on the page, or an error.
-use Rattle.std.specs.{Prelude.{ℕ, Bool, true, false, not, ◌||◌, nat_lt, nat_le, if◌then◌else◌, List, [], ◌∷◌, ◌++◌, map, Option, Some, None, ℤ, pos, negsuc, ◌+ℤ◌, ◌-ℤ◌, Result, Ok, is_ok}, List.{list_all}}
-use Rattle.jbig2_base.specs.{Answer.{◌>>=◌, refuse_if}, Grid.{Grid, pixel}, declared.error.{DecodeError.{DecodeError}, OverflowError.TheVariants.{ReferenceOffset}, RegionError.TheVariants.{InvalidDimension}}}
+use Rattle.std.specs.Prelude.{ℕ, Bool, true, false, not, ◌||◌, nat_lt, nat_le, if◌then◌else◌, List, [], ◌∷◌, ◌++◌, map}
+use Rattle.std.specs.Prelude.{Option, Some, None, ℤ, pos, negsuc, ◌+ℤ◌, ◌-ℤ◌, Result, Ok, is_ok}
+use Rattle.std.specs.List.{list_all}
+use Rattle.jbig2_base.specs.Answer.{◌>>=◌, refuse_if}
+use Rattle.jbig2_base.specs.Grid.{Grid, pixel}
+use Rattle.jbig2_base.specs.declared.error.DecodeError.{DecodeError}
+use Rattle.jbig2_base.specs.declared.error.OverflowError.TheVariants.{ReferenceOffset}
+use Rattle.jbig2_base.specs.declared.error.RegionError.TheVariants.{InvalidDimension}
 use Rattle.jbig2_coder.specs.Coder.{Context, initial_registers}
-use Rattle.jbig2_region.specs.{Generic.{number_of, region_pixel}, Raster.{Coding, Region, so_far, decoded_region, no_pixels, fresh_contexts}, RefinementHeader.{RefinementHeader}, RefinementTemplates.{apart, reference_pixels, refinement_row_context, region_pixels, refinement_bits}, RegionInfo.{PlacedRegion, placed}, declared.{region_info.RegionSegmentInfo.{RegionSegmentInfo}, template.{AdaptiveTemplatePixel.{AdaptiveTemplatePixel}, RefinementTemplate.{RefinementTemplate}}}}
+use Rattle.jbig2_region.specs.Generic.{number_of, region_pixel}
+use Rattle.jbig2_region.specs.Raster.{Coding, Region, so_far, decoded_region, no_pixels, fresh_contexts}
+use Rattle.jbig2_region.specs.RefinementHeader.{RefinementHeader}
+use Rattle.jbig2_region.specs.RefinementTemplates.{apart, reference_pixels, refinement_row_context, region_pixels}
+use Rattle.jbig2_region.specs.RefinementTemplates.{refinement_bits}
+use Rattle.jbig2_region.specs.RegionInfo.{PlacedRegion, placed}
+use Rattle.jbig2_region.specs.declared.region_info.RegionSegmentInfo.{RegionSegmentInfo}
+use Rattle.jbig2_region.specs.declared.template.AdaptiveTemplatePixel.{AdaptiveTemplatePixel}
+use Rattle.jbig2_region.specs.declared.template.RefinementTemplate.{RefinementTemplate}
 use Rattle.jbig2_base.specs.declared.error.DecodeError.TheVariants as errors
 
 -- What a region is refined from: a grid that lies dx columns to the right of the region and dy rows below it.

@@ -2,8 +2,12 @@
 -- `region_pixels` take a template and its adaptive pixels, and give the pixels of a context in either grid. After
 -- them stand the context of the decision that begins a row, and how a segment holds the adaptive pixels (7.4.7.3).
 use Rattle.std.specs.Prelude.{ℕ, ◌==◌, Bool, true, ◌&&◌, List, [], ◌∷◌, ℤ, pos, negsuc, Result, Ok, if◌then◌else◌}
-use Rattle.jbig2_base.specs.{declared.error.DecodeError.{DecodeError}, Answer.{◌>>=◌}}
-use Rattle.jbig2_region.specs.{Templates.{adaptive, free_pixel_at, lies_at}, declared.template.{AdaptiveTemplatePixel.{AdaptiveTemplatePixel}, RefinementTemplate.{RefinementTemplate, TheVariants.{Template0, Template1}}}}
+use Rattle.jbig2_base.specs.declared.error.DecodeError.{DecodeError}
+use Rattle.jbig2_base.specs.Answer.{◌>>=◌}
+use Rattle.jbig2_region.specs.Templates.{adaptive, free_pixel_at, lies_at}
+use Rattle.jbig2_region.specs.declared.template.AdaptiveTemplatePixel.{AdaptiveTemplatePixel}
+use Rattle.jbig2_region.specs.declared.template.RefinementTemplate.{RefinementTemplate}
+use Rattle.jbig2_region.specs.declared.template.RefinementTemplate.TheVariants.{Template0, Template1}
 
 abbrev pub refinement_template_of : ℕ → RefinementTemplate
 refinement_template_of n = if n == 0 then Template0 else Template1

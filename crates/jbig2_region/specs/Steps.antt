@@ -1,9 +1,18 @@
 -- What the step bounds of regions count (our own rule): decisions, run bytes, words and loads. Each
 -- `Counts..` takes how a region is coded, its size and its coded bytes, and the counts before and after it.
-use Rattle.std.specs.Prelude.{◌≡◌, ℕ, zero, suc, ◌+◌, ◌-◌, ◌*◌, ◌/◌, ◌%◌, ◌≤◌, ◌==◌, Bool, false, true, not, ◌&&◌, ◌||◌, nat_lt, if◌then◌else◌, List, ◌++◌, length, replicate, slice_index_or, is_none, Option}
-use Rattle.jbig2_base.specs.{Counts.{Counts, KeepsLanes}, Grid.{bit_number, same_colour, Grid}}
+use Rattle.std.specs.Prelude.{◌≡◌, ℕ, zero, suc, ◌+◌, ◌-◌, ◌*◌, ◌/◌, ◌%◌, ◌≤◌, ◌==◌, Bool, false, true, not, ◌&&◌, ◌||◌}
+use Rattle.std.specs.Prelude.{nat_lt, if◌then◌else◌, List, ◌++◌, length, replicate, slice_index_or, is_none, Option}
+use Rattle.jbig2_base.specs.Counts.{Counts, KeepsLanes}
+use Rattle.jbig2_base.specs.Grid.{bit_number, same_colour, Grid}
 use Rattle.jbig2_coder.specs.Coder.{fresh, all_quiet, initial_registers}
-use Rattle.jbig2_region.specs.{Generic.{context_at, number_of, is_skipped}, Raster.{Coding, Region, so_far, at_pixel, fresh_contexts, no_pixels, row_decisions}, Refinement.{reference_of, refinement_coding}, RefinementHeader.{RefinementHeader}, RefinementTemplates.{is_nominal, refinement_bits}, RegionInfo.{PlacedRegion}, declared.template.{AdaptiveTemplatePixel.{AdaptiveTemplatePixel}, RefinementTemplate.{RefinementTemplate}}}
+use Rattle.jbig2_region.specs.Generic.{context_at, number_of, is_skipped}
+use Rattle.jbig2_region.specs.Raster.{Coding, Region, so_far, at_pixel, fresh_contexts, no_pixels, row_decisions}
+use Rattle.jbig2_region.specs.Refinement.{reference_of, refinement_coding}
+use Rattle.jbig2_region.specs.RefinementHeader.{RefinementHeader}
+use Rattle.jbig2_region.specs.RefinementTemplates.{is_nominal, refinement_bits}
+use Rattle.jbig2_region.specs.RegionInfo.{PlacedRegion}
+use Rattle.jbig2_region.specs.declared.template.AdaptiveTemplatePixel.{AdaptiveTemplatePixel}
+use Rattle.jbig2_region.specs.declared.template.RefinementTemplate.{RefinementTemplate}
 
 unfoldable pub how_many : (ℕ → Bool) → ℕ → ℕ  -- how many of the first n places of a raster have a property
 how_many has zero = 0

@@ -1,9 +1,17 @@
 -- The templates of generic regions (T.88, 6.2.5.3, Figures 3 to 6, and the extended one). `template_pixels` takes a
 -- template and its adaptive pixels, and gives the pixels of a context. After it stand the context of the decision
 -- that begins a row, and how a segment holds the adaptive pixels (7.4.6.3).
-use Rattle.std.specs.{Prelude.{ℕ, ◌==◌, ◌≡◌, Bool, true, false, not, ◌&&◌, ◌||◌, ℤ, pos, negsuc, ◌-ℤ◌, int_lt, int_le, List, [], ◌∷◌, zero, suc, slice_index_or, if◌then◌else◌, Result, Ok}, Int.{w8}, Ordering.{int_eq}}
-use Rattle.jbig2_base.specs.{Answer.{refuse_if, ◌>>=◌}, Fields.{signed_at}, declared.error.{DecodeError.{DecodeError}, TemplateError.TheVariants.{InvalidAtPixel}}}
-use Rattle.jbig2_region.specs.declared.template.{AdaptiveTemplatePixel.{AdaptiveTemplatePixel}, Template.{Template, TheVariants.{Template0, Template1, Template2, Template3}}}
+use Rattle.std.specs.Prelude.{ℕ, ◌==◌, ◌≡◌, Bool, true, false, not, ◌&&◌, ◌||◌, ℤ, pos, negsuc, ◌-ℤ◌, int_lt, int_le}
+use Rattle.std.specs.Prelude.{List, [], ◌∷◌, zero, suc, slice_index_or, if◌then◌else◌, Result, Ok}
+use Rattle.std.specs.Int.{w8}
+use Rattle.std.specs.Ordering.{int_eq}
+use Rattle.jbig2_base.specs.Answer.{refuse_if, ◌>>=◌}
+use Rattle.jbig2_base.specs.Fields.{signed_at}
+use Rattle.jbig2_base.specs.declared.error.DecodeError.{DecodeError}
+use Rattle.jbig2_base.specs.declared.error.TemplateError.TheVariants.{InvalidAtPixel}
+use Rattle.jbig2_region.specs.declared.template.AdaptiveTemplatePixel.{AdaptiveTemplatePixel}
+use Rattle.jbig2_region.specs.declared.template.Template.{Template}
+use Rattle.jbig2_region.specs.declared.template.Template.TheVariants.{Template0, Template1, Template2, Template3}
 use Rattle.jbig2_base.specs.declared.error.DecodeError.TheVariants as errors
 
 abbrev pub template_of : ℕ → Template

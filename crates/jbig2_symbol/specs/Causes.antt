@@ -1,12 +1,38 @@
 -- Which rule is broken where a symbol dictionary is refused (T.88, 6.5 and 7.4.2; docs/FORMAT.md, 11), a line an error.
 -- The function that refuses cites its predicate `Breaks..`. An error that a reading gave stands as that reading's own (`IsOf`).
-use Rattle.std.specs.{Prelude.{◌≡◌, ◌≢◌, ◌⊎◌, ◌<◌, ◌≤◌, ℕ, ◌+◌, ◌-◌, ◌*◌, ◌/◌, ◌%◌, ◌==◌, max, ◌&&◌, Bool, false, IsTrue, IsFalse, if◌then◌else◌, List, [], ◌∷◌, length, take, Option, Some, None, Result, Ok, ℤ, pos, negsuc, ◌+ℤ◌}, Int.{w16, w32}}
-use Rattle.jbig2_base.specs.{Bits.{Place, aligned, bits_left}, Causes.{BreaksSides, InSteps, IsOf, number_in}, Grid.{Grid, bit_number}, declared.error.{DecodeError.{DecodeError}, OverflowError.TheVariants.{SymbolCount, BitmapDimension}, ParseError.TheVariants.{UnexpectedEof}, RegionError.TheVariants.{InvalidMmrData}, SymbolError.TheVariants.{Invalid, NoSymbols, OutOfRange, TooManySymbols, UnexpectedOob}, TemplateError.TheVariants.{InvalidAtPixel}}}
-use Rattle.jbig2_coder.specs.{PrefixCode.{Member}, declared.integer_procedures.IntegerProcedure.TheVariants.{Iaai}}
+use Rattle.std.specs.Prelude.{◌≡◌, ◌≢◌, ◌⊎◌, ◌<◌, ◌≤◌, ℕ, ◌+◌, ◌-◌, ◌*◌, ◌/◌, ◌%◌, ◌==◌, max, ◌&&◌, Bool, false, IsTrue}
+use Rattle.std.specs.Prelude.{IsFalse, if◌then◌else◌, List, [], ◌∷◌, length, take, Option, Some, None, Result, Ok, ℤ}
+use Rattle.std.specs.Prelude.{pos, negsuc, ◌+ℤ◌}
+use Rattle.std.specs.Int.{w16, w32}
+use Rattle.jbig2_base.specs.Bits.{Place, aligned, bits_left}
+use Rattle.jbig2_base.specs.Causes.{BreaksSides, InSteps, IsOf, number_in}
+use Rattle.jbig2_base.specs.Grid.{Grid, bit_number}
+use Rattle.jbig2_base.specs.declared.error.DecodeError.{DecodeError}
+use Rattle.jbig2_base.specs.declared.error.OverflowError.TheVariants.{SymbolCount, BitmapDimension}
+use Rattle.jbig2_base.specs.declared.error.ParseError.TheVariants.{UnexpectedEof}
+use Rattle.jbig2_base.specs.declared.error.RegionError.TheVariants.{InvalidMmrData}
+use Rattle.jbig2_base.specs.declared.error.SymbolError.TheVariants.{Invalid, NoSymbols, OutOfRange, TooManySymbols}
+use Rattle.jbig2_base.specs.declared.error.SymbolError.TheVariants.{UnexpectedOob}
+use Rattle.jbig2_base.specs.declared.error.TemplateError.TheVariants.{InvalidAtPixel}
+use Rattle.jbig2_coder.specs.PrefixCode.{Member}
+use Rattle.jbig2_coder.specs.declared.integer_procedures.IntegerProcedure.TheVariants.{Iaai}
 use Rattle.jbig2_mmr.specs.Causes.{BreaksMmr}
-use Rattle.jbig2_region.specs.{Causes.{BreaksPixels}, Templates.{adaptive_pixel_count, template_of}}
-use Rattle.jbig2_text.specs.{Causes.{Behind, BreaksInstances, NamesNone, ReadingCauses, RefusesValue, coder_causes, prefix_causes}, Refining.{Refining}, Text.{Readings, TextParams}, TextCoding.{Coded, Prefixed, by_coder, by_prefix_codes, next_id}}
-use Rattle.jbig2_symbol.specs.{Symbols.{export_runs, exported, next_run}, SymbolBitmaps.{aggregate_params, id_bits, instance_count, plain_id, prefixed_at, raw_stride}, SymbolHeader.{SymbolHeader}, SymbolReading.{BitmapContexts, ClassReadings, SymbolInput, SymbolReadings, SymbolState, by_procedure, by_table, is_refinement_template, is_template}, declared.symbol.header.{HuffmanTableSelection.{HuffmanTableSelection, TheVariants.{UserSupplied}}, SymbolDictionaryFlags.{SymbolDictionaryFlags}}}
+use Rattle.jbig2_region.specs.Causes.{BreaksPixels}
+use Rattle.jbig2_region.specs.Templates.{adaptive_pixel_count, template_of}
+use Rattle.jbig2_text.specs.Causes.{Behind, BreaksInstances, NamesNone, ReadingCauses, RefusesValue, coder_causes}
+use Rattle.jbig2_text.specs.Causes.{prefix_causes}
+use Rattle.jbig2_text.specs.Refining.{Refining}
+use Rattle.jbig2_text.specs.Text.{Readings, TextParams}
+use Rattle.jbig2_text.specs.TextCoding.{Coded, Prefixed, by_coder, by_prefix_codes, next_id}
+use Rattle.jbig2_symbol.specs.Symbols.{export_runs, exported, next_run}
+use Rattle.jbig2_symbol.specs.SymbolBitmaps.{aggregate_params, id_bits, instance_count, plain_id, prefixed_at}
+use Rattle.jbig2_symbol.specs.SymbolBitmaps.{raw_stride}
+use Rattle.jbig2_symbol.specs.SymbolHeader.{SymbolHeader}
+use Rattle.jbig2_symbol.specs.SymbolReading.{BitmapContexts, ClassReadings, SymbolInput, SymbolReadings, SymbolState}
+use Rattle.jbig2_symbol.specs.SymbolReading.{by_procedure, by_table, is_refinement_template, is_template}
+use Rattle.jbig2_symbol.specs.declared.symbol.header.HuffmanTableSelection.{HuffmanTableSelection}
+use Rattle.jbig2_symbol.specs.declared.symbol.header.HuffmanTableSelection.TheVariants.{UserSupplied}
+use Rattle.jbig2_symbol.specs.declared.symbol.header.SymbolDictionaryFlags.{SymbolDictionaryFlags}
 use Rattle.jbig2_base.specs.declared.error.DecodeError.TheVariants as errors
 use Rattle.jbig2_base.specs.declared.error.HuffmanError.TheVariants as huffman
 

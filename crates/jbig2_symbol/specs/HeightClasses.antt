@@ -1,7 +1,12 @@
 -- Height classes of a symbol dictionary (T.88, 6.5.5, step 4): the widths of symbols, symbols that are drawn one by one,
 -- and the classes. They go by the readings of a coding, and give the new symbols and the state after them.
-use Rattle.std.specs.Prelude.{ℕ, zero, suc, ◌+◌, ◌-◌, ◌==◌, nat_lt, nat_le, ◌&&◌, if◌then◌else◌, List, [], ◌∷◌, ◌++◌, length, Option, Some, None, Result, Ok, Err, ℤ, pos, negsuc, ◌+ℤ◌}
-use Rattle.jbig2_base.specs.{Answer.{◌>>=◌, refuse_if}, Grid.{Grid, bit_number}, declared.error.{DecodeError.{DecodeError}, OverflowError.TheVariants.{BitmapDimension}, SymbolError.TheVariants.{Invalid, TooManySymbols, UnexpectedOob}}}
+use Rattle.std.specs.Prelude.{ℕ, zero, suc, ◌+◌, ◌-◌, ◌==◌, nat_lt, nat_le, ◌&&◌, if◌then◌else◌, List, [], ◌∷◌, ◌++◌}
+use Rattle.std.specs.Prelude.{length, Option, Some, None, Result, Ok, Err, ℤ, pos, negsuc, ◌+ℤ◌}
+use Rattle.jbig2_base.specs.Answer.{◌>>=◌, refuse_if}
+use Rattle.jbig2_base.specs.Grid.{Grid, bit_number}
+use Rattle.jbig2_base.specs.declared.error.DecodeError.{DecodeError}
+use Rattle.jbig2_base.specs.declared.error.OverflowError.TheVariants.{BitmapDimension}
+use Rattle.jbig2_base.specs.declared.error.SymbolError.TheVariants.{Invalid, TooManySymbols, UnexpectedOob}
 use Rattle.jbig2_text.specs.TextCoding.{in_band}
 use Rattle.jbig2_symbol.specs.SymbolReading.{ClassReadings, SymbolInput, SymbolReadings}
 use Rattle.jbig2_base.specs.declared.error.DecodeError.TheVariants as errors

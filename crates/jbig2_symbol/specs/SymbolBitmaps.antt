@@ -1,12 +1,35 @@
 -- The bitmaps of a dictionary's symbols (T.88, 6.5.8 and 6.5.9): generic regions of their own, symbols refined or put
 -- together by the readings of text regions, or parts of a collective bitmap. Each goes on with the dictionary's state.
-use Rattle.std.specs.Prelude.{ℕ, suc, ◌+◌, ◌==◌, max, true, false, ◌&&◌, if◌then◌else◌, List, ◌++◌, length, Option, Some, None, Result, Ok, Err, ℤ, pos, ◌-◌, ◌*◌, ◌/◌, ◌%◌, nat_lt, Bool, ◌||◌, [], ◌∷◌, slice_index_or}
-use Rattle.jbig2_base.specs.{Answer.{◌>>=◌, refuse_if}, Bits.{Place, aligned, start_of, bit}, Fields.{end_of_bytes, bytes_at}, Grid.{Grid, blank, grid_of, part_or_overflow, wide_or_overflow}, Search.{code_length}, declared.{bitmap.operator.CombinationOperator.TheVariants.{Or}, error.{DecodeError.{DecodeError, TheVariants.{Symbol, Huffman, Overflow}}, SymbolError.TheVariants.{Invalid, UnexpectedOob}, OverflowError.TheVariants.{BitmapDimension}}}}
-use Rattle.jbig2_coder.specs.{PrefixCode.{Member, table_of}, Tables.{uniform}, declared.integer_procedures.IntegerProcedure.TheVariants.{Iaai}}
+use Rattle.std.specs.Prelude.{ℕ, suc, ◌+◌, ◌==◌, max, true, false, ◌&&◌, if◌then◌else◌, List, ◌++◌, length, Option}
+use Rattle.std.specs.Prelude.{Some, None, Result, Ok, Err, ℤ, pos, ◌-◌, ◌*◌, ◌/◌, ◌%◌, nat_lt, Bool, ◌||◌, [], ◌∷◌}
+use Rattle.std.specs.Prelude.{slice_index_or}
+use Rattle.jbig2_base.specs.Answer.{◌>>=◌, refuse_if}
+use Rattle.jbig2_base.specs.Bits.{Place, aligned, start_of, bit}
+use Rattle.jbig2_base.specs.Fields.{end_of_bytes, bytes_at}
+use Rattle.jbig2_base.specs.Grid.{Grid, blank, grid_of, part_or_overflow, wide_or_overflow}
+use Rattle.jbig2_base.specs.Search.{code_length}
+use Rattle.jbig2_base.specs.declared.bitmap.operator.CombinationOperator.TheVariants.{Or}
+use Rattle.jbig2_base.specs.declared.error.DecodeError.{DecodeError}
+use Rattle.jbig2_base.specs.declared.error.DecodeError.TheVariants.{Symbol, Huffman, Overflow}
+use Rattle.jbig2_base.specs.declared.error.SymbolError.TheVariants.{Invalid, UnexpectedOob}
+use Rattle.jbig2_base.specs.declared.error.OverflowError.TheVariants.{BitmapDimension}
+use Rattle.jbig2_coder.specs.PrefixCode.{Member, table_of}
+use Rattle.jbig2_coder.specs.Tables.{uniform}
+use Rattle.jbig2_coder.specs.declared.integer_procedures.IntegerProcedure.TheVariants.{Iaai}
 use Rattle.jbig2_mmr.specs.T6.{mmr_rows}
-use Rattle.jbig2_region.specs.{Generic.{coding_of}, Raster.{so_far, decoded_region, no_pixels}, Templates.{template_pixels}}
-use Rattle.jbig2_text.specs.{Refining.{Refining}, Text.{Readings, TextParams, some_symbol, symbol_of, text_region}, TextCoding.{Coded, Prefixed, by_coder, by_prefix_codes, next_id, prefixed_bits, in_band}, TextRegion.{aggregate_tables}, declared.text.header.{ReferenceCorner.TheVariants.{TopLeft}, TextRegionFlags.{TextRegionFlags}}}
-use Rattle.jbig2_symbol.specs.{SymbolHeader.{SymbolHeader}, SymbolReading.{SymbolContexts, SymbolInput, SymbolState, by_procedure, by_table, not_negative}, declared.symbol.header.SymbolDictionaryFlags.{SymbolDictionaryFlags}}
+use Rattle.jbig2_region.specs.Generic.{coding_of}
+use Rattle.jbig2_region.specs.Raster.{so_far, decoded_region, no_pixels}
+use Rattle.jbig2_region.specs.Templates.{template_pixels}
+use Rattle.jbig2_text.specs.Refining.{Refining}
+use Rattle.jbig2_text.specs.Text.{Readings, TextParams, some_symbol, symbol_of, text_region}
+use Rattle.jbig2_text.specs.TextCoding.{Coded, Prefixed, by_coder, by_prefix_codes, next_id, prefixed_bits, in_band}
+use Rattle.jbig2_text.specs.TextRegion.{aggregate_tables}
+use Rattle.jbig2_text.specs.declared.text.header.ReferenceCorner.TheVariants.{TopLeft}
+use Rattle.jbig2_text.specs.declared.text.header.TextRegionFlags.{TextRegionFlags}
+use Rattle.jbig2_symbol.specs.SymbolHeader.{SymbolHeader}
+use Rattle.jbig2_symbol.specs.SymbolReading.{SymbolContexts, SymbolInput, SymbolState, by_procedure, by_table}
+use Rattle.jbig2_symbol.specs.SymbolReading.{not_negative}
+use Rattle.jbig2_symbol.specs.declared.symbol.header.SymbolDictionaryFlags.{SymbolDictionaryFlags}
 use Rattle.jbig2_base.specs.declared.error.HuffmanError.TheVariants as huffman
 
 -- neither side of a symbol may pass 65535 (our own rule)

@@ -1,10 +1,17 @@
 -- The two ways in which symbol dictionaries are coded (T.88, 6.5; SDHUFF): by the arithmetic coder with its integer
 -- procedures, and by prefix codes. Each begins with the header and the contexts, and has its readings.
 use Rattle.std.specs.Prelude.{ℕ, ◌-◌, if◌then◌else◌, List, length, sum, Result, Ok}
-use Rattle.jbig2_base.specs.{Bits.{Place, start_of}, Grid.{Grid}, declared.error.DecodeError.{DecodeError}, Answer.{◌>>=◌}}
+use Rattle.jbig2_base.specs.Bits.{Place, start_of}
+use Rattle.jbig2_base.specs.Grid.{Grid}
+use Rattle.jbig2_base.specs.declared.error.DecodeError.{DecodeError}
+use Rattle.jbig2_base.specs.Answer.{◌>>=◌}
 use Rattle.jbig2_coder.specs.declared.integer_procedures.IntegerProcedure.TheVariants.{Iadh, Iadw, Iaex}
 use Rattle.jbig2_text.specs.TextCoding.{Coded, coded_start}
-use Rattle.jbig2_symbol.specs.{HeightClasses.{drawn_class, empty_class, widths_from}, SymbolBitmaps.{coded_aggregate, coded_symbol, collective_bitmap, prefixed_aggregate, state_bits, symbols_cut}, SymbolReading.{BitmapContexts, ClassReadings, SymbolInput, SymbolReadings, SymbolState, begun_contexts, by_procedure, by_table}}
+use Rattle.jbig2_symbol.specs.HeightClasses.{drawn_class, empty_class, widths_from}
+use Rattle.jbig2_symbol.specs.SymbolBitmaps.{coded_aggregate, coded_symbol, collective_bitmap, prefixed_aggregate}
+use Rattle.jbig2_symbol.specs.SymbolBitmaps.{state_bits, symbols_cut}
+use Rattle.jbig2_symbol.specs.SymbolReading.{BitmapContexts, ClassReadings, SymbolInput, SymbolReadings, SymbolState}
+use Rattle.jbig2_symbol.specs.SymbolReading.{begun_contexts, by_procedure, by_table}
 
 -- by the arithmetic coder, at the start of the bytes
 abbrev pub coder_begun : SymbolInput → BitmapContexts → SymbolState Coded

@@ -1,9 +1,20 @@
 -- The data of a symbol dictionary segment up to its coded bytes (T.88, 7.4.2.1): flags, the adaptive pixels, and the
 -- numbers of exported and of new symbols. The bytes give the header, and the coded bytes stand after it.
-use Rattle.std.specs.{Prelude.{ℕ, ◌/◌, ◌%◌, ◌==◌, nat_lt, Bool, false, ◌||◌, List, [], Result, Ok, Err, if◌then◌else◌}, Int.{w16, w32}}
-use Rattle.jbig2_base.specs.{Answer.{refuse_if, ◌>>=◌}, Fields.{number_at}, declared.error.{DecodeError.{DecodeError, TheVariants.{Huffman, Overflow}}, HuffmanError.TheVariants.{InvalidSelection}, OverflowError.TheVariants.{SymbolCount}}}
-use Rattle.jbig2_region.specs.{RefinementTemplates.{refinement_pixels_at, refinement_template_of}, Templates.{adaptive_pixel_count, adaptive_pixels_at, template_of}, declared.template.AdaptiveTemplatePixel.{AdaptiveTemplatePixel}}
-use Rattle.jbig2_symbol.specs.declared.symbol.header.{HuffmanTableSelection.{HuffmanTableSelection, TheVariants.{TableB1, TableB2, TableB3, TableB4, TableB5, UserSupplied}}, SymbolDictionaryFlags.{SymbolDictionaryFlags}}
+use Rattle.std.specs.Prelude.{ℕ, ◌/◌, ◌%◌, ◌==◌, nat_lt, Bool, false, ◌||◌, List, [], Result, Ok, Err, if◌then◌else◌}
+use Rattle.std.specs.Int.{w16, w32}
+use Rattle.jbig2_base.specs.Answer.{refuse_if, ◌>>=◌}
+use Rattle.jbig2_base.specs.Fields.{number_at}
+use Rattle.jbig2_base.specs.declared.error.DecodeError.{DecodeError}
+use Rattle.jbig2_base.specs.declared.error.DecodeError.TheVariants.{Huffman, Overflow}
+use Rattle.jbig2_base.specs.declared.error.HuffmanError.TheVariants.{InvalidSelection}
+use Rattle.jbig2_base.specs.declared.error.OverflowError.TheVariants.{SymbolCount}
+use Rattle.jbig2_region.specs.RefinementTemplates.{refinement_pixels_at, refinement_template_of}
+use Rattle.jbig2_region.specs.Templates.{adaptive_pixel_count, adaptive_pixels_at, template_of}
+use Rattle.jbig2_region.specs.declared.template.AdaptiveTemplatePixel.{AdaptiveTemplatePixel}
+use Rattle.jbig2_symbol.specs.declared.symbol.header.HuffmanTableSelection.{HuffmanTableSelection}
+use Rattle.jbig2_symbol.specs.declared.symbol.header.HuffmanTableSelection.TheVariants.{TableB1, TableB2, TableB3}
+use Rattle.jbig2_symbol.specs.declared.symbol.header.HuffmanTableSelection.TheVariants.{TableB4, TableB5, UserSupplied}
+use Rattle.jbig2_symbol.specs.declared.symbol.header.SymbolDictionaryFlags.{SymbolDictionaryFlags}
 
 pub record SymbolHeader : Type 0 where  -- what a dictionary's coded bytes are decoded by
   pub flags : SymbolDictionaryFlags

@@ -1,12 +1,30 @@
 -- What a symbol dictionary is read by (T.88, 6.5 and 7.4.2): its tables of prefix codes, and its contexts. A coding
 -- has readings, each from a state to what is read and the state after it; `SymbolCoding` has those of the two
 -- codings.
-use Rattle.std.specs.Prelude.{ℕ, Bool, true, false, not, ◌&&◌, if◌then◌else◌, List, Option, Result, Ok, Err, ℤ, pos, negsuc}
-use Rattle.jbig2_base.specs.{Answer.{◌>>=◌, refuse_if, some_or}, Bits.{Place, bits_left, bits_on}, Grid.{Grid}, declared.error.{DecodeError.{DecodeError}, SymbolError.TheVariants.{Invalid}}}
-use Rattle.jbig2_coder.specs.{Coder.{Context}, PrefixCode.{Member, decoded_value, prefix_code}, Tables.{next_custom, standard, lines_a, lines_b, lines_c, lines_d, lines_e}, declared.integer_procedures.IntegerProcedure.{IntegerProcedure}}
-use Rattle.jbig2_region.specs.{Raster.{fresh_contexts}, RefinementTemplates.{refinement_bits}, Templates.{context_bits}, declared.template.{RefinementTemplate.{RefinementTemplate}, Template.{Template, TheVariants.{Template0, Template1, Template2, Template3}}}}
-use Rattle.jbig2_text.specs.{Refining.{Refining}, TextCoding.{Coded, next_integer}}
-use Rattle.jbig2_symbol.specs.{SymbolHeader.{SymbolHeader}, declared.symbol.header.{HuffmanTableSelection.{HuffmanTableSelection, TheVariants.{TableB1, TableB2, TableB3, TableB4, TableB5, UserSupplied}}, SymbolDictionaryFlags.{SymbolDictionaryFlags}}}
+use Rattle.std.specs.Prelude.{ℕ, Bool, true, false, not, ◌&&◌, if◌then◌else◌, List, Option, Result, Ok, Err, ℤ, pos}
+use Rattle.std.specs.Prelude.{negsuc}
+use Rattle.jbig2_base.specs.Answer.{◌>>=◌, refuse_if, some_or}
+use Rattle.jbig2_base.specs.Bits.{Place, bits_left, bits_on}
+use Rattle.jbig2_base.specs.Grid.{Grid}
+use Rattle.jbig2_base.specs.declared.error.DecodeError.{DecodeError}
+use Rattle.jbig2_base.specs.declared.error.SymbolError.TheVariants.{Invalid}
+use Rattle.jbig2_coder.specs.Coder.{Context}
+use Rattle.jbig2_coder.specs.PrefixCode.{Member, decoded_value, prefix_code}
+use Rattle.jbig2_coder.specs.Tables.{next_custom, standard, lines_a, lines_b, lines_c, lines_d, lines_e}
+use Rattle.jbig2_coder.specs.declared.integer_procedures.IntegerProcedure.{IntegerProcedure}
+use Rattle.jbig2_region.specs.Raster.{fresh_contexts}
+use Rattle.jbig2_region.specs.RefinementTemplates.{refinement_bits}
+use Rattle.jbig2_region.specs.Templates.{context_bits}
+use Rattle.jbig2_region.specs.declared.template.RefinementTemplate.{RefinementTemplate}
+use Rattle.jbig2_region.specs.declared.template.Template.{Template}
+use Rattle.jbig2_region.specs.declared.template.Template.TheVariants.{Template0, Template1, Template2, Template3}
+use Rattle.jbig2_text.specs.Refining.{Refining}
+use Rattle.jbig2_text.specs.TextCoding.{Coded, next_integer}
+use Rattle.jbig2_symbol.specs.SymbolHeader.{SymbolHeader}
+use Rattle.jbig2_symbol.specs.declared.symbol.header.HuffmanTableSelection.{HuffmanTableSelection}
+use Rattle.jbig2_symbol.specs.declared.symbol.header.HuffmanTableSelection.TheVariants.{TableB1, TableB2, TableB3}
+use Rattle.jbig2_symbol.specs.declared.symbol.header.HuffmanTableSelection.TheVariants.{TableB4, TableB5, UserSupplied}
+use Rattle.jbig2_symbol.specs.declared.symbol.header.SymbolDictionaryFlags.{SymbolDictionaryFlags}
 use Rattle.jbig2_base.specs.declared.error.DecodeError.TheVariants as errors
 use Rattle.jbig2_region.specs.declared.template.RefinementTemplate.TheVariants as refinements
 

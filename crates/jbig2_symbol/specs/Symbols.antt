@@ -1,10 +1,21 @@
 -- Symbol dictionaries (T.88, 6.5), and the symbols that they export (6.5.10). `symbols_decoded` takes the header with
 -- the coded bytes, the symbols and tables that the dictionary refers to and the contexts that another has kept, and
 -- gives the exported symbols and the contexts that it keeps itself.
-use Rattle.std.specs.Prelude.{◌++◌, if◌then◌else◌, List, length, Option, Some, None, Result, Ok, ℕ, zero, suc, ◌+◌, ◌-◌, ◌%◌, ◌==◌, nat_le, nat_lt, not, ◌&&◌, [], ◌∷◌}
-use Rattle.jbig2_base.specs.{Answer.{◌>>=◌, refuse_if}, Grid.{Grid, bit_number}, declared.error.{DecodeError.{DecodeError, TheVariants.{Huffman, Symbol}}, HuffmanError.TheVariants.{InvalidCode, UnexpectedOob}, SymbolError.TheVariants.{Invalid, NoSymbols, OutOfRange}}}
+use Rattle.std.specs.Prelude.{◌++◌, if◌then◌else◌, List, length, Option, Some, None, Result, Ok, ℕ, zero, suc, ◌+◌, ◌-◌}
+use Rattle.std.specs.Prelude.{◌%◌, ◌==◌, nat_le, nat_lt, not, ◌&&◌, [], ◌∷◌}
+use Rattle.jbig2_base.specs.Answer.{◌>>=◌, refuse_if}
+use Rattle.jbig2_base.specs.Grid.{Grid, bit_number}
+use Rattle.jbig2_base.specs.declared.error.DecodeError.{DecodeError}
+use Rattle.jbig2_base.specs.declared.error.DecodeError.TheVariants.{Huffman, Symbol}
+use Rattle.jbig2_base.specs.declared.error.HuffmanError.TheVariants.{InvalidCode, UnexpectedOob}
+use Rattle.jbig2_base.specs.declared.error.SymbolError.TheVariants.{Invalid, NoSymbols, OutOfRange}
 use Rattle.jbig2_coder.specs.PrefixCode.{Member}
-use Rattle.jbig2_symbol.specs.{SymbolBitmaps.{id_codes}, HeightClasses.{new_symbols}, SymbolCoding.{classes_by_coder, classes_by_prefix_codes, coder_begun, prefix_codes_begun}, SymbolHeader.{SymbolHeader}, SymbolReading.{BitmapContexts, ClassReadings, SymbolContexts, SymbolInput, SymbolState, first_contexts, learned, symbol_tables, not_negative}}
+use Rattle.jbig2_symbol.specs.SymbolBitmaps.{id_codes}
+use Rattle.jbig2_symbol.specs.HeightClasses.{new_symbols}
+use Rattle.jbig2_symbol.specs.SymbolCoding.{classes_by_coder, classes_by_prefix_codes, coder_begun, prefix_codes_begun}
+use Rattle.jbig2_symbol.specs.SymbolHeader.{SymbolHeader}
+use Rattle.jbig2_symbol.specs.SymbolReading.{BitmapContexts, ClassReadings, SymbolContexts, SymbolInput, SymbolState}
+use Rattle.jbig2_symbol.specs.SymbolReading.{first_contexts, learned, symbol_tables, not_negative}
 use Rattle.jbig2_text.specs.TextCoding.{in_band}
 
 -- ---- exports (6.5.10): runs of symbols that are left out and that are exported, by turns, over those that the

@@ -2,10 +2,39 @@
 -- whatever the numbers are coded by, in its tables, and in its numbers as they are coded. `Breaks..` takes what is
 -- read and an error, and the function that refuses cites it. What is refused at an instance is refused after those
 -- before it, which are read.
-use Rattle.std.specs.{Prelude.{◌≡◌, ◌<◌, ◌⊎◌, ℕ, ◌+◌, ◌/◌, ◌%◌, ◌==◌, Bool, ◌&&◌, if◌then◌else◌, List, [], length, drop, Result, Ok, Err, IfErr, ℤ, pos, negsuc, ◌≤◌, ◌-◌, ◌*◌, ◌^◌, true, false, ◌+ℤ◌, ◌-ℤ◌, ◌*ℤ◌, Option, Some, None, ◌≢◌, nat_lt}, Int.{w8, w16, int_shr}}
-use Rattle.jbig2_base.specs.{Bits.{Place, bits_left, start_of, aligned}, Causes.{number_in}, declared.error.{DecodeError.{DecodeError, TheVariants.{Huffman, Parse, Region, Unsupported, Overflow, Symbol}}, HuffmanError.TheVariants.{InvalidCode, InvalidSelection, MissingTables}, ParseError.TheVariants.{UnexpectedEof}, RegionError.TheVariants.{InvalidCombinationOperator}, OverflowError.TheVariants.{BitmapDimension, PlacementCoordinate, ReferenceOffset}, SymbolError.TheVariants.{InvalidStripDelta, OutOfRange, TooManyInstances, UnexpectedOob}}, Grid.{Grid}}
-use Rattle.jbig2_coder.specs.{Causes.{AreCrowded, LeavesWord}, PrefixCode.{Member, decoded_value, no_oob}, declared.integer_procedures.IntegerProcedure.{IntegerProcedure, TheVariants.{Iadt, Iafs, Iait, Iardh, Iardw, Iardx, Iardy, Iari}}}
-use Rattle.jbig2_text.specs.{SymbolCodes.{lines_from, runcodes_at, runs_at, short_lengths, value_at}, TextHeader.{ArithmeticCoding, HuffmanCoding, NumberCoding, TextHeader}, Refining.{Refining}, Text.{Reached, Readings, TextParams, after_instances, instance_symbol, is_bottom, is_last_along_s, is_right, refinement_deltas, strip_begun, strip_delta, symbol_of, t_in_strip, with_instance}, declared.text.{cursor.Cursor.{Cursor}, header.{TextRegionFlags.{TextRegionFlags}, TextRegionHuffmanFlags.{TextRegionHuffmanFlags}}}, TextCoding.{Coded, Prefixed, by_coder, by_prefix_codes, next_integer}, TextRegion.{coder_of, prefix_codes_of, refining_of, text_params}}
+use Rattle.std.specs.Prelude.{◌≡◌, ◌<◌, ◌⊎◌, ℕ, ◌+◌, ◌/◌, ◌%◌, ◌==◌, Bool, ◌&&◌, if◌then◌else◌, List, [], length, drop}
+use Rattle.std.specs.Prelude.{Result, Ok, Err, IfErr, ℤ, pos, negsuc, ◌≤◌, ◌-◌, ◌*◌, ◌^◌, true, false, ◌+ℤ◌, ◌-ℤ◌, ◌*ℤ◌}
+use Rattle.std.specs.Prelude.{Option, Some, None, ◌≢◌, nat_lt}
+use Rattle.std.specs.Int.{w8, w16, int_shr}
+use Rattle.jbig2_base.specs.Bits.{Place, bits_left, start_of, aligned}
+use Rattle.jbig2_base.specs.Causes.{number_in}
+use Rattle.jbig2_base.specs.declared.error.DecodeError.{DecodeError}
+use Rattle.jbig2_base.specs.declared.error.DecodeError.TheVariants.{Huffman, Parse, Region, Unsupported, Overflow}
+use Rattle.jbig2_base.specs.declared.error.DecodeError.TheVariants.{Symbol}
+use Rattle.jbig2_base.specs.declared.error.HuffmanError.TheVariants.{InvalidCode, InvalidSelection, MissingTables}
+use Rattle.jbig2_base.specs.declared.error.ParseError.TheVariants.{UnexpectedEof}
+use Rattle.jbig2_base.specs.declared.error.RegionError.TheVariants.{InvalidCombinationOperator}
+use Rattle.jbig2_base.specs.declared.error.OverflowError.TheVariants.{BitmapDimension, PlacementCoordinate}
+use Rattle.jbig2_base.specs.declared.error.OverflowError.TheVariants.{ReferenceOffset}
+use Rattle.jbig2_base.specs.declared.error.SymbolError.TheVariants.{InvalidStripDelta, OutOfRange, TooManyInstances}
+use Rattle.jbig2_base.specs.declared.error.SymbolError.TheVariants.{UnexpectedOob}
+use Rattle.jbig2_base.specs.Grid.{Grid}
+use Rattle.jbig2_coder.specs.Causes.{AreCrowded, LeavesWord}
+use Rattle.jbig2_coder.specs.PrefixCode.{Member, decoded_value, no_oob}
+use Rattle.jbig2_coder.specs.declared.integer_procedures.IntegerProcedure.{IntegerProcedure}
+use Rattle.jbig2_coder.specs.declared.integer_procedures.IntegerProcedure.TheVariants.{Iadt, Iafs, Iait, Iardh, Iardw}
+use Rattle.jbig2_coder.specs.declared.integer_procedures.IntegerProcedure.TheVariants.{Iardx, Iardy, Iari}
+use Rattle.jbig2_text.specs.SymbolCodes.{lines_from, runcodes_at, runs_at, short_lengths, value_at}
+use Rattle.jbig2_text.specs.TextHeader.{ArithmeticCoding, HuffmanCoding, NumberCoding, TextHeader}
+use Rattle.jbig2_text.specs.Refining.{Refining}
+use Rattle.jbig2_text.specs.Text.{Reached, Readings, TextParams, after_instances, instance_symbol, is_bottom}
+use Rattle.jbig2_text.specs.Text.{is_last_along_s, is_right, refinement_deltas, strip_begun, strip_delta, symbol_of}
+use Rattle.jbig2_text.specs.Text.{t_in_strip, with_instance}
+use Rattle.jbig2_text.specs.declared.text.cursor.Cursor.{Cursor}
+use Rattle.jbig2_text.specs.declared.text.header.TextRegionFlags.{TextRegionFlags}
+use Rattle.jbig2_text.specs.declared.text.header.TextRegionHuffmanFlags.{TextRegionHuffmanFlags}
+use Rattle.jbig2_text.specs.TextCoding.{Coded, Prefixed, by_coder, by_prefix_codes, next_integer}
+use Rattle.jbig2_text.specs.TextRegion.{coder_of, prefix_codes_of, refining_of, text_params}
 use Rattle.jbig2_region.specs.Refinement.{Reference}
 
 -- this is returned, and of the answer it holds

@@ -3,7 +3,10 @@
 use Rattle.std.specs.Prelude.{ℕ, false, List}
 use Rattle.jbig2_base.specs.Grid.{Grid}
 use Rattle.jbig2_coder.specs.Coder.{Coder, Context, Registers}
-use Rattle.jbig2_region.specs.{Raster.{Region, no_pixels, so_far, decoded_region}, Refinement.{Reference, refinement_coding}, declared.template.{AdaptiveTemplatePixel.{AdaptiveTemplatePixel}, RefinementTemplate.{RefinementTemplate}}}
+use Rattle.jbig2_region.specs.Raster.{Region, no_pixels, so_far, decoded_region}
+use Rattle.jbig2_region.specs.Refinement.{Reference, refinement_coding}
+use Rattle.jbig2_region.specs.declared.template.AdaptiveTemplatePixel.{AdaptiveTemplatePixel}
+use Rattle.jbig2_region.specs.declared.template.RefinementTemplate.{RefinementTemplate}
 
 -- How symbols are refined (SBRTEMPLATE, SBRAT), and what the contexts have learned.
 pub record Refining : Type 0 where

@@ -1,8 +1,16 @@
 -- The prefix codes of the symbols' ids (T.88, 7.4.3.1.7): their lengths, as runs that are prefix-coded themselves. A
 -- place in the bits and the number of the symbols give the codes, and the place after them.
-use Rattle.std.specs.Prelude.{ℕ, zero, suc, ◌+◌, ◌-◌, nat_lt, ◌==◌, List, [], ◌∷◌, ◌++◌, length, replicate, slice_get, Result, Ok, Err, ℤ, pos, negsuc, if◌then◌else◌}
-use Rattle.jbig2_base.specs.{Answer.{◌>>=◌, refuse_if, some_or}, Bits.{Place, aligned, bits_left, bits_on, start_of}, Fields.{bits_at}, declared.error.{DecodeError.{DecodeError, TheVariants.{Huffman}}, HuffmanError.TheVariants.{InvalidCode}}}
-use Rattle.jbig2_coder.specs.{PrefixCode.{Member, decoded_value, no_oob, table_of}, Tables.{line}, declared.huffman_table.line.TableLine.{TableLine}}
+use Rattle.std.specs.Prelude.{ℕ, zero, suc, ◌+◌, ◌-◌, nat_lt, ◌==◌, List, [], ◌∷◌, ◌++◌, length, replicate, slice_get}
+use Rattle.std.specs.Prelude.{Result, Ok, Err, ℤ, pos, negsuc, if◌then◌else◌}
+use Rattle.jbig2_base.specs.Answer.{◌>>=◌, refuse_if, some_or}
+use Rattle.jbig2_base.specs.Bits.{Place, aligned, bits_left, bits_on, start_of}
+use Rattle.jbig2_base.specs.Fields.{bits_at}
+use Rattle.jbig2_base.specs.declared.error.DecodeError.{DecodeError}
+use Rattle.jbig2_base.specs.declared.error.DecodeError.TheVariants.{Huffman}
+use Rattle.jbig2_base.specs.declared.error.HuffmanError.TheVariants.{InvalidCode}
+use Rattle.jbig2_coder.specs.PrefixCode.{Member, decoded_value, no_oob, table_of}
+use Rattle.jbig2_coder.specs.Tables.{line}
+use Rattle.jbig2_coder.specs.declared.huffman_table.line.TableLine.{TableLine}
 
 abbrev pub invalid_code : DecodeError
 invalid_code = Huffman InvalidCode

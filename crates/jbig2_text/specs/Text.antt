@@ -1,9 +1,28 @@
 -- Text regions (T.88, 6.4): instances of symbols, whose numbers are read one after the other; then the instances are
 -- drawn. Every coordinate is a signed number of 32 bits, else it is refused (our own rule).
-use Rattle.std.specs.{Prelude.{ℕ, zero, suc, ◌-◌, ◌*◌, ◌^◌, nat_le, nat_lt, ◌==◌, Bool, true, false, ◌||◌, if◌then◌else◌, ℤ, pos, negsuc, ◌+ℤ◌, ◌-ℤ◌, ◌*ℤ◌, List, [], ◌∷◌, ◌++◌, slice_get, Option, Some, None, Result, Ok, Err}, Int.{int_shr}, Option.{is_some}}
-use Rattle.jbig2_base.specs.{Answer.{◌>>=◌, refuse_if, some_or}, Combination.{combined}, Grid.{Grid}, declared.{bitmap.operator.CombinationOperator.{CombinationOperator}, error.{DecodeError.{DecodeError, TheVariants.{Overflow, Symbol}}, OverflowError.TheVariants.{BitmapDimension, PlacementCoordinate, ReferenceOffset}, SymbolError.TheVariants.{InvalidStripDelta, OutOfRange, TooManyInstances}}}, Fields.{word_or}}
+use Rattle.std.specs.Prelude.{ℕ, zero, suc, ◌-◌, ◌*◌, ◌^◌, nat_le, nat_lt, ◌==◌, Bool, true, false, ◌||◌, if◌then◌else◌}
+use Rattle.std.specs.Prelude.{ℤ, pos, negsuc, ◌+ℤ◌, ◌-ℤ◌, ◌*ℤ◌, List, [], ◌∷◌, ◌++◌, slice_get, Option, Some, None}
+use Rattle.std.specs.Prelude.{Result, Ok, Err}
+use Rattle.std.specs.Int.{int_shr}
+use Rattle.std.specs.Option.{is_some}
+use Rattle.jbig2_base.specs.Answer.{◌>>=◌, refuse_if, some_or}
+use Rattle.jbig2_base.specs.Combination.{combined}
+use Rattle.jbig2_base.specs.Grid.{Grid}
+use Rattle.jbig2_base.specs.declared.bitmap.operator.CombinationOperator.{CombinationOperator}
+use Rattle.jbig2_base.specs.declared.error.DecodeError.{DecodeError}
+use Rattle.jbig2_base.specs.declared.error.DecodeError.TheVariants.{Overflow, Symbol}
+use Rattle.jbig2_base.specs.declared.error.OverflowError.TheVariants.{BitmapDimension, PlacementCoordinate}
+use Rattle.jbig2_base.specs.declared.error.OverflowError.TheVariants.{ReferenceOffset}
+use Rattle.jbig2_base.specs.declared.error.SymbolError.TheVariants.{InvalidStripDelta, OutOfRange, TooManyInstances}
+use Rattle.jbig2_base.specs.Fields.{word_or}
 use Rattle.jbig2_region.specs.Refinement.{Reference}
-use Rattle.jbig2_text.specs.{Refining.{Refining}, declared.text.{cursor.Cursor.{Cursor}, header.{ReferenceCorner.{ReferenceCorner, TheVariants.{BottomLeft, BottomRight, TopRight}}, TextRegionFlags.{TextRegionFlags}}, refined.{Outline.{Outline}, RefinementDeltas.{RefinementDeltas}}}}
+use Rattle.jbig2_text.specs.Refining.{Refining}
+use Rattle.jbig2_text.specs.declared.text.cursor.Cursor.{Cursor}
+use Rattle.jbig2_text.specs.declared.text.header.ReferenceCorner.{ReferenceCorner}
+use Rattle.jbig2_text.specs.declared.text.header.ReferenceCorner.TheVariants.{BottomLeft, BottomRight, TopRight}
+use Rattle.jbig2_text.specs.declared.text.header.TextRegionFlags.{TextRegionFlags}
+use Rattle.jbig2_text.specs.declared.text.refined.Outline.{Outline}
+use Rattle.jbig2_text.specs.declared.text.refined.RefinementDeltas.{RefinementDeltas}
 
 -- What the instances are read by (Table 9): the flags, SBSYMS, SBNUMINSTANCES; and the length of the segment's data.
 pub record TextParams : Type 0 where

@@ -1,10 +1,23 @@
 -- The two ways in which the numbers of a text region are coded (T.88, 6.4.6 to 6.4.11): by the arithmetic coder with
 -- its integer procedures, and by prefix codes. Symbol dictionaries read by the same states.
 use Rattle.std.specs.Prelude.{ℕ, ◌%◌, ◌^◌, ◌==◌, not, ℤ, pos, negsuc, nat_abs, List, Option, Result, Ok, Err, replicate}
-use Rattle.jbig2_base.specs.{Answer.{◌>>=◌, some_or}, Bits.{Place, aligned, bits_left, bits_on, start_of}, Fields.{bits_at, bytes_at, end_of_bytes}, Grid.{Grid}, declared.error.{DecodeError.{DecodeError, TheVariants.{Symbol}}, SymbolError.TheVariants.{UnexpectedOob}}}
-use Rattle.jbig2_coder.specs.{Coder.{Coder, fresh, initial_registers}, Integers.{Ids, id, value_of_bits, Procedures, asked, fresh_procedures}, PrefixCode.{Member, decoded_value}, declared.integer_procedures.IntegerProcedure.{IntegerProcedure, TheVariants.{Iads, Iadt, Iafs, Iait, Iardh, Iardw, Iardx, Iardy, Iari}}}
+use Rattle.jbig2_base.specs.Answer.{◌>>=◌, some_or}
+use Rattle.jbig2_base.specs.Bits.{Place, aligned, bits_left, bits_on, start_of}
+use Rattle.jbig2_base.specs.Fields.{bits_at, bytes_at, end_of_bytes}
+use Rattle.jbig2_base.specs.Grid.{Grid}
+use Rattle.jbig2_base.specs.declared.error.DecodeError.{DecodeError}
+use Rattle.jbig2_base.specs.declared.error.DecodeError.TheVariants.{Symbol}
+use Rattle.jbig2_base.specs.declared.error.SymbolError.TheVariants.{UnexpectedOob}
+use Rattle.jbig2_coder.specs.Coder.{Coder, fresh, initial_registers}
+use Rattle.jbig2_coder.specs.Integers.{Ids, id, value_of_bits, Procedures, asked, fresh_procedures}
+use Rattle.jbig2_coder.specs.PrefixCode.{Member, decoded_value}
+use Rattle.jbig2_coder.specs.declared.integer_procedures.IntegerProcedure.{IntegerProcedure}
+use Rattle.jbig2_coder.specs.declared.integer_procedures.IntegerProcedure.TheVariants.{Iads, Iadt, Iafs, Iait, Iardh}
+use Rattle.jbig2_coder.specs.declared.integer_procedures.IntegerProcedure.TheVariants.{Iardw, Iardx, Iardy, Iari}
 use Rattle.jbig2_region.specs.Refinement.{Reference}
-use Rattle.jbig2_text.specs.{Refining.{Refining, refined_with}, SymbolCodes.{invalid_code, value_at}, Text.{Readings}}
+use Rattle.jbig2_text.specs.Refining.{Refining, refined_with}
+use Rattle.jbig2_text.specs.SymbolCodes.{invalid_code, value_at}
+use Rattle.jbig2_text.specs.Text.{Readings}
 
 -- ---- by the arithmetic coder
 -- The coder, and what the contexts of the integer procedures and of the ids (IAID) have learned.

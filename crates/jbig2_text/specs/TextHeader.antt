@@ -1,10 +1,24 @@
 -- The data of a text region segment up to its coded bytes (T.88, 7.4.3.1): region information, flags, adaptive pixels,
 -- the number of instances and the codes of the ids. The bytes give the header, and the coded bytes after it.
-use Rattle.std.specs.{Prelude.{ℕ, ◌/◌, ◌%◌, ◌==◌, nat_lt, Bool, true, false, List, [], length, Option, Some, None, Result, Ok, if◌then◌else◌, ℤ, pos, ◌-ℤ◌}, Int.{w16, w32}}
-use Rattle.jbig2_base.specs.{Answer.{◌>>=◌}, Fields.{number_at}, Combination.{operator_of}, declared.error.DecodeError.{DecodeError}}
+use Rattle.std.specs.Prelude.{ℕ, ◌/◌, ◌%◌, ◌==◌, nat_lt, Bool, true, false, List, [], length, Option, Some, None}
+use Rattle.std.specs.Prelude.{Result, Ok, if◌then◌else◌, ℤ, pos, ◌-ℤ◌}
+use Rattle.std.specs.Int.{w16, w32}
+use Rattle.jbig2_base.specs.Answer.{◌>>=◌}
+use Rattle.jbig2_base.specs.Fields.{number_at}
+use Rattle.jbig2_base.specs.Combination.{operator_of}
+use Rattle.jbig2_base.specs.declared.error.DecodeError.{DecodeError}
 use Rattle.jbig2_coder.specs.PrefixCode.{Member}
-use Rattle.jbig2_region.specs.{RefinementTemplates.{refinement_pixels_at, refinement_template_of}, RegionInfo.{region_info_at}, declared.{region_info.RegionSegmentInfo.{RegionSegmentInfo}, template.AdaptiveTemplatePixel.{AdaptiveTemplatePixel}}}
-use Rattle.jbig2_text.specs.{SymbolCodes.{symbol_codes_at}, declared.text.header.{ReferenceCorner.{ReferenceCorner, TheVariants.{BottomLeft, TopLeft, BottomRight, TopRight}}, TextFields.{TextFields}, TextRegionFlags.{TextRegionFlags}, TextRegionHuffmanFlags.{TextRegionHuffmanFlags}}}
+use Rattle.jbig2_region.specs.RefinementTemplates.{refinement_pixels_at, refinement_template_of}
+use Rattle.jbig2_region.specs.RegionInfo.{region_info_at}
+use Rattle.jbig2_region.specs.declared.region_info.RegionSegmentInfo.{RegionSegmentInfo}
+use Rattle.jbig2_region.specs.declared.template.AdaptiveTemplatePixel.{AdaptiveTemplatePixel}
+use Rattle.jbig2_text.specs.SymbolCodes.{symbol_codes_at}
+use Rattle.jbig2_text.specs.declared.text.header.ReferenceCorner.{ReferenceCorner}
+use Rattle.jbig2_text.specs.declared.text.header.ReferenceCorner.TheVariants.{BottomLeft, TopLeft, BottomRight}
+use Rattle.jbig2_text.specs.declared.text.header.ReferenceCorner.TheVariants.{TopRight}
+use Rattle.jbig2_text.specs.declared.text.header.TextFields.{TextFields}
+use Rattle.jbig2_text.specs.declared.text.header.TextRegionFlags.{TextRegionFlags}
+use Rattle.jbig2_text.specs.declared.text.header.TextRegionHuffmanFlags.{TextRegionHuffmanFlags}
 
 -- How the numbers are coded (SBHUFF): by the arithmetic coder, or by prefix codes, with the numbers of their tables and
 -- the codes of the symbols' ids (SBSYMCODES).

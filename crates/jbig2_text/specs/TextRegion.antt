@@ -1,10 +1,25 @@
 -- A text region segment (T.88, 7.4.3). `text_decoded` takes the header with the coded bytes, the symbols and the
 -- custom tables that it refers to, and gives the region's grid at its place, decoded from fresh states.
 use Rattle.std.specs.Prelude.{ℕ, nat_lt, ◌==◌, ◌||◌, if◌then◌else◌, List, length, Result, Ok, Err}
-use Rattle.jbig2_base.specs.{Answer.{◌>>=◌, refuse_if}, Bits.{start_of}, Grid.{Grid, blank}, declared.error.{DecodeError.{DecodeError, TheVariants.{Huffman, Overflow}}, HuffmanError.TheVariants.{InvalidSelection}, OverflowError.TheVariants.{BitmapDimension}}, Search.{code_length}}
-use Rattle.jbig2_coder.specs.{PrefixCode.{Member, prefix_code}, Tables.{next_custom, standard, lines_a, lines_f, lines_g, lines_h, lines_i, lines_j, lines_k, lines_l, lines_m, lines_n, lines_o}}
-use Rattle.jbig2_region.specs.{Raster.{fresh_contexts}, RefinementTemplates.{refinement_bits}, RegionInfo.{PlacedRegion, placed}}
-use Rattle.jbig2_text.specs.{Refining.{Refining}, Text.{Readings, TextParams, text_region}, TextCoding.{Coded, Prefixed, TextTables, by_coder, by_prefix_codes, coded_start}, TextHeader.{NumberCoding, TextHeader, ArithmeticCoding, HuffmanCoding}, declared.text.header.TextRegionHuffmanFlags.{TextRegionHuffmanFlags}}
+use Rattle.jbig2_base.specs.Answer.{◌>>=◌, refuse_if}
+use Rattle.jbig2_base.specs.Bits.{start_of}
+use Rattle.jbig2_base.specs.Grid.{Grid, blank}
+use Rattle.jbig2_base.specs.declared.error.DecodeError.{DecodeError}
+use Rattle.jbig2_base.specs.declared.error.DecodeError.TheVariants.{Huffman, Overflow}
+use Rattle.jbig2_base.specs.declared.error.HuffmanError.TheVariants.{InvalidSelection}
+use Rattle.jbig2_base.specs.declared.error.OverflowError.TheVariants.{BitmapDimension}
+use Rattle.jbig2_base.specs.Search.{code_length}
+use Rattle.jbig2_coder.specs.PrefixCode.{Member, prefix_code}
+use Rattle.jbig2_coder.specs.Tables.{next_custom, standard, lines_a, lines_f, lines_g, lines_h, lines_i, lines_j}
+use Rattle.jbig2_coder.specs.Tables.{lines_k, lines_l, lines_m, lines_n, lines_o}
+use Rattle.jbig2_region.specs.Raster.{fresh_contexts}
+use Rattle.jbig2_region.specs.RefinementTemplates.{refinement_bits}
+use Rattle.jbig2_region.specs.RegionInfo.{PlacedRegion, placed}
+use Rattle.jbig2_text.specs.Refining.{Refining}
+use Rattle.jbig2_text.specs.Text.{Readings, TextParams, text_region}
+use Rattle.jbig2_text.specs.TextCoding.{Coded, Prefixed, TextTables, by_coder, by_prefix_codes, coded_start}
+use Rattle.jbig2_text.specs.TextHeader.{NumberCoding, TextHeader, ArithmeticCoding, HuffmanCoding}
+use Rattle.jbig2_text.specs.declared.text.header.TextRegionHuffmanFlags.{TextRegionHuffmanFlags}
 
 -- ---- tables (7.4.3.1.6)
 -- the table that a number names among two of the standard, or 3 for the next custom one; and those left to take

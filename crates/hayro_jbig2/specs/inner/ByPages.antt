@@ -1,7 +1,13 @@
 -- The segments of a file by their pages, as they are kept.
-use Rattle.std.specs.{Prelude.{◌≡◌, ℕ, suc, ◌==◌, List, [], ◌∷◌, map, option_map, Option, Some, None, if◌then◌else◌}, BTreeMap.{get}, Ordering.{nat_cmp}, declared.vec.Vec.{Vec}}
-use Rattle.jbig2_base.specs.{Segment.{SegmentView}, inner.SegmentViews.{segment_views}, declared.segment.Segment.{Segment}}
-use Rattle.hayro_jbig2.specs.{Files.{of_page, numbers_after, by_pages}, declared.file.segments_by_page.SegmentsByPage.{SegmentsByPage}}
+use Rattle.std.specs.Prelude.{◌≡◌, ℕ, suc, ◌==◌, List, [], ◌∷◌, map, option_map, Option, Some, None, if◌then◌else◌}
+use Rattle.std.specs.BTreeMap.{get}
+use Rattle.std.specs.Ordering.{nat_cmp}
+use Rattle.std.specs.declared.vec.Vec.{Vec}
+use Rattle.jbig2_base.specs.Segment.{SegmentView}
+use Rattle.jbig2_base.specs.inner.SegmentViews.{segment_views}
+use Rattle.jbig2_base.specs.declared.segment.Segment.{Segment}
+use Rattle.hayro_jbig2.specs.Files.{of_page, numbers_after, by_pages}
+use Rattle.hayro_jbig2.specs.declared.file.segments_by_page.SegmentsByPage.{SegmentsByPage}
 
 abbrev pub pages_view : {A : Type 0} → List (Vec (Segment A) A) → List (List SegmentView)
 pages_view pages = map (λ own. segment_views own.items) pages

@@ -1,10 +1,28 @@
 -- What a region is decoded by, once its header is read and what it refers to is found (T.88, 7.4.3 and 7.4.5 to 7.4.7).
 use Rattle.std.specs.Prelude.{◌≡◌, ◌≤◌, Bool, false, ◌||◌, nat_lt, Result, Ok, Err, ◌⊎◌}
-use Rattle.jbig2_base.specs.{Answer.{◌>>=◌, refuse_if}, Grid.{Grid}, declared.error.{DecodeError.{DecodeError, TheVariants.{OutOfMemory, Overflow}}, OverflowError.TheVariants.{BitmapDimension}}}
-use Rattle.jbig2_region.specs.{RegionInfo.{PlacedRegion, placed}, Generic.{generic_answer}, inner.RegionViews.{region_view}, Refinement.{refined_answer}, declared.region_info.RegionSegmentInfo.{RegionSegmentInfo}, GenericHeader.{IsParsed}, RefinementHeader.{IsRefinement}}
-use Rattle.jbig2_halftone.specs.{Halftone.{halftone_answer}, inner.DictionaryViews.{dictionary_view}, HalftoneHeader.{HalftoneHeader}}
+use Rattle.jbig2_base.specs.Answer.{◌>>=◌, refuse_if}
+use Rattle.jbig2_base.specs.Grid.{Grid}
+use Rattle.jbig2_base.specs.declared.error.DecodeError.{DecodeError}
+use Rattle.jbig2_base.specs.declared.error.DecodeError.TheVariants.{OutOfMemory, Overflow}
+use Rattle.jbig2_base.specs.declared.error.OverflowError.TheVariants.{BitmapDimension}
+use Rattle.jbig2_region.specs.RegionInfo.{PlacedRegion, placed}
+use Rattle.jbig2_region.specs.Generic.{generic_answer}
+use Rattle.jbig2_region.specs.inner.RegionViews.{region_view}
+use Rattle.jbig2_region.specs.Refinement.{refined_answer}
+use Rattle.jbig2_region.specs.declared.region_info.RegionSegmentInfo.{RegionSegmentInfo}
+use Rattle.jbig2_region.specs.GenericHeader.{IsParsed}
+use Rattle.jbig2_region.specs.RefinementHeader.{IsRefinement}
+use Rattle.jbig2_halftone.specs.Halftone.{halftone_answer}
+use Rattle.jbig2_halftone.specs.inner.DictionaryViews.{dictionary_view}
+use Rattle.jbig2_halftone.specs.HalftoneHeader.{HalftoneHeader}
 use Rattle.jbig2_text.specs.TextRegion.{text_answer}
-use Rattle.hayro_jbig2.specs.{Names.{nothing_passed}, Page.{Drawing}, declared.{region.parsed_region.ParsedRegion.{ParsedRegion, TheVariants.{Text, Halftone, Generic, Refinement, PageRefinement}}, region.references.References.{References}}, inner.KeptViews.{seen}}
+use Rattle.hayro_jbig2.specs.Names.{nothing_passed}
+use Rattle.hayro_jbig2.specs.Page.{Drawing}
+use Rattle.hayro_jbig2.specs.declared.region.parsed_region.ParsedRegion.{ParsedRegion}
+use Rattle.hayro_jbig2.specs.declared.region.parsed_region.ParsedRegion.TheVariants.{Text, Halftone, Generic}
+use Rattle.hayro_jbig2.specs.declared.region.parsed_region.ParsedRegion.TheVariants.{Refinement, PageRefinement}
+use Rattle.hayro_jbig2.specs.declared.region.references.References.{References}
+use Rattle.hayro_jbig2.specs.inner.KeptViews.{seen}
 use Rattle.jbig2_region.specs.inner.GenericViews as generics
 use Rattle.jbig2_region.specs.inner.RefinedViews as refinements
 use Rattle.jbig2_halftone.specs.inner.HalftoneHeaderViews as halftones

@@ -2,9 +2,13 @@
 use Rattle.std.specs.Prelude.{ℕ, ◌*◌, length}
 use Rattle.jbig2_steps.specs.Work.{price_of_bitmap}
 use Rattle.jbig2_region.specs.GenericSteps.{price_of_region}
-use Rattle.jbig2_halftone.specs.{Steps.{price_of_halftone}, inner.DictionaryViews.{dictionary_view}}
+use Rattle.jbig2_halftone.specs.Steps.{price_of_halftone}
+use Rattle.jbig2_halftone.specs.inner.DictionaryViews.{dictionary_view}
 use Rattle.jbig2_text.specs.Paying.{number_steps}
-use Rattle.hayro_jbig2.specs.{declared.region.parsed_region.ParsedRegion.{ParsedRegion, TheVariants.{Text, Halftone, Generic, Refinement, PageRefinement}}, inner.Parsed.{info_of}}
+use Rattle.hayro_jbig2.specs.declared.region.parsed_region.ParsedRegion.{ParsedRegion}
+use Rattle.hayro_jbig2.specs.declared.region.parsed_region.ParsedRegion.TheVariants.{Text, Halftone, Generic}
+use Rattle.hayro_jbig2.specs.declared.region.parsed_region.ParsedRegion.TheVariants.{Refinement, PageRefinement}
+use Rattle.hayro_jbig2.specs.inner.Parsed.{info_of}
 use Rattle.jbig2_region.specs.inner.GenericViews as generics
 use Rattle.jbig2_halftone.specs.inner.HalftoneHeaderViews as halftones
 

@@ -1,5 +1,6 @@
 -- Bytes that are put into a caller's buffer (our own rule).
-use Rattle.std.specs.{Prelude.{◌≡◌, ℕ, ◌+◌, ◌-◌, ◌*◌, ◌<◌, Bool, List, map, get_or, length}, List.{range_with_len}}
+use Rattle.std.specs.Prelude.{◌≡◌, ℕ, ◌+◌, ◌-◌, ◌*◌, ◌<◌, Bool, List, map, get_or, length}
+use Rattle.std.specs.List.{range_with_len}
 use Rattle.jbig2_coder.specs.Integers.{value_of_bits}
 
 -- This many bytes stand at a place then, and those before it are as they were.

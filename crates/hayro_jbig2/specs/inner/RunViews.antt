@@ -1,5 +1,6 @@
 -- The runs of whole bytes of one colour at the front of a row's pixels, as the code looks for them.
-use Rattle.std.specs.Prelude.{◌≡◌, ◌<◌, ◌≤◌, Option, Some, None, ℕ, suc, zero, Bool, true, false, List, take, drop, if◌then◌else◌}
+use Rattle.std.specs.Prelude.{◌≡◌, ◌<◌, ◌≤◌, Option, Some, None, ℕ, suc, zero, Bool, true, false, List, take, drop}
+use Rattle.std.specs.Prelude.{if◌then◌else◌}
 use Rattle.hayro_jbig2.specs.Calls.{is_all}
 
 -- how many of the whole bytes, from the left, have this colour

@@ -1,6 +1,9 @@
 -- Regions that make up a page by themselves (our own rule).
-use Rattle.std.specs.{Prelude.{◌≡◌, ◌≤◌, Bool, false}, Int.{w32, cast_signed}}
-use Rattle.jbig2_base.specs.{Combination.{combined}, Grid.{Grid, blank}, Table.{IsTable}}
+use Rattle.std.specs.Prelude.{◌≡◌, ◌≤◌, Bool, false}
+use Rattle.std.specs.Int.{w32, cast_signed}
+use Rattle.jbig2_base.specs.Combination.{combined}
+use Rattle.jbig2_base.specs.Grid.{Grid, blank}
+use Rattle.jbig2_base.specs.Table.{IsTable}
 use Rattle.jbig2_region.specs.declared.region_info.RegionSegmentInfo.{RegionSegmentInfo}
 use Rattle.hayro_jbig2.specs.Page.{Drawing}
 

@@ -1,7 +1,14 @@
 -- Blocks of a page, and single lines of them, that are combined with the pixels of a source (our own rule): what has to lie
 -- where before, and what has become of the page then.
 use Rattle.std.specs.Prelude.{◌≡◌, ℕ, ◌+◌, ◌-◌, ◌<◌, ◌≤◌, ◌^◌, List}
-use Rattle.jbig2_base.specs.{declared.bitmap.{operator.CombinationOperator.{CombinationOperator}, rows.blocks.{Block.{Block}, Line.{Line}, Shape.{Shape}}}, Counts.{Counts, words_across, loads_across, words_written}, Blocks.{CombinesBlock, LiesOn, with_run}, Grid.{Grid, pixel_at}, inner.Shapes.{HasShape, grid_in}}
+use Rattle.jbig2_base.specs.declared.bitmap.operator.CombinationOperator.{CombinationOperator}
+use Rattle.jbig2_base.specs.declared.bitmap.rows.blocks.Block.{Block}
+use Rattle.jbig2_base.specs.declared.bitmap.rows.blocks.Line.{Line}
+use Rattle.jbig2_base.specs.declared.bitmap.rows.blocks.Shape.{Shape}
+use Rattle.jbig2_base.specs.Counts.{Counts, words_across, loads_across, words_written}
+use Rattle.jbig2_base.specs.Blocks.{CombinesBlock, LiesOn, with_run}
+use Rattle.jbig2_base.specs.Grid.{Grid, pixel_at}
+use Rattle.jbig2_base.specs.inner.Shapes.{HasShape, grid_in}
 
 -- the places after its last column and row are numbers of 32 bits
 pub record HasEnds (block : Block) : Type 0 where

@@ -1,6 +1,7 @@
 -- A bitmap that is filled from the top, each row from the left (our own rule).
 use Rattle.std.specs.Prelude.{ℕ, ◌+◌, Bool, ◌&&◌, ◌||◌, ◌==◌, nat_lt}
-use Rattle.jbig2_base.specs.{Grid.{Grid, grid_of, pixel_at}, declared.bitmap.part.Area.{Area}}
+use Rattle.jbig2_base.specs.Grid.{Grid, grid_of, pixel_at}
+use Rattle.jbig2_base.specs.declared.bitmap.part.Area.{Area}
 
 -- whether column i of row j comes before column x of row y
 unfoldable pub is_before : ℕ → ℕ → ℕ → ℕ → Bool

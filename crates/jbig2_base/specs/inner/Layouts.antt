@@ -1,6 +1,7 @@
 -- How the rows of a block lie in words of 64 pixels.
 use Rattle.std.specs.Prelude.{◌≡◌, ◌+◌, ◌-◌, ◌/◌, ◌%◌, ◌<◌, ◌≤◌, ℕ}
-use Rattle.jbig2_base.specs.declared.bitmap.rows.blocks.Layout.{Layout, TheVariants.{Near, Narrow, Aligned}}
+use Rattle.jbig2_base.specs.declared.bitmap.rows.blocks.Layout.{Layout}
+use Rattle.jbig2_base.specs.declared.bitmap.rows.blocks.Layout.TheVariants.{Near, Narrow, Aligned}
 
 -- a row of this many columns, from column `left` of the page and `from` of the source on
 abbrev pub IsLaid : Layout → ℕ → ℕ → ℕ → Type 0

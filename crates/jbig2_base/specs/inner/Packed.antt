@@ -1,7 +1,10 @@
 -- How rows of pixels lie in words of 64 bits (our own rule): each row begins with a word, the
 -- leftmost pixel of a word is its highest bit, and what lies past the width is zero.
-use Rattle.std.specs.{Prelude.{◌≡◌, ℕ, ◌+◌, ◌-◌, ◌*◌, ◌/◌, ◌%◌, ◌^◌, ◌<◌, ◌≤◌, ◌==◌, Bool, true, false, if◌then◌else◌, nat_lt, List, length, map, slice_index}, List.{range_with_len}}
-use Rattle.jbig2_base.specs.{Grid.{Grid, grid_of}, Bits.{bit}}
+use Rattle.std.specs.Prelude.{◌≡◌, ℕ, ◌+◌, ◌-◌, ◌*◌, ◌/◌, ◌%◌, ◌^◌, ◌<◌, ◌≤◌, ◌==◌, Bool, true, false, if◌then◌else◌}
+use Rattle.std.specs.Prelude.{nat_lt, List, length, map, slice_index}
+use Rattle.std.specs.List.{range_with_len}
+use Rattle.jbig2_base.specs.Grid.{Grid, grid_of}
+use Rattle.jbig2_base.specs.Bits.{bit}
 
 -- the number of words of a row
 abbrev pub stride_of : ℕ → ℕ

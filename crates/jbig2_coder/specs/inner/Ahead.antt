@@ -1,6 +1,9 @@
 -- The code register with bytes that are read ahead, seen as the code register of the definitions (T.88, Annex G).
 use Rattle.std.specs.Prelude.{◌≡◌, ◌≢◌, ℕ, zero, suc, ◌+◌, ◌-◌, ◌*◌, ◌/◌, ◌%◌, ◌^◌, ◌<◌, ◌≤◌, max, List, length}
-use Rattle.jbig2_coder.specs.{Coder.{Registers, byte_at}, declared.arithmetic_decoder.registers.{BufferedRegisters.{BufferedRegisters}, CodeBuffer.{CodeBuffer}, CodeRegister.{CodeRegister}}}
+use Rattle.jbig2_coder.specs.Coder.{Registers, byte_at}
+use Rattle.jbig2_coder.specs.declared.arithmetic_decoder.registers.BufferedRegisters.{BufferedRegisters}
+use Rattle.jbig2_coder.specs.declared.arithmetic_decoder.registers.CodeBuffer.{CodeBuffer}
+use Rattle.jbig2_coder.specs.declared.arithmetic_decoder.registers.CodeRegister.{CodeRegister}
 
 -- without the whole bytes that are ahead
 abbrev pub seen_of : CodeBuffer → CodeRegister

@@ -1,7 +1,18 @@
 -- Parts of the definitions of prefix codes and of custom tables (T.88, B.2 to B.4), under names of their own.
-use Rattle.std.specs.Prelude.{ℕ, ◌+◌, ◌≤◌, ◌<◌, nat_lt, Bool, not, ◌||◌, List, [], ◌∷◌, length, drop, Option, Some, None, is_some, Result, Ok, Err, if◌then◌else◌, ℤ}
-use Rattle.jbig2_base.specs.{Answer.{◌>>=◌}, Bits.{Place, bits_next}, declared.error.{DecodeError.{DecodeError, TheVariants.{Parse, Huffman}}, ParseError.TheVariants.{UnexpectedEof}, HuffmanError.TheVariants.{InvalidCode}}}
-use Rattle.jbig2_coder.specs.{declared.huffman_table.{line.TableLine.{TableLine}, custom.Header.{Header}}, CustomTable.{Step, field}, Tables.{out_of_band}, PrefixCode.{Member, CodeReading, shorter, level, line_of, begins_longer, front_number, value_by}}
+use Rattle.std.specs.Prelude.{ℕ, ◌+◌, ◌≤◌, ◌<◌, nat_lt, Bool, not, ◌||◌, List, [], ◌∷◌, length, drop, Option, Some}
+use Rattle.std.specs.Prelude.{None, is_some, Result, Ok, Err, if◌then◌else◌, ℤ}
+use Rattle.jbig2_base.specs.Answer.{◌>>=◌}
+use Rattle.jbig2_base.specs.Bits.{Place, bits_next}
+use Rattle.jbig2_base.specs.declared.error.DecodeError.{DecodeError}
+use Rattle.jbig2_base.specs.declared.error.DecodeError.TheVariants.{Parse, Huffman}
+use Rattle.jbig2_base.specs.declared.error.ParseError.TheVariants.{UnexpectedEof}
+use Rattle.jbig2_base.specs.declared.error.HuffmanError.TheVariants.{InvalidCode}
+use Rattle.jbig2_coder.specs.declared.huffman_table.line.TableLine.{TableLine}
+use Rattle.jbig2_coder.specs.declared.huffman_table.custom.Header.{Header}
+use Rattle.jbig2_coder.specs.CustomTable.{Step, field}
+use Rattle.jbig2_coder.specs.Tables.{out_of_band}
+use Rattle.jbig2_coder.specs.PrefixCode.{Member, CodeReading, shorter, level, line_of, begins_longer, front_number}
+use Rattle.jbig2_coder.specs.PrefixCode.{value_by}
 
 -- the code of a line of l bits
 abbrev pub code_of : ℕ → List TableLine → List TableLine → ℕ

@@ -1,6 +1,9 @@
 -- The encoder of the code, seen as the encoder of the definitions, and a list of contexts as what is known of each.
 use Rattle.std.specs.Prelude.{ℕ, ◌+◌, ◌*◌, ◌^◌, ◌<◌, ◌≤◌, List, reverse, slice_index_or}
-use Rattle.jbig2_coder.specs.{Coder.{Context, fresh}, Encoder.{Writer, Coding}, declared.mq.encoder.{CodeRegister.{CodeRegister}, Registers.{Registers}}}
+use Rattle.jbig2_coder.specs.Coder.{Context, fresh}
+use Rattle.jbig2_coder.specs.Encoder.{Writer, Coding}
+use Rattle.jbig2_coder.specs.declared.mq.encoder.CodeRegister.{CodeRegister}
+use Rattle.jbig2_coder.specs.declared.mq.encoder.Registers.{Registers}
 
 abbrev pub writer_of : List ℕ → CodeRegister → Writer
 writer_of bytes code = record { register = code.c; wait = code.ct; out = reverse bytes }

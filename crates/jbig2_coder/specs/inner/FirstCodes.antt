@@ -1,7 +1,11 @@
 -- How the first table of a code is kept: what each byte begins with.
 use Rattle.std.specs.Prelude.{◌≡◌, ℕ, ◌+◌, ◌-◌, ◌/◌, ◌^◌, ◌<◌, ◌≤◌, ◌⊎◌, List, ◌++◌, length, drop, slice_index_or, Ok}
 use Rattle.jbig2_base.specs.Bits.{byte_bits}
-use Rattle.jbig2_coder.specs.{declared.huffman_table.{line.TableLine.{TableLine}, levels.Level.{Level}, first_table.{FirstCode.{FirstCode}, FirstTable.{FirstTable}}}, inner.PrefixLevels.{walk, walk_of, groups_of, nodes}}
+use Rattle.jbig2_coder.specs.declared.huffman_table.line.TableLine.{TableLine}
+use Rattle.jbig2_coder.specs.declared.huffman_table.levels.Level.{Level}
+use Rattle.jbig2_coder.specs.declared.huffman_table.first_table.FirstCode.{FirstCode}
+use Rattle.jbig2_coder.specs.declared.huffman_table.first_table.FirstTable.{FirstTable}
+use Rattle.jbig2_coder.specs.inner.PrefixLevels.{walk, walk_of, groups_of, nodes}
 
 -- The bits of v begin with this code, whatever follows.
 pub record Begins (lines : List TableLine) (levels : List Level) (v : ℕ) (code : FirstCode) : Type 0 where

@@ -1,6 +1,10 @@
 -- How a table is kept: by lengths, the lines of each and how many inner nodes the code's tree has there.
-use Rattle.std.specs.Prelude.{◌≡◌, ℕ, zero, suc, ◌+◌, ◌-◌, ◌*◌, ◌/◌, ◌≤◌, nat_lt, List, [], ◌∷◌, ◌++◌, length, take, drop, slice_get, if◌then◌else◌}
-use Rattle.jbig2_coder.specs.{declared.huffman_table.{line.TableLine.{TableLine}, levels.Level.{Level}}, PrefixCode.{Member, CodeReading, shorter, level, line_of, begins_longer}, inner.CodeParts.{found_or, refused, ended}}
+use Rattle.std.specs.Prelude.{◌≡◌, ℕ, zero, suc, ◌+◌, ◌-◌, ◌*◌, ◌/◌, ◌≤◌, nat_lt, List, [], ◌∷◌, ◌++◌, length, take}
+use Rattle.std.specs.Prelude.{drop, slice_get, if◌then◌else◌}
+use Rattle.jbig2_coder.specs.declared.huffman_table.line.TableLine.{TableLine}
+use Rattle.jbig2_coder.specs.declared.huffman_table.levels.Level.{Level}
+use Rattle.jbig2_coder.specs.PrefixCode.{Member, CodeReading, shorter, level, line_of, begins_longer}
+use Rattle.jbig2_coder.specs.inner.CodeParts.{found_or, refused, ended}
 
 -- the lines of each level
 abbrev pub groups_of : List TableLine → List Level → List (List TableLine)

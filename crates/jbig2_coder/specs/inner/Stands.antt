@@ -1,7 +1,9 @@
 -- How the state of a call stands to what it has read so far (our own rule).
 use Rattle.std.specs.Prelude.{◌≡◌, ℕ, ◌+◌, ◌*◌, ◌%◌, nat_lt, if◌then◌else◌, Bool, List, length}
-use Rattle.jbig2_base.specs.{Counts.{Counts}, Grid.{bit_number}}
-use Rattle.jbig2_coder.specs.{Coder.{Coder, Context}, Integers.{Reading, prev_of}}
+use Rattle.jbig2_base.specs.Counts.{Counts}
+use Rattle.jbig2_base.specs.Grid.{bit_number}
+use Rattle.jbig2_coder.specs.Coder.{Coder, Context}
+use Rattle.jbig2_coder.specs.Integers.{Reading, prev_of}
 
 -- `place` is the number of the next context, `steps` the counts since `start`
 pub record Stands (name : List Bool → ℕ) (start : Counts) (r : Reading) (place : ℕ) (coder : Coder) (contexts : List Context) (steps : Counts) : Type 0 where

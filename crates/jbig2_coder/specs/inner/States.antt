@@ -1,7 +1,9 @@
 -- How a context is kept: in one number, its state.
 use Rattle.std.specs.Prelude.{◌≡◌, ℕ, ◌+◌, ◌*◌, ◌/◌, ◌%◌, ◌<◌, ◌≤◌, ◌==◌}
 use Rattle.jbig2_base.specs.Grid.{bit_number}
-use Rattle.jbig2_coder.specs.{Coder.{Context, likely_next, unlikely_next}, Table.{row_of}, declared.arithmetic_decoder.qe_table.State.{State}}
+use Rattle.jbig2_coder.specs.Coder.{Context, likely_next, unlikely_next}
+use Rattle.jbig2_coder.specs.Table.{row_of}
+use Rattle.jbig2_coder.specs.declared.arithmetic_decoder.qe_table.State.{State}
 
 -- twice the row, and one more where 1 is the likely symbol
 abbrev pub state_of : Context → ℕ

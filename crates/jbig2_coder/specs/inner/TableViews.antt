@@ -1,5 +1,6 @@
 -- Custom tables of the code, seen as lists of codes.
-use Rattle.std.specs.{Borrow.{Bor}, Prelude.{List, map}}
+use Rattle.std.specs.Borrow.{Bor}
+use Rattle.std.specs.Prelude.{List, map}
 use Rattle.jbig2_coder.specs.PrefixCode.{Member}
 
 -- what each reference of a list refers to

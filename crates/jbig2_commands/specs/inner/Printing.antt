@@ -1,7 +1,11 @@
 -- What a printer, the Decoder that writes a line for each call, does with one call (our own rule), and the output after
 -- its buffer. The predicates take what the output held before and after, where that is known, and the call's result.
-use Rattle.std.specs.{Prelude.{◌≡◌, ◌⊎◌, ℕ, ◌+◌, ◌-◌, ◌^◌, Bool, true, false, List, Option, None, Result, Ok, Err, if◌then◌else◌}, Borrow.{GName}, Io.KnownBytes.{Appends, Keeps, append_known}}
-use Rattle.jbig2_base.specs.declared.error.DecodeError.{DecodeError, TheVariants.{OutOfMemory, Unsupported}}
+use Rattle.std.specs.Prelude.{◌≡◌, ◌⊎◌, ℕ, ◌+◌, ◌-◌, ◌^◌, Bool, true, false, List, Option, None, Result, Ok, Err}
+use Rattle.std.specs.Prelude.{if◌then◌else◌}
+use Rattle.std.specs.Borrow.{GName}
+use Rattle.std.specs.Io.KnownBytes.{Appends, Keeps, append_known}
+use Rattle.jbig2_base.specs.declared.error.DecodeError.{DecodeError}
+use Rattle.jbig2_base.specs.declared.error.DecodeError.TheVariants.{OutOfMemory, Unsupported}
 use Rattle.jbig2_commands.specs.declared.output.Output.{Output}
 
 -- the bytes that the output holds and those after them that are not yet written, where the first are known

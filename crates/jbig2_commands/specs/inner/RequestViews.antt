@@ -1,5 +1,6 @@
 -- A request of the code as the words have it: the mode, the task and the file of Words.antt.
-use Rattle.std.specs.{Prelude.{ℕ, Bool, List}, Str.Parse.{IsNumeral}}
+use Rattle.std.specs.Prelude.{ℕ, Bool, List}
+use Rattle.std.specs.Str.Parse.{IsNumeral}
 use Rattle.jbig2_commands.specs.{Words.{Task, Pages as PagesTask, Embedded as EmbeddedTask, Calls as CallsTask, Pbm as PbmTask}, declared.request.{Command.{Command, TheVariants.{Pages, Embedded, Calls, Pbm}}, Request.{Request}}}
 
 abbrev pub task_view : Command → Task

@@ -1,5 +1,6 @@
 -- A value of a gray-scale image with one plane more than before, and rows of values (our own rule).
-use Rattle.std.specs.{Prelude.{◌≡◌, ℕ, ◌+◌, ◌*◌, ◌%◌, ◌<◌, ◌==◌, Bool, List, map, slice_index_or}, List.{range_with_len}}
+use Rattle.std.specs.Prelude.{◌≡◌, ℕ, ◌+◌, ◌*◌, ◌%◌, ◌<◌, ◌==◌, Bool, List, map, slice_index_or}
+use Rattle.std.specs.List.{range_with_len}
 use Rattle.jbig2_base.specs.Grid.{Grid, bit_number, pixel_at, differ}
 use Rattle.jbig2_halftone.specs.GrayScale.{gray_value}
 

@@ -1,9 +1,21 @@
 -- What single functions of the code give and take, which the definitions have as a part of something larger.
-use Rattle.std.specs.{Prelude.{ℕ, ◌≡◌, ◌≤◌, ◌+◌, ◌*◌, ◌/◌, ◌%◌, Bool, true, false, ◌||◌, if◌then◌else◌, List, map, None, is_some, ◌⊎◌, Result, Ok}, List.{range_with_len}}
-use Rattle.jbig2_base.specs.{Counts.{Counts, KeepsLanes, WritesWithin, words_copied}, Grid.{Grid, grid_of, part_of}, declared.error.DecodeError.{DecodeError}}
+use Rattle.std.specs.Prelude.{ℕ, ◌≡◌, ◌≤◌, ◌+◌, ◌*◌, ◌/◌, ◌%◌, Bool, true, false, ◌||◌, if◌then◌else◌, List, map, None}
+use Rattle.std.specs.Prelude.{is_some, ◌⊎◌, Result, Ok}
+use Rattle.std.specs.List.{range_with_len}
+use Rattle.jbig2_base.specs.Counts.{Counts, KeepsLanes, WritesWithin, words_copied}
+use Rattle.jbig2_base.specs.Grid.{Grid, grid_of, part_of}
+use Rattle.jbig2_base.specs.declared.error.DecodeError.{DecodeError}
 use Rattle.jbig2_coder.specs.Coder.{Context}
-use Rattle.jbig2_region.specs.{Generic.{coding_of, skipping_coding}, Raster.{Coding, Region, so_far, no_pixels}, Steps.{CountsRegion, CountsSkipping}, Templates.{template_pixels}, declared.template.AdaptiveTemplatePixel.{AdaptiveTemplatePixel}}
-use Rattle.jbig2_halftone.specs.{GrayScale.{GrayScale, nominal_pixels, after_planes, mmr_planes}, Halftone.{column_of, gray_params, row_of, is_apart}, HalftoneHeader.{HalftoneHeader}, Patterns.{Patterns}, Steps.{CountsPlanes, CountsMasked, StopsImage, after_mask, words_of_cells}}
+use Rattle.jbig2_region.specs.Generic.{coding_of, skipping_coding}
+use Rattle.jbig2_region.specs.Raster.{Coding, Region, so_far, no_pixels}
+use Rattle.jbig2_region.specs.Steps.{CountsRegion, CountsSkipping}
+use Rattle.jbig2_region.specs.Templates.{template_pixels}
+use Rattle.jbig2_region.specs.declared.template.AdaptiveTemplatePixel.{AdaptiveTemplatePixel}
+use Rattle.jbig2_halftone.specs.GrayScale.{GrayScale, nominal_pixels, after_planes, mmr_planes}
+use Rattle.jbig2_halftone.specs.Halftone.{column_of, gray_params, row_of, is_apart}
+use Rattle.jbig2_halftone.specs.HalftoneHeader.{HalftoneHeader}
+use Rattle.jbig2_halftone.specs.Patterns.{Patterns}
+use Rattle.jbig2_halftone.specs.Steps.{CountsPlanes, CountsMasked, StopsImage, after_mask, words_of_cells}
 
 -- ---- patterns
 -- pattern k: the columns from k * width on

@@ -1,7 +1,13 @@
 -- What the calls of a T.6 decoder that may meet a fault say (our own rule).
-use Rattle.std.specs.Prelude.{◌≡◌, ℕ, ◌+◌, ◌-◌, ◌*◌, ◌<◌, Bool, true, false, ◌&&◌, if◌then◌else◌, List, Option, Some, None}
-use Rattle.jbig2_base.specs.{Bits.{bit}, Grid.{Grid, differ}}
-use Rattle.jbig2_mmr.specs.{declared.mmr.{change.RowWord.{RowWord}, row.{Place.{Place}, Turn.{Turn}}}, T6.{Head, Step, black_at}, inner.T6Reading.{IsTurn, IsRow}}
+use Rattle.std.specs.Prelude.{◌≡◌, ℕ, ◌+◌, ◌-◌, ◌*◌, ◌<◌, Bool, true, false, ◌&&◌, if◌then◌else◌, List, Option, Some}
+use Rattle.std.specs.Prelude.{None}
+use Rattle.jbig2_base.specs.Bits.{bit}
+use Rattle.jbig2_base.specs.Grid.{Grid, differ}
+use Rattle.jbig2_mmr.specs.declared.mmr.change.RowWord.{RowWord}
+use Rattle.jbig2_mmr.specs.declared.mmr.row.Place.{Place}
+use Rattle.jbig2_mmr.specs.declared.mmr.row.Turn.{Turn}
+use Rattle.jbig2_mmr.specs.T6.{Head, Step, black_at}
+use Rattle.jbig2_mmr.specs.inner.T6Reading.{IsTurn, IsRow}
 
 -- a place in a row, as the definition says it
 abbrev pub head_of : Place → Head

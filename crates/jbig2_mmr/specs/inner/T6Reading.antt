@@ -1,6 +1,9 @@
 -- What single calls of a T.6 decoder say (our own rule).
-use Rattle.std.specs.Prelude.{◌≡◌, ℕ, zero, suc, ◌+◌, ◌*◌, ◌/◌, ◌%◌, ◌<◌, ◌≤◌, Bool, true, false, List, [], ◌∷◌, ◌++◌, length, drop, replicate, Option, Some, None, if◌then◌else◌}
-use Rattle.{jbig2_base.specs.{Grid.{Grid, pixel_at, differ}, Table.{IsTable}}, jbig2_mmr.specs.T6.{begins, ends_block, Head, black_at}}
+use Rattle.std.specs.Prelude.{◌≡◌, ℕ, zero, suc, ◌+◌, ◌*◌, ◌/◌, ◌%◌, ◌<◌, ◌≤◌, Bool, true, false, List, [], ◌∷◌, ◌++◌}
+use Rattle.std.specs.Prelude.{length, drop, replicate, Option, Some, None, if◌then◌else◌}
+use Rattle.jbig2_base.specs.Grid.{Grid, pixel_at, differ}
+use Rattle.jbig2_base.specs.Table.{IsTable}
+use Rattle.jbig2_mmr.specs.T6.{begins, ends_block, Head, black_at}
 
 -- the lowest n bits of a number, high bit first, before others
 abbrev pub spell : ℕ → ℕ → List ℕ → List ℕ

@@ -1,6 +1,8 @@
 -- How many loads and words single calls of a T.6 decoder count (our own rule).
 use Rattle.std.specs.Prelude.{ℕ, ◌+◌, ◌-◌, ◌/◌, min, Bool, if◌then◌else◌, Option, Some, None, ℤ, pos, ◌-ℤ◌, ◌≤ℤ◌}
-use Rattle.jbig2_mmr.specs.declared.mmr.{codes.Mode.{Mode, TheVariants.{Pass, Horizontal, Vertical}}, row.Turn.{Turn}}
+use Rattle.jbig2_mmr.specs.declared.mmr.codes.Mode.{Mode}
+use Rattle.jbig2_mmr.specs.declared.mmr.codes.Mode.TheVariants.{Pass, Horizontal, Vertical}
+use Rattle.jbig2_mmr.specs.declared.mmr.row.Turn.{Turn}
 
 -- how many words of a row of w columns come after that of column a, up to that of column b or the last one
 abbrev pub words_after : ℕ → ℕ → ℕ → ℕ

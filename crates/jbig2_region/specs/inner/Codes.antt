@@ -1,8 +1,12 @@
 -- A stretch of a row, decoded, and its decisions (our own rule).
 use Rattle.std.specs.Prelude.{◌≡◌, ◌+◌, ◌*◌, ℕ, Bool, List, Option, Some, None, length, slice_index_or, slice_set}
-use Rattle.jbig2_base.specs.{Counts.{Counts}, Grid.{Grid, bit_number}}
+use Rattle.jbig2_base.specs.Counts.{Counts}
+use Rattle.jbig2_base.specs.Grid.{Grid, bit_number}
 use Rattle.jbig2_coder.specs.Coder.{Coder, Context, Decision, fresh, decision}
-use Rattle.jbig2_region.specs.{inner.{RowCounts.{decided_pixels}, Holds.{Holds}, Rows.{after_pixels}}, Raster.{Coding, Region}}
+use Rattle.jbig2_region.specs.inner.RowCounts.{decided_pixels}
+use Rattle.jbig2_region.specs.inner.Holds.{Holds}
+use Rattle.jbig2_region.specs.inner.Rows.{after_pixels}
+use Rattle.jbig2_region.specs.Raster.{Coding, Region}
 
 -- A bitmap, a coder and contexts before and after n pixels of row y, from column x on.
 abbrev pub Codes : Coding → Bool → ℕ → ℕ → ℕ → Grid → Coder → List Context → Grid → Coder → List Context → Type 0

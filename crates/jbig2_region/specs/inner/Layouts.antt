@@ -1,6 +1,12 @@
 -- The templates of generic regions by their neighbours (our own rule).
 use Rattle.std.specs.Prelude.{ℕ, ◌≡◌, false, List}
-use Rattle.jbig2_region.specs.{inner.Neighbours.{IsMixed, adaptive_count, mixed_count, mixed_pixels}, Templates.{adaptive_pixel_count, context_bits, template_pixels}, declared.template.{neighbours.{Adaptives.{Adaptives}, Neighbours.{Neighbours}}, AdaptiveTemplatePixel.{AdaptiveTemplatePixel}, Template.{Template, TheVariants.{Template0, Template1, Template2, Template3}}}}
+use Rattle.jbig2_region.specs.inner.Neighbours.{IsMixed, adaptive_count, mixed_count, mixed_pixels}
+use Rattle.jbig2_region.specs.Templates.{adaptive_pixel_count, context_bits, template_pixels}
+use Rattle.jbig2_region.specs.declared.template.neighbours.Adaptives.{Adaptives}
+use Rattle.jbig2_region.specs.declared.template.neighbours.Neighbours.{Neighbours}
+use Rattle.jbig2_region.specs.declared.template.AdaptiveTemplatePixel.{AdaptiveTemplatePixel}
+use Rattle.jbig2_region.specs.declared.template.Template.{Template}
+use Rattle.jbig2_region.specs.declared.template.Template.TheVariants.{Template0, Template1, Template2, Template3}
 
 abbrev pub neighbours_of : ℕ → ℕ → ℕ → ℕ → ℕ → Neighbours
 neighbours_of left above_reach above_count top_reach top_count = record { left = left; above = record { reach = above_reach; count = above_count }; top = record { reach = top_reach; count = top_count } }

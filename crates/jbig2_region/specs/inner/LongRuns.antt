@@ -2,7 +2,9 @@
 use Rattle.std.specs.Prelude.{ℕ, Bool, ◌&&◌, List, slice_index_or}
 use Rattle.jbig2_base.specs.Grid.{same_colour}
 use Rattle.jbig2_coder.specs.Coder.{fresh, all_quiet}
-use Rattle.jbig2_region.specs.{Raster.{Region}, Steps.{all_of, stays}, declared.template.AdaptiveTemplatePixel.{AdaptiveTemplatePixel}}
+use Rattle.jbig2_region.specs.Raster.{Region}
+use Rattle.jbig2_region.specs.Steps.{all_of, stays}
+use Rattle.jbig2_region.specs.declared.template.AdaptiveTemplatePixel.{AdaptiveTemplatePixel}
 
 -- whether the next n pixels are a run of a colour: of likely symbols, quiet, and in one context
 unfoldable pub is_run_for : List AdaptiveTemplatePixel → ℕ → ℕ → List ℕ → Region → Bool → ℕ → Bool

@@ -1,8 +1,21 @@
 -- Templates of generic regions as neighbours that lie side by side, with adaptive pixels between them (our own rule).
-use Rattle.std.specs.Prelude.{◌≡◌, ◌==◌, ℕ, zero, suc, ◌+◌, ◌-◌, ◌*◌, ◌/◌, ◌%◌, ◌^◌, ◌<◌, ◌≤◌, ℤ, pos, negsuc, ◌-ℤ◌, List, [], ◌∷◌, ◌++◌, length, Bool, true, false, ◌&&◌, if◌then◌else◌, Option, Some, None, min}
-use Rattle.jbig2_base.specs.{Grid.{Grid, pixel, pixel_at}, Bits.{bit}}
+use Rattle.std.specs.Prelude.{◌≡◌, ◌==◌, ℕ, zero, suc, ◌+◌, ◌-◌, ◌*◌, ◌/◌, ◌%◌, ◌^◌, ◌<◌, ◌≤◌, ℤ, pos, negsuc, ◌-ℤ◌}
+use Rattle.std.specs.Prelude.{List, [], ◌∷◌, ◌++◌, length, Bool, true, false, ◌&&◌, if◌then◌else◌, Option, Some, None}
+use Rattle.std.specs.Prelude.{min}
+use Rattle.jbig2_base.specs.Grid.{Grid, pixel, pixel_at}
+use Rattle.jbig2_base.specs.Bits.{bit}
 use Rattle.jbig2_coder.specs.Coder.{Coder, Context}
-use Rattle.jbig2_region.specs.{Generic.{context_at, known_colour}, inner.{Holds.{Holds}, Rows.{after_pixels}}, Raster.{Coding, Region}, declared.{template.{neighbours.{Adaptives.{Adaptives}, Layout.{Layout}, Neighbours.{Neighbours}, Stretch.{Stretch}}, AdaptiveTemplatePixel.{AdaptiveTemplatePixel}}, generic_kernel.windows.{WideWindows.{WideWindows}, Windows.{Windows}}}}
+use Rattle.jbig2_region.specs.Generic.{context_at, known_colour}
+use Rattle.jbig2_region.specs.inner.Holds.{Holds}
+use Rattle.jbig2_region.specs.inner.Rows.{after_pixels}
+use Rattle.jbig2_region.specs.Raster.{Coding, Region}
+use Rattle.jbig2_region.specs.declared.template.neighbours.Adaptives.{Adaptives}
+use Rattle.jbig2_region.specs.declared.template.neighbours.Layout.{Layout}
+use Rattle.jbig2_region.specs.declared.template.neighbours.Neighbours.{Neighbours}
+use Rattle.jbig2_region.specs.declared.template.neighbours.Stretch.{Stretch}
+use Rattle.jbig2_region.specs.declared.template.AdaptiveTemplatePixel.{AdaptiveTemplatePixel}
+use Rattle.jbig2_region.specs.declared.generic_kernel.windows.WideWindows.{WideWindows}
+use Rattle.jbig2_region.specs.declared.generic_kernel.windows.Windows.{Windows}
 
 -- this many pixels in the row that stands this many rows higher, the rightmost first
 abbrev pub side_by_side : ℤ → ℕ → ℕ → List AdaptiveTemplatePixel

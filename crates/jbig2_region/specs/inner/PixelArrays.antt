@@ -1,6 +1,12 @@
 -- The code's arrays of adaptive pixels, which hold four, twelve or two of them: a region has the first that many.
 use Rattle.std.specs.Prelude.{ℕ, ◌≡◌, Bool, true, false, List, [], ◌∷◌, zero, suc, take}
-use Rattle.jbig2_region.specs.{declared.template.{AdaptiveTemplatePixel.{AdaptiveTemplatePixel}, Template.{Template}, GenericTemplatePixels.{GenericTemplatePixels, TheVariants.{Regular, Extended}}, RefinementTemplate.{RefinementTemplate}}, Templates.{right, adaptive_pixel_count}, RefinementTemplates.{refinement_pixel_count}}
+use Rattle.jbig2_region.specs.declared.template.AdaptiveTemplatePixel.{AdaptiveTemplatePixel}
+use Rattle.jbig2_region.specs.declared.template.Template.{Template}
+use Rattle.jbig2_region.specs.declared.template.GenericTemplatePixels.{GenericTemplatePixels}
+use Rattle.jbig2_region.specs.declared.template.GenericTemplatePixels.TheVariants.{Regular, Extended}
+use Rattle.jbig2_region.specs.declared.template.RefinementTemplate.{RefinementTemplate}
+use Rattle.jbig2_region.specs.Templates.{right, adaptive_pixel_count}
+use Rattle.jbig2_region.specs.RefinementTemplates.{refinement_pixel_count}
 
 abbrev pub four_pixels : Template → List AdaptiveTemplatePixel → List AdaptiveTemplatePixel
 four_pixels template a = take (adaptive_pixel_count false false template) a

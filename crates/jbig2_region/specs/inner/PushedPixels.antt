@@ -1,8 +1,13 @@
 -- Pixels that are decoded into a number and then stored (our own rule).
 use Rattle.std.specs.Prelude.{◌≡◌, ℕ, ◌+◌, ◌*◌, ◌%◌, ◌<◌, ◌≤◌, false, List}
-use Rattle.jbig2_base.specs.{Grid.{Grid}, Writes.{with_pixels}}
+use Rattle.jbig2_base.specs.Grid.{Grid}
+use Rattle.jbig2_base.specs.Writes.{with_pixels}
 use Rattle.jbig2_coder.specs.Coder.{Coder, Context}
-use Rattle.jbig2_region.specs.{inner.{Neighbours.{DecodesPixels, IsLeft, Shows, ShowsGroup, ShowsRun, nominal_pixels}, RowCounts.{CountsRuns}}, declared.{generic_kernel.windows.{WideWindows.{WideWindows}, Windows.{Windows}}, template.neighbours.Neighbours.{Neighbours}}}
+use Rattle.jbig2_region.specs.inner.Neighbours.{DecodesPixels, IsLeft, Shows, ShowsGroup, ShowsRun, nominal_pixels}
+use Rattle.jbig2_region.specs.inner.RowCounts.{CountsRuns}
+use Rattle.jbig2_region.specs.declared.generic_kernel.windows.WideWindows.{WideWindows}
+use Rattle.jbig2_region.specs.declared.generic_kernel.windows.Windows.{Windows}
+use Rattle.jbig2_region.specs.declared.template.neighbours.Neighbours.{Neighbours}
 
 -- a bitmap with this many columns from column x of row y on, what the windows show of it there, and the pixels left of it
 pub record StandsAt (shown : Type 0) (g : Grid) (x y count left : ℕ) : Type 0 where

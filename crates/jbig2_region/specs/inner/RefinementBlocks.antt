@@ -1,9 +1,17 @@
 -- What the code holds in the middle of a block of a row, before the block is stored: of a refinement, or where pixels are
 -- skipped (our own rule).
 use Rattle.std.specs.Prelude.{◌≡◌, ℕ, ◌+◌, ◌*◌, ◌^◌, ◌<◌, ◌≤◌, Bool, List, None}
-use Rattle.jbig2_base.specs.{Counts.{Counts}, Grid.{Grid}, Writes.{with_pixels}}
+use Rattle.jbig2_base.specs.Counts.{Counts}
+use Rattle.jbig2_base.specs.Grid.{Grid}
+use Rattle.jbig2_base.specs.Writes.{with_pixels}
 use Rattle.jbig2_coder.specs.Coder.{Coder, Context}
-use Rattle.jbig2_region.specs.{Raster.{Coding}, Refinement.{Reference, refinement_coding}, inner.{Codes.{Codes, CountsCodes}, Neighbours.{IsLeft}, RefinementWindows.{SeesRows, corners, known_of, nine_of}}, declared.{refinement_kernel.windows.RefinementWindows.{RefinementWindows}, template.RefinementTemplate.{RefinementTemplate}}}
+use Rattle.jbig2_region.specs.Raster.{Coding}
+use Rattle.jbig2_region.specs.Refinement.{Reference, refinement_coding}
+use Rattle.jbig2_region.specs.inner.Codes.{Codes, CountsCodes}
+use Rattle.jbig2_region.specs.inner.Neighbours.{IsLeft}
+use Rattle.jbig2_region.specs.inner.RefinementWindows.{SeesRows, corners, known_of, nine_of}
+use Rattle.jbig2_region.specs.declared.refinement_kernel.windows.RefinementWindows.{RefinementWindows}
+use Rattle.jbig2_region.specs.declared.template.RefinementTemplate.{RefinementTemplate}
 
 -- what the code holds after k pixels of a block: the pixels as a number, after the four at the left
 pub record Block (coding : Coding) (p : Bool) (x y k : ℕ) (g : Grid) (d0 : Coder) (s0 : List Context) (t0 : Counts) (pixels : ℕ) (d : Coder) (s : List Context) (t : Counts) : Type 0 where

@@ -1,7 +1,17 @@
 -- Windows of 64 pixels on the rows that a refinement's pixels are taken from (our own rule).
-use Rattle.std.specs.Prelude.{◌≡◌, ℕ, ◌+◌, ◌-◌, ◌*◌, ◌/◌, ◌%◌, ◌^◌, ◌<◌, ◌==◌, ℤ, pos, negsuc, ◌+ℤ◌, ◌-ℤ◌, Bool, true, false, if◌then◌else◌, List, [], ◌∷◌, Option, Some, None}
-use Rattle.jbig2_base.specs.{Grid.{Grid, pixel}, Bits.{bit}}
-use Rattle.jbig2_region.specs.{Raster.{Coding}, Refinement.{Reference, refinement_coding}, RefinementTemplates.{apart}, inner.RefinementViews.{reference_view}, declared.{refinement_kernel.{WindowedCoding.{WindowedCoding}, windows.RefinementWindows.{RefinementWindows}}, template.{AdaptiveTemplatePixel.{AdaptiveTemplatePixel}, RefinementTemplate.{RefinementTemplate, TheVariants.{Template0, Template1}}}}}
+use Rattle.std.specs.Prelude.{◌≡◌, ℕ, ◌+◌, ◌-◌, ◌*◌, ◌/◌, ◌%◌, ◌^◌, ◌<◌, ◌==◌, ℤ, pos, negsuc, ◌+ℤ◌, ◌-ℤ◌, Bool, true}
+use Rattle.std.specs.Prelude.{false, if◌then◌else◌, List, [], ◌∷◌, Option, Some, None}
+use Rattle.jbig2_base.specs.Grid.{Grid, pixel}
+use Rattle.jbig2_base.specs.Bits.{bit}
+use Rattle.jbig2_region.specs.Raster.{Coding}
+use Rattle.jbig2_region.specs.Refinement.{Reference, refinement_coding}
+use Rattle.jbig2_region.specs.RefinementTemplates.{apart}
+use Rattle.jbig2_region.specs.inner.RefinementViews.{reference_view}
+use Rattle.jbig2_region.specs.declared.refinement_kernel.WindowedCoding.{WindowedCoding}
+use Rattle.jbig2_region.specs.declared.refinement_kernel.windows.RefinementWindows.{RefinementWindows}
+use Rattle.jbig2_region.specs.declared.template.AdaptiveTemplatePixel.{AdaptiveTemplatePixel}
+use Rattle.jbig2_region.specs.declared.template.RefinementTemplate.{RefinementTemplate}
+use Rattle.jbig2_region.specs.declared.template.RefinementTemplate.TheVariants.{Template0, Template1}
 
 -- the pixels of a row from a column on, the first in bit 63
 abbrev pub Sees : Grid → ℤ → ℤ → ℕ → Type 0

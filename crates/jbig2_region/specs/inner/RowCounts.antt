@@ -2,7 +2,12 @@
 use Rattle.std.specs.Prelude.{◌≡◌, ℕ, zero, suc, ◌+◌, ◌*◌, Bool, false, if◌then◌else◌, List, length}
 use Rattle.jbig2_base.specs.Grid.{Grid, bit_number}
 use Rattle.jbig2_coder.specs.Coder.{Coder, Context}
-use Rattle.jbig2_region.specs.{Steps.{takes_decision, is_run_byte}, Raster.{Coding, Region, row_begun}, inner.{Holds.{Holds}, Neighbours.{row_coding}, Rows.{after_pixels, after_rows}}, declared.template.AdaptiveTemplatePixel.{AdaptiveTemplatePixel}}
+use Rattle.jbig2_region.specs.Steps.{takes_decision, is_run_byte}
+use Rattle.jbig2_region.specs.Raster.{Coding, Region, row_begun}
+use Rattle.jbig2_region.specs.inner.Holds.{Holds}
+use Rattle.jbig2_region.specs.inner.Neighbours.{row_coding}
+use Rattle.jbig2_region.specs.inner.Rows.{after_pixels, after_rows}
+use Rattle.jbig2_region.specs.declared.template.AdaptiveTemplatePixel.{AdaptiveTemplatePixel}
 
 -- ---- decisions
 -- how many of the next n pixels take one

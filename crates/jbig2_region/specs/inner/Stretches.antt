@@ -1,8 +1,10 @@
 -- What the decoding of some pixels of a row leaves, all in all (our own rule).
 use Rattle.std.specs.Prelude.{◌≡◌, ℕ, Bool, List}
-use Rattle.jbig2_base.specs.{Counts.{Counts}, Grid.{Grid}}
+use Rattle.jbig2_base.specs.Counts.{Counts}
+use Rattle.jbig2_base.specs.Grid.{Grid}
 use Rattle.jbig2_coder.specs.Coder.{Coder, Context}
-use Rattle.jbig2_region.specs.{Raster.{Coding}, inner.Codes.{Codes, CountsCodes}}
+use Rattle.jbig2_region.specs.Raster.{Coding}
+use Rattle.jbig2_region.specs.inner.Codes.{Codes, CountsCodes}
 
 abbrev pub rest_of : Counts → ℕ × ℕ × ℕ  -- what no pixel of a raster counts: run tests, groups of lanes, single pixels
 rest_of c = (c.run_tests, c.groups, c.pixels)

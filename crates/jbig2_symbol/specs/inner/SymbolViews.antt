@@ -1,6 +1,15 @@
 -- How a dictionary's input, and what its reading has come to, are seen by the definitions (our own rule).
-use Rattle.std.specs.{Borrow.{Bor}, Prelude.{ℕ, ◌+◌, ◌-◌, ◌*◌, ◌==◌, ◌≡◌, ◌++◌, List, length, map, Option, Some, None, option_map, Result, Ok, Err}}
-use Rattle.jbig2_base.specs.{Answer.{◌>>=◌}, declared.error.{DecodeError.{DecodeError, TheVariants.{Huffman, Overflow}}, HuffmanError.TheVariants.{UnexpectedOob}, OverflowError.TheVariants.{BitmapDimension}}, Bits.{Place, aligned}, Fields.{bytes_at}, Grid.{Grid, bit_number, wide_or_overflow}}
+use Rattle.std.specs.Borrow.{Bor}
+use Rattle.std.specs.Prelude.{ℕ, ◌+◌, ◌-◌, ◌*◌, ◌==◌, ◌≡◌, ◌++◌, List, length, map, Option, Some, None, option_map}
+use Rattle.std.specs.Prelude.{Result, Ok, Err}
+use Rattle.jbig2_base.specs.Answer.{◌>>=◌}
+use Rattle.jbig2_base.specs.declared.error.DecodeError.{DecodeError}
+use Rattle.jbig2_base.specs.declared.error.DecodeError.TheVariants.{Huffman, Overflow}
+use Rattle.jbig2_base.specs.declared.error.HuffmanError.TheVariants.{UnexpectedOob}
+use Rattle.jbig2_base.specs.declared.error.OverflowError.TheVariants.{BitmapDimension}
+use Rattle.jbig2_base.specs.Bits.{Place, aligned}
+use Rattle.jbig2_base.specs.Fields.{bytes_at}
+use Rattle.jbig2_base.specs.Grid.{Grid, bit_number, wide_or_overflow}
 use Rattle.jbig2_text.specs.TextCoding.{Coded, in_band}
 use Rattle.jbig2_symbol.specs.{SymbolBitmaps.{collective_bitmap, raw_stride}, SymbolReading.{BitmapContexts, SymbolInput, SymbolState, SymbolTables, by_table, not_negative}, Symbols.{Symbols}, inner.HeaderViews.{contexts_view, header_view}, declared.symbol.{coded.CodedSymbols.{CodedSymbols}, dictionary.{RetainedContexts.{RetainedContexts}, SymbolDictionary.{SymbolDictionary}}, input.{SymbolInput.{SymbolInput as Input}, SymbolTables.{SymbolTables as Tables}}, prefixed.PrefixedSymbols.{PrefixedSymbols}, widths.RunningWidths.{RunningWidths}}}
 use Rattle.jbig2_text.specs.inner.TextViews as texts

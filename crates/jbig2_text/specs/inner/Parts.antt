@@ -1,9 +1,27 @@
 -- Parts of the definitions, under names of their own: what some private functions give.
-use Rattle.std.specs.{Prelude.{ℕ, ◌-◌, ◌/◌, ◌%◌, ◌==◌, Bool, false, if◌then◌else◌, ℤ, pos, ◌-ℤ◌, List, [], Option, Result, Ok}, Option.{is_some}}
-use Rattle.jbig2_base.specs.{Answer.{◌>>=◌, refuse_if}, Grid.{Grid}, declared.{bitmap.operator.CombinationOperator.{CombinationOperator}, error.{DecodeError.{DecodeError, TheVariants.{Symbol}}, SymbolError.TheVariants.{TooManyInstances}}}}
-use Rattle.jbig2_coder.specs.{Coder.{Context}, PrefixCode.{Member, prefix_code}, Tables.{next_custom, standard, lines_a, lines_n, lines_o}}
-use Rattle.jbig2_region.specs.{Raster.{fresh_contexts}, RefinementTemplates.{refinement_bits, refinement_pixels_at, refinement_template_of}, declared.template.{AdaptiveTemplatePixel.{AdaptiveTemplatePixel}, RefinementTemplate.{RefinementTemplate}}}
-use Rattle.jbig2_text.specs.{Refining.{Refining}, Text.{Found, Instance, Reached, Readings, TextParams, after_instances, cursor_moved, grown, is_last_along_s, strip_begun, with_instance}, TextHeader.{corner_of, signed_5}, TextRegion.{one_of_two}, declared.text.{cursor.Cursor.{Cursor}, header.TextRegionFlags.{TextRegionFlags}}}
+use Rattle.std.specs.Prelude.{ℕ, ◌-◌, ◌/◌, ◌%◌, ◌==◌, Bool, false, if◌then◌else◌, ℤ, pos, ◌-ℤ◌, List, [], Option}
+use Rattle.std.specs.Prelude.{Result, Ok}
+use Rattle.std.specs.Option.{is_some}
+use Rattle.jbig2_base.specs.Answer.{◌>>=◌, refuse_if}
+use Rattle.jbig2_base.specs.Grid.{Grid}
+use Rattle.jbig2_base.specs.declared.bitmap.operator.CombinationOperator.{CombinationOperator}
+use Rattle.jbig2_base.specs.declared.error.DecodeError.{DecodeError}
+use Rattle.jbig2_base.specs.declared.error.DecodeError.TheVariants.{Symbol}
+use Rattle.jbig2_base.specs.declared.error.SymbolError.TheVariants.{TooManyInstances}
+use Rattle.jbig2_coder.specs.Coder.{Context}
+use Rattle.jbig2_coder.specs.PrefixCode.{Member, prefix_code}
+use Rattle.jbig2_coder.specs.Tables.{next_custom, standard, lines_a, lines_n, lines_o}
+use Rattle.jbig2_region.specs.Raster.{fresh_contexts}
+use Rattle.jbig2_region.specs.RefinementTemplates.{refinement_bits, refinement_pixels_at, refinement_template_of}
+use Rattle.jbig2_region.specs.declared.template.AdaptiveTemplatePixel.{AdaptiveTemplatePixel}
+use Rattle.jbig2_region.specs.declared.template.RefinementTemplate.{RefinementTemplate}
+use Rattle.jbig2_text.specs.Refining.{Refining}
+use Rattle.jbig2_text.specs.Text.{Found, Instance, Reached, Readings, TextParams, after_instances, cursor_moved, grown}
+use Rattle.jbig2_text.specs.Text.{is_last_along_s, strip_begun, with_instance}
+use Rattle.jbig2_text.specs.TextHeader.{corner_of, signed_5}
+use Rattle.jbig2_text.specs.TextRegion.{one_of_two}
+use Rattle.jbig2_text.specs.declared.text.cursor.Cursor.{Cursor}
+use Rattle.jbig2_text.specs.declared.text.header.TextRegionFlags.{TextRegionFlags}
 
 -- ---- the header
 -- the bits of the flags after SBHUFF

@@ -1,7 +1,9 @@
 -- Values of the code, seen as values of the definitions.
-use Rattle.std.specs.{Prelude.{List, [], ◌++◌, map, if◌then◌else◌, take, Option, Some, None}, Borrow.{Bor}}
+use Rattle.std.specs.Prelude.{List, [], ◌++◌, map, if◌then◌else◌, take, Option, Some, None}
+use Rattle.std.specs.Borrow.{Bor}
 use Rattle.jbig2_base.specs.Grid.{Grid}
-use Rattle.jbig2_region.specs.{inner.PixelArrays.{two_pixels}, declared.template.AdaptiveTemplatePixel.{AdaptiveTemplatePixel}}
+use Rattle.jbig2_region.specs.inner.PixelArrays.{two_pixels}
+use Rattle.jbig2_region.specs.declared.template.AdaptiveTemplatePixel.{AdaptiveTemplatePixel}
 use Rattle.jbig2_text.specs.{Refining.{Refining}, Text.{Instance, Reached, TextParams as Params}, TextCoding.{Coded, Prefixed, TextTables}, declared.text.{coded.CodedReadings.{CodedReadings}, header.{TextFields.{TextFields}, TextRegionCoding.{TextRegionCoding}, TextRegionFlags.{TextRegionFlags}, TextRegionHeader.{TextRegionHeader}}, instances.PlacedInstances.{PlacedInstances}, placement.Instance.{Instance as PlacedSymbol}, prefixed.PrefixedReadings.{PrefixedReadings}, symbol_list.SymbolList.{SymbolList}, symbols.{InstanceSymbol.{InstanceSymbol, TheVariants.{Shared, Refined}}, TextParams.{TextParams}}, tables.TextRegionHuffmanTables.{TextRegionHuffmanTables}}, TextHeader.{NumberCoding, ArithmeticCoding, HuffmanCoding, TextHeader}}
 use Rattle.jbig2_text.specs.declared.text.header.TextRegionCoding.TheVariants as codings
 
