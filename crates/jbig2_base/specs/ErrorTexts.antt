@@ -1,5 +1,5 @@
 -- The text of each error, as its `Display` writes it (our own rule). Each definition takes the errors of one enum and
--- gives the bytes of their texts; `error_text` takes any of them.
+-- gives the bytes of their texts. `error_text` takes any error.
 use Rattle.std.specs.Prelude.{ℕ, List, codes}
 use Rattle.jbig2_base.specs.declared.error.DecodeError.{DecodeError}
 use Rattle.jbig2_base.specs.declared.error.ParseError.{ParseError}

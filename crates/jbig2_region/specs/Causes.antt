@@ -1,5 +1,5 @@
--- Which rule the bytes break where a header or a region is refused (docs/FORMAT.md), a line for each error. A
--- predicate `Breaks..` takes the bytes, or two regions, and an error; the function that refuses cites it.
+-- The rule that the bytes break where a header or a region is refused (docs/FORMAT.md), one line for each error. A
+-- predicate `Breaks..` takes the bytes, or two regions, and an error. The function that refuses cites it.
 use Rattle.std.specs.Prelude.{◌≡◌, ◌<◌, ◌≤◌, ◌⊎◌, ℕ, ◌+◌, ◌-◌, ◌*◌, ◌/◌, ◌%◌, ◌^◌, ◌==◌, Bool, true, if◌then◌else◌}
 use Rattle.std.specs.Prelude.{List, length, ℤ, pos, ◌<ℤ◌, ◌≤ℤ◌}
 use Rattle.std.specs.Int.{w8, w32, cast_signed}
@@ -24,11 +24,11 @@ BreaksRegionInfo bytes errors.Unsupported = (17 ≤ length bytes) × (number_in 
 BreaksRegionInfo bytes _ = ⊥
 
 -- ---- adaptive pixels (7.4.6.3)
--- this many columns to the right and rows down: at the pixel that is decoded, or after it
+-- a pixel this many columns to the right and rows down is the one that is decoded, or comes after it
 abbrev pub IsLate : ℤ → ℤ → Type 0
 IsLate columns rows = (pos 0 <ℤ rows) ⊎ ((rows ≡ pos 0) × (pos 0 ≤ℤ columns))
 
--- this many pixels from this byte on, two bytes each in two's complement
+-- this many pixels from this byte on, each as two bytes in two's complement
 abbrev pub BreaksPixels : ℕ → ℕ → List ℕ → DecodeError → Type 0
 BreaksPixels count place bytes (errors.Parse UnexpectedEof) = length bytes < place + 2 * count
 BreaksPixels count place bytes (errors.Template InvalidAtPixel) =
@@ -36,20 +36,20 @@ BreaksPixels count place bytes (errors.Template InvalidAtPixel) =
     × IsLate (cast_signed w8 (number_in w8 (place + 2 * k) bytes)) (cast_signed w8 (number_in w8 (place + 2 * k + 1) bytes))
 BreaksPixels count place bytes _ = ⊥
 
--- ---- generic regions (7.4.6): where the segment's length is unknown the last four bytes are the number of rows
+-- ---- generic regions (7.4.6): if the segment's length is unknown, the last four bytes are the number of rows
 abbrev pub BreaksRows : Bool → ℕ → List ℕ → DecodeError → Type 0
 BreaksRows unknown height bytes (errors.Parse UnexpectedEof) = (unknown ≡ true) × (length bytes < 4)
 BreaksRows unknown height bytes (errors.Region InvalidDimension) =
     (unknown ≡ true) × (4 ≤ length bytes) × (height < number_in w32 (length bytes - 4) bytes)
 BreaksRows unknown height bytes _ = ⊥
 
--- how many adaptive pixels the flags at byte 17 ask for; they stand from byte 18 on
+-- how many adaptive pixels the flags at byte 17 ask for; they begin at byte 18
 abbrev pub pixels_in : List ℕ → ℕ
 pixels_in bytes =
     let flags = number_in w8 17 bytes in
     adaptive_pixel_count (flags % 2 == 1) (flags / 16 % 2 == 1) (template_of (flags / 2 % 4))
 
--- the width stands at byte 0, the height at byte 4
+-- the width is at byte 0, the height at byte 4
 abbrev pub BreaksGenericHeader : Bool → List ℕ → DecodeError → Type 0
 BreaksGenericHeader unknown bytes (errors.Parse UnexpectedEof) =
     length bytes < 18 + 2 * pixels_in bytes + (if unknown then 4 else 0)

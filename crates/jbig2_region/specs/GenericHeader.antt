@@ -1,5 +1,5 @@
 -- The data of a generic region segment up to its coded bytes (T.88, 7.4.6): region information, flags and adaptive
--- pixels. The bytes give the header, and the coded bytes stand after it.
+-- pixels. The bytes give the header, and the coded bytes come after it.
 use Rattle.std.specs.Prelude.{ℕ, ◌-◌, ◌/◌, ◌%◌, ◌≤◌, ◌==◌, nat_lt, Bool, true, false, ◌||◌, List, length, take, drop}
 use Rattle.std.specs.Prelude.{Result, Ok}
 use Rattle.std.specs.Int.{w8, w32}
@@ -26,7 +26,7 @@ pub record GenericHeader : Type 0 where
   pub bytes : List ℕ
   pub strict : Bool
 
--- the height and the coded bytes: with an unknown length the last four state the rows, at most the height (7.4.6.4)
+-- the height and the coded bytes; with unknown length the last four bytes state the rows, at most the height (7.4.6.4)
 unfoldable pub rows_at : Bool → ℕ → List ℕ → Result (ℕ × List ℕ) DecodeError
 rows_at false height bytes = Ok (height, bytes)
 rows_at true height bytes = do
@@ -34,7 +34,7 @@ rows_at true height bytes = do
   within ← refuse_if (nat_lt height rows.0) (errors.Region InvalidDimension)
   Ok (rows.0, take (length bytes - 4) bytes)
 
--- the header, and the bytes from the coded ones on; neither side may pass 65535 (our own rule)
+-- the header, and the bytes from the coded ones on; neither side may be above 65535 (our own rule)
 unfoldable pub generic_header_at : Bool → Bool → List ℕ → Result (GenericHeader × List ℕ) DecodeError
 generic_header_at unknown_length strict bytes = do
   info ← region_info_at bytes
@@ -59,7 +59,7 @@ generic_header_at unknown_length strict bytes = do
     pixels.1,
   )
 
-pub record IsParsed (h : GenericHeader) : Type 0 where  -- what holds of every header that is read
+pub record IsParsed (h : GenericHeader) : Type 0 where  -- what holds for every header that is read
   pub columns : h.region_info.width ≤ 65535
   pub rows : h.region_info.height ≤ 65535
   pub pixels : FitsTemplate h.extended h.template
