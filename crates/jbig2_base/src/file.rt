@@ -188,10 +188,11 @@ fn read_file<'a, A: Allocator + Clone>(
 
 /// Reads the file in `bytes` (T.88, Annex D).
 ///
-/// Returns the first error of the header (`FormatError`) or of a segment (`SegmentError`, or `ParseError` if the bytes
-/// end too early), or `DecodeError::OutOfMemory`. Salvage ends before a segment that is refused. Either organization
-/// gives the same segments: if the bytes are a header and segments that the reading accepts, each of known length and
-/// the last one the only end of file, the file has those.
+/// Returns the first error of the header (`FormatError`) or of a segment (`SegmentError`, or
+/// `ParseError` if the bytes end too early), or `DecodeError::OutOfMemory`. Salvage ends before a
+/// segment that is refused. Either organization gives the same segments: if the bytes are a header
+/// and segments that the reading accepts, each of known length and the last one the only end of
+/// file, the file has those.
 pub fn parse_file<'a, A: Allocator + Clone>(
     alloc: A,
     bytes: &'a [u8],
@@ -205,8 +206,8 @@ pub fn parse_file<'a, A: Allocator + Clone>(
     read_file(alloc, bytes, reading)
 }
 
-/// In salvage: the error of the segment that lenient reading of the bytes refuses, and that is left out. `None` if it
-/// refuses none, and in the other readings.
+/// In salvage: the error of the segment that lenient reading of the bytes refuses, and that is left
+/// out. `None` if it refuses none, and in the other readings.
 pub fn sequence_fault<A: Allocator + Clone>(
     alloc: A,
     bytes: &[u8],
@@ -225,8 +226,8 @@ pub fn sequence_fault<A: Allocator + Clone>(
     }
 }
 
-/// In salvage: the error that lenient reading of the file returns, and for which segments are left out. `None` if it
-/// returns none, and in the other readings.
+/// In salvage: the error that lenient reading of the file returns, and for which segments are left
+/// out. `None` if it returns none, and in the other readings.
 pub fn file_fault<A: Allocator + Clone>(
     alloc: A,
     bytes: &[u8],

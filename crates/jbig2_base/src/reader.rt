@@ -8,8 +8,9 @@ use std::marker::Model;
 
 /// Bytes and a place in them. The place has a byte and a bit, so that no length overflows.
 ///
-/// `None` means that the bytes end too early. A refused byte read does not move the place, and a refused bit read moves
-/// it to the end. Byte reads need a place at the beginning of a byte. No call takes memory.
+/// `None` means that the bytes end too early. A refused byte read does not move the place, and a
+/// refused bit read moves it to the end. Byte reads need a place at the beginning of a byte. No call
+/// takes memory.
 #[derive(Drop)]
 pub struct Reader<'a> {
     bytes: &'a [u8],

@@ -102,9 +102,9 @@ impl ArithmeticDecoderContext {
         symbol
     }
 
-    /// Chooses the symbol of a decision that isn't quiet, and its part of the interval (MPS_EXCHANGE and LPS_EXCHANGE,
-    /// E.3.2). `state` is the data of the context's state, `rest` is what the less likely symbol leaves of A, and
-    /// `high` is the upper half of C.
+    /// Chooses the symbol of a decision that isn't quiet, and its part of the interval (MPS_EXCHANGE
+    /// and LPS_EXCHANGE, E.3.2). `state` is the data of the context's state, `rest` is what the less
+    /// likely symbol leaves of A, and `high` is the upper half of C.
     #[inline(always)]
     fn exchange(&mut self, state: State, rest: u32, high: u32) -> Part
         requires normal { 0x8000 ≤ rest + state.qe }

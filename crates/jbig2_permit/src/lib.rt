@@ -1,5 +1,5 @@
-//! The permission to make a counter of steps. `crates.txt` lists this crate only for crates that call whole kernels. A
-//! kernel can't name it, so it counts its steps in the counter that it is given.
+//! The permission to make a counter of steps. `crates.txt` lists this crate only for crates that call whole kernels.
+//! A kernel can't name it, so it counts its steps in the counter that it is given.
 #![tactic(auto)]
 
 /// The permission to make one counter.

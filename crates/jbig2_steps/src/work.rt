@@ -8,8 +8,8 @@ use jbig2_permit::Permit;
 use std::alloc::AllocError;
 use std::sync::ledger::{Blank, Ledger};
 
-/// The counts so far, and how many units of work are left. Kernels get only the counts, so they take no unit. A call
-/// without enough units is refused like a call without enough memory.
+/// The counts so far, and how many units of work are left. Kernels get only the counts, so they take no unit. A
+/// call without enough units is refused like a call without enough memory.
 #[derive(Drop)]
 pub struct Work<L: Ledger> {
     /// The counts so far.
@@ -18,8 +18,8 @@ pub struct Work<L: Ledger> {
     pub left: u64,
 }
 
-/// The units for a bitmap of this size: its pixels, with each row rounded up to words of 64 columns, at least one, and
-/// 64 more.
+/// The units for a bitmap of this size: its pixels, with each row rounded up to words of 64 columns, at least one,
+/// and 64 more.
 pub fn price_of_bitmap(width: u32, height: u32) -> u64
     ensures { result ≡ price_of_bitmap width height }
 {

@@ -7,7 +7,7 @@ use Rattle.jbig2_base.specs.declared.bitmap.part.Area.{Area}
 unfoldable pub is_before : ℕ → ℕ → ℕ → ℕ → Bool
 is_before y x i j = nat_lt j y || (j == y && nat_lt i x)
 
--- the pixels of f up to column x of row y, and white after
+-- the pixels of f before column x of row y, and white from there on
 abbrev pub filled : ℕ → ℕ → (ℕ → ℕ → Bool) → ℕ → ℕ → Grid
 filled w h f y x = grid_of w h (λ i j. is_before y x i j && f i j)
 

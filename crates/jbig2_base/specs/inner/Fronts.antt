@@ -1,4 +1,4 @@
--- What stands before coded data of unknown length (T.88, 7.2.7).
+-- The fields before coded data of unknown length (T.88, 7.2.7).
 use Rattle.std.specs.Prelude.{ℕ, List, Result, Ok}
 use Rattle.std.specs.Int.{w8}
 use Rattle.jbig2_base.specs.Fields.{bytes_at, number_at}

@@ -1,4 +1,4 @@
--- Segments of the code, seen as segments of the definitions.
+-- Segments of the code, as segments of the definitions.
 use Rattle.std.specs.Prelude.{List, map}
 use Rattle.jbig2_base.specs.Segment.{Header, SegmentView}
 use Rattle.jbig2_base.specs.declared.file.File.{File}

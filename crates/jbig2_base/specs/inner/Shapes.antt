@@ -1,4 +1,4 @@
--- Words in which rows of a known shape lie (our own rule), and the grid that they hold.
+-- Words in which rows of a known shape lie, and the grid in these words (our own rule).
 use Rattle.std.specs.Prelude.{ℕ, List}
 use Rattle.jbig2_base.specs.declared.bitmap.rows.blocks.Shape.{Shape}
 use Rattle.jbig2_base.specs.Grid.{Grid}

@@ -151,8 +151,8 @@ impl<A: Allocator> PackedRows<A> {
             .row(row_place(y, self.width, self.height, self.stride))
     }
 
-    /// Sets `count` neighbouring pixels of row `y` from column `x` on to the lowest `count` bits of `bits`, high bit
-    /// first. The pixels lie in one word.
+    /// Sets `count` neighbouring pixels of row `y` from column `x` on to the lowest `count` bits of
+    /// `bits`, high bit first. The pixels lie in one word.
     #[inline(always)]
     pub fn store_pixels<L: Ledger>(
         &mut self,

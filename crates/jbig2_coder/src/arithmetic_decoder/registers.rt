@@ -152,7 +152,8 @@ impl BufferedRegisters {
         }
     }
 
-    /// Shifts once, with an empty buffer. The bits of the next byte come in, whatever byte comes before it.
+    /// Shifts once, with an empty buffer. The bits of the next byte come in, whatever byte comes before
+    /// it.
     #[inline(always)]
     fn take_byte(&mut self, bytes: &[u8])
         requires some { 1 ≤ self.old.a }
@@ -193,8 +194,8 @@ impl BufferedRegisters {
         self.shift(batch(self.a, self.code.bits));
     }
 
-    /// Shifts until A has its top bit again, if the buffer has too few bits for it. That is rare, so it is a function
-    /// of its own.
+    /// Shifts until A has its top bit again, if the buffer has too few bits for it. That is rare, so
+    /// it is a function of its own.
     #[inline(never)]
     fn renormalize_by_turns(&mut self, bytes: &[u8])
         requires some { 1 ≤ self.old.a }

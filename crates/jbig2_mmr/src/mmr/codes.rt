@@ -1,7 +1,7 @@
 //! The codes of T.6.
 //!
-//! The next bits are the index into a table of runs. An entry is 16 times the run of the code at their front, plus the
-//! size of that code in bits. It is 0 if there is no code at their front.
+//! The next bits are the index into a table of runs. An entry is 16 times the run of the code at their
+//! front, plus the size of that code in bits. It is 0 if there is no code at their front.
 ghost use Rattle.std.specs.Prelude.{◌≡◌, ◌^◌, ◌<◌, []};
 ghost use Rattle.jbig2_mmr.specs.T6.{runs_of};
 ghost use Rattle.jbig2_mmr.specs.inner.T6Reading.{entry_of, code_at, spell};

@@ -27,7 +27,8 @@ pub struct Place {
     black: bool,
 }
 
-/// The result of a mode: the colour stays up to `turn`, and then the other one comes up to a0 of `next`.
+/// The result of a mode: the colour stays up to `turn`, and then the other one comes up to a0 of
+/// `next`.
 #[derive(Clone, Copy)]
 pub struct Turn {
     turn: u32,
@@ -233,8 +234,8 @@ fn vertical<A: Allocator, L: Ledger>(
     })
 }
 
-/// b1: the first pixel of the reference row right of a0 that does not have the colour of a0, but whose left neighbour
-/// has it. `word` is the word of that row above a0.
+/// b1: the first pixel of the reference row right of a0 that does not have the colour of a0, but
+/// whose left neighbour has it. `word` is the word of that row above a0.
 #[inline(always)]
 fn find_b1<A: Allocator, L: Ledger>(
     bitmap: &Bitmap<A>,

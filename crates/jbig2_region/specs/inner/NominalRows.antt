@@ -1,4 +1,4 @@
--- Rows, and whole regions of few columns, of a template without adaptive pixels: what has to be there before, and what their
+-- Rows, and whole regions of few columns, of a template without adaptive pixels: what must hold before, and what
 -- decoding leaves and counts (our own rule).
 use Rattle.std.specs.Prelude.{◌≡◌, ℕ, ◌+◌, ◌-◌, ◌*◌, ◌/◌, ◌^◌, ◌<◌, ◌≤◌, true, false, List, length}
 use Rattle.jbig2_base.specs.Counts.{Counts, KeepsLanes}

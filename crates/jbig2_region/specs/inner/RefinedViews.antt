@@ -1,4 +1,4 @@
--- A refinement's header of the code, seen as the definition's.
+-- The code's header of a refinement, as the definition's header.
 use Rattle.jbig2_region.specs.inner.PixelArrays.{two_pixels}
 use Rattle.jbig2_region.specs.declared.generic_refinement.GenericRefinementRegionHeader.{GenericRefinementRegionHeader}
 use Rattle.jbig2_region.specs.RefinementHeader.{RefinementHeader}

@@ -1,4 +1,4 @@
--- How a refinement's reference is seen by the definition (our own rule).
+-- The code's reference of a refinement, as the definition's reference (our own rule).
 use Rattle.jbig2_region.specs.Refinement.{Reference}
 use Rattle.jbig2_region.specs.declared.generic_refinement.ReferenceBitmap.{ReferenceBitmap}
 

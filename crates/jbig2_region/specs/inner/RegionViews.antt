@@ -1,4 +1,4 @@
--- A decoded region of the code, seen as the definitions' region.
+-- A decoded region of the code, as the definitions' region.
 use Rattle.jbig2_region.specs.declared.region_info.DecodedRegion.{DecodedRegion}
 use Rattle.jbig2_region.specs.RegionInfo.{PlacedRegion}
 use Rattle.std.specs.Prelude.{Option, Some, None}

@@ -70,8 +70,8 @@ struct Run {
     count: u32,
 }
 
-/// Combines a block with the source's pixels on it. Each row of the block lies in one word of the source, or it begins
-/// at the same place of a word in both and takes at least two words.
+/// Combines a block with the source's pixels on it. Each row of the block lies in one word of the
+/// source, or it begins at the same place of a word in both and takes at least two words.
 #[inline(always)]
 pub fn combine_rows<L: Ledger>(
     words: &mut WordsMut<'_>,

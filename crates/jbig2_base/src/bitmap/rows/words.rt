@@ -89,8 +89,8 @@ impl<A: Allocator> PackedWords<A> {
         Ok(PackedWords { words })
     }
 
-    /// `count` neighbouring bits of a row from bit `x` on, 1 to 64 of them. The first is in the highest of the lowest
-    /// `count` bits. Bits past the row are 0. Counts one load.
+    /// `count` neighbouring bits of a row from bit `x` on, 1 to 64 of them. The first is in the highest of the
+    /// lowest `count` bits. Bits past the row are 0. Counts one load.
     #[inline(always)]
     pub fn load_bits<L: Ledger>(
         &self,
@@ -151,7 +151,8 @@ impl<A: Allocator> PackedWords<A> {
         }
     }
 
-    /// Replaces the `count` bits of a word from `shift` on by the lowest `count` bits of `bits`. Counts one word.
+    /// Replaces the `count` bits of a word from `shift` on by the lowest `count` bits of `bits`.
+    /// Counts one word.
     #[inline(always)]
     pub fn write_field<L: Ledger>(
         &mut self,
@@ -186,7 +187,8 @@ impl<A: Allocator> PackedWords<A> {
         }
     }
 
-    /// Combines a block with the source's pixels on it by `combine_rows`, which borrows these words and the source's.
+    /// Combines a block with the source's pixels on it by `combine_rows`, which borrows these words and the
+    /// source's.
     #[inline(always)]
     pub fn combine<B: Allocator, L: Ledger>(
         &mut self,
