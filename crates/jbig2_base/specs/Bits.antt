@@ -1,5 +1,5 @@
--- Bytes as a list of bits, high bit first, and a place in it (T.88, 7.1: big-endian). `_next` is what comes at the
--- place, `_on` is the place after it. A refused read of bits moves to the end. A refused read of bytes does not move.
+-- Bytes as a list of bits, high bit first, and a place in it (T.88, 7.1: big-endian). `_next` is what comes next, `_on`
+-- is the place after it. A refused read of bits moves to the end. A refused read of bytes does not move.
 use Rattle.std.specs.Prelude.{◌≡◌, ℕ, ◌+◌, ◌*◌, ◌/◌, ◌%◌, nat_lt, ◌==◌, List, [], ◌∷◌, length, take, drop, Option, Some}
 use Rattle.std.specs.Prelude.{None, if◌then◌else◌, ◌^◌, Bool}
 use Rattle.std.specs.List.{flat_map}

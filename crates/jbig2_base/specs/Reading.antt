@@ -19,7 +19,7 @@ is_salvaged Salvage OutOfMemory = false
 is_salvaged Salvage e = true
 is_salvaged _ e = false
 
--- the error, if lenient reading gives one and so salvage leaves something out
+-- in salvage the error that lenient reading returns, and for which something is left out
 abbrev pub fault_of : {A : Type 0} → Reading → Result A DecodeError → Option DecodeError
 fault_of Salvage (Err e) = Some e
 fault_of reading r = None

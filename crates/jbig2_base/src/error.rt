@@ -33,14 +33,14 @@ pub enum DecodeError {
     OutOfMemory,
 }
 
-/// Why bytes could not be read.
+/// The faults of a read of bytes.
 #[derive(Clone, Copy, Debug, PartialEq, Eq, Error)]
 pub enum ParseError {
     /// The bytes end before the field does.
     UnexpectedEof,
 }
 
-/// What is wrong with a file or a page as a whole.
+/// The faults of a file or a page as a whole.
 #[derive(Clone, Copy, Debug, PartialEq, Eq, Error)]
 pub enum FormatError {
     /// The file does not begin with the identification string (D.4.1).
@@ -59,7 +59,7 @@ pub enum FormatError {
     InvalidEndOfPage,
 }
 
-/// What is wrong with a segment.
+/// The faults of a segment.
 #[derive(Clone, Copy, Debug, PartialEq, Eq, Error)]
 pub enum SegmentError {
     /// The type is not in the list of 7.3.
@@ -78,7 +78,7 @@ pub enum SegmentError {
     MissingPageAssociation,
 }
 
-/// What is wrong with prefix-coded data.
+/// The faults of prefix-coded data.
 #[derive(Clone, Copy, Debug, PartialEq, Eq, Error)]
 pub enum HuffmanError {
     /// The bits begin with no code, or the lengths make no code (Annex B).
@@ -93,7 +93,7 @@ pub enum HuffmanError {
     ConflictingCodes,
 }
 
-/// What is wrong with a region.
+/// The faults of a region.
 #[derive(Clone, Copy, Debug, PartialEq, Eq, Error)]
 pub enum RegionError {
     /// The operator is not in the list of 7.4.1.5.
@@ -106,7 +106,7 @@ pub enum RegionError {
     GrayScaleOutOfRange,
 }
 
-/// What is wrong with a template.
+/// The faults of a template.
 #[derive(Clone, Copy, Debug, PartialEq, Eq, Error)]
 pub enum TemplateError {
     /// There is no such template; never returned.
@@ -115,7 +115,7 @@ pub enum TemplateError {
     InvalidAtPixel,
 }
 
-/// What is wrong with symbols.
+/// The faults of symbols.
 #[derive(Clone, Copy, Debug, PartialEq, Eq, Error)]
 pub enum SymbolError {
     /// The number of exported symbols is not the stated one.
@@ -134,7 +134,7 @@ pub enum SymbolError {
     TooManyInstances,
 }
 
-/// A number outside the range that this decoder keeps.
+/// The numbers outside the range that this decoder keeps.
 #[derive(Clone, Copy, Debug, PartialEq, Eq, Error)]
 pub enum OverflowError {
     /// A bitmap's width or height, or their product, is too large.

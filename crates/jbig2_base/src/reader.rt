@@ -1,4 +1,4 @@
-//! A reader of bits and of big-endian numbers over a slice (T.88, 7.1).
+//! Reads bits and big-endian numbers from a slice (T.88, 7.1).
 ghost use Rattle.std.specs.Prelude.{◌≡◌, ◌+◌, ◌<◌, ◌≤◌, ◌==◌, drop, length, take, min, IfSome, Option, option_map, option_and_then, Some, None, if◌then◌else◌};
 ghost use Rattle.std.specs.Int.{w8, w16, w32, cast_signed};
 ghost use Rattle.std.specs.List.{flat_map};

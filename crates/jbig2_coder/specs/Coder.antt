@@ -21,7 +21,7 @@ Coder = record { bytes : List ℕ; registers : Registers }
 unfoldable pub byte_at : List ℕ → ℕ → ℕ  -- the byte at a place; past the end every byte is FF
 byte_at bytes place = slice_index_or bytes place 0xFF
 
--- BYTEIN (Figure G.3), from C and the place. After FF comes a stuffed byte of seven bits, or a marker: the place stays.
+-- BYTEIN (Figure G.3), from C and the place. After FF comes a stuffed byte of seven bits, or a marker, where it stays.
 unfoldable pub byte_in : List ℕ → ℕ → ℕ → CodeRegister
 byte_in bytes c place =
     let next = byte_at bytes (place + 1) in

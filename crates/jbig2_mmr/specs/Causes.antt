@@ -37,8 +37,7 @@ BreaksMode w above h bits =
     ⊎ ((distance : ℤ) × (left : List ℕ) × (read_code modes bits ≡ Some (Vertical distance, left))
     × (let a1 = pos (b1_of w above h) +ℤ distance in (a1 <ℤ pos h.a0) ⊎ (pos w <ℤ a1))))
 
--- The row is not at its end, and the next mode or a later one has a fault, or as many modes were read as bits are
--- there.
+-- The row is not at its end, and the next mode or a later one has a fault, or there were as many modes as bits.
 abbrev pub BreaksRow : ℕ → ℕ → (ℕ → Bool) → Head → List ℕ → Type 0
 BreaksRow zero w above h bits = h.a0 < w
 BreaksRow (suc most) w above h bits =

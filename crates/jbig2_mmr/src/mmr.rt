@@ -26,9 +26,9 @@ use std::sync::ledger::Ledger;
 ///
 /// Strict mode refuses a fault in the data, or an end of block before the last row
 /// (`RegionError::InvalidMmrData`). In the other mode a fault takes all bytes. In both modes the
-/// whole rows before it stay and the rest is white. No memory is taken. Only loads and words are
-/// counted: at most three together for each word of the bitmap and each bit of the bytes that are
-/// taken. If the data is refused, that is each bit of `bytes`.
+/// whole rows before the fault or end of block stay, and the rest is white. No memory is taken.
+/// Only loads and words are counted: at most three together for each word of the bitmap and each
+/// bit of the bytes that are taken. If the data is refused, that is each bit of `bytes`.
 pub fn decode<A: Allocator, L: Ledger>(
     bitmap: &mut Bitmap<A>,
     bytes: &[u8],
