@@ -1,5 +1,5 @@
 -- The rule that the bytes break where a call refuses them (docs/FORMAT.md), one line for each error. A predicate
--- `Breaks..` takes the bytes and an error. The function that refuses states with `HasCause` that its own error has that
+-- `Breaks..` takes the bytes and an error. The function that refuses states by `HasCause` that its error has that
 -- cause.
 use Rattle.std.specs.Prelude.{◌≡◌, ◌≢◌, ◌<◌, ◌≤◌, ◌+◌, ◌*◌, ◌-◌, ◌/◌, ◌%◌, ◌^◌, ◌==◌, ◌⊎◌, ℕ, Bool, true, List, [], ◌∷◌}
 use Rattle.std.specs.Prelude.{take, drop, length, All, Any, Option, Some, None, Result, Ok, Err, IfErr, if◌then◌else◌}

@@ -19,8 +19,7 @@ abbrev pub words_across : ℕ → ℕ → ℕ  -- in how many words `columns` pi
 words_across x columns = (x + columns - 1) / 64 + 1 - x / 64
 
 -- How many loads combine a row of this many columns, from column `left` of the page and column `from` of the source on:
--- one for each word of the page; and for the source one, if its columns lie in one word, else one for each word of the
--- page.
+-- one for each word of the page, and for the source one if its columns lie in one word, else as many.
 abbrev pub loads_across : ℕ → ℕ → ℕ → ℕ
 loads_across left columns from =
     words_across left columns + (if words_across from columns == 1 then 1 else words_across left columns)

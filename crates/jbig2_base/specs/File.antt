@@ -1,6 +1,5 @@
 -- Files (T.88, Annex D), in sequential organisation, or in random access organisation: all headers and then all data
--- (D.2). `file_at` takes a file's bytes and gives its header (D.4) and its segments. `SpellsFile` describes the way
--- back.
+-- (D.2). `file_at` takes a file's bytes and gives its header (D.4) and its segments. `SpellsFile` is the way back.
 use Rattle.std.specs.Prelude.{◌≡◌, ℕ, suc, zero, Bool, true, false, ◌==◌, List, [], ◌∷◌, ◌++◌, length, Some, Result, Ok}
 use Rattle.std.specs.Prelude.{Err, if◌then◌else◌, ◌/◌, ◌%◌, not, Option, None}
 use Rattle.std.specs.List.{flat_map}

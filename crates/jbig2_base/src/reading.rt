@@ -35,8 +35,7 @@ impl Reading {
         matches!(self, Reading::Strict)
     }
 
-    /// Whether reading goes on without what this error refuses: only in salvage, and never if it is
-    /// out of memory.
+    /// Whether this error leaves out what it refuses: only in salvage, never when memory ran out.
     pub fn is_salvaged(self, error: &DecodeError) -> bool
         ensures value { result ≡ is_salvaged self error.now }
         ensures memory { is_salvaged self OutOfMemory ≡ false }

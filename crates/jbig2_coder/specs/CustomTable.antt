@@ -21,7 +21,7 @@ abbrev pub left_at : {A : Type 0} → Place → Result A DecodeError → Step A 
 left_at p (Ok x) = Ok (x, p)
 left_at p (Err e) = Err (e, p)
 
-abbrev pub answer_of : {A : Type 0} → Step A → Result A DecodeError  -- the result alone
+abbrev pub answer_of : {A : Type 0} → Step A → Result A DecodeError  -- only the result
 answer_of (Ok x) = Ok x.0
 answer_of (Err e) = Err e.0
 

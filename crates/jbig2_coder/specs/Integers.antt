@@ -75,8 +75,7 @@ integer bytes registers contexts =
     let sum = (value_of_bits (drop (length before.bits) after.bits) + row.offset) % 2 ^ 32 in
     record { value = value_of (next prev_of bytes start).symbol sum; reading = after }
 
--- A symbol id (A.3) has as many bits as the code length says. The context of a bit is the number of a 1 and the bits so
--- far.
+-- A symbol id (A.3) has as many bits as the code length says. A bit's context is the number of a 1 and the bits so far.
 abbrev pub Ids : Type 0
 Ids = record { code_len : ℕ; contexts : List Context }
 

@@ -104,8 +104,7 @@ impl<A: Allocator + Clone> HuffmanTable<A> {
         HuffmanTable::build(alloc, &lines)
     }
 
-    /// The table that gives the numbers from 0 to `count` - 1, at most 2^31 of them, codes of one
-    /// length.
+    /// The table that gives the numbers 0 to `count` - 1, at most 2^31, codes of one length.
     pub fn build_uniform(alloc: A, count: u32, code_length: u32) -> Result<HuffmanTable<A>>
         requires count { count ≤ 2 ^ 31 }
         requires length { code_length ≤ 255 }

@@ -34,8 +34,7 @@ is_skipped (Some skip) x y = pixel_at skip x y
 abbrev pub white_if_skipped : Option Grid → ℕ → ℕ → Option Bool
 white_if_skipped skip x y = if is_skipped skip x y then Some false else None
 
--- the colour of a pixel that takes no decision (6.2.5.7): in a predicted row that of the pixel above, else white if
--- skipped
+-- the colour of a pixel that takes no decision (6.2.5.7): in a predicted row that above it, else white if skipped
 abbrev pub known_colour : Option Grid → Bool → Grid → ℕ → ℕ → Option Bool
 known_colour skip predicted g x y =
     if predicted then Some (pixel g (pos x) (pos y +ℤ negsuc 0)) else white_if_skipped skip x y

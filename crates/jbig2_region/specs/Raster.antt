@@ -1,6 +1,5 @@
 -- Regions that are decoded pixel by pixel, row by row from the top and each row from the left (T.88, 6.2.5 and 6.3.5).
--- `decoded_region` takes how a region is coded, its size, the coded bytes and the state before, and gives the state
--- after.
+-- `decoded_region` takes a coding, a size, the coded bytes and the state before, and gives the state after.
 use Rattle.std.specs.Prelude.{ℕ, suc, zero, ◌+◌, ◌*◌, ◌/◌, ◌%◌, ◌^◌, ◌==◌, Bool, false, if◌then◌else◌, List, [], ◌∷◌}
 use Rattle.std.specs.Prelude.{◌++◌, length, replicate, slice_index_or, slice_set, Option, Some, None}
 use Rattle.jbig2_base.specs.Grid.{Grid, grid_of, differ}
@@ -18,8 +17,7 @@ pub record Region : Type 0 where
   pub contexts : List Context
 
 -- How a region is coded: the context of a pixel, by the grid so far and its place; the colour that it takes without a
--- decision, if any, by whether its row is predicted; and, with typical prediction, the context of a row's first
--- decision.
+-- decision, if any, by whether its row is predicted; and, with typical prediction, the context in which a row begins.
 pub record Coding : Type 0 where
   pub context : Grid → ℕ → ℕ → ℕ
   pub known : Bool → Grid → ℕ → ℕ → Option Bool

@@ -162,7 +162,7 @@ pub fn decode_into<A: Allocator, B: Allocator, L: Ledger>(
 
 /// Decodes a region (T.88, 6.2), as `decode_into` does, into a new bitmap.
 ///
-/// Returns `OutOfMemory` if there is no memory for the bitmap or the contexts, or an error of
+/// `OutOfMemory` if there is no memory for the bitmap or the contexts, or an error of
 /// `decode_into`.
 pub fn decode<A: Allocator, B: Allocator, L: Ledger>(
     alloc: A,

@@ -76,8 +76,7 @@ fn copy_row<A: Allocator, L: Ledger>(bitmap: &mut Bitmap<A>, y: u32, steps: &mut
     }
 }
 
-/// Decodes row `y`, or copies the row above if `predicted` is true. The rows above are decoded
-/// already.
+/// Decodes row `y`, whose rows above are decoded. If `predicted` is true, copies the row above.
 #[inline(always)]
 fn decode_row<A: Allocator, L: Ledger>(
     layout: &Layout<'_>,

@@ -1,4 +1,4 @@
-//! Decodes generic regions with skipped pixels (T.88, 6.2.5.7), such as the planes of a gray-scale
+//! Decodes generic regions with skipped pixels (T.88, 6.2.5.7), such as planes of a gray-scale
 //! image.
 ghost use Rattle.std.specs.Prelude.{◌≡◌, false, true};
 ghost use Rattle.jbig2_region.specs.inner.Holds.{DecodesRegion, IsReady};

@@ -38,8 +38,7 @@ pub fn find_colour<A: Allocator, L: Ledger>(
     width
 }
 
-/// How many of the lowest `count` bits, from the highest on, come before the first one of the
-/// colour.
+/// How many of the lowest `count` bits come before the first of the colour, from the high end.
 #[inline(always)]
 fn leading_others(pixels: u64, count: u32, black: bool) -> u32
     requires some { 1 ≤ count }

@@ -13,8 +13,7 @@ use crate::bitmap::steps::Steps;
 use std::alloc::Allocator;
 use std::sync::ledger::Ledger;
 
-/// One body for each operator. The compiler knows the operator in it, so each gets loops of its
-/// own.
+/// One body for each operator. The compiler knows the operator there, so each gets its own loops.
 macro_rules! by_operator {
     ($operator:expr, $known:ident => $body:expr) => {
         match $operator {

@@ -96,8 +96,7 @@ pub(crate) fn byte_in(bytes: &[u8], c: u32, place: usize) -> CodeRegister
     }
 }
 
-/// By how many bits A can be shifted at once: up to its top bit, and at most by the bits that are
-/// left.
+/// By how many bits A can be shifted at once: up to its top bit, and at most by the bits left.
 #[inline(always)]
 fn batch(a: u32, bits: u32) -> u32
     requires some { 1 ≤ a }
@@ -152,8 +151,7 @@ impl BufferedRegisters {
         }
     }
 
-    /// Shifts once, with an empty buffer. The bits of the next byte come in, whatever byte comes before
-    /// it.
+    /// Shifts once, with an empty buffer. The next byte's bits come in, whatever byte is before it.
     #[inline(always)]
     fn take_byte(&mut self, bytes: &[u8])
         requires some { 1 ≤ self.old.a }

@@ -24,8 +24,7 @@ pub(super) struct FirstCode {
 pub(super) struct FirstTable {
     /// The code of at most eight bits, for each byte.
     codes: [FirstCode; 256],
-    /// The first byte after all codes of at most eight bits. From here on the bytes begin longer
-    /// codes.
+    /// The first byte after all codes of at most eight bits. It and later ones begin longer codes.
     longer: usize,
 }
 
@@ -71,7 +70,7 @@ impl FirstTable {
     }
 
     /// Reads a code by its first eight bits, and goes on by the levels if it is longer. If fewer
-    /// bits are left, or they begin no code, the levels alone read it.
+    /// bits are left, or they begin no code, only the levels read it.
     pub(super) fn read_line(
         &self,
         lines: &[TableLine],

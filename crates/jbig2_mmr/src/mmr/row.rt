@@ -27,8 +27,7 @@ pub struct Place {
     black: bool,
 }
 
-/// The result of a mode: the colour stays up to `turn`, and then the other one comes up to a0 of
-/// `next`.
+/// A mode's result: the colour stays up to `turn`, then the other one comes up to a0 of `next`.
 #[derive(Clone, Copy)]
 pub struct Turn {
     turn: u32,

@@ -190,7 +190,7 @@ fn push_group<L: Ledger>(
     pixels
 }
 
-/// Decodes row `y`. The rows above it are decoded already.
+/// Decodes row `y`, whose rows above are decoded.
 #[inline(always)]
 pub fn decode_row_by_bytes<A: Allocator, L: Ledger>(
     neighbours: Neighbours,

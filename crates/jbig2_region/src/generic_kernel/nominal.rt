@@ -15,8 +15,7 @@ use jbig2_coder::arithmetic_decoder::{ArithmeticDecoder, ArithmeticDecoderContex
 use std::alloc::Allocator;
 use std::sync::ledger::Ledger;
 
-/// Decodes row `y` by the template with the number `TEMPLATE`. The rows above it are decoded
-/// already.
+/// Decodes row `y`, whose rows above are decoded, by the template with the number `TEMPLATE`.
 #[inline(never)]
 fn decode_constant_row<A: Allocator, L: Ledger, const TEMPLATE: u8>(
     neighbours: Neighbours,
@@ -35,7 +34,7 @@ fn decode_constant_row<A: Allocator, L: Ledger, const TEMPLATE: u8>(
     decode_row_by_bytes(constant, bitmap, y, decoder, contexts, steps);
 }
 
-/// Decodes row `y`. The rows above it are decoded already.
+/// Decodes row `y`, whose rows above are decoded.
 pub fn decode_nominal_row<A: Allocator, L: Ledger>(
     neighbours: Neighbours,
     bitmap: &mut Bitmap<A>,

@@ -103,7 +103,7 @@ fn decode_pixels<A: Allocator, L: Ledger>(
     left
 }
 
-/// Decodes row `y`. The rows above it are decoded already.
+/// Decodes row `y`, whose rows above are decoded.
 pub fn decode_row_by_pixels<A: Allocator, L: Ledger>(
     neighbours: Neighbours,
     adaptive: &Adaptives<'_>,

@@ -56,8 +56,7 @@ fn unlike_stretches(neighbours: Neighbours, black: bool, windows: Windows) -> u6
     above | top
 }
 
-/// The pixels of a stretch that the next byte sees and that do not have a colour, the rightmost in
-/// bit 0.
+/// The pixels of a stretch that the next byte sees and that lack a colour, the rightmost in bit 0.
 #[inline(always)]
 fn unlike_near(stretch: Stretch, black: bool, window: u64) -> u32
     requires reach { stretch.reach ≤ 3 }

@@ -206,8 +206,7 @@ impl WideWindows {
         WideWindows { first, second }
     }
 
-    /// The windows at byte `done` of the bytes that a group's windows serve, from those at the byte
-    /// before.
+    /// The windows at byte `done` that a group's windows serve, from those at the byte before.
     #[inline(always)]
     fn next_byte(self, group: WideWindows, done: u32) -> WideWindows
         ensures { (bytes before : ℕ) → bytes ≤ 8 → done < bytes → before + 1 ≡ done →

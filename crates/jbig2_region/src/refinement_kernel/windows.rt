@@ -89,8 +89,7 @@ fn window_below<B: Allocator, L: Ledger>(
     window(reference.bitmap, column, row + 1, steps)
 }
 
-/// The window on a row from one column left of it on. Its pixels are the lowest `width` bits of
-/// `pixels`.
+/// The window from one column left of a row on. Its pixels are the lowest `width` bits of `pixels`.
 #[inline(always)]
 fn row_window(pixels: u64, width: u32) -> u64
     requires some { 1 ≤ width }

@@ -120,7 +120,7 @@ fn decode_block<M: Allocator, A: Allocator, L: Ledger>(
     (pixels % 16) as u32
 }
 
-/// Decodes row `y`. The rows above it are decoded already.
+/// Decodes row `y`, whose rows above are decoded.
 #[inline(always)]
 fn decode_row<M: Allocator, A: Allocator, L: Ledger>(
     neighbours: Neighbours,

@@ -111,8 +111,7 @@ pub fn parse_adaptive_template_pixels(
     Ok(pixels)
 }
 
-/// Reads all adaptive pixels of a generic region: none with MMR, twelve with the extended template
-/// 0.
+/// Reads all adaptive pixels of a generic region: none with MMR, twelve with extended template 0.
 #[tactic(auto, using(crate::proofs::PixelCauses::template_pixels_cause))]
 pub fn parse_generic_template_pixels(
     reader: &mut Reader<'_>,

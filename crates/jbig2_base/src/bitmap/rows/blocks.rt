@@ -60,8 +60,7 @@ struct Line {
     from_y: usize,
 }
 
-/// Neighbouring pixels of row `y` in one of its words. The first is `offset` pixels from the word's
-/// left.
+/// Neighbouring pixels of row `y` in one of its words, the first `offset` pixels from its left.
 #[derive(Clone, Copy)]
 struct Run {
     y: usize,
@@ -227,8 +226,7 @@ fn narrow_row<L: Ledger>(
     combine_run(words, shape, operator, rest, bits << near, steps);
 }
 
-/// Combines a row that begins at the same place of a word in page and source, and takes at least
-/// two words.
+/// Combines a row of at least two words that begins at the same place of a word in both.
 #[inline(always)]
 fn aligned_row<L: Ledger>(
     words: &mut WordsMut<'_>,

@@ -59,8 +59,7 @@ impl<A: Allocator> PackedWords<A> {
         }
     }
 
-    /// Changes to the words of another size, with all pixels of one colour. A refusal changes
-    /// nothing.
+    /// Changes the size, and makes all pixels one colour. A refusal changes nothing.
     pub fn refill(&mut self, width: u32, height: u32, black: bool) -> Result<()>
         ensures value { Gives (λ _. self.new) result (Ok (blank_words width height black)) }
         ensures err { OnErr result (self.new ≡ self.old) }
@@ -151,8 +150,7 @@ impl<A: Allocator> PackedWords<A> {
         }
     }
 
-    /// Replaces the `count` bits of a word from `shift` on by the lowest `count` bits of `bits`.
-    /// Counts one word.
+    /// Replaces `count` bits of a word from `shift` on by the lowest of `bits`. Counts one word.
     #[inline(always)]
     pub fn write_field<L: Ledger>(
         &mut self,
@@ -187,8 +185,7 @@ impl<A: Allocator> PackedWords<A> {
         }
     }
 
-    /// Combines a block with the source's pixels on it by `combine_rows`, which borrows these words and the
-    /// source's.
+    /// Combines a block with the source's pixels on it. Calls `combine_rows` with the words of both.
     #[inline(always)]
     pub fn combine<B: Allocator, L: Ledger>(
         &mut self,
