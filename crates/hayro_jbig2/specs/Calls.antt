@@ -41,8 +41,8 @@ whole_calls (suc n) bits = with_byte (take 8 bits) (whole_calls n (drop 8 bits))
 unfoldable pub row_of : Grid → ℕ → List Bool
 row_of g y = map (λ x. pixel_at g x y) (range_with_len 0 g.width)
 
--- The calls of a row: each maximal run of whole bytes of one colour as a chunk, all other pixels one by one, and then a
--- line call.
+-- The calls of a row: each maximal run of whole bytes of one colour as a chunk, other pixels one by one, then a line
+-- call.
 abbrev pub line_calls : Grid → ℕ → List Call
 line_calls g y = whole_calls (length (row_of g y) / 8) (row_of g y) ++ Line ∷ []
 
@@ -68,8 +68,7 @@ pub record DrawsGrid (calls : List Call) (g : Grid) : Type 0 where
   pub widths : All (λ row. length row ≡ g.width) (rows_after None calls)
   pub rows : rows_after None calls ≡ map (row_of g) (range_with_len 0 g.height)
 
--- From this column on, each chunk begins at a column that eight divides, has at least one byte and ends within the
--- width.
+-- From this column on, each chunk begins at a multiple of eight, has at least one byte and ends within the width.
 abbrev pub ChunksFit : ℕ → ℕ → List Call → Type 0
 ChunksFit width x [] = Unit {0}
 ChunksFit width x (Pixel black ∷ calls) = ChunksFit width (x + 1) calls
@@ -119,9 +118,9 @@ abbrev pub Sends : {S : Type 0} → Conduct S → List Call → Result (Unit {0}
 Sends d calls (Ok u) old new = Makes d calls old new
 Sends d calls (Err e) old new = Stopped d calls e old new
 
--- What decoding does, where the page's definition gives a grid or an error. It makes exactly the calls that draw the
--- grid, or it returns that error and makes no call. Besides, the Decoder may refuse a call, and memory may run out
--- before any.
+-- What decoding does, where the page's definition gives a grid or an error: it makes exactly the calls that draw the
+-- grid, or returns that error and makes no call. Besides, the Decoder may refuse a call, or memory may run out before
+-- any.
 abbrev pub Decodes : {S : Type 0} → Conduct S → Result Grid DecodeError → Result (Unit {0}) DecodeError → S → S → Type 0
 Decodes d (Ok g) (Ok u) old new = Makes d (calls_of g) old new
 Decodes d (Ok g) (Err e) old new = Stopped d (calls_of g) e old new ⊎ ((e ≡ OutOfMemory) × Makes d [] old new)

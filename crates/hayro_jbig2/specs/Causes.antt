@@ -84,7 +84,7 @@ BreaksExtension strict bytes Unsupported = IsTrue strict × (4 ≤ length bytes)
 BreaksExtension strict bytes _ = ⊥
 
 -- ---- errors that no input causes
--- Any error but `OutOfMemory`, and but three that the enums have only for the code that matches on them.
+-- Every error except `OutOfMemory` and three others, which the enums have only for code that matches on them.
 abbrev pub IsAnswered : DecodeError → Type 0
 IsAnswered OutOfMemory = ⊥
 IsAnswered (Huffman ConflictingCodes) = ⊥

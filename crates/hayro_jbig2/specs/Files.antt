@@ -127,8 +127,7 @@ page_of book index = option_map (page_in book) (slice_get book.pages index)
 abbrev pub pages_of : ReadFile → List ReadPage
 pages_of book = map (page_in book) book.pages
 
--- Each page of a file depends only on the segments whose association is its number, those of association 0, the reading
--- and its fault.
+-- Each page of a file depends only on the segments whose association is its number or 0, the reading and its fault.
 abbrev pub PagesStandAlone : Type 0
 PagesStandAlone = (reading : Reading) (bytes : List ℕ) (file : FileHeader × List SegmentView) (book : ReadFile) (index : ℕ) (page : ReadPage)
     → file_at reading bytes ≡ Ok file → book_at reading bytes ≡ Ok book → page_of book index ≡ Some page

@@ -114,8 +114,7 @@ abbrev pub extension : Bool → List ℕ → Result (Unit {0}) DecodeError
 extension true bytes = number_at w32 bytes >>= λ kind. refuse_if (nat_le 2147483648 kind.0) Unsupported
 extension false bytes = Ok tt
 
--- The names after a segment that draws nothing. It is one of a page, or one of the globals, for which `shared` is
--- empty.
+-- The names after a segment that draws nothing: one of a page, or one of the globals, for which `shared` is empty.
 abbrev pub kept_by : Bool → Names → SegmentView → Names → Result Names DecodeError
 kept_by strict shared p own = on p.header.segment_type
   where

@@ -116,8 +116,8 @@ intermediate strict globals kind p d =
 abbrev pub keeping : Drawing → Result Names DecodeError → Result Drawing DecodeError
 keeping d kept = kept >>= λ names. Ok (record d { names = names })
 
--- One segment, after the page has begun. Page information, stripes, profiles, palettes, types without a meaning, and
--- the ends of pages and files change nothing here.
+-- One segment. These change nothing here: page information, stripes, profiles, palettes, types without a meaning, and
+-- the ends of pages and files.
 abbrev pub segment_by : Bool → Names → SegmentView → Drawing → Result Drawing DecodeError
 segment_by strict globals p d = on (region_type p.header.segment_type)
   where

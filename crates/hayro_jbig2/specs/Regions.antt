@@ -47,8 +47,7 @@ generic_at strict is_intermediate p = do
   header ← generic_header_at (not is_intermediate && is_none p.header.data_length) strict p.bytes
   generic_decoded header.0
 
--- The region that a refinement's first number names, if it has one. Strict reading refuses a number that names no
--- region.
+-- The region that a refinement's first number names, if it has one. Strict reading refuses a number that names none.
 abbrev pub referred_region : Bool → List ℕ → List (Kept PlacedRegion) → Result (Option PlacedRegion) DecodeError
 referred_region strict [] regions = Ok None
 referred_region strict (number ∷ others) regions = do

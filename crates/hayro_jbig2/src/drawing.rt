@@ -59,7 +59,7 @@ fn ends_page(kind: SegmentType) -> bool
     matches!(kind, SegmentType::EndOfPage | SegmentType::EndOfFile)
 }
 
-/// The work of the memory that a segment of this type takes, whatever its data is.
+/// The work of the memory that a segment of this type asks for, whatever it holds.
 fn work_of_type<A: Allocator>(segment: &Segment<'_, A>) -> u64 {
     match segment.header.segment_type {
         SegmentType::Tables => (segment.bytes.len() as u64).saturating_mul(TABLE_BYTE),
@@ -329,8 +329,8 @@ impl<'a, A: Allocator + Clone> Drawer<'a, A> {
         Ok(())
     }
 
-    /// Handles an immediate region that failed and left the page as it was: all but strict reading
-    /// pass over it.
+    /// Handles an immediate region that failed and left the page as it was. Lenient reading and
+    /// salvage pass over it.
     fn pass_over(
         &self,
         segment_number: u32,

@@ -150,8 +150,7 @@ fn read_page<'a, A: Allocator>(
     })
 }
 
-/// The pages with these segments, in order. Salvage leaves out a page whose beginning fails, and adds its error to
-/// `left_out`.
+/// The pages with these segments, in order. Salvage adds the error of a page whose beginning fails to `left_out`.
 fn read_pages<'a, A: Allocator>(
     alloc: A,
     reading: Reading,

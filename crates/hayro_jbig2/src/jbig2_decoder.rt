@@ -29,8 +29,7 @@ pub struct Jbig2Decoder<A: Allocator> {
     bytes: Vec<u8, A>,
     width: u32,
     height: u32,
-    /// The most work that the segments of no page may take, and also the most that the page may
-    /// take.
+    /// The most work that the segments of no page may take, and that the page may take too.
     work_limit: Option<u64>,
 }
 

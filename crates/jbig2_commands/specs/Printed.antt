@@ -1,6 +1,5 @@
 -- What a run prints (our own rule), what it writes to standard error, and its status. `printed` takes the mode, the
--- task and a file's bytes, and gives the bytes to be printed, or the fault. `RunEnds`, the last, is the statement of
--- `run`.
+-- task and a file's bytes, and gives the bytes to print, or the fault. `RunEnds`, the last, is the statement of `run`.
 use Rattle.std.specs.Prelude.{◌≡◌, ◌⊎◌, ℕ, Bool, true, List, [], ◌++◌, Option, Some, None, IfSome, IsTrue, ok_or}
 use Rattle.std.specs.Prelude.{Result, Ok, Err, codes, if◌then◌else◌}
 use Rattle.std.specs.Fmt.{decimal}

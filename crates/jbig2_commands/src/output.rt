@@ -59,8 +59,7 @@ impl<'o, O: Write, A: Allocator> Output<'o, O, A> {
         out
     }
 
-    /// Writes the bytes that are held. Returns whether all of them could be written; the rest
-    /// stays.
+    /// Writes the bytes that are held. Returns whether all could be written; the rest stays.
     pub fn write_held(&mut self) -> bool
         ensures same { whose self.new ≡ whose self.old }
         ensures bytes { Keeps (told O.contents self.old) (told O.contents self.new) }

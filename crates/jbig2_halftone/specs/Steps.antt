@@ -56,8 +56,7 @@ pub record CountsRead (p : GrayScale) (bytes : List ℕ) (count : ℕ) (before a
   pub mmr : p.use_mmr ≡ true → MovesWithin (3 * (count * words_of_plane p + 8 * length bytes)) before after
   pub lanes : KeepsLanes before after
 
--- this many of the highest planes are read, and then this many rows of each are taken, in groups of eight lanes and
--- single pixels
+-- this many of the highest planes are read, then this many rows of each are taken, in groups of eight and single pixels
 abbrev pub CountsRows : GrayScale → List ℕ → ℕ → ℕ → Counts → Counts → Type 0
 CountsRows p bytes planes rows before after =
     (read : Counts) × (CountsRead p bytes planes before read × (after ≡ record read {
@@ -98,8 +97,7 @@ after_mask h d before =
     let cells = h.grid_position_and_size.height * h.grid_position_and_size.width in
     record before { words = before.words + (if is_some (skip_mask h d) then cells else 0) }
 
--- after the mask, planes are read and this many rows of values are taken; then cells are drawn, with two loads for each
--- word
+-- after the mask, planes are read and this many rows of values taken; then cells are drawn, two loads for each word
 abbrev pub CountsDrawn : HalftoneHeader → Patterns → ℕ → ℕ → Counts → Counts → Type 0
 CountsDrawn h d planes rows before after =
     let cells = h.grid_position_and_size.height * h.grid_position_and_size.width in

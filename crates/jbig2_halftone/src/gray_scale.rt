@@ -40,8 +40,7 @@ pub struct GrayScaleParams<'a, M: Allocator> {
     /// In pixels.
     pub height: u32,
     pub template: Template,
-    /// Black where a pixel is skipped. Such a pixel is white in every coded plane. MMR data skips
-    /// none.
+    /// Black where a pixel is skipped: it is white in every coded plane. MMR data skips none.
     pub skip_mask: Option<&'a Bitmap<M>>,
     /// Whether faulty MMR data is refused.
     pub strict: bool,

@@ -255,8 +255,7 @@ fn writes_so(
     Ok((status, err.as_slice()) == expected)
 }
 
-/// Words, the file, the numbers of bytes that the output takes, from the first to the last, and how many bytes would be
-/// printed.
+/// Words, the file, how many bytes the output takes, from the first number to the last, and how many there are.
 const ROOMS: &[(Words, &str, (usize, usize), usize)] = &[
     (&["embedded", "page"], "P", (0, 35), 35),
     (&["embedded", "page"], "P@17=FF", (20000, 20000), 35 * 65281),
@@ -265,8 +264,7 @@ const ROOMS: &[(Words, &str, (usize, usize), usize)] = &[
     (&["pbm", "file", "0"], FILE, (0, 8), 8),
 ];
 
-/// Any byte of the output may be the one that cannot be written. The bytes before it are written, and nothing is
-/// reported.
+/// The output may take any number of bytes. It holds the bytes before the failing one, and nothing is reported.
 #[test]
 fn output_that_cannot_be_written_ends_the_run(rt: HostRuntime) {
     for (words, file, (first, last), length) in ROOMS {

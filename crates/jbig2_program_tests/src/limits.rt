@@ -16,8 +16,7 @@ use std::sync::ledger::{Blank, Ledger};
 /// Pages with a generic region, symbols and text, patterns and a halftone, and without a region.
 const PAGES: &[&str] = &["P G8", "P S X", "P D T", "P"];
 
-/// Pages that salvage draws. A dictionary fails in them, or a region that refers to such a
-/// dictionary.
+/// Pages that salvage draws: a dictionary fails in them, or a region that refers to one.
 const DAMAGED: &[&str] = &["P S@11=0009 X", "P S@11=0009 S X", "P S@11=0009 G8@3=02"];
 
 /// Globals whose decoding takes work: a symbol dictionary.
@@ -97,7 +96,7 @@ fn pages_are_drawn_within_what_they_take_and_no_less(rt: HostRuntime) {
     }
 }
 
-/// Salvages damaged globals within some limits. Whether it fails below some limit, and succeeds from that one on.
+/// Whether salvaging damaged globals fails within all limits below some number, and succeeds from there on.
 fn salvaged_globals_hold(alloc: Global) -> Result<bool> {
     let bytes = bytes_of(alloc, DAMAGED_GLOBALS)?;
     let mut are_decoded = false;
@@ -111,8 +110,7 @@ fn salvaged_globals_hold(alloc: Global) -> Result<bool> {
     Ok(are_decoded)
 }
 
-/// Decodes globals within some limits. Whether it fails below some limit, and succeeds from that
-/// one on.
+/// Whether decoding globals fails within all limits below some number, and succeeds from there on.
 fn globals_hold(alloc: Global) -> Result<bool> {
     let bytes = bytes_of(alloc, GLOBALS)?;
     let mut are_decoded = false;
@@ -149,8 +147,8 @@ fn is_white_within(
     Ok(image == [255; 8])
 }
 
-/// Reads a decoder's page within some limits. Whether it fails below some limit, and succeeds from
-/// that one on.
+/// Whether reading a decoder's page fails within all limits below some number, and succeeds from
+/// there on.
 fn reader_holds(alloc: Global) -> Result<bool> {
     let bytes = bytes_of(alloc, FILE)?;
     let mut is_read = false;

@@ -13,8 +13,7 @@ const PRINTING: [&[&str]; 3] = [
     &["pbm", "file", "0"],
 ];
 
-/// Whether a run ends with status 1 and writes nothing to standard error, where its output takes no
-/// byte.
+/// Whether a run ends with status 1 and reports nothing, where its output takes no byte.
 fn ends_where_stuck(alloc: Global, words: &[&str]) -> Result<bool> {
     let bytes = bytes_of(alloc, FILE)?;
     let mut err = Vec::with_capacity(alloc, 256)?;
@@ -37,8 +36,7 @@ fn an_output_that_takes_no_byte_ends_the_run(rt: HostRuntime) {
     }
 }
 
-/// Words, how many bytes standard error takes, the status, and whether the line to standard error
-/// was written.
+/// Words, how many bytes standard error takes, the status, and whether its line was written.
 const REPORTED: &[(&[&str], usize, u8, bool)] = &[
     (&["pages"], 256, 2, true),
     (&["pages"], 20, 2, false),

@@ -121,8 +121,7 @@ pub fn row_holds<A: Allocator + Clone>(
     Ok(true)
 }
 
-/// Whether a row holds. After memory ran out, row 5's page must be drawn in the same context, and then the row must
-/// hold.
+/// Whether a row holds. If memory ran out, row 5's page must be drawn in the same context, and then the row must hold.
 pub fn row_serves_on<A: Allocator + Clone>(
     alloc: &A,
     row: &Row,
@@ -223,8 +222,7 @@ fn modes_hold<A: Allocator + Clone>(
     Ok(true)
 }
 
-/// Whether each beginning of these lengths, up to and with the last one, has this result in these
-/// modes.
+/// Whether each beginning of these lengths, also the last one, has this result in these modes.
 fn beginnings_hold<A: Allocator + Clone>(
     alloc: &A,
     modes: Modes,

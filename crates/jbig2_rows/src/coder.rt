@@ -39,8 +39,7 @@ pub enum CoderCase {
         bytes: &'static str,
         list: &'static [(u16, bool)],
     },
-    /// `encode_list` of these bits in context 0, eight for each byte, gives these bytes, and `decode_list` reads them
-    /// back.
+    /// `encode_list` of these bits in context 0, eight for each byte, gives these bytes, and `decode_list` reads them.
     ReadBack {
         decisions: &'static [u8],
         bytes: &'static str,

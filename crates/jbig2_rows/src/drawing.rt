@@ -25,8 +25,7 @@ pub fn white_holds<A: Allocator + Clone>(
     page_holds(alloc, &bytes, true, &WHITE_PAGE, context)
 }
 
-/// Whether an embedded page has this result. The only error is `DecodeError::OutOfMemory`, and only where no call was
-/// made.
+/// Whether an embedded page has this result. The only error is `DecodeError::OutOfMemory`, only where no call was made.
 pub fn page_holds<A: Allocator + Clone>(
     alloc: &A,
     bytes: &[u8],

@@ -27,8 +27,7 @@ pub struct MmrCase {
 pub struct Decoded {
     /// The number of bytes that are used.
     pub used: usize,
-    /// The rows. Each byte has the eight pixels of a row, the first in the highest bit, 1 for
-    /// black.
+    /// The rows, a byte with eight pixels for each, the first in the highest bit, 1 for black.
     pub rows: &'static [u8],
 }
 

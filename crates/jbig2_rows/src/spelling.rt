@@ -60,8 +60,7 @@ fn push_plain<A: Allocator>(bytes: &mut Vec<u8, A>, word: &str) -> Result<bool> 
     Ok(true)
 }
 
-/// Writes the digits after a place and `=` over the bytes from that place on. Places count from
-/// `start`.
+/// Writes the digits after a place and `=` over the bytes from that place on, counted from `start`.
 fn change_bytes(bytes: &mut [u8], start: usize, change: &str) -> bool {
     let Some((place, digits)) = change.split_once('=') else {
         return false;

@@ -1,6 +1,5 @@
 -- Which rule is broken where a symbol dictionary is refused (T.88, 6.5 and 7.4.2; docs/FORMAT.md, 11), one line for
--- each error. The function that refuses cites its predicate `Breaks..`. An error of a reading is that reading's own
--- (`IsOf`).
+-- each error. The function that refuses cites its predicate `Breaks..`. `IsOf` is an error that a reading gave.
 use Rattle.std.specs.Prelude.{◌≡◌, ◌≢◌, ◌⊎◌, ◌<◌, ◌≤◌, ℕ, ◌+◌, ◌-◌, ◌*◌, ◌/◌, ◌%◌, ◌==◌, max, ◌&&◌, Bool, false, IsTrue}
 use Rattle.std.specs.Prelude.{IsFalse, if◌then◌else◌, List, [], ◌∷◌, length, take, Option, Some, None, Result, Ok, ℤ}
 use Rattle.std.specs.Prelude.{pos, negsuc, ◌+ℤ◌}
@@ -117,8 +116,7 @@ BreaksCount value (errors.Symbol UnexpectedOob) = value ≡ None
 BreaksCount value (errors.Symbol Invalid) = (value ≡ Some (pos 0)) ⊎ ((n : ℕ) × (value ≡ Some (negsuc n)))
 BreaksCount value _ = ⊥
 
--- One instance (6.5.8.2.2): its id, RDX, RDY, its symbol, the size or the bits are refused. Several: the size or a text
--- region.
+-- One instance (6.5.8.2.2): its id, RDX, RDY, symbol, size or bits are refused. Several: the size or a text region.
 abbrev pub BreaksByInstances : {S : Type 0} → ReadingCauses S → Readings S → (S → Result (ℤ × S) DecodeError) → (S → DecodeError → Type 0) → TextParams → ℕ → ℕ → Refining → S → DecodeError → Type 0
 BreaksByInstances c r alone lacks p width height f s e =
     ((p.count ≡ 1) × (lacks s e
@@ -160,8 +158,7 @@ BreaksCollectiveBitmap d width height s e =
     InSteps (by_table d.tables.sizes s) (IsOf (by_table d.tables.sizes s) e) (λ value.
     BreaksSized d.header.strict width height value.0 (aligned value.1.coding).bytes e)
 
--- A class that is too high for its symbols: its collective bitmap is refused, or else the first symbol that is cut from
--- it.
+-- A class that is too high for its symbols: its collective bitmap is refused, or else the first symbol cut from it.
 abbrev pub BreaksTallClass : SymbolInput → ℕ → ℕ → SymbolState Place → DecodeError → Type 0
 BreaksTallClass d width height s e = BreaksCollectiveBitmap d width height s e ⊎ ((e ≡ errors.Overflow BitmapDimension) × (65535 < height))
 

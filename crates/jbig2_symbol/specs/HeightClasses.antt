@@ -1,6 +1,5 @@
 -- Height classes of a symbol dictionary (T.88, 6.5.5, step 4): the widths of symbols, classes whose symbols are drawn
--- one by one, and the list of classes. They use the readings of a coding, and give the new symbols and the state after
--- them.
+-- one by one, and all classes. They use the readings of a coding, and give the new symbols and the state after them.
 use Rattle.std.specs.Prelude.{ℕ, zero, suc, ◌+◌, ◌-◌, ◌==◌, nat_lt, nat_le, ◌&&◌, if◌then◌else◌, List, [], ◌∷◌, ◌++◌}
 use Rattle.std.specs.Prelude.{length, Option, Some, None, Result, Ok, Err, ℤ, pos, negsuc, ◌+ℤ◌}
 use Rattle.jbig2_base.specs.Answer.{◌>>=◌, refuse_if}
@@ -71,8 +70,7 @@ height_class r d before empty new s = do
   Ok (height, class.0, class.1)
 
 -- The symbols of the classes after one of this height, until there are enough. Each class has a symbol or is one of the
--- 2^20 that may be empty. So n classes are enough if n is at least the number of symbols and empty classes still to
--- come.
+-- 2^20 that may be empty. So n classes are enough if n is at least the number of symbols and empty classes to come.
 unfoldable pub classes_from : {S : Type 0} → ClassReadings S → SymbolInput → ℕ → ℕ → ℕ → List Grid → S → Result (List Grid × S) DecodeError
 classes_from r d zero before empty new s = Ok ([], s)
 classes_from r d (suc n) before empty new s =

@@ -1,6 +1,5 @@
 -- The bitmaps of a dictionary's symbols (T.88, 6.5.8 and 6.5.9): generic regions of their own, symbols refined or
--- aggregated with the readings of text regions, or parts of a collective bitmap. Each goes on with the dictionary's
--- state.
+-- aggregated with the readings of text regions, or parts of a collective bitmap. Each continues the dictionary's state.
 use Rattle.std.specs.Prelude.{ℕ, suc, ◌+◌, ◌==◌, max, true, false, ◌&&◌, if◌then◌else◌, List, ◌++◌, length, Option}
 use Rattle.std.specs.Prelude.{Some, None, Result, Ok, Err, ℤ, pos, ◌-◌, ◌*◌, ◌/◌, ◌%◌, nat_lt, Bool, ◌||◌, [], ◌∷◌}
 use Rattle.std.specs.Prelude.{slice_index_or}
@@ -48,8 +47,7 @@ coded_symbol h width height s =
     let contexts : SymbolContexts = record s.contexts { generic = region.contexts } in
     fits_symbol width height >>= λ fits. Ok (so_far width height region.pixels, record { coding = coded; contexts = contexts })
 
--- The number of bits of an id (SBSYMCODELEN). It is enough for all symbols: those referred to and all new ones, also
--- those to come.
+-- The number of bits of an id (SBSYMCODELEN), enough for all symbols: those referred to and all new ones, also to come.
 abbrev pub id_bits : SymbolHeader → ℕ → ℕ
 id_bits h symbols = code_length (symbols + h.num_new_symbols)
 

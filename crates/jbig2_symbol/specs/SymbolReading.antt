@@ -95,8 +95,7 @@ first_contexts flags kept =
     let same = is_template c.template flags.template && is_refinement_template c.refinement_template flags.refinement_template in
     refuse_if (not same) (errors.Symbol Invalid) >>= λ _. Ok c)
 
--- What is needed to decode a dictionary, besides the state. `ids` are the codes of the ids where symbols are
--- aggregated.
+-- What is needed to decode a dictionary, besides the state. `ids` are the codes of the ids in aggregate symbols.
 pub record SymbolInput : Type 0 where
   pub header : SymbolHeader
   pub symbols : List Grid

@@ -1,5 +1,4 @@
-//! Tests gray planes, and the pattern dictionaries and halftone regions of the example of T.88,
-//! H.1.
+//! Tests gray planes, and the patterns and halftone regions of the example of T.88, H.1.
 ghost use Rattle.std.specs.Prelude.{◌≡◌};
 
 mod planes;

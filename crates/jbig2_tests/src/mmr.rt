@@ -286,8 +286,7 @@ fn code_rows(alloc: Global, width: u32, whites: &[u32]) -> Result<Vec<u8>> {
     bytes_of(alloc, &bits)
 }
 
-/// Of the 64 pixels from column `x` on, those from column `first` on; the first pixel is the
-/// highest bit.
+/// Of 64 pixels from column `x` on, those from `first` on; the first pixel is the highest bit.
 fn pixels_from(first: u32, x: u32) -> u64 {
     u64::MAX.checked_shr(first.saturating_sub(x)).unwrap_or(0)
 }

@@ -1,5 +1,4 @@
-//! Tests text regions: those of the example of T.88, H.1, and the calls that read and refine their
-//! symbols.
+//! Tests text regions: those of the example of T.88, H.1, and the calls that read them.
 ghost use Rattle.std.specs.Prelude.{◌≡◌};
 
 use crate::coder::integers::EXAMPLE;

@@ -24,8 +24,7 @@ use Rattle.jbig2_text.specs.declared.text.header.TextRegionFlags.{TextRegionFlag
 use Rattle.jbig2_text.specs.declared.text.refined.Outline.{Outline}
 use Rattle.jbig2_text.specs.declared.text.refined.RefinementDeltas.{RefinementDeltas}
 
--- What is needed to read the instances (Table 9): the flags, SBSYMS, SBNUMINSTANCES, and the length of the segment's
--- data.
+-- What is needed to read the instances (Table 9): flags, SBSYMS, SBNUMINSTANCES, and the length of the segment's data.
 pub record TextParams : Type 0 where
   pub flags : TextRegionFlags
   pub symbols : List Grid
@@ -40,8 +39,7 @@ pub record Instance : Type 0 where  -- a symbol, and the column and the row of i
 
 -- How the numbers are coded (6.4.6 to 6.4.11). Each reading takes a state of the coder, and gives a value and the state
 -- after it. A delta S takes its bits even where it is refused; its None ends a strip. `t_bits` also takes the log of
--- the strip size. `refined` takes the reference, the width, the height and the contexts, and returns these as they have
--- learned.
+-- the strip size; `refined` takes the reference, the width, the height and the contexts, and returns these as learned.
 pub record Readings (S : Type 0) : Type 0 where
   pub delta_t : S → Result (ℤ × S) DecodeError
   pub first_s : S → Result (ℤ × S) DecodeError

@@ -22,8 +22,7 @@ use Rattle.jbig2_text.specs.TextHeader.{NumberCoding, TextHeader, ArithmeticCodi
 use Rattle.jbig2_text.specs.declared.text.header.TextRegionHuffmanFlags.{TextRegionHuffmanFlags}
 
 -- ---- tables (7.4.3.1.6)
--- the table that a number names: one of two of the standard, or 3 for the next custom one; and the custom ones still
--- left
+-- the table that a number names: one of two of the standard, or 3 for the next custom one; and the custom ones left
 abbrev pub one_of_two : List Member → List Member → ℕ → List (List Member) → Result (List Member × List (List Member)) DecodeError
 one_of_two first second n customs =
     if n == 0 then standard first customs else if n == 1 then standard second customs

@@ -9,9 +9,8 @@ use std::alloc::Allocator;
 /// The most contexts that are kept for the next segment: the number of the largest template.
 pub(crate) const MOST_CONTEXTS: usize = 65536;
 
-/// The standard tables, and memory for the contexts of the arithmetic coder. The result of a
-/// segment does not depend on contexts from an earlier one. At most `MOST_CONTEXTS` of them are
-/// kept.
+/// The standard tables, and memory for the contexts of the arithmetic coder. A segment's result
+/// does not depend on contexts from an earlier one. At most `MOST_CONTEXTS` of them are kept.
 #[derive(Drop)]
 pub(crate) struct Workspace<A: Allocator> {
     pub(crate) alloc: A,

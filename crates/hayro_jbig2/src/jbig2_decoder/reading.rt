@@ -13,8 +13,8 @@ const BLOCK: usize = 4096;
 /// Reads up to the end, and goes on after an interruption.
 ///
 /// Returns the reader's error, or `ErrorKind::TimedOut` where no end comes within 2^64 - 1 reads.
-/// It returns another error where this decoder's memory runs out than where the reader reports
-/// that; `Read::read_to_end` cannot tell the two from each other.
+/// If memory runs out here, the error is `Jbig2Error::Decode`. If the reader reports that its own
+/// memory ran out, it is `Jbig2Error::Io`. `Read::read_to_end` cannot distinguish the two.
 pub fn read_all<A: Allocator, R: Read>(alloc: A, reader: &mut R) -> Result<Vec<u8, A>, Jbig2Error>
     ensures bytes { ReadsAll (λ v. v.items) (R.remaining reader.old) result }
     ensures lasting { IfErr result IsLasting }

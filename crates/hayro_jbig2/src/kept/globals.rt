@@ -62,8 +62,7 @@ impl<A: Allocator> Globals<A> {
         &self.passed_over
     }
 
-    /// In salvage, the error that ended the list of their segments early: the error of lenient
-    /// reading.
+    /// In salvage, the error of lenient reading that ended the list of their segments early.
     pub fn fault(&self) -> Option<&DecodeError>
         ensures { found (λ e. e) result ≡ self.now.fault }
     {

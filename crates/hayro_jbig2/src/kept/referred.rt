@@ -118,8 +118,7 @@ impl<A: Allocator> ReferredSegments<'_, A> {
     }
 }
 
-/// All that a segment refers to: each number in turn names a symbol dictionary, or else a custom
-/// table.
+/// What a segment refers to: each number names a symbol dictionary, or else a custom table.
 ///
 /// Returns `OverflowError::SymbolCount` for more than 2^20 symbols together. Strict reading refuses
 /// a number that names neither.

@@ -14,7 +14,7 @@ use jbig2_base::error::Result;
 use std::alloc::Allocator;
 use std::sync::ledger::Ledger;
 
-/// The one colour of the eight pixels of row `y` from column `x` on, if they have the same.
+/// The colour of the eight pixels of row `y` from column `x` on, if all have the same.
 fn byte_colour<A: Allocator, L: Ledger>(
     bitmap: &Bitmap<A>,
     x: u32,

@@ -44,7 +44,7 @@ pub(crate) fn wrapped(x: usize, y: u32, width: usize) -> (usize, u32)
     if x == width { (0, y + 1) } else { (x, y) }
 }
 
-/// Writes a byte for each pixel of a page of this size, rows from the top: 0 for black and 255 for
+/// Writes a byte for each pixel of a page of this size, rows from the top: 0 for black, 255 for
 /// white.
 #[tactic(auto, unfolding(crate::specs::Image::image_of))]
 pub(crate) fn write_image<A: Allocator, L: Ledger>(

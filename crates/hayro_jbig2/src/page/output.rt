@@ -45,8 +45,7 @@ impl<'a, A: Allocator + Clone> Page<'a, A> {
     /// Writes the page into `buf`, which holds a byte for each pixel: rows from the top, 0 for
     /// black and 255 for white.
     ///
-    /// Returns the first fault of a segment that lenient reading does not pass over; `buf` is then
-    /// as it was.
+    /// Returns the first fault that lenient reading does not pass over; `buf` is then as it was.
     pub fn read_image(&self, buf: &mut [u8]) -> Result<()>
         requires { length buf.old ≡ self.now.initial_page.width * self.now.initial_page.height }
         ensures value { Gives (λ _. buf.new) result (image_of_page self.now) }
@@ -56,8 +55,7 @@ impl<'a, A: Allocator + Clone> Page<'a, A> {
         self.read_image_limited(buf, None)
     }
 
-    /// Writes the page as `read_image` does, for at most `work` units of work; `None` means no
-    /// limit.
+    /// Writes the page as `read_image` does, for at most `work` units; `None` means no limit.
     pub(crate) fn read_image_limited(&self, buf: &mut [u8], work: Option<u64>) -> Result<()>
         requires { length buf.old ≡ self.now.initial_page.width * self.now.initial_page.height }
         ensures value { Gives (λ _. buf.new) result (image_of_page self.now) }
@@ -121,8 +119,7 @@ impl<'a, A: Allocator + Clone> Page<'a, A> {
         self.read_packed_limited(buf, None)
     }
 
-    /// Writes the page as `read_packed` does, for at most `work` units of work; `None` means no
-    /// limit.
+    /// Writes the page as `read_packed` does, for at most `work` units; `None` means no limit.
     pub(crate) fn read_packed_limited(&self, buf: &mut [u8], work: Option<u64>) -> Result<()>
         requires { length buf.old ≡ packed_size self.now.initial_page.width
             self.now.initial_page.height }
@@ -150,8 +147,7 @@ impl<'a, A: Allocator + Clone> Page<'a, A> {
     }
 
     /// Draws the page in a context, which earlier pages may have used. The context then holds the page:
-    /// `DecoderContext::drawn` lends its packed rows, and `DecoderContext::passed_over` says what the reading passed
-    /// over.
+    /// `DecoderContext::drawn` lends its packed rows, and `DecoderContext::passed_over` says what was passed over.
     ///
     /// Returns the first fault of a segment that lenient reading does not pass over.
     pub fn draw_in(&self, context: &mut DecoderContext<A>) -> Result<()>

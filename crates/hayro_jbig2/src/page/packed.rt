@@ -36,8 +36,8 @@ fn put_bytes(buf: &mut [u8], place: usize, count: usize, word: u64)
     }
 }
 
-/// Puts the rest of a word of row `y`, from byte `column` on, at a place of `buf`, but at most `most` bytes. Returns
-/// how many.
+/// Puts the rest of a word of row `y`, from byte `column` on, at a place of `buf`: at most `most` bytes. Returns the
+/// number of bytes.
 #[inline(always)]
 fn put_rest<A: Allocator, L: Ledger>(
     bitmap: &Bitmap<A>,

@@ -76,8 +76,7 @@ impl<'a, 'n, 'r, A: Allocator + Clone> ParsedRegion<'a, 'n, 'r, A> {
         }
     }
 
-    /// Takes the work of a region, without the bitmaps of its size: the work of its symbols, of its cells, or of its
-    /// coded bytes.
+    /// Takes the work of a region, without the bitmaps of its size: that of its symbols, its cells or its coded bytes.
     fn pay_besides<L: Ledger>(&self, work: &mut Work<L>) -> Result<()>
         ensures memory { IfErr result (λ e. e ≡ DecodeError.OutOfMemory) }
         ensures paid { Paid work.old work.new }

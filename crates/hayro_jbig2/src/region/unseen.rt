@@ -26,8 +26,7 @@ fn rows_above_end(info: &RegionSegmentInfo, page_height: u32) -> u32
 
 impl<'a, 'n, 'r, A: Allocator + Clone> ParsedRegion<'a, 'n, 'r, A> {
     /// The region without the rows that lie below a page of this height, where these change no pixel of the page and no
-    /// error. That is so for regions by the arithmetic coder, except text, halftones, and a refinement whose height is
-    /// refused.
+    /// error: in regions by the arithmetic coder, except text, halftones, and a refinement whose height is refused.
     pub(crate) fn above_end(self, page_height: u32) -> ParsedRegion<'a, 'n, 'r, A>
         requires { IsDecodable self }
         ensures decodable { IsDecodable result }

@@ -52,8 +52,7 @@ const DICTIONARY: &[(u16, bool)] = &[
     (2056, true),
 ];
 
-/// The decisions of a text region of one instance. The contexts of first places begin at 512, those of distances at
-/// 1024.
+/// The decisions of a text region of one instance. The contexts of first places begin at 512, of distances at 1024.
 const TEXT: &[(u16, bool)] = &[
     // The place where the strips begin, and the place of the first strip.
     (1, false),

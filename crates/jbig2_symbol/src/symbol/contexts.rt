@@ -81,8 +81,7 @@ fn duplicate_contexts<A: Allocator + Clone, K: Allocator>(
     })
 }
 
-/// The contexts at the beginning: fresh, or those that another dictionary with the same templates
-/// kept.
+/// The contexts at the beginning: fresh, or those that another dictionary kept.
 ///
 /// Returns `SymbolError::Invalid` where there are none, or where they have other templates;
 /// `OutOfMemory` where there is no memory for them.

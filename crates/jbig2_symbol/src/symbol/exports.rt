@@ -103,8 +103,7 @@ fn duplicate<A: Allocator, S: Allocator, L: Ledger>(
     symbol.duplicate(alloc, &mut work.steps)
 }
 
-/// A copy of a symbol, by its number: first come the symbols that are referred to, then the new
-/// ones.
+/// A copy of a symbol, by its number: first the symbols that are referred to, then the new ones.
 fn duplicate_symbol<A: Allocator, S: Allocator, L: Ledger>(
     alloc: A,
     symbols: &[&Bitmap<S>],

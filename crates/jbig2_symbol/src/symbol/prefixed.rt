@@ -65,8 +65,7 @@ fn read_by_instances<T: Allocator, A: Allocator, M: Allocator + Clone, C: Alloca
     refine_alone(alloc, readings, refining, &params.symbols, id, size, work)
 }
 
-/// The place in the bits, and the contexts of bitmaps and refinements. The contexts of bitmaps stay
-/// as they are.
+/// The place in the bits, and the contexts of bitmaps, which stay as they are, and of refinements.
 #[derive(Drop)]
 pub struct PrefixedSymbols<'a, A: Allocator> {
     reader: Reader<'a>,
@@ -157,8 +156,7 @@ impl<'a, A: Allocator> PrefixedSymbols<'a, A> {
         self.read_instances(alloc, input, &params, size, work)
     }
 
-    /// Reads the number of bytes of a collective bitmap's rows, which begin at the next whole byte
-    /// (T.88, 6.5.9).
+    /// Reads the number of bytes of a collective bitmap, from the next whole byte on (T.88, 6.5.9).
     fn read_size<S: Allocator, T: Allocator>(
         &mut self,
         input: &SymbolInput<'_, S, T>,

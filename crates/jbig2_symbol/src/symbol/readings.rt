@@ -15,8 +15,7 @@ use jbig2_base::error::Result;
 use std::alloc::Allocator;
 use std::sync::ledger::Ledger;
 
-/// Reads the symbols of a height class one by one. The caller has already taken the work of the numbers: five for each
-/// symbol.
+/// Reads the symbols of a height class one by one. The caller has already paid for five numbers for each symbol.
 pub trait ReadSymbols {
     ghost State: { Type 0 };
 

@@ -14,8 +14,7 @@ use std::sync::ledger::{Blank, Ledger};
 /// The coded bytes of T.88, H.2.
 pub const EXAMPLE: &[u8] = &[0x84, 0xC7, 0x3B, 0xFC, 0xE1, 0xA1, 0x43, 0x04, 0x02, 0x20];
 
-/// Bytes, and the integers that they begin with. Without bytes there are values of twelve and of 32
-/// bits.
+/// Bytes, and the integers that they begin with. No bytes give values of twelve and of 32 bits.
 const INTEGERS: [(&[u8], [Option<i32>; 5]); 2] = [
     (EXAMPLE, [Some(1), Some(-2), Some(5), Some(8), None]),
     (

@@ -18,8 +18,7 @@ use std::alloc::Global;
 use std::marker::Brand;
 use std::sync::ledger::{Blank, Ledger};
 
-/// Bytes that were not coded from any picture. The expected rows come from another program that
-/// follows T.88.
+/// Bytes that no encoder made. The expected rows come from another reading of T.88.
 const BYTES: [u8; 9] = [0x93, 0x95, 0x65, 0x0C, 0xF9, 0x38, 0x0B, 0x8E, 0xDB];
 
 /// A bitmap of 8 by 3 pixels.

@@ -1,5 +1,4 @@
-//! Reads the numbers of a text region that are coded by the arithmetic coder (T.88, 6.4.6 to
-//! 6.4.11).
+//! Reads the numbers of a text region by the arithmetic coder (T.88, 6.4.6 to 6.4.11).
 ghost use Rattle.std.specs.Prelude.{◌≡◌, ◌≤◌, Ok};
 ghost use Rattle.jbig2_base.specs.Answer.{Answers, Gives};
 ghost use Rattle.jbig2_steps.specs.Work.{PaidBut};
@@ -29,8 +28,8 @@ pub struct CodedReadings<'a, A: Allocator> {
 }
 
 impl<'a, A: Allocator + Clone> CodedReadings<'a, A> {
-    /// A coder at the start of `bytes`, with fresh contexts. Ids have `code_length` bits, at most
-    /// 30.
+    /// A coder at the start of `bytes`, with fresh contexts and ids of `code_length` bits (up to
+    /// 30).
     ///
     /// # Errors
     /// `OutOfMemory` where there is no memory for the contexts.

@@ -1,5 +1,4 @@
-//! The instances of a text region (T.88, 6.4.5): all are read and paid for before the first is
-//! drawn.
+//! The instances of a text region (T.88, 6.4.5). All are read before the first is drawn.
 ghost use Rattle.std.specs.Prelude.{◌≡◌, ◌+◌, ◌*◌, ◌≤◌, [], nat_lt, option_map, IfOk, OnErr};
 ghost use Rattle.jbig2_base.specs.Answer.{Gives};
 ghost use Rattle.jbig2_steps.specs.Work.{Paid, PaidBut, worth};
@@ -22,7 +21,7 @@ use jbig2_base::error::{DecodeError, Result, SymbolError};
 use std::alloc::Allocator;
 use std::sync::ledger::Ledger;
 
-/// The work of reading one instance.
+/// The work of an instance, without the pixels of its symbol.
 const INSTANCE: u64 = 256;
 
 /// How many instances there may be for each byte of a segment.

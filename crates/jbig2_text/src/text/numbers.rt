@@ -81,8 +81,7 @@ pub fn refined_side(side: u32, difference: i32) -> Result<u32>
     Ok(refined)
 }
 
-/// The offset of a refined symbol's reference along one axis, from the growth of its side and a
-/// difference.
+/// The offset of a refined symbol's reference along one axis: half the growth and a difference.
 pub fn reference_offset(growth: i32, difference: i32) -> Result<i32>
     ensures { Answers (λ n. n) result (reference_offset growth difference) }
 {

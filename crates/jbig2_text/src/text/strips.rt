@@ -30,8 +30,7 @@ pub fn read_strip_delta<R: ReadInstances, L: Ledger>(
     numbers::strips(delta, flags.log_strip_size)
 }
 
-/// Begins a strip. Gives the place of its first instance, from the T and the first S of the strip
-/// before it.
+/// Begins a strip. Gives the place of its first instance, from the T and first S of the last strip.
 #[tactic(auto, unfolding(crate::specs::Text::strip_begun))]
 pub fn begin_strip<R: ReadInstances, L: Ledger>(
     readings: &mut R,

@@ -201,8 +201,7 @@ fn read_symbol_codes<A: Allocator + Clone>(
     Ok(codes)
 }
 
-/// Reads the codes of this many symbols, at most 2^21. The reader is then at the beginning of a
-/// byte.
+/// Reads the codes of this many symbols, at most 2^21. The reader is then at a whole byte.
 ///
 /// Returns `ParseError::UnexpectedEof` where the bits end in a runcode; `HuffmanError::InvalidCode`
 /// where they end elsewhere, for codes that do not fit, where no length comes before a repeated

@@ -46,8 +46,8 @@ impl<'a, T: Allocator> TextRegionHuffmanTables<'a, T> {
     }
 }
 
-/// The table that a number names: one of these two, or a custom one for 3; and the custom tables
-/// still left.
+/// The table that a number names: one of these two, or a custom one for 3; and the rest of
+/// `customs`.
 fn one_of_two<'a, T: Allocator>(
     first: &'a HuffmanTable<T>,
     second: &'a HuffmanTable<T>,
@@ -65,8 +65,7 @@ fn one_of_two<'a, T: Allocator>(
     }
 }
 
-/// The table that a number names: one of these three, or else a custom one; and the custom tables
-/// still left.
+/// The table that a number names: one of these three, or a custom one; and the rest of `customs`.
 fn one_of_three<'a, T: Allocator>(
     first: &'a HuffmanTable<T>,
     second: &'a HuffmanTable<T>,
@@ -86,8 +85,7 @@ fn one_of_three<'a, T: Allocator>(
     }
 }
 
-/// The table that a number names for the differences of a refined symbol, and the custom tables
-/// still left.
+/// The table that a number names for a refined symbol's differences; and the rest of `customs`.
 fn refinement_table<'a, T: Allocator>(
     standard: &'a StandardHuffmanTables<T>,
     number: u8,
@@ -99,8 +97,7 @@ fn refinement_table<'a, T: Allocator>(
     one_of_two(standard.table_n(), standard.table_o(), number, customs)
 }
 
-/// The table that a number names for the sizes of refined symbols, and the custom tables still
-/// left.
+/// The table that a number names for the sizes of refined symbols; and the rest of `customs`.
 fn size_table<'a, T: Allocator>(
     standard: &'a StandardHuffmanTables<T>,
     number: u8,
