@@ -82,7 +82,7 @@ with_numbers strict own shared (number ∷ numbers) r = with_number strict own s
 abbrev pub referred_by : Bool → Names → Names → List ℕ → Result Referred DecodeError
 referred_by strict own shared numbers = with_numbers strict own shared numbers (record { symbols = []; codes = []; kept = None })
 
--- A symbol dictionary (7.4.2), after what it refers to. Where it fails, only salvage passes over it. The same holds for
+-- A symbol dictionary (7.4.2), after what it refers to. Only salvage passes over it where it fails. The same holds for
 -- pattern dictionaries and custom tables.
 unfoldable pub symbol_dictionary_at : Bool → Names → Names → SegmentView → Result Symbols DecodeError
 symbol_dictionary_at strict own shared p = do

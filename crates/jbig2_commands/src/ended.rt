@@ -20,7 +20,7 @@ pub struct Ended {
 }
 
 impl Ended {
-    /// The end of a run whose words are not those of a run: writes the usage to standard error.
+    /// The end where the words are not those of a run: writes the usage to standard error.
     pub fn refused<E: Write>(err: &mut E) -> Ended
         ensures status { result.status ≡ 2 }
         ensures told { Told result.told usage_line (E.contents err.old) (E.contents err.new) }

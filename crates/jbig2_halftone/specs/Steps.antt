@@ -108,7 +108,7 @@ abbrev pub CountsHalftone : HalftoneHeader → Patterns → Counts → Counts �
 CountsHalftone h d before after =
     CountsDrawn h d (gray_params h d).bits_per_pixel h.grid_position_and_size.height before after
 
--- a region that is refused: no step, or at most these planes and rows
+-- a region that is refused: no step, or at most all planes and all rows
 abbrev pub StopsHalftone : HalftoneHeader → Patterns → Counts → Counts → Type 0
 StopsHalftone h d before after =
     (after ≡ before)
@@ -127,7 +127,7 @@ CountsCut h count before after =
 abbrev pub CountsDictionary : PatternHeader → Counts → Counts → Type 0
 CountsDictionary h before after = CountsCut h (h.gray_max + 1) before after
 
--- a dictionary that is refused: no step, or at most these patterns
+-- a dictionary that is refused: no step, or at most all patterns
 abbrev pub StopsDictionary : PatternHeader → Counts → Counts → Type 0
 StopsDictionary h before after =
     (after ≡ before) ⊎ ((count : ℕ) × ((count ≤ h.gray_max + 1) × CountsCut h count before after))

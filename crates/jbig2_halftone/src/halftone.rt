@@ -291,8 +291,8 @@ fn value_row<A: Allocator>(alloc: A, width: u32) -> Result<Vec<u32, A>>
 ///
 /// Returns `RegionError::InvalidMmrData` in strict mode where MMR data has a fault or lacks a row;
 /// `RegionError::GrayScaleOutOfRange` in strict mode for a value that has no pattern, also where the cell lies outside;
-/// `OutOfMemory` where there is no memory for the values. This last one is the only error in lenient mode, and only
-/// after it may `contexts` hold anything.
+/// `OutOfMemory` where there is no memory for the values. This last one is the only error in lenient mode. Only after
+/// it the content of `contexts` is not specified.
 #[tactic(auto, using(crate::proofs::CausesOfRegions::halftone_cause))]
 pub fn decode_into<D: Allocator, M: Allocator, A: Allocator + Clone, B: Allocator, L: Ledger>(
     alloc: A,

@@ -50,7 +50,7 @@ pub fn unstarted<E: Write>(refused: bool, usage: &str, err: &mut E) -> u8 {
     refused_words(usage, err)
 }
 
-/// The status of a run whose words are not those of a run. Writes the usage to standard error.
+/// The status where the words are not those of a run. Writes the usage to standard error.
 pub(crate) fn refused_words<E: Write>(usage: &str, err: &mut E) -> u8
     ensures { result ≡ 2 }
 {

@@ -1,7 +1,7 @@
--- The work that a symbol dictionary counts before it pays for it (our own rule). For a new symbol at most five numbers
--- are read: its width, its number of instances, an id and two offsets. Their work is taken before the dictionary is
--- decoded. Everything else is paid for as it comes: height classes, runs of exports, and each bitmap before it is
--- decoded or copied.
+-- The work that a symbol dictionary counts but doesn't pay for itself (our own rule). For a new symbol at most five
+-- numbers are read: its width, its number of instances, an id and two offsets. Their work is taken before the
+-- dictionary is decoded. Everything else is paid for as it comes: height classes, runs of exports, and each bitmap
+-- before it is decoded or copied.
 use Rattle.std.specs.Prelude.{ℕ, ◌+◌, ◌*◌, ◌≤◌}
 use Rattle.jbig2_steps.specs.Work.{worth}
 use Rattle.jbig2_steps.specs.declared.work.Work.{Work}

@@ -25,7 +25,7 @@ unfoldable pub ended_runs : ℕ → List ℕ → ℕ → ℕ
 ended_runs from [] i = 0
 ended_runs from (r ∷ runs) i = bit_number (nat_le (from + r) i) + ended_runs (from + r) runs i
 
--- The exported symbols of a list that is numbered from `from` on. In turn, runs have symbols left out and exported.
+-- The exported symbols of a list that is numbered from `from` on. Runs of symbols left out and exported take turns.
 unfoldable pub exported_from : List ℕ → ℕ → List Grid → List Grid
 exported_from runs from [] = []
 exported_from runs from (g ∷ grids) =

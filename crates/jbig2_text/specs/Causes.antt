@@ -40,7 +40,7 @@ use Rattle.jbig2_region.specs.Refinement.{Reference}
 abbrev pub Behind : {A : Type 0} → Result A DecodeError → (A → Type 0) → Type 0
 Behind {A} r P = (x : A) × (r ≡ Ok x) × P x
 
--- this error of a table of prefix codes at this place, where a number must come
+-- a table of prefix codes gives this error at this place, where a number must come
 abbrev pub RefusesNumber : List Member → Place → DecodeError → Type 0
 RefusesNumber table p e = no_oob (decoded_value table (bits_left p)).answer ≡ Err e
 
@@ -211,7 +211,7 @@ BreaksInstances c r p f s e =
     ⊎ AtEnd r p f s (λ u. c.delta_s u e)
 
 -- ---- tables (7.4.3.1.6)
--- a choice that is none of two tables of the standard, 0 and 1, and no custom one, 3
+-- a number that names no table: neither one of two of the standard, 0 and 1, nor a custom one, 3
 abbrev pub HasNoMeaning : ℕ → Type 0
 HasNoMeaning n = (2 ≤ n) × (n ≢ 3)
 
@@ -249,7 +249,7 @@ coder_causes = record {
 }
 
 -- ---- prefix codes
--- this error of a table at the beginning of these bits, where a number or out of band must come
+-- a table gives this error at the beginning of these bits, where a number or out of band must come
 abbrev pub RefusesValue : List Member → List ℕ → DecodeError → Type 0
 RefusesValue table bits e = (decoded_value table bits).answer ≡ Err e
 

@@ -16,7 +16,7 @@ pub struct PassedSegment {
 /// they are the immediate regions that failed (T.88, 8.2), in salvage all segments that failed.
 #[derive(Debug, Drop, PartialEq, Eq)]
 pub struct PassedOver {
-    /// How many segments were passed over; 0 if none failed.
+    /// How many segments were passed over; 0 if none was.
     pub count: usize,
     /// The first of them, in the order of drawing.
     pub first: Option<PassedSegment>,

@@ -84,7 +84,8 @@ fn decode_plane<M: Allocator, A: Allocator, L: Ledger>(
     );
 }
 
-/// Decodes the planes with the arithmetic coder. If memory runs out, the steps of the planes before it are counted.
+/// Decodes the planes with the arithmetic coder. If memory runs out at a plane, the steps of those before it are
+/// counted.
 fn read_coded_planes<M: Allocator, A: Allocator + Clone, L: Ledger>(
     alloc: A,
     bytes: &[u8],

@@ -53,7 +53,7 @@ const BAD_REFERENCE: Told = Told {
     fault: Some(INVALID_REFERENCE),
 };
 
-/// A list in random access that ends too early.
+/// A list in random access whose bytes end too early.
 const CUT_OFF: Told = Told {
     passed_over: 0,
     first: None,

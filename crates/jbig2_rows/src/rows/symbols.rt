@@ -41,7 +41,7 @@ const DICTIONARY: &[(u16, bool)] = &[
     (1539, false),
     (1542, false),
     (1548, false),
-    // A run of no symbol that isn't exported, and a run of one that is.
+    // A run of 0 symbols that are not exported, and a run of 1 that is.
     (2049, false),
     (2050, false),
     (2052, false),
