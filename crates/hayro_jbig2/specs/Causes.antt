@@ -92,7 +92,7 @@ IsAnswered (Template Invalid) = ⊥
 IsAnswered (Overflow Index) = ⊥
 IsAnswered _ = Unit {0}
 
--- No definition gives one of these, whatever the bytes: neither for globals, embedded pages and files, nor for the
+-- No definition gives one of these four, whatever the bytes: neither for globals, embedded pages and files, nor for the
 -- drawing of a page, unless the page's globals gave it. The globals of a file never do.
 pub record ErrorsAreAnswered : Type 0 where
   pub globals : (reading : Reading) (bytes : List ℕ) → IfErr (globals_at reading bytes) IsAnswered

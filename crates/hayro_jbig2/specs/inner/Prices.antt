@@ -27,7 +27,7 @@ price_besides (PageRefinement header area) = 0
 abbrev pub price_of_info : {A : Type 0} → ParsedRegion A → ℕ
 price_of_info r = price_of_bitmap (info_of r).width (info_of r).height
 
--- The most that decoding counts for a region before it is paid for. A text region pays for its instances while reading.
+-- The most that decoding counts for a region before it is paid for. A text region pays for its instances itself.
 abbrev pub counts_of : {A : Type 0} → ParsedRegion A → ℕ
 counts_of (Text header referred) = number_steps 1
 counts_of (Halftone header patterns) = 32 * price_of_halftone (halftones.header_view header) (dictionary_view patterns.now)
