@@ -1,5 +1,5 @@
 -- The data of a halftone region segment up to its coded bytes (T.88, 7.4.5): region information, flags, and the grid's
--- size, place and vector. The bytes give the header, and the coded bytes stand after it.
+-- size, place and vector. The bytes give the header, and the coded bytes after it.
 use Rattle.std.specs.Prelude.{ℕ, ◌/◌, ◌%◌, ◌==◌, nat_lt, Bool, ◌||◌, List, Result, Ok}
 use Rattle.std.specs.Int.{w8, w16, w32}
 use Rattle.jbig2_base.specs.Answer.{refuse_if, ◌>>=◌}
@@ -15,7 +15,7 @@ use Rattle.jbig2_halftone.specs.declared.halftone.header.HalftoneGridPositionAnd
 use Rattle.jbig2_halftone.specs.declared.halftone.header.HalftoneGridVector.{HalftoneGridVector}
 use Rattle.jbig2_halftone.specs.declared.halftone.header.HalftoneRegionFlags.{HalftoneRegionFlags}
 
-pub record HalftoneHeader : Type 0 where  -- what a halftone region's coded bytes are decoded by
+pub record HalftoneHeader : Type 0 where  -- what is needed to decode a halftone region's coded bytes
   pub region_info : RegionSegmentInfo
   pub flags : HalftoneRegionFlags
   pub grid_position_and_size : HalftoneGridPositionAndSize
@@ -39,7 +39,7 @@ halftone_flags_at bytes = do
     flags.1,
   )
 
--- The grid's size and place (7.4.5.1.2); neither side may pass 65535 (our own rule).
+-- The grid's size and place (7.4.5.1.2). No side may be above 65535 (our own rule).
 unfoldable pub halftone_grid_at : List ℕ → Result (HalftoneGridPositionAndSize × List ℕ) DecodeError
 halftone_grid_at bytes = do
   width ← number_at w32 bytes

@@ -1,5 +1,5 @@
--- A text region segment (T.88, 7.4.3). `text_decoded` takes the header with the coded bytes, the symbols and the
--- custom tables that it refers to, and gives the region's grid at its place, decoded from fresh states.
+-- A text region segment (T.88, 7.4.3). `text_decoded` takes the header with the coded bytes, and the symbols and the
+-- custom tables that the segment refers to. It gives the region's grid at its place, decoded from fresh states.
 use Rattle.std.specs.Prelude.{ℕ, nat_lt, ◌==◌, ◌||◌, if◌then◌else◌, List, length, Result, Ok, Err}
 use Rattle.jbig2_base.specs.Answer.{◌>>=◌, refuse_if}
 use Rattle.jbig2_base.specs.Bits.{start_of}
@@ -22,7 +22,7 @@ use Rattle.jbig2_text.specs.TextHeader.{NumberCoding, TextHeader, ArithmeticCodi
 use Rattle.jbig2_text.specs.declared.text.header.TextRegionHuffmanFlags.{TextRegionHuffmanFlags}
 
 -- ---- tables (7.4.3.1.6)
--- the table that a number names among two of the standard, or 3 for the next custom one; and those left to take
+-- the table that a number names: one of two of the standard, or 3 for the next custom one; and the custom ones left
 abbrev pub one_of_two : List Member → List Member → ℕ → List (List Member) → Result (List Member × List (List Member)) DecodeError
 one_of_two first second n customs =
     if n == 0 then standard first customs else if n == 1 then standard second customs
@@ -79,7 +79,7 @@ text_params h symbols = record {
   strict = h.strict;
 }
 
-abbrev pub refining_of : TextHeader → Refining  -- by contexts that know nothing yet
+abbrev pub refining_of : TextHeader → Refining  -- with fresh contexts
 refining_of h = record {
   template = h.flags.refinement_template;
   pixels = h.refinement_pixels;
@@ -89,7 +89,7 @@ refining_of h = record {
 unfoldable pub region_from : {S : Type 0} → Readings S → TextHeader → List Grid → Grid → S → Result Grid DecodeError
 region_from r h symbols region s = text_region r (text_params h symbols) region (refining_of h) s >>= λ found. Ok found.0
 
--- the coder, with ids of as many bits as tell the symbols apart (SBSYMCODELEN)
+-- the coder, with ids of as many bits as the number of symbols needs (SBSYMCODELEN)
 abbrev pub coder_of : TextHeader → List Grid → Coded
 coder_of h symbols = coded_start h.bytes (code_length (length symbols))
 
@@ -107,7 +107,7 @@ unfoldable pub text_answer : TextHeader → List Grid → List (List Member) →
 text_answer h symbols customs =
     region_by h h.coding symbols customs (blank h.region_info.width h.region_info.height h.flags.default_pixel)
 
--- A region and its place; a side above 65535 is refused (our own rule).
+-- A region at its place. A side above 65535 is refused (our own rule).
 unfoldable pub text_decoded : TextHeader → List Grid → List (List Member) → Result PlacedRegion DecodeError
 text_decoded h symbols customs = do
   fits ← refuse_if (nat_lt 65535 h.region_info.width || nat_lt 65535 h.region_info.height) (Overflow BitmapDimension)

@@ -1,4 +1,4 @@
--- What is kept under numbers, seen as the definitions see it: each value by the view of its own type.
+-- What is kept under numbers, as the definitions see it: each value by the view of its own type.
 use Rattle.std.specs.Prelude.{List, map, Option, Some, None}
 use Rattle.std.specs.Borrow.{Bor}
 use Rattle.jbig2_halftone.specs.Patterns.{Patterns}
@@ -12,7 +12,7 @@ use Rattle.jbig2_symbol.specs.inner.SymbolViews as symbol_views
 abbrev pub seen : {X V : Type 0} → (X → V) → List (Kept X) → List (Kept V)
 seen view kept = map (λ k. record { segment_number = k.segment_number; value = view k.value }) kept
 
--- what was looked for
+-- the value that was looked for, if it was found
 abbrev pub found : {X V : Type 0} → (X → V) → Option (Bor X) → Option V
 found view None = None
 found view (Some value) = Some (view value.now)

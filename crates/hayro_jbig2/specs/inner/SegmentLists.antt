@@ -1,4 +1,4 @@
--- The segments of a page, its own or those that its file holds.
+-- The segments of a page: its own, or those that its file holds.
 use Rattle.std.specs.Prelude.{List}
 use Rattle.jbig2_base.specs.declared.segment.Segment.{Segment}
 use Rattle.hayro_jbig2.specs.declared.page.PageSegments.{PageSegments}

@@ -1,4 +1,4 @@
--- A pattern dictionary of the code, seen as the definition's.
+-- A pattern dictionary of the code, as the definitions see it.
 use Rattle.jbig2_halftone.specs.declared.pattern.dictionary.PatternDictionary.{PatternDictionary}
 use Rattle.jbig2_halftone.specs.Patterns.{Patterns}
 

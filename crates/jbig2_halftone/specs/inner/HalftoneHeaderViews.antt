@@ -1,4 +1,4 @@
--- A halftone region's header of the code, seen as the definition's.
+-- A halftone region's header of the code, as the definitions see it.
 use Rattle.jbig2_halftone.specs.declared.halftone.header.HalftoneRegionHeader.{HalftoneRegionHeader}
 use Rattle.jbig2_halftone.specs.HalftoneHeader.{HalftoneHeader}
 

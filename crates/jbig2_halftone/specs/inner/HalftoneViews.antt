@@ -1,4 +1,4 @@
--- As what records of the definitions the code's values of gray-scale images are seen (our own rule).
+-- Values of the code for gray-scale images, as the definitions see them (our own rule).
 use Rattle.jbig2_region.specs.inner.RegionViews.{skip_of}
 use Rattle.jbig2_halftone.specs.GrayScale.{GrayScale}
 use Rattle.jbig2_halftone.specs.declared.gray_scale.GrayScaleParams.{GrayScaleParams}
