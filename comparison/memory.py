@@ -117,11 +117,11 @@ class Tally:
         least = least_of(None)
         if measured.most > 2 * least + ALLOWED:
             self.counts["above"] += 1
-            told = f"{save(name)}: {measured.most} bytes, the crate at least {least}"
+            line = f"{save(name)}: {measured.most} bytes, the crate at least {least}"
             least = least_of(Work(*MOST_WORK))
             is_above = measured.most > 2 * least + ALLOWED
             self.counts["above with symbols"] += is_above
-            print(f"{told}, with symbols {least}{', still above' * is_above}", flush=True)
+            print(f"{line}, with symbols {least}{', still above' * is_above}", flush=True)
         # Where the crate takes next to nothing, a ratio says nothing.
         self.highest = max(self.highest, (measured.most / max(least, ALLOWED), name))
 
