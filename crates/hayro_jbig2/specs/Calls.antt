@@ -1,16 +1,21 @@
--- The calls that spell a page (our own rule; T.88 leaves open how a decoder hands a page on), and what a Decoder does with
--- them. `calls_of` takes a grid and gives its calls, row by row; `rows_after` takes calls and gives the rows that they
--- draw. `Decodes`, the last, takes the answer of a definition and says what `decode_with` makes of it.
-use Rattle.std.specs.{Prelude.{◌≡◌, ◌<◌, ◌≤◌, ◌⊎◌, All, Option, Some, None, unwrap_or, option_to_list, ℕ, suc, zero, ◌+◌, ◌-◌, ◌*◌, ◌/◌, ◌%◌, ◌^◌, Bool, true, false, ◌&&◌, List, [], ◌∷◌, ◌++◌, length, take, drop, replicate, map, count_by, Result, Ok, Err, if◌then◌else◌}, List.{range_with_len, flat_map}}
-use Rattle.jbig2_base.specs.{Grid.{Grid, pixel_at, same_colour}, declared.error.DecodeError.{DecodeError, TheVariants.{OutOfMemory}}}
+-- The calls that draw a page (our own rule; T.88 leaves open how a decoder hands a page on), and what a Decoder does
+-- with them. `calls_of` takes a grid and gives its calls, row by row. `rows_after` takes calls and gives the rows that
+-- they draw. `Decodes`, the last, takes the result of a definition and says what `decode_with` does then.
+use Rattle.std.specs.Prelude.{◌≡◌, ◌<◌, ◌≤◌, ◌⊎◌, All, Option, Some, None, unwrap_or, option_to_list, ℕ, suc, zero, ◌+◌}
+use Rattle.std.specs.Prelude.{◌-◌, ◌*◌, ◌/◌, ◌%◌, ◌^◌, Bool, true, false, ◌&&◌, List, [], ◌∷◌, ◌++◌, length, take, drop}
+use Rattle.std.specs.Prelude.{replicate, map, count_by, Result, Ok, Err, if◌then◌else◌}
+use Rattle.std.specs.List.{range_with_len, flat_map}
+use Rattle.jbig2_base.specs.Grid.{Grid, pixel_at, same_colour}
+use Rattle.jbig2_base.specs.declared.error.DecodeError.{DecodeError}
+use Rattle.jbig2_base.specs.declared.error.DecodeError.TheVariants.{OutOfMemory}
 
--- A call of a Decoder: one pixel, that many times eight pixels of one colour, the end of a row.
+-- A call of a Decoder: one pixel; eight times this many pixels of one colour; the end of a row.
 pub data Call : Type 0 where
   Pixel : (black : Bool) → Call
   Chunk : (black : Bool) (bytes : ℕ) → Call
   Line : Call
 
-abbrev pub is_all : Bool → List Bool → Bool  -- all of these pixels have one colour
+abbrev pub is_all : Bool → List Bool → Bool  -- all of these pixels have this colour
 is_all black [] = true
 is_all black (b ∷ bs) = same_colour black b && is_all black bs
 
@@ -18,7 +23,7 @@ abbrev pub singles : List Bool → List Call
 singles [] = []
 singles (b ∷ bs) = Pixel b ∷ singles bs
 
--- A whole byte of one colour joins a chunk of that colour after it.
+-- A whole byte of one colour is joined with the chunk after it, if that has the same colour.
 abbrev pub with_whole : Bool → List Call → List Call
 with_whole black (Chunk other n ∷ calls) = if same_colour black other then Chunk black (n + 1) ∷ calls else Chunk black 1 ∷ (Chunk other n ∷ calls)
 with_whole black calls = Chunk black 1 ∷ calls
@@ -36,14 +41,16 @@ whole_calls (suc n) bits = with_byte (take 8 bits) (whole_calls n (drop 8 bits))
 unfoldable pub row_of : Grid → ℕ → List Bool
 row_of g y = map (λ x. pixel_at g x y) (range_with_len 0 g.width)
 
--- A row: its whole bytes of one colour as maximal runs, each a chunk, all other pixels one by one, and a line call.
+-- The calls of a row: each maximal run of whole bytes of one colour as a chunk, other pixels one by one, then a line
+-- call.
 abbrev pub line_calls : Grid → ℕ → List Call
 line_calls g y = whole_calls (length (row_of g y) / 8) (row_of g y) ++ Line ∷ []
 
 unfoldable pub calls_of : Grid → List Call
 calls_of g = flat_map (line_calls g) (range_with_len 0 g.height)
 
--- The rows that calls draw, after a row that may be begun. What no line call ends is a row too.
+-- The rows that calls draw. The first argument has the pixels of an unfinished row, if there is one. An unfinished row
+-- at the end counts as a row too.
 abbrev pub rows_after : Option (List Bool) → List Call → List (List Bool)
 rows_after begun [] = option_to_list begun
 rows_after begun (Pixel black ∷ calls) = rows_after (Some (unwrap_or begun [] ++ black ∷ [])) calls
@@ -54,25 +61,25 @@ abbrev pub is_line : Call → Bool
 is_line Line = true
 is_line _ = false
 
--- The calls spell a grid: as many line calls as rows, each row that they draw as wide as the grid, and whoever draws
--- the calls gets the grid's rows, and nothing after the last one.
+-- The calls draw a grid. There are as many line calls as rows, each row that they draw is as wide as the grid, and the
+-- rows that they draw are exactly the grid's rows.
 pub record DrawsGrid (calls : List Call) (g : Grid) : Type 0 where
   pub lines : count_by is_line calls ≡ g.height
   pub widths : All (λ row. length row ≡ g.width) (rows_after None calls)
   pub rows : rows_after None calls ≡ map (row_of g) (range_with_len 0 g.height)
 
--- From this column on each chunk begins where eight divides the column, has a byte at least and ends within the width.
+-- From this column on, each chunk begins at a multiple of eight, has at least one byte and ends within the width.
 abbrev pub ChunksFit : ℕ → ℕ → List Call → Type 0
 ChunksFit width x [] = Unit {0}
 ChunksFit width x (Pixel black ∷ calls) = ChunksFit width (x + 1) calls
 ChunksFit width x (Chunk black bytes ∷ calls) = (x % 8 ≡ 0) × (1 ≤ bytes) × (x + 8 * bytes ≤ width) × ChunksFit width (x + 8 * bytes) calls
 ChunksFit width x (Line ∷ calls) = ChunksFit width 0 calls
 
--- At most a call for each pixel, and one for each row.
+-- There is at most one call for each pixel, and one for each row.
 abbrev pub CallsAreFew : Grid → Type 0
 CallsAreFew g = length (calls_of g) ≤ g.width * g.height + g.height
 
--- How Decoders of a type behave: what was drawn by one, what a call that is taken does to that, with which errors a
+-- How Decoders of a type behave: what one has drawn so far, what an accepted call does to that, with which errors a
 -- call may be refused, and how many calls were refused.
 pub record Conduct (S : Type 0) : Type 1 where
   pub Picture : Type 0
@@ -84,7 +91,7 @@ pub record Conduct (S : Type 0) : Type 1 where
 abbrev pub IsCountable : {S : Type 0} → Conduct S → S → Type 0
 IsCountable d s = d.refusals s < 2 ^ 64 - 1
 
--- One call: a refused one leaves the picture, and returns an error that it may be refused with.
+-- One call: a refused one leaves the picture as it was, and returns an error that it may be refused with.
 abbrev pub Takes : {S : Type 0} → Conduct S → Call → Result (Unit {0}) DecodeError → S → S → Type 0
 Takes d call (Ok u) old new = (d.picture new ≡ d.step (d.picture old) call) × (d.refusals new ≡ d.refusals old)
 Takes d call (Err e) old new = (d.picture new ≡ d.picture old) × (d.refusals new ≡ d.refusals old + 1) × d.refuses (d.picture old) call e
@@ -93,10 +100,10 @@ abbrev pub after_calls : {P : Type 0} → (P → Call → P) → P → List Call
 after_calls step p [] = p
 after_calls step p (call ∷ calls) = after_calls step (step p call) calls
 
-abbrev pub Makes : {S : Type 0} → Conduct S → List Call → S → S → Type 0  -- all of the calls were made and no other
+abbrev pub Makes : {S : Type 0} → Conduct S → List Call → S → S → Type 0  -- exactly these calls were made
 Makes d calls old new = (d.picture new ≡ after_calls d.step (d.picture old) calls) × (d.refusals new ≡ d.refusals old)
 
--- A beginning of the calls was made, and the call after it was refused with this error, the Decoder's own.
+-- The first calls of the list were made, and the call after them was refused with this error, the Decoder's own.
 pub record Stopped {S : Type 0} (d : Conduct S) (calls : List Call) (e : DecodeError) (old new : S) : Type 0 where
   pub made : List Call
   pub refused : Call
@@ -106,13 +113,14 @@ pub record Stopped {S : Type 0} (d : Conduct S) (calls : List Call) (e : DecodeE
   pub counted : d.refusals new ≡ d.refusals old + 1
   pub own : d.refuses (d.picture new) refused e
 
--- All of the calls, unless one was refused: that error is returned.
+-- All of the calls were made, or one was refused, and its error is returned.
 abbrev pub Sends : {S : Type 0} → Conduct S → List Call → Result (Unit {0}) DecodeError → S → S → Type 0
 Sends d calls (Ok u) old new = Makes d calls old new
 Sends d calls (Err e) old new = Stopped d calls e old new
 
--- The answer of decoding, where the page's definition gives a grid or an error: exactly the calls that spell the
--- grid, or that error and no call. Besides, the Decoder may refuse a call, and memory may run out before any.
+-- What decoding does, where the page's definition gives a grid or an error: it makes exactly the calls that draw the
+-- grid, or returns that error and makes no call. Besides, the Decoder may refuse a call, or memory may run out before
+-- any.
 abbrev pub Decodes : {S : Type 0} → Conduct S → Result Grid DecodeError → Result (Unit {0}) DecodeError → S → S → Type 0
 Decodes d (Ok g) (Ok u) old new = Makes d (calls_of g) old new
 Decodes d (Ok g) (Err e) old new = Stopped d (calls_of g) e old new ⊎ ((e ≡ OutOfMemory) × Makes d [] old new)

@@ -1,5 +1,5 @@
--- What a context keeps from page to page (our own rule): the page that was drawn last, how many units of work a page may
--- take, and what the last page left of them.
+-- What a context keeps from one page to the next (our own rule): the drawing of the last page, how many units of work a
+-- page may take, and how many of them the last page left.
 use Rattle.std.specs.Prelude.{◌≡◌, ◌-◌, ◌^◌, ℕ, [], false, true, Option, Some, None, unwrap_or}
 use Rattle.jbig2_steps.specs.declared.work.Work.{Work}
 use Rattle.hayro_jbig2.specs.Page.{Drawing, nothing_drawn}
@@ -22,6 +22,6 @@ after_page work c = record c { work_left = left c.work_limit }
     left None = None
     left (Some units) = Some work.left
 
--- What is left after a page, which may have been refused. Its drawing has clauses of its own.
+-- The context after a page, drawn or refused. Other clauses say which drawing it has.
 abbrev pub IsLeft : {L : Type 0} → Work L → Context → Context → Type 0
 IsLeft work old new = new ≡ record (after_page work old) { drawing = new.drawing }

@@ -1,16 +1,32 @@
 -- The pages of a file (T.88, 7.2.6 and 7.4.8), and what they share. `book_at` takes a file's bytes and gives its pages,
--- each with the segments whose page association is its number, and the names of those of association 0.
-use Rattle.std.specs.{Prelude.{◌≡◌, ℕ, ◌+◌, ◌==◌, Bool, true, false, not, ◌&&◌, ◌||◌, List, [], ◌∷◌, ◌++◌, length, filter, map, slice_get, option_map, is_some, Option, Some, None, Result, Ok, Err, if◌then◌else◌}, List.{flat_map, list_any}}
-use Rattle.jbig2_base.specs.{Answer.{◌>>=◌, refuse_if}, File.{file_at}, Reading.{fault_of, is_salvaged, is_strict}, Segment.{Header, SegmentView}, declared.{error.{DecodeError.{DecodeError, TheVariants.{Format, Segment}}, FormatError.TheVariants.{PageCountMismatch, InvalidEndOfPage}, SegmentError.TheVariants.{MissingPageAssociation}}, file_header.FileHeader.{FileHeader}, page_info.InitialPage.{InitialPage}, reading.Reading.{Reading, TheVariants.{Lenient}}, segment.SegmentType.{SegmentType}}}
-use Rattle.hayro_jbig2.specs.{Names.{named_from, names_of, nothing_shared, Shared}, Page.{ReadPage, beginning_of, region_type}}
+-- each with the segments whose page association is its number, and the names that segments of association 0 keep.
+use Rattle.std.specs.Prelude.{◌≡◌, ℕ, ◌+◌, ◌==◌, Bool, true, false, not, ◌&&◌, ◌||◌, List, [], ◌∷◌, ◌++◌, length}
+use Rattle.std.specs.Prelude.{filter, map, slice_get, option_map, is_some, Option, Some, None, Result, Ok, Err}
+use Rattle.std.specs.Prelude.{if◌then◌else◌}
+use Rattle.std.specs.List.{flat_map, list_any}
+use Rattle.jbig2_base.specs.Answer.{◌>>=◌, refuse_if}
+use Rattle.jbig2_base.specs.File.{file_at}
+use Rattle.jbig2_base.specs.Reading.{fault_of, is_salvaged, is_strict}
+use Rattle.jbig2_base.specs.Segment.{Header, SegmentView}
+use Rattle.jbig2_base.specs.declared.error.DecodeError.{DecodeError}
+use Rattle.jbig2_base.specs.declared.error.DecodeError.TheVariants.{Format, Segment}
+use Rattle.jbig2_base.specs.declared.error.FormatError.TheVariants.{PageCountMismatch, InvalidEndOfPage}
+use Rattle.jbig2_base.specs.declared.error.SegmentError.TheVariants.{MissingPageAssociation}
+use Rattle.jbig2_base.specs.declared.file_header.FileHeader.{FileHeader}
+use Rattle.jbig2_base.specs.declared.page_info.InitialPage.{InitialPage}
+use Rattle.jbig2_base.specs.declared.reading.Reading.{Reading}
+use Rattle.jbig2_base.specs.declared.reading.Reading.TheVariants.{Lenient}
+use Rattle.jbig2_base.specs.declared.segment.SegmentType.{SegmentType}
+use Rattle.hayro_jbig2.specs.Names.{named_from, names_of, nothing_shared, Shared}
+use Rattle.hayro_jbig2.specs.Page.{ReadPage, beginning_of, region_type}
 use Rattle.jbig2_base.specs.declared.segment.SegmentType.TheVariants as types
 
 pub record PageInFile : Type 0 where
   pub initial_page : InitialPage
   pub segments : List SegmentView
 
--- A file: how strictly it is read, its pages, and what its globals keep or their error. In salvage besides: an error for
--- each page that was left out, and which error ended the list of segments early.
+-- A file: how strictly it is read, its pages, and what its globals keep or their error. In salvage also an error for
+-- each page that was left out, and the error that ended the list of segments early, if one did.
 pub record ReadFile : Type 0 where
   pub reading : Reading
   pub pages : List PageInFile
@@ -18,14 +34,14 @@ pub record ReadFile : Type 0 where
   pub left_out : List DecodeError
   pub fault : Option DecodeError
 
--- What can't stand outside of a page: regions, page information, and the ends of pages and stripes (7.3.2).
+-- What needs a page: regions, page information, and the ends of pages and stripes (7.3.2).
 abbrev pub needs_page : SegmentType → Bool
 needs_page types.PageInformation = true
 needs_page types.EndOfPage = true
 needs_page types.EndOfStripe = true
 needs_page kind = is_some (region_type kind)
 
--- Association 0 is that of no page (7.2.6); strict reading refuses it where a page is needed.
+-- Association 0 means no page (7.2.6). Strict reading refuses it where a page is needed.
 abbrev pub lacks_page : Bool → Header → Bool
 lacks_page strict h = strict && h.page_association == 0 && needs_page h.segment_type
 
@@ -33,7 +49,7 @@ abbrev pub associated : Bool → List SegmentView → Result (Unit {0}) DecodeEr
 associated strict [] = Ok tt
 associated strict (p ∷ ps) = if lacks_page strict p.header then Err (Segment MissingPageAssociation) else associated strict ps
 
--- The pages' numbers after these, in the order in which they first occur; 0 is none.
+-- These numbers, and after them the other numbers of pages in the order in which they first occur. 0 is no page.
 abbrev pub numbers_after : List ℕ → List SegmentView → List ℕ
 numbers_after ns [] = ns
 numbers_after ns (p ∷ ps) =
@@ -54,14 +70,14 @@ abbrev pub ends_of : List SegmentView → ℕ
 ends_of [] = 0
 ends_of (p ∷ ps) = (if is_end_of_page p.header.segment_type then 1 else 0) + ends_of ps
 
--- The page that these segments make: strict reading wants one end of page (7.4.9).
+-- The page that these segments make up. Strict reading requires exactly one end of page (7.4.9).
 unfoldable pub filed_from : Reading → List SegmentView → Result PageInFile DecodeError
 filed_from reading own = do
   ended ← refuse_if (is_strict reading && not (ends_of own == 1)) (Format InvalidEndOfPage)
   initial_page ← beginning_of reading own
   Ok (record { initial_page = initial_page; segments = own })
 
--- A page before the others. Salvage leaves out one that can't begin.
+-- A page before the others. Salvage leaves out one whose beginning fails.
 abbrev pub filed_before : Reading → Result PageInFile DecodeError → Result (List PageInFile) DecodeError → Result (List PageInFile) DecodeError
 filed_before reading (Ok page) others = others >>= λ pages. Ok (page ∷ pages)
 filed_before reading (Err e) others = if is_salvaged reading e then others else Err e
@@ -74,15 +90,15 @@ abbrev pub error_of : {A : Type 0} → Result A DecodeError → List DecodeError
 error_of (Ok x) = []
 error_of (Err e) = e ∷ []
 
--- why pages are left out
+-- why pages are left out: an error for each
 abbrev pub left_out_of : Reading → List (List SegmentView) → List DecodeError
 left_out_of reading all = flat_map (λ own. error_of (filed_from reading own)) all
 
-abbrev pub miscounts : Option ℕ → ℕ → Bool  -- a count of pages that the file's header tells (D.4.3)
+abbrev pub miscounts : Option ℕ → ℕ → Bool  -- the file's header gives another number of pages (D.4.3)
 miscounts None n = false
 miscounts (Some told) n = not (told == n)
 
--- What these pages share: what the segments of no page keep. Where there is no page, nothing shows them.
+-- What these pages share: the names that segments of no page keep. It is empty without pages, since nothing shows it.
 abbrev pub shared_by : Reading → List PageInFile → List SegmentView → Result Shared DecodeError
 shared_by reading [] shared = Ok (nothing_shared None)
 shared_by reading (page ∷ pages) shared = named_from reading shared (nothing_shared None)
@@ -111,8 +127,7 @@ page_of book index = option_map (page_in book) (slice_get book.pages index)
 abbrev pub pages_of : ReadFile → List ReadPage
 pages_of book = map (page_in book) book.pages
 
--- Each page of a file is made of the segments whose association is its number, those of association 0, the reading and
--- its fault alone.
+-- Each page of a file depends only on the segments whose association is its number or 0, the reading and its fault.
 abbrev pub PagesStandAlone : Type 0
 PagesStandAlone = (reading : Reading) (bytes : List ℕ) (file : FileHeader × List SegmentView) (book : ReadFile) (index : ℕ) (page : ReadPage)
     → file_at reading bytes ≡ Ok file → book_at reading bytes ≡ Ok book → page_of book index ≡ Some page

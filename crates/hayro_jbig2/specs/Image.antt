@@ -1,31 +1,44 @@
--- A page as bytes (our own rule): those of the grid that the page decodes to, or the page's error. And what a viewer shows
--- of a file that a reader gives: the first page, read leniently; `ReadsAll` and `Opens` say what a reader's faults add.
-use Rattle.std.specs.{Prelude.{◌≡◌, ◌≢◌, ◌<◌, ◌⊎◌, ℕ, ◌+◌, ◌-◌, ◌*◌, ◌/◌, ◌%◌, Bool, List, map, slice_index, Option, Result, Ok, Err, IfSome, if◌then◌else◌}, IoError.{error_kind}, List.{range_with_len}, declared.io.ErrorKind.TheVariants.{Interrupted}}
-use Rattle.jbig2_base.specs.{Answer.{◌>>=◌, some_or}, Bits.{bit}, Grid.{Grid, pixel_at}, declared.{error.{DecodeError.{DecodeError, TheVariants.{Format, OutOfMemory}}, FormatError.TheVariants.{MissingPageInfo}}, reading.Reading.TheVariants.{Lenient}}}
+-- A page as bytes (our own rule): the bytes of the grid that it decodes to, or its error. And what a viewer shows of a
+-- file that it reads: the first page, read leniently. `ReadsAll` and `Opens` say what happens where the reader fails.
+use Rattle.std.specs.Prelude.{◌≡◌, ◌≢◌, ◌<◌, ◌⊎◌, ℕ, ◌+◌, ◌-◌, ◌*◌, ◌/◌, ◌%◌, Bool, List, map, slice_index, Option}
+use Rattle.std.specs.Prelude.{Result, Ok, Err, IfSome, if◌then◌else◌}
+use Rattle.std.specs.IoError.{error_kind}
+use Rattle.std.specs.List.{range_with_len}
+use Rattle.std.specs.declared.io.ErrorKind.TheVariants.{Interrupted}
+use Rattle.jbig2_base.specs.Answer.{◌>>=◌, some_or}
+use Rattle.jbig2_base.specs.Bits.{bit}
+use Rattle.jbig2_base.specs.Grid.{Grid, pixel_at}
+use Rattle.jbig2_base.specs.declared.error.DecodeError.{DecodeError}
+use Rattle.jbig2_base.specs.declared.error.DecodeError.TheVariants.{Format, OutOfMemory}
+use Rattle.jbig2_base.specs.declared.error.FormatError.TheVariants.{MissingPageInfo}
+use Rattle.jbig2_base.specs.declared.reading.Reading.TheVariants.{Lenient}
 use Rattle.jbig2_coder.specs.Integers.{value_of_bits}
-use Rattle.hayro_jbig2.specs.{Files.{book_at, page_of}, Page.{ReadPage, grid_of_page}, declared.jbig2_decoder.jbig2_error.Jbig2Error.{Jbig2Error, TheVariants.{Io, Decode}}}
+use Rattle.hayro_jbig2.specs.Files.{book_at, page_of}
+use Rattle.hayro_jbig2.specs.Page.{ReadPage, grid_of_page}
+use Rattle.hayro_jbig2.specs.declared.jbig2_decoder.jbig2_error.Jbig2Error.{Jbig2Error}
+use Rattle.hayro_jbig2.specs.declared.jbig2_decoder.jbig2_error.Jbig2Error.TheVariants.{Io, Decode}
 
 abbrev pub shade : Bool → ℕ
 shade black = if black then 0 else 255
 
--- A byte for each pixel, row by row from the top, each row from the left, as the traits of images want it.
+-- A byte for each pixel, row by row from the top, each row from the left, as image traits require.
 unfoldable pub image_of : ℕ → ℕ → Grid → List ℕ
 image_of width height g = map (λ n. shade (pixel_at g (n % width) (n / width))) (range_with_len 0 (width * height))
 
 abbrev pub image_of_page : ReadPage → Result (List ℕ) DecodeError
 image_of_page page = grid_of_page page >>= λ g. Ok (image_of page.initial_page.width page.initial_page.height g)
 
-abbrev pub row_bytes : ℕ → ℕ  -- the bytes of a packed row: eight pixels each, the last one filled up with white
+abbrev pub row_bytes : ℕ → ℕ  -- the bytes of a packed row: eight pixels each; white fills up the last one
 row_bytes width = (width + 7) / 8
 
 abbrev pub packed_size : ℕ → ℕ → ℕ
 packed_size width height = row_bytes width * height
 
--- Byte k of row y: the pixels from column 8k on, 1 for black, the first the highest bit; 0 past the row's end.
+-- Byte k of row y: the pixels from column 8k on, 1 for black, the first in the highest bit; 0 after the row's end.
 unfoldable pub packed_byte : Grid → ℕ → ℕ → ℕ
 packed_byte g k y = value_of_bits (map (λ i. pixel_at g (8 * k + i) y) (range_with_len 0 8))
 
--- `count` bytes of the packed rows from the top, from byte `start` of them all on.
+-- `count` bytes of all the packed rows, from the top, beginning with byte `start`.
 unfoldable pub packed_part : ℕ → Grid → ℕ → ℕ → List ℕ
 packed_part width g start count = map (λ n. packed_byte g (n % row_bytes width) (n / row_bytes width)) (range_with_len start count)
 
@@ -35,12 +48,12 @@ packed_of width height g = packed_part width g 0 (packed_size width height)
 abbrev pub packed_of_page : ReadPage → Result (List ℕ) DecodeError
 packed_of_page page = grid_of_page page >>= λ g. Ok (packed_of page.initial_page.width page.initial_page.height g)
 
--- A bit of the packed rows is the byte of the image: that of column x of row y.
+-- The packed rows and the image agree: the bit of column x of row y has the shade that its byte in the image has.
 abbrev pub PackedBitsAreBytes : Type 0
 PackedBitsAreBytes = (width height : ℕ) (g : Grid) (x y : ℕ) → x < width → y < height
     → slice_index (image_of width height g) (y * width + x) ≡ shade (bit (slice_index (packed_of width height g) (y * row_bytes width + x / 8)) (7 - x % 8))
 
-unfoldable pub first_page : List ℕ → Result ReadPage DecodeError  -- a file without pages lacks the information of one
+unfoldable pub first_page : List ℕ → Result ReadPage DecodeError  -- a file without pages has no page information
 first_page bytes = book_at Lenient bytes >>= λ book. some_or (Format MissingPageInfo) (page_of book 0)
 
 abbrev pub first_size : List ℕ → Result (ℕ × ℕ) DecodeError
@@ -57,7 +70,7 @@ pub record Scan : Type 0 where  -- all bytes of a file, and the size of its firs
   pub width : ℕ
   pub height : ℕ
 
--- All that a reader tells was read, or the reader failed, or memory ran out.
+-- All the bytes that a reader has were read, or the reader failed, or memory ran out.
 abbrev pub ReadsAll : {V : Type 0} → (V → List ℕ) → Option (List ℕ) → Result V Jbig2Error → Type 0
 ReadsAll view told (Ok v) = IfSome told (λ bytes. view v ≡ bytes)
 ReadsAll view told (Err (Io e)) = Unit {0}
@@ -67,13 +80,14 @@ abbrev pub IsLasting : Jbig2Error → Type 0  -- an interruption of the reader i
 IsLasting (Io e) = error_kind e ≢ Interrupted
 IsLasting (Decode e) = Unit {0}
 
--- To a reader that tells these bytes: their first page, or its error, unless the reader failed or memory ran out.
+-- Opening a reader of these bytes gives them and the size of their first page, or the first page's error, unless the
+-- reader failed or memory ran out.
 abbrev pub Opens : List ℕ → Result Scan Jbig2Error → Type 0
 Opens bytes (Ok scan) = (scan.bytes ≡ bytes) × (first_size bytes ≡ Ok (scan.width, scan.height))
 Opens bytes (Err (Io e)) = Unit {0}
 Opens bytes (Err (Decode e)) = (e ≡ OutOfMemory) ⊎ (first_size bytes ≡ Err e)
 
--- The answer where nothing is read any more, as `Gives` has it.
+-- The result of a call that reads nothing more from the reader, as `Gives` has it.
 abbrev pub GivesAgain : {X Y : Type 0} → (X → Y) → Result X Jbig2Error → Result Y DecodeError → Type 0
 GivesAgain view (Ok x) meant = meant ≡ Ok (view x)
 GivesAgain view (Err (Io e)) meant = ⊥

@@ -1,16 +1,29 @@
--- Laws (our own rule): where strict reading accepts, lenient reading gives the same; where lenient reading accepts, salvage
--- does; and salvage refuses little.
+-- Laws (our own rule). Where strict reading accepts, lenient reading gives the same. Where lenient reading accepts,
+-- salvage gives the same. And salvage refuses little.
 use Rattle.std.specs.Prelude.{◌≡◌, ◌≤◌, ℕ, Any, IsTrue, List, Some, Result, Ok, IfOk}
 use Rattle.std.specs.Result.{is_ok}
-use Rattle.jbig2_base.specs.{Answer.{◌>>=◌, some_or}, File.{file_at, file_header_at}, PageInfo.{first_information, height_of, information_at}, Segment.{SegmentView}, Sequential.{sorted_segments}, declared.{error.{DecodeError.{DecodeError, TheVariants.{Format}}, FormatError.TheVariants.{MissingPageInfo}}, file_header.FileHeader.{FileHeader}, page_info.PageInformation.{PageInformation}, reading.Reading.{Reading, TheVariants.{Strict, Lenient, Salvage}}}}
-use Rattle.hayro_jbig2.specs.{Files.{ReadFile, book_at, of_page, page_of}, Names.{Names, globals_at}, Page.{IsSide, ReadPage, drawing_of_page, embedded, told_height}}
+use Rattle.jbig2_base.specs.Answer.{◌>>=◌, some_or}
+use Rattle.jbig2_base.specs.File.{file_at, file_header_at}
+use Rattle.jbig2_base.specs.PageInfo.{first_information, height_of, information_at}
+use Rattle.jbig2_base.specs.Segment.{SegmentView}
+use Rattle.jbig2_base.specs.Sequential.{sorted_segments}
+use Rattle.jbig2_base.specs.declared.error.DecodeError.{DecodeError}
+use Rattle.jbig2_base.specs.declared.error.DecodeError.TheVariants.{Format}
+use Rattle.jbig2_base.specs.declared.error.FormatError.TheVariants.{MissingPageInfo}
+use Rattle.jbig2_base.specs.declared.file_header.FileHeader.{FileHeader}
+use Rattle.jbig2_base.specs.declared.page_info.PageInformation.{PageInformation}
+use Rattle.jbig2_base.specs.declared.reading.Reading.{Reading}
+use Rattle.jbig2_base.specs.declared.reading.Reading.TheVariants.{Strict, Lenient, Salvage}
+use Rattle.hayro_jbig2.specs.Files.{ReadFile, book_at, of_page, page_of}
+use Rattle.hayro_jbig2.specs.Names.{Names, globals_at}
+use Rattle.hayro_jbig2.specs.Page.{IsSide, ReadPage, drawing_of_page, embedded, told_height}
 
--- What the one reading gives, the other gives too.
+-- Where the one reading succeeds, the other gives the same value.
 abbrev pub IsSameUnder : {A : Type 0} → Reading → Reading → (Reading → Result A DecodeError) → Type 0
 IsSameUnder {A = A} one other read = IfOk (read one) (λ (x : A). read other ≡ Ok x)
 
--- Globals; what an embedded page begins as, and what its segments draw; the pages of a file, and what each of them draws.
--- What is drawn is the whole drawing: its grid, and what was passed over.
+-- The laws hold for globals; for the beginning of an embedded page, and for its drawing; for the pages of a file, and
+-- for the drawing of each. Drawings are equal as a whole: their grids, and what was passed over.
 pub record ReadingsAgree (one other : Reading) : Type 0 where
   pub globals : (bytes : List ℕ) → IsSameUnder one other (λ reading. globals_at reading bytes)
   pub page : (names : Names) (bytes : List ℕ) → IsSameUnder one other (λ reading. embedded reading names bytes >>= λ page. Ok page.initial_page)
@@ -25,8 +38,8 @@ LenientReadingAgrees = ReadingsAgree Strict Lenient
 abbrev pub SalvageAgrees : Type 0
 SalvageAgrees = ReadingsAgree Lenient Salvage
 
--- The first page information of a page can be read, and its width and its height are those of a page, where stripes or
--- regions tell a height that it leaves open.
+-- The first page information of a page can be read, and its width and height are those of a page (`IsSide`). Where it
+-- leaves the height open, the stripes or else the regions give it.
 pub record HasBeginning (ps : List SegmentView) : Type 0 where
   pub information : SegmentView
   pub fields : PageInformation × List ℕ
@@ -37,8 +50,8 @@ pub record HasBeginning (ps : List SegmentView) : Type 0 where
   pub columns : IsSide fields.0.width
   pub rows : IsSide height
 
--- Salvage refuses neither globals nor the drawing of a page that isn't refused already, no embedded page that has a
--- beginning, no file with a header, and of a file no page that has a beginning.
+-- Salvage refuses no globals, no file with a header, and no page that has a beginning, embedded or in a file. It draws
+-- each page whose globals weren't refused; the globals of a file never are.
 pub record SalvageRefusesLittle : Type 0 where
   pub globals : (bytes : List ℕ) → IsTrue (is_ok (globals_at Salvage bytes))
   pub drawing : (page : ReadPage) → page.reading ≡ Salvage → IsTrue (is_ok page.globals) → IsTrue (is_ok (drawing_of_page page))

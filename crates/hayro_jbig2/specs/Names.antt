@@ -1,22 +1,43 @@
--- Names (T.88, 7.3): what segments leave for later ones, each under its segment's number, and what later ones refer to.
--- A number means the first that is kept under it: among the page's own, else among those of the globals. That the
+-- Names (T.88, 7.3): what segments keep for later ones, each under its segment's number, and what later ones refer to.
+-- A number means the first value that is kept under it: one of the page's own, or else one of the globals. That the
 -- first of equal numbers counts is our own rule.
-use Rattle.std.specs.{Prelude.{ℕ, ◌+◌, nat_le, nat_lt, ◌==◌, Bool, true, false, List, [], ◌∷◌, ◌++◌, length, Option, Some, None, Result, Ok, Err, if◌then◌else◌}, Int.{w32}, Option.{option_map_or, option_or}}
-use Rattle.jbig2_base.specs.{Answer.{◌>>=◌, refuse_if}, Bits.{start_of}, Fields.{number_at}, Grid.{Grid}, Reading.{fault_of, is_salvaged, is_strict}, Segment.{SegmentView}, declared.{error.{DecodeError.{DecodeError, TheVariants.{Overflow, Segment, Unsupported}}, OverflowError.TheVariants.{SymbolCount}, SegmentError.TheVariants.{InvalidReference}}, reading.Reading.{Reading, TheVariants.{Lenient}}, segment.SegmentType.{SegmentType}}, Sequential.{sequential, sorted_segments}}
-use Rattle.jbig2_coder.specs.{CustomTable.{answer_of, custom_table}, PrefixCode.{Member}}
-use Rattle.jbig2_halftone.specs.{PatternHeader.{pattern_header_at}, Patterns.{Patterns, patterns_decoded}}
-use Rattle.jbig2_symbol.specs.{SymbolHeader.{symbol_header_at}, SymbolReading.{BitmapContexts}, Symbols.{Symbols, symbols_decoded}}
-use Rattle.hayro_jbig2.specs.declared.{kept.Kept.{Kept}, drawing.passed_over.PassedOver.{PassedOver}}
+use Rattle.std.specs.Prelude.{ℕ, ◌+◌, nat_le, nat_lt, ◌==◌, Bool, true, false, List, [], ◌∷◌, ◌++◌, length, Option}
+use Rattle.std.specs.Prelude.{Some, None, Result, Ok, Err, if◌then◌else◌}
+use Rattle.std.specs.Int.{w32}
+use Rattle.std.specs.Option.{option_map_or, option_or}
+use Rattle.jbig2_base.specs.Answer.{◌>>=◌, refuse_if}
+use Rattle.jbig2_base.specs.Bits.{start_of}
+use Rattle.jbig2_base.specs.Fields.{number_at}
+use Rattle.jbig2_base.specs.Grid.{Grid}
+use Rattle.jbig2_base.specs.Reading.{fault_of, is_salvaged, is_strict}
+use Rattle.jbig2_base.specs.Segment.{SegmentView}
+use Rattle.jbig2_base.specs.declared.error.DecodeError.{DecodeError}
+use Rattle.jbig2_base.specs.declared.error.DecodeError.TheVariants.{Overflow, Segment, Unsupported}
+use Rattle.jbig2_base.specs.declared.error.OverflowError.TheVariants.{SymbolCount}
+use Rattle.jbig2_base.specs.declared.error.SegmentError.TheVariants.{InvalidReference}
+use Rattle.jbig2_base.specs.declared.reading.Reading.{Reading}
+use Rattle.jbig2_base.specs.declared.reading.Reading.TheVariants.{Lenient}
+use Rattle.jbig2_base.specs.declared.segment.SegmentType.{SegmentType}
+use Rattle.jbig2_base.specs.Sequential.{sequential, sorted_segments}
+use Rattle.jbig2_coder.specs.CustomTable.{answer_of, custom_table}
+use Rattle.jbig2_coder.specs.PrefixCode.{Member}
+use Rattle.jbig2_halftone.specs.PatternHeader.{pattern_header_at}
+use Rattle.jbig2_halftone.specs.Patterns.{Patterns, patterns_decoded}
+use Rattle.jbig2_symbol.specs.SymbolHeader.{symbol_header_at}
+use Rattle.jbig2_symbol.specs.SymbolReading.{BitmapContexts}
+use Rattle.jbig2_symbol.specs.Symbols.{Symbols, symbols_decoded}
+use Rattle.hayro_jbig2.specs.declared.kept.Kept.{Kept}
+use Rattle.hayro_jbig2.specs.declared.drawing.passed_over.PassedOver.{PassedOver}
 use Rattle.jbig2_base.specs.declared.segment.SegmentType.TheVariants as types
 
-abbrev pub kept_under : {V : Type 0} → ℕ → V → List (Kept V) → List (Kept V)  -- after what is kept already
+abbrev pub kept_under : {V : Type 0} → ℕ → V → List (Kept V) → List (Kept V)  -- at the end of what is kept already
 kept_under number value kept = kept ++ record { segment_number = number; value = value } ∷ []
 
 abbrev pub first_named : {V : Type 0} → ℕ → List (Kept V) → Option V
 first_named number [] = None
 first_named number (k ∷ kept) = if k.segment_number == number then Some k.value else first_named number kept
 
--- the page's own one, else the one of the globals
+-- the page's own value, else that of the globals
 abbrev pub named : {V : Type 0} → ℕ → List (Kept V) → List (Kept V) → Option V
 named number own shared = option_or (first_named number own) (first_named number shared)
 
@@ -29,7 +50,8 @@ pub record Names : Type 0 where
 abbrev pub no_names : Names
 no_names = record { symbols = []; codes = []; patterns = [] }
 
--- What numbers name together: symbols, codes of custom tables, and the contexts that the last dictionary has kept.
+-- What a list of numbers refers to: all the symbols, all the codes of custom tables, and the contexts that the last
+-- symbol dictionary kept, if it kept any.
 pub record Referred : Type 0 where
   pub symbols : List Grid
   pub codes : List (List Member)
@@ -41,12 +63,12 @@ with_dictionary s r =
     refuse_if (nat_lt 1048576 (length (r.symbols ++ s.exported))) (Overflow SymbolCount)
     >>= λ few. Ok (record r { symbols = r.symbols ++ s.exported; kept = s.kept })
 
--- a custom table, or else nothing, which strict reading refuses
+-- Adds the code of a custom table. Where the number names none, strict reading refuses, and other readings add nothing.
 abbrev pub with_table : Bool → Option (List Member) → Referred → Result Referred DecodeError
 with_table strict (Some code) r = Ok (record r { codes = r.codes ++ code ∷ [] })
 with_table strict None r = refuse_if strict (Segment InvalidReference) >>= λ known. Ok r
 
--- a number names a dictionary before it names a table
+-- A number means a symbol dictionary if it names one, and else a custom table.
 abbrev pub with_number : Bool → Names → Names → ℕ → Referred → Result Referred DecodeError
 with_number strict own shared number r =
     option_map_or (λ s. with_dictionary s r) (named number own.symbols shared.symbols)
@@ -60,7 +82,8 @@ with_numbers strict own shared (number ∷ numbers) r = with_number strict own s
 abbrev pub referred_by : Bool → Names → Names → List ℕ → Result Referred DecodeError
 referred_by strict own shared numbers = with_numbers strict own shared numbers (record { symbols = []; codes = []; kept = None })
 
--- A symbol dictionary (7.4.2), after what it refers to. Like the next two it is passed over in salvage alone where it fails.
+-- A symbol dictionary (7.4.2), after what it refers to. Only salvage passes over it where it fails. The same holds for
+-- pattern dictionaries and custom tables.
 unfoldable pub symbol_dictionary_at : Bool → Names → Names → SegmentView → Result Symbols DecodeError
 symbol_dictionary_at strict own shared p = do
   referred ← referred_by strict own shared p.header.referred_to_segments
@@ -86,12 +109,12 @@ code_at bytes = answer_of (custom_table (start_of bytes))
 unfoldable pub with_code : SegmentView → Names → Result Names DecodeError
 with_code p own = code_at p.bytes >>= λ code. Ok (record own { codes = kept_under p.header.segment_number code own.codes })
 
--- An extension (7.4.14): strict reading refuses one that a decoder has to know.
+-- An extension (7.4.14): strict reading refuses one that a decoder must know.
 abbrev pub extension : Bool → List ℕ → Result (Unit {0}) DecodeError
 extension true bytes = number_at w32 bytes >>= λ kind. refuse_if (nat_le 2147483648 kind.0) Unsupported
 extension false bytes = Ok tt
 
--- A segment that draws nothing, after those before it: a page's own, or of globals, which share nothing with others.
+-- The names after a segment that draws nothing: one of a page, or one of the globals, for which `shared` is empty.
 abbrev pub kept_by : Bool → Names → SegmentView → Names → Result Names DecodeError
 kept_by strict shared p own = on p.header.segment_type
   where
@@ -102,11 +125,11 @@ kept_by strict shared p own = on p.header.segment_type
     on types.Extension = extension strict p.bytes >>= λ known. Ok own
     on _ = Ok own
 
--- What reading passed over: how many segments, and the number and the error of the first.
+-- What the reading passed over: how many segments, and the number and the error of the first one.
 abbrev pub nothing_passed : PassedOver
 nothing_passed = record { count = 0; first = None }
 
--- One more segment that was passed over. Its number and its error stay where it is the first.
+-- Counts one more segment that was passed over. Its number and its error are kept only if it is the first.
 abbrev pub with_passed : ℕ → DecodeError → PassedOver → PassedOver
 with_passed number e passed = record {
   count = passed.count + 1;
@@ -125,20 +148,20 @@ nothing_shared fault = record { names = no_names; passed_over = nothing_passed; 
 abbrev pub names_of : Result Shared DecodeError → Result Names DecodeError
 names_of shared = shared >>= λ s. Ok s.names
 
--- Salvage passes over a segment that fails, under whose number nothing is kept then.
+-- Salvage passes over a segment that fails. Nothing is kept under its number then.
 abbrev pub or_shared_without : Reading → ℕ → Shared → Result Names DecodeError → Result Shared DecodeError
 or_shared_without reading number shared (Ok names) = Ok (record shared { names = names })
 or_shared_without reading number shared (Err e) =
     if is_salvaged reading e then Ok (record shared { passed_over = with_passed number e shared.passed_over }) else Err e
 
--- Globals: segments that several pages share, kept apart from the pages as PDF keeps them. Each may refer to those before
--- it; regions and pages among them are passed over.
+-- Globals: segments that several pages share, kept separately from the pages, as in PDF. Each may refer to those before
+-- it. Regions and page information among them have no effect.
 abbrev pub named_from : Reading → List SegmentView → Shared → Result Shared DecodeError
 named_from reading [] shared = Ok shared
 named_from reading (p ∷ ps) shared =
     or_shared_without reading p.header.segment_number shared (kept_by (is_strict reading) no_names p shared.names)
     >>= λ more. named_from reading ps more
 
--- The globals whose segments stand one after the other, sorted before they are decoded.
+-- The globals in these bytes: the segments lie one after the other, and are sorted before they are decoded.
 unfoldable pub globals_at : Reading → List ℕ → Result Shared DecodeError
 globals_at reading bytes = sorted_segments reading bytes >>= λ segments. named_from reading segments (nothing_shared (fault_of reading (sequential Lenient bytes)))

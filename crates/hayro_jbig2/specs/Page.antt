@@ -1,14 +1,35 @@
--- What a page shows (T.88, 8): the fold of its segments over what was drawn so far. Each segment is drawn onto the page,
--- kept for later ones, or changes nothing, by its type (7.3).
-use Rattle.std.specs.{Prelude.{◌≡◌, ◌≤◌, ℕ, ◌+◌, ◌-◌, ◌==◌, ◌||◌, nat_lt, max, min, Bool, true, false, not, List, [], ◌∷◌, Option, Some, None, Result, Ok, Err, IfOk, IsTrue, if◌then◌else◌}, Int.{w32, cast_signed}}
-use Rattle.jbig2_base.specs.{Answer.{◌>>=◌}, Combination.{combined}, Grid.{Grid, blank}, PageInfo.{initial_page_by, stripes_height}, Reading.{fault_of, is_salvaged, is_strict}, Segment.{SegmentView}, Sequential.{sequential, sorted_segments}, declared.{bitmap.operator.CombinationOperator.{CombinationOperator, TheVariants.{Or, And, Xor, Xnor, Replace}}, error.DecodeError.{DecodeError}, page_info.InitialPage.{InitialPage}, reading.Reading.{Reading, TheVariants.{Lenient, Salvage}}, segment.SegmentType.{SegmentType}}}
-use Rattle.jbig2_region.specs.{Refinement.{is_far}, RegionInfo.{PlacedRegion, region_info_at}, declared.region_info.RegionSegmentInfo.{RegionSegmentInfo}}
-use Rattle.hayro_jbig2.specs.{Names.{Names, no_names, nothing_passed, kept_by, kept_under, with_passed}, Regions.{generic_at, halftone_at, refinement_at, text_at}, declared.{kept.Kept.{Kept}, drawing.passed_over.PassedOver.{PassedOver}, region.RegionKind.{RegionKind}}}
+-- What a page shows (T.88, 8). Its segments are taken in order. Each is drawn onto the page, kept for later ones, or
+-- changes nothing, as its type says (7.3).
+use Rattle.std.specs.Prelude.{◌≡◌, ◌≤◌, ℕ, ◌+◌, ◌-◌, ◌==◌, ◌||◌, nat_lt, max, min, Bool, true, false, not, List, []}
+use Rattle.std.specs.Prelude.{◌∷◌, Option, Some, None, Result, Ok, Err, IfOk, IsTrue, if◌then◌else◌}
+use Rattle.std.specs.Int.{w32, cast_signed}
+use Rattle.jbig2_base.specs.Answer.{◌>>=◌}
+use Rattle.jbig2_base.specs.Combination.{combined}
+use Rattle.jbig2_base.specs.Grid.{Grid, blank}
+use Rattle.jbig2_base.specs.PageInfo.{initial_page_by, stripes_height}
+use Rattle.jbig2_base.specs.Reading.{fault_of, is_salvaged, is_strict}
+use Rattle.jbig2_base.specs.Segment.{SegmentView}
+use Rattle.jbig2_base.specs.Sequential.{sequential, sorted_segments}
+use Rattle.jbig2_base.specs.declared.bitmap.operator.CombinationOperator.{CombinationOperator}
+use Rattle.jbig2_base.specs.declared.bitmap.operator.CombinationOperator.TheVariants.{Or, And, Xor, Xnor, Replace}
+use Rattle.jbig2_base.specs.declared.error.DecodeError.{DecodeError}
+use Rattle.jbig2_base.specs.declared.page_info.InitialPage.{InitialPage}
+use Rattle.jbig2_base.specs.declared.reading.Reading.{Reading}
+use Rattle.jbig2_base.specs.declared.reading.Reading.TheVariants.{Lenient, Salvage}
+use Rattle.jbig2_base.specs.declared.segment.SegmentType.{SegmentType}
+use Rattle.jbig2_region.specs.Refinement.{is_far}
+use Rattle.jbig2_region.specs.RegionInfo.{PlacedRegion, region_info_at}
+use Rattle.jbig2_region.specs.declared.region_info.RegionSegmentInfo.{RegionSegmentInfo}
+use Rattle.hayro_jbig2.specs.Names.{Names, no_names, nothing_passed, kept_by, kept_under, with_passed}
+use Rattle.hayro_jbig2.specs.Regions.{generic_at, halftone_at, refinement_at, text_at}
+use Rattle.hayro_jbig2.specs.declared.kept.Kept.{Kept}
+use Rattle.hayro_jbig2.specs.declared.drawing.passed_over.PassedOver.{PassedOver}
+use Rattle.hayro_jbig2.specs.declared.region.RegionKind.{RegionKind}
 use Rattle.jbig2_base.specs.declared.segment.SegmentType.TheVariants as types
 use Rattle.hayro_jbig2.specs.declared.region.RegionKind.TheVariants as kinds
 
--- A page that was read: how strictly, what it begins as, its segments in order, its globals or their error, and which
--- error ended the list of its segments early, in salvage.
+-- A page that was read: how strictly, how it begins, its segments in order, its globals or their error, and in salvage
+-- the error that ended the list of its segments early, if one did.
 pub record ReadPage : Type 0 where
   pub reading : Reading
   pub initial_page : InitialPage
@@ -25,7 +46,8 @@ pub record HasSides (p : InitialPage) : Type 0 where
   pub some_rows : 1 ≤ p.height
   pub rows : p.height ≤ 65535
 
--- What was drawn so far, what is kept, whether no immediate region came before, and what reading passed over.
+-- What was drawn so far, what is kept, whether the page is untouched (no immediate region came before), and what the
+-- reading passed over.
 pub record Drawing : Type 0 where
   pub grid : Grid
   pub regions : List (Kept PlacedRegion)
@@ -33,7 +55,7 @@ pub record Drawing : Type 0 where
   pub untouched : Bool
   pub passed_over : PassedOver
 
--- The types that are regions (7.3): of which kind, and whether it is an intermediate one.
+-- The types that are regions (7.3): the kind of region, and whether it is an intermediate one.
 abbrev pub region_type : SegmentType → Option (RegionKind × Bool)
 region_type types.IntermediateTextRegion = Some (kinds.Text, true)
 region_type types.ImmediateTextRegion = Some (kinds.Text, false)
@@ -64,16 +86,16 @@ region_at strict globals kinds.Halftone is_intermediate p d = halftone_at strict
 region_at strict globals kinds.Generic is_intermediate p d = generic_at strict is_intermediate p
 region_at strict globals kinds.GenericRefinement is_intermediate p d = refinement_at strict is_intermediate d.grid d.regions p
 
--- An immediate region is combined with the page at its place, read as two signed numbers (7.4.1).
+-- An immediate region is combined with the page at its location, which is read as two signed numbers (7.4.1).
 abbrev pub shown : Drawing → Result PlacedRegion DecodeError → Result Drawing DecodeError
 shown d region =
     region >>= λ r. Ok (record d { grid = combined r.combination_operator d.grid r.grid (cast_signed w32 r.x_location) (cast_signed w32 r.y_location); untouched = false })
 
--- A segment that was passed over leaves the page as it was, and counts as a region that came before (our own rule).
+-- A segment that is passed over draws nothing, but it counts as a region that came before (our own rule).
 abbrev pub passing : ℕ → DecodeError → Drawing → Drawing
 passing number e d = record d { untouched = false; passed_over = with_passed number e d.passed_over }
 
--- All but strict reading pass over an immediate region that fails (our own rule).
+-- Every reading but the strict one passes over an immediate region that fails (our own rule).
 abbrev pub or_passed_over : Bool → ℕ → Drawing → Result Drawing DecodeError → Result Drawing DecodeError
 or_passed_over strict number d (Ok e) = Ok e
 or_passed_over strict number d (Err e) = if strict then Err e else Ok (passing number e d)
@@ -90,12 +112,12 @@ unfoldable pub intermediate : Bool → Names → RegionKind → SegmentView → 
 intermediate strict globals kind p d =
     region_at strict globals kind true p d >>= λ region. Ok (with_region p.header.segment_number d region)
 
--- what draws nothing leaves the page as it was
+-- A segment that draws nothing changes only the names.
 abbrev pub keeping : Drawing → Result Names DecodeError → Result Drawing DecodeError
 keeping d kept = kept >>= λ names. Ok (record d { names = names })
 
--- One segment. Page information after the beginning, stripes, profiles, palettes, types without a meaning, and an end by
--- itself change nothing.
+-- One segment. These change nothing here: page information, stripes, profiles, palettes, types without a meaning, and
+-- the ends of pages and files.
 abbrev pub segment_by : Bool → Names → SegmentView → Drawing → Result Drawing DecodeError
 segment_by strict globals p d = on (region_type p.header.segment_type)
   where
@@ -104,7 +126,7 @@ segment_by strict globals p d = on (region_type p.header.segment_type)
     on (Some (kind, false)) = immediate strict globals kind p d
     on None = keeping d (kept_by strict globals p d.names)
 
--- Salvage passes over any segment that fails, under whose number nothing is kept then.
+-- Salvage passes over any segment that fails. Nothing is kept under its number then.
 abbrev pub or_left_out : Reading → ℕ → Drawing → Result Drawing DecodeError → Result Drawing DecodeError
 or_left_out reading number d (Ok e) = Ok e
 or_left_out reading number d (Err e) = if is_salvaged reading e then Ok (passing number e d) else Err e
@@ -120,7 +142,7 @@ segments_drawn reading globals (p ∷ ps) d = if ends_page p.header.segment_type
 abbrev pub nothing_drawn : Drawing  -- a page of no pixels
 nothing_drawn = record { grid = blank 0 0 false; regions = []; names = no_names; untouched = true; passed_over = nothing_passed }
 
-abbrev pub page_begun : InitialPage → Drawing  -- the page begins in its default pixel
+abbrev pub page_begun : InitialPage → Drawing  -- the page before its first segment, all in its default pixel
 page_begun initial_page = record { grid = blank initial_page.width initial_page.height initial_page.default_pixel; regions = []; names = no_names; untouched = true; passed_over = nothing_passed }
 
 abbrev pub drawing_of_page : ReadPage → Result Drawing DecodeError
@@ -129,12 +151,12 @@ drawing_of_page page = page.globals >>= λ globals. segments_drawn page.reading 
 unfoldable pub grid_of_page : ReadPage → Result Grid DecodeError
 grid_of_page page = drawing_of_page page >>= λ d. Ok d.grid
 
--- One row below the lowest of a region at this place, its y read as a signed number (7.4.1).
+-- The row below the lowest row of a region at this place. The place's y is read as a signed number (7.4.1).
 abbrev pub end_of : RegionSegmentInfo → ℕ
 end_of info = if is_far info.y_location then info.height - (4294967296 - info.y_location) else info.y_location + info.height
 
--- How high a page is that ends with this region: an immediate one whose information can be read, and that isn't too large
--- to be drawn. It is at most 65535, and 0 for what is no such region.
+-- How high a page is that ends with this region: an immediate one whose information can be read, and that isn't too
+-- large to be drawn. It is at most 65535, and 0 for any other segment.
 abbrev pub region_height : SegmentView → ℕ
 region_height p = if is_immediate (region_type p.header.segment_type) then on (region_info_at p.bytes) else 0
   where
@@ -146,7 +168,8 @@ abbrev pub regions_height : List SegmentView → ℕ
 regions_height [] = 0
 regions_height (p ∷ ps) = max (region_height p) (regions_height ps)
 
--- What tells an open height: the stripes, and in salvage the regions where no stripe does (our own rule).
+-- The height where page information leaves it open: that of the stripes, and in salvage that of the regions where no
+-- stripe gives one (our own rule).
 abbrev pub told_height : Reading → List SegmentView → ℕ
 told_height Salvage ps = if stripes_height ps == 0 then regions_height ps else stripes_height ps
 told_height _ ps = stripes_height ps
@@ -154,14 +177,14 @@ told_height _ ps = stripes_height ps
 unfoldable pub beginning_of : Reading → List SegmentView → Result InitialPage DecodeError
 beginning_of reading ps = initial_page_by (told_height reading ps) ps
 
--- An embedded page (D.3; PDF keeps one so): its segments read one after the other, sorted.
+-- An embedded page (D.3), as in PDF: its segments are read one after the other and sorted.
 unfoldable pub embedded : Reading → Names → List ℕ → Result ReadPage DecodeError
 embedded reading globals bytes = do
   segments ← sorted_segments reading bytes
   initial_page ← beginning_of reading segments
   Ok (record { reading = reading; initial_page = initial_page; segments = segments; globals = Ok globals; fault = fault_of reading (sequential Lenient bytes) })
 
--- On a page of one colour this operator gives the region's pixels themselves.
+-- On a page that is all of this colour, the operator gives the region's own pixels.
 abbrev pub draws_over : CombinationOperator → Bool → Bool
 draws_over Replace black = true
 draws_over Or black = not black

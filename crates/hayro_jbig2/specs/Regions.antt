@@ -1,11 +1,25 @@
 -- The regions of a page (T.88, 7.4.3 and 7.4.5 to 7.4.7): what each kind of region decodes to, a grid of its own at a
--- place. What becomes of it, drawn or kept, is said in `Page`.
+-- place. `Page` says whether it is then drawn or kept.
 use Rattle.std.specs.Prelude.{ℕ, Bool, ◌&&◌, not, is_none, List, [], ◌∷◌, length, Option, None, unwrap_or, Result, Ok}
-use Rattle.jbig2_base.specs.{Answer.{refuse_if, some_or, ◌>>=◌}, Grid.{Grid, part_of}, Segment.{SegmentView}, declared.error.{DecodeError.{DecodeError, TheVariants.{Segment}}, SegmentError.TheVariants.{InvalidReference, MissingPatternDictionary}}}
-use Rattle.jbig2_region.specs.{RegionInfo.{PlacedRegion, placed}, Generic.{generic_decoded}, GenericHeader.{generic_header_at}, Refinement.{refined_decoded}, RefinementHeader.{refinement_header_at}, declared.region_info.RegionSegmentInfo.{RegionSegmentInfo}}
-use Rattle.jbig2_halftone.specs.{Halftone.{halftone_decoded}, HalftoneHeader.{halftone_header_at}, Patterns.{Patterns}}
-use Rattle.jbig2_text.specs.{TextHeader.{text_header_at}, TextRegion.{text_decoded}}
-use Rattle.hayro_jbig2.specs.{Names.{Names, first_named, named, referred_by}, declared.kept.Kept.{Kept}}
+use Rattle.jbig2_base.specs.Answer.{refuse_if, some_or, ◌>>=◌}
+use Rattle.jbig2_base.specs.Grid.{Grid, part_of}
+use Rattle.jbig2_base.specs.Segment.{SegmentView}
+use Rattle.jbig2_base.specs.declared.error.DecodeError.{DecodeError}
+use Rattle.jbig2_base.specs.declared.error.DecodeError.TheVariants.{Segment}
+use Rattle.jbig2_base.specs.declared.error.SegmentError.TheVariants.{InvalidReference, MissingPatternDictionary}
+use Rattle.jbig2_region.specs.RegionInfo.{PlacedRegion, placed}
+use Rattle.jbig2_region.specs.Generic.{generic_decoded}
+use Rattle.jbig2_region.specs.GenericHeader.{generic_header_at}
+use Rattle.jbig2_region.specs.Refinement.{refined_decoded}
+use Rattle.jbig2_region.specs.RefinementHeader.{refinement_header_at}
+use Rattle.jbig2_region.specs.declared.region_info.RegionSegmentInfo.{RegionSegmentInfo}
+use Rattle.jbig2_halftone.specs.Halftone.{halftone_decoded}
+use Rattle.jbig2_halftone.specs.HalftoneHeader.{halftone_header_at}
+use Rattle.jbig2_halftone.specs.Patterns.{Patterns}
+use Rattle.jbig2_text.specs.TextHeader.{text_header_at}
+use Rattle.jbig2_text.specs.TextRegion.{text_decoded}
+use Rattle.hayro_jbig2.specs.Names.{Names, first_named, named, referred_by}
+use Rattle.hayro_jbig2.specs.declared.kept.Kept.{Kept}
 
 -- A text region (7.4.3), after what it refers to.
 unfoldable pub text_at : Bool → Names → Names → SegmentView → Result PlacedRegion DecodeError
@@ -14,26 +28,26 @@ text_at strict own shared p = do
   header ← text_header_at (length referred.symbols) strict p.bytes
   text_decoded header.0 referred.symbols referred.codes
 
--- The dictionary that the first of a halftone region's numbers names (7.4.5).
+-- The pattern dictionary that the first of a halftone region's numbers names (7.4.5).
 abbrev pub patterns_for : Names → Names → List ℕ → Option Patterns
 patterns_for own shared [] = None
 patterns_for own shared (number ∷ numbers) = named number own.patterns shared.patterns
 
--- A halftone region (7.4.5), drawn with these patterns.
+-- A halftone region (7.4.5), drawn with the patterns that it refers to.
 unfoldable pub halftone_at : Bool → Names → Names → SegmentView → Result PlacedRegion DecodeError
 halftone_at strict own shared p = do
   patterns ← some_or (Segment MissingPatternDictionary) (patterns_for own shared p.header.referred_to_segments)
   header ← halftone_header_at strict p.bytes
   halftone_decoded header.0 patterns
 
--- A generic region (7.4.6). The last four bytes of an immediate one of unknown length are the number of its rows;
--- an intermediate one is no special case, and the row count stays in its data.
+-- A generic region (7.4.6). Where an immediate one has an unknown length, its last four bytes are the number of its
+-- rows. An intermediate one is no special case: the row count stays in its data.
 unfoldable pub generic_at : Bool → Bool → SegmentView → Result PlacedRegion DecodeError
 generic_at strict is_intermediate p = do
   header ← generic_header_at (not is_intermediate && is_none p.header.data_length) strict p.bytes
   generic_decoded header.0
 
--- The region that a refinement's first number names, if it refers to any. Strict reading refuses a number that names none.
+-- The region that a refinement's first number names, if it has one. Strict reading refuses a number that names none.
 abbrev pub referred_region : Bool → List ℕ → List (Kept PlacedRegion) → Result (Option PlacedRegion) DecodeError
 referred_region strict [] regions = Ok None
 referred_region strict (number ∷ others) regions = do
@@ -45,8 +59,8 @@ abbrev pub page_area : Grid → RegionSegmentInfo → PlacedRegion
 page_area page info =
     placed info (part_of page (record { left = info.x_location; top = info.y_location; width = info.width; height = info.height }))
 
--- A refinement (7.4.7) of the region that is referred to, or else of the page's area (7.4.7.4). Strict reading refuses
--- an intermediate one that refers to no region.
+-- A refinement (7.4.7) of the region that it refers to, or else of the page's area (7.4.7.4). Strict reading refuses an
+-- intermediate one that refers to no region.
 unfoldable pub refinement_at : Bool → Bool → Grid → List (Kept PlacedRegion) → SegmentView → Result PlacedRegion DecodeError
 refinement_at strict is_intermediate page regions p = do
   referred ← referred_region strict p.header.referred_to_segments regions

@@ -1,4 +1,4 @@
-//! Segments drawn onto the page (T.88, 8.2).
+//! Draws a page's segments onto the page (T.88, 8.2).
 ghost use Rattle.std.specs.Prelude.{◌≡◌, ◌+◌, ◌*◌, ◌<◌, ◌≤◌, ◌⊎◌, true, false, Err, IfErr, IfOk};
 ghost use Rattle.jbig2_base.specs.Answer.{Gives};
 ghost use Rattle.jbig2_base.specs.inner.SegmentViews.{segment_view, segment_views};
@@ -36,16 +36,16 @@ use std::sync::ledger::Ledger;
 /// The work of a segment besides what it draws or keeps.
 const SEGMENT: u64 = 1024;
 
-/// The work of a number that a segment refers to, besides looking through what is kept.
+/// The work of a number that a segment refers to, besides the search through what is kept.
 const REFERENCE: u64 = 64;
 
-/// The work of each byte of a custom table, which may state four lines.
+/// The work of each byte of a custom table, which may hold four lines.
 const TABLE_BYTE: u64 = 64;
 
 /// The work of the contexts of a symbol dictionary.
 const CONTEXTS: u64 = 4096;
 
-/// What all segments of a page are drawn by.
+/// What is needed to draw all segments of a page.
 #[derive(Drop)]
 pub(crate) struct Drawer<'a, A: Allocator> {
     pub(crate) reading: Reading,
@@ -59,7 +59,7 @@ fn ends_page(kind: SegmentType) -> bool
     matches!(kind, SegmentType::EndOfPage | SegmentType::EndOfFile)
 }
 
-/// The work of what a segment of this type asks memory for, whatever it holds.
+/// The work of the memory that a segment of this type asks for, whatever it holds.
 fn work_of_type<A: Allocator>(segment: &Segment<'_, A>) -> u64 {
     match segment.header.segment_type {
         SegmentType::Tables => (segment.bytes.len() as u64).saturating_mul(TABLE_BYTE),
@@ -68,7 +68,7 @@ fn work_of_type<A: Allocator>(segment: &Segment<'_, A>) -> u64 {
     }
 }
 
-/// Takes the work of a segment by itself, where `kept` things may be what a number names.
+/// Takes the work of a segment itself, where `kept` is how many values a number may name.
 pub(crate) fn pay_segment<A: Allocator, L: Ledger>(
     segment: &Segment<'_, A>,
     kept: usize,
@@ -132,7 +132,7 @@ impl<'a, A: Allocator + Clone> Drawer<'a, A> {
         }
     }
 
-    /// What becomes of a segment that failed and left the page as it was.
+    /// Handles a segment that failed and left the page as it was: salvage passes over it.
     fn leave_out(
         &self,
         segment_number: u32,
@@ -247,7 +247,7 @@ impl<'a, A: Allocator + Clone> Drawer<'a, A> {
         keep_patterns(&mut canvas.names, strict, segment, workspace, work)
     }
 
-    /// What a region may refer to, among the parts of a canvas.
+    /// What a region may refer to: the parts of a canvas, and the globals.
     fn references<'n, 'r, 'p>(
         &'n self,
         own: &'n KeptNames<A>,
@@ -275,8 +275,7 @@ impl<'a, A: Allocator + Clone> Drawer<'a, A> {
         }
     }
 
-    /// Draws an immediate region. Lenient reading passes over one that failed, but never over want of
-    /// memory.
+    /// Draws an immediate region. Lenient reading passes over one that fails, unless memory ran out.
     #[tactic(auto, unfolding(crate::specs::Page::immediate))]
     fn draw_region<L: Ledger>(
         &self,
@@ -299,8 +298,8 @@ impl<'a, A: Allocator + Clone> Drawer<'a, A> {
         }
     }
 
-    /// Combines an immediate region with the page. One that makes up the page by itself is decoded
-    /// into the page's own bitmap.
+    /// Combines an immediate region with the page. A region that fills the whole page by itself is
+    /// decoded directly into the page's bitmap.
     fn show_region<L: Ledger>(
         &self,
         kind: RegionKind,
@@ -330,7 +329,8 @@ impl<'a, A: Allocator + Clone> Drawer<'a, A> {
         Ok(())
     }
 
-    /// What becomes of an immediate region that failed and left the page as it was.
+    /// Handles an immediate region that failed and left the page as it was. Lenient reading and
+    /// salvage pass over it.
     fn pass_over(
         &self,
         segment_number: u32,

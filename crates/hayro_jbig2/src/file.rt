@@ -1,4 +1,4 @@
-//! Files of pages.
+//! Files of pages (T.88, Annex D): a file's segments, sorted into its pages.
 ghost use Rattle.std.specs.Prelude.{◌≡◌, ◌++◌, ℕ, Ok, OnOk, IfErr, length, slice_get};
 ghost use Rattle.std.specs.Map.Iter.{GivesInOrder};
 ghost use Rattle.jbig2_base.specs.Answer.{Answers, Gives};
@@ -150,7 +150,7 @@ fn read_page<'a, A: Allocator>(
     })
 }
 
-/// The pages with these segments, in order. Salvage leaves out one that can't begin, and adds why to `left_out`.
+/// The pages with these segments, in order. Salvage adds the error of a page whose beginning fails to `left_out`.
 fn read_pages<'a, A: Allocator>(
     alloc: A,
     reading: Reading,
@@ -186,8 +186,8 @@ fn miscounts(told: Option<u32>, count: usize) -> bool
     }
 }
 
-/// What decoding the globals of these pages returns, but for want of memory, which is this call's own answer.
-/// Globals that no page shows are not decoded.
+/// What decoding the globals of these pages returns. If memory runs out, this call itself fails. Without pages the
+/// globals are not decoded, since no page shows them.
 #[tactic(auto, using(crate::proofs::Books::shares_none, crate::proofs::Books::shares_some))]
 fn kept_globals<A: Allocator + Clone>(
     alloc: A,
@@ -212,9 +212,9 @@ fn kept_globals<A: Allocator + Clone>(
 impl<'a, A: Allocator + Clone> File<'a, A> {
     /// The file that `bytes` hold (T.88, Annex D).
     ///
-    /// Refused by the first fault of the segments, then of their associations, of the count of
-    /// pages, and of each page's end and size. Where there is a page, the segments of no page are
-    /// decoded too; a fault there is what decoding a page returns.
+    /// Returns the first fault of the segments, then of their associations, of the count of pages,
+    /// and of each page's end and size. Where there is a page, the segments of no page are decoded
+    /// too; decoding a page returns a fault of theirs.
     pub fn new(alloc: A, bytes: &'a [u8], settings: &DecodeSettings) -> Result<File<'a, A>>
         ensures value { Gives (λ file. file) result (book_at (reading_of settings.now.strict) bytes.now) }
         ensures errors { IfErr result IsReturned }
@@ -222,8 +222,8 @@ impl<'a, A: Allocator + Clone> File<'a, A> {
         File::new_within(alloc, bytes, settings, None)
     }
 
-    /// The file as `new` has it, where the segments of no page are decoded for at most `work` units of work. Where that
-    /// isn't enough it is refused with `DecodeError::OutOfMemory`, as memory is. `None` is no limit.
+    /// The file as `new` has it, but decoding the segments of no page takes at most `work` units of work. Where more
+    /// are needed, the error is `DecodeError::OutOfMemory`, as when memory runs out. `None` means no limit.
     pub fn new_within(
         alloc: A,
         bytes: &'a [u8],
@@ -238,12 +238,12 @@ impl<'a, A: Allocator + Clone> File<'a, A> {
         File::read(alloc, bytes, settings.reading(), work)
     }
 
-    /// The file as lenient reading has it, where damage leaves out as little as it can: the list of segments ends
-    /// at the first that is refused, a page that can't begin is left out, and a segment of no page that fails is
-    /// passed over. The segments of no page are decoded for at most `work` units of work.
+    /// The file as lenient reading has it, but damage leaves out as little as possible. The list of segments ends at
+    /// the first one that is refused. A page whose beginning fails is left out. A segment of no page that fails is
+    /// passed over. Decoding the segments of no page takes at most `work` units of work.
     ///
-    /// Where lenient reading gives a file, this gives the same. Refused for a fault of the file's header, or for
-    /// want of memory or of work.
+    /// Where lenient reading gives a file, this gives the same. It is refused only for a fault of the file's header, or
+    /// where memory or work runs out.
     pub fn salvaged(alloc: A, bytes: &'a [u8], work: Option<u64>) -> Result<File<'a, A>>
         ensures value { Gives (λ file. file) result (book_at Salvage bytes.now) }
         ensures causes { HasCauseOrNoMemory result (BreaksBook Salvage bytes.now) }
@@ -289,7 +289,7 @@ fn duplicate_fault(fault: &Option<DecodeError>) -> Option<DecodeError>
 }
 
 impl<'a, A: Allocator> File<'a, A> {
-    /// How many pages the file has.
+    /// The number of pages.
     pub fn page_count(&self) -> usize
         ensures { result ≡ length self.now.pages }
     {
@@ -303,7 +303,7 @@ impl<'a, A: Allocator> File<'a, A> {
         &self.left_out
     }
 
-    /// The error that ended the list of segments early, in salvage: that of lenient reading.
+    /// In salvage, the error that ended the list of segments early: the error of lenient reading.
     pub fn fault(&self) -> Option<&DecodeError>
         ensures { found (λ e. e) result ≡ self.now.fault }
     {
@@ -320,7 +320,7 @@ impl<'a, A: Allocator> File<'a, A> {
         }
     }
 
-    /// What decoding the globals returned.
+    /// The result of decoding the globals.
     fn globals(&self) -> Result<Option<&Globals<A>>>
         ensures { kept_names result ≡ names_of self.now.globals }
     {
@@ -330,7 +330,7 @@ impl<'a, A: Allocator> File<'a, A> {
         }
     }
 
-    /// The page at this index, from 0; None after the last page.
+    /// The page at this index, from 0; `None` after the last page.
     pub fn page(&self, index: usize) -> Option<Page<'_, A>>
         ensures value { result ≡ page_of self.now index }
         ensures alone { PagesStandAlone }
@@ -347,7 +347,7 @@ impl<'a, A: Allocator> File<'a, A> {
         }
     }
 
-    /// The pages in order: `page(index)` for each index below `page_count()`, rising.
+    /// The pages in order: `page(index)` for each index below `page_count()`, from 0 on.
     pub fn pages(&self) -> Pages<'_, A>
         ensures all { result ≡ pages_of self.now }
         ensures each { (index : ℕ) → slice_get result index ≡ page_of self.now index }

@@ -29,7 +29,7 @@ pub struct Jbig2Decoder<A: Allocator> {
     bytes: Vec<u8, A>,
     width: u32,
     height: u32,
-    /// The work that the segments of no page may take, and the page's too.
+    /// The most work that the segments of no page may take, and that the page may take too.
     work_limit: Option<u64>,
 }
 
@@ -74,7 +74,7 @@ fn first_size<A: Allocator + Clone>(
     Ok(page.dimensions())
 }
 
-/// Writes the first page, as `Page::read_image` does.
+/// Writes the first page into `buf`, as `Page::read_image` does.
 #[tactic(auto, unfolding(crate::specs::Image::first_page))]
 fn first_image<A: Allocator + Clone>(
     alloc: A,
@@ -92,7 +92,7 @@ fn first_image<A: Allocator + Clone>(
     page.read_image_limited(buf, work)
 }
 
-/// Writes the first page, as `Page::read_packed` does.
+/// Writes the first page into `buf`, as `Page::read_packed` does.
 #[tactic(auto, unfolding(crate::specs::Image::first_page))]
 fn first_packed<A: Allocator + Clone>(
     alloc: A,
@@ -111,11 +111,11 @@ fn first_packed<A: Allocator + Clone>(
 }
 
 impl<A: Allocator + Clone> Jbig2Decoder<A> {
-    /// Reads the whole input, going on after an interruption, and finds its first page.
+    /// Reads the whole input, goes on after an interruption, and finds the first page.
     ///
-    /// Returns `Jbig2Error::Io` for another fault of the reader, of any kind, or where no end comes
-    /// within 2^64 - 1 reads, and `Jbig2Error::Decode` for a fault of the file or want of memory.
-    /// The reader is dropped.
+    /// Returns `Jbig2Error::Io` where the reader fails in any other way, or where no end comes
+    /// within 2^64 - 1 reads. Returns `Jbig2Error::Decode` for a fault of the file, or where memory
+    /// runs out. The reader is dropped.
     pub fn new<R: Read + Drop>(alloc: A, reader: R) -> Result<Jbig2Decoder<A>, Jbig2Error>
         ensures opens { IfSome (R.remaining reader) (λ told. Opens told result) }
         ensures lasting { IfErr result IsLasting }
@@ -125,8 +125,8 @@ impl<A: Allocator + Clone> Jbig2Decoder<A> {
     }
 
     /// Reads the input as `new` does. Each time that the page is read, the segments of no page may take `work` units of
-    /// work, and the page's own segments as many. Where more are needed it is `DecodeError::OutOfMemory`. `None` is no
-    /// limit.
+    /// work, and the page's own segments as many. Where more are needed, the error is `DecodeError::OutOfMemory`.
+    /// `None` means no limit.
     pub fn new_within<R: Read + Drop>(
         alloc: A,
         mut reader: R,
@@ -149,7 +149,7 @@ impl<A: Allocator + Clone> Jbig2Decoder<A> {
     /// Writes the page into `buf`, which holds a byte for each pixel: rows from the top, 0 for
     /// black and 255 for white.
     ///
-    /// Returns `Jbig2Error::Decode` alone; `buf` is then as it was.
+    /// Its only error is `Jbig2Error::Decode`; `buf` is then as it was.
     pub fn read_image(&self, buf: &mut [u8]) -> Result<(), Jbig2Error>
         requires { length buf.old ≡ self.now.width * self.now.height }
         ensures value { GivesAgain (λ _. buf.new) result (first_image self.now.bytes) }
@@ -163,7 +163,7 @@ impl<A: Allocator + Clone> Jbig2Decoder<A> {
 
     /// Writes the page into `buf` as packed rows, as `Page::read_packed` does.
     ///
-    /// Returns `Jbig2Error::Decode` alone; `buf` is then as it was.
+    /// Its only error is `Jbig2Error::Decode`; `buf` is then as it was.
     pub fn read_packed(&self, buf: &mut [u8]) -> Result<(), Jbig2Error>
         requires { length buf.old ≡ packed_size self.now.width self.now.height }
         ensures value { GivesAgain (λ _. buf.new) result (first_packed self.now.bytes) }

@@ -1,4 +1,4 @@
-//! What is kept under the numbers of segments (T.88, 7.3.1).
+//! The values that segments keep for later ones, under their numbers (T.88, 7.3.1).
 ghost use Rattle.std.specs.Prelude.{◌≡◌};
 ghost use Rattle.hayro_jbig2.specs.Names.{first_named, named};
 ghost use Rattle.hayro_jbig2.specs.inner.KeptViews.{found};
@@ -7,14 +7,14 @@ pub(crate) mod globals;
 pub(crate) mod names;
 pub(crate) mod referred;
 
-/// What a segment left for later ones, under its number.
+/// What a segment keeps for later ones, under its number.
 #[derive(Drop)]
 pub(crate) struct Kept<T> {
     pub(crate) segment_number: u32,
     pub(crate) value: T,
 }
 
-/// The first that is kept under a number.
+/// The first value that is kept under a number.
 pub(crate) fn first_under<T>(kept: &[Kept<T>], number: u32) -> Option<&T>
     ensures { found (λ v. v) result ≡ first_named number kept.now }
 {
@@ -26,7 +26,7 @@ pub(crate) fn first_under<T>(kept: &[Kept<T>], number: u32) -> Option<&T>
     None
 }
 
-/// What a number names: the page's own, else the one of the globals.
+/// What a number names: the page's own value, else that of the globals.
 pub(crate) fn named<'a, T>(own: &'a [Kept<T>], shared: &'a [Kept<T>], number: u32) -> Option<&'a T>
     ensures { found (λ v. v) result ≡ named number own.now shared.now }
 {

@@ -1,9 +1,8 @@
 //! A decoder of JBIG2 (ITU-T T.88, ISO/IEC 14492), the bi-level format of scanned pages.
 //!
-//! `Page::new_embedded` reads a page as a PDF file keeps it, `File::new` a file of pages, and
-//! `Jbig2Decoder::new` the first page of what a reader gives. `Page::decode_with` makes the calls
-//! on a `Decoder` that spell the page's pixels, `Page::read_image` writes a byte for each, and `Page::draw` lends
-//! packed rows.
+//! `Page::new_embedded` reads a page that a PDF file holds, `File::new` a file of pages, and `Jbig2Decoder::new` the
+//! first page of what a reader gives. `Page::decode_with` makes the calls on a `Decoder` that draw the page's pixels,
+//! `Page::read_image` writes a byte for each pixel, and `Page::draw` lends packed rows.
 #![tactic(auto)]
 
 mod drawing;

@@ -1,4 +1,4 @@
-//! Pages.
+//! Pages: how one is read (T.88, 7.4.8 and D.3), and its number and size.
 ghost use Rattle.std.specs.Prelude.{◌≡◌, IfErr};
 ghost use Rattle.jbig2_base.specs.Answer.{Gives};
 ghost use Rattle.hayro_jbig2.specs.Page.{HasSides, IsSide, ReadPage, embedded};
@@ -49,7 +49,7 @@ impl<'a, A: Allocator> PageSegments<'a, A> {
     }
 }
 
-/// A page: its segments, and what it begins as. It borrows the bytes that it was read from.
+/// A page: its segments, and how it begins. It borrows the bytes that it was read from.
 #[derive(Drop)]
 pub struct Page<'a, A: Allocator> {
     reading: Reading,
@@ -82,7 +82,7 @@ impl<'a, A: Allocator> Model for Page<'a, A> {
 }
 
 impl<'a, A: Allocator> Page<'a, A> {
-    /// A page of a file, which holds its segments and keeps what decoding the globals returned.
+    /// A page of a file. The file holds the segments and the result of decoding the globals.
     pub(crate) fn of_file(
         reading: Reading,
         initial_page: InitialPage,
@@ -109,15 +109,15 @@ impl<'a, A: Allocator> Page<'a, A> {
         }
     }
 
-    /// The page's number, its association.
+    /// The page's number, which is its segments' page association.
     pub fn number(&self) -> u32
         ensures { result ≡ self.now.initial_page.number }
     {
         self.initial_page.number
     }
 
-    /// The error that ended the list of the page's segments early, or of its file's, in salvage: that of lenient
-    /// reading.
+    /// In salvage, the error that ended the list of the page's segments early, or that of its file: the error of
+    /// lenient reading.
     pub fn fault(&self) -> Option<&DecodeError>
         ensures { found (λ e. e) result ≡ self.now.fault }
     {
@@ -150,10 +150,10 @@ impl<'a, A: Allocator> Page<'a, A> {
 }
 
 impl<'a, A: Allocator + Clone> Page<'a, A> {
-    /// A page as a PDF file keeps it: `bytes` hold its segments one after the other, without a
-    /// file header, and `globals` what its segments may refer to besides.
+    /// A page as in a PDF file: `bytes` hold its segments one after the other, without a file
+    /// header. The segments may also refer to those of `globals`.
     ///
-    /// Refused by the first fault of the segments, or of the page's size.
+    /// Returns the first fault of the segments, or of the page's size.
     pub fn new_embedded(
         alloc: A,
         bytes: &'a [u8],
@@ -167,12 +167,12 @@ impl<'a, A: Allocator + Clone> Page<'a, A> {
         Page::read_embedded(alloc, bytes, globals, settings.reading())
     }
 
-    /// The page as lenient reading has it, where damage leaves out as little as it can: the list of its segments
-    /// ends at the first that is refused, a segment that fails is passed over, and an open height that no stripe
-    /// tells is that of the lowest region's end.
+    /// The page as lenient reading has it, but damage leaves out as little as possible. The list of its segments ends
+    /// at the first one that is refused. A segment that fails is passed over. Where page information and stripes leave
+    /// the height open, the page ends with its lowest region.
     ///
-    /// Where lenient reading gives a page, this gives the same. Refused where the segments have no page information
-    /// with a size that a page may have, or for want of memory.
+    /// Where lenient reading gives a page, this gives the same. It is refused only where the segments have no page
+    /// information with a possible size, or where memory runs out.
     pub fn salvaged_embedded(
         alloc: A,
         bytes: &'a [u8],

@@ -1,4 +1,5 @@
-//! Regions of a page, by kind: each is parsed with what it refers to, then decoded (T.88, 7.4.3 and 7.4.5 to 7.4.7).
+//! The regions of a page, by kind (T.88, 7.4.3 and 7.4.5 to 7.4.7). A region is first parsed, with what it refers to,
+//! and then decoded.
 ghost use Rattle.std.specs.Prelude.{IfOk};
 ghost use Rattle.jbig2_base.specs.inner.SegmentViews.{segment_view};
 ghost use Rattle.hayro_jbig2.specs.Page.{region_at};
@@ -27,7 +28,7 @@ use jbig2_base::segment::Segment;
 use std::alloc::Allocator;
 use std::sync::ledger::Ledger;
 
-/// What a region is coded as.
+/// The kinds of region.
 #[derive(Clone, Copy, Debug)]
 pub(crate) enum RegionKind {
     Text,
@@ -36,7 +37,7 @@ pub(crate) enum RegionKind {
     GenericRefinement,
 }
 
-/// What the region that a segment holds is decoded by.
+/// Parses the region that a segment holds: what is needed to decode it.
 pub(crate) fn parse_region<'a, 'n, 'r, A: Allocator + Clone, L: Ledger>(
     references: &References<'n, 'r, '_, A>,
     kind: RegionKind,

@@ -7,7 +7,7 @@ use jbig2_base::reading::Reading;
 /// How strictly data is read. The default is lenient.
 #[derive(Clone, Copy, Debug)]
 pub struct DecodeSettings {
-    /// Whether each fault is an error that a lenient decoder could pass over.
+    /// Whether every fault is an error, also one that a lenient decoder passes over.
     pub strict: bool,
 }
 

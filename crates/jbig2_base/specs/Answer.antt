@@ -1,10 +1,11 @@
--- What a definition gives: a value or the first error, and never `OutOfMemory`; its steps follow each other by
--- `>>=`, so the errors come in the order of the steps. And how a call's answer compares with that (our own rule).
+-- What a definition gives: a value or the first error, and never `OutOfMemory`. Its steps follow each other by `>>=`,
+-- so the errors come in the order of the steps. Then: how the result of a call compares with that (our own rule).
 use Rattle.std.specs.Prelude.{◌≡◌, Bool, true, false, Option, Some, None, Result, Ok, Err, ◌⊎◌}
-use Rattle.jbig2_base.specs.declared.error.DecodeError.{DecodeError, TheVariants.{OutOfMemory}}
+use Rattle.jbig2_base.specs.declared.error.DecodeError.{DecodeError}
+use Rattle.jbig2_base.specs.declared.error.DecodeError.TheVariants.{OutOfMemory}
 
 infixl 10 ◌>>=◌
--- the next step, unless the last one refused
+-- the next step, unless the step before refused
 abbrev pub ◌>>=◌ : {A B E : Type 0} → Result A E → (A → Result B E) → Result B E
 (Ok x) >>= next = next x
 (Err e) >>= next = Err e
@@ -17,7 +18,7 @@ abbrev pub some_or : {A : Type 0} → DecodeError → Option A → Result A Deco
 some_or e None = Err e
 some_or e (Some x) = Ok x
 
--- What was returned, seen by view, is what was meant, unless memory ran out.
+-- The result of a call, seen by `view`, is what was meant, unless memory ran out.
 abbrev pub Gives : {X Y : Type 0} → (X → Y) → Result X DecodeError → Result Y DecodeError → Type 0
 Gives view (Ok x) meant = meant ≡ Ok (view x)
 Gives view (Err e) meant = (e ≡ OutOfMemory) ⊎ (meant ≡ Err e)
@@ -27,7 +28,7 @@ abbrev pub Answers : {X Y : Type 0} → (X → Y) → Result X DecodeError → R
 Answers view (Ok x) meant = meant ≡ Ok (view x)
 Answers view (Err e) meant = meant ≡ Err e
 
--- What a call leaves is what was meant, unless memory ran out.
+-- The state that a call leaves is what was meant, unless memory ran out.
 abbrev pub Leaves : {X Y : Type 0} → Result X DecodeError → Y → Y → Type 0
 Leaves (Ok x) left meant = left ≡ meant
 Leaves (Err e) left meant = (e ≡ OutOfMemory) ⊎ (left ≡ meant)

@@ -1,8 +1,11 @@
--- Bytes as a list of bits, high bit first, and a place in it (T.88, 7.1: big-endian). `_next` is what stands there,
--- `_on` the place after it. A refused read of bits moves to the end, a refused read of bytes moves nothing.
-use Rattle.std.specs.{Prelude.{◌≡◌, ℕ, ◌+◌, ◌*◌, ◌/◌, ◌%◌, nat_lt, ◌==◌, List, [], ◌∷◌, length, take, drop, Option, Some, None, if◌then◌else◌, ◌^◌, Bool}, List.{flat_map}, Int.{Width, byte_len, from_be_bytes}}
+-- Bytes as a list of bits, high bit first, and a place in it (T.88, 7.1: big-endian). `_next` is what comes next, `_on`
+-- is the place after it. A refused read of bits moves to the end. A refused read of bytes does not move.
+use Rattle.std.specs.Prelude.{◌≡◌, ℕ, ◌+◌, ◌*◌, ◌/◌, ◌%◌, nat_lt, ◌==◌, List, [], ◌∷◌, length, take, drop, Option, Some}
+use Rattle.std.specs.Prelude.{None, if◌then◌else◌, ◌^◌, Bool}
+use Rattle.std.specs.List.{flat_map}
+use Rattle.std.specs.Int.{Width, byte_len, from_be_bytes}
 
-pub record Place : Type 0 where  -- the bytes from the one that is being read on, and how many of its bits are read
+pub record Place : Type 0 where  -- the bytes from the current one on, and how many of its bits are read
   pub bytes : List ℕ
   pub bit : ℕ
 
@@ -18,28 +21,28 @@ byte_bits b = b / 128 % 2 ∷ b / 64 % 2 ∷ b / 32 % 2 ∷ b / 16 % 2 ∷ b / 8
 unfoldable pub bits_left : Place → List ℕ
 bits_left p = drop p.bit (flat_map byte_bits p.bytes)
 
-abbrev pub number_after : ℕ → List ℕ → ℕ  -- the number that the bits spell after the bits of front
+abbrev pub number_after : ℕ → List ℕ → ℕ  -- the number that the bits of front and then these bits make
 number_after front [] = front
 number_after front (b ∷ bs) = number_after (2 * front + b) bs
 
-abbrev pub bits_next : ℕ → List ℕ → Option ℕ  -- the next n bits as a number, or None where the bits end first
+abbrev pub bits_next : ℕ → List ℕ → Option ℕ  -- the next n bits as a number, or None if there are fewer
 bits_next n bits = if nat_lt (length bits) n then None else Some (number_after 0 (take n bits))
 
-unfoldable pub bits_on : ℕ → Place → Place  -- the place after them, or the end where the bits end first
+unfoldable pub bits_on : ℕ → Place → Place  -- the place after them, or the end if there are fewer
 bits_on n p =
     if nat_lt (length (bits_left p)) n then start_of []
     else record { bytes = drop ((p.bit + n) / 8) p.bytes; bit = (p.bit + n) % 8 }
 
-abbrev pub aligned : Place → Place  -- the beginning of the next byte, if one was begun
+abbrev pub aligned : Place → Place  -- the place itself where a byte begins, else the beginning of the next byte
 aligned p = if p.bit == 0 then p else start_of (drop 1 p.bytes)
 
-abbrev pub bytes_next : ℕ → Place → Option (List ℕ)  -- the next count bytes, or None where the bytes end first
+abbrev pub bytes_next : ℕ → Place → Option (List ℕ)  -- the next count bytes, or None if there are fewer
 bytes_next count p = if nat_lt (length p.bytes) count then None else Some (take count p.bytes)
 
 abbrev pub number_next : Width → Place → Option ℕ  -- the same as a number, high byte first
 number_next w p = if nat_lt (length p.bytes) (byte_len w) then None else Some (from_be_bytes w (take (byte_len w) p.bytes))
 
-abbrev pub bytes_on : ℕ → Place → Place  -- the place after them; where the bytes end first it stays
+abbrev pub bytes_on : ℕ → Place → Place  -- the place after them; the same place if there are fewer
 bytes_on count p = if nat_lt (length p.bytes) count then p else record p { bytes = drop count p.bytes }
 
 abbrev pub nonzero : ℕ → Option ℕ

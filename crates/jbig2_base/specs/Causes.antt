@@ -1,30 +1,45 @@
--- Which rule the bytes break where a call refuses them (docs/FORMAT.md), a line for each error. A predicate `Breaks..`
--- takes the bytes and an error; the function that refuses says by `HasCause` that its own error has that cause.
-use Rattle.std.specs.{Prelude.{◌≡◌, ◌≢◌, ◌<◌, ◌≤◌, ◌+◌, ◌*◌, ◌-◌, ◌/◌, ◌%◌, ◌^◌, ◌==◌, ◌⊎◌, ℕ, Bool, true, List, [], ◌∷◌, take, drop, length, All, Any, Option, Some, None, Result, Ok, Err, IfErr, if◌then◌else◌}, Int.{Width, w8, w32, byte_len, from_be_bytes}}
-use Rattle.jbig2_base.specs.{File.{identification}, Segment.{SegmentView, adaptive_bytes, number_width}, declared.{error.{DecodeError.{DecodeError, TheVariants.{OutOfMemory, Parse, Format, Segment, Region, Overflow}}, FormatError.TheVariants.{InvalidHeader, ReservedBits, MissingPageInfo, UnknownPageHeight, EmptyPage}, OverflowError.TheVariants.{BitmapDimension}, ParseError.TheVariants.{UnexpectedEof}, RegionError.TheVariants.{InvalidCombinationOperator}, SegmentError.TheVariants.{UnknownType, InvalidReferredCount, InvalidReference, InvalidUnknownLength, MissingEndMarker}}}}
+-- The rule that the bytes break where a call refuses them (docs/FORMAT.md), one line for each error. A predicate
+-- `Breaks..` takes the bytes and an error. The function that refuses states by `HasCause` that its error has that
+-- cause.
+use Rattle.std.specs.Prelude.{◌≡◌, ◌≢◌, ◌<◌, ◌≤◌, ◌+◌, ◌*◌, ◌-◌, ◌/◌, ◌%◌, ◌^◌, ◌==◌, ◌⊎◌, ℕ, Bool, true, List, [], ◌∷◌}
+use Rattle.std.specs.Prelude.{take, drop, length, All, Any, Option, Some, None, Result, Ok, Err, IfErr, if◌then◌else◌}
+use Rattle.std.specs.Int.{Width, w8, w32, byte_len, from_be_bytes}
+use Rattle.jbig2_base.specs.File.{identification}
+use Rattle.jbig2_base.specs.Segment.{SegmentView, adaptive_bytes, number_width}
+use Rattle.jbig2_base.specs.declared.error.DecodeError.{DecodeError}
+use Rattle.jbig2_base.specs.declared.error.DecodeError.TheVariants.{OutOfMemory, Parse, Format, Segment, Region}
+use Rattle.jbig2_base.specs.declared.error.DecodeError.TheVariants.{Overflow}
+use Rattle.jbig2_base.specs.declared.error.FormatError.TheVariants.{InvalidHeader, ReservedBits, MissingPageInfo}
+use Rattle.jbig2_base.specs.declared.error.FormatError.TheVariants.{UnknownPageHeight, EmptyPage}
+use Rattle.jbig2_base.specs.declared.error.OverflowError.TheVariants.{BitmapDimension}
+use Rattle.jbig2_base.specs.declared.error.ParseError.TheVariants.{UnexpectedEof}
+use Rattle.jbig2_base.specs.declared.error.RegionError.TheVariants.{InvalidCombinationOperator}
+use Rattle.jbig2_base.specs.declared.error.SegmentError.TheVariants.{UnknownType, InvalidReferredCount}
+use Rattle.jbig2_base.specs.declared.error.SegmentError.TheVariants.{InvalidReference, InvalidUnknownLength}
+use Rattle.jbig2_base.specs.declared.error.SegmentError.TheVariants.{MissingEndMarker}
 use Rattle.jbig2_base.specs.declared.segment.SegmentType.TheVariants as types
 
--- Where this call refuses, its input breaks the rule that stands there for the error.
+-- If this call refuses its input, the input breaks the rule that `Breaks` gives for the error.
 unfoldable pub HasCause : {X : Type 0} → Result X DecodeError → (DecodeError → Type 0) → Type 0
 HasCause result Breaks = IfErr result Breaks
 
--- the same for a call that may run out of memory, which no input brings about
+-- the same for a call that may run out of memory, which is no fault of the input
 unfoldable pub HasCauseOrNoMemory : {X : Type 0} → Result X DecodeError → (DecodeError → Type 0) → Type 0
 HasCauseOrNoMemory result Breaks = IfErr result (λ e. (e ≡ OutOfMemory) ⊎ Breaks e)
 
-abbrev pub number_in : Width → ℕ → List ℕ → ℕ  -- the number that stands at this byte, high byte first
+abbrev pub number_in : Width → ℕ → List ℕ → ℕ  -- the number at this byte, high byte first
 number_in w place bytes = from_be_bytes w (take (byte_len w) (drop place bytes))
 
--- the error of a step, whose own law says which rule it breaks
+-- the error of a step; the step's own law says which rule is broken
 abbrev pub IsOf : {A : Type 0} → Result A DecodeError → DecodeError → Type 0
 IsOf step e = step ≡ Err e
 
--- What is broken in the first of two steps, or, where that one has a value, in the next.
+-- What is broken in the first of two steps, or in the next one if the first has a value.
 abbrev pub InSteps : {A : Type 0} → Result A DecodeError → Type 0 → (A → Type 0) → Type 0
 InSteps (Err e) first next = first
 InSteps (Ok x) first next = next x
 
--- The header of a file (D.4) has thirteen bytes; where bit 1 of byte 8 is set it states no count, and has nine.
+-- A file header (D.4) has thirteen bytes. If bit 1 of byte 8 is set, it states no page count and has nine.
 abbrev pub BreaksFileHeader : List ℕ → DecodeError → Type 0
 BreaksFileHeader bytes (Parse UnexpectedEof) = length bytes < (if number_in w8 8 bytes / 2 % 2 == 1 then 9 else 13)
 BreaksFileHeader bytes (Format InvalidHeader) = (8 ≤ length bytes) × (take 8 bytes ≢ identification)
@@ -35,28 +50,28 @@ abbrev pub BreaksInformation : List ℕ → DecodeError → Type 0  -- page info
 BreaksInformation bytes (Parse UnexpectedEof) = length bytes < 19
 BreaksInformation bytes _ = ⊥
 
--- The first page information among the segments has these bytes.
+-- There is page information, and the bytes of the first one have this property.
 abbrev pub FirstInformation : (List ℕ → Type 0) → List SegmentView → Type 0
 FirstInformation P [] = ⊥
 FirstInformation P (p ∷ ps) =
     ((p.header.segment_type ≡ types.PageInformation) × P p.bytes)
     ⊎ ((p.header.segment_type ≢ types.PageInformation) × FirstInformation P ps)
 
--- an end of stripe that tells a height: four bytes, not all ones (7.4.10)
+-- an end of stripe that states a height: four bytes, not all ones (7.4.10)
 abbrev pub TellsHeight : SegmentView → Type 0
 TellsHeight p =
     (p.header.segment_type ≡ types.EndOfStripe) × (length p.bytes ≡ 4) × (number_in w32 0 p.bytes ≢ 4294967295)
 
--- Page information has the width in its first four bytes and the height in the next four; a height of all ones is open.
+-- Page information: the width is in its first four bytes, the height in the next four. All ones leave the height open.
 abbrev pub LeavesHeightOpen : List SegmentView → Type 0
 LeavesHeightOpen ps = FirstInformation (λ bytes. (19 ≤ length bytes) × (number_in w32 4 bytes ≡ 4294967295)) ps
 
-abbrev pub StatesLongSide : List SegmentView → Type 0  -- a side is too long above 65535
+abbrev pub StatesLongSide : List SegmentView → Type 0  -- a side above 65535 is too long
 StatesLongSide ps =
     FirstInformation (λ bytes. (19 ≤ length bytes) × (65535 < number_in w32 0 bytes)) ps
     ⊎ FirstInformation (λ bytes. (19 ≤ length bytes) × (65535 < number_in w32 4 bytes) × (number_in w32 4 bytes ≢ 4294967295)) ps
 
--- An open height is what the stripes tell; it is too much where a stripe's last row has the number 65535 or more.
+-- The stripes state an open height. It is too large if the number of a stripe's last row is 65535 or more.
 abbrev pub BreaksInitialPage : List SegmentView → DecodeError → Type 0
 BreaksInitialPage ps (Format MissingPageInfo) = All (λ p. p.header.segment_type ≢ types.PageInformation) ps
 BreaksInitialPage ps (Parse UnexpectedEof) = FirstInformation (λ bytes. length bytes < 19) ps
@@ -67,7 +82,7 @@ BreaksInitialPage ps (Overflow BitmapDimension) =
     StatesLongSide ps ⊎ (LeavesHeightOpen ps × Any (λ p. TellsHeight p × (65535 ≤ number_in w32 0 p.bytes)) ps)
 BreaksInitialPage ps _ = ⊥
 
--- An open height is this number, which is 0 where nothing tells it.
+-- An open height is this number, which is 0 if nothing states it.
 abbrev pub BreaksInitialPageBy : ℕ → List SegmentView → DecodeError → Type 0
 BreaksInitialPageBy told_height ps (Format UnknownPageHeight) = LeavesHeightOpen ps × (told_height ≡ 0)
 BreaksInitialPageBy told_height ps (Overflow BitmapDimension) = StatesLongSide ps ⊎ (LeavesHeightOpen ps × (65535 < told_height))
@@ -78,26 +93,26 @@ BreaksOperator n (Region InvalidCombinationOperator) = 5 ≤ n
 BreaksOperator n _ = ⊥
 
 -- ---- segments (7.2)
--- how many segments are referred to: byte 5's top three bits, or where they are 7 the other 29 bits of bytes 5 to 8
+-- how many segments are referred to: the top three bits of byte 5, or if they are 7, the other 29 bits of bytes 5 to 8
 abbrev pub referred_count : List ℕ → ℕ
 referred_count bytes =
     if number_in w8 5 bytes / 32 == 7 then number_in w32 5 bytes - 7 * 2 ^ 29 else number_in w8 5 bytes / 32
 
--- where the first referred number stands: after the count and the retention flags of a long count
+-- the place of the first referred number: after the count, and after the retention flags of a long count
 abbrev pub referred_place : List ℕ → ℕ
 referred_place bytes = if number_in w8 5 bytes / 32 == 7 then 9 + (referred_count bytes + 8) / 8 else 6
 
--- where the page association stands, and the data length after it, which ends the header
+-- the place of the page association, and of the data length after it, which ends the header
 abbrev pub page_place : List ℕ → ℕ
 page_place bytes = referred_place bytes + referred_count bytes * byte_len (number_width (number_in w32 0 bytes))
 
 abbrev pub length_place : List ℕ → ℕ
 length_place bytes = page_place bytes + (if number_in w8 4 bytes / 64 % 2 == 1 then 4 else 1)
 
-abbrev pub listed_types : List ℕ  -- the numbers of 7.3's types
+abbrev pub listed_types : List ℕ  -- the numbers of the types in 7.3
 listed_types = 0 ∷ 4 ∷ 6 ∷ 7 ∷ 16 ∷ 20 ∷ 22 ∷ 23 ∷ 36 ∷ 38 ∷ 39 ∷ 40 ∷ 42 ∷ 43 ∷ 48 ∷ 49 ∷ 50 ∷ 51 ∷ 52 ∷ 53 ∷ 54 ∷ 62 ∷ []
 
--- A header's first four bytes are its segment's number; byte 4 has the type in its low six bits.
+-- The first four bytes of a header are the segment's number. The low six bits of byte 4 are its type.
 abbrev pub BreaksHeader : Bool → List ℕ → DecodeError → Type 0
 BreaksHeader strict bytes (Parse UnexpectedEof) = length bytes < length_place bytes + 4
 BreaksHeader strict bytes (Segment UnknownType) =
@@ -113,8 +128,8 @@ BreaksHeader strict bytes (Segment InvalidUnknownLength) =
     × (number_in w8 4 bytes % 64 ≢ 38)
 BreaksHeader strict bytes _ = ⊥
 
--- Data of this length, after the header (7.2.7). Where it is unknown, byte 17 has the region's flags; its fields are
--- there, and after them the end marker with four bytes more.
+-- Data of this length, after the header (7.2.7). If the length is unknown, byte 17 has the region's flags. The fields
+-- must be there, and after them the end marker with four more bytes.
 abbrev pub BreaksData : Option ℕ → List ℕ → DecodeError → Type 0
 BreaksData (Some n) bytes (Parse UnexpectedEof) = length bytes < n
 BreaksData None bytes (Parse UnexpectedEof) = length bytes < 18 + adaptive_bytes (number_in w8 17 bytes)

@@ -1,8 +1,14 @@
--- The combination operators, and a bitmap combined with another by them (T.88, 7.4.1.5). `operator_of` takes a number
--- of a region's flags. `combined` takes an operator, the page, a source and the place of its top left pixel, at any
--- whole numbers, and gives the page afterwards, which stays as it was where the source does not lie.
-use Rattle.std.specs.Prelude.{ℕ, Bool, false, ◌&&◌, nat_lt, if◌then◌else◌, ℤ, pos, negsuc, ◌-ℤ◌, ◌||◌, ◌==◌, not, Result, Ok, Err}
-use Rattle.jbig2_base.specs.{declared.{bitmap.operator.CombinationOperator.{CombinationOperator, TheVariants.{Or, And, Xor, Xnor, Replace}}, error.{DecodeError.{DecodeError, TheVariants.{Region}}, RegionError.TheVariants.{InvalidCombinationOperator}}}, Grid.{Grid, grid_of, pixel_at, pixel}}
+-- The combination operators, and a bitmap that is combined with another by them (T.88, 7.4.1.5). `operator_of` takes a
+-- number from a region's flags. `combined` takes an operator, the page, a source and the place of its top left pixel,
+-- any pair of whole numbers. It gives the page afterwards. Where the source has no pixel, the page stays as it was.
+use Rattle.std.specs.Prelude.{ℕ, Bool, false, ◌&&◌, nat_lt, if◌then◌else◌, ℤ, pos, negsuc, ◌-ℤ◌, ◌||◌, ◌==◌, not}
+use Rattle.std.specs.Prelude.{Result, Ok, Err}
+use Rattle.jbig2_base.specs.declared.bitmap.operator.CombinationOperator.{CombinationOperator}
+use Rattle.jbig2_base.specs.declared.bitmap.operator.CombinationOperator.TheVariants.{Or, And, Xor, Xnor, Replace}
+use Rattle.jbig2_base.specs.declared.error.DecodeError.{DecodeError}
+use Rattle.jbig2_base.specs.declared.error.DecodeError.TheVariants.{Region}
+use Rattle.jbig2_base.specs.declared.error.RegionError.TheVariants.{InvalidCombinationOperator}
+use Rattle.jbig2_base.specs.Grid.{Grid, grid_of, pixel_at, pixel}
 
 abbrev pub operator_of : ℕ → Result CombinationOperator DecodeError
 operator_of n =
@@ -13,7 +19,7 @@ operator_of n =
     else if n == 4 then Ok Replace
     else Err (Region InvalidCombinationOperator)
 
--- what becomes of the page's pixel p under the source's pixel s
+-- the page's new pixel, from its pixel p and the source's pixel s
 abbrev pub combined_pixel : CombinationOperator → Bool → Bool → Bool
 combined_pixel Or p s = p || s
 combined_pixel And p s = p && s
@@ -21,11 +27,11 @@ combined_pixel Xor p s = if p then not s else s
 combined_pixel Xnor p s = if p then s else not s
 combined_pixel Replace p s = s
 
-abbrev pub is_below : ℕ → ℤ → Bool  -- a whole number from 0 up to a size
+abbrev pub is_below : ℕ → ℤ → Bool  -- whether a whole number is at least 0 and below a size
 is_below size (pos n) = nat_lt n size
 is_below size (negsuc n) = false
 
--- The pixel at column i of row j, when the source begins at column x of row y: joined where the source has one.
+-- The pixel at column i of row j, if the source begins at column x of row y: combined where the source has a pixel.
 unfoldable pub drawn_pixel : CombinationOperator → Grid → Grid → ℤ → ℤ → ℕ → ℕ → Bool
 drawn_pixel operator page source x y i j =
     if is_below source.width (pos i -ℤ x) && is_below source.height (pos j -ℤ y)

@@ -1,7 +1,15 @@
 -- The text of each error, as its `Display` writes it (our own rule). Each definition takes the errors of one enum and
--- gives the bytes of their texts; `error_text` takes any of them.
+-- gives the bytes of their texts. `error_text` takes any error.
 use Rattle.std.specs.Prelude.{ℕ, List, codes}
-use Rattle.jbig2_base.specs.declared.error.{DecodeError.{DecodeError}, ParseError.{ParseError}, FormatError.{FormatError}, SegmentError.{SegmentError}, HuffmanError.{HuffmanError}, RegionError.{RegionError}, TemplateError.{TemplateError}, SymbolError.{SymbolError}, OverflowError.{OverflowError}}
+use Rattle.jbig2_base.specs.declared.error.DecodeError.{DecodeError}
+use Rattle.jbig2_base.specs.declared.error.ParseError.{ParseError}
+use Rattle.jbig2_base.specs.declared.error.FormatError.{FormatError}
+use Rattle.jbig2_base.specs.declared.error.SegmentError.{SegmentError}
+use Rattle.jbig2_base.specs.declared.error.HuffmanError.{HuffmanError}
+use Rattle.jbig2_base.specs.declared.error.RegionError.{RegionError}
+use Rattle.jbig2_base.specs.declared.error.TemplateError.{TemplateError}
+use Rattle.jbig2_base.specs.declared.error.SymbolError.{SymbolError}
+use Rattle.jbig2_base.specs.declared.error.OverflowError.{OverflowError}
 use Rattle.jbig2_base.specs.declared.error.DecodeError.TheVariants as errors
 use Rattle.jbig2_base.specs.declared.error.ParseError.TheVariants as parse
 use Rattle.jbig2_base.specs.declared.error.FormatError.TheVariants as format

@@ -1,8 +1,14 @@
--- Fields, read from the front (T.88, 7.1). Each gives its value and the bytes after it; one that the bytes do not
--- hold returns `Parse(UnexpectedEof)`. `Parses` and `Takes` say what a parser's call makes of its reader (our own
+-- Fields, read from the front (T.88, 7.1). Each gives its value and the bytes after it. A field that needs more bytes
+-- than there are gives `Parse(UnexpectedEof)`. `Parses` and `Takes` say how a parser's call changes its reader (our own
 -- rule).
-use Rattle.std.specs.{Prelude.{ℕ, nat_lt, List, length, take, drop, Result, Ok, Err, ℤ, if◌then◌else◌, ◌≡◌, ◌≤◌, OnOk, OnErr, pos, negsuc}, Int.{Width, byte_len, from_be_bytes, cast_signed}}
-use Rattle.jbig2_base.specs.{Answer.{◌>>=◌, some_or, Answers, Gives}, Bits.{Place, bits_left, bits_next, bits_on, IsAligned}, declared.error.{DecodeError.{DecodeError, TheVariants.{Parse}}, ParseError.TheVariants.{UnexpectedEof}}}
+use Rattle.std.specs.Prelude.{ℕ, nat_lt, List, length, take, drop, Result, Ok, Err, ℤ, if◌then◌else◌, ◌≡◌, ◌≤◌, OnOk}
+use Rattle.std.specs.Prelude.{OnErr, pos, negsuc}
+use Rattle.std.specs.Int.{Width, byte_len, from_be_bytes, cast_signed}
+use Rattle.jbig2_base.specs.Answer.{◌>>=◌, some_or, Answers, Gives}
+use Rattle.jbig2_base.specs.Bits.{Place, bits_left, bits_next, bits_on, IsAligned}
+use Rattle.jbig2_base.specs.declared.error.DecodeError.{DecodeError}
+use Rattle.jbig2_base.specs.declared.error.DecodeError.TheVariants.{Parse}
+use Rattle.jbig2_base.specs.declared.error.ParseError.TheVariants.{UnexpectedEof}
 
 abbrev pub end_of_bytes : DecodeError
 end_of_bytes = Parse UnexpectedEof
@@ -23,11 +29,11 @@ signed_at w bytes = number_at w bytes >>= λ n. Ok (cast_signed w n.0, n.1)
 abbrev pub bits_at : DecodeError → ℕ → Place → Result (ℕ × Place) DecodeError
 bits_at e count p = some_or e (bits_next count (bits_left p)) >>= λ n. Ok (n, bits_on count p)
 
-abbrev pub word_or : DecodeError → ℤ → Result ℤ DecodeError  -- a number in signed 32 bits, or the error
+abbrev pub word_or : DecodeError → ℤ → Result ℤ DecodeError  -- a number that fits signed 32 bits, or the error
 word_or e (pos n) = if nat_lt n 2147483648 then Ok (pos n) else Err e
 word_or e (negsuc n) = if nat_lt n 2147483648 then Ok (negsuc n) else Err e
 
--- The reader stands after what it took, at the beginning of a byte; a refusal leaves it where it was.
+-- The reader is after what it took, at the beginning of a byte. A call that refuses leaves it where it was.
 pub record Parses {X Y : Type 0} (old new : Place) (result : Result X DecodeError) (view : X → Y) (meant : Result (Y × List ℕ) DecodeError) : Type 0 where
   pub value : Answers (λ x. (view x, new.bytes)) result meant
   pub aligned : IsAligned new

@@ -1,16 +1,31 @@
--- Files (T.88, Annex D), in sequential organisation or in random access, all headers and then all data (D.2).
--- `file_at` takes a file's bytes and gives its header (D.4) and its segments. `SpellsFile` is the way back.
-use Rattle.std.specs.{Prelude.{◌≡◌, ℕ, suc, zero, Bool, true, false, ◌==◌, List, [], ◌∷◌, ◌++◌, length, Some, Result, Ok, Err, if◌then◌else◌, ◌/◌, ◌%◌, not, Option, None}, List.{flat_map}, Int.{w8, w32}, Str.{bytes_eq}}
-use Rattle.jbig2_base.specs.{Answer.{◌>>=◌, refuse_if}, Reading.{is_strict, is_salvaged}, Segment.{Header, SegmentView, header_at, segment_data_at}, Sequential.{by_number, is_end_of_file, sequential}, declared.{error.{DecodeError.{DecodeError, TheVariants.{Format}}, FormatError.TheVariants.{InvalidHeader, ReservedBits}}, file_header.{FileHeader.{FileHeader}, FileOrganization.{FileOrganization, TheVariants.{Sequential, RandomAccess}}}, reading.Reading.{Reading}}, Fields.{bytes_at, number_at}}
+-- Files (T.88, Annex D), in sequential organisation, or in random access organisation: all headers and then all data
+-- (D.2). `file_at` takes a file's bytes and gives its header (D.4) and its segments. `SpellsFile` is the way back.
+use Rattle.std.specs.Prelude.{◌≡◌, ℕ, suc, zero, Bool, true, false, ◌==◌, List, [], ◌∷◌, ◌++◌, length, Some, Result, Ok}
+use Rattle.std.specs.Prelude.{Err, if◌then◌else◌, ◌/◌, ◌%◌, not, Option, None}
+use Rattle.std.specs.List.{flat_map}
+use Rattle.std.specs.Int.{w8, w32}
+use Rattle.std.specs.Str.{bytes_eq}
+use Rattle.jbig2_base.specs.Answer.{◌>>=◌, refuse_if}
+use Rattle.jbig2_base.specs.Reading.{is_strict, is_salvaged}
+use Rattle.jbig2_base.specs.Segment.{Header, SegmentView, header_at, segment_data_at}
+use Rattle.jbig2_base.specs.Sequential.{by_number, is_end_of_file, sequential}
+use Rattle.jbig2_base.specs.declared.error.DecodeError.{DecodeError}
+use Rattle.jbig2_base.specs.declared.error.DecodeError.TheVariants.{Format}
+use Rattle.jbig2_base.specs.declared.error.FormatError.TheVariants.{InvalidHeader, ReservedBits}
+use Rattle.jbig2_base.specs.declared.file_header.FileHeader.{FileHeader}
+use Rattle.jbig2_base.specs.declared.file_header.FileOrganization.{FileOrganization}
+use Rattle.jbig2_base.specs.declared.file_header.FileOrganization.TheVariants.{Sequential, RandomAccess}
+use Rattle.jbig2_base.specs.declared.reading.Reading.{Reading}
+use Rattle.jbig2_base.specs.Fields.{bytes_at, number_at}
 
-abbrev pub identification : List ℕ  -- the bytes that each file begins with (D.4.1)
+abbrev pub identification : List ℕ  -- the first bytes of each file (D.4.1)
 identification = 151 ∷ 74 ∷ 66 ∷ 50 ∷ 13 ∷ 10 ∷ 26 ∷ 10 ∷ []
 
 -- the number of pages (D.4.3), unless it is unknown
 abbrev pub page_count_at : Bool → List ℕ → Result (Option ℕ × List ℕ) DecodeError
 page_count_at unknown bytes = if unknown then Ok (None, bytes) else (number_at w32 bytes >>= λ n. Ok (Some n.0, n.1))
 
--- the fields; the flags (D.4.2) have four reserved bits
+-- the fields of the file header; the flags (D.4.2) have four reserved bits
 unfoldable pub file_header_at : List ℕ → Result (FileHeader × List ℕ) DecodeError
 file_header_at bytes = do
   front ← bytes_at 8 bytes
@@ -28,26 +43,26 @@ file_header_at bytes = do
     pages.1,
   )
 
--- What follows a header: nothing after that of an end of file, else the headers in the bytes that are left. Salvage ends
--- the headers where one is refused, and takes the data from there.
+-- What follows a header: nothing after the header of an end of file, else the headers in the bytes that are left.
+-- Salvage ends the headers at the first one that is refused, and takes the data from there.
 abbrev pub header_goes_on : Reading → List ℕ → Result (Header × List ℕ) DecodeError → (List ℕ → Result (List Header × List ℕ) DecodeError) → Result (List Header × List ℕ) DecodeError
 header_goes_on reading bytes (Ok h) others =
     if is_end_of_file h.0.segment_type then Ok (h.0 ∷ [], h.1) else (others h.1 >>= λ hs. Ok (h.0 ∷ hs.0, hs.1))
 header_goes_on reading bytes (Err e) others = if is_salvaged reading e then Ok ([], bytes) else Err e
 
--- the headers in the bytes, at most this many, up to that of an end of file, and the bytes after them; each has a byte
+-- at most this many headers, up to that of an end of file, and the bytes after them; each has at least one byte
 unfoldable pub headers_in : ℕ → Reading → List ℕ → Result (List Header × List ℕ) DecodeError
 headers_in zero reading bytes = Ok ([], bytes)
 headers_in (suc most) reading bytes =
     if length bytes == 0 then Ok ([], bytes)
     else header_goes_on reading bytes (header_at (is_strict reading) bytes) (headers_in most reading)
 
--- a segment before the others; salvage drops one whose data isn't there, and those after it, for which no bytes are left
+-- a segment, then the others; salvage drops a segment whose data is missing, and all after it, as no bytes are left
 abbrev pub gathered_before : Reading → Result (SegmentView × List ℕ) DecodeError → (List ℕ → Result (List SegmentView) DecodeError) → Result (List SegmentView) DecodeError
 gathered_before reading (Ok p) others = others p.1 >>= λ ps. Ok (p.0 ∷ ps)
 gathered_before reading (Err e) others = if is_salvaged reading e then Ok [] else Err e
 
--- the segments with these headers, whose data stands one after the other
+-- the segments with these headers; their data comes one after the other
 abbrev pub gathered : Reading → List Header → List ℕ → Result (List SegmentView) DecodeError
 gathered reading [] bytes = Ok []
 gathered reading (h ∷ hs) bytes = gathered_before reading (segment_data_at h bytes) (gathered reading hs)
@@ -62,17 +77,17 @@ file_at reading bytes = do
   ps ← segments_by header.0.organization reading header.1
   Ok (header.0, by_number ps)
 
--- The way back, from segments to the bytes of a file: a segment, and the bytes that spell its header.
+-- The way back, from segments to the bytes of a file: a segment, and the bytes of its header.
 pub record Spelled : Type 0 where
   pub header_bytes : List ℕ
   pub segment : SegmentView
 
--- The mode reads these bytes as this header, all of them, and the header states the data's length.
+-- The mode reads exactly these bytes as this header, and the header states the length of the data.
 pub record IsSpelled (strict : Bool) (s : Spelled) : Type 0 where
   pub accepted : header_at strict s.header_bytes ≡ Ok (s.segment.header, [])
   pub known : s.segment.header.data_length ≡ Some (length s.segment.bytes)
 
--- Each segment is spelled, and the last one is the only end of file.
+-- Each segment is written like this, and the last one is the only end of file.
 abbrev pub AreSpelled : Bool → List Spelled → Type 0
 AreSpelled strict [] = ⊥
 AreSpelled strict (s ∷ []) = IsSpelled strict s × (is_end_of_file s.segment.header.segment_type ≡ true)
@@ -84,7 +99,7 @@ abbrev pub spelling : FileOrganization → List Spelled → List ℕ
 spelling Sequential ss = flat_map (λ s. s.header_bytes ++ s.segment.bytes) ss
 spelling RandomAccess ss = flat_map (λ s. s.header_bytes) ss ++ flat_map (λ s. s.segment.bytes) ss
 
--- The bytes are a file header and, in its organisation, these segments, which the mode accepts.
+-- The bytes are a file header and then these segments, in its organisation. The mode accepts them.
 abbrev pub SpellsFile : Reading → List ℕ → FileHeader → List Spelled → Type 0
 SpellsFile reading bytes header ss =
     (file_header_at bytes ≡ Ok (header, spelling header.organization ss)) × AreSpelled (is_strict reading) ss

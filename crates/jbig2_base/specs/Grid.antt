@@ -1,10 +1,16 @@
 -- Bitmaps (T.88, 6): a width, a height and a pixel at each pair of whole numbers, white outside. `grid_of` makes one
--- of a function of column and row, and `pixel` takes it apart again. Parts are cut out of them for symbols (6.5.9),
--- patterns (6.7.5) and refinements (7.4.7.4); some sizes are refused (our own rule).
-use Rattle.std.specs.{Prelude.{ℕ, ◌+◌, ◌*◌, ◌/◌, ◌%◌, Bool, true, false, not, ◌&&◌, if◌then◌else◌, nat_lt, List, map, slice_index_or, ℤ, pos, ◌||◌, Result, Ok}, List.{range_with_len}}
-use Rattle.jbig2_base.specs.{Answer.{◌>>=◌, refuse_if}, declared.{bitmap.part.Area.{Area}, error.{DecodeError.{DecodeError, TheVariants.{Overflow}}, OverflowError.TheVariants.{BitmapDimension}}}}
+-- from a function of column and row, and `pixel` reads one pixel of it. Parts are cut out of bitmaps for symbols
+-- (6.5.9), patterns (6.7.5) and refinements (7.4.7.4). Some sizes are refused (our own rule).
+use Rattle.std.specs.Prelude.{ℕ, ◌+◌, ◌*◌, ◌/◌, ◌%◌, Bool, true, false, not, ◌&&◌, if◌then◌else◌, nat_lt, List, map}
+use Rattle.std.specs.Prelude.{slice_index_or, ℤ, pos, ◌||◌, Result, Ok}
+use Rattle.std.specs.List.{range_with_len}
+use Rattle.jbig2_base.specs.Answer.{◌>>=◌, refuse_if}
+use Rattle.jbig2_base.specs.declared.bitmap.part.Area.{Area}
+use Rattle.jbig2_base.specs.declared.error.DecodeError.{DecodeError}
+use Rattle.jbig2_base.specs.declared.error.DecodeError.TheVariants.{Overflow}
+use Rattle.jbig2_base.specs.declared.error.OverflowError.TheVariants.{BitmapDimension}
 
-pub record Grid : Type 0 where  -- the pixels stand row by row from the top, each row from the left; `true` is black
+pub record Grid : Type 0 where  -- the pixels are row by row from the top, each row from the left; `true` is black
   pub width : ℕ
   pub height : ℕ
   pub pixels : List Bool
@@ -36,17 +42,17 @@ abbrev pub differ : Bool → Bool → Bool
 differ true b = not b
 differ false b = b
 
-abbrev pub part_of : Grid → Area → Grid  -- a part may reach past the sides, and is white there
+abbrev pub part_of : Grid → Area → Grid  -- a part may go past the sides, and is white there
 part_of g area = grid_of area.width area.height (λ x y. pixel_at g (area.left + x) (area.top + y))
 
-abbrev pub part_or_overflow : Grid → Area → Result Grid DecodeError  -- neither side may pass 65535 (our own rule)
+abbrev pub part_or_overflow : Grid → Area → Result Grid DecodeError  -- neither side may be above 65535 (our own rule)
 part_or_overflow g area =
     refuse_if (nat_lt 65535 area.width || nat_lt 65535 area.height) (Overflow BitmapDimension)
     >>= λ _. Ok (part_of g area)
 
-abbrev pub blank_or_overflow : ℕ → ℕ → Bool → Result Grid DecodeError  -- neither side may pass 65535
+abbrev pub blank_or_overflow : ℕ → ℕ → Bool → Result Grid DecodeError  -- neither side may be above 65535
 blank_or_overflow w h black = refuse_if (nat_lt 65535 w || nat_lt 65535 h) (Overflow BitmapDimension) >>= λ _. Ok (blank w h black)
 
--- one side may be longer where the other is shorter; all white
+-- all white; one side may be above 65535 if the area is at most 65535 * 65535
 abbrev pub wide_or_overflow : ℕ → ℕ → Result Grid DecodeError
 wide_or_overflow w h = refuse_if (nat_lt (65535 * 65535) (w * h)) (Overflow BitmapDimension) >>= λ _. Ok (blank w h false)

@@ -1,8 +1,23 @@
--- Page information (T.88, 7.4.8), and what a page begins as. `information_at` takes bytes and gives the fields;
--- `initial_page_of` takes a page's segments and gives its number, size and colour, by the first page information
--- among them, and by its stripes (7.4.10) where that leaves the height open.
-use Rattle.std.specs.{Prelude.{ℕ, ◌+◌, ◌/◌, ◌%◌, ◌==◌, max, nat_lt, Bool, true, false, not, ◌&&◌, ◌||◌, List, [], ◌∷◌, length, take, Result, Ok, Err, if◌then◌else◌}, Int.{w8, w16, w32, from_be_bytes}}
-use Rattle.jbig2_base.specs.{Answer.{◌>>=◌, refuse_if}, Bits.{nonzero}, Fields.{number_at}, Segment.{SegmentView}, declared.{bitmap.operator.CombinationOperator.{CombinationOperator, TheVariants.{Or, And, Xor, Xnor}}, error.{DecodeError.{DecodeError, TheVariants.{Format, Overflow}}, FormatError.TheVariants.{MissingPageInfo, UnknownPageHeight, EmptyPage}, OverflowError.TheVariants.{BitmapDimension}}, page_info.{PageFlags.{PageFlags}, PageInformation.{PageInformation}, InitialPage.{InitialPage}}, segment.SegmentType.{SegmentType}}}
+-- Page information (T.88, 7.4.8), and how a page begins. `information_at` takes bytes and gives the fields.
+-- `initial_page_of` takes a page's segments and gives its number, size and colour. They come from the first page
+-- information among the segments. If that leaves the height open, the height comes from the stripes (7.4.10).
+use Rattle.std.specs.Prelude.{ℕ, ◌+◌, ◌/◌, ◌%◌, ◌==◌, max, nat_lt, Bool, true, false, not, ◌&&◌, ◌||◌, List, [], ◌∷◌}
+use Rattle.std.specs.Prelude.{length, take, Result, Ok, Err, if◌then◌else◌}
+use Rattle.std.specs.Int.{w8, w16, w32, from_be_bytes}
+use Rattle.jbig2_base.specs.Answer.{◌>>=◌, refuse_if}
+use Rattle.jbig2_base.specs.Bits.{nonzero}
+use Rattle.jbig2_base.specs.Fields.{number_at}
+use Rattle.jbig2_base.specs.Segment.{SegmentView}
+use Rattle.jbig2_base.specs.declared.bitmap.operator.CombinationOperator.{CombinationOperator}
+use Rattle.jbig2_base.specs.declared.bitmap.operator.CombinationOperator.TheVariants.{Or, And, Xor, Xnor}
+use Rattle.jbig2_base.specs.declared.error.DecodeError.{DecodeError}
+use Rattle.jbig2_base.specs.declared.error.DecodeError.TheVariants.{Format, Overflow}
+use Rattle.jbig2_base.specs.declared.error.FormatError.TheVariants.{MissingPageInfo, UnknownPageHeight, EmptyPage}
+use Rattle.jbig2_base.specs.declared.error.OverflowError.TheVariants.{BitmapDimension}
+use Rattle.jbig2_base.specs.declared.page_info.PageFlags.{PageFlags}
+use Rattle.jbig2_base.specs.declared.page_info.PageInformation.{PageInformation}
+use Rattle.jbig2_base.specs.declared.page_info.InitialPage.{InitialPage}
+use Rattle.jbig2_base.specs.declared.segment.SegmentType.{SegmentType}
 use Rattle.jbig2_base.specs.declared.segment.SegmentType.TheVariants as types
 
 abbrev pub default_operator_of : ℕ → CombinationOperator  -- the default operator by its two bits (7.4.8.5)
@@ -22,7 +37,7 @@ flags_of n = record {
   might_contain_coloured = is_set n 128;
 }
 
--- the fields; a resolution of 0 is unknown (7.4.8.3), the last one is the striping (7.4.8.6)
+-- the fields; a resolution of 0 is unknown (7.4.8.3); the last field is the striping (7.4.8.6)
 unfoldable pub information_at : List ℕ → Result (PageInformation × List ℕ) DecodeError
 information_at bytes = do
   width ← number_at w32 bytes
@@ -55,7 +70,7 @@ abbrev pub first_information : List SegmentView → Result SegmentView DecodeErr
 first_information [] = Err (Format MissingPageInfo)
 first_information (p ∷ ps) = if is_page_information p.header.segment_type then Ok p else first_information ps
 
--- how high a page is that ends with this stripe (7.4.10): its last row's number and one, 0 for what is no such stripe
+-- the height of a page that ends with this stripe (7.4.10): its last row's number plus one; 0 if it is no such stripe
 abbrev pub stripe_height : SegmentView → ℕ
 stripe_height p =
     let row = from_be_bytes w32 (take 4 p.bytes) in
@@ -65,20 +80,20 @@ abbrev pub stripes_height : List SegmentView → ℕ
 stripes_height [] = 0
 stripes_height (p ∷ ps) = max (stripe_height p) (stripes_height ps)
 
--- A height of all ones is unknown; then it is what else tells it (7.4.8.2), which is 0 where nothing does.
+-- A height of all ones is unknown (7.4.8.2). Then it is `told_height`, which is 0 if nothing states it.
 abbrev pub height_of : ℕ → ℕ → Result ℕ DecodeError
 height_of stated told_height =
     if stated == 4294967295 then (refuse_if (told_height == 0) (Format UnknownPageHeight) >>= λ known. Ok told_height)
     else Ok stated
 
--- a page of this size has pixels, and no more than a bitmap may have
+-- a page of this size has pixels, and no side is longer than a bitmap's may be
 abbrev pub initial_page_with : ℕ → PageInformation → ℕ → Result InitialPage DecodeError
 initial_page_with number info height = do
   some ← refuse_if (info.width == 0 || height == 0) (Format EmptyPage)
   fits ← refuse_if (nat_lt 65535 info.width || nat_lt 65535 height) (Overflow BitmapDimension)
   Ok (record { number = number; width = info.width; height = height; default_pixel = info.flags.default_pixel })
 
--- what a page with these segments begins as, which is as high as this where page information leaves that open
+-- how a page with these segments begins; `told_height` is its height if page information leaves it open
 abbrev pub initial_page_by : ℕ → List SegmentView → Result InitialPage DecodeError
 initial_page_by told_height ps = do
   first ← first_information ps
@@ -86,6 +101,6 @@ initial_page_by told_height ps = do
   height ← height_of info.0.height told_height
   initial_page_with first.header.page_association info.0 height
 
--- the same where the stripes tell an open height
+-- the same, where the stripes state an open height
 unfoldable pub initial_page_of : List SegmentView → Result InitialPage DecodeError
 initial_page_of ps = initial_page_by (stripes_height ps) ps

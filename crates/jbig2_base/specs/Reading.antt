@@ -1,7 +1,10 @@
--- How strictly bytes are read (our own rule). Strict reading refuses each fault; lenient reading passes over what a
--- decoder can do without; salvage goes on as lenient reading does, and leaves out whatever that refuses.
+-- How strictly bytes are read (our own rule). Strict reading refuses each fault. Lenient reading accepts faults that do
+-- not stop a decoder. Salvage goes on as lenient reading does, and leaves out whatever lenient reading refuses.
 use Rattle.std.specs.Prelude.{Bool, true, false, Option, Some, None, Result, Err, if◌then◌else◌}
-use Rattle.jbig2_base.specs.declared.{error.DecodeError.{DecodeError, TheVariants.{OutOfMemory}}, reading.Reading.{Reading, TheVariants.{Strict, Lenient, Salvage}}}
+use Rattle.jbig2_base.specs.declared.error.DecodeError.{DecodeError}
+use Rattle.jbig2_base.specs.declared.error.DecodeError.TheVariants.{OutOfMemory}
+use Rattle.jbig2_base.specs.declared.reading.Reading.{Reading}
+use Rattle.jbig2_base.specs.declared.reading.Reading.TheVariants.{Strict, Lenient, Salvage}
 
 abbrev pub reading_of : Bool → Reading
 reading_of strict = if strict then Strict else Lenient
@@ -10,13 +13,13 @@ abbrev pub is_strict : Reading → Bool  -- each fault is an error
 is_strict Strict = true
 is_strict _ = false
 
--- This error leaves out what it refuses: in salvage alone, and never for want of memory.
+-- whether reading goes on without what this error refuses: only in salvage, and never when it is out of memory
 abbrev pub is_salvaged : Reading → DecodeError → Bool
 is_salvaged Salvage OutOfMemory = false
 is_salvaged Salvage e = true
 is_salvaged _ e = false
 
--- What was refused by lenient reading, and so is left out by salvage.
+-- in salvage the error that lenient reading returns, and for which something is left out
 abbrev pub fault_of : {A : Type 0} → Reading → Result A DecodeError → Option DecodeError
 fault_of Salvage (Err e) = Some e
 fault_of reading r = None

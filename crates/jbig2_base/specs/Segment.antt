@@ -1,7 +1,19 @@
--- Segments: their headers and their data (T.88, 7.2). `segment_at` takes the bytes at the beginning of a segment and
--- gives the segment and the bytes after it, or the first fault.
-use Rattle.std.specs.{Prelude.{ℕ, suc, zero, ◌+◌, ◌*◌, ◌/◌, ◌%◌, ◌==◌, nat_le, nat_lt, Bool, true, false, not, ◌&&◌, ◌||◌, List, [], ◌∷◌, take, drop, length, slice_index, Option, Some, None, Result, Ok, Err, if◌then◌else◌}, List.{list_any}, Int.{Width, w8, w16, w32, byte_len, from_be_bytes}}
-use Rattle.jbig2_base.specs.{Answer.{◌>>=◌, refuse_if}, Fields.{bytes_at, number_at}, Search.{place_from}, declared.{error.{DecodeError.{DecodeError, TheVariants.{Segment}}, SegmentError.TheVariants.{UnknownType, InvalidReferredCount, InvalidReference, InvalidUnknownLength, MissingEndMarker}}, segment.SegmentType.{SegmentType}}}
+-- Segments: their headers and their data (T.88, 7.2). `segment_at` takes the bytes from the beginning of a segment on.
+-- It gives the segment and the bytes after it, or the first fault.
+use Rattle.std.specs.Prelude.{ℕ, suc, zero, ◌+◌, ◌*◌, ◌/◌, ◌%◌, ◌==◌, nat_le, nat_lt, Bool, true, false, not, ◌&&◌}
+use Rattle.std.specs.Prelude.{◌||◌, List, [], ◌∷◌, take, drop, length, slice_index, Option, Some, None, Result, Ok, Err}
+use Rattle.std.specs.Prelude.{if◌then◌else◌}
+use Rattle.std.specs.List.{list_any}
+use Rattle.std.specs.Int.{Width, w8, w16, w32, byte_len, from_be_bytes}
+use Rattle.jbig2_base.specs.Answer.{◌>>=◌, refuse_if}
+use Rattle.jbig2_base.specs.Fields.{bytes_at, number_at}
+use Rattle.jbig2_base.specs.Search.{place_from}
+use Rattle.jbig2_base.specs.declared.error.DecodeError.{DecodeError}
+use Rattle.jbig2_base.specs.declared.error.DecodeError.TheVariants.{Segment}
+use Rattle.jbig2_base.specs.declared.error.SegmentError.TheVariants.{UnknownType, InvalidReferredCount}
+use Rattle.jbig2_base.specs.declared.error.SegmentError.TheVariants.{InvalidReference, InvalidUnknownLength}
+use Rattle.jbig2_base.specs.declared.error.SegmentError.TheVariants.{MissingEndMarker}
+use Rattle.jbig2_base.specs.declared.segment.SegmentType.{SegmentType}
 use Rattle.jbig2_base.specs.declared.segment.SegmentType.TheVariants as types
 
 pub record Header : Type 0 where  -- a segment's header (7.2.2 to 7.2.7)
@@ -16,7 +28,7 @@ pub record SegmentView : Type 0 where
   pub header : Header
   pub bytes : List ℕ
 
-unfoldable pub type_of : ℕ → SegmentType  -- the types of 7.3 by their numbers
+unfoldable pub type_of : ℕ → SegmentType  -- the segment types of 7.3, by their numbers
 type_of n =
     if n == 0 then types.SymbolDictionary
     else if n == 4 then types.IntermediateTextRegion
@@ -50,21 +62,22 @@ abbrev pub is_immediate_generic : SegmentType → Bool
 is_immediate_generic types.ImmediateGenericRegion = true
 is_immediate_generic _ = false
 
--- A long count (7.2.4): 29 bits, the first five given, then retention bits for the referred segments and this one.
+-- A long count (7.2.4) has 29 bits; `high` has the first five. Then retention bits follow for each referred segment and
+-- for this one.
 unfoldable pub long_count_at : ℕ → List ℕ → Result (ℕ × List ℕ) DecodeError
 long_count_at high bytes = do
   low ← bytes_at 3 bytes
   retention ← bytes_at ((from_be_bytes w32 (high ∷ low.0) + 8) / 8) low.1
   Ok (from_be_bytes w32 (high ∷ low.0), retention.1)
 
--- The count of referred segments (7.2.4): three bits, where 7 says that a long count follows.
+-- The count of referred segments (7.2.4) has three bits; 7 means that a long count follows.
 unfoldable pub count_at : List ℕ → Result (ℕ × List ℕ) DecodeError
 count_at bytes = do
   first ← number_at w8 bytes
   coded ← refuse_if (first.0 / 32 == 5 || first.0 / 32 == 6) (Segment InvalidReferredCount)
   if first.0 / 32 == 7 then long_count_at (first.0 % 32) first.1 else Ok (first.0 / 32, first.1)
 
--- A referred number has one, two or four bytes, by the segment's own number (7.2.5).
+-- A referred number has one, two or four bytes; this depends on the segment's own number (7.2.5).
 abbrev pub number_width : ℕ → Width
 number_width own = if nat_le own 256 then w8 else if nat_le own 65536 then w16 else w32
 
@@ -72,7 +85,7 @@ abbrev pub numbers_in : Width → ℕ → List ℕ → List ℕ  -- this many nu
 numbers_in w zero bytes = []
 numbers_in w (suc count) bytes = from_be_bytes w (take (byte_len w) bytes) ∷ numbers_in w count (drop (byte_len w) bytes)
 
--- The referred numbers (7.2.5): all are there, and each is smaller than the segment's own.
+-- The referred numbers (7.2.5): all must be there, and each must be smaller than the segment's own.
 unfoldable pub referred_at : ℕ → List ℕ → Result (List ℕ × List ℕ) DecodeError
 referred_at own bytes = do
   count ← count_at bytes
@@ -81,7 +94,7 @@ referred_at own bytes = do
   earlier ← refuse_if (list_any (λ n. nat_le own n) numbers) (Segment InvalidReference)
   Ok (numbers, coded.1)
 
--- The data length (7.2.7): all ones is an unknown length, in strict mode for immediate generic regions alone.
+-- The data length (7.2.7): all ones mean an unknown length. Strict mode allows it only for immediate generic regions.
 abbrev pub length_of : Bool → SegmentType → ℕ → Result (Option ℕ) DecodeError
 length_of strict kind n =
     if n == 4294967295
@@ -110,11 +123,11 @@ header_at strict bytes = do
     n.1,
   )
 
-abbrev pub adaptive_bytes : ℕ → ℕ  -- the adaptive pixels' bytes of a generic region, by its flags (7.4.6.3)
+abbrev pub adaptive_bytes : ℕ → ℕ  -- how many bytes a generic region's adaptive pixels have, by its flags (7.4.6.3)
 adaptive_bytes flags =
     if flags % 2 == 1 then 0 else if flags / 2 % 4 == 0 then (if flags / 16 % 2 == 1 then 24 else 8) else 2
 
--- the end marker stands at the front, by the region's flags, and a row count of four bytes after it
+-- whether the bytes begin with the end marker that the region's flags ask for, and a row count of four bytes after it
 abbrev pub is_end_marker : ℕ → List ℕ → Bool
 is_end_marker flags bytes =
     nat_le 6 (length bytes) && (if flags % 2 == 1 then slice_index bytes 0 == 0 && slice_index bytes 1 == 0
@@ -125,7 +138,7 @@ first_end_marker flags bytes =
     let place = place_from (λ k. is_end_marker flags (drop k bytes)) 0 (length bytes) in
     if nat_lt place (length bytes) then Ok place else Err (Segment MissingEndMarker)
 
--- How long data of unknown length is (7.2.7): fields (7.4.6), coded bytes up to the first end marker, and row count.
+-- The length of data of unknown length (7.2.7): fields (7.4.6), coded bytes, the first end marker, and the row count.
 unfoldable pub unknown_length_of : List ℕ → Result ℕ DecodeError
 unknown_length_of bytes = do
   information ← bytes_at 17 bytes

@@ -1,14 +1,22 @@
--- Segments one after the other, header and data by turns: the sequential organisation of a file (T.88, D.1), and the
--- embedded one (D.3), as PDF keeps pages and globals. Pages take them sorted.
-use Rattle.std.specs.Prelude.{ℕ, suc, zero, nat_lt, Bool, true, false, ◌==◌, List, [], ◌∷◌, length, Result, Ok, Err, if◌then◌else◌}
-use Rattle.jbig2_base.specs.{Answer.{◌>>=◌}, Reading.{is_strict, is_salvaged}, Segment.{SegmentView, segment_at}, declared.{error.DecodeError.{DecodeError, TheVariants.{Parse}}, reading.Reading.{Reading, TheVariants.{Lenient}}, segment.SegmentType.{SegmentType}}}
+-- Segments one after the other, each header with its data after it: the sequential organisation of a file (T.88, D.1),
+-- and the embedded one (D.3), in which PDF keeps pages and globals. Pages take them sorted.
+use Rattle.std.specs.Prelude.{ℕ, suc, zero, nat_lt, Bool, true, false, ◌==◌, List, [], ◌∷◌, length, Result, Ok, Err}
+use Rattle.std.specs.Prelude.{if◌then◌else◌}
+use Rattle.jbig2_base.specs.Answer.{◌>>=◌}
+use Rattle.jbig2_base.specs.Reading.{is_strict, is_salvaged}
+use Rattle.jbig2_base.specs.Segment.{SegmentView, segment_at}
+use Rattle.jbig2_base.specs.declared.error.DecodeError.{DecodeError}
+use Rattle.jbig2_base.specs.declared.error.DecodeError.TheVariants.{Parse}
+use Rattle.jbig2_base.specs.declared.reading.Reading.{Reading}
+use Rattle.jbig2_base.specs.declared.reading.Reading.TheVariants.{Lenient}
+use Rattle.jbig2_base.specs.declared.segment.SegmentType.{SegmentType}
 use Rattle.jbig2_base.specs.declared.segment.SegmentType.TheVariants as types
 
 abbrev pub is_end_of_file : SegmentType → Bool
 is_end_of_file types.EndOfFile = true
 is_end_of_file _ = false
 
--- Lenient reading drops a segment that the bytes cut off, and ends there. Salvage ends at any segment that is refused.
+-- Lenient reading drops a segment that is cut off, and ends there. Salvage ends at any segment that is refused.
 abbrev pub is_cut_off : Reading → DecodeError → Bool
 is_cut_off Lenient (Parse e) = true
 is_cut_off reading e = is_salvaged reading e
@@ -19,7 +27,7 @@ goes_on reading (Ok x) others =
     if is_end_of_file x.0.header.segment_type then Ok (x.0 ∷ []) else (others x.1 >>= λ ps. Ok (x.0 ∷ ps))
 goes_on reading (Err e) others = if is_cut_off reading e then Ok [] else Err e
 
--- The segments in the bytes, at most this many; each has at least one byte, so the number of bytes is enough.
+-- At most this many segments in the bytes. Each has at least one byte, so the number of bytes is enough.
 unfoldable pub segments_in : ℕ → Reading → List ℕ → Result (List SegmentView) DecodeError
 segments_in zero reading bytes = Ok []
 segments_in (suc most) reading bytes =
@@ -28,7 +36,7 @@ segments_in (suc most) reading bytes =
 abbrev pub sequential : Reading → List ℕ → Result (List SegmentView) DecodeError
 sequential reading bytes = segments_in (length bytes) reading bytes
 
--- x before the first element whose key is not less
+-- x is put before the first element whose key is not less
 abbrev pub insert_by : {X : Type 0} → (X → ℕ) → X → List X → List X
 insert_by key x [] = x ∷ []
 insert_by key x (y ∷ ys) = if nat_lt (key y) (key x) then y ∷ insert_by key x ys else x ∷ y ∷ ys
@@ -37,7 +45,7 @@ abbrev pub sorted_by : {X : Type 0} → (X → ℕ) → List X → List X
 sorted_by key [] = []
 sorted_by key (x ∷ xs) = insert_by key x (sorted_by key xs)
 
--- segments in order of their numbers, equal numbers in the order in which they stand (our own rule)
+-- segments in the order of their numbers; segments of equal number keep their order (our own rule)
 abbrev pub by_number : List SegmentView → List SegmentView
 by_number segments = sorted_by (λ p. p.header.segment_number) segments
 

@@ -1,4 +1,4 @@
--- A grid that is known by its pixels (our own rule): its list has one for each column of each row.
+-- A grid whose list has exactly one pixel for each column of each row (our own rule).
 use Rattle.std.specs.Prelude.{◌≡◌}
 use Rattle.jbig2_base.specs.Grid.{Grid, grid_of, pixel_at}
 

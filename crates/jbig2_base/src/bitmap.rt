@@ -1,4 +1,4 @@
-//! Packed bitmaps (T.88, 6): rows of pixels, reached by a few calls that read and write.
+//! Packed bitmaps (T.88, 6): rows of pixels, which a few calls read and write.
 ghost use Rattle.std.specs.Prelude.{◌≡◌, ℕ, ◌+◌, ◌-◌, ◌*◌, ◌/◌, ◌^◌, ◌<◌, ◌≤◌, OnErr, Ok, false, length, slice_index};
 ghost use Rattle.jbig2_base.specs.Answer.{Gives};
 ghost use Rattle.jbig2_base.specs.Counts.{words_copied};
@@ -58,8 +58,8 @@ impl<A: Allocator> Bitmap<A> {
         Bitmap::new_with(alloc, width, height, false)
     }
 
-    /// A white bitmap of any sides whose product is at most 65535 * 65535; above it is refused
-    /// (`OverflowError::BitmapDimension`).
+    /// A white bitmap. Its sides may have any length if their product is at most 65535 * 65535. A
+    /// larger product is refused (`OverflowError::BitmapDimension`).
     #[tactic(auto, using(crate::proofs::DataCauses::wide_cause))]
     pub fn new_wide(alloc: A, width: u32, height: u32) -> Result<Bitmap<A>>
         ensures value { Gives (λ b. b) result (wide_or_overflow width height) }
@@ -73,7 +73,7 @@ impl<A: Allocator> Bitmap<A> {
         Ok(Bitmap { rows })
     }
 
-    /// A bitmap of pixels that are all `default_pixel` (`true` is black). A side above 65535 is
+    /// A bitmap whose pixels are all `default_pixel` (`true` is black). A side above 65535 is
     /// refused (`OverflowError::BitmapDimension`).
     pub fn new_with(alloc: A, width: u32, height: u32, default_pixel: bool) -> Result<Bitmap<A>>
         ensures { Gives (λ b. b) result (blank_or_overflow width height default_pixel) }
@@ -83,7 +83,7 @@ impl<A: Allocator> Bitmap<A> {
         Ok(bitmap)
     }
 
-    /// The same bitmap in memory of its own. Each of its words counts as loaded and written.
+    /// A copy of this bitmap in new memory. Each of its words counts as loaded and written.
     pub fn duplicate<B: Allocator, L: Ledger>(
         &self,
         alloc: B,
@@ -97,8 +97,8 @@ impl<A: Allocator> Bitmap<A> {
         })
     }
 
-    /// Gives this bitmap another size and makes all pixels `default_pixel` (`true` is black). A
-    /// side above 65535 is refused (`OverflowError::BitmapDimension`); a refusal changes nothing.
+    /// Changes the size and makes all pixels `default_pixel` (`true` is black). A side above 65535
+    /// is refused (`OverflowError::BitmapDimension`). A refusal changes nothing.
     #[tactic(auto, using(crate::proofs::DataCauses::blank_cause))]
     pub fn reinitialize(&mut self, width: u32, height: u32, default_pixel: bool) -> Result<()>
         ensures causes { HasCauseOrNoMemory result (BreaksSides width height) }
@@ -139,7 +139,7 @@ impl<A: Allocator> Bitmap<A> {
         self.rows.get_pixel(x, y, steps)
     }
 
-    /// Makes the pixel at column `x` of row `y` black if `black` says so, and never white; outside
+    /// Makes the pixel at column `x` of row `y` black if `black` is true, and never white. Outside
     /// nothing changes.
     #[inline(always)]
     pub fn set_pixel<L: Ledger>(&mut self, x: u32, y: u32, black: bool, steps: &mut Steps<L>)
@@ -149,8 +149,8 @@ impl<A: Allocator> Bitmap<A> {
         self.rows.set_pixel(x, y, black, steps)
     }
 
-    /// `count` neighbouring pixels of row `y` from column `x` on, 1 to 64 of them: the first in the
-    /// highest of the lowest `count` bits, 0 outside.
+    /// `count` neighbouring pixels of row `y` from column `x` on, 1 to 64 of them. The first is in
+    /// the highest of the lowest `count` bits. Pixels outside are 0.
     #[inline(always)]
     pub fn load_pixels<L: Ledger>(&self, x: u32, y: u32, count: u32, steps: &mut Steps<L>) -> u64
         requires some { 1 ≤ count }
@@ -163,8 +163,8 @@ impl<A: Allocator> Bitmap<A> {
         self.rows.load_pixels(x, y, count, steps)
     }
 
-    /// The pixels of row `y`, 64 in a word, the leftmost in its highest bit, and 0 past the width. The words are lent
-    /// to be read one by one, each by a call that counts it.
+    /// The pixels of row `y`, 64 in a word, the leftmost in its highest bit, and 0 past the width. The words are
+    /// borrowed for reading one by one, each by a call that counts it.
     #[inline(always)]
     pub fn row_words(&self, y: u32) -> Words<'_>
         requires { y < self.now.height }
@@ -176,8 +176,8 @@ impl<A: Allocator> Bitmap<A> {
     }
 
     /// Sets `count` neighbouring pixels of row `y` from column `x` on to the lowest `count` bits of
-    /// `bits`, the first to the highest of them. The pixels lie inside, and between two columns
-    /// that 64 divides.
+    /// `bits`, high bit first. The pixels lie inside the bitmap, and in one block of 64 columns
+    /// that begins at a multiple of 64.
     #[inline(always)]
     pub fn store_pixels<L: Ledger>(
         &mut self,

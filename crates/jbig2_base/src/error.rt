@@ -1,10 +1,11 @@
+//! The errors of the decoder: the rule that the bytes break, or that memory ran out.
 ghost use Rattle.std.specs.Prelude.{◌≡◌};
 ghost use Rattle.jbig2_base.specs.declared.error.DecodeError.TheVariants.{Parse, Format, Segment, Huffman, Region, Template, Symbol, Overflow, OutOfMemory};
 
 use std::alloc::{AllocError, AllocFailed};
 use thiserror::Error;
 
-/// What a call of this decoder returns: a value, or the first rule that the bytes break.
+/// The result of a call of this decoder: a value, or the first rule that the bytes break.
 pub type Result<T> = std::result::Result<T, DecodeError>;
 
 /// Why a page could not be decoded. The inner enums say which rule the bytes break.
@@ -12,34 +13,34 @@ pub type Result<T> = std::result::Result<T, DecodeError>;
 pub enum DecodeError {
     /// The bytes end too early.
     Parse(ParseError),
-    /// The file or the page as a whole.
+    /// A fault in the file or the page as a whole.
     Format(FormatError),
-    /// A segment's header or its references.
+    /// A fault in a segment's header or its references.
     Segment(SegmentError),
-    /// Prefix-coded data.
+    /// A fault in prefix-coded data.
     Huffman(HuffmanError),
-    /// A region's fields or data.
+    /// A fault in a region's fields or data.
     Region(RegionError),
-    /// A template's adaptive pixels.
+    /// A fault in a template's adaptive pixels.
     Template(TemplateError),
-    /// Symbol dictionaries and text.
+    /// A fault in symbol dictionaries or text.
     Symbol(SymbolError),
     /// A number out of range.
     Overflow(OverflowError),
     /// A feature that this decoder does not have.
     Unsupported,
-    /// A request for memory was refused. No mode swallows it.
+    /// A request for memory was refused. Every mode returns this error.
     OutOfMemory,
 }
 
-/// Why bytes could not be read.
+/// The faults of a read of bytes.
 #[derive(Clone, Copy, Debug, PartialEq, Eq, Error)]
 pub enum ParseError {
     /// The bytes end before the field does.
     UnexpectedEof,
 }
 
-/// What is wrong with a file or a page as a whole.
+/// The faults of a file or a page as a whole.
 #[derive(Clone, Copy, Debug, PartialEq, Eq, Error)]
 pub enum FormatError {
     /// The file does not begin with the identification string (D.4.1).
@@ -48,7 +49,7 @@ pub enum FormatError {
     ReservedBits,
     /// The page has no segment of type 48.
     MissingPageInfo,
-    /// The height is unknown and no stripe tells it (7.4.8.2).
+    /// The height is unknown, and no stripe states it (7.4.8.2).
     UnknownPageHeight,
     /// The page's width or height is 0.
     EmptyPage,
@@ -58,72 +59,72 @@ pub enum FormatError {
     InvalidEndOfPage,
 }
 
-/// What is wrong with a segment.
+/// The faults of a segment.
 #[derive(Clone, Copy, Debug, PartialEq, Eq, Error)]
 pub enum SegmentError {
-    /// The type is not one of 7.3's list.
+    /// The type is not in the list of 7.3.
     UnknownType,
     /// The count of referred segments is coded as 5 or 6 (7.2.4).
     InvalidReferredCount,
-    /// A referred number is not below the segment's own, or names nothing that serves.
+    /// A referred number is not below the segment's own, or refers to no segment that can be used.
     InvalidReference,
     /// Only an immediate generic region may have an unknown length (7.2.7).
     InvalidUnknownLength,
     /// The data of unknown length has no end marker (7.2.7).
     MissingEndMarker,
-    /// A halftone region names no pattern dictionary.
+    /// A halftone region refers to no pattern dictionary.
     MissingPatternDictionary,
     /// A segment that needs a page is associated with page 0.
     MissingPageAssociation,
 }
 
-/// What is wrong with prefix-coded data.
+/// The faults of prefix-coded data.
 #[derive(Clone, Copy, Debug, PartialEq, Eq, Error)]
 pub enum HuffmanError {
-    /// The bits begin no code, or lengths make no code (Annex B).
+    /// The bits begin with no code, or the lengths make no code (Annex B).
     InvalidCode,
-    /// A table selection has a value without a meaning.
+    /// A table selection has a value that has no meaning.
     InvalidSelection,
-    /// More custom tables are selected than referred to.
+    /// More custom tables are selected than are referred to.
     MissingTables,
-    /// Out of band where a number has to stand.
+    /// Out of band where a number must be.
     UnexpectedOob,
     /// Two lines have one code; never returned.
     ConflictingCodes,
 }
 
-/// What is wrong with a region.
+/// The faults of a region.
 #[derive(Clone, Copy, Debug, PartialEq, Eq, Error)]
 pub enum RegionError {
-    /// The operator is none of 7.4.1.5's.
+    /// The operator is not in the list of 7.4.1.5.
     InvalidCombinationOperator,
     /// A row count or a size does not fit the region.
     InvalidDimension,
     /// The T.6 data has a fault or lacks a row.
     InvalidMmrData,
-    /// A gray value names no pattern.
+    /// There is no pattern for a gray value.
     GrayScaleOutOfRange,
 }
 
-/// What is wrong with a template.
+/// The faults of a template.
 #[derive(Clone, Copy, Debug, PartialEq, Eq, Error)]
 pub enum TemplateError {
-    /// No such template; never returned.
+    /// There is no such template; never returned.
     Invalid,
     /// An adaptive pixel lies at or after the pixel that is decoded.
     InvalidAtPixel,
 }
 
-/// What is wrong with symbols.
+/// The faults of symbols.
 #[derive(Clone, Copy, Debug, PartialEq, Eq, Error)]
 pub enum SymbolError {
     /// The number of exported symbols is not the stated one.
     NoSymbols,
     /// More new symbols than stated.
     TooManySymbols,
-    /// A symbol number names none, or a run passes the end.
+    /// There is no symbol of a number, or a run goes past the end.
     OutOfRange,
-    /// Out of band where a number has to stand.
+    /// Out of band where a number must be.
     UnexpectedOob,
     /// A symbol dictionary breaks a rule that has no error of its own.
     Invalid,
@@ -133,7 +134,7 @@ pub enum SymbolError {
     TooManyInstances,
 }
 
-/// A number outside the range that this decoder keeps.
+/// The numbers outside the range that this decoder keeps.
 #[derive(Clone, Copy, Debug, PartialEq, Eq, Error)]
 pub enum OverflowError {
     /// A bitmap's width or height, or their product, is too large.
@@ -231,7 +232,7 @@ impl<T: Drop> From<AllocFailed<T>> for DecodeError {
 }
 
 impl DecodeError {
-    /// An equal error, without memory.
+    /// A copy of this error. Takes no memory.
     pub fn duplicate(&self) -> DecodeError
         ensures { result ≡ self.now }
     {

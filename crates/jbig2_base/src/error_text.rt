@@ -1,4 +1,4 @@
-//! The texts of the errors.
+//! The text of each error.
 ghost use Rattle.std.specs.Prelude.{Some};
 ghost use Rattle.jbig2_base.specs.ErrorTexts.{error_text, parse_text, format_text, segment_text, huffman_text, region_text, template_text, symbol_text, overflow_text};
 

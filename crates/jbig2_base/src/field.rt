@@ -1,4 +1,4 @@
-//! Fields at a reader's place, which return an error where the bytes end (T.88, 7.1).
+//! Reads fields at a reader's place, and returns an error if the bytes end too early (T.88, 7.1).
 ghost use Rattle.std.specs.Prelude.{◌≡◌, ◌+◌, ◌^◌, ◌<◌, ◌≤◌, drop, length, IfOk, OnOk};
 ghost use Rattle.std.specs.Int.{w8, w16, w32};
 ghost use Rattle.jbig2_base.specs.Answer.{Answers, some_or};
@@ -73,7 +73,7 @@ pub fn bytes_field<'a>(reader: &mut Reader<'a>, count: usize) -> Result<&'a [u8]
         .ok_or(DecodeError::Parse(ParseError::UnexpectedEof))
 }
 
-/// The next `count` bits as a number, high bit first, or the error.
+/// The next `count` bits as a number, high bit first, or `error`.
 pub fn bits_field(reader: &mut Reader<'_>, count: u8, error: DecodeError) -> Result<u32>
     requires { count ≤ 32 }
     ensures value { Answers (λ n. (n, reader.new)) result (bits_at error count reader.old) }

@@ -1,4 +1,4 @@
-//! Files and lists of segments (T.88, Annex D).
+//! Reads files and lists of segments (T.88, Annex D).
 ghost use Rattle.std.specs.Prelude.{◌≡◌, List, length, map, Ok};
 ghost use Rattle.jbig2_base.specs.Answer.{Gives};
 ghost use Rattle.jbig2_base.specs.Bits.{IsAligned};
@@ -22,8 +22,8 @@ use crate::segment::{
 use crate::sort::sort_segments;
 use std::alloc::Allocator;
 
-/// Whether the segments end before one that is refused with this error. Lenient reading drops one
-/// that is cut off.
+/// Whether the segments end before one that is refused with this error. Lenient reading drops a
+/// segment that is cut off.
 fn is_cut_off(reading: Reading, error: &DecodeError) -> bool
     ensures { result ≡ is_cut_off reading error.now }
 {
@@ -39,11 +39,11 @@ fn is_end_of_file(kind: SegmentType) -> bool
     matches!(kind, SegmentType::EndOfFile)
 }
 
-/// The segments in the bytes, header and data by turns, up to an end of file segment or the end of
-/// the bytes (T.88, D.1 and D.3).
+/// The segments in the bytes, each header with its data after it, up to an end of file segment or
+/// the end of the bytes (T.88, D.1 and D.3).
 ///
-/// Lenient reading drops a segment that the bytes cut off, and ends there; salvage ends before any
-/// segment that is refused. Every other error is returned.
+/// Lenient reading drops a segment that is cut off, and ends there. Salvage ends before any segment
+/// that is refused. Every other error is returned.
 pub fn parse_segments_sequential<'a, A: Allocator + Clone>(
     alloc: A,
     bytes: &'a [u8],
@@ -106,8 +106,8 @@ fn parse_segment_headers<A: Allocator + Clone>(
     Ok(headers)
 }
 
-/// The segments with these headers, whose data stands in their order from the reader's place on.
-/// Salvage drops one whose data is refused, and those after it.
+/// The segments with these headers. Their data comes in the same order, from the reader's place on.
+/// Salvage drops a segment whose data is refused, and all segments after it.
 fn gather_segments<'a, A: Allocator>(
     alloc: A,
     reader: &mut Reader<'a>,
@@ -135,7 +135,7 @@ fn gather_segments<'a, A: Allocator>(
 
 /// The segments in the bytes, all headers before all data (T.88, D.2).
 ///
-/// Bytes that end too early are an error of strict and of lenient reading.
+/// Strict and lenient reading return an error if the bytes end too early.
 fn parse_segments_random_access<'a, A: Allocator + Clone>(
     alloc: A,
     bytes: &'a [u8],
@@ -167,7 +167,7 @@ fn parse_segments<'a, A: Allocator + Clone>(
 #[derive(Debug, Drop)]
 pub struct File<'a, A: Allocator> {
     pub header: FileHeader,
-    /// Those of one number stay in the order in which they stand in the file.
+    /// Segments of equal number keep their order in the file.
     pub segments: Vec<Segment<'a, A>, A>,
 }
 
@@ -186,12 +186,13 @@ fn read_file<'a, A: Allocator + Clone>(
     Ok(File { header, segments })
 }
 
-/// The file that `bytes` hold (T.88, Annex D).
+/// Reads the file in `bytes` (T.88, Annex D).
 ///
-/// Returns the first error of the header (`FormatError`), of a segment (`SegmentError`, or
-/// `ParseError` where the bytes end), or `DecodeError::OutOfMemory`. Salvage ends before a segment
-/// that is refused. Either organization gives the same segments: where the bytes spell some that the
-/// reading accepts, each of known length and the last one the only end of file, the file has those.
+/// Returns the first error of the header (`FormatError`) or of a segment (`SegmentError`, or
+/// `ParseError` if the bytes end too early), or `DecodeError::OutOfMemory`. Salvage ends before a
+/// segment that is refused. Either organization gives the same segments: if the bytes are a header
+/// and segments that the reading accepts, each of known length and the last one the only end of
+/// file, the file has those.
 pub fn parse_file<'a, A: Allocator + Clone>(
     alloc: A,
     bytes: &'a [u8],
@@ -205,8 +206,8 @@ pub fn parse_file<'a, A: Allocator + Clone>(
     read_file(alloc, bytes, reading)
 }
 
-/// In salvage the error of the segment that lenient reading of the bytes refuses, and that is left out.
-/// `None` where it refuses none, and in the other readings.
+/// In salvage: the error of the segment that lenient reading of the bytes refuses, and that is left
+/// out. `None` if it refuses none, and in the other readings.
 pub fn sequence_fault<A: Allocator + Clone>(
     alloc: A,
     bytes: &[u8],
@@ -225,8 +226,8 @@ pub fn sequence_fault<A: Allocator + Clone>(
     }
 }
 
-/// In salvage the error that lenient reading of the file returns, and for which segments are left out.
-/// `None` where it returns none, and in the other readings.
+/// In salvage: the error that lenient reading of the file returns, and for which segments are left
+/// out. `None` if it returns none, and in the other readings.
 pub fn file_fault<A: Allocator + Clone>(
     alloc: A,
     bytes: &[u8],

@@ -1,4 +1,4 @@
-//! The header of a file (T.88, D.4).
+//! Reads the header of a file (T.88, D.4).
 ghost use Rattle.std.specs.Prelude.{◌≡◌, ◌+◌, ◌%◌, ◌==◌, if◌then◌else◌, length, OnOk, ◌≤◌};
 ghost use Rattle.std.specs.Str.{bytes_eq};
 ghost use Rattle.jbig2_base.specs.Answer.{Answers};
@@ -11,10 +11,10 @@ use crate::error::{DecodeError, FormatError, Result};
 use crate::field::{byte_field, bytes_field, u32_field};
 use crate::reader::Reader;
 
-/// In which order the headers and the data of the segments stand (T.88, D.1 and D.2).
+/// The order of the segments' headers and data (T.88, D.1 and D.2).
 #[derive(Clone, Copy, Debug, PartialEq, Eq)]
 pub enum FileOrganization {
-    /// Each header has its data after it.
+    /// The data of each header comes after it.
     Sequential,
     /// All headers come first.
     RandomAccess,
@@ -24,7 +24,7 @@ pub enum FileOrganization {
 #[derive(Clone, Copy, Debug, PartialEq, Eq)]
 pub struct FileHeader {
     pub organization: FileOrganization,
-    /// None where the file leaves it open.
+    /// None if the file does not state it.
     pub number_of_pages: Option<u32>,
     /// Whether a generic region may have twelve adaptive pixels.
     pub uses_extended_templates: bool,
@@ -62,8 +62,8 @@ fn page_count(reader: &mut Reader<'_>, unknown: bool) -> Result<Option<u32>>
 
 /// A file header at the reader's place (T.88, D.4).
 ///
-/// Other bytes than the identification string answer `FormatError::InvalidHeader`, a reserved bit
-/// of the flags `FormatError::ReservedBits`. Takes no memory.
+/// Returns `FormatError::InvalidHeader` if the bytes do not begin with the identification string,
+/// and `FormatError::ReservedBits` if a reserved bit of the flags is set. Takes no memory.
 #[tactic(auto, using(crate::proofs::Causes::file_header_cause), unfolding(crate::specs::File::file_header_at))]
 pub(crate) fn parse_file_header(reader: &mut Reader<'_>) -> Result<FileHeader>
     requires { IsAligned reader.old }

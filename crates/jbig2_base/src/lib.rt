@@ -1,5 +1,5 @@
-//! What every layer of the JBIG2 decoder stands on: errors, a reader of bits, packed bitmaps, and
-//! the framing of segments (ITU-T T.88, 7.2 and Annex D).
+//! The base of every layer of the JBIG2 decoder: errors, a reader of bits, packed bitmaps, and the
+//! framing of segments (ITU-T T.88, 7.2 and Annex D).
 #![tactic(auto)]
 
 pub mod bitmap;

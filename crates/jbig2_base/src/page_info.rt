@@ -1,4 +1,4 @@
-//! Page information segments and the size of a page (T.88, 7.4.8 and 7.4.10).
+//! Reads page information segments, and finds the size of a page (T.88, 7.4.8 and 7.4.10).
 ghost use Rattle.std.specs.Prelude.{◌≡◌, ◌+◌, ◌/◌, ◌%◌, ◌==◌, ◌<◌, ◌≤◌, Ok, IfOk, None, OnErr, OnOk, Option, false, length};
 ghost use Rattle.jbig2_base.specs.Answer.{Answers};
 ghost use Rattle.jbig2_base.specs.Bits.{IsAligned, nonzero};
@@ -19,11 +19,11 @@ use std::alloc::Allocator;
 pub struct PageInformation {
     /// In pixels.
     pub width: u32,
-    /// In pixels; all ones where it is unknown.
+    /// In pixels; all ones if it is unknown.
     pub height: u32,
-    /// In pixels a metre, where it is known.
+    /// In pixels per metre, if it is known.
     pub x_resolution: Option<u32>,
-    /// In pixels a metre, where it is known.
+    /// In pixels per metre, if it is known.
     pub y_resolution: Option<u32>,
     pub flags: PageFlags,
     pub striping: PageStriping,
@@ -49,7 +49,7 @@ pub struct PageStriping {
     pub max_stripe_size: u16,
 }
 
-/// What a page begins as: its number, its size in pixels and its colour.
+/// How a page begins: its number, its size in pixels and its colour.
 #[derive(Clone, Copy, Debug, PartialEq, Eq)]
 pub struct InitialPage {
     pub number: u32,
@@ -154,7 +154,7 @@ fn resolution(number: u32) -> Option<u32>
 
 /// The fields of a page information segment, at the reader's place (T.88, 7.4.8).
 ///
-/// `ParseError::UnexpectedEof` where the bytes do not hold them, which leaves the reader where it
+/// Returns `ParseError::UnexpectedEof` if there are too few bytes, and leaves the reader where it
 /// was. Takes no memory.
 #[tactic(auto, using(crate::proofs::PageCauses::information_cause), unfolding(crate::specs::PageInfo::information_at))]
 pub fn parse_page_information(reader: &mut Reader<'_>) -> Result<PageInformation>
@@ -220,7 +220,7 @@ fn stripe_height<A: Allocator>(segment: &Segment<'_, A>) -> u32
     last_row + 1
 }
 
-/// How high a page is that ends with the lowest of these stripes; 0 where none of them tells it.
+/// The height of a page that ends with the lowest of these stripes; 0 if none of them states it.
 pub fn stripes_height<A: Allocator>(segments: &[Segment<'_, A>]) -> u32
     ensures { result ≡ stripes_height (segment_views segments.now) }
 {
@@ -265,12 +265,12 @@ fn initial_page_with(number: u32, information: &PageInformation, height: u32) ->
 }
 
 impl InitialPage {
-    /// What a page with these segments begins as: its first page information, and where that
-    /// leaves the height open the largest end of stripe (T.88, 7.4.8 and 7.4.10).
+    /// How a page with these segments begins, by its first page information. If that leaves the
+    /// height open, it is that of the largest end of stripe (T.88, 7.4.8 and 7.4.10).
     ///
-    /// `FormatError::MissingPageInfo`, `UnknownPageHeight` or `EmptyPage`,
-    /// `ParseError::UnexpectedEof` where the segment is too short, `OverflowError::BitmapDimension`
-    /// above 65535 pixels either way. Takes no memory.
+    /// Returns `FormatError::MissingPageInfo`, `UnknownPageHeight` or `EmptyPage`,
+    /// `ParseError::UnexpectedEof` if the segment is too short, or `OverflowError::BitmapDimension`
+    /// if a side is above 65535 pixels. Takes no memory.
     #[tactic(auto, using(crate::proofs::InitialCauses::initial_page_cause), unfolding(crate::specs::PageInfo::initial_page_of))]
     pub fn of_segments<A: Allocator>(segments: &[Segment<'_, A>]) -> Result<InitialPage>
         ensures causes { HasCause result (BreaksInitialPage (segment_views segments.now)) }
@@ -282,7 +282,7 @@ impl InitialPage {
         InitialPage::with_height(segments, stripes_height(segments))
     }
 
-    /// The same, with `told_height` for a height that page information leaves open; 0 where nothing tells it.
+    /// The same, with `told_height` as a height that page information leaves open; 0 if nothing states it.
     #[tactic(auto, using(crate::proofs::InitialCauses::initial_page_by_cause))]
     pub fn with_height<A: Allocator>(
         segments: &[Segment<'_, A>],

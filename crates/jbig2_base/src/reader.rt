@@ -1,4 +1,4 @@
-//! A reader of bits and of big-endian numbers over a slice (T.88, 7.1).
+//! Reads bits and big-endian numbers from a slice (T.88, 7.1).
 ghost use Rattle.std.specs.Prelude.{◌≡◌, ◌+◌, ◌<◌, ◌≤◌, ◌==◌, drop, length, take, min, IfSome, Option, option_map, option_and_then, Some, None, if◌then◌else◌};
 ghost use Rattle.std.specs.Int.{w8, w16, w32, cast_signed};
 ghost use Rattle.std.specs.List.{flat_map};
@@ -6,10 +6,11 @@ ghost use Rattle.jbig2_base.specs.Bits.{IsAligned, start_of, bits_left, bits_nex
 
 use std::marker::Model;
 
-/// Bytes and a place in them, by byte and bit apart, so that no length overflows.
+/// Bytes and a place in them. The place has a byte and a bit, so that no length overflows.
 ///
-/// None means that the bytes end. A refused byte read leaves the place alone, a refused bit read
-/// moves it to the end. Byte reads ask for a place at the beginning of a byte. No call takes memory.
+/// `None` means that the bytes end too early. A refused byte read does not move the place, and a
+/// refused bit read moves it to the end. Byte reads need a place at the beginning of a byte. No call
+/// takes memory.
 #[derive(Drop)]
 pub struct Reader<'a> {
     bytes: &'a [u8],
@@ -52,7 +53,7 @@ impl<'a> Reader<'a> {
         }
     }
 
-    /// Goes to the beginning of the next byte, where a byte was begun.
+    /// Goes to the beginning of the next byte, unless the place is at the beginning of a byte.
     pub fn align(&mut self)
         ensures { self.new ≡ aligned self.old }
     {
@@ -69,7 +70,7 @@ impl<'a> Reader<'a> {
         self.byte >= self.bytes.len()
     }
 
-    /// The bytes that are left, a begun one whole.
+    /// The bytes that are left, with the current one whole.
     pub fn tail(&self) -> &'a [u8]
         ensures { result.now ≡ self.now.bytes }
     {
@@ -111,7 +112,7 @@ impl<'a> Reader<'a> {
         Some(bytes[0])
     }
 
-    /// The next byte, None also where it is 0; a zero byte is read.
+    /// The next byte; `None` also if it is 0, but the place moves on.
     pub fn read_nonzero_byte(&mut self) -> Option<u8>
         requires { IsAligned self.old }
         ensures value { result ≡ option_and_then nonzero (number_next w8 self.old) }
@@ -171,8 +172,8 @@ impl<'a> Reader<'a> {
         Some(value)
     }
 
-    /// The bytes that are left as a number, the first eight where there are more, and how many
-    /// these are.
+    /// The first eight of the bytes that are left, or all if there are fewer, as a number, and how
+    /// many these are.
     fn word(&self) -> (u64, u8)
         ensures value { result.0 ≡ number_after 0 (flat_map byte_bits (take 8 self.now.bytes)) }
         ensures count { result.1 ≡ min 8 (length self.now.bytes) }
@@ -207,7 +208,7 @@ impl<'a> Reader<'a> {
         Some(((word >> (8 * bytes - end)) % (1 << count)) as u32)
     }
 
-    /// Goes over `count` bits, or to the end where fewer are left.
+    /// Moves on by `count` bits, or to the end if fewer are left.
     pub fn advance(&mut self, count: u8)
         ensures place { self.new ≡ bits_on count self.old }
         ensures rest { bits_left self.new ≡ drop count (bits_left self.old) }

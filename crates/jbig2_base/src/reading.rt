@@ -10,14 +10,14 @@ use crate::error::DecodeError;
 pub enum Reading {
     /// Each fault is an error.
     Strict,
-    /// What a decoder can pass over is passed over.
+    /// Faults that do not stop a decoder are accepted.
     Lenient,
-    /// As lenient, and whatever is refused is left out.
+    /// As `Lenient`, and whatever is refused is left out.
     Salvage,
 }
 
 impl Reading {
-    /// Strict or lenient reading.
+    /// `Strict` if `strict` is true, else `Lenient`.
     pub fn of(strict: bool) -> Reading
         ensures { result ≡ reading_of strict }
     {
@@ -35,7 +35,7 @@ impl Reading {
         matches!(self, Reading::Strict)
     }
 
-    /// Whether an error leaves out what it refuses: in salvage, and never for want of memory.
+    /// Whether this error leaves out what it refuses: only in salvage, never when memory ran out.
     pub fn is_salvaged(self, error: &DecodeError) -> bool
         ensures value { result ≡ is_salvaged self error.now }
         ensures memory { is_salvaged self OutOfMemory ≡ false }

@@ -1,4 +1,4 @@
-//! Segments: headers and data (T.88, 7.2 and 7.3).
+//! Reads segments: headers and data (T.88, 7.2 and 7.3).
 ghost use Rattle.std.specs.Prelude.{◌≡◌, ◌+◌, ◌*◌, ◌/◌, ◌%◌, ◌^◌, ◌<◌, ◌≤◌, ◌==◌, ◌&&◌, if◌then◌else◌, Bool, nat_le, take, drop, length, OnOk, IfOk, IfSome, Ok, OnErr};
 ghost use Rattle.std.specs.Int.{w8, w32, byte_len, from_be_bytes};
 ghost use Rattle.std.specs.List.{list_any};
@@ -19,7 +19,7 @@ use crate::reader::Reader;
 use end_marker::unknown_length;
 use std::alloc::Allocator;
 
-/// What a segment holds (T.88, 7.3); `Reserved` stands for every number that is not listed there.
+/// What a segment holds (T.88, 7.3). `Reserved` is every number that is not in the list there.
 #[derive(Clone, Copy, Debug, PartialEq, Eq)]
 pub enum SegmentType {
     SymbolDictionary,
@@ -80,7 +80,7 @@ impl SegmentType {
         }
     }
 
-    /// Whether the number was not listed.
+    /// Whether the number is not in the list.
     pub fn is_reserved(self) -> bool
         ensures { result ≡ is_reserved self }
     {
@@ -104,7 +104,7 @@ pub struct SegmentHeader<A: Allocator> {
     /// The page's number, 0 for a segment of no page.
     pub page_association: u32,
     pub referred_to_segments: Vec<u32, A>,
-    /// The length of the data in bytes, None where it is unknown.
+    /// The length of the data in bytes, None if it is unknown.
     pub data_length: Option<u32>,
 }
 
@@ -162,7 +162,7 @@ fn referred_count(reader: &mut Reader<'_>) -> Result<u32>
     short_or_long_count(reader, first)
 }
 
-/// How many bytes a referred number has, by the segment's own number (T.88, 7.2.5).
+/// How many bytes a referred number has; this depends on the segment's own number (T.88, 7.2.5).
 fn number_size(own: u32) -> usize
     ensures { result ≡ byte_len (number_width own) }
 {
@@ -229,7 +229,7 @@ fn referred_numbers<A: Allocator>(
     Ok(numbers)
 }
 
-/// The page association, in four bytes or one (T.88, 7.2.6).
+/// The page association, in one byte or four (T.88, 7.2.6).
 fn page_association(reader: &mut Reader<'_>, long: bool) -> Result<u32>
     requires { IsAligned reader.old }
     ensures value { Answers (λ x. (x, reader.new.bytes)) result
@@ -258,9 +258,9 @@ fn data_length(strict: bool, kind: SegmentType, number: u32) -> Result<Option<u3
 
 /// A segment header at the reader's place (T.88, 7.2).
 ///
-/// In strict mode a type that is not listed returns `SegmentError::UnknownType`, and an unknown
-/// length of another segment than an immediate generic region `SegmentError::InvalidUnknownLength`.
-/// An error leaves the reader where it was.
+/// In strict mode a type that is not in the list returns `SegmentError::UnknownType`. An unknown
+/// length returns `SegmentError::InvalidUnknownLength` unless the segment is an immediate generic
+/// region. An error leaves the reader where it was.
 #[tactic(auto, using(crate::proofs::SegmentCauses::header_cause), unfolding(crate::specs::Segment::header_at))]
 pub fn parse_segment_header<A: Allocator>(
     alloc: A,
@@ -309,11 +309,11 @@ fn segment_bytes<'a>(reader: &mut Reader<'a>, data_length: Option<u32>) -> Resul
     }
 }
 
-/// The data of a segment, at the reader's place after its header or where the data is gathered
-/// (T.88, 7.2.7 and Annex D).
+/// The data of a segment, at the reader's place: after its header, or where the data of all
+/// segments is (T.88, 7.2.7 and Annex D).
 ///
-/// Data of unknown length ends with the first end marker; none returns
-/// `SegmentError::MissingEndMarker`, which leaves the reader where it was. Takes no memory.
+/// Data of unknown length ends with the first end marker. If there is none, the call returns
+/// `SegmentError::MissingEndMarker` and leaves the reader where it was. Takes no memory.
 #[tactic(auto, using(crate::proofs::DataCauses::data_cause))]
 pub fn parse_segment_data<'a, A: Allocator>(
     reader: &mut Reader<'a>,

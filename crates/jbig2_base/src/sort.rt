@@ -1,4 +1,4 @@
-//! Segments in the order of their numbers.
+//! Sorts segments by their numbers.
 ghost use Rattle.std.specs.Prelude.{◌≡◌, OnErr, Ok};
 ghost use Rattle.jbig2_base.specs.Answer.{Gives};
 ghost use Rattle.jbig2_base.specs.inner.SegmentViews.{segment_views};
@@ -8,10 +8,9 @@ use crate::error::Result;
 use crate::segment::Segment;
 use std::alloc::Allocator;
 
-/// Brings the segments into the order of their numbers (T.88, 7.2.2); those of one number stay in
-/// the order in which they stand.
+/// Sorts the segments by their numbers (T.88, 7.2.2). Segments of equal number keep their order.
 ///
-/// The sort takes a buffer from the collection's allocator. Where there is none it returns
+/// The sort takes a buffer from the collection's allocator. If it gets none, it returns
 /// `DecodeError::OutOfMemory`, and nothing has moved.
 pub fn sort_segments<A: Allocator>(segments: &mut Vec<Segment<'_, A>, A>) -> Result<()>
     ensures value { Gives (λ _. segment_views segments.new.items) result

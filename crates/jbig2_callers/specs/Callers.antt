@@ -1,10 +1,21 @@
--- What a PDF reader and a viewer ask for (our own rule), by the definitions of the library. A stream's or a file's
--- bytes give a grid or an image. Both read leniently.
-use Rattle.std.specs.{Prelude.{◌≡◌, ◌⊎◌, ℕ, List, Option, Result, Ok, Err}, Option.{option_map_or}}
-use Rattle.jbig2_base.specs.{Answer.{◌>>=◌, some_or}, Grid.{Grid}, declared.{error.{DecodeError.{DecodeError, TheVariants.{Format, OutOfMemory}}, FormatError.TheVariants.{MissingPageInfo}}, reading.Reading.TheVariants.{Lenient}}}
-use Rattle.hayro_jbig2.specs.{Files.{book_at, page_of}, Image.{first_size, first_image, image_of_page}, Names.{globals_at, names_of, no_names}, Page.{embedded, grid_of_page}, declared.jbig2_decoder.jbig2_error.Jbig2Error.{Jbig2Error, TheVariants.{Io, Decode}}}
+-- What a PDF reader and a viewer ask for (our own rule), in terms of the library's definitions. The bytes of a stream
+-- or a file give a grid or an image. Both read leniently.
+use Rattle.std.specs.Prelude.{◌≡◌, ◌⊎◌, ℕ, List, Option, Result, Ok, Err}
+use Rattle.std.specs.Option.{option_map_or}
+use Rattle.jbig2_base.specs.Answer.{◌>>=◌, some_or}
+use Rattle.jbig2_base.specs.Grid.{Grid}
+use Rattle.jbig2_base.specs.declared.error.DecodeError.{DecodeError}
+use Rattle.jbig2_base.specs.declared.error.DecodeError.TheVariants.{Format, OutOfMemory}
+use Rattle.jbig2_base.specs.declared.error.FormatError.TheVariants.{MissingPageInfo}
+use Rattle.jbig2_base.specs.declared.reading.Reading.TheVariants.{Lenient}
+use Rattle.hayro_jbig2.specs.Files.{book_at, page_of}
+use Rattle.hayro_jbig2.specs.Image.{first_size, first_image, image_of_page}
+use Rattle.hayro_jbig2.specs.Names.{globals_at, names_of, no_names}
+use Rattle.hayro_jbig2.specs.Page.{embedded, grid_of_page}
+use Rattle.hayro_jbig2.specs.declared.jbig2_decoder.jbig2_error.Jbig2Error.{Jbig2Error}
+use Rattle.hayro_jbig2.specs.declared.jbig2_decoder.jbig2_error.Jbig2Error.TheVariants.{Io, Decode}
 
--- the grid of a stream of a PDF file, with its globals where it has some
+-- the grid of a stream of a PDF file, with its globals if it has some
 abbrev pub grid_of_stream : Option (List ℕ) → List ℕ → Result Grid DecodeError
 grid_of_stream globals stream =
     option_map_or (λ bytes. names_of (globals_at Lenient bytes)) globals (Ok no_names)
@@ -14,7 +25,7 @@ grid_of_stream globals stream =
 abbrev pub image_at : List ℕ → ℕ → Result (List ℕ) DecodeError
 image_at bytes index = book_at Lenient bytes >>= λ book. some_or (Format MissingPageInfo) (page_of book index) >>= λ page. image_of_page page
 
--- A picture of a file's first page, unless the reader failed or memory ran out.
+-- The picture of a file's first page, unless the reader failed or memory ran out.
 abbrev pub Shows : {P : Type 0} → (P → (ℕ × ℕ) × List ℕ) → List ℕ → Result P Jbig2Error → Type 0
 Shows view bytes (Ok picture) = (first_size bytes ≡ Ok (view picture).0) × (first_image bytes ≡ Ok (view picture).1)
 Shows view bytes (Err (Io e)) = Unit {0}

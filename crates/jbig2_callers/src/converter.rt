@@ -1,4 +1,4 @@
-//! How a converter that is handed a reader calls the library.
+//! How a converter that has a reader calls the library.
 ghost use Rattle.std.specs.Prelude.{IfSome};
 ghost use Rattle.jbig2_callers.specs.Callers.{Shows};
 

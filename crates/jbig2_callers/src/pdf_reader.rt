@@ -8,8 +8,8 @@ use std::alloc::Allocator;
 
 const LENIENT: DecodeSettings = DecodeSettings { strict: false };
 
-/// A PDF reader: makes the calls that spell the image of a /JBIG2Decode stream, whose /JBIG2Globals
-/// stream may be shared with other images. The context may have served other pages before.
+/// A PDF reader: makes the calls that draw the image of a /JBIG2Decode stream. Other images may
+/// share its /JBIG2Globals stream. Other pages may have used the context before.
 pub fn decode_stream<A: Allocator + Clone, D: Decoder>(
     alloc: A,
     stream: &[u8],

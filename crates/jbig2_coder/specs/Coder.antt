@@ -1,16 +1,18 @@
 -- The arithmetic decoder (T.88, Annex E in the software conventions of Annex G), one shift at a time. The annexes
--- differ where a byte from 80 to 8F follows a byte FF, which no encoder writes, and Annex G decides: in a fresh context
+-- differ if a byte from 80 to 8F follows a byte FF, which no encoder writes. Then Annex G decides: in a fresh context
 -- the bytes FF 8F begin with the decision 0, where Annex E has 1.
-use Rattle.std.specs.Prelude.{ℕ, suc, zero, ◌+◌, ◌-◌, ◌*◌, ◌/◌, ◌%◌, ◌^◌, Bool, true, false, not, ◌&&◌, if◌then◌else◌, ◌==◌, nat_lt, nat_le, List, slice_index_or}
-use Rattle.jbig2_coder.specs.{Table.{row_of}, declared.arithmetic_decoder.registers.CodeRegister.{CodeRegister}}
+use Rattle.std.specs.Prelude.{ℕ, suc, zero, ◌+◌, ◌-◌, ◌*◌, ◌/◌, ◌%◌, ◌^◌, Bool, true, false, not, ◌&&◌, if◌then◌else◌}
+use Rattle.std.specs.Prelude.{◌==◌, nat_lt, nat_le, List, slice_index_or}
+use Rattle.jbig2_coder.specs.Table.{row_of}
+use Rattle.jbig2_coder.specs.declared.arithmetic_decoder.registers.CodeRegister.{CodeRegister}
 
-abbrev pub Context : Type 0  -- a row of Table E.1, and the symbol that is likely there
+abbrev pub Context : Type 0  -- a row of Table E.1, and the likely symbol
 Context = record { row : ℕ; likely : Bool }
 
 abbrev pub fresh : Context
 fresh = record { row = 0; likely = false }
 
-abbrev pub Registers : Type 0  -- A, and the code register: C, CT and the place of the byte that was read last
+abbrev pub Registers : Type 0  -- A, and the code register: C, CT and the place of the last byte read
 Registers = record { a : ℕ; code : CodeRegister }
 
 abbrev pub Coder : Type 0  -- the bytes that a decoder reads, and its registers
@@ -19,7 +21,7 @@ Coder = record { bytes : List ℕ; registers : Registers }
 unfoldable pub byte_at : List ℕ → ℕ → ℕ  -- the byte at a place; past the end every byte is FF
 byte_at bytes place = slice_index_or bytes place 0xFF
 
--- BYTEIN (Figure G.3), from C and the place: after FF is a stuffed byte of seven bits, or a marker, where it stays
+-- BYTEIN (Figure G.3), from C and the place. After FF comes a stuffed byte of seven bits, or a marker, where it stays.
 unfoldable pub byte_in : List ℕ → ℕ → ℕ → CodeRegister
 byte_in bytes c place =
     let next = byte_at bytes (place + 1) in
@@ -29,13 +31,13 @@ byte_in bytes c place =
     if byte_at bytes place == 0xFF then behind_ff
     else record { c = (c + (0xFF00 - next * 2 ^ 8)) % 2 ^ 32; ct = 8; place = place + 1 }
 
-unfoldable pub filled : List ℕ → CodeRegister → CodeRegister  -- the same, only where no bit is left
+unfoldable pub filled : List ℕ → CodeRegister → CodeRegister  -- BYTEIN, but only if no bit is left
 filled bytes r = if r.ct == 0 then byte_in bytes r.c r.place else r
 
-unfoldable pub doubled : CodeRegister → CodeRegister  -- C moves on by one bit
+unfoldable pub doubled : CodeRegister → CodeRegister  -- C is shifted by one bit
 doubled r = record { c = 2 * r.c % 2 ^ 32; ct = r.ct - 1; place = r.place }
 
--- RENORMD (E.3.3): A and C move on bit by bit until A is at least 8000. Fifteen times are enough for any A but 0.
+-- RENORMD (E.3.3): A and C are shifted bit by bit until A is at least 8000. Fifteen shifts are enough for any A but 0.
 unfoldable pub renormed : List ℕ → ℕ → ℕ → CodeRegister → Registers
 renormed bytes zero a r = record { a = a; code = r }
 renormed bytes (suc n) a r =
@@ -50,7 +52,7 @@ initial_registers bytes =
 unfoldable pub likely_next : Context → Context  -- the context after the likely symbol
 likely_next context = record { row = (row_of context.row).nmps; likely = context.likely }
 
-unfoldable pub unlikely_next : Context → Context  -- and after the other
+unfoldable pub unlikely_next : Context → Context  -- the context after the unlikely symbol
 unlikely_next context =
     let row = row_of context.row in
     record { row = row.nlps; likely = (if row.switch then not context.likely else context.likely) }
@@ -58,7 +60,7 @@ unlikely_next context =
 abbrev pub Choice : Type 0  -- the symbol, A and C before RENORMD, the context afterwards, whether RENORMD follows
 Choice = record { symbol : Bool; a : ℕ; c : ℕ; context : Context; renorm : Bool }
 
--- DECODE (Figure G.2): the upper part of the interval is the likely symbol's, unless it has become the smaller one
+-- DECODE (Figure G.2): the upper part of the interval is the likely symbol's, unless that is now the smaller part
 unfoldable pub choice : Context → ℕ → ℕ → Choice
 choice context a c =
     let qe = (row_of context.row).qe in
@@ -87,7 +89,7 @@ decision bytes registers context =
       context = chosen.context;
     }
 
-unfoldable pub is_quiet : Registers → Context → Bool  -- the next decision gives the likely symbol, and no RENORMD
+unfoldable pub is_quiet : Registers → Context → Bool  -- whether the next decision is the likely symbol, without RENORMD
 is_quiet registers context =
     let chosen = choice context registers.a registers.code.c in
     (if context.likely then chosen.symbol else not chosen.symbol) && not chosen.renorm

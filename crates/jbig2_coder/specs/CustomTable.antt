@@ -1,17 +1,27 @@
--- The lines that a custom table's bits spell (T.88, B.2). Each step takes a place in the bits and reads on from it.
--- `custom_table` gives the code that the lines make, or the first error, and the place where the reader is left.
-use Rattle.std.specs.{Prelude.{◌≡◌, ◌⊎◌, ℕ, zero, suc, ◌+◌, ◌/◌, ◌%◌, ◌^◌, nat_lt, ◌==◌, List, [], ◌∷◌, ◌++◌, length, All, IfOk, Result, Ok, Err, if◌then◌else◌, ℤ, pos, ◌+ℤ◌, ◌-ℤ◌, int_lt}, Int.{w32, cast_signed}}
-use Rattle.jbig2_base.specs.{Answer.{◌>>=◌, some_or}, Bits.{Place, bits_left, bits_next, bits_on}, declared.error.{DecodeError.{DecodeError, TheVariants.{Parse, Huffman, OutOfMemory}}, ParseError.TheVariants.{UnexpectedEof}, HuffmanError.TheVariants.{InvalidCode}}}
-use Rattle.jbig2_coder.specs.{declared.huffman_table.{line.TableLine.{TableLine}, custom.Header.{Header}}, PrefixCode.{IsFree, Member, table_of, in_word}, Tables.{line, lower, upper, out_of_band, standard_codes, uniform}}
+-- The lines of a custom table, from its bits (T.88, B.2). Each step takes a place in the bits and reads on from it.
+-- `custom_table` gives the code that the lines make, or the first error, and the place of the reader then.
+use Rattle.std.specs.Prelude.{◌≡◌, ◌⊎◌, ℕ, zero, suc, ◌+◌, ◌/◌, ◌%◌, ◌^◌, nat_lt, ◌==◌, List, [], ◌∷◌, ◌++◌, length}
+use Rattle.std.specs.Prelude.{All, IfOk, Result, Ok, Err, if◌then◌else◌, ℤ, pos, ◌+ℤ◌, ◌-ℤ◌, int_lt}
+use Rattle.std.specs.Int.{w32, cast_signed}
+use Rattle.jbig2_base.specs.Answer.{◌>>=◌, some_or}
+use Rattle.jbig2_base.specs.Bits.{Place, bits_left, bits_next, bits_on}
+use Rattle.jbig2_base.specs.declared.error.DecodeError.{DecodeError}
+use Rattle.jbig2_base.specs.declared.error.DecodeError.TheVariants.{Parse, Huffman, OutOfMemory}
+use Rattle.jbig2_base.specs.declared.error.ParseError.TheVariants.{UnexpectedEof}
+use Rattle.jbig2_base.specs.declared.error.HuffmanError.TheVariants.{InvalidCode}
+use Rattle.jbig2_coder.specs.declared.huffman_table.line.TableLine.{TableLine}
+use Rattle.jbig2_coder.specs.declared.huffman_table.custom.Header.{Header}
+use Rattle.jbig2_coder.specs.PrefixCode.{IsFree, Member, table_of, in_word}
+use Rattle.jbig2_coder.specs.Tables.{line, lower, upper, out_of_band, standard_codes, uniform}
 
-abbrev pub Step : Type 0 → Type 0  -- a value or an error, each with the place where the reader is left
+abbrev pub Step : Type 0 → Type 0  -- a value or an error, each with the place of the reader then
 Step A = Result (A × Place) (DecodeError × Place)
 
-abbrev pub left_at : {A : Type 0} → Place → Result A DecodeError → Step A  -- an answer, and the place then
+abbrev pub left_at : {A : Type 0} → Place → Result A DecodeError → Step A  -- a result, and the place then
 left_at p (Ok x) = Ok (x, p)
 left_at p (Err e) = Err (e, p)
 
-abbrev pub answer_of : {A : Type 0} → Step A → Result A DecodeError  -- the answer alone
+abbrev pub answer_of : {A : Type 0} → Step A → Result A DecodeError  -- only the result
 answer_of (Ok x) = Ok x.0
 answer_of (Err e) = Err e.0
 
@@ -35,17 +45,17 @@ custom_header p = do
 abbrev pub next_low : ℤ → ℕ → Result ℤ DecodeError  -- the low value of the next line, refused above signed 32 bits
 next_low low range = if nat_lt range 32 then in_word (low +ℤ pos (2 ^ range)) else Err (Huffman InvalidCode)
 
-abbrev pub custom_line : Header → ℤ → Place → Step (TableLine × ℤ)  -- a line, and the low value of the next
+abbrev pub custom_line : Header → ℤ → Place → Step (TableLine × ℤ)  -- a line, and the low value of the next one
 custom_line h low p = do
   len ← field (Huffman InvalidCode) h.prefix_bits p
   range ← field (Huffman InvalidCode) h.range_bits len.1
   next ← left_at range.1 (next_low low range.0)
   Ok ((line len.0 range.0 low, next.0), next.1)
 
-abbrev pub behind : List TableLine → Step (List TableLine) → Step (List TableLine)  -- lines before a step's
+abbrev pub behind : List TableLine → Step (List TableLine) → Step (List TableLine)  -- these lines, then those of a step
 behind before s = s >>= λ lines. Ok (before ++ lines.0, lines.1)
 
--- The lines while the low value is below the maximum. Each takes two bits at least: no more come than bits are left.
+-- The lines while the low value is below the maximum. Each takes at least two bits: no more come than bits are left.
 abbrev pub range_lines_in : ℕ → Header → ℤ → Place → Step (List TableLine)
 range_lines_in zero h low p = Ok ([], p)
 range_lines_in (suc n) h low p =
@@ -69,18 +79,18 @@ custom_lines p = do
   ranges ← range_lines header.0 header.1
   behind ranges.0 (end_lines header.0 ranges.1)
 
-unfoldable pub custom_table : Place → Step (List Member)  -- a custom table, by its bits
+unfoldable pub custom_table : Place → Step (List Member)  -- a custom table, from its bits
 custom_table p = do
   lines ← custom_lines p
   left_at lines.1 (table_of lines.0)
 
--- What a call answered, and where the reader stands then, is what was meant, unless memory ran out.
+-- What a call returned, and the place of its reader then, is what was meant, unless memory ran out.
 abbrev pub GivesAt : {X Y : Type 0} → (X → Y) → Result X DecodeError → Place → Step Y → Type 0
 GivesAt view (Ok x) p meant = meant ≡ Ok (view x, p)
 GivesAt view (Err e) p meant = (e ≡ OutOfMemory) ⊎ (meant ≡ Err (e, p))
 
--- No code of a table begins another (B.3), whichever way it is made: the tables of listed lines, of codes of one
--- length, of a tables segment's bits (B.2), and the standard ones (B.5).
+-- No code of a table begins another (B.3), however the table is made: from listed lines, from codes of one length, from
+-- a tables segment's bits (B.2), or as a standard table (B.5).
 pub record TablesAreFree : Type 0 where
   pub listed : (lines : List TableLine) → IfOk (table_of lines) IsFree
   pub uniform : (count code_length : ℕ) → IfOk (table_of (uniform count code_length)) IsFree

@@ -1,13 +1,15 @@
--- The arithmetic encoder (T.88, E.2), one shift at a time. A decision in its context takes the registers and the
--- bytes so far on to the next; FLUSH ends the bytes. Whole lists of decisions come after it, and the law that the
+-- The arithmetic encoder (T.88, E.2), one shift at a time. Coding a decision in its context takes the registers and the
+-- bytes so far, and gives the next ones. FLUSH ends the bytes. Then come whole lists of decisions, and the law that the
 -- decoder of `Coder` reads them back.
-use Rattle.std.specs.Prelude.{ℕ, suc, zero, ◌+◌, ◌-◌, ◌*◌, ◌/◌, ◌%◌, ◌^◌, Bool, true, false, not, if◌then◌else◌, ◌==◌, nat_lt, nat_le, List, [], ◌∷◌, reverse, map, ◌≡◌}
-use Rattle.jbig2_coder.specs.{Table.{row_of}, Coder.{Context, likely_next, unlikely_next, Registers, fresh, decision, initial_registers}}
+use Rattle.std.specs.Prelude.{ℕ, suc, zero, ◌+◌, ◌-◌, ◌*◌, ◌/◌, ◌%◌, ◌^◌, Bool, true, false, not, if◌then◌else◌, ◌==◌}
+use Rattle.std.specs.Prelude.{nat_lt, nat_le, List, [], ◌∷◌, reverse, map, ◌≡◌}
+use Rattle.jbig2_coder.specs.Table.{row_of}
+use Rattle.jbig2_coder.specs.Coder.{Context, likely_next, unlikely_next, Registers, fresh, decision, initial_registers}
 
-abbrev pub Writer : Type 0  -- C, the shifts before the next byte goes out (CT), and the bytes out, last first
+abbrev pub Writer : Type 0  -- C, the shifts until the next byte goes out (CT), and the bytes that went out, last first
 Writer = record { register : ℕ; wait : ℕ; out : List ℕ }
 
-abbrev pub Coding : Type 0  -- the interval register A beside it
+abbrev pub Coding : Type 0  -- with the interval register A
 Coding = record { range : ℕ; writer : Writer }
 
 unfoldable pub opened : Coding  -- INITENC (E.2.8)
@@ -16,10 +18,10 @@ opened = record { range = 0x8000; writer = record { register = 0; wait = 12; out
 unfoldable pub plain : ℕ → List ℕ → Writer  -- BYTEOUT (E.2.7) of a byte of eight bits
 plain c out = record { register = c % 2 ^ 19; wait = 8; out = (c / 2 ^ 19 % 256) ∷ out }
 
-unfoldable pub stuffed : ℕ → List ℕ → Writer  -- and of one of seven bits, after a byte FF
+unfoldable pub stuffed : ℕ → List ℕ → Writer  -- the same of a byte of seven bits, after a byte FF
 stuffed c out = record { register = c % 2 ^ 20; wait = 7; out = (c / 2 ^ 20) ∷ out }
 
--- BYTEOUT (E.2.7): a carry goes into the last byte, but not into FF, after which a stuffed bit takes it up
+-- BYTEOUT (E.2.7): a carry is added to the last byte, but not to FF; after FF a stuffed bit takes the carry
 unfoldable pub byte_out : ℕ → List ℕ → Writer
 byte_out c [] = plain c []
 byte_out c (last ∷ out) =
@@ -28,22 +30,22 @@ byte_out c (last ∷ out) =
     else if last + 1 == 0xFF then stuffed (c % 2 ^ 27) (0xFF ∷ out)
     else plain c ((last + 1) ∷ out)
 
-unfoldable pub shifted : Writer → Writer  -- C moves on by one bit, and a byte goes out where enough have gathered
+unfoldable pub shifted : Writer → Writer  -- C is shifted by one bit, and a byte goes out if there are enough bits
 shifted w =
     if w.wait - 1 == 0 then byte_out (2 * w.register) w.out
     else record { register = 2 * w.register; wait = w.wait - 1; out = w.out }
 
--- RENORME (E.2.6): A and C move on bit by bit until A is at least 8000. Fifteen times are enough for any A but 0.
+-- RENORME (E.2.6): A and C are shifted bit by bit until A is at least 8000. Fifteen shifts are enough for any A but 0.
 unfoldable pub renormed : ℕ → ℕ → Writer → Coding
 renormed zero a w = record { range = a; writer = w }
 renormed (suc n) a w =
     let more = renormed n (2 * a) (shifted w) in
     if nat_lt a 0x8000 then more else record { range = a; writer = w }
 
-abbrev pub Narrowed : Type 0  -- what a decision makes of A, C and its context, and whether RENORME follows
+abbrev pub Narrowed : Type 0  -- A, C and the context after a decision, and whether RENORME follows
 Narrowed = record { range : ℕ; register : ℕ; context : Context; renorm : Bool }
 
--- CODEMPS (E.2.4): the likely symbol gets the upper part of the interval, unless that has become the smaller one
+-- CODEMPS (E.2.4): the likely symbol gets the upper part of the interval, unless that is now the smaller part
 unfoldable pub narrowed_likely : Context → ℕ → ℕ → Narrowed
 narrowed_likely context a c =
     let qe = (row_of context.row).qe in
@@ -52,7 +54,7 @@ narrowed_likely context a c =
     else if nat_lt rest qe then record { range = qe; register = c; context = likely_next context; renorm = true }
     else record { range = rest; register = c + qe; context = likely_next context; renorm = true }
 
--- CODELPS (E.2.4): and the unlikely symbol the other part
+-- CODELPS (E.2.4): the unlikely symbol gets the other part
 unfoldable pub narrowed_unlikely : Context → ℕ → ℕ → Narrowed
 narrowed_unlikely context a c =
     let qe = (row_of context.row).qe in
@@ -65,7 +67,7 @@ narrowed context decision a c =
     if (if context.likely then decision else not decision) then narrowed_likely context a c
     else narrowed_unlikely context a c
 
--- an encoder once a decision is coded, and the decision's context
+-- the encoder after a decision is coded, and the decision's context then
 unfoldable pub encoding : Context → Bool → Coding → record { coding : Coding; context : Context }
 encoding context decision s =
     let next = narrowed context decision s.range s.writer.register in
@@ -75,12 +77,12 @@ encoding context decision s =
       context = next.context;
     }
 
-unfoldable pub set_bits : ℕ → ℕ → ℕ  -- SETBITS (E.2.9): C with as many low ones as the interval allows
+unfoldable pub set_bits : ℕ → ℕ → ℕ  -- SETBITS (E.2.9): C with as many low bits set as the interval allows
 set_bits a c =
     let ones = c - c % 2 ^ 16 + 0xFFFF in
     if nat_le (c + a) ones then ones - 0x8000 else ones
 
--- FLUSH (E.2.9): C goes out by two bytes, and then the marker FF AC closes the data; a last byte FF begins the marker
+-- FLUSH (E.2.9): C goes out in two bytes, and then the marker FF AC ends the data; a last byte FF begins the marker
 unfoldable pub flushed : Coding → Writer
 flushed s =
     let first = byte_out (set_bits s.range s.writer.register * 2 ^ s.writer.wait) s.writer.out in
@@ -93,7 +95,7 @@ is_full (last ∷ out) = last == 0xFF
 unfoldable pub closed : List ℕ → List ℕ
 closed out = reverse (if is_full out then 0xAC ∷ out else 0xAC ∷ 0xFF ∷ out)
 
-unfoldable pub with_context : (ℕ → Context) → ℕ → Context → ℕ → Context  -- one of them replaced
+unfoldable pub with_context : (ℕ → Context) → ℕ → Context → ℕ → Context  -- the contexts with one of them replaced
 with_context contexts k context = λ j. if j == k then context else contexts j
 
 unfoldable pub encode_from : Coding → (ℕ → Context) → List (ℕ × Bool) → Coding  -- the encoder after a list
@@ -105,7 +107,7 @@ encode_from s contexts (entry ∷ entries) =
 unfoldable pub encoded : List (ℕ × Bool) → List ℕ  -- the bytes of a list of (context, decision)
 encoded entries = closed (flushed (encode_from opened (λ _. fresh) entries)).out
 
-unfoldable pub decoded_from : List ℕ → Registers → (ℕ → Context) → List ℕ → List Bool  -- the decisions read
+unfoldable pub decoded_from : List ℕ → Registers → (ℕ → Context) → List ℕ → List Bool  -- the decisions that are read
 decoded_from bytes registers contexts [] = []
 decoded_from bytes registers contexts (k ∷ asked) =
     let next = decision bytes registers (contexts k) in
@@ -114,5 +116,5 @@ decoded_from bytes registers contexts (k ∷ asked) =
 unfoldable pub read_back : List ℕ → List ℕ → List Bool
 read_back bytes asked = decoded_from bytes (initial_registers bytes) (λ _. fresh) asked
 
-abbrev pub DecodesBack : Type 0  -- whatever is encoded, the decoder that is asked in the same contexts reads back
+abbrev pub DecodesBack : Type 0  -- what is encoded is read back, if the decoder uses the same contexts
 DecodesBack = (entries : List (ℕ × Bool)) → read_back (encoded entries) (map (λ entry. entry.0) entries) ≡ map (λ entry. entry.1) entries

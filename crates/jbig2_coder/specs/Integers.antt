@@ -1,18 +1,24 @@
--- Integers and symbol ids (T.88, Annex A): decisions whose contexts the bits read so far name. A reading takes the
--- coder's registers and a procedure's contexts, and gives a value or out of band with both as they are then. `asked`
--- takes the name of a procedure (6.4, 6.5), whose contexts go on from integer to integer.
-use Rattle.std.specs.Prelude.{ℕ, suc, zero, ◌+◌, ◌-◌, ◌*◌, ◌%◌, ◌^◌, Bool, true, false, not, ◌&&◌, if◌then◌else◌, ◌==◌, nat_lt, List, [], ◌∷◌, ◌++◌, length, drop, slice_index_or, slice_set, Some, None, Option, ℤ, pos, ◌-ℤ◌, replicate}
+-- Integers and symbol ids (T.88, Annex A): the bits read so far give the context of each decision. A reading takes the
+-- coder's registers and a procedure's contexts. It gives a value or out of band, with registers and contexts as they
+-- are then. `asked` takes the name of a procedure (6.4, 6.5), whose contexts are kept from integer to integer.
+use Rattle.std.specs.Prelude.{ℕ, suc, zero, ◌+◌, ◌-◌, ◌*◌, ◌%◌, ◌^◌, Bool, true, false, not, ◌&&◌, if◌then◌else◌, ◌==◌}
+use Rattle.std.specs.Prelude.{nat_lt, List, [], ◌∷◌, ◌++◌, length, drop, slice_index_or, slice_set, Some, None, Option}
+use Rattle.std.specs.Prelude.{ℤ, pos, ◌-ℤ◌, replicate}
 use Rattle.jbig2_base.specs.Grid.{bit_number}
-use Rattle.jbig2_coder.specs.{Coder.{Context, Decision, Registers, fresh, decision, Coder}, declared.integer_procedures.IntegerProcedure.{IntegerProcedure, TheVariants.{Iaai, Iadh, Iads, Iadt, Iadw, Iaex, Iafs, Iait, Iardh, Iardw, Iardx, Iardy, Iari}}}
+use Rattle.jbig2_coder.specs.Coder.{Context, Decision, Registers, fresh, decision, Coder}
+use Rattle.jbig2_coder.specs.declared.integer_procedures.IntegerProcedure.{IntegerProcedure}
+use Rattle.jbig2_coder.specs.declared.integer_procedures.IntegerProcedure.TheVariants.{Iaai, Iadh, Iads, Iadt, Iadw}
+use Rattle.jbig2_coder.specs.declared.integer_procedures.IntegerProcedure.TheVariants.{Iaex, Iafs, Iait, Iardh, Iardw}
+use Rattle.jbig2_coder.specs.declared.integer_procedures.IntegerProcedure.TheVariants.{Iardx, Iardy, Iari}
 
-unfoldable pub value_of_bits : List Bool → ℕ  -- the number that bits spell, the high bit first
+unfoldable pub value_of_bits : List Bool → ℕ  -- the number that bits make, high bit first
 value_of_bits [] = 0
 value_of_bits (b ∷ bits) = bit_number b * 2 ^ length bits + value_of_bits bits
 
-abbrev pub Reading : Type 0  -- what has been read so far, and the registers and the contexts after it
+abbrev pub Reading : Type 0  -- the bits read so far, and the registers and the contexts after them
 Reading = record { bits : List Bool; registers : Registers; contexts : List Context }
 
-unfoldable pub next : (List Bool → ℕ) → List ℕ → Reading → Decision  -- in the context that the bits so far name
+unfoldable pub next : (List Bool → ℕ) → List ℕ → Reading → Decision  -- the decision in the context of the bits so far
 next name bytes r = decision bytes r.registers (slice_index_or r.contexts (name r.bits) fresh)
 
 unfoldable pub read : (List Bool → ℕ) → List ℕ → Reading → Reading  -- one bit more
@@ -24,10 +30,10 @@ unfoldable pub read_more : (List Bool → ℕ) → ℕ → List ℕ → Reading 
 read_more name zero bytes r = r
 read_more name (suc n) bytes r = read name bytes (read_more name n bytes r)
 
-abbrev pub prev_of : List Bool → ℕ  -- PREV (A.2): what a 1 and the last bits spell, at most eight of them
+abbrev pub prev_of : List Bool → ℕ  -- PREV (A.2): the number that a 1 and the last bits make, at most eight of them
 prev_of bits = value_of_bits (true ∷ drop (length bits - 8) bits)
 
-abbrev pub Range : Type 0  -- a row of Table A.1: the decisions that name it, the bits of the value, the least value
+abbrev pub Range : Type 0  -- a row of Table A.1: the decisions that select it, the bits of the value, the least value
 Range = record { prefix : List Bool; bits : ℕ; offset : ℕ }
 
 abbrev pub range : List Bool → ℕ → ℕ → Range
@@ -47,11 +53,11 @@ are_next [] bytes r = true
 are_next (true ∷ others) bytes r = (next prev_of bytes r).symbol && are_next others bytes (read prev_of bytes r)
 are_next (false ∷ others) bytes r = not (next prev_of bytes r).symbol && are_next others bytes (read prev_of bytes r)
 
-unfoldable pub next_range : List Range → List ℕ → Reading → Range  -- the first whose prefix comes; one always does
+unfoldable pub next_range : List Range → List ℕ → Reading → Range  -- the row whose prefix comes next; there is one
 next_range [] bytes r = range [] 0 0
 next_range (row ∷ rows) bytes r = if are_next row.prefix bytes r then row else next_range rows bytes r
 
-unfoldable pub signed : ℕ → ℤ  -- a number below 2 ^ 32 as a signed one
+unfoldable pub signed : ℕ → ℤ  -- a number below 2 ^ 32 as a signed one of 32 bits
 signed n = if nat_lt n (2 ^ 31) then pos n else pos n -ℤ pos (2 ^ 32)
 
 unfoldable pub value_of : Bool → ℕ → Option ℤ  -- the value, or out of band
@@ -69,7 +75,7 @@ integer bytes registers contexts =
     let sum = (value_of_bits (drop (length before.bits) after.bits) + row.offset) % 2 ^ 32 in
     record { value = value_of (next prev_of bytes start).symbol sum; reading = after }
 
--- A symbol id (A.3): as many bits as the code length says, each in the context that the bits so far spell after a 1.
+-- A symbol id (A.3) has as many bits as the code length says. A bit's context is the number of a 1 and the bits so far.
 abbrev pub Ids : Type 0
 Ids = record { code_len : ℕ; contexts : List Context }
 
@@ -93,7 +99,7 @@ index_of Iardx = 10
 index_of Iardy = 11
 index_of Iari = 12
 
-abbrev pub Procedures : Type 0  -- what the contexts of each procedure have learned, in that order
+abbrev pub Procedures : Type 0  -- the contexts of each procedure, in that order
 Procedures = List (List Context)
 
 abbrev pub fresh_procedures : Procedures

@@ -1,18 +1,27 @@
--- Prefix codes (T.88, B.3 and B.4). `prefix_code` takes lines and gives the codes that their prefix lengths make;
--- `decoded_value` takes these and bits, and gives a value or an error and how many bits are taken.
-use Rattle.std.specs.Prelude.{◌≡◌, AllPairs, ℕ, zero, suc, ◌+◌, ◌-◌, ◌/◌, ◌^◌, ◌≤◌, nat_lt, nat_le, ◌==◌, Bool, false, not, ◌&&◌, ◌||◌, List, [], ◌∷◌, ◌++◌, length, take, drop, max, filter, All, Option, Some, None, is_some, Result, Ok, Err, if◌then◌else◌, ℤ, pos, ◌+ℤ◌, ◌-ℤ◌}
-use Rattle.jbig2_base.specs.{Bits.{Place, bits_left, bits_next, bits_on, number_after}, Search.{place_from}, Answer.{◌>>=◌}, declared.error.{DecodeError.{DecodeError, TheVariants.{Parse, Huffman}}, ParseError.TheVariants.{UnexpectedEof}, HuffmanError.TheVariants.{InvalidCode, UnexpectedOob}}, Fields.{word_or}}
+-- Prefix codes (T.88, B.3 and B.4). `prefix_code` takes lines and gives the codes that their prefix lengths make.
+-- `decoded_value` takes these codes and bits. It gives a value or an error, and how many bits it takes.
+use Rattle.std.specs.Prelude.{◌≡◌, AllPairs, ℕ, zero, suc, ◌+◌, ◌-◌, ◌/◌, ◌^◌, ◌≤◌, nat_lt, nat_le, ◌==◌, Bool, false}
+use Rattle.std.specs.Prelude.{not, ◌&&◌, ◌||◌, List, [], ◌∷◌, ◌++◌, length, take, drop, max, filter, All, Option, Some}
+use Rattle.std.specs.Prelude.{None, is_some, Result, Ok, Err, if◌then◌else◌, ℤ, pos, ◌+ℤ◌, ◌-ℤ◌}
+use Rattle.jbig2_base.specs.Bits.{Place, bits_left, bits_next, bits_on, number_after}
+use Rattle.jbig2_base.specs.Search.{place_from}
+use Rattle.jbig2_base.specs.Answer.{◌>>=◌}
+use Rattle.jbig2_base.specs.declared.error.DecodeError.{DecodeError}
+use Rattle.jbig2_base.specs.declared.error.DecodeError.TheVariants.{Parse, Huffman}
+use Rattle.jbig2_base.specs.declared.error.ParseError.TheVariants.{UnexpectedEof}
+use Rattle.jbig2_base.specs.declared.error.HuffmanError.TheVariants.{InvalidCode, UnexpectedOob}
+use Rattle.jbig2_base.specs.Fields.{word_or}
 use Rattle.jbig2_coder.specs.declared.huffman_table.line.TableLine.{TableLine}
 
--- A code: how many bits it has, the number that they spell, high bit first, and the line that it stands for.
+-- A code: how many bits it has, the number that they make, high bit first, and its line in the table.
 abbrev pub Member : Type 0
 Member = record { bits : ℕ; number : ℕ; line : TableLine }
 
--- What a read returns, and how many bits it takes; where the bits end first, one more than there are.
+-- The result of a read, and how many bits it takes. If the bits end too early, that is one more than there are.
 abbrev pub CodeReading : Type 0 → Type 0
 CodeReading A = record { answer : Result A DecodeError; taken : ℕ }
 
--- A call that returns what a reading returns, and leaves the place after the bits that it takes.
+-- A call that returns the result of a reading, and leaves the place after the bits that the reading takes.
 pub record Reads {A : Type 0} (old new : Place) (result : Result A DecodeError) (reading : CodeReading A) : Type 0 where
   pub value : result ≡ reading.answer
   pub place : new ≡ bits_on reading.taken old
@@ -25,19 +34,19 @@ longest (x ∷ xs) = max x.prefix_length (longest xs)
 abbrev pub level : ℕ → List TableLine → List TableLine  -- the lines whose codes have l bits, in their order
 level l lines = filter (λ x. x.prefix_length == l) lines
 
-abbrev pub share : ℕ → ℕ → ℕ  -- the codes of l bits that lie under a code of len bits; none under no code
+abbrev pub share : ℕ → ℕ → ℕ  -- how many codes of l bits begin with one code of len bits; 0 if len is 0
 share l len = if nat_lt 0 len && nat_le len l then 2 ^ (l - len) else 0
 
-unfoldable pub weight : ℕ → List TableLine → ℕ  -- the codes of l bits that lie under the codes of at most l bits
+unfoldable pub weight : ℕ → List TableLine → ℕ  -- the sum of these shares, over all lines
 weight l [] = 0
 weight l (x ∷ xs) = share l x.prefix_length + weight l xs
 
-unfoldable pub shorter : ℕ → List TableLine → ℕ  -- those that lie under the codes of fewer than l bits
+unfoldable pub shorter : ℕ → List TableLine → ℕ  -- the sum over the lines of fewer than l bits
 shorter l [] = 0
 shorter l (x ∷ xs) = (if nat_lt x.prefix_length l then share l x.prefix_length else 0) + shorter l xs
 
--- The members of l bits, of all lines, where `earlier` stand before the others. A code (B.3) is the sum of 2^(l - len)
--- over the lines that are shorter, or as long and earlier; each of those that are as long adds 1.
+-- The members of l bits; `earlier` are the lines before the others. A code (B.3) is the sum of 2^(l - len) over the
+-- lines that are shorter, or as long and earlier; each of those that are as long adds 1.
 abbrev pub members_of : ℕ → List TableLine → List TableLine → List TableLine → List Member
 members_of l lines earlier [] = []
 members_of l lines earlier (x ∷ xs) =
@@ -45,31 +54,31 @@ members_of l lines earlier (x ∷ xs) =
     let code = shorter l lines + length (level l earlier) in
     if x.prefix_length == l then record { bits = l; number = code; line = x } ∷ others else others
 
-abbrev pub members_from : ℕ → ℕ → List TableLine → List Member  -- the members of n lengths from l on
+abbrev pub members_from : ℕ → ℕ → List TableLine → List Member  -- the members of n lengths, from l on
 members_from zero l lines = []
 members_from (suc n) l lines = members_of l lines [] lines ++ members_from n (l + 1) lines
 
-unfoldable pub prefix_code : List TableLine → List Member  -- the code of these lines, by length, then by place
+unfoldable pub prefix_code : List TableLine → List Member  -- the codes of these lines, by length, then by place
 prefix_code lines = members_from (longest lines) 1 lines
 
 unfoldable pub is_crowded : List TableLine → Bool  -- whether the sum of 2^-len over the codes exceeds 1
 is_crowded lines = nat_lt (2 ^ longest lines) (weight (longest lines) lines)
 
-abbrev pub table_of : List TableLine → Result (List Member) DecodeError  -- refused where it is crowded
+abbrev pub table_of : List TableLine → Result (List Member) DecodeError  -- the codes, refused if they are crowded
 table_of lines = if is_crowded lines then Err (Huffman InvalidCode) else Ok (prefix_code lines)
 
 abbrev pub line_of : List Member → ℕ → ℕ → Option TableLine  -- the line whose code is the number v of k bits
 line_of [] k v = None
 line_of (m ∷ ms) k v = if m.bits == k && (m.number == v) then Some m.line else line_of ms k v
 
-abbrev pub begins_longer : List Member → ℕ → ℕ → Bool  -- whether the number v of k bits begins a longer code
+abbrev pub begins_longer : List Member → ℕ → ℕ → Bool  -- whether a longer code begins with the number v of k bits
 begins_longer [] k v = false
 begins_longer (m ∷ ms) k v = (nat_lt k m.bits && (m.number / 2 ^ (m.bits - k) == v)) || begins_longer ms k v
 
-abbrev pub front_number : ℕ → List ℕ → ℕ  -- the number that the first k bits spell
+abbrev pub front_number : ℕ → List ℕ → ℕ  -- the number that the first k bits make
 front_number k bits = number_after 0 (take k bits)
 
--- The line of the code that begins the bits; else the shortest beginning that begins no code is refused (B.4).
+-- The line of the code that begins the bits. If there is none, the first bits that begin no code are refused (B.4).
 unfoldable pub read_code : List Member → List ℕ → CodeReading TableLine
 read_code ms bits =
     let found : ℕ → Option TableLine = λ k. line_of ms k (front_number k bits) in
@@ -80,17 +89,17 @@ read_code ms bits =
       | None ↦ record { answer = Err (Huffman InvalidCode); taken = k }
     ]
 
-abbrev pub in_word : ℤ → Result ℤ DecodeError  -- a number in signed 32 bits
+abbrev pub in_word : ℤ → Result ℤ DecodeError  -- a number that fits signed 32 bits
 in_word n = word_or (Huffman InvalidCode) n
 
-abbrev pub moved : TableLine → ℕ → ℤ  -- the low value and the range bits together: a lower line goes down
+abbrev pub moved : TableLine → ℕ → ℤ  -- the low value plus the range bits, or minus them in a lower line
 moved line offset = if line.is_lower then line.range_low -ℤ pos offset else line.range_low +ℤ pos offset
 
 abbrev pub value_by : TableLine → Option ℕ → Result (Option ℤ) DecodeError  -- a line's value, by its range bits
 value_by line None = Err (Huffman InvalidCode)
 value_by line (Some offset) = in_word (moved line offset) >>= λ n. Ok (Some n)
 
--- A value read by a table (B.4): a code, and after it its line's range bits; out of band is None, and has none.
+-- A value read by a table (B.4): a code, and then the range bits of its line. Out of band is None, without range bits.
 unfoldable pub decoded_value : List Member → List ℕ → CodeReading (Option ℤ)
 decoded_value ms bits =
     let code = read_code ms bits in
@@ -101,7 +110,7 @@ decoded_value ms bits =
       | Err e ↦ record { answer = Err e; taken = code.taken }
     ]
 
-abbrev pub no_oob : Result (Option ℤ) DecodeError → Result ℤ DecodeError  -- a value where none may be out of band
+abbrev pub no_oob : Result (Option ℤ) DecodeError → Result ℤ DecodeError  -- a value, where none may be out of band
 no_oob (Ok (Some n)) = Ok n
 no_oob (Ok None) = Err (Huffman UnexpectedOob)
 no_oob (Err e) = Err e
@@ -109,10 +118,10 @@ no_oob (Err e) = Err e
 abbrev pub without_oob : CodeReading (Option ℤ) → CodeReading ℤ
 without_oob reading = record { answer = no_oob reading.answer; taken = reading.taken }
 
-abbrev pub AreShort : List TableLine → Type 0  -- range lengths that one read of bits can take
+abbrev pub AreShort : List TableLine → Type 0  -- one read of bits can take each range length
 AreShort lines = All (λ x. x.range_length ≤ 32) lines
 
-abbrev pub begins : Member → Member → Bool  -- whether a's bits are the first ones of b's
+abbrev pub begins : Member → Member → Bool  -- whether the bits of a are the first bits of b
 begins a b = nat_le a.bits b.bits && (b.number / 2 ^ (b.bits - a.bits) == a.number)
 
 abbrev pub IsFree : List Member → Type 0  -- no code begins another

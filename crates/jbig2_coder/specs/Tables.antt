@@ -1,19 +1,22 @@
--- The standard tables (T.88, B.5), to be compared with the standard line by line: for each of B.1 to B.15 its lines,
+-- The standard tables (T.88, B.5), to be compared with the standard line by line. Each of B.1 to B.15 has its lines
 -- with the length of the prefix, the number of range bits and the lowest value. `prefix_code` gives their codes.
--- `standard` and `next_custom` are what a segment selects (7.4.2.1.6, 7.4.3.1.6): a table, and the custom ones that
+-- `standard` and `next_custom` are what a segment selects (7.4.2.1.6, 7.4.3.1.6): a table, and the custom tables that
 -- are left.
 use Rattle.std.specs.Prelude.{ℕ, zero, suc, true, false, List, [], ◌∷◌, ◌++◌, map, ℤ, pos, negsuc, Result, Ok, Err}
-use Rattle.jbig2_coder.specs.{declared.huffman_table.line.TableLine.{TableLine}, PrefixCode.{Member, prefix_code}}
-use Rattle.jbig2_base.specs.declared.error.{DecodeError.{DecodeError, TheVariants.{Huffman}}, HuffmanError.TheVariants.{MissingTables}}
+use Rattle.jbig2_coder.specs.declared.huffman_table.line.TableLine.{TableLine}
+use Rattle.jbig2_coder.specs.PrefixCode.{Member, prefix_code}
+use Rattle.jbig2_base.specs.declared.error.DecodeError.{DecodeError}
+use Rattle.jbig2_base.specs.declared.error.DecodeError.TheVariants.{Huffman}
+use Rattle.jbig2_base.specs.declared.error.HuffmanError.TheVariants.{MissingTables}
 
 abbrev pub minus : ℕ → ℤ
 minus zero = pos 0
 minus (suc n) = negsuc n
 
-abbrev pub line : ℕ → ℕ → ℤ → TableLine  -- a line by its prefix length, its range length and its low value
+abbrev pub line : ℕ → ℕ → ℤ → TableLine  -- a line, by its prefix length, its range length and its low value
 line len range low = record { range_low = low; prefix_length = len; range_length = range; is_lower = false; is_out_of_band = false }
 
-abbrev pub lower : ℕ → ℤ → TableLine  -- the lower range table line, whose values go down from its low value
+abbrev pub lower : ℕ → ℤ → TableLine  -- the lower range table line; its values go down from its low value
 lower len low = record { range_low = low; prefix_length = len; range_length = 32; is_lower = true; is_out_of_band = false }
 
 abbrev pub upper : ℕ → ℤ → TableLine  -- the upper range table line
@@ -96,7 +99,7 @@ lines_o = line 7 4 (minus 24) ∷ line 6 2 (minus 8) ∷ line 5 1 (minus 4) ∷ 
     line 1 0 (pos 0) ∷ line 3 0 (pos 1) ∷ line 4 0 (pos 2) ∷ line 5 1 (pos 3) ∷ line 6 2 (pos 5) ∷
     line 7 4 (pos 9) ∷ lower 7 (minus 25) ∷ upper 7 (pos 25) ∷ []
 
-abbrev pub uniform : ℕ → ℕ → List TableLine  -- lines 0 to count - 1, of codes of this many bits and no range bits
+abbrev pub uniform : ℕ → ℕ → List TableLine  -- lines 0 to count - 1, with codes of this many bits and no range bits
 uniform zero length = []
 uniform (suc n) length = uniform n length ++ line length 0 (pos n) ∷ []
 
@@ -107,11 +110,11 @@ standard_tables = lines_a ∷ lines_b ∷ lines_c ∷ lines_d ∷ lines_e ∷ li
 unfoldable pub standard_codes : List (List Member)
 standard_codes = map prefix_code standard_tables
 
--- a table of the standard, which takes no custom one
+-- a standard table; the custom tables stay
 abbrev pub standard : List Member → List (List Member) → Result (List Member × List (List Member)) DecodeError
 standard table customs = Ok (table, customs)
 
--- the next custom table; too few are refused (our own rule)
+-- the next custom table; refused if none is left (our own rule)
 abbrev pub next_custom : List (List Member) → Result (List Member × List (List Member)) DecodeError
 next_custom [] = Err (Huffman MissingTables)
 next_custom (table ∷ others) = Ok (table, others)

@@ -15,14 +15,14 @@ use std::sync::ledger::Ledger;
 pub mod qe_table;
 pub mod registers;
 
-/// What the decoder has learned of one context: a row of the table of probabilities, and the symbol
-/// that is the more likely one there. Both are kept in one byte, twice the row and the symbol.
+/// The state of one context: a row of the table of probabilities, and the more likely symbol. Both
+/// are kept in one byte: twice the row, plus the symbol.
 #[derive(Clone, Copy)]
 pub struct ArithmeticDecoderContext {
     pub(crate) state: u8,
 }
 
-/// What a decision that isn't quiet chooses: the symbol, the size of its part of the interval, and
+/// The choice of a decision that isn't quiet: the symbol, the size of its part of the interval, and
 /// how much lies below that part.
 #[derive(Clone, Copy)]
 struct Part {
@@ -63,7 +63,7 @@ impl Default for ArithmeticDecoderContext {
 }
 
 impl ArithmeticDecoderContext {
-    /// A context of which nothing is known yet: row 0, and 0 the likely symbol.
+    /// A fresh context: row 0, with 0 as the likely symbol.
     #[inline(always)]
     pub fn new() -> Self
         ensures { result ≡ fresh }
@@ -71,7 +71,7 @@ impl ArithmeticDecoderContext {
         ArithmeticDecoderContext { state: 0 }
     }
 
-    /// The symbol that is the more likely one in this context.
+    /// The more likely symbol in this context.
     #[inline(always)]
     pub fn likely_symbol(&self) -> bool
         ensures { result ≡ self.now.likely }
@@ -79,7 +79,7 @@ impl ArithmeticDecoderContext {
         self.state % 2 == 1
     }
 
-    /// The likely symbol, after which the context is in the next row for it (NMPS of Table E.1).
+    /// Returns the likely symbol, and moves the context to the next row for it (NMPS of Table E.1).
     #[inline(always)]
     pub(crate) fn after_likely(&mut self) -> bool
         ensures context { self.new ≡ likely_next self.old }
@@ -90,8 +90,8 @@ impl ArithmeticDecoderContext {
         symbol
     }
 
-    /// The unlikely symbol, after which the context is in the next row for it (NLPS and SWITCH of
-    /// Table E.1).
+    /// Returns the unlikely symbol, and moves the context to the next row for it (NLPS and SWITCH
+    /// of Table E.1).
     #[inline(always)]
     pub(crate) fn after_unlikely(&mut self) -> bool
         ensures context { self.new ≡ unlikely_next self.old }
@@ -102,9 +102,9 @@ impl ArithmeticDecoderContext {
         symbol
     }
 
-    /// The symbol of a decision that isn't quiet, which gets its part of the interval (MPS_EXCHANGE
-    /// and LPS_EXCHANGE, E.3.2): `state` is what the context does, `rest` what the less likely symbol
-    /// leaves of A, `high` the upper half of C.
+    /// Chooses the symbol of a decision that isn't quiet, and its part of the interval (MPS_EXCHANGE
+    /// and LPS_EXCHANGE, E.3.2). `state` is the data of the context's state, `rest` is what the less
+    /// likely symbol leaves of A, and `high` is the upper half of C.
     #[inline(always)]
     fn exchange(&mut self, state: State, rest: u32, high: u32) -> Part
         requires normal { 0x8000 ≤ rest + state.qe }
@@ -124,7 +124,7 @@ impl ArithmeticDecoderContext {
         ensures some { 1 ≤ result.size }
         ensures half { result.size < 0x8000 }
     {
-        // Which of the two it is can hardly be foretold, so no jump hangs on it.
+        // Which of the two symbols it is can hardly be predicted, so no jump depends on it.
         let is_lower = high >= rest;
         let is_unlikely = is_lower != (rest < state.qe);
         let below = if is_lower { rest } else { 0 };
@@ -143,7 +143,7 @@ impl ArithmeticDecoderContext {
     }
 }
 
-/// Where A has to stay for a decision to be quiet, by the upper half of the code register C.
+/// The least value of A after a quiet decision, by the upper half of the code register C.
 #[inline(always)]
 fn floor_above(high: u32) -> u32
     requires { high < 2 ^ 16 }
@@ -152,7 +152,7 @@ fn floor_above(high: u32) -> u32
     (high + 1).max(0x8000)
 }
 
-/// How often `total` goes into `room`, but no more than `most` times.
+/// How often `total` fits in `room`, but at most `most` times.
 #[inline(always)]
 fn whole_groups(room: u32, total: u32, most: u32) -> u32
     requires some { 1 ≤ total }
@@ -173,7 +173,7 @@ fn whole_groups(room: u32, total: u32, most: u32) -> u32
 pub struct ArithmeticDecoder<'a> {
     bytes: &'a [u8],
     registers: BufferedRegisters,
-    /// Where A has to stay for a decision to be quiet. It changes with C alone, so it is kept.
+    /// The least value of A after a quiet decision. It changes only with C, so it is kept.
     floor: u32,
 }
 
@@ -212,7 +212,7 @@ impl<'a> ArithmeticDecoder<'a> {
         }
     }
 
-    /// The next decision in `context`, 0 or 1 (DECODE, Figure G.2), which `context` then knows of.
+    /// The next decision in `context`, 0 or 1 (DECODE, Figure G.2). It changes `context`.
     #[inline(always)]
     pub fn decode<L: Ledger>(
         &mut self,
@@ -230,7 +230,7 @@ impl<'a> ArithmeticDecoder<'a> {
         ensures steps { steps.new ≡ record steps.old { decisions = steps.old.decisions + 1 } }
     {
         steps.decision();
-        // Read once: for all that the compiler knows, A is kept where the context is.
+        // Read once: as far as the compiler knows, the write to A can change the context.
         let index = context.state;
         let state = state_at(index);
         let rest = self.registers.a - state.qe;
@@ -241,8 +241,8 @@ impl<'a> ArithmeticDecoder<'a> {
         u32::from(self.decode_renormalized(context, state, rest))
     }
 
-    /// A decision that isn't quiet, of which it is known already what the context does and what is
-    /// left of A. It stands apart, so that loops of decisions stay small.
+    /// A decision that isn't quiet, once the context's state and what is left of A are known. It is
+    /// a function of its own, so that loops of decisions stay small.
     #[inline(never)]
     fn decode_renormalized(
         &mut self,
@@ -270,7 +270,7 @@ impl<'a> ArithmeticDecoder<'a> {
     }
 
     /// Whether the next `count` decisions in `context` are all the likely symbol, each without a
-    /// renormalization. If so, they are taken; if not, nothing changes.
+    /// renormalization. If so, they are taken. If not, nothing changes.
     #[inline(always)]
     pub fn decode_mps_run<L: Ledger>(
         &mut self,
@@ -299,9 +299,9 @@ impl<'a> ArithmeticDecoder<'a> {
         true
     }
 
-    /// How many groups of `count` decisions in `context`, but no more than `most`, are all the
-    /// likely symbol, each without a renormalization. They are taken. Each counts as a test for a
-    /// run, and so does a call that takes none.
+    /// How many groups of `count` decisions in `context`, at most `most`, are all the likely
+    /// symbol, each decision without a renormalization. They are taken. Each group counts as a test
+    /// for a run, and a call that takes none counts as one.
     #[inline(always)]
     pub fn decode_mps_runs<L: Ledger>(
         &mut self,

@@ -1,4 +1,4 @@
-//! Prefix codes and the tables that hold them (T.88, Annex B).
+//! Builds tables of prefix codes, and reads values by them (T.88, Annex B).
 ghost use Rattle.std.specs.Prelude.{◌≡◌, ◌≤◌, ◌^◌, drop, IfOk, Ok};
 ghost use Rattle.jbig2_base.specs.Answer.{Gives};
 ghost use Rattle.jbig2_base.specs.Bits.{bits_left};
@@ -27,7 +27,7 @@ use std::marker::Model;
 /// How many roots the tree of a code has.
 const ROOTS: usize = 1;
 
-/// A table of prefix codes, as its codes and their lines.
+/// A table of prefix codes, with the codes and their lines.
 #[derive(Drop)]
 pub struct HuffmanTable<A: Allocator> {
     lines: Vec<TableLine, A>,
@@ -52,9 +52,8 @@ impl<A: Allocator> Model for HuffmanTable<A> {
 impl<A: Allocator + Clone> HuffmanTable<A> {
     /// The table of a list of lines with range lengths of at most 32 (B.3).
     ///
-    /// It is refused as an invalid code exactly where the codes do not fit, that is where the sum of
-    /// 2^-length over the lengths above 0 exceeds 1. No code of a table begins another, whichever way the
-    /// table is made.
+    /// It is refused as an invalid code exactly if the codes do not fit, that is if the sum of 2^-length
+    /// over the lengths above 0 exceeds 1. No code of a table begins another, however the table is made.
     #[tactic(auto, using(crate::proofs::FreeTables::tables_are_free, crate::proofs::Causes::table_cause))]
     pub fn build(alloc: A, lines: &[TableLine]) -> Result<HuffmanTable<A>>
         requires { AreShort lines.now }
@@ -93,8 +92,9 @@ impl<A: Allocator + Clone> HuffmanTable<A> {
     /// Reads the table of a tables segment (B.2): flags, the least and the greatest value, and the
     /// lengths of the lines.
     ///
-    /// Bits that end before the lines are an unexpected end. Bits that end later, a range that
-    /// leaves signed 32 bits, and codes that do not fit are an invalid code.
+    /// Returns `ParseError::UnexpectedEof` if the bits end before the lines. Returns
+    /// `HuffmanError::InvalidCode` if they end later, if a range leaves signed 32 bits, or if the
+    /// codes do not fit.
     #[tactic(auto, unfolding(jbig2_base::specs::Causes::HasCauseOrNoMemory))]
     pub fn read_custom(alloc: A, reader: &mut Reader<'_>) -> Result<HuffmanTable<A>>
         ensures table { GivesAt (λ t. t) result reader.new (custom_table reader.old) }
@@ -104,7 +104,7 @@ impl<A: Allocator + Clone> HuffmanTable<A> {
         HuffmanTable::build(alloc, &lines)
     }
 
-    /// The table that gives the numbers from 0 to below `count`, at most 2^31, codes of one length.
+    /// The table that gives the numbers 0 to `count` - 1, at most 2^31, codes of one length.
     pub fn build_uniform(alloc: A, count: u32, code_length: u32) -> Result<HuffmanTable<A>>
         requires count { count ≤ 2 ^ 31 }
         requires length { code_length ≤ 255 }
@@ -119,8 +119,8 @@ impl<A: Allocator + Clone> HuffmanTable<A> {
 }
 
 impl<A: Allocator> HuffmanTable<A> {
-    /// Reads a code: its line, or the end of the bits, or an invalid code at the first bits that
-    /// begin none.
+    /// Reads a code and gives its line. Returns `ParseError::UnexpectedEof` if the bits end within
+    /// the code, or `HuffmanError::InvalidCode` after the first bits that begin no code.
     #[tactic(auto, using(crate::proofs::Causes::code_cause))]
     fn read_line(&self, reader: &mut Reader<'_>) -> Result<TableLine>
         ensures reads { Reads reader.old reader.new result
@@ -131,10 +131,11 @@ impl<A: Allocator> HuffmanTable<A> {
         self.first.read_line(&self.lines, &self.levels, reader)
     }
 
-    /// Reads a code and its range bits (B.4): the value, or None for out of band.
+    /// Reads a code and its range bits (B.4). Gives the value, or None for out of band.
     ///
-    /// Bits that end in the code are an unexpected end; the first bits that begin no code, range
-    /// bits that end, and a value outside signed 32 bits are an invalid code.
+    /// Returns `ParseError::UnexpectedEof` if the bits end within the code. Returns
+    /// `HuffmanError::InvalidCode` after the first bits that begin no code, if the range bits end
+    /// too early, or if the value is outside signed 32 bits.
     pub fn decode(&self, reader: &mut Reader<'_>) -> Result<Option<i32>>
         ensures { Reads reader.old reader.new result
             (decoded_value self.now (bits_left reader.old)) }
@@ -146,7 +147,7 @@ impl<A: Allocator> HuffmanTable<A> {
         line.read_value(reader)
     }
 
-    /// Reads a value where out of band is an error.
+    /// Reads a value. Out of band is an error (`HuffmanError::UnexpectedOob`).
     #[tactic(auto, using(crate::proofs::Causes::number_cause))]
     pub fn decode_no_oob(&self, reader: &mut Reader<'_>) -> Result<i32>
         ensures reads { Reads reader.old reader.new result

@@ -1,4 +1,4 @@
-//! Integers coded with the arithmetic coder (T.88, A.2).
+//! Reads integers that are coded with the arithmetic coder (T.88, A.2).
 
 ghost use Rattle.std.specs.Prelude.{◌≡◌, ◌+◌, ◌*◌, ◌^◌, ◌<◌, ◌≤◌, Bool, length, drop, replicate, Ok};
 ghost use Rattle.jbig2_base.specs.Answer.{Gives};
@@ -17,7 +17,7 @@ use std::sync::ledger::Ledger;
 
 const CONTEXTS: usize = 512;
 
-/// Reads the integers of one procedure, and keeps what its contexts have learned.
+/// Reads the integers of one procedure, and keeps their contexts.
 #[derive(Drop)]
 pub struct IntegerDecoder<A: Allocator> {
     contexts: Vec<ArithmeticDecoderContext, A>,
@@ -35,10 +35,10 @@ impl<A: Allocator> Model for IntegerDecoder<A> {
 }
 
 impl<A: Allocator> IntegerDecoder<A> {
-    /// A decoder whose contexts know nothing yet.
+    /// A decoder with fresh contexts.
     ///
     /// # Errors
-    /// `OutOfMemory` where the contexts find no room.
+    /// `OutOfMemory` if there is no memory for the contexts.
     pub fn new(alloc: A) -> Result<IntegerDecoder<A>>
         ensures { Gives (λ contexts. contexts) result (Ok (replicate 512 fresh)) }
     {
@@ -46,7 +46,7 @@ impl<A: Allocator> IntegerDecoder<A> {
         Ok(IntegerDecoder { contexts })
     }
 
-    /// The next integer, or `None` where it is out of band.
+    /// The next integer, or `None` if it is out of band.
     pub fn decode<L: Ledger>(
         &mut self,
         decoder: &mut ArithmeticDecoder<'_>,
@@ -84,7 +84,7 @@ fn range(ones: u32) -> (u32, u32)
     }
 }
 
-// What PREV becomes after a bit: it keeps the last eight bits after a 1.
+// PREV after a bit: it keeps a 1 and the last eight bits.
 #[inline(always)]
 fn following(prev: u32, bit: u32) -> u32
     requires below { prev < 512 }
@@ -112,7 +112,7 @@ fn signed_value(negative: bool, sum: u32) -> Option<i32>
     Some(sum.wrapping_neg().cast_signed())
 }
 
-// The next bit, in the context that `prev` names.
+// The next bit, in the context with the number `prev`.
 #[inline(always)]
 fn read_bit<L: Ledger>(
     contexts: &mut [ArithmeticDecoderContext],
@@ -136,7 +136,7 @@ fn read_bit<L: Ledger>(
     bit
 }
 
-// The ones of the prefix, at most five.
+// How many ones the prefix has, at most five.
 fn read_prefix<L: Ledger>(
     contexts: &mut [ArithmeticDecoderContext],
     prev: &mut u32,
@@ -161,7 +161,7 @@ fn read_prefix<L: Ledger>(
     5
 }
 
-// The number that the next `count` bits spell.
+// The number that the next `count` bits make.
 fn read_bits<L: Ledger>(
     count: u32,
     contexts: &mut [ArithmeticDecoderContext],

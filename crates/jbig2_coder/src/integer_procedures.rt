@@ -12,10 +12,10 @@ use std::alloc::Allocator;
 use std::marker::Model;
 use std::sync::ledger::Ledger;
 
-/// How many procedures there are.
+/// The number of procedures.
 const PROCEDURES: usize = 13;
 
-/// What an integer says (T.88, 6.4 and 6.5).
+/// The meaning of an integer (T.88, 6.4 and 6.5).
 #[derive(Clone, Copy, Debug, PartialEq, Eq)]
 pub enum IntegerProcedure {
     /// The number of instances of an aggregate symbol.
@@ -40,7 +40,7 @@ pub enum IntegerProcedure {
     Iardw,
     /// How far a refined symbol lies to the right.
     Iardx,
-    /// How far a refined symbol lies below.
+    /// How far down a refined symbol lies.
     Iardy,
     /// Whether a symbol is refined.
     Iari,
@@ -56,7 +56,7 @@ impl IntegerProcedure {
     }
 }
 
-/// What the contexts of each procedure have learned.
+/// The contexts of each procedure.
 #[derive(Drop)]
 pub struct IntegerProcedures<A: Allocator> {
     decoders: Vec<IntegerDecoder<A>, A>,
@@ -74,10 +74,10 @@ impl<A: Allocator> Model for IntegerProcedures<A> {
 }
 
 impl<A: Allocator + Clone> IntegerProcedures<A> {
-    /// Procedures whose contexts know nothing yet.
+    /// Procedures with fresh contexts.
     ///
     /// # Errors
-    /// `OutOfMemory` where the contexts find no room.
+    /// `OutOfMemory` if there is no memory for the contexts.
     pub fn new(alloc: A) -> Result<IntegerProcedures<A>>
         ensures { Gives (λ procedures. procedures) result (Ok fresh_procedures) }
     {
@@ -90,7 +90,7 @@ impl<A: Allocator + Clone> IntegerProcedures<A> {
 }
 
 impl<A: Allocator> IntegerProcedures<A> {
-    /// The next integer of a procedure, or `None` where it is out of band.
+    /// The next integer of a procedure, or `None` if it is out of band.
     #[tactic(auto, unfolding(crate::specs::Integers::asked))]
     pub fn ask<L: Ledger>(
         &mut self,

@@ -1,4 +1,4 @@
-//! Whole lists of decisions, written and read by the arithmetic coder (T.88, Annexes E and G).
+//! Writes and reads whole lists of decisions by the arithmetic coder (T.88, Annexes E and G).
 
 ghost use Rattle.std.specs.Prelude.{◌≡◌, ◌+◌, length, vec_len, IfOk, IfErr, OnOk, Ok};
 ghost use Rattle.jbig2_base.specs.Answer.{Gives};
@@ -15,7 +15,7 @@ use std::sync::ledger::Ledger;
 
 mod encoder;
 
-/// How many contexts there are: one for each number of sixteen bits.
+/// The number of contexts: one for each number of sixteen bits.
 const CONTEXTS: usize = 0x1_0000;
 
 fn fresh_contexts<A: Allocator>(alloc: A) -> Result<Vec<ArithmeticDecoderContext, A>>
@@ -28,10 +28,10 @@ fn fresh_contexts<A: Allocator>(alloc: A) -> Result<Vec<ArithmeticDecoderContext
     Ok(contexts)
 }
 
-/// The bytes of a list of decisions, each with the number of its context (T.88, E.2). Before the
-/// first decision every context is fresh.
+/// The bytes of a list of decisions, each with the number of its context (T.88, E.2). Every context
+/// is fresh before the first decision.
 ///
-/// `OutOfMemory` where memory is refused.
+/// Returns `OutOfMemory` if memory is refused.
 pub fn encode_list<A: Allocator + Clone>(alloc: A, list: &[(u16, bool)]) -> Result<Vec<u8, A>>
     ensures { Gives (λ v. v.items) result (Ok (encoded list.now)) }
 {
@@ -43,10 +43,10 @@ pub fn encode_list<A: Allocator + Clone>(alloc: A, list: &[(u16, bool)]) -> Resu
     encoder.finish()
 }
 
-/// The decisions that the decoder reads from `bytes` when it is asked in these contexts, one after
-/// another (T.88, Annex G). Before the first decision every context is fresh.
+/// The decisions that the decoder reads from `bytes` in these contexts, one after another (T.88,
+/// Annex G). Every context is fresh before the first decision.
 ///
-/// `OutOfMemory` where memory is refused.
+/// Returns `OutOfMemory` if memory is refused.
 pub fn decode_list<A: Allocator + Clone, L: Ledger>(
     alloc: A,
     bytes: &[u8],
@@ -67,13 +67,13 @@ pub fn decode_list<A: Allocator + Clone, L: Ledger>(
     Ok(decisions)
 }
 
-/// The law that the decoder is the encoder's inverse: for every list of decisions, each with the
-/// number of its context, the decoder of Annex G reads from the bytes that the encoder of E.2 gives
-/// the list its decisions, when it is asked in its contexts. Before the first decision every
-/// context of both is fresh.
+/// The law that the decoder is the encoder's inverse. Take any list of decisions, each with the
+/// number of its context. The encoder of E.2 gives bytes for it. From these bytes the decoder of
+/// Annex G reads the same decisions, if it uses the same contexts. Every context of both is fresh
+/// before the first decision.
 ///
-/// The call does nothing: the law speaks of all lists, and of the definitions that `encode_list`
-/// and `decode_list` meet.
+/// The call does nothing. The law holds for all lists. It is about the definitions, which
+/// `encode_list` and `decode_list` meet.
 pub fn decodes_back()
     ensures { DecodesBack }
 {}

@@ -1,4 +1,4 @@
-//! Symbol ids coded with the arithmetic coder (T.88, A.3).
+//! Reads symbol ids that are coded with the arithmetic coder (T.88, A.3).
 
 ghost use Rattle.std.specs.Prelude.{◌≡◌, ◌+◌, ◌^◌, ◌<◌, ◌≤◌, length, replicate, Ok};
 ghost use Rattle.jbig2_base.specs.Answer.{Gives};
@@ -12,7 +12,7 @@ use std::alloc::Allocator;
 use std::marker::Model;
 use std::sync::ledger::Ledger;
 
-/// Reads symbol ids of one code length, and keeps what its contexts have learned.
+/// Reads symbol ids of one code length, and keeps their contexts.
 #[derive(Drop)]
 pub struct SymbolIdDecoder<A: Allocator> {
     contexts: Vec<ArithmeticDecoderContext, A>,
@@ -31,10 +31,10 @@ impl<A: Allocator> Model for SymbolIdDecoder<A> {
 }
 
 impl<A: Allocator> SymbolIdDecoder<A> {
-    /// A decoder of ids of `code_len` bits, whose contexts know nothing yet.
+    /// A decoder of ids of `code_len` bits, with fresh contexts.
     ///
     /// # Errors
-    /// `OutOfMemory` where the contexts find no room.
+    /// `OutOfMemory` if there is no memory for the contexts.
     pub fn new(alloc: A, code_len: u32) -> Result<SymbolIdDecoder<A>>
         requires { code_len ≤ 30 }
         ensures { Gives (λ ids. ids) result

@@ -1,4 +1,4 @@
-//! The custom tables that a segment refers to (T.88, 7.4.2.1.6 and 7.4.3.1.6).
+//! Selects the custom tables that a segment refers to (T.88, 7.4.2.1.6 and 7.4.3.1.6).
 ghost use Rattle.jbig2_base.specs.Answer.{Answers};
 ghost use Rattle.jbig2_coder.specs.Tables.{next_custom};
 ghost use Rattle.jbig2_coder.specs.inner.TableViews.{customs_view};
@@ -9,7 +9,7 @@ use crate::huffman_table::HuffmanTable;
 use jbig2_base::error::{DecodeError, HuffmanError, Result};
 use std::alloc::Allocator;
 
-/// The next custom table, and those after it; `HuffmanError::MissingTables` where there is none.
+/// The next custom table, and those after it, or `HuffmanError::MissingTables` if there is none.
 #[tactic(auto, using(crate::proofs::Causes::selection_cause))]
 pub fn next_custom<'a, T: Allocator>(
     customs: &'a [&'a HuffmanTable<T>],

@@ -1,9 +1,25 @@
--- What a run prints (our own rule), what standard error is told of it, and its status. `printed` takes the mode, the task
--- and a file's bytes, and gives the bytes to be printed, or the fault; `RunEnds`, the last, is the statement of `run`.
-use Rattle.std.specs.{Prelude.{◌≡◌, ◌⊎◌, ℕ, Bool, true, List, [], ◌++◌, Option, Some, None, IfSome, IsTrue, ok_or, Result, Ok, Err, codes, if◌then◌else◌}, Fmt.{decimal}, Io.KnownBytes.{Appends, Keeps}, List.{flat_map}, Str.Parse.{digits_value}}
-use Rattle.jbig2_base.specs.{Answer.{◌>>=◌}, ErrorTexts.{error_text}, Grid.{Grid}, Reading.{reading_of}, declared.error.DecodeError.{DecodeError, TheVariants.{OutOfMemory}}}
-use Rattle.hayro_jbig2.specs.{Calls.{Call, Pixel, Chunk, Line, calls_of}, Files.{ReadFile, book_at, page_of, pages_of}, Image.{packed_of_page}, Names.{no_names}, Page.{ReadPage, embedded, grid_of_page}}
-use Rattle.jbig2_commands.specs.{Words.{Task, Pages, Embedded, Calls, Pbm}, declared.fault.Fault.{Fault, TheVariants.{Decode, NoSuchPage, Unreadable, Unwritable}}}
+-- What a run prints (our own rule), what it writes to standard error, and its status. `printed` takes the mode, the
+-- task and a file's bytes, and gives the bytes to print, or the fault. `RunEnds`, the last, is the statement of `run`.
+use Rattle.std.specs.Prelude.{◌≡◌, ◌⊎◌, ℕ, Bool, true, List, [], ◌++◌, Option, Some, None, IfSome, IsTrue, ok_or}
+use Rattle.std.specs.Prelude.{Result, Ok, Err, codes, if◌then◌else◌}
+use Rattle.std.specs.Fmt.{decimal}
+use Rattle.std.specs.Io.KnownBytes.{Appends, Keeps}
+use Rattle.std.specs.List.{flat_map}
+use Rattle.std.specs.Str.Parse.{digits_value}
+use Rattle.jbig2_base.specs.Answer.{◌>>=◌}
+use Rattle.jbig2_base.specs.ErrorTexts.{error_text}
+use Rattle.jbig2_base.specs.Grid.{Grid}
+use Rattle.jbig2_base.specs.Reading.{reading_of}
+use Rattle.jbig2_base.specs.declared.error.DecodeError.{DecodeError}
+use Rattle.jbig2_base.specs.declared.error.DecodeError.TheVariants.{OutOfMemory}
+use Rattle.hayro_jbig2.specs.Calls.{Call, Pixel, Chunk, Line, calls_of}
+use Rattle.hayro_jbig2.specs.Files.{ReadFile, book_at, page_of, pages_of}
+use Rattle.hayro_jbig2.specs.Image.{packed_of_page}
+use Rattle.hayro_jbig2.specs.Names.{no_names}
+use Rattle.hayro_jbig2.specs.Page.{ReadPage, embedded, grid_of_page}
+use Rattle.jbig2_commands.specs.Words.{Task, Pages, Embedded, Calls, Pbm}
+use Rattle.jbig2_commands.specs.declared.fault.Fault.{Fault}
+use Rattle.jbig2_commands.specs.declared.fault.Fault.TheVariants.{Decode, NoSuchPage, Unreadable, Unwritable}
 
 abbrev pub page_line : ReadPage → List ℕ  -- a page's number, width and height
 page_line page = decimal page.initial_page.number ++ codes " " ++ decimal page.initial_page.width ++ codes " " ++ decimal page.initial_page.height ++ codes "\n"
@@ -16,7 +32,7 @@ call_line (Pixel black) = codes "push_pixel " ++ colour_word black ++ codes "\n"
 call_line (Chunk black bytes) = codes "push_pixel_chunk " ++ colour_word black ++ codes " " ++ decimal bytes ++ codes "\n"
 call_line Line = codes "next_line\n"
 
--- a line for each call that spells the grid
+-- a line for each call that draws the grid
 abbrev pub calls_text : Result Grid DecodeError → Result (List ℕ) DecodeError
 calls_text grid = grid >>= λ g. Ok (flat_map call_line (calls_of g))
 
@@ -26,7 +42,7 @@ bitmap_head page = codes "P4\n" ++ decimal page.initial_page.width ++ codes " " 
 abbrev pub bitmap_text : ReadPage → Result (List ℕ) DecodeError
 bitmap_text page = packed_of_page page >>= λ rows. Ok (bitmap_head page ++ rows)
 
--- a definition's answer, where its error is the fault
+-- the result of a definition, with its error as the fault
 abbrev pub or_fault : {A : Type 0} → Result A DecodeError → Result A Fault
 or_fault (Ok x) = Ok x
 or_fault (Err e) = Err (Decode e)
@@ -34,26 +50,26 @@ or_fault (Err e) = Err (Decode e)
 abbrev pub page_named : List ℕ → ReadFile → Result ReadPage Fault  -- the page that decimal digits name
 page_named index book = ok_or (page_of book (digits_value 10 index)) NoSuchPage
 
--- what is printed of it
+-- what is printed for the page at this index
 abbrev pub of_file : (ReadPage → Result (List ℕ) DecodeError) → List ℕ → Result ReadFile DecodeError → Result (List ℕ) Fault
 of_file text index file = or_fault file >>= λ book. page_named index book >>= λ page. or_fault (text page)
 
--- What is printed of a file's bytes, or why it is not.
+-- What is printed for a file's bytes, or why nothing is.
 abbrev pub printed : Bool → Task → List ℕ → Result (List ℕ) Fault
 printed strict Pages bytes = or_fault (book_at (reading_of strict) bytes >>= λ book. Ok (flat_map page_line (pages_of book)))
 printed strict Embedded bytes = or_fault (embedded (reading_of strict) no_names bytes >>= λ page. calls_text (grid_of_page page))
 printed strict (Calls index) bytes = of_file (λ page. calls_text (grid_of_page page)) index (book_at (reading_of strict) bytes)
 printed strict (Pbm index) bytes = of_file bitmap_text index (book_at (reading_of strict) bytes)
 
--- What was meant is added to the output, or its fault is returned and nothing is added, unless memory ran out. Where
--- the output failed, nothing is said of what it holds.
+-- The bytes that were meant are added to the output. Or the fault is returned and nothing is added, unless memory ran
+-- out. Where the output failed, nothing is said about its contents.
 abbrev pub Prints : Result (List ℕ) Fault → Result (Unit {0}) Fault → Option (List ℕ) → Option (List ℕ) → Type 0
 Prints (Ok bytes) (Ok u) old new = Appends old new bytes
 Prints (Err fault) (Ok u) old new = ⊥
 Prints meant (Err fault) old new = (fault ≡ Unwritable) ⊎ (((fault ≡ Decode OutOfMemory) ⊎ (meant ≡ Err fault)) × Keeps old new)
 
--- Some bytes were read, those that the reader tells where it tells any, and what they mean is printed; or the reader
--- failed. None: there is no reader.
+-- Some bytes were read, namely all that the reader has where these are known, and what `printed` gives for them is
+-- printed. Or the reader failed. `None` means that there is no reader.
 abbrev pub Ends : Bool → Task → Option (Option (List ℕ)) → Result (Unit {0}) Fault → Option (List ℕ) → Option (List ℕ) → Type 0
 Ends strict task None result old new = (result ≡ Err Unreadable) × Keeps old new
 Ends strict task (Some told) result old new =
@@ -72,7 +88,7 @@ usage_line = codes "usage: jbig2-decode [--strict] pages|embedded FILE | calls|p
 abbrev pub fault_line : Fault → List ℕ
 fault_line fault = codes "error: " ++ fault_text fault ++ codes "\n"
 
-abbrev pub told_line : Result (Unit {0}) Fault → List ℕ  -- nothing is told of success and of a failing output
+abbrev pub told_line : Result (Unit {0}) Fault → List ℕ  -- nothing after success, and nothing after a failing output
 told_line (Ok u) = []
 told_line (Err Unwritable) = []
 told_line (Err fault) = fault_line fault
@@ -81,12 +97,12 @@ abbrev pub status_of : Result (Unit {0}) Fault → ℕ
 status_of (Ok u) = 0
 status_of (Err fault) = 1
 
--- The line was added to standard error, unless that failed; where there is nothing to tell, nothing was added.
+-- The line was added to standard error, unless that failed. An empty line adds nothing.
 abbrev pub Told : Bool → List ℕ → Option (List ℕ) → Option (List ℕ) → Type 0
 Told told [] old new = (told ≡ true) × Keeps old new
 Told told line old new = IsTrue told → Appends old new line
 
--- A whole run: its status, what is added to the output, and what standard error is told.
+-- A whole run: its status, what is added to the output, and what is written to standard error.
 abbrev pub RunEnds : Option (Bool × Task × List ℕ) → Option (Option (List ℕ)) → ℕ → Bool → Option (List ℕ) → Option (List ℕ) → Option (List ℕ) → Option (List ℕ) → Type 0
 RunEnds None file status told out out' err err' = (status ≡ 2) × Told told usage_line err err' × Keeps out out'
 RunEnds (Some request) file status told out out' err err' =

@@ -1,6 +1,9 @@
 -- The words of a run (our own rule): [--strict] pages|embedded FILE, or [--strict] calls|pbm FILE INDEX. `request_of`
--- takes the words and gives the mode, the task and the file, or None for all others.
-use Rattle.std.specs.{Prelude.{ℕ, ◌==◌, nat_le, Bool, true, false, not, ◌&&◌, List, [], ◌∷◌, length, Option, Some, None, option_map, if◌then◌else◌, codes}, List.{list_all}, Str.{bytes_eq}}
+-- takes the words and gives the mode, the task and the file. For other words it gives `None`.
+use Rattle.std.specs.Prelude.{ℕ, ◌==◌, nat_le, Bool, true, false, not, ◌&&◌, List, [], ◌∷◌, length, Option, Some, None}
+use Rattle.std.specs.Prelude.{option_map, if◌then◌else◌, codes}
+use Rattle.std.specs.List.{list_all}
+use Rattle.std.specs.Str.{bytes_eq}
 
 unfoldable pub is_strict : List ℕ → Bool
 is_strict word = bytes_eq word (codes "--strict")
@@ -17,7 +20,7 @@ is_calls word = bytes_eq word (codes "calls")
 unfoldable pub is_pbm : List ℕ → Bool
 is_pbm word = bytes_eq word (codes "pbm")
 
--- What is made of a file: the sizes of its pages, the calls of an embedded page, or the calls or the bitmap of the
+-- What is printed of a file: the sizes of its pages, the calls of an embedded page, or the calls or the bitmap of the
 -- page at an index.
 pub data Task : Type 0 where
   Pages : Task
@@ -28,7 +31,7 @@ pub data Task : Type 0 where
 abbrev pub is_digit : ℕ → Bool
 is_digit c = nat_le 48 c && nat_le c 57
 
-abbrev pub is_index : List ℕ → Bool  -- one decimal digit or more
+abbrev pub is_index : List ℕ → Bool  -- at least one decimal digit
 is_index word = not (length word == 0) && list_all is_digit word
 
 abbrev pub whole_task : List ℕ → Option Task
@@ -38,12 +41,12 @@ abbrev pub page_task : List ℕ → List ℕ → Option Task
 page_task command index =
     if is_index index then (if is_calls command then Some (Calls index) else if is_pbm command then Some (Pbm index) else None) else None
 
-abbrev pub task_of : List (List ℕ) → Option (Task × List ℕ)  -- what is made of which file
+abbrev pub task_of : List (List ℕ) → Option (Task × List ℕ)  -- the task, and the file
 task_of (command ∷ file ∷ []) = option_map (λ task. (task, file)) (whole_task command)
 task_of (command ∷ file ∷ index ∷ []) = option_map (λ task. (task, file)) (page_task command index)
 task_of _ = None
 
--- Whether the file is read strictly, what is made of it, and its name; None where the words are not those of a run.
+-- Whether the file is read strictly, the task, and the file's name; `None` where the words are not those of a run.
 abbrev pub request_of : List (List ℕ) → Option (Bool × Task × List ℕ)
 request_of [] = None
 request_of (first ∷ others) =

@@ -1,4 +1,4 @@
-//! A page's bitmap, written.
+//! Writes a page as a bitmap of the PBM format.
 ghost use Rattle.std.specs.Prelude.{◌≡◌, ◌++◌, IsTrue, OnOk, IfErr};
 ghost use Rattle.std.specs.Io.KnownBytes.{Appends};
 ghost use Rattle.jbig2_commands.specs.Printed.{bitmap_head, bitmap_text, or_fault, Prints};
@@ -9,10 +9,10 @@ use hayro_jbig2::{DecodeError, DecoderContext, DrawnPage, Page};
 use std::alloc::Allocator;
 use std::io::Write;
 
-/// How many bytes of the rows are written at once.
+/// How many bytes of the rows one write has at most.
 const BLOCK: usize = 65536;
 
-/// Room for the head.
+/// The bytes that are enough for the head.
 const HEAD: usize = 32;
 
 /// Writes a page as a binary bitmap of the PBM format.
@@ -45,7 +45,7 @@ fn write_head<A: Allocator>(page: &Page<'_, A>, head: &mut Vec<u8, A>) -> Result
     }
 }
 
-/// Returns whether all rows were written.
+/// Writes the packed rows. Returns whether all were written.
 fn write_rows<A: Allocator, O: Write>(drawn: &DrawnPage<'_, A>, out: &mut O) -> bool
     ensures { IsTrue result → Appends (O.contents out.old) (O.contents out.new) drawn.now }
 {

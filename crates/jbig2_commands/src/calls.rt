@@ -1,4 +1,4 @@
-//! The calls of a page, printed.
+//! Prints the calls of a page.
 ghost use Rattle.std.specs.Prelude.{◌≡◌, is_some, IfSome};
 ghost use Rattle.hayro_jbig2.specs.Page.{grid_of_page};
 ghost use Rattle.jbig2_commands.specs.inner.Printing.{told, whose, Tells};
@@ -12,13 +12,13 @@ use std::alloc::Allocator;
 use std::io::Write;
 use std::marker::Brand;
 
-/// Room for the bytes that are gathered before some are written, and a line after them.
+/// Memory for the bytes that are gathered before some are written, and for one more line.
 const ROOM: usize = 8256;
 
-/// Room for a line.
+/// Memory for a line.
 const LINE: usize = 64;
 
-/// Prints the calls that spell a page.
+/// Prints the calls that draw a page.
 pub fn print_calls<A: Allocator + Clone, O: Write>(
     alloc: A,
     page: &Page<'_, A>,
@@ -33,7 +33,7 @@ pub fn print_calls<A: Allocator + Clone, O: Write>(
     let Some(decoded) = decoded else {
         return Err(Fault::Unwritable);
     };
-    // Where decoding failed no call was made, and nothing is held.
+    // Where decoding failed, no call was made, and no bytes are held.
     if !output.write_held() {
         return Err(Fault::Unwritable);
     }
@@ -42,7 +42,7 @@ pub fn print_calls<A: Allocator + Clone, O: Write>(
     flushed(out)
 }
 
-/// Decodes a page, whose calls are printed. None where a line could not be written.
+/// Decodes a page, and prints its calls. `None` where a line could not be written.
 fn decode_to<'o, A: Allocator + Clone, O: Write, K: Telling>(
     page: &Page<'_, A>,
     output: Output<'o, O, A>,

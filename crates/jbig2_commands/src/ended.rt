@@ -1,4 +1,4 @@
-//! How runs end: their status, and what standard error is told.
+//! How runs end: their status, and what is written to standard error.
 ghost use Rattle.std.specs.Prelude.{◌≡◌, Ok, Err, if◌then◌else◌};
 ghost use Rattle.jbig2_base.specs.declared.error.DecodeError.TheVariants.{OutOfMemory};
 ghost use Rattle.jbig2_commands.specs.Printed.{Told, fault_line, status_of, told_line, usage_line};
@@ -13,14 +13,14 @@ const USAGE: &str = "usage: jbig2-decode [--strict] pages|embedded FILE | calls|
 /// How a run ends.
 #[derive(Drop)]
 pub struct Ended {
-    /// The status of the process: 0, 1 after a fault, 2 where the words ask for nothing.
+    /// The status of the process: 0, 1 after a fault, 2 where the words are not those of a run.
     pub status: u8,
-    /// Whether standard error took all that it was to be told.
+    /// Whether all of the run's message to standard error was written.
     pub told: bool,
 }
 
 impl Ended {
-    /// The end of a run that asks for nothing: the usage is told.
+    /// The end where the words are not those of a run: writes the usage to standard error.
     pub fn refused<E: Write>(err: &mut E) -> Ended
         ensures status { result.status ≡ 2 }
         ensures told { Told result.told usage_line (E.contents err.old) (E.contents err.new) }
@@ -29,7 +29,7 @@ impl Ended {
         Ended { status: 2, told }
     }
 
-    /// The end of a run whose words could not be had: memory was refused, or they are no text.
+    /// The end of a run that could not get its words: memory ran out, or they are no text.
     pub fn unstarted<E: Write>(refused: bool, err: &mut E) -> Ended
         ensures status { result.status ≡ if refused then 1 else 2 }
         ensures told { Told result.told
@@ -42,7 +42,7 @@ impl Ended {
         Ended::refused(err)
     }
 
-    /// The end of a run that ended so, after its fault is told.
+    /// The end of a run with this result: writes its fault to standard error.
     pub fn of<E: Write>(ended: Result<(), Fault>, err: &mut E) -> Ended
         ensures status { result.status ≡ status_of ended }
         ensures told { Told result.told (told_line ended) (E.contents err.old) (E.contents err.new) }
@@ -52,7 +52,7 @@ impl Ended {
                 status: 0,
                 told: true,
             },
-            // What the output could not take is not told of on another one.
+            // A failing output is not reported on standard error.
             Err(Fault::Unwritable) => Ended {
                 status: 1,
                 told: true,

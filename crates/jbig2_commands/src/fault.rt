@@ -1,4 +1,4 @@
-//! Why a run stops.
+//! The faults of a run.
 ghost use Rattle.std.specs.Prelude.{◌≡◌, Some};
 ghost use Rattle.jbig2_base.specs.declared.error.DecodeError.TheVariants.{OutOfMemory};
 ghost use Rattle.jbig2_commands.specs.Printed.{fault_text};

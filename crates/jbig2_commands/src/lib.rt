@@ -1,5 +1,5 @@
-//! What `jbig2-decode` does with its words: the pages of a file, the calls that spell a page, or a bitmap, written to an
-//! output, and what standard error is told.
+//! What `jbig2-decode` does for its words: writes the pages of a file, the calls that draw a page, or a bitmap to an
+//! output, and faults to standard error.
 #![tactic(auto)]
 
 mod bitmap;

@@ -1,4 +1,4 @@
-//! A buffer in front of an output.
+//! An output with a buffer.
 ghost use Rattle.std.specs.Prelude.{◌≡◌, ◌≤◌, [], IsTrue, IfErr, length, take};
 ghost use Rattle.std.specs.Io.KnownBytes.{Appends, Keeps};
 ghost use Rattle.jbig2_commands.specs.inner.Printing.{told, whose, Pushes};
@@ -7,11 +7,11 @@ use crate::fault::Fault;
 use std::alloc::Allocator;
 use std::io::{ErrorKind, Write};
 
-/// How many bytes are gathered at least before some are written.
+/// How many bytes are gathered before some are written, at least.
 const GATHERED: usize = 8192;
 
 /// An output, and the bytes that are not yet written to it. Unlike `BufWriter` it keeps all bytes
-/// after a failure too, and its proofs know whose output it is.
+/// after a failure too, and its proofs know which output it has.
 #[derive(Drop)]
 pub struct Output<'o, O: Write, A: Allocator> {
     out: &'o mut O,
@@ -50,7 +50,7 @@ impl<'o, O: Write, A: Allocator> Output<'o, O, A> {
         Output { out, held }
     }
 
-    /// The output, without what is held.
+    /// The output. Bytes that are not yet written are dropped.
     pub fn into_inner(self) -> &'o mut O
         ensures same { result.ghost_name ≡ whose self.entry }
         ensures now { result.now ≡ self.entry.out.now }
@@ -59,7 +59,7 @@ impl<'o, O: Write, A: Allocator> Output<'o, O, A> {
         out
     }
 
-    /// Writes what is held. Returns whether all of it could be written; the rest stays.
+    /// Writes the bytes that are held. Returns whether all could be written; the rest stays.
     pub fn write_held(&mut self) -> bool
         ensures same { whose self.new ≡ whose self.old }
         ensures bytes { Keeps (told O.contents self.old) (told O.contents self.new) }
@@ -72,7 +72,7 @@ impl<'o, O: Write, A: Allocator> Output<'o, O, A> {
         count == 0
     }
 
-    /// Takes bytes. Returns whether they were taken; those that were not leave no trace.
+    /// Adds bytes. Returns whether it did; else nothing changes.
     pub fn push(&mut self, bytes: &[u8]) -> bool
         ensures same { whose self.new ≡ whose self.old }
         ensures taken { Pushes result (told O.contents self.old) (told O.contents self.new)
@@ -85,7 +85,7 @@ impl<'o, O: Write, A: Allocator> Output<'o, O, A> {
     }
 }
 
-/// Has an output pass on what it took.
+/// Flushes an output.
 pub fn flushed<O: Write>(out: &mut O) -> Result<(), Fault>
     ensures kept { Keeps (O.contents out.old) (O.contents out.new) }
     ensures fault { IfErr result (λ fault. fault ≡ Fault.Unwritable) }

@@ -1,4 +1,4 @@
-//! The sizes of a file's pages, printed.
+//! Prints the sizes of a file's pages.
 ghost use Rattle.std.specs.Prelude.{◌≡◌, ◌++◌, Ok, OnOk, IfOk, IfErr};
 ghost use Rattle.std.specs.List.{flat_map};
 ghost use Rattle.hayro_jbig2.specs.Files.{pages_of};

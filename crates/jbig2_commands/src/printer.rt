@@ -1,4 +1,4 @@
-//! A Decoder that prints the calls that it takes.
+//! A Decoder that prints its calls.
 ghost use Rattle.std.specs.Prelude.{◌≡◌, nat_lt, Bool, [], List, ℕ, Option};
 ghost use Rattle.std.specs.Borrow.{GName};
 ghost use Rattle.std.specs.Io.KnownBytes.{append_known};
@@ -14,8 +14,7 @@ use std::alloc::Allocator;
 use std::io::Write;
 use std::marker::{Brand, PhantomData};
 
-/// Whether the bytes that an output holds are known where a printer is made. It stands in the
-/// proofs alone.
+/// Whether the bytes of an output are known where a printer is made. Only proofs use it.
 pub trait Telling {
     ghost is_told: { Bool };
 }
@@ -26,7 +25,7 @@ impl Telling for Brand {
     ghost is_told = { false };
 }
 
-/// Writes a line for each call. A call whose line cannot be written is refused.
+/// Writes a line for each call. It refuses a call whose line cannot be written.
 #[derive(Drop)]
 pub struct Printer<'o, O: Write, A: Allocator, K: Telling> {
     output: Output<'o, O, A>,

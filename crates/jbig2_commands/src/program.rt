@@ -16,10 +16,10 @@ use hayro_jbig2::{DecodeError, DecodeSettings, File, Jbig2Error, Page};
 use std::alloc::Allocator;
 use std::io::{Read, Write};
 
-/// Runs the program: `words` are the words after its name, `file` reads the file that they name,
-/// None where it could not be opened.
+/// Runs the program. `words` are the words after its name. `file` reads the file that they name; it
+/// is `None` where that could not be opened.
 ///
-/// Returns the status of the process: 0, 1 after a fault, 2 where the words ask for nothing.
+/// Returns the status of the process: 0, 1 after a fault, 2 where the words are not those of a run.
 pub fn run<A: Allocator + Clone, R: Read, O: Write, E: Write>(
     alloc: A,
     words: &[&str],
@@ -37,7 +37,7 @@ pub fn run<A: Allocator + Clone, R: Read, O: Write, E: Write>(
 
 /// Runs the program as `run` does.
 ///
-/// Returns the status, and besides whether standard error took its line.
+/// Returns the status, and whether its line to standard error could be written.
 pub fn run_reported<A: Allocator + Clone, R: Read, O: Write, E: Write>(
     alloc: A,
     words: &[&str],

@@ -23,7 +23,7 @@ impl Refusals {
         self.count > 0
     }
 
-    /// What a call returns whose line was taken, or was not.
+    /// The result of a call, by whether its line was taken.
     pub fn answer(&mut self, is_taken: bool) -> Result<()>
         requires { self.old.count < 2 ^ 64 - 1 }
         ensures { Counts is_taken result self.old.count self.new.count }

@@ -1,4 +1,4 @@
-//! What the words of the command line ask for.
+//! What the words of the command line ask for, or that they are not those of a run.
 ghost use Rattle.std.specs.Prelude.{◌≡◌, map, option_map};
 ghost use Rattle.std.specs.List.{list_all};
 ghost use Rattle.jbig2_commands.specs.inner.RequestViews.{task_view, request_view};
@@ -14,7 +14,7 @@ pub struct Request<'w> {
     pub file: &'w str,
 }
 
-/// What is made of a file. An index is one decimal digit or more.
+/// What is done with a file. An index has at least one decimal digit.
 #[derive(Clone, Copy, Debug, PartialEq, Eq)]
 pub enum Command<'w> {
     /// Print the number, the width and the height of each page.
@@ -106,7 +106,7 @@ fn page_task<'w>(command: &str, index: &'w str) -> Option<Command<'w>>
     }
 }
 
-/// What is made of which file.
+/// What is done with which file.
 fn task_of<'w>(words: &[&'w str]) -> Option<(Command<'w>, &'w str)>
     ensures { option_map (λ task. (task_view task.0, task.1.now)) result ≡ task_of (map (λ word. word.now) words.now) }
 {
@@ -118,7 +118,7 @@ fn task_of<'w>(words: &[&'w str]) -> Option<(Command<'w>, &'w str)>
 }
 
 impl<'w> Request<'w> {
-    /// None where the words are not those of a run.
+    /// `None` where the words are not those of a run.
     pub fn of_words(words: &[&'w str]) -> Option<Request<'w>>
         ensures { option_map request_view result ≡ request_of (map (λ word. word.now) words.now) }
     {
@@ -135,7 +135,7 @@ impl<'w> Request<'w> {
     }
 }
 
-/// The word that names the file, None where the words are not those of a run.
+/// The word that names the file; `None` where the words are not those of a run.
 pub fn file_word<'w>(words: &[&'w str]) -> Option<&'w str>
     ensures { option_map (λ file. file.now) result ≡ option_map (λ request. request.2) (request_of (map (λ word. word.now) words.now)) }
 {

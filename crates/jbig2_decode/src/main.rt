@@ -1,4 +1,4 @@
-//! The program `jbig2-decode`: prints the pages of a JBIG2 file, the calls that spell a page, or a bitmap.
+//! The program `jbig2-decode`: prints the pages of a JBIG2 file, the calls that draw a page, or a bitmap.
 #![tactic(auto)]
 
 use jbig2_commands::{Ended, file_word, run};

@@ -1,4 +1,4 @@
-//! A page that was cut out of a PDF file, written as a picture of the PGM format, as docs/USING.md shows it.
+//! Writes a page that was cut out of a PDF file as a picture of the PGM format, as docs/USING.md shows it.
 #![tactic(auto)]
 
 use hayro_jbig2::reading::read_all;

@@ -1,18 +1,31 @@
--- Which rule the input breaks where patterns or a halftone region are refused (docs/FORMAT.md), a line for each
--- error. `Breaks..` takes the bytes of a segment, or its header and what it refers to, and an error; the function that
+-- Which rule the input breaks where patterns or a halftone region are refused (docs/FORMAT.md), one line for each
+-- error. `Breaks..` takes the bytes of a segment, or its header and what it refers to, and an error. The function that
 -- refuses cites it.
-use Rattle.std.specs.{Prelude.{◌≡◌, ◌<◌, ◌≤◌, ◌⊎◌, ℕ, zero, suc, ◌+◌, ◌-◌, ◌*◌, ◌/◌, ◌%◌, true, List, length, drop, Ok}, Int.{w8, w32}}
-use Rattle.jbig2_base.specs.{Causes.{number_in}, Grid.{Grid}, declared.error.{DecodeError.{DecodeError, TheVariants.{Overflow, Parse, Region, Unsupported}}, OverflowError.TheVariants.{BitmapDimension, GridDimension}, ParseError.TheVariants.{UnexpectedEof}, RegionError.TheVariants.{GrayScaleOutOfRange, InvalidCombinationOperator, InvalidMmrData}}}
-use Rattle.jbig2_mmr.specs.{Causes.{BreaksMmr}, T6.{rows_of}}
-use Rattle.jbig2_halftone.specs.{GrayScale.{GrayScale, gray_value, planes_of}, Halftone.{gray_params}, HalftoneHeader.{HalftoneHeader}, PatternHeader.{PatternHeader}, Patterns.{Patterns}}
+use Rattle.std.specs.Prelude.{◌≡◌, ◌<◌, ◌≤◌, ◌⊎◌, ℕ, zero, suc, ◌+◌, ◌-◌, ◌*◌, ◌/◌, ◌%◌, true, List, length, drop, Ok}
+use Rattle.std.specs.Int.{w8, w32}
+use Rattle.jbig2_base.specs.Causes.{number_in}
+use Rattle.jbig2_base.specs.Grid.{Grid}
+use Rattle.jbig2_base.specs.declared.error.DecodeError.{DecodeError}
+use Rattle.jbig2_base.specs.declared.error.DecodeError.TheVariants.{Overflow, Parse, Region, Unsupported}
+use Rattle.jbig2_base.specs.declared.error.OverflowError.TheVariants.{BitmapDimension, GridDimension}
+use Rattle.jbig2_base.specs.declared.error.ParseError.TheVariants.{UnexpectedEof}
+use Rattle.jbig2_base.specs.declared.error.RegionError.TheVariants.{GrayScaleOutOfRange, InvalidCombinationOperator}
+use Rattle.jbig2_base.specs.declared.error.RegionError.TheVariants.{InvalidMmrData}
+use Rattle.jbig2_mmr.specs.Causes.{BreaksMmr}
+use Rattle.jbig2_mmr.specs.T6.{rows_of}
+use Rattle.jbig2_halftone.specs.GrayScale.{GrayScale, gray_value, planes_of}
+use Rattle.jbig2_halftone.specs.Halftone.{gray_params}
+use Rattle.jbig2_halftone.specs.HalftoneHeader.{HalftoneHeader}
+use Rattle.jbig2_halftone.specs.PatternHeader.{PatternHeader}
+use Rattle.jbig2_halftone.specs.Patterns.{Patterns}
 
 -- A pattern dictionary's header has seven bytes: flags, the width and the height of a pattern, GRAYMAX.
 abbrev pub BreaksPatternHeader : List ℕ → DecodeError → Type 0
 BreaksPatternHeader bytes (Parse UnexpectedEof) = (length bytes < 7) ⊎ (number_in w8 1 bytes ≡ 0) ⊎ (number_in w8 2 bytes ≡ 0)
 BreaksPatternHeader bytes _ = ⊥
 
--- A halftone region's header has 38 bytes. The region information's flags stand at byte 16, those of the halftone at
--- byte 17, and the width and the height of the grid at bytes 18 and 22.
+-- A halftone region's header has 38 bytes. The region information's flags are at byte 16, those of the halftone at byte
+-- 17, and the width and the height of the grid at bytes 18 and 22.
 abbrev pub BreaksHalftoneHeader : List ℕ → DecodeError → Type 0
 BreaksHalftoneHeader bytes (Parse UnexpectedEof) = length bytes < 38
 BreaksHalftoneHeader bytes (Region InvalidCombinationOperator) = (4 < number_in w8 16 bytes % 8) ⊎ (4 < number_in w8 17 bytes / 16 % 8)
@@ -28,14 +41,14 @@ BreaksPatterns h (Region InvalidMmrData) =
     (h.mmr ≡ true) × BreaksMmr h.strict ((h.gray_max + 1) * h.pattern_width) h.pattern_height h.bytes (Region InvalidMmrData)
 BreaksPatterns h _ = ⊥
 
--- where plane k of MMR data begins, after the whole bytes that each plane before it used
+-- where plane k of MMR data begins: after the whole bytes that each plane before it used
 unfoldable pub plane_start : GrayScale → List ℕ → ℕ → List ℕ
 plane_start p bytes zero = bytes
 plane_start p bytes (suc k) =
     let here = plane_start p bytes k in
     drop (length here - length (rows_of p.width p.height here).left / 8) here
 
--- The image has planes, and a side above 65535; or, in strict mode, the MMR data of a plane breaks a rule of T.6.
+-- The image has planes, and a side above 65535. Or, in strict mode, the MMR data of a plane breaks a rule of T.6.
 abbrev pub BreaksGrayScale : GrayScale → List ℕ → DecodeError → Type 0
 BreaksGrayScale p bytes (Overflow BitmapDimension) = (0 < p.bits_per_pixel) × ((65535 < p.width) ⊎ (65535 < p.height))
 BreaksGrayScale p bytes (Region InvalidMmrData) =
@@ -43,8 +56,7 @@ BreaksGrayScale p bytes (Region InvalidMmrData) =
     × BreaksMmr p.strict p.width p.height (plane_start p bytes k) (Region InvalidMmrData))
 BreaksGrayScale p bytes _ = ⊥
 
--- The image of gray values is refused; or, in strict mode, the value that the planes of the bytes give a cell is not
--- below the number of the patterns.
+-- The image of gray values is refused. Or, in strict mode, the planes give a cell a value that has no pattern.
 abbrev pub BreaksHalftone : HalftoneHeader → Patterns → DecodeError → Type 0
 BreaksHalftone h d (Region GrayScaleOutOfRange) =
     let grid = h.grid_position_and_size in

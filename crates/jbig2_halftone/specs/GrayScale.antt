@@ -1,11 +1,23 @@
--- Gray-scale images (T.88, Annex C): a value for each pixel, coded as bit planes from the highest on. The definition
+-- Gray-scale images (T.88, Annex C): a value for each pixel, coded as bit planes, the highest first. The definition
 -- `gray_scale_image` takes the parameters of Table C.1 and the coded bytes, and gives the values, or an error.
-use Rattle.std.specs.{Prelude.{ℕ, zero, suc, ◌+◌, ◌-◌, ◌*◌, ◌/◌, ◌%◌, nat_lt, Bool, false, ◌&&◌, ◌||◌, if◌then◌else◌, List, [], ◌∷◌, length, take, drop, map, Option, Result, Ok}, List.{range_with_len}}
-use Rattle.{jbig2_base.specs.{Answer.{◌>>=◌, refuse_if}, Grid.{Grid, pixel_at, differ}, declared.error.{DecodeError.{DecodeError, TheVariants.{Overflow}}, OverflowError.TheVariants.{BitmapDimension}}}, jbig2_mmr.specs.T6.{mmr_rows}}
+use Rattle.std.specs.Prelude.{ℕ, zero, suc, ◌+◌, ◌-◌, ◌*◌, ◌/◌, ◌%◌, nat_lt, Bool, false, ◌&&◌, ◌||◌, if◌then◌else◌}
+use Rattle.std.specs.Prelude.{List, [], ◌∷◌, length, take, drop, map, Option, Result, Ok}
+use Rattle.std.specs.List.{range_with_len}
+use Rattle.jbig2_base.specs.Answer.{◌>>=◌, refuse_if}
+use Rattle.jbig2_base.specs.Grid.{Grid, pixel_at, differ}
+use Rattle.jbig2_base.specs.declared.error.DecodeError.{DecodeError}
+use Rattle.jbig2_base.specs.declared.error.DecodeError.TheVariants.{Overflow}
+use Rattle.jbig2_base.specs.declared.error.OverflowError.TheVariants.{BitmapDimension}
+use Rattle.jbig2_mmr.specs.T6.{mmr_rows}
 use Rattle.jbig2_coder.specs.Coder.{Context, initial_registers}
-use Rattle.jbig2_region.specs.{Generic.{number_of, skipping_coding}, Raster.{Region, so_far, decoded_region, no_pixels, fresh_contexts}, Templates.{context_bits, left, right, template_pixels}, declared.template.{AdaptiveTemplatePixel.{AdaptiveTemplatePixel}, Template.{Template, TheVariants.{Template0, Template1}}}}
+use Rattle.jbig2_region.specs.Generic.{number_of, skipping_coding}
+use Rattle.jbig2_region.specs.Raster.{Region, so_far, decoded_region, no_pixels, fresh_contexts}
+use Rattle.jbig2_region.specs.Templates.{context_bits, left, right, template_pixels}
+use Rattle.jbig2_region.specs.declared.template.AdaptiveTemplatePixel.{AdaptiveTemplatePixel}
+use Rattle.jbig2_region.specs.declared.template.Template.{Template}
+use Rattle.jbig2_region.specs.declared.template.Template.TheVariants.{Template0, Template1}
 
-pub record GrayScale : Type 0 where  -- what an image's coded bytes are decoded by (Table C.1)
+pub record GrayScale : Type 0 where  -- what is needed to decode an image's coded bytes (Table C.1)
   pub use_mmr : Bool
   pub bits_per_pixel : ℕ
   pub width : ℕ
@@ -20,8 +32,8 @@ nominal_pixels Template0 = right 3 1 ∷ left 3 1 ∷ right 2 2 ∷ left 2 2 ∷
 nominal_pixels Template1 = right 3 1 ∷ []
 nominal_pixels _ = right 2 1 ∷ []
 
--- The last of the `count` highest planes, each a generic region without typical prediction (Table C.4), which begins
--- with the registers and the contexts that the one before it left, and the first with fresh contexts.
+-- The last of the `count` highest planes. Each is a generic region without typical prediction (Table C.4). It begins
+-- with the registers and the contexts that the plane before it left, and the first one with fresh contexts.
 unfoldable pub after_planes : GrayScale → List ℕ → ℕ → Region
 after_planes p bytes zero = no_pixels (initial_registers bytes) (fresh_contexts (context_bits p.template))
 after_planes p bytes (suc count) =
@@ -29,7 +41,7 @@ after_planes p bytes (suc count) =
     let coding = skipping_coding (template_pixels false p.template (nominal_pixels p.template)) p.skip_mask in
     decoded_region coding p.width p.height bytes (no_pixels before.registers before.contexts)
 
--- with MMR, a plane and the bytes after those that it used, and this many planes
+-- with MMR: a plane, and the bytes after those that it used; and this many planes
 unfoldable pub mmr_plane : GrayScale → List ℕ → Result (Grid × List ℕ) DecodeError
 mmr_plane p bytes = mmr_rows p.strict p.width p.height bytes >>= λ rows. Ok (rows.grid, drop rows.used bytes)
 
@@ -40,7 +52,7 @@ mmr_planes p bytes (suc count) = do
   others ← mmr_planes p plane.1 count
   Ok (plane.0 ∷ others)
 
--- all planes, the highest first: by the coder, plane k is the last of the k + 1 highest ones
+-- all planes, the highest first; with the arithmetic coder, plane k is the last of the k + 1 highest ones
 abbrev pub planes_of : GrayScale → List ℕ → Result (List Grid) DecodeError
 planes_of p bytes =
     if p.use_mmr then mmr_planes p bytes p.bits_per_pixel
@@ -50,7 +62,7 @@ abbrev pub parity : List Grid → ℕ → ℕ → Bool  -- the exclusive or of t
 parity [] x y = false
 parity (plane ∷ planes) x y = differ (pixel_at plane x y) (parity planes x y)
 
--- a value, whose bit j is the exclusive or of the coded planes from plane j up (C.5, step 3)
+-- a value; its bit j is the exclusive or of the coded planes from the highest down to plane j (C.5, step 3)
 unfoldable pub gray_value : List Grid → ℕ → ℕ → ℕ
 gray_value planes x y =
     number_of (map (λ j. parity (take (length planes - j) planes) x y) (range_with_len 0 (length planes)))
@@ -69,7 +81,7 @@ gray_scale_image p bytes = do
   planes ← planes_of p bytes
   Ok (gray_values p.width p.height planes)
 
--- The contexts afterwards. MMR leaves them alone, refused or not, and so does a side that is too large.
+-- The contexts after the image. MMR leaves them as they were, refused or not, and so does a side that is too large.
 abbrev pub gray_contexts : GrayScale → List ℕ → List Context → List Context
 gray_contexts p bytes contexts =
     if image_is_too_large p || p.use_mmr then contexts else (after_planes p bytes p.bits_per_pixel).contexts

@@ -1,11 +1,21 @@
 -- The data of a halftone region segment up to its coded bytes (T.88, 7.4.5): region information, flags, and the grid's
--- size, place and vector. The bytes give the header, and the coded bytes stand after it.
-use Rattle.std.specs.{Prelude.{ℕ, ◌/◌, ◌%◌, ◌==◌, nat_lt, Bool, ◌||◌, List, Result, Ok}, Int.{w8, w16, w32}}
-use Rattle.jbig2_base.specs.{Answer.{refuse_if, ◌>>=◌}, Fields.{number_at, signed_at}, Combination.{operator_of}, declared.error.{DecodeError.{DecodeError, TheVariants.{Overflow}}, OverflowError.TheVariants.{GridDimension}}}
-use Rattle.jbig2_region.specs.{RegionInfo.{region_info_at}, Templates.{template_of}, declared.region_info.RegionSegmentInfo.{RegionSegmentInfo}}
-use Rattle.jbig2_halftone.specs.declared.halftone.header.{HalftoneGridPositionAndSize.{HalftoneGridPositionAndSize}, HalftoneGridVector.{HalftoneGridVector}, HalftoneRegionFlags.{HalftoneRegionFlags}}
+-- size, place and vector. The bytes give the header, and the coded bytes after it.
+use Rattle.std.specs.Prelude.{ℕ, ◌/◌, ◌%◌, ◌==◌, nat_lt, Bool, ◌||◌, List, Result, Ok}
+use Rattle.std.specs.Int.{w8, w16, w32}
+use Rattle.jbig2_base.specs.Answer.{refuse_if, ◌>>=◌}
+use Rattle.jbig2_base.specs.Fields.{number_at, signed_at}
+use Rattle.jbig2_base.specs.Combination.{operator_of}
+use Rattle.jbig2_base.specs.declared.error.DecodeError.{DecodeError}
+use Rattle.jbig2_base.specs.declared.error.DecodeError.TheVariants.{Overflow}
+use Rattle.jbig2_base.specs.declared.error.OverflowError.TheVariants.{GridDimension}
+use Rattle.jbig2_region.specs.RegionInfo.{region_info_at}
+use Rattle.jbig2_region.specs.Templates.{template_of}
+use Rattle.jbig2_region.specs.declared.region_info.RegionSegmentInfo.{RegionSegmentInfo}
+use Rattle.jbig2_halftone.specs.declared.halftone.header.HalftoneGridPositionAndSize.{HalftoneGridPositionAndSize}
+use Rattle.jbig2_halftone.specs.declared.halftone.header.HalftoneGridVector.{HalftoneGridVector}
+use Rattle.jbig2_halftone.specs.declared.halftone.header.HalftoneRegionFlags.{HalftoneRegionFlags}
 
-pub record HalftoneHeader : Type 0 where  -- what a halftone region's coded bytes are decoded by
+pub record HalftoneHeader : Type 0 where  -- what is needed to decode a halftone region's coded bytes
   pub region_info : RegionSegmentInfo
   pub flags : HalftoneRegionFlags
   pub grid_position_and_size : HalftoneGridPositionAndSize
@@ -29,7 +39,7 @@ halftone_flags_at bytes = do
     flags.1,
   )
 
--- The grid's size and place (7.4.5.1.2); neither side may pass 65535 (our own rule).
+-- The grid's size and place (7.4.5.1.2). No side may be above 65535 (our own rule).
 unfoldable pub halftone_grid_at : List ℕ → Result (HalftoneGridPositionAndSize × List ℕ) DecodeError
 halftone_grid_at bytes = do
   width ← number_at w32 bytes

@@ -1,10 +1,15 @@
 -- The data of a pattern dictionary segment up to its coded bytes (T.88, 7.4.4): flags, a pattern's sides and GRAYMAX.
--- The bytes give the header, and the coded bytes stand after it.
-use Rattle.std.specs.{Prelude.{ℕ, ◌≡◌, ◌/◌, ◌%◌, ◌==◌, Bool, List, Result, Ok}, Int.{w8, w32}}
-use Rattle.jbig2_base.specs.{Answer.{◌>>=◌, refuse_if}, Grid.{Grid}, Fields.{number_at, end_of_bytes}, declared.error.DecodeError.{DecodeError}}
-use Rattle.jbig2_region.specs.{Templates.{template_of}, declared.template.Template.{Template}}
+-- The bytes give the header, and the coded bytes after it.
+use Rattle.std.specs.Prelude.{ℕ, ◌≡◌, ◌/◌, ◌%◌, ◌==◌, Bool, List, Result, Ok}
+use Rattle.std.specs.Int.{w8, w32}
+use Rattle.jbig2_base.specs.Answer.{◌>>=◌, refuse_if}
+use Rattle.jbig2_base.specs.Grid.{Grid}
+use Rattle.jbig2_base.specs.Fields.{number_at, end_of_bytes}
+use Rattle.jbig2_base.specs.declared.error.DecodeError.{DecodeError}
+use Rattle.jbig2_region.specs.Templates.{template_of}
+use Rattle.jbig2_region.specs.declared.template.Template.{Template}
 
--- What a dictionary's coded bytes are decoded by. There is one pattern more than GRAYMAX says (7.4.4.1.4).
+-- What is needed to decode a dictionary's coded bytes. There is one pattern more than GRAYMAX says (7.4.4.1.4).
 pub record PatternHeader : Type 0 where
   pub mmr : Bool
   pub template : Template
@@ -14,12 +19,12 @@ pub record PatternHeader : Type 0 where
   pub bytes : List ℕ
   pub strict : Bool
 
--- the size of a pattern, HDPW columns and HDPH rows, as a grid that has it
+-- a grid has the size of a pattern: HDPW columns and HDPH rows
 pub record HasSize (width height : ℕ) (grid : Grid) : Type 0 where
   pub columns : grid.width ≡ width
   pub rows : grid.height ≡ height
 
--- a side of a pattern; a side of no pixels counts as missing (our own rule)
+-- a side of a pattern; 0 counts as a missing side (our own rule)
 abbrev pub side_at : List ℕ → Result (ℕ × List ℕ) DecodeError
 side_at bytes = number_at w8 bytes >>= λ n. refuse_if (n.0 == 0) end_of_bytes >>= λ some. Ok n
 

@@ -1,9 +1,20 @@
--- Pattern dictionaries (T.88, 6.7): the patterns stand side by side in one collective bitmap, a generic region. The
+-- Pattern dictionaries (T.88, 6.7): the patterns lie side by side in one collective bitmap, a generic region. The
 -- header with the coded bytes gives the list of the patterns' grids, one for each gray value.
-use Rattle.std.specs.{Prelude.{ℕ, ◌+◌, ◌*◌, nat_lt, Bool, true, false, if◌then◌else◌, List, [], ◌∷◌, map, Result, Ok}, List.{range_with_len}}
-use Rattle.jbig2_base.specs.{Answer.{refuse_if, ◌>>=◌}, Grid.{Grid, part_of}, declared.{bitmap.operator.CombinationOperator.TheVariants.{Or}, error.{DecodeError.{DecodeError, TheVariants.{Overflow}}, OverflowError.TheVariants.{BitmapDimension}}}}
+use Rattle.std.specs.Prelude.{ℕ, ◌+◌, ◌*◌, nat_lt, Bool, true, false, if◌then◌else◌, List, [], ◌∷◌, map, Result, Ok}
+use Rattle.std.specs.List.{range_with_len}
+use Rattle.jbig2_base.specs.Answer.{refuse_if, ◌>>=◌}
+use Rattle.jbig2_base.specs.Grid.{Grid, part_of}
+use Rattle.jbig2_base.specs.declared.bitmap.operator.CombinationOperator.TheVariants.{Or}
+use Rattle.jbig2_base.specs.declared.error.DecodeError.{DecodeError}
+use Rattle.jbig2_base.specs.declared.error.DecodeError.TheVariants.{Overflow}
+use Rattle.jbig2_base.specs.declared.error.OverflowError.TheVariants.{BitmapDimension}
 use Rattle.jbig2_coder.specs.Coder.{Context}
-use Rattle.jbig2_region.specs.{Generic.{generic_answer, contexts_after}, GenericHeader.{GenericHeader}, Templates.{left, right}, declared.template.{AdaptiveTemplatePixel.{AdaptiveTemplatePixel}, Template.{Template, TheVariants.{Template0}}}}
+use Rattle.jbig2_region.specs.Generic.{generic_answer, contexts_after}
+use Rattle.jbig2_region.specs.GenericHeader.{GenericHeader}
+use Rattle.jbig2_region.specs.Templates.{left, right}
+use Rattle.jbig2_region.specs.declared.template.AdaptiveTemplatePixel.{AdaptiveTemplatePixel}
+use Rattle.jbig2_region.specs.declared.template.Template.{Template}
+use Rattle.jbig2_region.specs.declared.template.Template.TheVariants.{Template0}
 use Rattle.jbig2_halftone.specs.PatternHeader.{PatternHeader}
 
 pub record Patterns : Type 0 where  -- the patterns of a dictionary, which have one size
@@ -14,7 +25,7 @@ pub record Patterns : Type 0 where  -- the patterns of a dictionary, which have 
 abbrev pub collective_width : PatternHeader → ℕ
 collective_width h = (h.gray_max + 1) * h.pattern_width
 
--- the adaptive pixels (Table 27), by whether MMR is on, the template and a pattern's width: A1 lies one pattern to the left
+-- the adaptive pixels (Table 27), for MMR or not, a template and a pattern's width: A1 lies one pattern to the left
 abbrev pub collective_pixels : Bool → Template → ℕ → List AdaptiveTemplatePixel
 collective_pixels true template width = []
 collective_pixels false Template0 width = left width 0 ∷ left 3 1 ∷ right 2 2 ∷ left 2 2 ∷ []
@@ -33,7 +44,7 @@ collective_header h = record {
   strict = h.strict;
 }
 
--- this many patterns of these sides; pattern k is the columns from k * width on
+-- this many patterns of this size; pattern k has the columns from k * width on
 unfoldable pub patterns_of : Grid → ℕ → ℕ → ℕ → List Grid
 patterns_of collective width height count =
     map (λ k. part_of collective (record { left = k * width; top = 0; width = width; height = height })) (range_with_len 0 count)
@@ -45,7 +56,7 @@ patterns_decoded h = do
   collective ← generic_answer (collective_header h)
   Ok (record { grids = patterns_of collective h.pattern_width h.pattern_height (h.gray_max + 1); width = h.pattern_width; height = h.pattern_height })
 
--- The contexts afterwards: those that the collective bitmap leaves. One that is too wide leaves them alone.
+-- The contexts after the collective bitmap. One that is too wide leaves them as they were.
 abbrev pub dictionary_contexts : PatternHeader → List Context → List Context
 dictionary_contexts h contexts =
     if nat_lt 65535 (collective_width h) then contexts else contexts_after (collective_header h) contexts

@@ -1,15 +1,25 @@
--- What the step bounds of gray-scale images, halftone regions and pattern dictionaries count (our own rule): planes that are
--- read, values that are taken out of them by lanes of eight pixels, patterns that are drawn and patterns that are cut out.
--- Each `Counts..` takes an image, a region or a dictionary, and the counts before and after it. `Stops..` is the same for one
--- that is refused: what was done until then is no more than a part of what `Counts..` counts.
-use Rattle.std.specs.Prelude.{ℕ, zero, suc, ◌≡◌, ◌≤◌, ◌+◌, ◌*◌, ◌/◌, ◌%◌, true, false, if◌then◌else◌, List, length, None, is_some, ◌⊎◌}
+-- What the step bounds of gray-scale images, halftone regions and pattern dictionaries count (our own rule): planes
+-- that are read, values that are taken from them in lanes of eight pixels, patterns that are drawn, and patterns that
+-- are cut out. Each `Counts..` takes an image, a region or a dictionary, and the counts before and after it. `Stops..`
+-- is the same for one that is refused: until then it did no more than a part of what `Counts..` counts.
+use Rattle.std.specs.Prelude.{ℕ, zero, suc, ◌≡◌, ◌≤◌, ◌+◌, ◌*◌, ◌/◌, ◌%◌, true, false, if◌then◌else◌, List, length}
+use Rattle.std.specs.Prelude.{None, is_some, ◌⊎◌}
 use Rattle.jbig2_steps.specs.Work.{price_of_bitmap}
 use Rattle.jbig2_base.specs.Counts.{WritesWithin, overlap, most_words, words_copied, Counts, KeepsLanes}
 use Rattle.jbig2_mmr.specs.Steps.{MovesWithin}
-use Rattle.jbig2_region.specs.{Generic.{coding_of}, GenericSteps.{CountsGeneric}, Raster.{no_pixels}, Steps.{coded_runs, row_loads, row_tests, row_words, kept_pixels, skipping_loads, skipping_words}, Templates.{template_pixels}}
-use Rattle.jbig2_halftone.specs.{GrayScale.{GrayScale, nominal_pixels, after_planes}, Halftone.{column_of, gray_params, row_of, skip_mask}, HalftoneHeader.{HalftoneHeader}, PatternHeader.{PatternHeader}, Patterns.{Patterns, collective_header}}
+use Rattle.jbig2_region.specs.Generic.{coding_of}
+use Rattle.jbig2_region.specs.GenericSteps.{CountsGeneric}
+use Rattle.jbig2_region.specs.Raster.{no_pixels}
+use Rattle.jbig2_region.specs.Steps.{coded_runs, row_loads, row_tests, row_words, kept_pixels, skipping_loads}
+use Rattle.jbig2_region.specs.Steps.{skipping_words}
+use Rattle.jbig2_region.specs.Templates.{template_pixels}
+use Rattle.jbig2_halftone.specs.GrayScale.{GrayScale, nominal_pixels, after_planes}
+use Rattle.jbig2_halftone.specs.Halftone.{column_of, gray_params, row_of, skip_mask}
+use Rattle.jbig2_halftone.specs.HalftoneHeader.{HalftoneHeader}
+use Rattle.jbig2_halftone.specs.PatternHeader.{PatternHeader}
+use Rattle.jbig2_halftone.specs.Patterns.{Patterns, collective_header}
 
--- how many run bytes the highest planes have, where no pixel is skipped
+-- the number of run bytes of the highest planes, where no pixel is skipped
 unfoldable pub plane_runs : GrayScale → List ℕ → ℕ → ℕ
 plane_runs p bytes zero = 0
 plane_runs p bytes (suc count) =
@@ -18,8 +28,8 @@ plane_runs p bytes (suc count) =
     plane_runs p bytes count
     + coded_runs pixels true (coding_of false p.template pixels) p.width p.height bytes (no_pixels before.registers before.contexts)
 
--- the highest planes, without skipped pixels: a decision for each pixel, less eight for each run byte, and no lanes;
--- empty planes take no step
+-- the highest planes, without skipped pixels: a decision for each pixel, but eight fewer for each run byte, and no
+-- lanes; empty planes take no step
 pub record CountsPlanes (p : GrayScale) (bytes : List ℕ) (count : ℕ) (before after : Counts) : Type 0 where
   pub empty : p.width * p.height ≡ 0 → after ≡ before
   pub decisions : 1 ≤ p.width → after.decisions + 8 * plane_runs p bytes count ≡ before.decisions + count * (p.width * p.height)
@@ -35,18 +45,18 @@ pub record CountsMasked (p : GrayScale) (count : ℕ) (before after : Counts) : 
   pub words : after.words ≤ before.words + count * (p.height * skipping_words p.width)
   pub loads : after.loads ≤ before.loads + count * (p.height * skipping_loads p.width)
 
-abbrev pub words_of_plane : GrayScale → ℕ  -- how many words of 64 pixels a plane has
+abbrev pub words_of_plane : GrayScale → ℕ  -- the number of words of 64 pixels in a plane
 words_of_plane p = (p.width + 63) / 64 * p.height
 
--- This many of the highest planes. MMR data makes at most three loads and words together for each word of a plane and each
--- bit of the bytes, of which no plane uses those that one before it has used.
+-- This many of the highest planes. MMR data makes at most three loads and words together for each word of a plane and
+-- each bit of the bytes. No plane uses bytes that a plane before it has used.
 pub record CountsRead (p : GrayScale) (bytes : List ℕ) (count : ℕ) (before after : Counts) : Type 0 where
   pub plain : p.use_mmr ≡ false → p.skip_mask ≡ None → CountsPlanes p bytes count before after
   pub masked : p.use_mmr ≡ false → is_some p.skip_mask ≡ true → CountsMasked p count before after
   pub mmr : p.use_mmr ≡ true → MovesWithin (3 * (count * words_of_plane p + 8 * length bytes)) before after
   pub lanes : KeepsLanes before after
 
--- this many of the highest planes are read, and then this many rows of each are taken by groups of eight lanes and single pixels
+-- this many of the highest planes are read, then this many rows of each are taken, in groups of eight and single pixels
 abbrev pub CountsRows : GrayScale → List ℕ → ℕ → ℕ → Counts → Counts → Type 0
 CountsRows p bytes planes rows before after =
     (read : Counts) × (CountsRead p bytes planes before read × (after ≡ record read {
@@ -63,21 +73,21 @@ CountsImage p bytes before after = CountsRows p bytes p.bits_per_pixel p.height 
 abbrev pub StopsImage : GrayScale → List ℕ → Counts → Counts → Type 0
 StopsImage p bytes before after = (planes : ℕ) × ((planes ≤ p.bits_per_pixel) × CountsRead p bytes planes before after)
 
--- an image takes, of each row of each plane, a group for each whole eight pixels, and the others one by one
+-- from each row of each plane, an image takes one group for each whole eight pixels, and the other pixels one by one
 pub record CountsLanes (p : GrayScale) (before after : Counts) : Type 0 where
   pub groups : after.groups ≡ before.groups + p.height * p.bits_per_pixel * (p.width / 8)
   pub pixels : after.pixels ≡ before.pixels + p.height * p.bits_per_pixel * (p.width % 8)
   pub both : after.groups + after.pixels ≤ before.groups + before.pixels + p.height * p.bits_per_pixel * (p.width / 8 + 7)
 
--- The words that drawing cell k may write: for each row inside the region, two for up to 64 columns inside, and one more
--- for each further 64 begun; so none for a cell that lies wholly outside.
+-- The words that drawing cell k may write. For each row inside the region: two words for up to 64 columns inside, and
+-- one more for each further 64 or part of 64. So a cell that lies wholly outside writes none.
 unfoldable pub cell_words : HalftoneHeader → Patterns → ℕ → ℕ
 cell_words h d k =
     let columns = h.grid_position_and_size.width in
     overlap h.region_info.height d.height (row_of h (k / columns) (k % columns))
     * most_words (overlap h.region_info.width d.width (column_of h (k / columns) (k % columns)))
 
-unfoldable pub words_of_cells : HalftoneHeader → Patterns → ℕ → ℕ → ℕ  -- the same of n cells from cell k on
+unfoldable pub words_of_cells : HalftoneHeader → Patterns → ℕ → ℕ → ℕ  -- the same for n cells from cell k on
 words_of_cells h d k zero = 0
 words_of_cells h d k (suc n) = words_of_cells h d k n + cell_words h d (k + n)
 
@@ -87,7 +97,7 @@ after_mask h d before =
     let cells = h.grid_position_and_size.height * h.grid_position_and_size.width in
     record before { words = before.words + (if is_some (skip_mask h d) then cells else 0) }
 
--- the planes are read after the mask and this many rows of values taken, and then cells are drawn, with two loads for each word
+-- after the mask, planes are read and this many rows of values taken; then cells are drawn, two loads for each word
 abbrev pub CountsDrawn : HalftoneHeader → Patterns → ℕ → ℕ → Counts → Counts → Type 0
 CountsDrawn h d planes rows before after =
     let cells = h.grid_position_and_size.height * h.grid_position_and_size.width in
@@ -98,7 +108,7 @@ abbrev pub CountsHalftone : HalftoneHeader → Patterns → Counts → Counts �
 CountsHalftone h d before after =
     CountsDrawn h d (gray_params h d).bits_per_pixel h.grid_position_and_size.height before after
 
--- a region that is refused: no step, or no more planes and no more rows
+-- a region that is refused: no step, or at most all planes and all rows
 abbrev pub StopsHalftone : HalftoneHeader → Patterns → Counts → Counts → Type 0
 StopsHalftone h d before after =
     (after ≡ before)
@@ -117,12 +127,12 @@ CountsCut h count before after =
 abbrev pub CountsDictionary : PatternHeader → Counts → Counts → Type 0
 CountsDictionary h before after = CountsCut h (h.gray_max + 1) before after
 
--- a dictionary that is refused: no step, or no more patterns
+-- a dictionary that is refused: no step, or at most all patterns
 abbrev pub StopsDictionary : PatternHeader → Counts → Counts → Type 0
 StopsDictionary h before after =
     (after ≡ before) ⊎ ((count : ℕ) × ((count ≤ h.gray_max + 1) × CountsCut h count before after))
 
--- ---- prices: how many units pay for what is counted, after every answer
+-- ---- prices: the units that pay for what is counted, whatever the result
 -- an image: a bitmap of its size for each plane, and a unit for each byte
 abbrev pub price_of_image : GrayScale → List ℕ → ℕ
 price_of_image p bytes = price_of_bitmap p.width p.height * p.bits_per_pixel + length bytes

@@ -28,10 +28,10 @@ use std::sync::ledger::Ledger;
 /// The longest side of a plane, in pixels.
 const MAX_DIMENSION: u32 = 65535;
 
-/// What a gray-scale image's coded bytes are decoded by (T.88, Table C.1).
+/// What is needed to decode a gray-scale image's coded bytes (T.88, Table C.1).
 #[derive(Drop)]
 pub struct GrayScaleParams<'a, M: Allocator> {
-    /// Whether the bytes are coded with MMR, in place of the arithmetic coder.
+    /// Whether the bytes are coded with MMR, instead of the arithmetic coder.
     pub use_mmr: bool,
     /// The number of planes, 0 to 32.
     pub bits_per_pixel: u32,
@@ -40,18 +40,18 @@ pub struct GrayScaleParams<'a, M: Allocator> {
     /// In pixels.
     pub height: u32,
     pub template: Template,
-    /// Black where a pixel is skipped, which is white in every coded plane. MMR data skips none.
+    /// Black where a pixel is skipped: it is white in every coded plane. MMR data skips none.
     pub skip_mask: Option<&'a Bitmap<M>>,
     /// Whether faulty MMR data is refused.
     pub strict: bool,
 }
 
-/// A row of a plane without a mask takes no more loads than one with a mask may take.
+/// A row of a plane without a mask takes no more loads than a row with a mask may take.
 pub fn plain_rows_load_as_few()
     ensures { (w : ℕ) → row_loads true w ≤ skipping_loads w }
 {}
 
-/// A value 0 for each pixel.
+/// The value 0 for each pixel.
 fn zeros<A: Allocator>(alloc: A, width: u32, height: u32) -> Result<Vec<u32, A>>
     ensures { Gives (λ values. values.items) result (Ok (gray_values width height [])) }
 {
@@ -60,14 +60,14 @@ fn zeros<A: Allocator>(alloc: A, width: u32, height: u32) -> Result<Vec<u32, A>>
     Ok(values)
 }
 
-/// Decodes a gray-scale image (T.88, Annex C): a value for each pixel, row by row from the top, each
-/// row from the left. With 0 bits a pixel nothing is read and every value is 0, whatever the size. The contexts begin
-/// fresh, whatever `contexts` held, and are left there as the last plane leaves them; MMR data and a
-/// side that is refused do not touch them. A refusal takes no more steps than some of the highest planes do, or all.
+/// Decodes a gray-scale image (T.88, Annex C): a value for each pixel, row by row from the top, each row from the left.
+/// With 0 bits for each pixel, it reads nothing and every value is 0, whatever the size. The contexts begin fresh,
+/// whatever `contexts` held. Afterwards `contexts` holds what the last plane leaves. MMR data and a side that is
+/// refused do not change it. After an error, no more steps were taken than some of the highest planes take, or all.
 ///
-/// `OverflowError::BitmapDimension` for a side above 65535 with 1 bit a pixel or more; in strict mode
-/// `RegionError::InvalidMmrData` where MMR data has a fault or lacks a row; `OutOfMemory` where there
-/// is no room, which alone leaves open what `contexts` holds.
+/// Returns `OverflowError::BitmapDimension` for a side above 65535 with at least 1 bit for each pixel; in strict mode
+/// `RegionError::InvalidMmrData` where MMR data has a fault or lacks a row; `OutOfMemory`. Only after this last error
+/// the content of `contexts` is not specified.
 #[tactic(auto, using(crate::proofs::CausesOfRegions::gray_scale_cause), unfolding(crate::specs::GrayScale::gray_scale_image))]
 pub fn decode_gray_scale_image<M: Allocator, A: Allocator + Clone, B: Allocator, L: Ledger>(
     alloc: A,

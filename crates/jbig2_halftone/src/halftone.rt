@@ -1,4 +1,4 @@
-//! Halftone regions (T.88, 6.6 and 7.4.5).
+//! Halftone regions (T.88, 6.6 and 7.4.5): draws a pattern for each cell of a grid.
 ghost use Rattle.std.specs.Prelude.{◌≡◌, ◌+◌, ◌*◌, ◌<◌, ◌≤◌, length, false, ◌⊎◌, IfErr, IfOk, OnErr, OnOk, FitsSigned, Ok};
 ghost use Rattle.std.specs.Int.{w32, int_shr};
 ghost use Rattle.jbig2_steps.specs.Work.{CountsWithin};
@@ -39,8 +39,8 @@ use jbig2_region::region_info::DecodedRegion;
 use std::alloc::Allocator;
 use std::sync::ledger::Ledger;
 
-/// The cells that are skipped: the pixel in column `n` of row `m` is black where cell (`m`, `n`)
-/// lies outside (T.88, 6.6.5.1).
+/// The cells that are skipped: the pixel in column `n` of row `m` is black if the pattern of cell
+/// (`m`, `n`) lies outside the region (T.88, 6.6.5.1).
 fn skip_bitmap<D: Allocator, A: Allocator, L: Ledger>(
     alloc: A,
     header: &HalftoneRegionHeader<'_>,
@@ -76,8 +76,8 @@ fn skip_bitmap<D: Allocator, A: Allocator, L: Ledger>(
     Ok(skip)
 }
 
-/// The pattern of a value. A value without a pattern is refused in strict mode, and otherwise has
-/// the last one.
+/// The pattern of a value. In strict mode a value without a pattern is refused. In other modes it
+/// has the last pattern.
 fn pattern_for<A: Allocator>(
     strict: bool,
     dictionary: &PatternDictionary<A>,
@@ -100,7 +100,7 @@ fn pattern_for<A: Allocator>(
     Ok(&patterns[patterns.len() - 1])
 }
 
-/// Draws a cell's pattern onto a region, if it does not lie wholly outside.
+/// Draws a cell's pattern onto a region, unless it lies wholly outside.
 #[inline(always)]
 fn draw_cell<D: Allocator, A: Allocator, L: Ledger>(
     place: CellPlace,
@@ -126,8 +126,8 @@ fn draw_cell<D: Allocator, A: Allocator, L: Ledger>(
     bitmap.combine(pattern, x, y, operator, steps);
 }
 
-/// Draws the patterns of the values of row `m` of the grid, whose first cell stands at `first`, onto
-/// a region (T.88, 6.6.5.2).
+/// Draws the patterns of the values of row `m` of the grid onto a region. `first` is the place of the row's first cell
+/// (T.88, 6.6.5.2).
 fn draw_row<D: Allocator, A: Allocator, L: Ledger>(
     header: &HalftoneRegionHeader<'_>,
     dictionary: &PatternDictionary<D>,
@@ -171,7 +171,7 @@ fn draw_row<D: Allocator, A: Allocator, L: Ledger>(
     Ok(())
 }
 
-/// Draws the patterns of all cells onto a region, row by row. `values` holds one row of them.
+/// Draws the patterns of all cells onto a region, row by row. `values` holds one row of values.
 fn draw_rows<D: Allocator, P: Allocator, A: Allocator, L: Ledger>(
     header: &HalftoneRegionHeader<'_>,
     dictionary: &PatternDictionary<D>,
@@ -214,7 +214,7 @@ fn draw_rows<D: Allocator, P: Allocator, A: Allocator, L: Ledger>(
     Ok(())
 }
 
-/// The cells that are skipped, where the header says that some may be (T.88, 6.6.5.1).
+/// The cells that are skipped, if the header says that cells may be skipped (T.88, 6.6.5.1).
 fn skip_mask<D: Allocator, A: Allocator, L: Ledger>(
     alloc: A,
     header: &HalftoneRegionHeader<'_>,
@@ -235,7 +235,7 @@ fn skip_mask<D: Allocator, A: Allocator, L: Ledger>(
     Ok(None)
 }
 
-/// The planes of the cells' values (T.88, 6.6.5, steps 2 to 4).
+/// Decodes the planes of the cells' values (T.88, 6.6.5, steps 2 to 4).
 fn read_cells<D: Allocator, A: Allocator + Clone, B: Allocator, L: Ledger>(
     alloc: A,
     header: &HalftoneRegionHeader<'_>,
@@ -274,7 +274,7 @@ fn read_cells<D: Allocator, A: Allocator + Clone, B: Allocator, L: Ledger>(
     read_planes(alloc, header.bytes, &params, contexts, steps)
 }
 
-/// Room for one row of values.
+/// Memory for one row of values.
 fn value_row<A: Allocator>(alloc: A, width: u32) -> Result<Vec<u32, A>>
     ensures value { IfOk result (λ values. length values.items ≡ width) }
     ensures memory { IfErr result (λ e. e ≡ DecodeError.OutOfMemory) }
@@ -284,16 +284,15 @@ fn value_row<A: Allocator>(alloc: A, width: u32) -> Result<Vec<u32, A>>
     Ok(values)
 }
 
-/// Decodes a halftone region (T.88, 6.6) into a bitmap of its size that is all in its initial
-/// colour. The contexts begin fresh, whatever `contexts` held, and are left there as the gray-scale
-/// image leaves them, also where a value is refused; MMR data does not touch them. Any error but
-/// `RegionError::GrayScaleOutOfRange` leaves the bitmap as it was. A refusal takes no more steps than a region
-/// that is drawn whole.
+/// Decodes a halftone region (T.88, 6.6) into a bitmap of its size that is all in its initial colour. The contexts
+/// begin fresh, whatever `contexts` held. Afterwards `contexts` holds what the gray-scale image leaves, also where a
+/// value is refused. MMR data does not change it. Every error except `RegionError::GrayScaleOutOfRange` leaves the
+/// bitmap as it was. After an error, no more steps were taken than for a region that is drawn whole.
 ///
-/// `RegionError::InvalidMmrData` in strict mode where MMR data has a fault or lacks a row;
-/// `RegionError::GrayScaleOutOfRange` in strict mode for a value that no pattern has, also where the
-/// cell lies outside; `OutOfMemory` where there is no room for the values, which alone is refused in
-/// lenient mode, and alone leaves open what `contexts` holds.
+/// Returns `RegionError::InvalidMmrData` in strict mode where MMR data has a fault or lacks a row;
+/// `RegionError::GrayScaleOutOfRange` in strict mode for a value that has no pattern, also where the cell lies outside;
+/// `OutOfMemory` where there is no memory for the values. This last one is the only error in lenient mode. Only after
+/// it the content of `contexts` is not specified.
 #[tactic(auto, using(crate::proofs::CausesOfRegions::halftone_cause))]
 pub fn decode_into<D: Allocator, M: Allocator, A: Allocator + Clone, B: Allocator, L: Ledger>(
     alloc: A,
@@ -333,10 +332,10 @@ pub fn decode_into<D: Allocator, M: Allocator, A: Allocator + Clone, B: Allocato
 }
 
 /// Decodes a halftone region (T.88, 6.6), as `decode_into` does, into a bitmap of its own. A side
-/// that is refused does not touch the contexts.
+/// that is refused does not change the contexts.
 ///
-/// `OverflowError::BitmapDimension` above 65535 pixels either way; `OutOfMemory` where there is no
-/// room for the bitmap, else as `decode_into`.
+/// Returns `OverflowError::BitmapDimension` for a side above 65535 pixels, `OutOfMemory` where
+/// there is no memory for the bitmap, and else the errors of `decode_into`.
 #[tactic(auto, unfolding(crate::specs::Halftone::halftone_decoded))]
 pub fn decode<D: Allocator, A: Allocator + Clone, B: Allocator, L: Ledger>(
     alloc: A,

@@ -1,4 +1,4 @@
-//! Pattern dictionaries (T.88, 6.7 and 7.4.4).
+//! Pattern dictionaries (T.88, 6.7 and 7.4.4): cuts the patterns out of one collective bitmap.
 ghost use Rattle.std.specs.Prelude.{◌≡◌, ◌+◌, ◌*◌, ◌/◌, ◌≤◌, [], ◌∷◌, length, IfOk, OnErr, OnOk, Ok, Bool, true, false};
 ghost use Rattle.jbig2_steps.specs.Work.{CountsWithin};
 ghost use Rattle.jbig2_base.specs.Answer.{Answers, Gives, Leaves};
@@ -37,10 +37,10 @@ use std::sync::ledger::Ledger;
 /// The widest collective bitmap, in pixels.
 const MAX_DIMENSION: u64 = 65535;
 
-/// What a pattern dictionary's coded bytes are decoded by (T.88, 7.4.4).
+/// What is needed to decode a pattern dictionary's coded bytes (T.88, 7.4.4).
 #[derive(Clone, Copy, Debug)]
 pub struct PatternDictionaryHeader<'a> {
-    /// Whether the bytes are coded with MMR, in place of the arithmetic coder.
+    /// Whether the bytes are coded with MMR, instead of the arithmetic coder.
     pub mmr: bool,
     pub template: Template,
     /// In pixels.
@@ -55,7 +55,7 @@ pub struct PatternDictionaryHeader<'a> {
     pub strict: bool,
 }
 
-/// A side of a pattern, which is not 0.
+/// Reads a side of a pattern, which must not be 0.
 fn side_field(reader: &mut Reader<'_>) -> Result<u8>
     requires { IsAligned reader.old }
     ensures value { Answers (λ x. (x, reader.new.bytes)) result (side_at reader.old.bytes) }
@@ -69,11 +69,11 @@ fn side_field(reader: &mut Reader<'_>) -> Result<u8>
     Ok(side)
 }
 
-/// The header of a pattern dictionary at the reader's place, which holds the coded bytes after it
-/// (T.88, 7.4.4).
+/// Reads the header of a pattern dictionary (T.88, 7.4.4). The reader is then at the coded bytes,
+/// which the header holds too.
 ///
-/// `ParseError::UnexpectedEof` where the bytes do not hold it, or where a pattern has no pixels. An
-/// error leaves the reader where it was. Takes no memory.
+/// Returns `ParseError::UnexpectedEof` where the bytes do not hold the header, or where a pattern
+/// has no pixels. An error leaves the reader where it was. It takes no memory.
 #[tactic(auto, unfolding(crate::specs::PatternHeader::pattern_header_at))]
 pub fn parse<'a>(reader: &mut Reader<'a>, strict: bool) -> Result<PatternDictionaryHeader<'a>>
     requires { IsAligned reader.old }
@@ -118,7 +118,7 @@ fn collective_pixels(pattern_width: u8) -> GenericTemplatePixels
     ])
 }
 
-/// Pattern `k`: the columns of a collective bitmap from `k` times the width on.
+/// Cuts out pattern `k`: the columns of a collective bitmap from `k` times the width on.
 fn cut_pattern<A: Allocator, L: Ledger>(
     alloc: A,
     collective: &Bitmap<A>,
@@ -145,7 +145,7 @@ fn cut_pattern<A: Allocator, L: Ledger>(
     collective.part(alloc, area, steps)
 }
 
-/// The patterns that a collective bitmap holds side by side.
+/// Cuts out the patterns, which lie side by side in a collective bitmap.
 fn cut_patterns<A: Allocator + Clone, L: Ledger>(
     alloc: A,
     collective: &Bitmap<A>,
@@ -171,7 +171,7 @@ fn cut_patterns<A: Allocator + Clone, L: Ledger>(
     Ok(patterns)
 }
 
-/// The collective bitmap of a dictionary (T.88, 6.7.5).
+/// Decodes the collective bitmap of a dictionary (T.88, 6.7.5).
 #[tactic(auto, using(crate::proofs::PatternLemmas::collective_view))]
 fn decode_collective<A: Allocator, B: Allocator, L: Ledger>(
     alloc: A,
@@ -214,14 +214,14 @@ fn decode_collective<A: Allocator, B: Allocator, L: Ledger>(
     Ok(collective)
 }
 
-/// Decodes a pattern dictionary (T.88, 6.7). The contexts begin fresh, whatever `contexts` held,
-/// and are left there as the collective bitmap leaves them; MMR data and one that is too wide do
-/// not touch them. Each word of a pattern is loaded once and written once; a refusal takes no more steps than a
-/// dictionary that is decoded whole.
+/// Decodes a pattern dictionary (T.88, 6.7). The contexts begin fresh, whatever `contexts` held. Afterwards `contexts`
+/// holds what the collective bitmap leaves. MMR data and a bitmap that is too wide do not change it. Each word of a
+/// pattern is loaded once and written once. After an error, no more steps were taken than for a dictionary that is
+/// decoded whole.
 ///
-/// `OverflowError::BitmapDimension` where the patterns side by side have more than 65535 columns;
-/// in strict mode `RegionError::InvalidMmrData` where MMR data has a fault or lacks a row;
-/// `OutOfMemory` where there is no room, which alone leaves open what `contexts` holds.
+/// Returns `OverflowError::BitmapDimension` where the patterns side by side have more than 65535 columns; in strict
+/// mode `RegionError::InvalidMmrData` where MMR data has a fault or lacks a row; `OutOfMemory`. Only after this last
+/// error the content of `contexts` is not specified.
 #[tactic(auto, using(crate::proofs::CausesOfRegions::pattern_cause), unfolding(crate::specs::Patterns::patterns_decoded))]
 pub fn decode<A: Allocator + Clone, B: Allocator, L: Ledger>(
     alloc: A,

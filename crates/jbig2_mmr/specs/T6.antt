@@ -1,12 +1,22 @@
--- Two-dimensional coding of bitmaps by ITU-T T.6 (2.2), which T.88 calls MMR (6.2.6). Modes and runs say where a
--- row's changing elements lie against the row above it, its reference row. `mmr_rows`, at the end, takes a width, a
--- height and bytes, and gives the bitmap and how many bytes it took, or an error.
-use Rattle.std.specs.{Prelude.{ℕ, zero, suc, ◌+◌, ◌-◌, ◌/◌, ◌%◌, ◌==◌, ℤ, pos, negsuc, ◌+ℤ◌, Bool, true, false, not, ◌&&◌, ◌||◌, nat_le, nat_lt, List, [], ◌∷◌, ◌++◌, length, take, drop, filter, slice_index_or, Option, Some, None, Result, Ok, Err, if◌then◌else◌}, List.{flat_map, list_all}}
-use Rattle.jbig2_base.specs.{Bits.{byte_bits, number_after}, Grid.{Grid, grid_of, differ}, Search.{place_from}, declared.error.{DecodeError.{DecodeError, TheVariants.{Region}}, RegionError.TheVariants.{InvalidMmrData}}}
-use Rattle.jbig2_mmr.specs.{declared.mmr.codes.Mode.{Mode, TheVariants.{Pass, Horizontal, Vertical}}, T6Codes.{modes, white_runs, black_runs}}
+-- Two-dimensional coding of bitmaps by ITU-T T.6 (2.2), which T.88 calls MMR (6.2.6). Modes and runs give the changing
+-- elements of a row, relative to the row above it, its reference row. `mmr_rows`, at the end, takes a width, a height
+-- and bytes. It gives the bitmap and how many bytes it used, or an error.
+use Rattle.std.specs.Prelude.{ℕ, zero, suc, ◌+◌, ◌-◌, ◌/◌, ◌%◌, ◌==◌, ℤ, pos, negsuc, ◌+ℤ◌, Bool, true, false, not}
+use Rattle.std.specs.Prelude.{◌&&◌, ◌||◌, nat_le, nat_lt, List, [], ◌∷◌, ◌++◌, length, take, drop, filter}
+use Rattle.std.specs.Prelude.{slice_index_or, Option, Some, None, Result, Ok, Err, if◌then◌else◌}
+use Rattle.std.specs.List.{flat_map, list_all}
+use Rattle.jbig2_base.specs.Bits.{byte_bits, number_after}
+use Rattle.jbig2_base.specs.Grid.{Grid, grid_of, differ}
+use Rattle.jbig2_base.specs.Search.{place_from}
+use Rattle.jbig2_base.specs.declared.error.DecodeError.{DecodeError}
+use Rattle.jbig2_base.specs.declared.error.DecodeError.TheVariants.{Region}
+use Rattle.jbig2_base.specs.declared.error.RegionError.TheVariants.{InvalidMmrData}
+use Rattle.jbig2_mmr.specs.declared.mmr.codes.Mode.{Mode}
+use Rattle.jbig2_mmr.specs.declared.mmr.codes.Mode.TheVariants.{Pass, Horizontal, Vertical}
+use Rattle.jbig2_mmr.specs.T6Codes.{modes, white_runs, black_runs}
 
 infixl 10 ◌>>=◌
--- the next step, unless the last one was a fault
+-- the next step, unless the step before had a fault
 abbrev pub ◌>>=◌ : {A B : Type 0} → Option A → (A → Option B) → Option B
 (Some x) >>= next = next x
 None >>= next = None
@@ -17,7 +27,7 @@ begins [] bits = true
 begins (b ∷ word) [] = false
 begins (b ∷ word) (c ∷ bits) = b == c && begins word bits
 
--- what the code that begins the bits stands for, and the bits after it
+-- the value of the code that begins the bits, and the bits after it
 unfoldable pub read_code : {A : Type 0} → List (A × List ℕ) → List ℕ → Option (A × List ℕ)
 read_code [] bits = None
 read_code (c ∷ cs) bits = if begins c.1 bits then Some (c.0, drop (length c.1) bits) else read_code cs bits
@@ -29,7 +39,7 @@ is_prefix_free (c ∷ cs) = list_all (λ d. not (begins c.1 d.1) && not (begins 
 abbrev pub runs_of : Bool → List (ℕ × List ℕ)
 runs_of black = if black then black_runs else white_runs
 
--- A run is the sum of make-up codes (64 and more) and a terminating code (0 to 63). Each code takes a bit at least.
+-- A run is the sum of make-up codes (64 and more) and a terminating code (0 to 63). Each code takes at least one bit.
 unfoldable pub run_from : ℕ → Bool → List ℕ → Option (ℕ × List ℕ)
 run_from zero black bits = None
 run_from (suc most) black bits = do
@@ -39,7 +49,7 @@ run_from (suc most) black bits = do
 abbrev pub run : Bool → List ℕ → Option (ℕ × List ℕ)
 run black bits = run_from (length bits) black bits
 
--- ---- the changing elements of a row (2.2.1), left of which lies white
+-- ---- the changing elements of a row (2.2.1); left of the row all is white
 abbrev pub left_of : (ℕ → Bool) → ℕ → Bool
 left_of row zero = false
 left_of row (suc x) = row x
@@ -47,17 +57,17 @@ left_of row (suc x) = row x
 unfoldable pub is_change : (ℕ → Bool) → ℕ → Bool  -- pixel x differs from its left neighbour
 is_change row x = differ (row x) (left_of row x)
 
-unfoldable pub is_change_from : (ℕ → Bool) → Bool → ℕ → Bool  -- and from the colour
+unfoldable pub is_change_from : (ℕ → Bool) → Bool → ℕ → Bool  -- and also from this colour
 is_change_from row black x = is_change row x && differ (row x) black
 
 -- ---- one mode (2.2.2)
--- where a row stands: at a0, which is 0 before the first mode; whether a mode was read; the colour from a0 on
+-- the state of a row: its place a0, which is 0 before the first mode; whether a mode was read; the colour from a0 on
 pub record Head : Type 0 where
   pub a0 : ℕ
   pub begun : Bool
   pub black : Bool
 
--- what a mode does: where it leaves the row, the changing elements that it adds, and the bits after it
+-- the result of a mode: the state of the row, the changing elements that it adds, and the bits after it
 pub record Step : Type 0 where
   pub head : Head
   pub added : List ℕ
@@ -70,11 +80,11 @@ b1_of w above h = place_from (is_change_from above h.black) (if h.begun then h.a
 unfoldable pub b2_of : ℕ → (ℕ → Bool) → Head → ℕ  -- b2: the next changing element right of b1 (2.2.1)
 b2_of w above h = place_from (is_change above) (b1_of w above h + 1) w
 
--- Pass: a0 moves under b2, and the colour stays.
+-- Pass: a0 moves to the place below b2, and the colour stays.
 unfoldable pub after_pass : ℕ → (ℕ → Bool) → Head → List ℕ → Option Step
 after_pass w above h bits = Some (record { head = record { a0 = b2_of w above h; begun = true; black = h.black }; added = []; left = bits })
 
--- Horizontal: a run of the colour up to a1, then one of the other up to a2, where a0 moves, within the row.
+-- Horizontal: a run of the colour up to a1, then a run of the other up to a2, within the row. a0 moves to a2.
 unfoldable pub after_runs : ℕ → Head → List ℕ → Option Step
 after_runs w h bits = do
   first ← run h.black bits
@@ -87,7 +97,7 @@ abbrev pub place_in : ℕ → ℕ → ℤ → Option ℕ  -- a place in the row 
 place_in a0 w (pos x) = if nat_le a0 x && nat_le x w then Some x else None
 place_in a0 w (negsuc x) = None
 
--- Vertical: a1 is b1 plus the mode's distance, a0 moves there, and the colour changes.
+-- Vertical: a1 is b1 plus the mode's distance. a0 moves to a1, and the colour changes.
 unfoldable pub after_vertical : ℕ → (ℕ → Bool) → Head → ℤ → List ℕ → Option Step
 after_vertical w above h distance bits = do
   a1 ← place_in h.a0 w (pos (b1_of w above h) +ℤ distance)
@@ -98,13 +108,13 @@ after_mode w above h Pass bits = after_pass w above h bits
 after_mode w above h Horizontal bits = after_runs w h bits
 after_mode w above h (Vertical distance) bits = after_vertical w above h distance bits
 
-unfoldable pub next_step : ℕ → (ℕ → Bool) → Head → List ℕ → Option Step  -- the next mode (table 1), and what it does
+unfoldable pub next_step : ℕ → (ℕ → Bool) → Head → List ℕ → Option Step  -- the next mode (table 1), and its result
 next_step w above h bits = do
   mode ← read_code modes bits
   after_mode w above h mode.0 mode.1
 
 -- ---- rows (2.2.3)
--- the changing elements of a row, and the bits after it, mode by mode; each mode takes a bit at least
+-- the changing elements of a row, and the bits after it, mode by mode; each mode takes at least one bit
 unfoldable pub row_from : ℕ → ℕ → (ℕ → Bool) → Head → List ℕ → List ℕ → Option (List ℕ × List ℕ)
 row_from zero w above h changes bits = if nat_le w h.a0 then Some (changes, bits) else None
 row_from (suc most) w above h changes bits =
@@ -117,7 +127,7 @@ row_start = record { a0 = 0; begun = false; black = false }
 abbrev pub row : ℕ → (ℕ → Bool) → List ℕ → Option (List ℕ × List ℕ)
 row w above bits = row_from (length bits) w above row_start [] bits
 
--- a pixel is black where an odd number of the row's changes lies at or left of it
+-- a pixel is black if an odd number of the row's changes is at or left of it
 unfoldable pub black_at : List ℕ → ℕ → Bool
 black_at changes x = length (filter (λ c. nat_le c x) changes) % 2 == 1
 
@@ -127,13 +137,13 @@ pixel_of w changes x = nat_lt x w && black_at changes x
 unfoldable pub ends_block : List ℕ → Bool  -- the end of block (EOFB; T.88, 6.2.6): 000000000001 twice
 ends_block bits = nat_le 24 (length bits) && (number_after 0 (take 24 bits) == 0x001001)
 
--- ---- all rows: the whole ones, whether they are all, and the bits after them: none at a fault
+-- ---- all rows: the complete ones, whether all rows are complete, and the bits after them, none after a fault
 pub record Rows : Type 0 where
   pub rows : List (List ℕ)
   pub whole : Bool
   pub left : List ℕ
 
--- This many rows more: the end of block ends them early, and a fault too. Above row 0 all is white.
+-- This many more rows. The end of block ends them early, and so does a fault. Above row 0 all is white.
 unfoldable pub rows_from : ℕ → ℕ → List ℕ → List (List ℕ) → List ℕ → Rows
 rows_from zero w above done bits = record { rows = done; whole = true; left = (if ends_block bits then drop 24 bits else bits) }
 rows_from (suc n) w above done bits =
@@ -146,17 +156,17 @@ rows_from (suc n) w above done bits =
 abbrev pub bits_of : List ℕ → List ℕ
 bits_of bytes = flat_map byte_bits bytes
 
-unfoldable pub rows_of : ℕ → ℕ → List ℕ → Rows  -- no width or no height: nothing is read
+unfoldable pub rows_of : ℕ → ℕ → List ℕ → Rows  -- without columns or without rows nothing is read
 rows_of w h bytes = if w == 0 || h == 0 then record { rows = []; whole = true; left = bits_of bytes } else rows_from h w [] [] (bits_of bytes)
 
 abbrev pub grid_of_rows : ℕ → ℕ → List (List ℕ) → Grid
 grid_of_rows w h rows = grid_of w h (λ x y. black_at (slice_index_or rows y []) x)
 
-pub record Decoded : Type 0 where  -- the bitmap, and the bytes that were used, a begun one whole
+pub record Decoded : Type 0 where  -- the bitmap, and the bytes that were used, the last one whole
   pub grid : Grid
   pub used : ℕ
 
--- rows of a width and a height (T.88, 6.2.6); one that is missing is refused in strict mode, and else white
+-- the rows of a width and a height (T.88, 6.2.6); strict mode refuses a missing row, else it is white
 unfoldable pub mmr_rows : Bool → ℕ → ℕ → List ℕ → Result Decoded DecodeError
 mmr_rows strict w h bytes =
     let r = rows_of w h bytes in

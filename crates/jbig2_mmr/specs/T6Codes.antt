@@ -1,9 +1,10 @@
--- The code tables of ITU-T T.6 (tables 1 to 3): each line is a mode or the length of a run, and the code word that
--- stands for it. `modes` lists the first, the lists of runs the others, to be compared with the tables line by line.
+-- The code tables of ITU-T T.6 (tables 1 to 3), to be compared with the tables line by line. Each line is a mode or the
+-- length of a run, and its code word. `modes` is table 1; the lists of runs are tables 2 and 3.
 use Rattle.std.specs.Prelude.{ℕ, ◌-◌, pos, ◌-ℤ◌, List, [], ◌∷◌, map, codes}
-use Rattle.jbig2_mmr.specs.declared.mmr.codes.Mode.{Mode, TheVariants.{Pass, Horizontal, Vertical}}
+use Rattle.jbig2_mmr.specs.declared.mmr.codes.Mode.{Mode}
+use Rattle.jbig2_mmr.specs.declared.mmr.codes.Mode.TheVariants.{Pass, Horizontal, Vertical}
 
-abbrev pub word : List ℕ → List ℕ  -- the bits that a text of 0s and 1s spells
+abbrev pub word : List ℕ → List ℕ  -- the bits of a text of 0s and 1s
 word text = map (λ c. c - 48) text
 
 abbrev pub vertical_right : ℕ → Mode  -- the vertical modes VR(n) and VL(n): a1 is n right of b1, or n left of it
@@ -19,7 +20,7 @@ modes =
     (vertical_left 1, word (codes "010")) ∷ (vertical_left 2, word (codes "000010")) ∷ (vertical_left 3, word (codes "0000010")) ∷
     []
 
--- T.6, table 3 (make-up codes of both colours), and the run that each stands for
+-- T.6, table 3 (make-up codes of both colours), and the length of run for each
 unfoldable pub longer_runs : List (ℕ × List ℕ)
 longer_runs =
     (1792, word (codes "00000001000")) ∷ (1856, word (codes "00000001100")) ∷ (1920, word (codes "00000001101")) ∷ (1984, word (codes "000000010010")) ∷

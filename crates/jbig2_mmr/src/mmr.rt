@@ -1,4 +1,4 @@
-//! Bitmaps that are coded in two dimensions by T.6 (MMR; T.88, 6.2.6).
+//! Decodes bitmaps that are coded in two dimensions by T.6 (MMR; T.88, 6.2.6).
 ghost use Rattle.std.specs.Prelude.{◌≡◌, if◌then◌else◌, false, Ok, Err, Bool, ℕ, ◌+◌, ◌*◌, length};
 ghost use Rattle.jbig2_base.specs.Answer.{Answers};
 ghost use Rattle.jbig2_base.specs.Counts.{KeepsLanes, words_of};
@@ -22,13 +22,13 @@ use jbig2_base::error::{DecodeError, RegionError, Result};
 use std::alloc::Allocator;
 use std::sync::ledger::Ledger;
 
-/// Decodes rows onto a white bitmap, and returns how many of `bytes` they take, a begun one whole.
+/// Decodes rows onto a white bitmap, and returns how many of `bytes` they take, the last one whole.
 ///
-/// A fault in the data, or an end of block before the last row, is refused in strict mode
-/// (`RegionError::InvalidMmrData`); otherwise a fault takes all bytes. In both modes the whole rows
-/// before it stay and the rest is white. No memory is taken, and no group of lanes and no single
-/// pixel is counted, but at most three loads and words for each word of the bitmap and each bit of
-/// the bytes that are taken. Where they are refused, that is each bit of `bytes`.
+/// Strict mode refuses a fault in the data, or an end of block before the last row
+/// (`RegionError::InvalidMmrData`). In the other mode a fault takes all bytes. In both modes the
+/// whole rows before the fault or end of block stay, and the rest is white. No memory is taken.
+/// Only loads and words are counted: at most three together for each word of the bitmap and each
+/// bit of the bytes that are taken. If the data is refused, that is each bit of `bytes`.
 pub fn decode<A: Allocator, L: Ledger>(
     bitmap: &mut Bitmap<A>,
     bytes: &[u8],
@@ -62,7 +62,7 @@ pub fn decode<A: Allocator, L: Ledger>(
     Ok(reader.bytes_used())
 }
 
-/// The answer where not all rows are there.
+/// The result if not all rows are there.
 fn missing_rows(strict: bool, used: usize) -> Result<usize>
     ensures { result ≡
         (if strict then Err (DecodeError.Region RegionError.InvalidMmrData) else Ok used) }

@@ -1,15 +1,15 @@
-//! Leave to begin a counter of steps. `crates.txt` lists this crate for those alone that call whole kernels: a kernel
-//! can't name it, so it counts what it does in the counter that it is given.
+//! The permission to make a counter of steps. `crates.txt` lists this crate only for crates that call whole kernels.
+//! A kernel can't name it, so it counts its steps in the counter that it is given.
 #![tactic(auto)]
 
-/// Leave to begin one counter.
+/// The permission to make one counter.
 #[derive(Drop)]
 pub struct Permit {
     granted: (),
 }
 
 impl Permit {
-    /// A permit, for one counter.
+    /// A permit for one counter.
     pub fn grant() -> Permit {
         Permit { granted: () }
     }

@@ -1,4 +1,4 @@
-//! The callers on small pages.
+//! Tests the callers with small pages.
 use crate::bytes::{FILE, bytes_of};
 use hayro_jbig2::{DecodeError, DecoderContext, FormatError, HuffmanError, Jbig2Error, Result};
 use jbig2_callers::converter::first_picture;
@@ -11,10 +11,10 @@ use std::io::Cursor;
 
 const IMAGE: [u8; 8] = [255; 8];
 
-/// A custom table as globals hold it.
+/// A custom table as globals contain it.
 const TABLE: &str = "00000000 35 00 00 0000000B 70 00*7 01 8F20";
 
-/// One whose codes are too many.
+/// A custom table with too many codes.
 const NO_CODE: &str = "00000000 35 00 00 0000000B 70 00*7 01 1000";
 
 /// Whether a white page is drawn with these globals, or its error is this one and nothing is drawn.
@@ -34,7 +34,7 @@ fn stream_holds(
     Ok(answer == *expected && shown)
 }
 
-/// Whether that holds without globals, and with those of each kind.
+/// Whether that is so without globals, and with each kind of globals.
 fn streams_hold(alloc: Global) -> Result<[bool; 3]> {
     let stream = bytes_of(alloc, "P")?;
     let table = bytes_of(alloc, TABLE)?;
@@ -56,7 +56,7 @@ fn a_stream_is_decoded_with_its_globals(rt: HostRuntime) {
     assert!(rt; hold == Ok([true, true, true]));
 }
 
-/// Whether the page of a file is shown, and a second one is told to be missing.
+/// Whether the page of a file is shown, and a second page is reported as missing.
 fn images_hold(alloc: Global) -> Result<bool> {
     let bytes = bytes_of(alloc, FILE)?;
     let image = image_at(alloc, &bytes, 0)?;

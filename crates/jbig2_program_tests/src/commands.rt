@@ -1,4 +1,4 @@
-//! Runs of `jbig2-decode` over memory.
+//! Tests runs of `jbig2-decode` that read from and write to memory.
 mod t88_example;
 
 use crate::bytes::{FILE, bytes_of};
@@ -18,7 +18,7 @@ const WHITE: &[u8] = b"push_pixel_chunk false 1\nnext_line\n";
 const BLACK: &[u8] = b"push_pixel_chunk true 1\npush_pixel true\nnext_line\n\
     push_pixel_chunk true 1\npush_pixel true\nnext_line\n";
 
-/// Row 14: a page, and a segment that is cut off.
+/// Row 14: a page, and then only the beginning of a segment.
 const CUT_OFF: &str = "P 00000001 26";
 
 /// A file whose page has no end.
@@ -27,17 +27,18 @@ const UNENDED: &str = "H 01 00000001 P";
 /// A file of a black page of 9 by 2.
 const BLACK_FILE: &str = "H 01 00000001 P@11=00000009@15=00000002@27=04 00000001 31 00 01 00000000";
 
-/// A file with a segment that a strict decoder refuses when it decodes.
+/// A file with a segment that strict reading refuses when it is decoded.
 const UNDECODABLE: &str =
     "H 01 00000001 P 00000001 3E 00 01 00000004 80000000 00000002 31 00 01 00000000";
 
 /// The words of a run.
 type Words = &'static [&'static str];
 
-/// The status of a run, what it writes, and what standard error is told.
+/// The status of a run, its output, and what it writes to standard error.
 type End<'e> = (u8, &'e [u8], &'e [u8]);
 
-/// Whether a run ends so. Returns `DecodeError::OutOfMemory` where it says that memory was refused.
+/// Whether a run ends with this. Returns `DecodeError::OutOfMemory` where the run reports that
+/// memory ran out.
 fn run_ends<R: Read>(
     alloc: Global,
     words: &[&str],
@@ -53,18 +54,18 @@ fn run_ends<R: Read>(
     Ok((status, out.as_slice(), err.as_slice()) == expected)
 }
 
-/// Whether a run over these bytes ends so.
+/// Whether a run that reads these bytes ends with this.
 fn ends_over(alloc: Global, words: &[&str], bytes: &[u8], expected: End<'_>) -> Result<bool> {
     run_ends(alloc, words, Some(&mut Cursor::new(bytes)), expected)
 }
 
-/// Whether a run over the file that a text spells ends so.
+/// Whether a run that reads the file in this text ends with this.
 fn ends_once(alloc: Global, words: &[&str], text: &str, expected: End<'_>) -> Result<bool> {
     let bytes = bytes_of(alloc, text)?;
     ends_over(alloc, words, &bytes, expected)
 }
 
-/// The same; where memory was refused it is run again.
+/// The same; a run that ran out of memory is run again.
 fn ends_so(alloc: Global, words: &[&str], text: &str, expected: End<'_>) -> bool {
     let mut ends = ends_once(alloc, words, text, expected);
     if ends == Err(DecodeError::OutOfMemory) {
@@ -73,7 +74,7 @@ fn ends_so(alloc: Global, words: &[&str], text: &str, expected: End<'_>) -> bool
     ends == Ok(true)
 }
 
-/// Words that ask for nothing.
+/// Words that are not those of a run.
 const REFUSED_WORDS: &[Words] = &[
     &[],
     &["embedded"],
@@ -98,7 +99,7 @@ fn other_words_print_the_usage(rt: HostRuntime) {
     }
 }
 
-/// Words, and the one that names the file.
+/// Words, and which of them names the file.
 const FILE_WORDS: &[(Words, Option<&str>)] = &[
     (&["--strict", "embedded", "page"], Some("page")),
     (&["embedded", "page"], Some("page")),
@@ -149,7 +150,7 @@ const UNSUPPORTED: &[u8] = b"error: unsupported feature\n";
 
 const NO_SUCH_PAGE: &[u8] = b"error: no such page\n";
 
-/// Words, the file, and the fault that is told. Nothing is printed, no header either: a file is read before its
+/// Words, the file, and the fault that is reported. Nothing is printed, not even a header: a file is read before its
 /// page is looked for, and a page is decoded before it is printed.
 const FAULTS: &[(Words, &str, &[u8])] = &[
     (
@@ -199,8 +200,8 @@ fn faults_are_told_and_nothing_is_printed(rt: HostRuntime) {
 
 const UNREADABLE: &[u8] = b"error: cannot read file\n";
 
-/// Whether a run without a file, and one whose reader has this patience, end as they are to. The page has 30 bytes,
-/// so that the end is read at the 62nd read.
+/// Whether two runs end as expected: one without a file, and one whose reader has this patience. The page has 30 bytes,
+/// so the 62nd read comes to the end.
 fn reader_holds(alloc: Global, patience: usize) -> Result<bool> {
     let bytes = bytes_of(alloc, "P")?;
     let mut reader = Slow::new(&bytes, patience, ErrorKind::OutOfMemory);
@@ -235,8 +236,8 @@ fn what_is_not_there_is_unreadable(rt: HostRuntime) {
     }
 }
 
-/// Whether a run with such an output ends with this status and tells this. Returns `DecodeError::OutOfMemory` where
-/// it says that memory was refused.
+/// Whether a run with such an output ends with this status and writes this to standard error. Returns
+/// `DecodeError::OutOfMemory` where the run reports that memory ran out.
 fn writes_so(
     alloc: Global,
     words: &[&str],
@@ -254,7 +255,7 @@ fn writes_so(
     Ok((status, err.as_slice()) == expected)
 }
 
-/// Words, the file, the rooms of an output from the first to the last, and how many bytes are printed.
+/// Words, the file, how many bytes the output takes, from the first number to the last, and how many there are.
 const ROOMS: &[(Words, &str, (usize, usize), usize)] = &[
     (&["embedded", "page"], "P", (0, 35), 35),
     (&["embedded", "page"], "P@17=FF", (20000, 20000), 35 * 65281),
@@ -263,7 +264,7 @@ const ROOMS: &[(Words, &str, (usize, usize), usize)] = &[
     (&["pbm", "file", "0"], FILE, (0, 8), 8),
 ];
 
-/// Each byte of the output may be the one that cannot be written: what came before it is written, and nothing is told.
+/// The output may take any number of bytes. It holds the bytes before the failing one, and nothing is reported.
 #[test]
 fn output_that_cannot_be_written_ends_the_run(rt: HostRuntime) {
     for (words, file, (first, last), length) in ROOMS {
@@ -283,7 +284,7 @@ fn output_that_cannot_be_written_ends_the_run(rt: HostRuntime) {
     }
 }
 
-/// Words, and what is told where the output cannot be flushed.
+/// Words, and what is written to standard error where the output cannot be flushed.
 const UNFLUSHED: &[(Words, &[u8])] = &[
     (&["--strict", "calls", "file", "0"], UNSUPPORTED),
     (&["--strict", "pbm", "file", "0"], UNSUPPORTED),
@@ -292,7 +293,7 @@ const UNFLUSHED: &[(Words, &[u8])] = &[
     (&["pbm", "file", "0"], b""),
 ];
 
-/// Decoding comes before writing, so its fault is the one that is told.
+/// Decoding comes before writing, so its fault is reported.
 #[test]
 fn a_page_that_is_not_decoded_is_not_flushed(rt: HostRuntime) {
     for (words, told) in UNFLUSHED {

@@ -1,4 +1,4 @@
-//! The texts of the errors, and their conversions.
+//! Tests the texts of the errors, and their conversions.
 use hayro_jbig2::{
     DecodeError, FormatError, HuffmanError, OverflowError, ParseError, RegionError, SegmentError,
     SymbolError, TemplateError,

@@ -1,4 +1,4 @@
-//! Files and pages at the limits of what a run has to take.
+//! Tests files and pages at the limits of what a run must accept.
 use crate::bytes::bytes_of;
 use hayro_jbig2::{DecodeError, Jbig2Decoder, Jbig2Error, Result};
 use jbig2_commands::run;
@@ -9,8 +9,8 @@ use std::io::Cursor;
 const LONG: &str = "H 01 00000001 P@11=0000FFFF 00000001 3E 00 01 00120000 20000000 00*1179644 \
     00000002 31 00 01 00000000";
 
-/// Words, the bytes, and what is printed and reported: a comment that refers to a page information 1,000,001
-/// times, a halftone grid of 5000 columns, and more instances than 32 times the data, by either coding.
+/// Words, the bytes, and what is printed and reported: a comment that refers 1,000,001 times to a page information
+/// segment, a halftone grid of 5000 columns, and more instances than 32 for each byte of the data, in either coding.
 const LARGE: &[(&[&str], &str, (u8, &[u8], &[u8]))] = &[
     (
         &["--strict", "embedded", "page"],
@@ -47,7 +47,7 @@ const TOO_MANY_INSTANCES: &[u8] = b"error: too many symbol instances\n";
 
 const OUT_OF_MEMORY: &[u8] = b"error: out of memory\n";
 
-/// Whether a run over the bytes that a text spells ends so.
+/// Whether a run that reads the bytes in this text ends with this.
 fn ends_once(
     alloc: Global,
     words: &[&str],
@@ -65,7 +65,7 @@ fn ends_once(
     Ok((status, out.as_slice(), err.as_slice()) == expected)
 }
 
-/// The same; where memory was refused it is run again.
+/// The same; a run that ran out of memory is run again.
 fn ends_so(alloc: Global, words: &[&str], text: &str, expected: (u8, &[u8], &[u8])) -> bool {
     let mut ends = ends_once(alloc, words, text, expected);
     if ends == Err(DecodeError::OutOfMemory) {
@@ -87,7 +87,7 @@ fn a_file_above_1_mib_is_read(rt: HostRuntime) {
     assert!(rt; ends_so(rt.alloc(), &["--strict", "pages", "file"], LONG, pages));
 }
 
-/// Draws the page of `LONG` over a reader. Returns whether it has its size and is white.
+/// Draws the page of `LONG` from a reader. Returns whether it has its size and is white.
 fn is_drawn_white(alloc: Global) -> std::result::Result<bool, Jbig2Error> {
     let bytes = bytes_of(alloc, LONG).map_err(Jbig2Error::Decode)?;
     let decoder = Jbig2Decoder::new(alloc, Cursor::new(bytes.as_slice()))?;
@@ -102,7 +102,7 @@ fn is_drawn_white(alloc: Global) -> std::result::Result<bool, Jbig2Error> {
     Ok(image.iter().all(|byte| *byte == 255))
 }
 
-/// At most one request is refused in a run of this test.
+/// At most one request for memory is refused in a run of this test.
 #[test]
 fn a_page_of_65535_columns_is_drawn_over_a_reader(rt: HostRuntime) {
     let drawn = is_drawn_white(rt.alloc()).or_else(|_| is_drawn_white(rt.alloc()));

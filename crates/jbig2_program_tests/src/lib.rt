@@ -1,7 +1,7 @@
-//! The tests of the programs and of the callers, by the public calls of their libraries.
+//! Tests of the programs and of the callers, through the public calls of their libraries.
 //!
-//! `rt try --test --fail-alloc N` in this crate's folder runs these tests with the Nth request for memory
-//! refused. At most one is refused in a test's run: what it was refused to is tried again, or the test goes on without.
+//! `rt try --test --fail-alloc N` in this crate's folder runs these tests with the Nth request for memory refused. In a
+//! test's run at most one is refused. Then the test tries the call again, or goes on without it.
 #![tactic(auto)]
 
 #[cfg(test)]

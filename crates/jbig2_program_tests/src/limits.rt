@@ -1,4 +1,4 @@
-//! The limit of work.
+//! Tests the limit of work.
 ghost use Rattle.std.specs.Prelude.{◌≡◌};
 
 use crate::bytes::{FILE, bytes_of};
@@ -16,10 +16,10 @@ use std::sync::ledger::{Blank, Ledger};
 /// Pages with a generic region, symbols and text, patterns and a halftone, and without a region.
 const PAGES: &[&str] = &["P G8", "P S X", "P D T", "P"];
 
-/// Pages that salvage draws, in which a dictionary fails, or a region that refers to one that does.
+/// Pages that salvage draws: a dictionary fails in them, or a region that refers to one.
 const DAMAGED: &[&str] = &["P S@11=0009 X", "P S@11=0009 S X", "P S@11=0009 G8@3=02"];
 
-/// What decoding globals may take: a dictionary of symbols.
+/// Globals whose decoding takes work: a symbol dictionary.
 const GLOBALS: &str = "S";
 
 /// Globals of which salvage keeps the second dictionary.
@@ -27,7 +27,7 @@ const DAMAGED_GLOBALS: &str = "S@11=0009 S@3=02";
 
 const LENIENT: DecodeSettings = DecodeSettings { strict: false };
 
-/// What drawing a page leaves of a limit.
+/// How much of a limit is left after a page is drawn.
 fn left_of(
     page: &Page<'_, Global>,
     work: u64,
@@ -47,8 +47,9 @@ fn rows_of(alloc: Global, context: &DecoderContext<Global>) -> Result<Vec<u8>> {
     Ok(rows)
 }
 
-/// Whether a page is drawn within what it takes and within any greater limit, and refused as for want of memory within any
-/// smaller one, each with what is left; and whether the context then draws it without a limit.
+/// Whether a page is drawn within the work that it takes and within any greater limit, and refused within a smaller
+/// limit, as when memory runs out. What is left must be right each time, and the context must then draw the page
+/// without a limit.
 fn page_holds(alloc: Global, page: &Page<'_, Global>) -> Result<bool> {
     let mut context = DecoderContext::new(alloc)?;
     page.draw_in(&mut context)?;
@@ -95,7 +96,7 @@ fn pages_are_drawn_within_what_they_take_and_no_less(rt: HostRuntime) {
     }
 }
 
-/// Whether damaged globals are salvaged within some limits: below a number never, from there on always.
+/// Whether salvaging damaged globals fails within all limits below some number, and succeeds from there on.
 fn salvaged_globals_hold(alloc: Global) -> Result<bool> {
     let bytes = bytes_of(alloc, DAMAGED_GLOBALS)?;
     let mut are_decoded = false;
@@ -109,7 +110,7 @@ fn salvaged_globals_hold(alloc: Global) -> Result<bool> {
     Ok(are_decoded)
 }
 
-/// Whether globals are decoded within some limits: below a number never, from there on always.
+/// Whether decoding globals fails within all limits below some number, and succeeds from there on.
 fn globals_hold(alloc: Global) -> Result<bool> {
     let bytes = bytes_of(alloc, GLOBALS)?;
     let mut are_decoded = false;
@@ -131,7 +132,7 @@ fn globals_are_decoded_within_a_limit(rt: HostRuntime) {
     assert!(rt; holds == Ok(true));
 }
 
-/// Whether a page of 8 by 1 pixels is white, which a decoder reads within this limit.
+/// Whether a decoder reads a page of 8 by 1 pixels within this limit, and it is white.
 fn is_white_within(
     alloc: Global,
     bytes: &[u8],
@@ -146,7 +147,8 @@ fn is_white_within(
     Ok(image == [255; 8])
 }
 
-/// Whether a decoder reads its page within some limits: below a number never, from there on always.
+/// Whether reading a decoder's page fails within all limits below some number, and succeeds from
+/// there on.
 fn reader_holds(alloc: Global) -> Result<bool> {
     let bytes = bytes_of(alloc, FILE)?;
     let mut is_read = false;
@@ -166,7 +168,8 @@ fn a_reader_is_decoded_within_a_limit(rt: HostRuntime) {
     assert!(rt; holds == Ok(true));
 }
 
-/// What a white page of 8 by 1 pixels leaves of these units: drawn, then read, then made into calls.
+/// How many of these units are left after a white page of 8 by 1 pixels: after it is drawn, then after it is read, and
+/// then after its calls are made.
 fn left_by_page<L: Ledger>(alloc: Global, units: u64, blank: Blank) -> Result<[u64; 3]>
     requires name { blank.name ≡ L.name }
     requires parts { blank.parts ≡ L.parts }
@@ -192,7 +195,7 @@ fn left_by_page<L: Ledger>(alloc: Global, units: u64, blank: Blank) -> Result<[u
     Ok([drawn, read, work.left])
 }
 
-/// The same of 10,000 units.
+/// The same for 10,000 units.
 fn left_of_10_000(alloc: Global) -> Result<[u64; 3]> {
     left_by_page::<Brand>(alloc, 10_000, Blank::new(6))
 }

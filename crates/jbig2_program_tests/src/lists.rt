@@ -1,4 +1,4 @@
-//! Runs of `jbig2-bench` over memory, and the lists that are read back.
+//! Tests runs of `jbig2-bench` that write to memory, and the lists that are read back.
 use crate::streams::Full;
 use hayro_jbig2::{DecodeError, Result};
 use jbig2_rows::generator::Generator;
@@ -12,7 +12,7 @@ const ROW_USAGE: &[u8] = b"usage: jbig2-row NAME\n";
 
 const OUT_OF_MEMORY: &[u8] = b"error: out of memory\n";
 
-/// The first entries that the generator gives, as they were worked out outside of this program.
+/// The first entries that the generator gives. They were computed outside of this program.
 const FIRST: [(u16, bool); 15] = [
     (6, false),
     (1, false),
@@ -31,8 +31,8 @@ const FIRST: [(u16, bool); 15] = [
     (10, true),
 ];
 
-/// Whether a run ends with this status, and writes and tells these bytes. Returns `DecodeError::OutOfMemory` where it
-/// says that memory was refused.
+/// Whether a run ends with this status, this output and this on standard error. Returns `DecodeError::OutOfMemory`
+/// where the run reports that memory ran out.
 fn run_ends(alloc: Global, words: &[&str], expected: (u8, &[u8], &[u8])) -> Result<bool> {
     let mut out = Vec::with_capacity(alloc, 64)?;
     let mut err = Vec::with_capacity(alloc, 64)?;
@@ -43,7 +43,7 @@ fn run_ends(alloc: Global, words: &[&str], expected: (u8, &[u8], &[u8])) -> Resu
     Ok((status, out.as_slice(), err.as_slice()) == expected)
 }
 
-/// Words that ask for nothing.
+/// Words that are not those of a run.
 const REFUSED_WORDS: &[&[&str]] = &[
     &["rows"],
     &["Lists"],
@@ -64,7 +64,7 @@ fn other_words_print_the_usage(rt: HostRuntime) {
     }
 }
 
-/// Words of `jbig2-row`, and how a run of them ends.
+/// Words of `jbig2-row`, and how a run with them ends.
 const NAMED: &[(&[&str], (u8, &[u8], &[u8]))] = &[
     (&["5"], (0, b"row 5 ok\n", b"")),
     (&["R16.2"], (0, b"row R16.2 ok\n", b"")),
@@ -74,7 +74,7 @@ const NAMED: &[(&[&str], (u8, &[u8], &[u8]))] = &[
     (&["5", "7"], (2, b"", ROW_USAGE)),
 ];
 
-/// Whether a run of `jbig2-row` ends so.
+/// Whether a run of `jbig2-row` ends with this.
 fn row_ends(alloc: Global, words: &[&str], expected: (u8, &[u8], &[u8])) -> Result<bool> {
     let mut out = Vec::with_capacity(alloc, 64)?;
     let mut err = Vec::with_capacity(alloc, 64)?;
@@ -96,7 +96,7 @@ fn a_row_is_run_by_its_name(rt: HostRuntime) {
     }
 }
 
-/// At most one request is refused in a run of this test.
+/// At most one request for memory is refused in a run of this test.
 #[test]
 fn all_lists_are_read_back(rt: HostRuntime) {
     let mut ends = run_ends(rt.alloc(), &["lists"], (0, b"lists ok\n", b""));
@@ -106,7 +106,7 @@ fn all_lists_are_read_back(rt: HostRuntime) {
     assert!(rt; ends == Ok(true));
 }
 
-/// Whether a list goes on where the one before ended.
+/// Whether a list begins with the numbers after those of the list before it.
 fn lists_hold(alloc: Global) -> Result<bool> {
     let mut generator = Generator::new();
     let six = generator.list(alloc, 6)?;

@@ -1,4 +1,4 @@
-//! Outputs that take nothing, and whether standard error took its line.
+//! Tests outputs that take nothing, and the result whether the line to standard error was written.
 use crate::bytes::{FILE, bytes_of};
 use crate::streams::{Full, Stuck};
 use hayro_jbig2::{DecodeError, Result};
@@ -6,14 +6,14 @@ use jbig2_commands::{run, run_reported};
 use std::alloc::Global;
 use std::io::Cursor;
 
-/// Words that print something of `FILE`.
+/// Words that print something about `FILE`.
 const PRINTING: [&[&str]; 3] = [
     &["pages", "file"],
     &["calls", "file", "0"],
     &["pbm", "file", "0"],
 ];
 
-/// Whether a run ends with status 1, and silently, where its output takes no byte.
+/// Whether a run ends with status 1 and reports nothing, where its output takes no byte.
 fn ends_where_stuck(alloc: Global, words: &[&str]) -> Result<bool> {
     let bytes = bytes_of(alloc, FILE)?;
     let mut err = Vec::with_capacity(alloc, 256)?;
@@ -36,7 +36,7 @@ fn an_output_that_takes_no_byte_ends_the_run(rt: HostRuntime) {
     }
 }
 
-/// Words, the room of standard error, the status, and whether standard error took its line.
+/// Words, how many bytes standard error takes, the status, and whether its line was written.
 const REPORTED: &[(&[&str], usize, u8, bool)] = &[
     (&["pages"], 256, 2, true),
     (&["pages"], 20, 2, false),
@@ -57,7 +57,7 @@ fn is_reported(alloc: Global, words: &[&str], room: usize, expected: (u8, bool))
     Ok((ended.status, ended.told) == expected)
 }
 
-/// At most one request is refused in a run of this test.
+/// At most one request for memory is refused in a run of this test.
 #[test]
 fn it_is_reported_whether_standard_error_took_its_line(rt: HostRuntime) {
     for (words, room, status, told) in REPORTED {

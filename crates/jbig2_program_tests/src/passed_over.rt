@@ -1,4 +1,4 @@
-//! What lenient reading passes over.
+//! Tests what lenient reading passes over.
 use crate::bytes::bytes_of;
 use hayro_jbig2::{
     DecodeError, DecodeSettings, DecoderContext, Page, PassedOver, PassedSegment, RegionError,
@@ -30,7 +30,7 @@ fn drawn(
     Ok(row)
 }
 
-/// Whether a context says what was passed over in the page drawn last, and not what was in one before.
+/// Whether a context reports what was passed over in the page drawn last, and not in a page before it.
 fn holds(alloc: Global) -> Result<bool> {
     let mut context = DecoderContext::new(alloc)?;
     let nothing = PassedOver {

@@ -1,4 +1,4 @@
-//! Decoders over a reader.
+//! Tests decoders that take their input from a reader.
 use crate::bytes::{FILE, bytes_of};
 use crate::streams::Slow;
 use hayro_jbig2::{DecodeError, Jbig2Decoder, Jbig2Error, Result};
@@ -8,10 +8,10 @@ use std::io::ErrorKind;
 
 const WHITE_IMAGE: [u8; 8] = [255; 8];
 
-/// What a buffer holds before.
+/// The content of a buffer before it is written.
 const BEFORE: [u8; 8] = [7; 8];
 
-/// Draws the first page of 8 by 1. Returns whether it is of that size.
+/// Draws the first page, which must have 8 by 1 pixels. Returns whether it has that size.
 fn drawn(
     alloc: Global,
     reader: Slow<'_>,
@@ -25,8 +25,8 @@ fn drawn(
     Ok(true)
 }
 
-/// Whether a reader of this patience gets its own fault, or the page. The file has 54 bytes, so that
-/// the end is read at the 110th read.
+/// Whether the decoder returns the error of a reader of this patience, or draws the page. The file has 54 bytes, so the
+/// 110th read comes to the end.
 fn slow_reader_holds(
     alloc: Global,
     bytes: &[u8],
@@ -43,7 +43,7 @@ fn slow_reader_holds(
     }
 }
 
-/// The first patience at which a reader gets the wrong answer, if there is one.
+/// The first patience of a reader that gives a wrong result, if there is one.
 fn first_wrong_patience(alloc: Global) -> Result<Option<usize>> {
     let bytes = bytes_of(alloc, FILE)?;
     for patience in 0..112 {
@@ -65,7 +65,7 @@ fn a_reader_that_fails_is_told_and_a_slow_one_changes_nothing(rt: HostRuntime) {
     assert!(rt; wrong == Ok(None));
 }
 
-/// Errors of a reader and of the decoder print their own texts.
+/// Errors of a reader and of the decoder are printed with their own texts.
 #[test]
 fn errors_over_a_reader_have_the_texts_of_their_cause(rt: HostRuntime) {
     let decode = Jbig2Error::from(DecodeError::Unsupported);

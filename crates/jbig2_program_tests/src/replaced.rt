@@ -1,4 +1,4 @@
-//! Row R13.6: bytes of rows that are replaced.
+//! Tests row R13.6: some bytes of the rows' pages are replaced.
 use crate::bytes::bytes_of;
 use hayro_jbig2::{DecodeError, DecodeSettings, DecoderContext, Page, Result};
 use jbig2_rows::watcher::Watcher;
@@ -12,10 +12,10 @@ const PAGES: [&str; 4] = [
     "P D T@8=00000028 26A8",
 ];
 
-/// What stands for a byte.
+/// The values that replace a byte.
 const VALUES: [u8; 4] = [0x00, 0x7F, 0x80, 0xFF];
 
-/// Whether a page, if it is refused, is refused before any call.
+/// Whether a page is drawn, or else refused before any call.
 fn is_drawn_or_silent(
     alloc: Global,
     bytes: &[u8],
@@ -34,8 +34,7 @@ fn is_drawn_or_silent(
     }
 }
 
-/// The first place of a page at which a byte is replaced and calls are made before a refusal, if there
-/// is one.
+/// The first place of a page where a replaced byte leads to calls before a refusal, if there is one.
 fn first_that_is_drawn(
     alloc: Global,
     page: &str,

@@ -1,4 +1,4 @@
-//! Row R12.1: pages, regions and dictionaries of many sizes.
+//! Tests row R12.1: pages, regions and dictionaries of many sizes.
 ghost use Rattle.std.specs.Prelude.{◌≡◌};
 
 use crate::bytes::bytes_of;
@@ -15,8 +15,8 @@ const STRICT: DecodeSettings = DecodeSettings { strict: true };
 
 const MOST_PIXELS: u64 = 1 << 24;
 
-/// How many symbols a dictionary has, that number by table B.1, and how many export runs of no symbols come
-/// before the one that exports all.
+/// The number of symbols of a dictionary, that number in codes of table B.1, and how many export runs of no symbols
+/// come before the one that exports all.
 const DICTIONARIES: [(u32, &str, u32); 4] = [
     (1000, "1100000001011011000", 1),
     (65536, "1101111111011110000", 1),
@@ -24,7 +24,7 @@ const DICTIONARIES: [(u32, &str, u32); 4] = [
     (1000, "1100000001011011000", 65537),
 ];
 
-/// Takes white rows as long chunks and single pixels spell them.
+/// Takes white rows that long chunks and single pixels draw.
 #[derive(Drop)]
 pub struct WhiteRows {
     width: u32,
@@ -34,7 +34,7 @@ pub struct WhiteRows {
 }
 
 impl WhiteRows {
-    /// No row yet, of this width.
+    /// No row so far; rows have this width.
     pub fn new(width: u32) -> WhiteRows {
         WhiteRows {
             width,
@@ -92,7 +92,7 @@ fn write_number(bytes: &mut [u8], place: usize, number: u32) {
     }
 }
 
-/// Whether a page of this size, on which nothing is drawn, is white.
+/// Whether a page of this size, with nothing drawn on it, is white.
 fn is_drawn_white(
     page: &Page<'_, Global>,
     width: u32,
@@ -104,7 +104,7 @@ fn is_drawn_white(
     Ok(rows.is_white(height) && page.dimensions() == (width, height))
 }
 
-/// Whether such a page of this size is drawn white, and one with a region of its size is drawn.
+/// Whether such a page of this size is drawn white, and also a page with a region of its size.
 fn size_holds(
     bytes: &mut [u8],
     width: u32,
@@ -124,7 +124,7 @@ fn size_holds(
     Ok(holds)
 }
 
-/// Appends binary digits, filled up with zeros, as bytes.
+/// Appends binary digits as bytes; zeros fill up the last byte.
 fn push_digits(bytes: &mut Vec<u8>, digits: &[u8]) -> Result<()> {
     for eight in digits.chunks(8) {
         let mut byte = 0;
@@ -140,7 +140,7 @@ fn push_digits(bytes: &mut Vec<u8>, digits: &[u8]) -> Result<()> {
     Ok(())
 }
 
-/// Appends the height class of a dictionary of `count` symbols of 1 by 1, side by side.
+/// Appends the height class of a dictionary of `count` symbols of 1 by 1, which lie side by side.
 fn push_class(alloc: Global, data: &mut Vec<u8>, count: u32) -> Result<()> {
     let mut class = Vec::from_slice(alloc, b"010")?;
     for _ in 1..count {
@@ -183,7 +183,7 @@ fn page_with_dictionary(alloc: Global, count: u32, export: &str, empty: u32) -> 
     Ok(bytes)
 }
 
-/// Whether the page under each dictionary is white.
+/// Whether the page after each dictionary is white.
 fn dictionaries_hold(alloc: Global) -> Result<bool> {
     let mut context = DecoderContext::new(alloc)?;
     for (count, export, empty) in DICTIONARIES {

@@ -2,8 +2,7 @@
 use std::io;
 use std::io::{ErrorKind, Read, Write};
 
-/// Gives the bytes one by one, each after an interruption, and fails where it is read more often than
-/// its patience lasts.
+/// Gives the bytes one by one, each after an interruption. It fails after as many reads as its patience.
 #[derive(Drop)]
 pub struct Slow<'a> {
     bytes: &'a [u8],
@@ -44,7 +43,7 @@ impl<'a> Read for Slow<'a> {
     }
 }
 
-/// Has room for `room` bytes, and may refuse to be flushed.
+/// Takes `room` bytes, and may refuse to be flushed.
 #[derive(Drop)]
 pub struct Full {
     pub room: usize,
@@ -69,7 +68,7 @@ impl Write for Full {
     }
 }
 
-/// Takes no byte, and reports no fault.
+/// Takes no byte, and reports no error.
 #[derive(Drop)]
 pub struct Stuck {}
 

@@ -1,13 +1,21 @@
--- Generic regions (T.88, 6.2): coded by the arithmetic coder in the contexts of a template, or by MMR; some pixels
--- may be skipped (USESKIP). `generic_decoded` takes the header with the coded bytes and gives the grid at its place;
--- `contexts_after` says what the contexts have learned.
-use Rattle.std.specs.Prelude.{ℕ, ◌+◌, ◌*◌, Bool, false, if◌then◌else◌, List, [], ◌∷◌, map, Option, Some, None, pos, negsuc, ◌+ℤ◌, Result, Ok}
-use Rattle.jbig2_base.specs.{Answer.{◌>>=◌}, Grid.{Grid, pixel, pixel_at, bit_number}, declared.error.DecodeError.{DecodeError}}
+-- Generic regions (T.88, 6.2): coded by the arithmetic coder in the contexts of a template, or by MMR. Some pixels may
+-- be skipped (USESKIP). `generic_decoded` takes the header with the coded bytes and gives the grid at its place.
+-- `contexts_after` gives the contexts after the region.
+use Rattle.std.specs.Prelude.{ℕ, ◌+◌, ◌*◌, Bool, false, if◌then◌else◌, List, [], ◌∷◌, map, Option, Some, None, pos}
+use Rattle.std.specs.Prelude.{negsuc, ◌+ℤ◌, Result, Ok}
+use Rattle.jbig2_base.specs.Answer.{◌>>=◌}
+use Rattle.jbig2_base.specs.Grid.{Grid, pixel, pixel_at, bit_number}
+use Rattle.jbig2_base.specs.declared.error.DecodeError.{DecodeError}
 use Rattle.jbig2_coder.specs.Coder.{Context, initial_registers}
 use Rattle.jbig2_mmr.specs.T6.{mmr_rows, grid_of_rows, rows_of}
-use Rattle.jbig2_region.specs.{GenericHeader.{GenericHeader}, Raster.{Coding, Region, so_far, decoded_region, no_pixels, fresh_contexts}, RegionInfo.{placed, PlacedRegion}, Templates.{context_bits, row_context, template_pixels}, declared.template.{AdaptiveTemplatePixel.{AdaptiveTemplatePixel}, Template.{Template}}}
+use Rattle.jbig2_region.specs.GenericHeader.{GenericHeader}
+use Rattle.jbig2_region.specs.Raster.{Coding, Region, so_far, decoded_region, no_pixels, fresh_contexts}
+use Rattle.jbig2_region.specs.RegionInfo.{placed, PlacedRegion}
+use Rattle.jbig2_region.specs.Templates.{context_bits, row_context, template_pixels}
+use Rattle.jbig2_region.specs.declared.template.AdaptiveTemplatePixel.{AdaptiveTemplatePixel}
+use Rattle.jbig2_region.specs.declared.template.Template.{Template}
 
-abbrev pub number_of : List Bool → ℕ  -- the number that bits spell, bit 0 first
+abbrev pub number_of : List Bool → ℕ  -- the number that bits make, bit 0 first
 number_of [] = 0
 number_of (b ∷ bits) = bit_number b + 2 * number_of bits
 
@@ -18,7 +26,7 @@ region_pixel g x y p = pixel g (pos x +ℤ p.x) (pos y +ℤ p.y)
 unfoldable pub context_at : List AdaptiveTemplatePixel → Grid → ℕ → ℕ → ℕ
 context_at template g x y = number_of (map (region_pixel g x y) template)
 
--- the pixel at column x of row y is skipped (USESKIP): it is black in the bitmap that says so, where there is one
+-- whether the pixel at column x of row y is skipped (USESKIP): the bitmap of skipped pixels, if any, is black there
 abbrev pub is_skipped : Option Grid → ℕ → ℕ → Bool
 is_skipped None x y = false
 is_skipped (Some skip) x y = pixel_at skip x y
@@ -26,12 +34,12 @@ is_skipped (Some skip) x y = pixel_at skip x y
 abbrev pub white_if_skipped : Option Grid → ℕ → ℕ → Option Bool
 white_if_skipped skip x y = if is_skipped skip x y then Some false else None
 
--- the colour that a pixel takes without a decision (6.2.5.7): that above in a predicted row, else white if skipped
+-- the colour of a pixel that takes no decision (6.2.5.7): in a predicted row that above it, else white if skipped
 abbrev pub known_colour : Option Grid → Bool → Grid → ℕ → ℕ → Option Bool
 known_colour skip predicted g x y =
     if predicted then Some (pixel g (pos x) (pos y +ℤ negsuc 0)) else white_if_skipped skip x y
 
--- how pixels are coded, by the bitmap that says what is skipped
+-- how pixels are coded, with a bitmap of skipped pixels if there is one
 abbrev pub masked_coding : Bool → Template → List AdaptiveTemplatePixel → Option Grid → Coding
 masked_coding typical template pixels skip = record {
   context = context_at pixels;
@@ -45,7 +53,7 @@ coding_of typical template pixels = masked_coding typical template pixels None
 abbrev pub generic_coding : GenericHeader → Coding
 generic_coding h = coding_of h.tpgdon h.template (template_pixels h.extended h.template h.adaptive_template_pixels)
 
--- the region and what the coder has come to, from fresh contexts
+-- the region and the coder's state after it, from fresh contexts
 unfoldable pub generic_region : GenericHeader → Region
 generic_region h =
     decoded_region (generic_coding h) h.region_info.width h.region_info.height h.bytes (no_pixels (initial_registers h.bytes) (fresh_contexts (context_bits h.template)))
@@ -58,7 +66,7 @@ generic_answer h =
     if h.mmr then (mmr_rows h.strict h.region_info.width h.region_info.height h.bytes >>= λ rows. Ok rows.grid)
     else Ok (generic_grid h)
 
--- what a refused region leaves of its bitmap: with MMR the whole rows before the fault, and white below them
+-- the bitmap after a region is refused: with MMR the whole rows before the fault, and white below them
 abbrev pub refused_grid : GenericHeader → Grid → Grid
 refused_grid h g =
     let info = h.region_info in

@@ -1,8 +1,19 @@
 -- The data of a generic region segment up to its coded bytes (T.88, 7.4.6): region information, flags and adaptive
--- pixels. The bytes give the header, and the coded bytes stand after it.
-use Rattle.std.specs.{Prelude.{ℕ, ◌-◌, ◌/◌, ◌%◌, ◌≤◌, ◌==◌, nat_lt, Bool, true, false, ◌||◌, List, length, take, drop, Result, Ok}, Int.{w8, w32}}
-use Rattle.jbig2_base.specs.{Answer.{refuse_if, ◌>>=◌}, Fields.{number_at}, declared.error.{DecodeError.{DecodeError}, OverflowError.TheVariants.{BitmapDimension}, RegionError.TheVariants.{InvalidDimension}}}
-use Rattle.jbig2_region.specs.{RegionInfo.{region_info_at}, Templates.{adaptive_pixel_count, takes_extended, template_of, FitsTemplate, adaptive_pixels_at}, declared.{region_info.RegionSegmentInfo.{RegionSegmentInfo}, template.{Template.{Template}, AdaptiveTemplatePixel.{AdaptiveTemplatePixel}}}}
+-- pixels. The bytes give the header, and the coded bytes come after it.
+use Rattle.std.specs.Prelude.{ℕ, ◌-◌, ◌/◌, ◌%◌, ◌≤◌, ◌==◌, nat_lt, Bool, true, false, ◌||◌, List, length, take, drop}
+use Rattle.std.specs.Prelude.{Result, Ok}
+use Rattle.std.specs.Int.{w8, w32}
+use Rattle.jbig2_base.specs.Answer.{refuse_if, ◌>>=◌}
+use Rattle.jbig2_base.specs.Fields.{number_at}
+use Rattle.jbig2_base.specs.declared.error.DecodeError.{DecodeError}
+use Rattle.jbig2_base.specs.declared.error.OverflowError.TheVariants.{BitmapDimension}
+use Rattle.jbig2_base.specs.declared.error.RegionError.TheVariants.{InvalidDimension}
+use Rattle.jbig2_region.specs.RegionInfo.{region_info_at}
+use Rattle.jbig2_region.specs.Templates.{adaptive_pixel_count, takes_extended, template_of, FitsTemplate}
+use Rattle.jbig2_region.specs.Templates.{adaptive_pixels_at}
+use Rattle.jbig2_region.specs.declared.region_info.RegionSegmentInfo.{RegionSegmentInfo}
+use Rattle.jbig2_region.specs.declared.template.Template.{Template}
+use Rattle.jbig2_region.specs.declared.template.AdaptiveTemplatePixel.{AdaptiveTemplatePixel}
 use Rattle.jbig2_base.specs.declared.error.DecodeError.TheVariants as errors
 
 pub record GenericHeader : Type 0 where
@@ -15,7 +26,7 @@ pub record GenericHeader : Type 0 where
   pub bytes : List ℕ
   pub strict : Bool
 
--- the height and the coded bytes: with an unknown length the last four state the rows, at most the height (7.4.6.4)
+-- the height and the coded bytes; with unknown length the last four bytes state the rows, at most the height (7.4.6.4)
 unfoldable pub rows_at : Bool → ℕ → List ℕ → Result (ℕ × List ℕ) DecodeError
 rows_at false height bytes = Ok (height, bytes)
 rows_at true height bytes = do
@@ -23,7 +34,7 @@ rows_at true height bytes = do
   within ← refuse_if (nat_lt height rows.0) (errors.Region InvalidDimension)
   Ok (rows.0, take (length bytes - 4) bytes)
 
--- the header, and the bytes from the coded ones on; neither side may pass 65535 (our own rule)
+-- the header, and the bytes from the coded ones on; neither side may be above 65535 (our own rule)
 unfoldable pub generic_header_at : Bool → Bool → List ℕ → Result (GenericHeader × List ℕ) DecodeError
 generic_header_at unknown_length strict bytes = do
   info ← region_info_at bytes
@@ -48,7 +59,7 @@ generic_header_at unknown_length strict bytes = do
     pixels.1,
   )
 
-pub record IsParsed (h : GenericHeader) : Type 0 where  -- what holds of every header that is read
+pub record IsParsed (h : GenericHeader) : Type 0 where  -- what holds for every header that is read
   pub columns : h.region_info.width ≤ 65535
   pub rows : h.region_info.height ≤ 65535
   pub pixels : FitsTemplate h.extended h.template

@@ -1,14 +1,15 @@
--- Regions that are decoded pixel by pixel, row by row from the top and each from the left (T.88, 6.2.5 and 6.3.5).
--- `decoded_region` takes how a region is coded, its size, the coded bytes and a beginning, and gives what it becomes.
-use Rattle.std.specs.Prelude.{ℕ, suc, zero, ◌+◌, ◌*◌, ◌/◌, ◌%◌, ◌^◌, ◌==◌, Bool, false, if◌then◌else◌, List, [], ◌∷◌, ◌++◌, length, replicate, slice_index_or, slice_set, Option, Some, None}
+-- Regions that are decoded pixel by pixel, row by row from the top and each row from the left (T.88, 6.2.5 and 6.3.5).
+-- `decoded_region` takes a coding, a size, the coded bytes and the state before, and gives the state after.
+use Rattle.std.specs.Prelude.{ℕ, suc, zero, ◌+◌, ◌*◌, ◌/◌, ◌%◌, ◌^◌, ◌==◌, Bool, false, if◌then◌else◌, List, [], ◌∷◌}
+use Rattle.std.specs.Prelude.{◌++◌, length, replicate, slice_index_or, slice_set, Option, Some, None}
 use Rattle.jbig2_base.specs.Grid.{Grid, grid_of, differ}
 use Rattle.jbig2_coder.specs.Coder.{Context, Registers, fresh, decision}
 
--- the grid of the pixels decoded so far; one that is not decoded yet is white
+-- the grid of the pixels decoded so far; a pixel that is not decoded yet is white
 unfoldable pub so_far : ℕ → ℕ → List Bool → Grid
 so_far w h bits = grid_of w h (λ x y. slice_index_or bits (y * w + x) false)
 
--- a region in the making: its pixels so far, whether their last row is predicted (LTP), and the coder
+-- a region during decoding: its pixels so far, whether their last row is predicted (LTP), and the coder
 pub record Region : Type 0 where
   pub pixels : List Bool
   pub predicted : Bool
@@ -16,7 +17,7 @@ pub record Region : Type 0 where
   pub contexts : List Context
 
 -- How a region is coded: the context of a pixel, by the grid so far and its place; the colour that it takes without a
--- decision, if any, by whether its row is predicted; and with typical prediction the context in which a row begins.
+-- decision, if any, by whether its row is predicted; and, with typical prediction, the context in which a row begins.
 pub record Coding : Type 0 where
   pub context : Grid → ℕ → ℕ → ℕ
   pub known : Bool → Grid → ℕ → ℕ → Option Bool
@@ -36,7 +37,7 @@ after_pixel coding w h bytes r =
     let g = so_far w h r.pixels in
     with_next bytes r (coding.context g (n % w) (n / w)) (coding.known r.predicted g (n % w) (n / w))
 
--- With typical prediction a row begins with a decision; LTP is the exclusive or of all these bits so far (6.2.5.7).
+-- With typical prediction a row begins with a decision. LTP is the exclusive or of all these bits so far (6.2.5.7).
 unfoldable pub row_begun : Option ℕ → List ℕ → Region → Region
 row_begun None bytes r = r
 row_begun (Some k) bytes r =
@@ -51,23 +52,23 @@ abbrev pub row_decisions : Option ℕ → ℕ
 row_decisions None = 0
 row_decisions (Some _) = 1
 
--- as the next pixel finds it (6.2.5.7, 6.3.5.6): where the pixels so far fill their rows, the next row begins
+-- the state at the next pixel (6.2.5.7, 6.3.5.6): if the pixels so far end a row, the next row begins first
 unfoldable pub at_next : Coding → ℕ → List ℕ → Region → Region
 at_next coding w bytes r = if length r.pixels % w == 0 then row_begun coding.row_context bytes r else r
 
--- the region once its first n pixels are there
+-- the state after the first n pixels
 unfoldable pub first_pixels : Coding → ℕ → ℕ → List ℕ → Region → ℕ → Region
 first_pixels coding w h bytes start zero = start
 first_pixels coding w h bytes start (suc n) =
     after_pixel coding w h bytes (at_next coding w bytes (first_pixels coding w h bytes start n))
 
-abbrev pub at_pixel : Coding → ℕ → ℕ → List ℕ → Region → ℕ → Region  -- as pixel n of the raster finds it
+abbrev pub at_pixel : Coding → ℕ → ℕ → List ℕ → Region → ℕ → Region  -- the state at pixel n of the raster
 at_pixel coding w h bytes start n = at_next coding w bytes (first_pixels coding w h bytes start n)
 
 abbrev pub no_pixels : Registers → List Context → Region
 no_pixels registers contexts = record { pixels = []; predicted = false; registers = registers; contexts = contexts }
 
--- the whole region; one without columns takes no decision, nor does one without rows (our own rule)
+-- the whole region; without columns or without rows it takes no decision (our own rule)
 unfoldable pub decoded_region : Coding → ℕ → ℕ → List ℕ → Region → Region
 decoded_region coding w h bytes start = first_pixels coding w h bytes start (w * h)
 

@@ -1,12 +1,27 @@
--- Refinements (T.88, 6.3): as generic regions, with templates that lie in two grids. `refined_decoded` takes the
--- header and the region that is refined, and gives the refined one at its place on the page, or an error.
-use Rattle.std.specs.{Prelude.{ℕ, Bool, true, false, not, ◌||◌, nat_lt, nat_le, if◌then◌else◌, List, [], ◌∷◌, ◌++◌, map, Option, Some, None, ℤ, pos, negsuc, ◌+ℤ◌, ◌-ℤ◌, Result, Ok, is_ok}, List.{list_all}}
-use Rattle.jbig2_base.specs.{Answer.{◌>>=◌, refuse_if}, Grid.{Grid, pixel}, declared.error.{DecodeError.{DecodeError}, OverflowError.TheVariants.{ReferenceOffset}, RegionError.TheVariants.{InvalidDimension}}}
+-- Refinements (T.88, 6.3): they are coded as generic regions are, with templates that lie in two grids.
+-- `refined_decoded` takes the header and the region that is refined. It gives the refined region at its place on the
+-- page, or an error.
+use Rattle.std.specs.Prelude.{ℕ, Bool, true, false, not, ◌||◌, nat_lt, nat_le, if◌then◌else◌, List, [], ◌∷◌, ◌++◌, map}
+use Rattle.std.specs.Prelude.{Option, Some, None, ℤ, pos, negsuc, ◌+ℤ◌, ◌-ℤ◌, Result, Ok, is_ok}
+use Rattle.std.specs.List.{list_all}
+use Rattle.jbig2_base.specs.Answer.{◌>>=◌, refuse_if}
+use Rattle.jbig2_base.specs.Grid.{Grid, pixel}
+use Rattle.jbig2_base.specs.declared.error.DecodeError.{DecodeError}
+use Rattle.jbig2_base.specs.declared.error.OverflowError.TheVariants.{ReferenceOffset}
+use Rattle.jbig2_base.specs.declared.error.RegionError.TheVariants.{InvalidDimension}
 use Rattle.jbig2_coder.specs.Coder.{Context, initial_registers}
-use Rattle.jbig2_region.specs.{Generic.{number_of, region_pixel}, Raster.{Coding, Region, so_far, decoded_region, no_pixels, fresh_contexts}, RefinementHeader.{RefinementHeader}, RefinementTemplates.{apart, reference_pixels, refinement_row_context, region_pixels, refinement_bits}, RegionInfo.{PlacedRegion, placed}, declared.{region_info.RegionSegmentInfo.{RegionSegmentInfo}, template.{AdaptiveTemplatePixel.{AdaptiveTemplatePixel}, RefinementTemplate.{RefinementTemplate}}}}
+use Rattle.jbig2_region.specs.Generic.{number_of, region_pixel}
+use Rattle.jbig2_region.specs.Raster.{Coding, Region, so_far, decoded_region, no_pixels, fresh_contexts}
+use Rattle.jbig2_region.specs.RefinementHeader.{RefinementHeader}
+use Rattle.jbig2_region.specs.RefinementTemplates.{apart, reference_pixels, refinement_row_context, region_pixels}
+use Rattle.jbig2_region.specs.RefinementTemplates.{refinement_bits}
+use Rattle.jbig2_region.specs.RegionInfo.{PlacedRegion, placed}
+use Rattle.jbig2_region.specs.declared.region_info.RegionSegmentInfo.{RegionSegmentInfo}
+use Rattle.jbig2_region.specs.declared.template.AdaptiveTemplatePixel.{AdaptiveTemplatePixel}
+use Rattle.jbig2_region.specs.declared.template.RefinementTemplate.{RefinementTemplate}
 use Rattle.jbig2_base.specs.declared.error.DecodeError.TheVariants as errors
 
--- What a region is refined from: a grid that lies dx columns to the right of the region and dy rows below it.
+-- The reference of a refinement: a grid that lies dx columns to the right of the region and dy rows below it.
 pub record Reference : Type 0 where
   pub grid : Grid
   pub dx : ℤ
@@ -26,13 +41,13 @@ nine =
     ∷ apart (negsuc 0) (pos 0) ∷ apart (pos 0) (pos 0) ∷ apart (pos 1) (pos 0)
     ∷ apart (negsuc 0) (pos 1) ∷ apart (pos 0) (pos 1) ∷ apart (pos 1) (pos 1) ∷ []
 
--- the colour that the nine pixels of the reference have in common, if they have one
+-- the common colour of the nine pixels of the reference, if they have one
 unfoldable pub common_colour : Reference → ℕ → ℕ → Option Bool
 common_colour r x y =
     if list_all (reference_pixel r x y) nine then Some true
     else if list_all (λ p. not (reference_pixel r x y p)) nine then Some false else None
 
--- how pixels are coded: in a predicted row one takes the nine's common colour (6.3.5.6)
+-- how pixels are coded: in a predicted row a pixel takes the common colour of the nine (6.3.5.6)
 abbrev pub refined_coding : RefinementTemplate → Bool → List AdaptiveTemplatePixel → List AdaptiveTemplatePixel → Reference → Coding
 refined_coding template typical in_reference in_region r = record {
   context = refined_context r in_reference in_region;
@@ -44,7 +59,7 @@ abbrev pub refinement_coding : RefinementTemplate → Bool → List AdaptiveTemp
 refinement_coding template typical a r =
     refined_coding template typical (reference_pixels template a) (region_pixels template a) r
 
--- at a place on the page, seen from the region at its place
+-- the reference at its place on the page, seen from the region at its place
 abbrev pub reference_of : RefinementHeader → PlacedRegion → Reference
 reference_of h from = record {
   grid = from.grid;
@@ -65,7 +80,7 @@ is_far location = nat_le 0x80000000 location
 abbrev pub is_smaller : PlacedRegion → RegionSegmentInfo → Bool
 is_smaller from info = nat_lt from.grid.width info.width || nat_lt from.grid.height info.height
 
--- dx and dy; a reference smaller than the region is refused, and so is a place of 2^31 or more (our own rules)
+-- dx and dy; a reference that is smaller than the region is refused, and so is a place of 2^31 or more (our own rules)
 unfoldable pub offset : PlacedRegion → RegionSegmentInfo → Result (ℤ × ℤ) DecodeError
 offset from info = do
   covered ← refuse_if (is_smaller from info) (errors.Region InvalidDimension)

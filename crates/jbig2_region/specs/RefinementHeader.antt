@@ -1,8 +1,16 @@
 -- The data of a refinement region segment up to its coded bytes (T.88, 7.4.7): region information, flags and adaptive
--- pixels. The bytes give the header, and the coded bytes stand after it.
-use Rattle.std.specs.{Prelude.{ℕ, ◌/◌, ◌%◌, ◌≤◌, ◌==◌, nat_lt, Bool, ◌||◌, List, Result, Ok}, Int.{w8}}
-use Rattle.jbig2_base.specs.{Answer.{refuse_if, ◌>>=◌}, Fields.{number_at}, declared.error.{DecodeError.{DecodeError}, OverflowError.TheVariants.{BitmapDimension}}}
-use Rattle.jbig2_region.specs.{RegionInfo.{region_info_at}, declared.{region_info.RegionSegmentInfo.{RegionSegmentInfo}, template.{AdaptiveTemplatePixel.{AdaptiveTemplatePixel}, RefinementTemplate.{RefinementTemplate}}}, RefinementTemplates.{refinement_pixels_at, refinement_template_of}}
+-- pixels. The bytes give the header, and the coded bytes come after it.
+use Rattle.std.specs.Prelude.{ℕ, ◌/◌, ◌%◌, ◌≤◌, ◌==◌, nat_lt, Bool, ◌||◌, List, Result, Ok}
+use Rattle.std.specs.Int.{w8}
+use Rattle.jbig2_base.specs.Answer.{refuse_if, ◌>>=◌}
+use Rattle.jbig2_base.specs.Fields.{number_at}
+use Rattle.jbig2_base.specs.declared.error.DecodeError.{DecodeError}
+use Rattle.jbig2_base.specs.declared.error.OverflowError.TheVariants.{BitmapDimension}
+use Rattle.jbig2_region.specs.RegionInfo.{region_info_at}
+use Rattle.jbig2_region.specs.declared.region_info.RegionSegmentInfo.{RegionSegmentInfo}
+use Rattle.jbig2_region.specs.declared.template.AdaptiveTemplatePixel.{AdaptiveTemplatePixel}
+use Rattle.jbig2_region.specs.declared.template.RefinementTemplate.{RefinementTemplate}
+use Rattle.jbig2_region.specs.RefinementTemplates.{refinement_pixels_at, refinement_template_of}
 use Rattle.jbig2_base.specs.declared.error.DecodeError.TheVariants as errors
 
 pub record RefinementHeader : Type 0 where
@@ -12,7 +20,7 @@ pub record RefinementHeader : Type 0 where
   pub adaptive_template_pixels : List AdaptiveTemplatePixel
   pub bytes : List ℕ
 
--- the header, and the coded bytes; neither side may pass 65535 (our own rule)
+-- the header, and the coded bytes; neither side may be above 65535 (our own rule)
 unfoldable pub refinement_header_at : List ℕ → Result (RefinementHeader × List ℕ) DecodeError
 refinement_header_at bytes = do
   info ← region_info_at bytes
@@ -30,6 +38,6 @@ refinement_header_at bytes = do
     pixels.1,
   )
 
-pub record IsRefinement (h : RefinementHeader) : Type 0 where  -- what holds of every header that is read
+pub record IsRefinement (h : RefinementHeader) : Type 0 where  -- what holds for every header that is read
   pub columns : h.region_info.width ≤ 65535
   pub rows : h.region_info.height ≤ 65535

@@ -1,14 +1,18 @@
 -- The templates of refinements (T.88, 6.3.5.3, Figures 12 and 13), bit 0 of a context first. `reference_pixels` and
--- `region_pixels` take a template and its adaptive pixels, and give the pixels of a context in either grid. After
--- them stand the context of the decision that begins a row, and how a segment holds the adaptive pixels (7.4.7.3).
+-- `region_pixels` take a template and its adaptive pixels, and give the pixels of a context in either grid. Then come
+-- the context of the decision that begins a row, and how a segment holds the adaptive pixels (7.4.7.3).
 use Rattle.std.specs.Prelude.{ℕ, ◌==◌, Bool, true, ◌&&◌, List, [], ◌∷◌, ℤ, pos, negsuc, Result, Ok, if◌then◌else◌}
-use Rattle.jbig2_base.specs.{declared.error.DecodeError.{DecodeError}, Answer.{◌>>=◌}}
-use Rattle.jbig2_region.specs.{Templates.{adaptive, free_pixel_at, lies_at}, declared.template.{AdaptiveTemplatePixel.{AdaptiveTemplatePixel}, RefinementTemplate.{RefinementTemplate, TheVariants.{Template0, Template1}}}}
+use Rattle.jbig2_base.specs.declared.error.DecodeError.{DecodeError}
+use Rattle.jbig2_base.specs.Answer.{◌>>=◌}
+use Rattle.jbig2_region.specs.Templates.{adaptive, free_pixel_at, lies_at}
+use Rattle.jbig2_region.specs.declared.template.AdaptiveTemplatePixel.{AdaptiveTemplatePixel}
+use Rattle.jbig2_region.specs.declared.template.RefinementTemplate.{RefinementTemplate}
+use Rattle.jbig2_region.specs.declared.template.RefinementTemplate.TheVariants.{Template0, Template1}
 
 abbrev pub refinement_template_of : ℕ → RefinementTemplate
 refinement_template_of n = if n == 0 then Template0 else Template1
 
--- this many columns to the right and rows down; `negsuc 0` is one to the left or up
+-- the pixel this many columns to the right and rows down; `negsuc 0` is one to the left or one up
 abbrev pub apart : ℤ → ℤ → AdaptiveTemplatePixel
 apart x y = record { x = x; y = y }
 
@@ -27,7 +31,7 @@ reference_pixels Template1 a =
     ∷ apart (pos 1) (pos 0) ∷ apart (pos 0) (pos 0) ∷ apart (negsuc 0) (pos 0)
     ∷ apart (pos 0) (negsuc 0) ∷ []
 
--- those of the region itself, whose bits follow
+-- the pixels of the region itself; their bits follow
 abbrev pub region_pixels : RefinementTemplate → List AdaptiveTemplatePixel → List AdaptiveTemplatePixel
 region_pixels Template0 a =
     apart (negsuc 0) (pos 0) ∷ apart (pos 1) (negsuc 0) ∷ apart (pos 0) (negsuc 0) ∷ adaptive a 0 ∷ []
@@ -43,12 +47,12 @@ abbrev pub refinement_pixel_count : RefinementTemplate → ℕ  -- how many adap
 refinement_pixel_count Template0 = 2
 refinement_pixel_count Template1 = 0
 
--- whether they lie where the standard has them by default (6.3.5.3, Figure 12)
+-- whether the adaptive pixels lie where the standard has them by default (6.3.5.3, Figure 12)
 abbrev pub is_nominal : RefinementTemplate → List AdaptiveTemplatePixel → Bool
 is_nominal Template0 a = lies_at (adaptive a 0) (negsuc 0) (negsuc 0) && lies_at (adaptive a 1) (negsuc 0) (negsuc 0)
 is_nominal Template1 a = true
 
--- as a segment holds them (7.4.7.3); their places are not checked
+-- the adaptive pixels as a segment holds them (7.4.7.3); their places are not checked
 unfoldable pub refinement_pixels_at : RefinementTemplate → List ℕ → Result (List AdaptiveTemplatePixel × List ℕ) DecodeError
 refinement_pixels_at Template0 bytes = do
   first ← free_pixel_at bytes

@@ -1,10 +1,17 @@
--- The region segment information field (T.88, 7.4.1), which every region segment begins with, and the region that it
--- places. `region_info_at` takes bytes and gives the field with the bytes after it, or the first fault.
-use Rattle.std.specs.{Prelude.{ℕ, ◌/◌, ◌%◌, ◌≡◌, ◌==◌, false, List, Result, Ok}, Int.{w8, w32}}
-use Rattle.jbig2_base.specs.{Answer.{refuse_if, ◌>>=◌}, Fields.{number_at}, Grid.{Grid, blank}, Combination.{operator_of}, declared.{bitmap.operator.CombinationOperator.{CombinationOperator}, error.DecodeError.{DecodeError, TheVariants.{Unsupported}}}}
+-- The region segment information field (T.88, 7.4.1), with which every region segment begins, and a region at its
+-- place. `region_info_at` takes bytes and gives the field with the bytes after it, or the first fault.
+use Rattle.std.specs.Prelude.{ℕ, ◌/◌, ◌%◌, ◌≡◌, ◌==◌, false, List, Result, Ok}
+use Rattle.std.specs.Int.{w8, w32}
+use Rattle.jbig2_base.specs.Answer.{refuse_if, ◌>>=◌}
+use Rattle.jbig2_base.specs.Fields.{number_at}
+use Rattle.jbig2_base.specs.Grid.{Grid, blank}
+use Rattle.jbig2_base.specs.Combination.{operator_of}
+use Rattle.jbig2_base.specs.declared.bitmap.operator.CombinationOperator.{CombinationOperator}
+use Rattle.jbig2_base.specs.declared.error.DecodeError.{DecodeError}
+use Rattle.jbig2_base.specs.declared.error.DecodeError.TheVariants.{Unsupported}
 use Rattle.jbig2_region.specs.declared.region_info.RegionSegmentInfo.{RegionSegmentInfo}
 
--- bit 3 of the flags speaks of a colour extension, which this decoder has not (our own rule)
+-- bit 3 of the flags means a colour extension, which this decoder does not support (our own rule)
 unfoldable pub region_info_at : List ℕ → Result (RegionSegmentInfo × List ℕ) DecodeError
 region_info_at bytes = do
   width ← number_at w32 bytes

@@ -1,16 +1,25 @@
--- What the step bounds of regions count (our own rule): decisions, run bytes, words and loads. Each
--- `Counts..` takes how a region is coded, its size and its coded bytes, and the counts before and after it.
-use Rattle.std.specs.Prelude.{◌≡◌, ℕ, zero, suc, ◌+◌, ◌-◌, ◌*◌, ◌/◌, ◌%◌, ◌≤◌, ◌==◌, Bool, false, true, not, ◌&&◌, ◌||◌, nat_lt, if◌then◌else◌, List, ◌++◌, length, replicate, slice_index_or, is_none, Option}
-use Rattle.jbig2_base.specs.{Counts.{Counts, KeepsLanes}, Grid.{bit_number, same_colour, Grid}}
+-- The step bounds of regions (our own rule): decisions, run bytes, words and loads. Each `Counts..` takes how a region
+-- is coded, its size and its coded bytes, and the counts before and after it.
+use Rattle.std.specs.Prelude.{◌≡◌, ℕ, zero, suc, ◌+◌, ◌-◌, ◌*◌, ◌/◌, ◌%◌, ◌≤◌, ◌==◌, Bool, false, true, not, ◌&&◌, ◌||◌}
+use Rattle.std.specs.Prelude.{nat_lt, if◌then◌else◌, List, ◌++◌, length, replicate, slice_index_or, is_none, Option}
+use Rattle.jbig2_base.specs.Counts.{Counts, KeepsLanes}
+use Rattle.jbig2_base.specs.Grid.{bit_number, same_colour, Grid}
 use Rattle.jbig2_coder.specs.Coder.{fresh, all_quiet, initial_registers}
-use Rattle.jbig2_region.specs.{Generic.{context_at, number_of, is_skipped}, Raster.{Coding, Region, so_far, at_pixel, fresh_contexts, no_pixels, row_decisions}, Refinement.{reference_of, refinement_coding}, RefinementHeader.{RefinementHeader}, RefinementTemplates.{is_nominal, refinement_bits}, RegionInfo.{PlacedRegion}, declared.template.{AdaptiveTemplatePixel.{AdaptiveTemplatePixel}, RefinementTemplate.{RefinementTemplate}}}
+use Rattle.jbig2_region.specs.Generic.{context_at, number_of, is_skipped}
+use Rattle.jbig2_region.specs.Raster.{Coding, Region, so_far, at_pixel, fresh_contexts, no_pixels, row_decisions}
+use Rattle.jbig2_region.specs.Refinement.{reference_of, refinement_coding}
+use Rattle.jbig2_region.specs.RefinementHeader.{RefinementHeader}
+use Rattle.jbig2_region.specs.RefinementTemplates.{is_nominal, refinement_bits}
+use Rattle.jbig2_region.specs.RegionInfo.{PlacedRegion}
+use Rattle.jbig2_region.specs.declared.template.AdaptiveTemplatePixel.{AdaptiveTemplatePixel}
+use Rattle.jbig2_region.specs.declared.template.RefinementTemplate.{RefinementTemplate}
 
 unfoldable pub how_many : (ℕ → Bool) → ℕ → ℕ  -- how many of the first n places of a raster have a property
 how_many has zero = 0
 how_many has (suc n) = how_many has n + bit_number (has n)
 
 -- ---- regions in which each pixel that is not known takes a decision
--- whether the next pixel takes one: its colour is not known
+-- whether the next pixel takes a decision: its colour is not known
 unfoldable pub takes_decision : Coding → ℕ → ℕ → Region → Bool
 takes_decision coding w h r =
     let n = length r.pixels in
@@ -20,8 +29,8 @@ unfoldable pub pixel_decisions : Coding → ℕ → ℕ → List ℕ → Region 
 pixel_decisions coding w h bytes start =
     how_many (λ n. takes_decision coding w h (at_pixel coding w h bytes start n)) (w * h)
 
--- One decision for each pixel that takes one, and for each row that begins with one; no run test and no
--- lanes; at most one word a pixel, and this many loads a row. An empty region takes no step.
+-- One decision for each pixel that takes one, and for each row that begins with one. No run test and no lanes. At most
+-- one word a pixel, and this many loads a row. An empty region takes no step.
 pub record CountsDecided (coding : Coding) (row_loads : ℕ) (w h : ℕ) (bytes : List ℕ) (start : Region) (before after : Counts) : Type 0 where
   pub empty : w * h ≡ 0 → after ≡ before
   pub decisions : 1 ≤ w →
@@ -31,11 +40,11 @@ pub record CountsDecided (coding : Coding) (row_loads : ℕ) (w h : ℕ) (bytes 
   pub loads : after.loads ≤ before.loads + h * row_loads
   pub lanes : KeepsLanes before after
 
--- loads of a row of a refinement, where its pixels are taken from windows of 64 pixels
+-- the loads of a row of a refinement, if its pixels are taken from windows of 64 pixels
 abbrev pub window_loads : ℕ → ℕ
 window_loads w = 5 * (w / 32 + 2)
 
--- where an adaptive pixel is not nominal, all pixels of the template are read one by one, and the predicting nine
+-- if an adaptive pixel is not nominal, all pixels of the template and the nine of the prediction are read one by one
 abbrev pub refinement_loads : RefinementTemplate → List AdaptiveTemplatePixel → ℕ → ℕ
 refinement_loads template a w = if is_nominal template a then window_loads w else w * (refinement_bits template + 9)
 
@@ -46,8 +55,8 @@ CountsRefined h from before after =
     h.region_info.width h.region_info.height h.bytes
     (no_pixels (initial_registers h.bytes) (fresh_contexts (refinement_bits h.template))) before after
 
--- ---- run bytes of generic regions: eight likely pixels, for which the coder does no more than lower A
--- the context of a template whose pixels are all of one colour
+-- ---- run bytes of generic regions: eight likely pixels, for which the coder only lowers A
+-- the context of a template whose pixels all have one colour
 abbrev pub all_of : List AdaptiveTemplatePixel → Bool → ℕ
 all_of template colour = number_of (replicate (length template) colour)
 
@@ -55,12 +64,12 @@ all_of template colour = number_of (replicate (length template) colour)
 unfoldable pub has_all : List AdaptiveTemplatePixel → ℕ → ℕ → Bool → List Bool → Bool
 has_all template w h colour bits = context_at template (so_far w h bits) (length bits % w) (length bits / w) == all_of template colour
 
--- whether, with the next n pixels of that colour, these and the one after them all have it
+-- whether the next n pixels, if they have that colour, and the pixel after them all have that context
 unfoldable pub stays : List AdaptiveTemplatePixel → ℕ → ℕ → Bool → ℕ → List Bool → Bool
 stays template w h colour zero bits = has_all template w h colour bits
 stays template w h colour (suc n) bits = stays template w h colour n bits && has_all template w h colour (bits ++ replicate (suc n) colour)
 
--- whether the next eight pixels are a run of a colour: of likely symbols, quiet, and in one context
+-- whether the next eight pixels are a run of a colour: likely symbols, quiet, and in one context
 unfoldable pub is_run_of : List AdaptiveTemplatePixel → ℕ → ℕ → List ℕ → Region → Bool → Bool
 is_run_of template w h bytes r colour =
     let context = slice_index_or r.contexts (all_of template colour) fresh in
@@ -76,13 +85,13 @@ is_run_byte template w h bytes r =
 unfoldable pub coded_pixels : Coding → ℕ → ℕ → List ℕ → Region → ℕ
 coded_pixels coding w h bytes start = how_many (λ n. not (at_pixel coding w h bytes start n).predicted) (w * h)
 
--- how many of these begin a run byte, in a template with run bytes or without
+-- how many of these begin a run byte; `nominal` says whether the template has run bytes
 unfoldable pub coded_runs : List AdaptiveTemplatePixel → Bool → Coding → ℕ → ℕ → List ℕ → Region → ℕ
 coded_runs template nominal coding w h bytes start =
     let at = at_pixel coding w h bytes start in
     if nominal then how_many (λ n. not (at n).predicted && is_run_byte template w h bytes (at n)) (w * h) else 0
 
--- loads of a row, but for those of adaptive pixels; its run tests; and the words written, for each byte or each pixel
+-- the loads of a row without those of adaptive pixels; its run tests; and its written words, one for each byte or pixel
 abbrev pub row_loads : Bool → ℕ → ℕ
 row_loads nominal w = if nominal then 2 * ((w - 1) / 64 + 2) else 3 * (w / 32 + 2)
 
@@ -92,8 +101,8 @@ row_tests nominal w = if nominal then (w - 1) / 8 else 0
 abbrev pub row_words : Bool → ℕ → ℕ
 row_words nominal w = if nominal then (w - 1) / 8 + 1 else w
 
--- One decision for each coded pixel, less eight for each run byte, and one for each row that begins with one, and no
--- lanes. An empty region takes no step.
+-- One decision for each coded pixel, less eight for each run byte, and one for each row that begins with one. No lanes.
+-- An empty region takes no step.
 pub record CountsRegion (template : List AdaptiveTemplatePixel) (nominal : Bool) (adaptive : ℕ) (coding : Coding) (w h : ℕ) (bytes : List ℕ) (start : Region) (before after : Counts) : Type 0 where
   pub empty : w * h ≡ 0 → after ≡ before
   pub decisions : 1 ≤ w →
@@ -104,18 +113,18 @@ pub record CountsRegion (template : List AdaptiveTemplatePixel) (nominal : Bool)
   pub loads : after.loads ≤ before.loads + (h * row_loads nominal w + coded_pixels coding w h bytes start * adaptive)
   pub lanes : KeepsLanes before after
 
--- ---- steps (our own rule), where the adaptive pixels are nominal: the pixels that are not skipped
+-- ---- steps (our own rule), if the adaptive pixels are nominal: the pixels that are not skipped
 unfoldable pub kept_pixels : Option Grid → ℕ → ℕ → ℕ
 kept_pixels skip w h = how_many (λ n. not (is_skipped skip (n % w) (n / w))) (w * h)
 
--- loads of a row of w pixels, for 32 columns a window on the mask and one on each of the two rows above; its words
+-- the loads of a row of w pixels, for 32 columns a window of the mask and of each of the two rows above; and its words
 abbrev pub skipping_loads : ℕ → ℕ
 skipping_loads w = 3 * (w / 32 + 2)
 
 abbrev pub skipping_words : ℕ → ℕ
 skipping_words w = w / 32 + 1
 
--- a decision for each pixel that is not skipped, no run test and no lanes
+-- one decision for each pixel that is not skipped, no run test and no lanes
 pub record CountsSkipping (skip : Option Grid) (w h : ℕ) (before after : Counts) : Type 0 where
   pub decisions : after.decisions ≡ before.decisions + kept_pixels skip w h
   pub run_tests : after.run_tests ≡ before.run_tests

@@ -1,9 +1,17 @@
 -- The templates of generic regions (T.88, 6.2.5.3, Figures 3 to 6, and the extended one). `template_pixels` takes a
--- template and its adaptive pixels, and gives the pixels of a context. After it stand the context of the decision
--- that begins a row, and how a segment holds the adaptive pixels (7.4.6.3).
-use Rattle.std.specs.{Prelude.{ℕ, ◌==◌, ◌≡◌, Bool, true, false, not, ◌&&◌, ◌||◌, ℤ, pos, negsuc, ◌-ℤ◌, int_lt, int_le, List, [], ◌∷◌, zero, suc, slice_index_or, if◌then◌else◌, Result, Ok}, Int.{w8}, Ordering.{int_eq}}
-use Rattle.jbig2_base.specs.{Answer.{refuse_if, ◌>>=◌}, Fields.{signed_at}, declared.error.{DecodeError.{DecodeError}, TemplateError.TheVariants.{InvalidAtPixel}}}
-use Rattle.jbig2_region.specs.declared.template.{AdaptiveTemplatePixel.{AdaptiveTemplatePixel}, Template.{Template, TheVariants.{Template0, Template1, Template2, Template3}}}
+-- template and its adaptive pixels, and gives the pixels of a context. Then come the context of the decision that
+-- begins a row, and how a segment holds the adaptive pixels (7.4.6.3).
+use Rattle.std.specs.Prelude.{ℕ, ◌==◌, ◌≡◌, Bool, true, false, not, ◌&&◌, ◌||◌, ℤ, pos, negsuc, ◌-ℤ◌, int_lt, int_le}
+use Rattle.std.specs.Prelude.{List, [], ◌∷◌, zero, suc, slice_index_or, if◌then◌else◌, Result, Ok}
+use Rattle.std.specs.Int.{w8}
+use Rattle.std.specs.Ordering.{int_eq}
+use Rattle.jbig2_base.specs.Answer.{refuse_if, ◌>>=◌}
+use Rattle.jbig2_base.specs.Fields.{signed_at}
+use Rattle.jbig2_base.specs.declared.error.DecodeError.{DecodeError}
+use Rattle.jbig2_base.specs.declared.error.TemplateError.TheVariants.{InvalidAtPixel}
+use Rattle.jbig2_region.specs.declared.template.AdaptiveTemplatePixel.{AdaptiveTemplatePixel}
+use Rattle.jbig2_region.specs.declared.template.Template.{Template}
+use Rattle.jbig2_region.specs.declared.template.Template.TheVariants.{Template0, Template1, Template2, Template3}
 use Rattle.jbig2_base.specs.declared.error.DecodeError.TheVariants as errors
 
 abbrev pub template_of : ℕ → Template
@@ -15,7 +23,7 @@ context_bits Template1 = 13
 context_bits Template2 = 10
 context_bits Template3 = 10
 
--- the pixel this many columns to the left, or to the right, and this many rows higher
+-- the pixel this many columns to the left, or to the right, and this many rows up
 abbrev pub left : ℕ → ℕ → AdaptiveTemplatePixel
 left columns rows = record { x = pos 0 -ℤ pos columns; y = pos 0 -ℤ pos rows }
 
@@ -32,8 +40,8 @@ adaptive_pixel_count false extended template = 1
 abbrev pub adaptive : List AdaptiveTemplatePixel → ℕ → AdaptiveTemplatePixel  -- adaptive pixel k + 1
 adaptive pixels k = slice_index_or pixels k (right 0 0)
 
--- The pixels of a template with these adaptive pixels, bit 0 of a context first, by whether it is the extended one,
--- with A1 to A12 in bits 1 13 9 14 12 5 2 3 11 4 15 10.
+-- The pixels of a template with these adaptive pixels, bit 0 of a context first. The first argument says whether it is
+-- the extended template, which has A1 to A12 in bits 1 13 9 14 12 5 2 3 11 4 15 10.
 abbrev pub template_pixels : Bool → Template → List AdaptiveTemplatePixel → List AdaptiveTemplatePixel
 template_pixels true _ a =
     left 1 0 ∷ adaptive a 0 ∷ adaptive a 6 ∷ adaptive a 7 ∷ adaptive a 9
@@ -74,11 +82,11 @@ is_nominal Template1 a = lies_at (adaptive a 0) (pos 3) (negsuc 0)
 is_nominal Template2 a = lies_at (adaptive a 0) (pos 2) (negsuc 0)
 is_nominal Template3 a = lies_at (adaptive a 0) (pos 2) (negsuc 0)
 
--- a pixel that is decoded earlier (6.2.5.4): in a row above, or left in the same row
+-- whether a pixel is decoded earlier (6.2.5.4): in a row above, or to the left in the same row
 abbrev pub is_earlier : AdaptiveTemplatePixel → Bool
 is_earlier p = int_lt p.y (pos 0) || (int_le p.y (pos 0) && int_lt p.x (pos 0))
 
--- a pixel at any place: two bytes in two's complement, its columns to the right and its rows down
+-- a pixel at any place: two bytes in two's complement, the columns to the right and the rows down
 abbrev pub free_pixel_at : List ℕ → Result (AdaptiveTemplatePixel × List ℕ) DecodeError
 free_pixel_at bytes = do
   x ← signed_at w8 bytes
@@ -100,7 +108,7 @@ adaptive_pixels_at (suc count) bytes = do
   others ← adaptive_pixels_at count first.1
   Ok (first.0 ∷ others.0, others.1)
 
--- whether the extended template is taken: where it is asked for, at template 0, and without MMR
+-- whether the extended template is used: if it is asked for, at template 0, and without MMR
 abbrev pub takes_extended : Bool → Bool → Template → Bool
 takes_extended false true Template0 = true
 takes_extended _ _ _ = false

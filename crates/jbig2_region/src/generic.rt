@@ -1,4 +1,4 @@
-//! Generic regions (T.88, 6.2 and 7.4.6).
+//! Reads and decodes generic regions (T.88, 6.2 and 7.4.6).
 ghost use Rattle.std.specs.Prelude.{◌≡◌, ◌≤◌, length, IfOk, OnErr, OnOk, Bool, ℕ, true, false};
 ghost use Rattle.jbig2_steps.specs.Work.{CountsWithin};
 ghost use Rattle.jbig2_base.specs.Answer.{Answers, Gives, Leaves};
@@ -32,11 +32,11 @@ use jbig2_mmr::mmr;
 use std::alloc::Allocator;
 use std::sync::ledger::Ledger;
 
-/// What a generic region's coded bytes are decoded by (T.88, 7.4.6).
+/// The header of a generic region, with its coded bytes (T.88, 7.4.6).
 #[derive(Clone, Copy, Debug)]
 pub struct GenericRegionHeader<'a> {
     pub region_info: RegionSegmentInfo,
-    /// Whether the bytes are coded with MMR, in place of the arithmetic coder.
+    /// Whether the bytes are coded with MMR, and not with the arithmetic coder.
     pub mmr: bool,
     pub template: Template,
     /// Whether typical prediction is on.
@@ -66,13 +66,13 @@ fn rows<'a>(unknown_length: bool, height: u32, bytes: &'a [u8]) -> Result<(u32, 
     Ok((rows, &bytes[..end]))
 }
 
-/// The header of a generic region at the reader's place, which holds the coded bytes after it
+/// Reads the header of a generic region at the reader's place. It holds the coded bytes after it
 /// (T.88, 7.4.6). With `unknown_length` the last four bytes are the number of rows.
 ///
-/// `ParseError::UnexpectedEof` where the bytes do not hold it; the errors of
-/// `parse_region_segment_info`; `TemplateError::InvalidAtPixel` where an adaptive pixel does not
-/// come before the pixel that is decoded; `RegionError::InvalidDimension` where there are more rows
-/// than the stated height; `OverflowError::BitmapDimension` above 65535 pixels either way. An error
+/// Returns `ParseError::UnexpectedEof` if there are too few bytes, the errors of
+/// `parse_region_segment_info`, `TemplateError::InvalidAtPixel` if an adaptive pixel does not come
+/// before the pixel that is decoded, `RegionError::InvalidDimension` if there are more rows than
+/// the stated height, or `OverflowError::BitmapDimension` if a side is above 65535 pixels. An error
 /// leaves the reader where it was. Takes no memory.
 #[tactic(auto, using(crate::proofs::HeaderCauses::generic_header_cause), unfolding(crate::specs::GenericHeader::generic_header_at))]
 pub fn parse<'a>(
@@ -117,13 +117,13 @@ pub fn parse<'a>(
 }
 
 /// Decodes a region (T.88, 6.2) into a white bitmap of its size. The contexts begin fresh, whatever
-/// `contexts` held, and are left there as the region leaves them; MMR data does not touch them, nor
-/// does its refusal. What is counted is within the price of a bitmap of this size and a unit for each
-/// coded byte. With nominal adaptive pixels a run of eight likely symbols takes no decision. A refusal
-/// takes no step but with MMR data, which counts no group of lanes and no single pixel.
+/// `contexts` held. Afterwards `contexts` holds them as the region leaves them. MMR data does not change
+/// them, even if it is refused. The counts are within the price of a bitmap of this size and a unit for
+/// each coded byte. With nominal adaptive pixels a run of eight likely symbols takes no decision. A
+/// refusal takes no step, except with MMR data. MMR data counts no group of lanes and no single pixel.
 ///
-/// `OutOfMemory` where there is no room for the contexts; in strict mode
-/// `RegionError::InvalidMmrData` where MMR data has a fault or lacks a row. The bitmap is then as it was,
+/// Returns `OutOfMemory` if there is no memory for the contexts, or in strict mode
+/// `RegionError::InvalidMmrData` if MMR data has a fault or lacks a row. The bitmap is then as it was,
 /// but with MMR data it holds the whole rows before the fault.
 pub fn decode_into<A: Allocator, B: Allocator, L: Ledger>(
     header: &GenericRegionHeader<'_>,
@@ -160,9 +160,10 @@ pub fn decode_into<A: Allocator, B: Allocator, L: Ledger>(
     Ok(())
 }
 
-/// Decodes a region (T.88, 6.2), as `decode_into` does, into a bitmap of its own.
+/// Decodes a region (T.88, 6.2), as `decode_into` does, into a new bitmap.
 ///
-/// `OutOfMemory` where there is no room for the bitmap or the contexts, else as `decode_into`.
+/// `OutOfMemory` if there is no memory for the bitmap or the contexts, or an error of
+/// `decode_into`.
 pub fn decode<A: Allocator, B: Allocator, L: Ledger>(
     alloc: A,
     header: &GenericRegionHeader<'_>,

@@ -69,7 +69,7 @@ pub fn context_at<A: Allocator, L: Ledger>(
     context
 }
 
-/// In a predicted row, the colour of the pixel above.
+/// The colour of the pixel above, which a pixel of a predicted row takes.
 #[inline(always)]
 fn colour_above<A: Allocator, L: Ledger>(
     bitmap: &Bitmap<A>,
@@ -85,7 +85,7 @@ fn colour_above<A: Allocator, L: Ledger>(
     pixel_at(bitmap, x as i32, y as i32 - 1, steps) == 1
 }
 
-/// White where the pixel at column `x` of row `y` is skipped.
+/// White if the pixel at column `x` of row `y` is skipped.
 #[inline(always)]
 fn white_if_skipped<M: Allocator, L: Ledger>(
     skip: Option<&Bitmap<M>>,
@@ -158,8 +158,8 @@ impl<M: Allocator> PixelCoding for GenericCoding<'_, M> {
     }
 }
 
-/// A region that the arithmetic coder wrote, into a white bitmap of its size. The coder and the contexts
-/// go on from where they stand. Takes no memory.
+/// Decodes a region that the arithmetic coder wrote, into a white bitmap of its size. The coder and the
+/// contexts go on from their present state. Takes no memory.
 pub fn decode_coded<A: Allocator, L: Ledger>(
     template: Template,
     typical: bool,

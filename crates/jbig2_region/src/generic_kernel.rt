@@ -1,5 +1,5 @@
-//! The kernels of generic regions (T.88, 6.2.5): loops that take their contexts from windows on the
-//! rows above, and by whole bytes where the adaptive pixels are nominal.
+//! The kernels of generic regions (T.88, 6.2.5). They take their contexts from windows on the rows
+//! above. If the adaptive pixels are nominal, they work by whole bytes.
 ghost use Rattle.std.specs.Prelude.{◌≡◌, ℕ, ◌+◌, ◌-◌, ◌*◌, ◌/◌, ◌^◌, ◌<◌, ◌≤◌, false, true, length, pos, negsuc, ◌+ℤ◌, List, IfSome, None, if◌then◌else◌};
 ghost use Rattle.jbig2_base.specs.Counts.{KeepsLanes};
 ghost use Rattle.jbig2_base.specs.Grid.{blank};
@@ -11,8 +11,8 @@ ghost use Rattle.jbig2_region.specs.Steps.{CountsRegion, row_loads, row_tests, r
 ghost use Rattle.jbig2_region.specs.inner.RowCounts.{CountsRow};
 ghost use Rattle.jbig2_region.specs.declared.template.AdaptiveTemplatePixel.{AdaptiveTemplatePixel};
 
-/// A call for each template with nominal adaptive pixels, by its number, in which the places of its
-/// pixels are constants.
+/// One call for each template with nominal adaptive pixels, by its number. In it the places of the
+/// template's pixels are constants.
 macro_rules! by_template {
     ($neighbours:expr, $call:ident($($given:expr),*)) => {
         if $neighbours == nominal_neighbours(Template::Template0) {
@@ -53,7 +53,7 @@ use jbig2_coder::arithmetic_decoder::{ArithmeticDecoder, ArithmeticDecoderContex
 use std::alloc::Allocator;
 use std::sync::ledger::Ledger;
 
-/// Makes row `y` the same as the row above it.
+/// Copies the row above row `y` to row `y`.
 fn copy_row<A: Allocator, L: Ledger>(bitmap: &mut Bitmap<A>, y: u32, steps: &mut Steps<L>)
     requires row { y < bitmap.old.height }
     ensures holds { (template : List AdaptiveTemplatePixel) (coder : Coder)
@@ -76,7 +76,7 @@ fn copy_row<A: Allocator, L: Ledger>(bitmap: &mut Bitmap<A>, y: u32, steps: &mut
     }
 }
 
-/// Row `y`, whose rows above are decoded: the same as the row above if `predicted` says so.
+/// Decodes row `y`, whose rows above are decoded. If `predicted` is true, copies the row above.
 #[inline(always)]
 fn decode_row<A: Allocator, L: Ledger>(
     layout: &Layout<'_>,
@@ -133,8 +133,8 @@ fn is_narrow(layout: &Layout<'_>, row_context: Option<u32>, width: u32) -> bool
     width <= 48 && (layout.adaptive.is_none() && row_context.is_none())
 }
 
-/// A whole region, into a white bitmap of its size. With typical prediction `row_context` is the
-/// context of the decision that begins a row.
+/// Decodes a whole region into a white bitmap of its size. With typical prediction `row_context` is
+/// the context of the decision that begins a row.
 pub fn decode_layout<A: Allocator, L: Ledger>(
     layout: &Layout<'_>,
     row_context: Option<u32>,

@@ -1,4 +1,4 @@
-//! Refinement regions (T.88, 6.3 and 7.4.7).
+//! Reads and decodes refinement regions (T.88, 6.3 and 7.4.7).
 ghost use Rattle.std.specs.Prelude.{◌≡◌, IfOk, OnErr, OnOk};
 ghost use Rattle.jbig2_steps.specs.Work.{CountsWithin, price_of_bitmap};
 ghost use Rattle.jbig2_base.specs.Answer.{Answers, Gives, Leaves};
@@ -28,20 +28,20 @@ use jbig2_coder::arithmetic_decoder::{ArithmeticDecoder, ArithmeticDecoderContex
 use std::alloc::Allocator;
 use std::sync::ledger::Ledger;
 
-/// What a refinement's coded bytes are decoded by (T.88, 7.4.7).
+/// The header of a refinement region, with its coded bytes (T.88, 7.4.7).
 #[derive(Clone, Copy, Debug)]
 pub struct GenericRefinementRegionHeader<'a> {
     pub region_info: RegionSegmentInfo,
     pub template: RefinementTemplate,
     /// Whether typical prediction is on.
     pub tpgron: bool,
-    /// Without meaning at template 1.
+    /// Not used at template 1.
     pub adaptive_template_pixels: [AdaptiveTemplatePixel; 2],
     /// The coded bytes.
     pub bytes: &'a [u8],
 }
 
-/// What a region is refined from: a bitmap whose top left pixel lies `dx` columns to the right of the
+/// The reference of a refinement: a bitmap whose top left pixel lies `dx` columns to the right of the
 /// region's and `dy` rows below it.
 #[derive(Drop)]
 pub struct ReferenceBitmap<'a, B: Allocator> {
@@ -50,12 +50,13 @@ pub struct ReferenceBitmap<'a, B: Allocator> {
     pub dy: i32,
 }
 
-/// The header of a refinement region at the reader's place, which holds the coded bytes after it
+/// Reads the header of a refinement region at the reader's place. It holds the coded bytes after it
 /// (T.88, 7.4.7).
 ///
-/// `ParseError::UnexpectedEof` where the bytes do not hold it; the errors of
-/// `parse_region_segment_info`; `OverflowError::BitmapDimension` above 65535 pixels either way. An
-/// error leaves the reader where it was. The adaptive pixels may lie anywhere. Takes no memory.
+/// Returns `ParseError::UnexpectedEof` if there are too few bytes, the errors of
+/// `parse_region_segment_info`, or `OverflowError::BitmapDimension` if a side is above 65535
+/// pixels. An error leaves the reader where it was. The adaptive pixels may lie anywhere. Takes no
+/// memory.
 #[tactic(auto, using(crate::proofs::HeaderCauses::refinement_header_cause), unfolding(crate::specs::RefinementHeader::refinement_header_at))]
 pub fn parse<'a>(reader: &mut Reader<'a>) -> Result<GenericRefinementRegionHeader<'a>>
     requires { IsAligned reader.old }
@@ -97,7 +98,7 @@ fn is_far(location: u32) -> bool
     location >= 0x8000_0000
 }
 
-/// Where the reference lies, seen from the region: columns to the right and rows down.
+/// The place of the reference, seen from the region: columns to the right and rows down.
 #[tactic(auto, using(crate::proofs::HeaderCauses::offset_cause), unfolding(crate::specs::Refinement::offset))]
 fn offset<B: Allocator>(
     reference: &DecodedRegion<B>,
@@ -124,13 +125,12 @@ fn offset<B: Allocator>(
 }
 
 /// Refines `reference` (T.88, 6.3) into a white bitmap of the region's size. The contexts begin
-/// fresh, whatever `contexts` held, and are left there as the region leaves them.
+/// fresh, whatever `contexts` held. Afterwards `contexts` holds them as the region leaves them.
 ///
-/// `RegionError::InvalidDimension` where the reference is narrower or lower than the region;
-/// `OverflowError::ReferenceOffset` where a place of either is 2^31 or more; `OutOfMemory` where
-/// there is no room for the contexts. An error leaves the bitmap as it was, and the
-/// contexts too unless memory ran out; it takes no step. What is counted is within the price of a
-/// bitmap of this size.
+/// Returns `RegionError::InvalidDimension` if the reference is narrower or lower than the region,
+/// `OverflowError::ReferenceOffset` if a place of either is 2^31 or more, or `OutOfMemory` if there
+/// is no memory for the contexts. An error leaves the bitmap as it was, and the contexts too unless
+/// memory ran out. It takes no step. The counts are within the price of a bitmap of this size.
 pub fn decode_into<A: Allocator, B: Allocator, C: Allocator, L: Ledger>(
     header: &GenericRefinementRegionHeader<'_>,
     reference: &DecodedRegion<B>,
@@ -173,9 +173,10 @@ pub fn decode_into<A: Allocator, B: Allocator, C: Allocator, L: Ledger>(
     Ok(())
 }
 
-/// Refines `reference` (T.88, 6.3), as `decode_into` does, into a bitmap of its own.
+/// Refines `reference` (T.88, 6.3), as `decode_into` does, into a new bitmap.
 ///
-/// `OutOfMemory` where there is no room for the bitmap or the contexts, else as `decode_into`.
+/// `OutOfMemory` if there is no memory for the bitmap or the contexts, or an error of
+/// `decode_into`.
 pub fn decode<A: Allocator, B: Allocator, C: Allocator, L: Ledger>(
     alloc: A,
     header: &GenericRefinementRegionHeader<'_>,

@@ -1,5 +1,5 @@
-//! Regions that are decoded pixel by pixel (T.88, 6.2.5 and 6.3.5): what generic regions and
-//! refinements have in common.
+//! Decodes regions pixel by pixel (T.88, 6.2.5 and 6.3.5): the common part of generic regions and
+//! refinements.
 ghost use Rattle.std.specs.Prelude.{◌≡◌, ℕ, ◌+◌, ◌*◌, ◌^◌, ◌<◌, ◌≤◌, [], length, IfSome, false, Ok, Some, pos, ◌<ℤ◌};
 ghost use Rattle.jbig2_base.specs.Answer.{Gives};
 ghost use Rattle.jbig2_base.specs.Grid.{Grid, pixel, bit_number};
@@ -15,11 +15,11 @@ use jbig2_coder::arithmetic_decoder::{ArithmeticDecoder, ArithmeticDecoderContex
 use std::alloc::Allocator;
 use std::sync::ledger::Ledger;
 
-/// A row in the making.
+/// A row during decoding.
 #[derive(Clone, Copy)]
 pub struct Row {
     pub y: u32,
-    /// Whether typical prediction has it predicted from what is known already.
+    /// Whether typical prediction predicts it from what is known already.
     pub predicted: bool,
 }
 
@@ -101,7 +101,7 @@ pub fn far_pixel<A: Allocator, L: Ledger>(
     bitmap.get_pixel(column as u32, row as u32, steps)
 }
 
-/// The next pixel of a region, at column `x` of a row.
+/// Decodes the next pixel of a region, at column `x` of a row.
 #[inline(always)]
 fn decode_pixel<C: PixelCoding, A: Allocator, L: Ledger>(
     coding: &C,
@@ -133,7 +133,7 @@ fn decode_pixel<C: PixelCoding, A: Allocator, L: Ledger>(
     bitmap.set_pixel(x, row.y, symbol == 1, steps);
 }
 
-/// A row of a region, whose rows above are decoded.
+/// Decodes a row of a region. The rows above it are decoded already.
 fn decode_row<C: PixelCoding, A: Allocator, L: Ledger>(
     coding: &C,
     row: Row,
@@ -158,8 +158,8 @@ fn decode_row<C: PixelCoding, A: Allocator, L: Ledger>(
     }
 }
 
-/// The decision that begins a row, in the context of this number: whether the row is predicted, where
-/// the row above was if `predicted` says so.
+/// Decodes the decision that begins a row, in the context with this number. Returns whether the row
+/// is predicted; `predicted` says whether the row above was.
 #[inline(never)]
 fn decide_row<L: Ledger>(
     context: u32,
@@ -183,7 +183,7 @@ fn decide_row<L: Ledger>(
     predicted
 }
 
-/// The same, or what holds of the row above where no decision begins a row.
+/// The same, or `predicted` if no decision begins a row.
 #[inline(always)]
 pub fn begin_row<L: Ledger>(
     row_context: Option<u32>,
@@ -206,7 +206,7 @@ pub fn begin_row<L: Ledger>(
     decide_row(context, predicted, decoder, contexts, steps)
 }
 
-/// A whole region, into a white bitmap of its size.
+/// Decodes a whole region into a white bitmap of its size.
 pub fn decode_region<C: PixelCoding, A: Allocator, L: Ledger>(
     coding: &C,
     bitmap: &mut Bitmap<A>,
@@ -240,7 +240,7 @@ pub fn decode_region<C: PixelCoding, A: Allocator, L: Ledger>(
     }
 }
 
-/// Makes `contexts` 2 to the power of `bits` contexts of which nothing is known.
+/// Makes `contexts` 2 to the power of `bits` fresh contexts.
 pub fn fresh_contexts<A: Allocator>(
     contexts: &mut Vec<ArithmeticDecoderContext, A>,
     bits: u32,

@@ -1,4 +1,4 @@
-//! The contexts of refinements (T.88, 6.3.5.3 to 6.3.5.6).
+//! Decodes refinements, and makes their contexts (T.88, 6.3.5.3 to 6.3.5.6).
 ghost use Rattle.std.specs.Prelude.{◌≡◌, ◌+◌, ◌^◌, ◌<◌, ◌≤◌, ◌++◌, Bool, List, length, map, pos, ◌+ℤ◌, ◌-ℤ◌, ◌<ℤ◌};
 ghost use Rattle.jbig2_base.specs.Grid.{pixel, bit_number};
 ghost use Rattle.jbig2_region.specs.Steps.{CountsDecided};
@@ -41,8 +41,9 @@ fn nine() -> [AdaptiveTemplatePixel; 9]
     ]
 }
 
-/// The reference's column (or row) for a template's pixel that lies `apart` from the region's column
-/// (or row), where the reference's first one is the region's one of number `offset`.
+/// The reference's column (or row) of a template's pixel that lies `apart` columns (or rows) after
+/// column (or row) `place` of the region. The reference's first column (or row) lies at column (or
+/// row) `offset` of the region.
 #[inline(always)]
 fn along(place: u32, offset: i32, apart: i16) -> i64
     requires { place < 65536 }
@@ -61,14 +62,14 @@ struct RefinementCoding<'a, B: Allocator> {
     reference: &'a ReferenceBitmap<'a, B>,
     /// The template's pixels in the reference, bit 0 of a context first.
     in_reference: &'a [AdaptiveTemplatePixel],
-    /// Those in the region, whose bits follow.
+    /// The template's pixels in the region, whose bits follow.
     in_region: &'a [AdaptiveTemplatePixel],
     ghost all: { length in_reference.now + length in_region.now ≡ refinement_bits template },
     ghost four: { length in_region.now ≡ 4 },
 }
 
 impl<B: Allocator> RefinementCoding<'_, B> {
-    /// The template's pixel of the reference at `place`, seen from column `x` of row `y` of the
+    /// The template's pixel at `place` in the reference, seen from column `x` of row `y` of the
     /// region.
     #[inline(always)]
     fn reference_pixel<L: Ledger>(
@@ -92,7 +93,7 @@ impl<B: Allocator> RefinementCoding<'_, B> {
         )
     }
 
-    /// The number that these pixels of the reference spell, bit 0 first, with `high` in the bits
+    /// The number that these pixels of the reference make, bit 0 first, with `high` in the bits
     /// after them.
     #[inline(always)]
     fn number<L: Ledger>(
@@ -122,8 +123,8 @@ impl<B: Allocator> RefinementCoding<'_, B> {
         number
     }
 
-    /// The colour that the reference's nine pixels around column `x` of row `y` of the region have
-    /// in common.
+    /// The common colour of the reference's nine pixels around column `x` of row `y` of the region,
+    /// if they have one.
     #[inline(always)]
     fn common_colour<L: Ledger>(&self, x: u32, y: u32, steps: &mut Steps<L>) -> Option<bool>
         requires column { x < 65536 }
@@ -183,7 +184,7 @@ impl<B: Allocator> PixelCoding for RefinementCoding<'_, B> {
 }
 
 /// Refines `reference` (T.88, 6.3) into a white bitmap of the region's size. The coder and the
-/// contexts go on from where they stand. Takes no memory.
+/// contexts go on from their present state. Takes no memory.
 pub fn decode_bitmap<A: Allocator, B: Allocator, L: Ledger>(
     template: RefinementTemplate,
     typical: bool,

@@ -1,5 +1,5 @@
-//! The kernel of refinements (T.88, 6.3) whose template lies about the pixel that is decoded: contexts
-//! and predicted colours come from windows on the rows.
+//! Decodes refinements (T.88, 6.3) whose template's pixels are all next to the pixel that is decoded.
+//! Contexts and predicted colours come from windows on the rows.
 ghost use Rattle.std.specs.Prelude.{◌≡◌, ℕ, ◌+◌, ◌-◌, ◌*◌, ◌/◌, ◌%◌, ◌^◌, ◌<◌, ◌≤◌, length, false, None};
 ghost use Rattle.jbig2_base.specs.Grid.{pixel_at};
 ghost use Rattle.jbig2_base.specs.Bits.{bit};
@@ -31,7 +31,7 @@ use jbig2_coder::arithmetic_decoder::{ArithmeticDecoder, ArithmeticDecoderContex
 use std::alloc::Allocator;
 use std::sync::ledger::Ledger;
 
-/// How a region is refined whose adaptive pixels are nominal, if its template has them.
+/// How a region is refined whose adaptive pixels, if it has any, are nominal.
 #[derive(Clone, Copy, Drop)]
 pub struct WindowedCoding<'a, B: Allocator> {
     pub template: RefinementTemplate,
@@ -40,7 +40,7 @@ pub struct WindowedCoding<'a, B: Allocator> {
     pub reference: &'a ReferenceBitmap<'a, B>,
 }
 
-/// The next pixel, 1 for black, in the context of this number.
+/// Decodes the next pixel, 1 for black, in the context with this number.
 #[inline(always)]
 fn decide_pixel<L: Ledger>(
     context: u32,
@@ -57,8 +57,9 @@ fn decide_pixel<L: Ledger>(
     decoder.decode(&mut contexts[context as usize], steps)
 }
 
-/// The next `count` pixels, at most thirteen, none of whose colours is known, from the column `offset`
-/// right of the windows' column on: `pixels` are those at the left, and they come in at their low end.
+/// Decodes the next `count` pixels, at most thirteen, none of whose colours is known. They begin
+/// `offset` columns right of the windows' column. `pixels` are the pixels on the left; the new ones
+/// are added at the low end.
 #[inline(always)]
 fn push_pixels<L: Ledger>(
     template: RefinementTemplate,
@@ -90,8 +91,8 @@ fn push_pixels<L: Ledger>(
     pixels
 }
 
-/// Of `count` columns those whose pixels are decided without a look at the prediction: all, unless
-/// the row is predicted.
+/// How many of `count` columns are decided without a look at the prediction: all, unless the row is
+/// predicted.
 #[inline(always)]
 fn decided_columns(predicted: bool, count: u32) -> u32
     ensures most { result ≤ count }
@@ -103,7 +104,7 @@ fn decided_columns(predicted: bool, count: u32) -> u32
     count
 }
 
-/// Of `count` columns those that `white_columns` finds, if they are looked for at all.
+/// How many of `count` columns `white_columns` finds; none if `look` is false.
 #[inline(always)]
 fn looked_for(look: bool, windows: RefinementWindows, count: u32) -> u32
     ensures most { result ≤ count }
@@ -116,8 +117,9 @@ fn looked_for(look: bool, windows: RefinementWindows, count: u32) -> u32
     0
 }
 
-/// The `count` pixels from column `x` of a row on, at most 32: they are the lowest bits of the answer,
-/// above which stand those at the left. Where all is white is looked for if `look` says so.
+/// Decodes `count` pixels, at most 32, from column `x` of a row on. They are the lowest bits of the
+/// result, and the pixels on the left are above them. It looks for columns where all is white only if
+/// `look` is true.
 #[inline(always)]
 fn decode_block<A: Allocator, B: Allocator, L: Ledger>(
     coding: &WindowedCoding<'_, B>,
@@ -183,7 +185,7 @@ fn decode_block<A: Allocator, B: Allocator, L: Ledger>(
     pixels
 }
 
-/// A row, whose rows above are decoded.
+/// Decodes a row. The rows above it are decoded already.
 #[inline(always)]
 fn decode_row<A: Allocator, B: Allocator, L: Ledger>(
     coding: &WindowedCoding<'_, B>,
@@ -217,8 +219,8 @@ fn decode_row<A: Allocator, B: Allocator, L: Ledger>(
     }
 }
 
-/// A whole region of at most 32 columns, into a white bitmap of its size: each row's windows are made
-/// out of those of the row above.
+/// Decodes a whole region of at most 32 columns into a white bitmap of its size. Each row's windows
+/// are made from those of the row above.
 #[inline(always)]
 fn decode_narrow<A: Allocator, B: Allocator, L: Ledger>(
     coding: &WindowedCoding<'_, B>,
@@ -251,7 +253,7 @@ fn decode_narrow<A: Allocator, B: Allocator, L: Ledger>(
     }
 }
 
-/// A whole region, into a white bitmap of its size.
+/// Decodes a whole region into a white bitmap of its size.
 #[inline(always)]
 pub fn decode_windowed<A: Allocator, B: Allocator, L: Ledger>(
     coding: &WindowedCoding<'_, B>,

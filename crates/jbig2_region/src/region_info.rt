@@ -1,4 +1,4 @@
-//! What every region segment begins with (T.88, 7.4.1).
+//! Reads the field that every region segment begins with (T.88, 7.4.1).
 ghost use Rattle.std.specs.Prelude.{◌≡◌};
 ghost use Rattle.jbig2_base.specs.Bits.{IsAligned};
 ghost use Rattle.jbig2_base.specs.Fields.{Parses};
@@ -30,9 +30,9 @@ pub struct RegionSegmentInfo {
 
 /// The region segment information field at the reader's place (T.88, 7.4.1).
 ///
-/// `ParseError::UnexpectedEof` where the bytes do not hold it,
-/// `RegionError::InvalidCombinationOperator` where the flags name no operator, `Unsupported` where
-/// they ask for colours. An error leaves the reader where it was. Takes no memory.
+/// Returns `ParseError::UnexpectedEof` if there are too few bytes,
+/// `RegionError::InvalidCombinationOperator` if the flags have the number of no operator, or
+/// `Unsupported` if they ask for colours. An error leaves the reader where it was. Takes no memory.
 #[tactic(auto, using(crate::proofs::Causes::info_has_cause), unfolding(crate::specs::RegionInfo::region_info_at))]
 pub fn parse_region_segment_info(reader: &mut Reader<'_>) -> Result<RegionSegmentInfo>
     requires { IsAligned reader.old }
@@ -69,7 +69,7 @@ pub struct DecodedRegion<A: Allocator> {
 }
 
 impl<A: Allocator> DecodedRegion<A> {
-    /// This bitmap, where the region's information places it.
+    /// This bitmap, at the place that the region's information gives.
     pub fn new(region_info: &RegionSegmentInfo, bitmap: Bitmap<A>) -> DecodedRegion<A>
         ensures { region_view result ≡ placed region_info.now bitmap }
     {

@@ -1,4 +1,5 @@
-//! Generic regions of which pixels are skipped (T.88, 6.2.5.7), as the planes of a gray-scale image.
+//! Decodes generic regions with skipped pixels (T.88, 6.2.5.7), such as planes of a gray-scale
+//! image.
 ghost use Rattle.std.specs.Prelude.{◌≡◌, false, true};
 ghost use Rattle.jbig2_region.specs.inner.Holds.{DecodesRegion, IsReady};
 ghost use Rattle.jbig2_region.specs.{Steps.{CountsSkipping}, inner.RegionViews.{skip_of}, Generic.{skipping_coding}};
@@ -21,8 +22,8 @@ use std::sync::ledger::Ledger;
 
 /// Decodes a region that the arithmetic coder wrote, without typical prediction, into a white bitmap
 /// of its size. A pixel that is black in `skip` stays white and takes no decision. The decoder and
-/// the contexts are left as the region leaves them, for what the coder wrote after it. Contexts come
-/// out of windows where the adaptive pixels are nominal, else they are read pixel by pixel.
+/// the contexts are left as the region leaves them, for what the coder wrote after it. If the
+/// adaptive pixels are nominal, contexts come from windows; else they are read pixel by pixel.
 pub fn decode_skipping<M: Allocator, A: Allocator, L: Ledger>(
     template: Template,
     adaptive: &[AdaptiveTemplatePixel; 4],

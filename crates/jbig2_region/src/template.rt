@@ -21,7 +21,7 @@ pub enum Template {
 }
 
 impl Template {
-    /// The template that the low two bits of `value` name.
+    /// The template whose number is in the low two bits of `value`.
     pub fn from_byte(value: u8) -> Template
         ensures { result ≡ template_of (value % 4) }
     {
@@ -53,7 +53,7 @@ pub enum RefinementTemplate {
 }
 
 impl RefinementTemplate {
-    /// The template that the low bit of `value` names.
+    /// The template whose number is the low bit of `value`.
     pub fn from_byte(value: u8) -> RefinementTemplate
         ensures { result ≡ refinement_template_of (value % 2) }
     {
@@ -74,8 +74,8 @@ impl RefinementTemplate {
     }
 }
 
-/// A template's pixel, by its place relative to the pixel that is decoded: columns to the right and
-/// rows down. The default is that pixel's own place.
+/// A template's pixel, by its place relative to the pixel that is decoded: the columns to the right
+/// and the rows down. The default is the place of that pixel itself.
 #[derive(Clone, Copy, Debug, PartialEq, Eq)]
 pub struct AdaptiveTemplatePixel {
     pub x: i16,
@@ -99,8 +99,8 @@ pub(crate) const fn pixel(x: i16, y: i16) -> AdaptiveTemplatePixel
 /// The adaptive pixels of a generic region, A1 first.
 #[derive(Clone, Copy, Debug)]
 pub enum GenericTemplatePixels {
-    /// Four at template 0, of which the other templates use the first alone.
+    /// Four, at template 0. The other templates use only the first.
     Regular([AdaptiveTemplatePixel; 4]),
-    /// Those of the extended template 0.
+    /// Twelve, at the extended template 0.
     Extended([AdaptiveTemplatePixel; 12]),
 }

@@ -1,6 +1,7 @@
--- The words of a run (our own rule). `is_run` takes those of `jbig2-bench` and says whether they ask for something: none
--- for the worked rows, or lists. `is_one_word` does so for `jbig2-row`, which takes the name of a row.
-use Rattle.std.specs.{Prelude.{ℕ, Bool, true, false, List, [], ◌∷◌, codes}, Str.{bytes_eq}}
+-- The words of a run (our own rule). `is_run` says whether words are those of `jbig2-bench`: none for the worked rows,
+-- or "lists". `is_one_word` does so for `jbig2-row`, which takes the name of a row.
+use Rattle.std.specs.Prelude.{ℕ, Bool, true, false, List, [], ◌∷◌, codes}
+use Rattle.std.specs.Str.{bytes_eq}
 
 unfoldable pub is_lists : List ℕ → Bool
 is_lists word = bytes_eq word (codes "lists")

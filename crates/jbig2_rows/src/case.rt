@@ -1,4 +1,4 @@
-//! The cases of the rows, and how each is run.
+//! The cases of the rows, and how each one is run.
 use crate::call::Call;
 use crate::coder::{CoderCase, coder_holds};
 use crate::combination::stays_white;
@@ -18,7 +18,7 @@ use std::io::Write;
 use std::marker::Brand;
 use std::sync::ledger::Blank;
 
-/// A row of the table: its name, and all that has to hold.
+/// A row of the table: its name, and all its cases.
 pub struct Row {
     pub name: &'static str,
     pub cases: &'static [Case],
@@ -32,7 +32,7 @@ pub enum Modes {
     Both,
 }
 
-/// What comes of a page.
+/// The expected result of a page.
 pub enum Answer {
     /// It is drawn by exactly these calls.
     Calls(&'static [Call]),
@@ -52,16 +52,16 @@ pub struct Header {
     pub data_length: Option<u32>,
 }
 
-/// One thing that has to hold. Bytes are spelled as `spelling::spelled` reads them.
+/// One case. `spelling::spelled` reads its bytes.
 pub enum Case {
-    /// What comes of an embedded page in these modes.
+    /// The result of an embedded page in these modes.
     Page(Modes, &'static str, Answer),
-    /// What comes of an embedded page strictly, and what leniently.
+    /// The result of an embedded page in strict mode, and in lenient mode.
     ByMode(&'static str, Answer, Answer),
-    /// What comes in these modes of each beginning of an embedded page that has from the first to the
-    /// second number of bytes.
+    /// The result in these modes of each beginning of an embedded page, for each length from the first to the second
+    /// number of bytes.
     Beginnings(Modes, &'static str, (usize, usize), Answer),
-    /// What comes of drawing an embedded page with globals, in both modes.
+    /// The result of drawing an embedded page with globals, in both modes.
     Shared {
         globals: &'static str,
         bytes: &'static str,
@@ -74,12 +74,12 @@ pub enum Case {
         width: u32,
         height: u32,
     },
-    /// The fields that `parse_segment_header` reads strictly.
+    /// The fields that `parse_segment_header` reads in strict mode.
     Header {
         bytes: &'static str,
         header: Header,
     },
-    /// A white bitmap of 8 by 8 that a black one, combined by Or at this place, leaves white.
+    /// A black bitmap, combined by Or at this place, leaves a white bitmap of 8 by 8 white.
     StaysWhite(i32, i32),
     /// The arithmetic coder.
     Coder(CoderCase),
@@ -91,7 +91,7 @@ pub enum Case {
     File(FileCase),
     /// Salvage.
     Salvage(SalvageCase),
-    /// Two patterns of 200 by 1, written by the arithmetic encoder, are decoded.
+    /// Two patterns of 200 by 1, which the arithmetic encoder codes, are decoded.
     WidePatterns,
 }
 
@@ -105,8 +105,8 @@ impl Modes {
     }
 }
 
-/// Whether every case of a row holds, and row 5's page is drawn in the same context after each. Returns
-/// `DecodeError::OutOfMemory` alone.
+/// Whether every case of a row holds. After each one, row 5's page must be drawn in the same context. The only error is
+/// `DecodeError::OutOfMemory`.
 pub fn row_holds<A: Allocator + Clone>(
     alloc: &A,
     row: &Row,
@@ -121,8 +121,7 @@ pub fn row_holds<A: Allocator + Clone>(
     Ok(true)
 }
 
-/// Whether a row holds. After a request for memory that was refused, row 5's page has to be drawn in the same
-/// context, and then the row has to hold.
+/// Whether a row holds. If memory ran out, row 5's page must be drawn in the same context, and then the row must hold.
 pub fn row_serves_on<A: Allocator + Clone>(
     alloc: &A,
     row: &Row,
@@ -179,7 +178,7 @@ fn case_holds<A: Allocator + Clone>(
     }
 }
 
-/// Whether the embedded page that a text spells has this answer in these modes.
+/// Whether the embedded page in this text has this result in these modes.
 fn answer_holds<A: Allocator + Clone>(
     alloc: &A,
     modes: Modes,
@@ -193,7 +192,7 @@ fn answer_holds<A: Allocator + Clone>(
     modes_hold(alloc, modes, &bytes, answer, context)
 }
 
-/// Whether the embedded page that a text spells has these answers, and row 5's page is drawn in between.
+/// Whether the embedded page in this text has these results. Row 5's page is drawn between the two.
 fn answers_hold<A: Allocator + Clone>(
     alloc: &A,
     bytes: &str,
@@ -223,7 +222,7 @@ fn modes_hold<A: Allocator + Clone>(
     Ok(true)
 }
 
-/// Whether each beginning of these lengths, the last one included, has this answer in these modes.
+/// Whether each beginning of these lengths, also the last one, has this result in these modes.
 fn beginnings_hold<A: Allocator + Clone>(
     alloc: &A,
     modes: Modes,
@@ -246,7 +245,7 @@ fn beginnings_hold<A: Allocator + Clone>(
     Ok(true)
 }
 
-/// Whether drawing the embedded page that a text spells has this answer with these globals.
+/// Whether drawing the embedded page in this text has this result with these globals.
 fn shared_holds<A: Allocator + Clone>(
     alloc: &A,
     globals: &str,
@@ -276,7 +275,7 @@ fn shared_holds<A: Allocator + Clone>(
     Ok(true)
 }
 
-/// Whether the embedded page that a text spells has this number and size.
+/// Whether the embedded page in this text has this number and size.
 fn size_holds<A: Allocator + Clone>(
     alloc: &A,
     bytes: &str,
@@ -300,7 +299,7 @@ fn size_holds<A: Allocator + Clone>(
     Ok(sized && page.number() == number && page.dimensions() == (width, height))
 }
 
-/// Whether this error was expected. Want of memory is passed on.
+/// Whether this error was expected. An unexpected `OutOfMemory` is returned.
 pub fn refused_as(error: DecodeError, expected: Option<&DecodeError>) -> Result<bool> {
     if expected == Some(&error) {
         return Ok(true);
@@ -311,7 +310,7 @@ pub fn refused_as(error: DecodeError, expected: Option<&DecodeError>) -> Result<
     Ok(false)
 }
 
-/// Whether the segment header that a text spells has these fields.
+/// Whether the segment header in this text has these fields.
 fn header_holds<A: Allocator + Clone>(alloc: &A, bytes: &str, expected: &Header) -> Result<bool> {
     let Some(bytes) = spelled(alloc, bytes)? else {
         return Ok(false);

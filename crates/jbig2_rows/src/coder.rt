@@ -11,20 +11,20 @@ use std::alloc::Allocator;
 use std::marker::Brand;
 use std::sync::ledger::{Blank, Ledger};
 
-/// One reading of the arithmetic decoder, and what has to come of it.
+/// One reading of the arithmetic decoder, and its expected result.
 #[derive(Clone, Copy)]
 pub enum Reading {
     /// `decode` gives this.
     Decision(u32),
-    /// `decode` gives these bits, eight to a byte, the first in the highest.
+    /// `decode` gives these bits, eight for each byte, the first in the highest bit.
     Decisions(&'static [u8]),
     /// `decode_mps_run` of this count gives this.
     Run(u32, bool),
 }
 
-/// One thing that has to hold of the arithmetic coder.
+/// One case of the arithmetic coder.
 pub enum CoderCase {
-    /// The decoder at the start of these bytes gives these readings, all in one context that was fresh.
+    /// The decoder at the start of these bytes gives these readings, all in one context, which is fresh at first.
     Readings {
         bytes: &'static str,
         readings: &'static [Reading],
@@ -34,19 +34,19 @@ pub enum CoderCase {
         list: &'static [(u16, bool)],
         bytes: &'static str,
     },
-    /// `decode_list` of these bytes, asked in the contexts of a list, gives its decisions.
+    /// `decode_list` of these bytes gives the decisions of a list, in its contexts.
     Decoded {
         bytes: &'static str,
         list: &'static [(u16, bool)],
     },
-    /// `encode_list` of these bits in context 0, eight to a byte, gives these bytes, and `decode_list` reads them back.
+    /// `encode_list` of these bits in context 0, eight for each byte, gives these bytes, and `decode_list` reads them.
     ReadBack {
         decisions: &'static [u8],
         bytes: &'static str,
     },
 }
 
-/// Whether a case holds. Returns `DecodeError::OutOfMemory` alone.
+/// Whether a case holds. The only error is `DecodeError::OutOfMemory`.
 pub fn coder_holds<A: Allocator + Clone>(alloc: &A, case: &CoderCase) -> Result<bool> {
     match case {
         CoderCase::Readings { bytes, readings } => {
@@ -69,7 +69,7 @@ pub fn coder_holds<A: Allocator + Clone>(alloc: &A, case: &CoderCase) -> Result<
     }
 }
 
-/// These bits, eight to a byte, in context 0.
+/// These bits, eight for each byte, in context 0.
 fn list_of<A: Allocator + Clone>(alloc: &A, decisions: &[u8]) -> Result<Vec<(u16, bool), A>> {
     let mut list = Vec::new(alloc.clone()?);
     for byte in decisions {
@@ -80,7 +80,7 @@ fn list_of<A: Allocator + Clone>(alloc: &A, decisions: &[u8]) -> Result<Vec<(u16
     Ok(list)
 }
 
-/// Whether `encode_list` of a list gives the bytes that a text spells.
+/// Whether `encode_list` of a list gives the bytes in this text.
 fn is_encoded_as<A: Allocator + Clone>(
     alloc: &A,
     list: &[(u16, bool)],
@@ -93,8 +93,8 @@ fn is_encoded_as<A: Allocator + Clone>(
     Ok(encoded.as_slice() == bytes.as_slice())
 }
 
-/// Whether `decode_list` reads a list back from what `encode_list` makes of it. Returns
-/// `DecodeError::OutOfMemory` alone.
+/// Whether `decode_list` reads a list back from the bytes that `encode_list` gives. The only error
+/// is `DecodeError::OutOfMemory`.
 pub fn is_read_back<A: Allocator + Clone>(alloc: &A, list: &[(u16, bool)]) -> Result<bool> {
     let bytes = encode_list(alloc.clone()?, list)?;
     list_is_read::<A, Brand>(alloc, Blank::new(6), &bytes, list)

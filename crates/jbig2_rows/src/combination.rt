@@ -1,4 +1,4 @@
-//! Rows of combined bitmaps.
+//! Cases of combined bitmaps.
 ghost use Rattle.std.specs.Prelude.{◌≡◌};
 
 use hayro_jbig2::Result;
@@ -10,8 +10,7 @@ use std::alloc::Allocator;
 use std::marker::Brand;
 use std::sync::ledger::{Blank, Ledger};
 
-/// Whether a white bitmap of 8 by 8 stays white where a black one of 8 by 8 is combined with it by Or at this
-/// place.
+/// Whether a white bitmap of 8 by 8 stays white after a black one of 8 by 8 is combined with it by Or at this place.
 pub fn stays_white<A: Allocator + Clone>(alloc: &A, x: i32, y: i32) -> Result<bool> {
     let mut page = Bitmap::new(alloc.clone()?, 8, 8)?;
     let black = Bitmap::new_with(alloc.clone()?, 8, 8, true)?;

@@ -1,4 +1,4 @@
-//! What comes of drawing a page.
+//! Checks the result of drawing a page.
 use crate::call::{Call, WHITE};
 use crate::case::{Answer, refused_as};
 use crate::salvage::salvages;
@@ -13,7 +13,8 @@ use std::alloc::Allocator;
 /// Row 5's page.
 const WHITE_PAGE: Answer = Answer::Calls(WHITE);
 
-/// Whether row 5's page is drawn white in this context. Returns `DecodeError::OutOfMemory` alone.
+/// Whether row 5's page is drawn white in this context. The only error is
+/// `DecodeError::OutOfMemory`.
 pub fn white_holds<A: Allocator + Clone>(
     alloc: &A,
     context: &mut DecoderContext<A>,
@@ -24,8 +25,7 @@ pub fn white_holds<A: Allocator + Clone>(
     page_holds(alloc, &bytes, true, &WHITE_PAGE, context)
 }
 
-/// Whether an embedded page has this answer. Returns `DecodeError::OutOfMemory` alone, and only where no
-/// call was made.
+/// Whether an embedded page has this result. The only error is `DecodeError::OutOfMemory`, only where no call was made.
 pub fn page_holds<A: Allocator + Clone>(
     alloc: &A,
     bytes: &[u8],
@@ -51,8 +51,8 @@ pub fn page_holds<A: Allocator + Clone>(
     Ok(drawn && salvages(alloc, bytes, answer, context)?)
 }
 
-/// Whether decoding a page has this answer, and each of its calls may be refused. Returns
-/// `DecodeError::OutOfMemory` alone, and only where no call was made.
+/// Whether decoding a page has this result, also where a Decoder refuses any one of its calls. The
+/// only error is `DecodeError::OutOfMemory`, and only where no call was made.
 pub fn drawing_holds<A: Allocator + Clone>(
     page: &Page<'_, A>,
     answer: &Answer,
@@ -79,7 +79,7 @@ pub fn drawing_holds<A: Allocator + Clone>(
     }
 }
 
-/// The error that a call is refused with: another for each of four calls.
+/// The error that this call is refused with: four errors in turn.
 fn refusal_of(call: usize) -> DecodeError {
     match call % 4 {
         0 => DecodeError::Unsupported,
@@ -89,8 +89,8 @@ fn refusal_of(call: usize) -> DecodeError {
     }
 }
 
-/// Whether a Decoder that refuses a call, whichever it is, has taken those before it and is asked no more, and its
-/// own error is returned.
+/// Checks a Decoder that refuses one call, for each call in turn: it has taken the calls before that one, gets no
+/// further call, and its own error is returned.
 fn refusals_hold<A: Allocator + Clone>(
     page: &Page<'_, A>,
     calls: &[Call],

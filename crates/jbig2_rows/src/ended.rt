@@ -31,7 +31,7 @@ impl From<io::Error> for Fault {
     }
 }
 
-/// The status of a run: 0 where all holds, else 1.
+/// The status of a run: 0 where everything holds, else 1.
 pub(crate) fn status_of<E: Write>(outcome: Result<bool, Fault>, err: &mut E) -> u8
     ensures { result ≤ 1 }
 {
@@ -42,7 +42,7 @@ pub(crate) fn status_of<E: Write>(outcome: Result<bool, Fault>, err: &mut E) -> 
     }
 }
 
-/// The status of a run whose words could not be had: memory was refused, or they are no text.
+/// The status of a run that could not get its words: memory ran out, or they are no text.
 pub fn unstarted<E: Write>(refused: bool, usage: &str, err: &mut E) -> u8 {
     if refused {
         return refused_memory(err);
@@ -50,7 +50,7 @@ pub fn unstarted<E: Write>(refused: bool, usage: &str, err: &mut E) -> u8 {
     refused_words(usage, err)
 }
 
-/// The status of a run whose words ask for nothing: its usage goes to standard error.
+/// The status where the words are not those of a run. Writes the usage to standard error.
 pub(crate) fn refused_words<E: Write>(usage: &str, err: &mut E) -> u8
     ensures { result ≡ 2 }
 {

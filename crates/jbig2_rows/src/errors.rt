@@ -1,4 +1,4 @@
-//! The errors that several rows answer.
+//! Errors that several rows expect.
 use hayro_jbig2::{
     DecodeError, FormatError, HuffmanError, OverflowError, ParseError, RegionError, SegmentError,
 };

@@ -9,20 +9,20 @@ use hayro_jbig2::{
 use std::alloc::Allocator;
 use std::io::Cursor;
 
-/// What a page of a file is.
+/// The expected result of a page of a file.
 pub struct FilePage {
     pub number: u32,
     pub dimensions: (u32, u32),
     pub answer: Answer,
 }
 
-/// One thing that has to hold of a file. Bytes are spelled as `spelling::spelled` reads them.
+/// One case of a file. `spelling::spelled` reads its bytes.
 pub enum FileCase {
     /// `File::new` returns this error.
     Refused(Modes, &'static str, DecodeError),
     /// The pages of a file.
     Pages(Modes, &'static str, &'static [FilePage]),
-    /// Each beginning of a file, but for the one of this length, ends too early.
+    /// Each beginning of a file, except the one of this length, ends too early.
     CutOff { bytes: &'static str, but: usize },
     /// `Globals::new` returns this error.
     NoGlobals(&'static str, DecodeError),
@@ -42,7 +42,7 @@ impl FileCase {
     }
 }
 
-/// Whether a case holds. Returns `DecodeError::OutOfMemory` alone.
+/// Whether a case holds. The only error is `DecodeError::OutOfMemory`.
 pub fn file_holds<A: Allocator + Clone>(
     alloc: &A,
     case: &FileCase,
@@ -62,7 +62,7 @@ pub fn file_holds<A: Allocator + Clone>(
     Ok(true)
 }
 
-/// Whether a case holds in one mode. One that speaks of other modes alone does.
+/// Whether a case holds in one mode. A case for other modes only does.
 fn mode_holds<A: Allocator + Clone>(
     alloc: &A,
     case: &FileCase,

@@ -4,14 +4,14 @@ ghost use Rattle.jbig2_rows.specs.Generator.{after, entry_after, list_after};
 
 use std::alloc::{AllocError, Allocator};
 
-/// Numbers below 2^31 that look random, each made from the one before.
+/// Numbers below 2^31 that look random. Each is computed from the one before.
 #[derive(Clone, Copy)]
 pub struct Generator {
     state: u32,
 }
 
 impl Generator {
-    /// A generator at 1.
+    /// A generator with the seed 1.
     pub fn new() -> Generator
         ensures { result.state ≡ 1 }
     {
@@ -28,7 +28,7 @@ impl Generator {
         self.state / 0x1_0000
     }
 
-    /// A decision, and the number of its context.
+    /// A decision, with the number of its context.
     #[tactic(auto, unfolding(crate::specs::Generator::entry_after))]
     fn entry(&mut self) -> (u16, bool)
         ensures state { self.new.state ≡ after (after self.old.state) }

@@ -1,5 +1,5 @@
-//! The worked rows, and lists through the arithmetic coder: what `jbig2-bench` and `jbig2-row`
-//! run against the decoder.
+//! The worked rows, and lists for the arithmetic coder: what `jbig2-bench` and `jbig2-row` check
+//! the decoder with.
 #![tactic(auto)]
 
 pub mod call;

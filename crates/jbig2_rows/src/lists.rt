@@ -4,11 +4,11 @@ use crate::generator::Generator;
 use hayro_jbig2::Result;
 use std::alloc::Allocator;
 
-/// The last list; list N has N entries.
+/// The number of lists. List N has N entries.
 const LISTS: usize = 1000;
 
-/// The first list, of those up to `LISTS`, that is not read back from what the encoder makes of it. Returns
-/// `DecodeError::OutOfMemory` alone.
+/// The first of the lists up to `LISTS` that is not read back from the bytes that the encoder gives. The only error is
+/// `DecodeError::OutOfMemory`.
 pub fn first_that_differs<A: Allocator + Clone>(alloc: &A) -> Result<Option<usize>> {
     let mut generator = Generator::new();
     for count in 1..=LISTS {

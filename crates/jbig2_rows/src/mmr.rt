@@ -12,7 +12,7 @@ use std::alloc::Allocator;
 use std::marker::Brand;
 use std::sync::ledger::{Blank, Ledger};
 
-/// What `mmr::decode` has to make of bytes in these modes.
+/// The expected result of `mmr::decode` in these modes.
 pub struct MmrCase {
     pub modes: Modes,
     /// At most 8.
@@ -22,16 +22,16 @@ pub struct MmrCase {
     pub answer: Result<Decoded>,
 }
 
-/// What comes of MMR data.
+/// The expected result of MMR data.
 #[derive(Clone, Copy)]
 pub struct Decoded {
-    /// How many bytes are used.
+    /// The number of bytes that are used.
     pub used: usize,
-    /// The rows, each as the eight bits of its pixels, the first in the highest, 1 for black.
+    /// The rows, a byte with eight pixels for each, the first in the highest bit, 1 for black.
     pub rows: &'static [u8],
 }
 
-/// Whether a case holds. Returns `DecodeError::OutOfMemory` alone.
+/// Whether a case holds. The only error is `DecodeError::OutOfMemory`.
 pub fn mmr_holds<A: Allocator + Clone>(alloc: &A, case: &MmrCase) -> Result<bool> {
     let Some(bytes) = spelled(alloc, case.bytes)? else {
         return Ok(false);
@@ -46,7 +46,7 @@ pub fn mmr_holds<A: Allocator + Clone>(alloc: &A, case: &MmrCase) -> Result<bool
     Ok(true)
 }
 
-/// Whether the bytes of a case have its answer in one mode.
+/// Whether the bytes of a case have its result in one mode.
 fn data_holds<A: Allocator + Clone, L: Ledger>(
     alloc: &A,
     blank: Blank,

@@ -9,14 +9,13 @@ use hayro_jbig2::{DecodeError, DecoderContext};
 use std::alloc::Allocator;
 use std::io::Write;
 
-/// What standard error gets where the words ask for nothing.
+/// What is written to standard error where the words are not those of a run.
 pub const USAGE: &str = "usage: jbig2-row NAME";
 
-/// Runs the row of a name, and runs it again after a request for memory that was refused: `words` are the
-/// words after the program's name.
+/// Runs the row with this name, and runs it again if memory ran out. `words` are the words after the program's name.
 ///
-/// Returns the status of the process: 0, 1 where the row differs, where there is none of this name, or after a
-/// fault, 2 where there is not one word.
+/// Returns the status of the process: 0; 1 where the row differs, where no row has this name, or after a fault; 2 where
+/// there is not exactly one word.
 pub fn run<A: Allocator + Clone, O: Write, E: Write>(
     alloc: A,
     words: &[&str],
@@ -31,7 +30,7 @@ pub fn run<A: Allocator + Clone, O: Write, E: Write>(
     }
 }
 
-/// Runs the row of a name. Returns whether it holds; false, and nothing printed, where there is none.
+/// Runs the row with this name. Returns whether it holds. Where there is none it returns false and prints nothing.
 fn run_row<A: Allocator + Clone, O: Write>(
     alloc: &A,
     name: &str,

@@ -10,8 +10,8 @@ use jbig2_permit::Permit;
 use std::alloc::Allocator;
 use std::sync::ledger::{Blank, Ledger};
 
-/// The context of column `x` of two patterns of 200 by 1 side by side, each black in its first
-/// column alone (template 0; T.88, Table 27).
+/// The context of column `x` of two patterns of 200 by 1 that lie side by side. Only the first
+/// column of each is black (template 0; T.88, Table 27).
 fn context_of(x: u32) -> u16 {
     match x {
         1 | 201 => 0x01,
@@ -23,8 +23,8 @@ fn context_of(x: u32) -> u16 {
     }
 }
 
-/// Whether two such patterns, as the encoder writes them, are decoded. Returns
-/// `DecodeError::OutOfMemory` alone.
+/// Whether two such patterns are decoded from the bytes that the encoder gives. The only error is
+/// `DecodeError::OutOfMemory`.
 pub fn wide_patterns_hold<A: Allocator + Clone, L: Ledger>(alloc: &A, blank: Blank) -> Result<bool>
     requires name { blank.name ≡ L.name }
     requires parts { blank.parts ≡ L.parts }

@@ -1,4 +1,4 @@
-//! The pieces that rows are put together from.
+//! The pieces of bytes that the rows are made of.
 
 /// Bytes with a name.
 pub struct Piece {
@@ -7,7 +7,7 @@ pub struct Piece {
     pub bytes: &'static str,
 }
 
-/// The pieces. A spelling names them.
+/// The pieces. The texts of cases use their names.
 pub const PIECES: &[Piece] = &[
     // The identification string of a file (T.88, D.4.1).
     Piece {

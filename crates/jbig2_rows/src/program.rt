@@ -12,13 +12,13 @@ use std::alloc::Allocator;
 use std::io;
 use std::io::Write;
 
-/// What standard error gets where the words ask for nothing.
+/// What is written to standard error where the words are not those of a run.
 pub const USAGE: &str = "usage: jbig2-bench [lists]";
 
-/// Runs the program: `words` are the words after its name.
+/// Runs the program. `words` are the words after its name.
 ///
-/// Returns the status of the process: 0, 1 where a row or a list differs or after a fault, 2 where the
-/// words ask for nothing.
+/// Returns the status of the process: 0, 1 where a row or a list differs or after a fault, 2 where the words are not
+/// those of a run.
 pub fn run<A: Allocator + Clone, O: Write, E: Write>(
     alloc: A,
     words: &[&str],
@@ -54,7 +54,7 @@ fn is_lists(word: &str) -> bool
 }
 
 impl Task {
-    /// None where the words ask for nothing.
+    /// `None` where the words are not those of a run.
     fn of_words(words: &[&str]) -> Option<Task>
         ensures { is_some result ≡ is_run (map (λ word. word.now) words.now) }
     {
@@ -98,7 +98,7 @@ fn run_rows<A: Allocator + Clone, O: Write>(alloc: &A, out: &mut O) -> Result<bo
     Ok(all_hold)
 }
 
-/// Encodes the lists and reads them back. Returns whether all are the same again.
+/// Encodes the lists and reads them back. Returns whether each one comes back unchanged.
 fn run_lists<A: Allocator + Clone, O: Write>(alloc: &A, out: &mut O) -> Result<bool, Fault> {
     let differing = first_that_differs(alloc)?;
     print_lists(differing, out)?;

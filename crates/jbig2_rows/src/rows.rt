@@ -13,7 +13,7 @@ pub mod worked;
 
 use crate::case::Row;
 
-/// All rows in the order in which they are run. Each family has a call of its own, so that no
+/// All rows in the order in which they are run. Each family has a function of its own, so that no
 /// proof has to look at all of their bytes at once.
 pub fn families() -> [&'static [Row]; 17] {
     [
@@ -37,7 +37,7 @@ pub fn families() -> [&'static [Row]; 17] {
     ]
 }
 
-/// The row of a name, if there is one.
+/// The row with this name, if there is one.
 pub fn row_named(name: &str) -> Option<&'static Row> {
     for rows in families() {
         let found = row_among(rows, name);

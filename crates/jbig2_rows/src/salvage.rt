@@ -6,9 +6,9 @@ use crate::spelling::spelled;
 use hayro_jbig2::{DecodeError, DecoderContext, File, Globals, Page, PassedOver, Result};
 use std::alloc::Allocator;
 
-/// One thing that has to hold of salvage. Bytes are spelled as `spelling::spelled` reads them.
+/// One case of salvage. `spelling::spelled` reads its bytes.
 pub enum SalvageCase {
-    /// What comes of an embedded page with globals, and what each of them tells.
+    /// The result of an embedded page with globals, and what each of them reports.
     Page {
         globals: &'static str,
         bytes: &'static str,
@@ -21,18 +21,18 @@ pub enum SalvageCase {
         bytes: &'static str,
         pages: &'static [FilePage],
         left_out: &'static [DecodeError],
-        /// What the segments of no page pass over, and what ended the file's list.
+        /// What was passed over of the segments of no page, and what ended the file's list.
         told: Told,
     },
 }
 
-/// What salvage tells of what it left out.
+/// What salvage reports about what it left out.
 pub struct Told {
     /// How many segments were passed over.
     pub passed_over: usize,
     /// The number and the error of the first.
     pub first: Option<(u32, DecodeError)>,
-    /// What ended the list.
+    /// The error that ended the list.
     pub fault: Option<DecodeError>,
 }
 
@@ -43,7 +43,7 @@ pub const NOTHING: Told = Told {
     fault: None,
 };
 
-/// Whether a case holds. Returns `DecodeError::OutOfMemory` alone.
+/// Whether a case holds. The only error is `DecodeError::OutOfMemory`.
 pub fn salvage_holds<A: Allocator + Clone>(
     alloc: &A,
     case: &SalvageCase,
@@ -83,7 +83,7 @@ pub fn salvage_holds<A: Allocator + Clone>(
     }
 }
 
-/// Whether an embedded page has this answer in salvage, where nothing is left out.
+/// Whether an embedded page has this result in salvage, and nothing is left out.
 pub fn salvages<A: Allocator + Clone>(
     alloc: &A,
     bytes: &[u8],

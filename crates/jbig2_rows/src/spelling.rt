@@ -1,15 +1,15 @@
-//! Bytes spelled as text.
+//! Bytes written as text.
 ghost use Rattle.std.specs.Prelude.{◌<◌, IfSome};
 
 use crate::piece::PIECES;
 use hayro_jbig2::Result;
 use std::alloc::Allocator;
 
-/// The bytes that a text spells; None where it spells none.
+/// The bytes that a text means; `None` where it is no such text.
 ///
-/// The text has words between single spaces, and each stands for bytes. `0A1B` is the bytes with
-/// these hexadecimal digits; `00*9` is nine times `00`; `P` is the piece of that name; `P@27=04` is
-/// that piece with other bytes from place 27 on, and `P@11=00000009@27=04` one with two such changes.
+/// The text has words with single spaces between them, and each word means bytes. `0A1B` means the bytes with these
+/// hexadecimal digits; `00*9` means nine times `00`; `P` means the piece of that name; `P@27=04` means that piece with
+/// other bytes from place 27 on, and `P@11=00000009@27=04` the piece with two such changes.
 pub fn spelled<A: Allocator + Clone>(alloc: &A, text: &str) -> Result<Option<Vec<u8, A>>> {
     let mut bytes = Vec::new(alloc.clone()?);
     for word in text.split(' ') {
@@ -20,7 +20,7 @@ pub fn spelled<A: Allocator + Clone>(alloc: &A, text: &str) -> Result<Option<Vec
     Ok(Some(bytes))
 }
 
-/// Appends what one word spells; false where it spells nothing.
+/// Appends the bytes that one word means; false where it is no such word.
 fn push_word<A: Allocator>(bytes: &mut Vec<u8, A>, word: &str) -> Result<bool> {
     let mut parts = word.split('@');
     let Some(name) = parts.next() else {
@@ -43,7 +43,7 @@ fn push_word<A: Allocator>(bytes: &mut Vec<u8, A>, word: &str) -> Result<bool> {
     Ok(true)
 }
 
-/// Appends digits, or as often as is said after a `*`.
+/// Appends digits, as many times as the number after `*` says.
 fn push_plain<A: Allocator>(bytes: &mut Vec<u8, A>, word: &str) -> Result<bool> {
     let (digits, count) = word.split_once('*').unwrap_or((word, "1"));
     let Ok(count) = count.parse::<u32>() else {

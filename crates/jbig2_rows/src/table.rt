@@ -17,15 +17,15 @@ pub enum Source {
     Custom(&'static str),
 }
 
-/// One thing that has to hold of tables. The bits of a reader are those of bytes after the first `from`.
+/// One case of tables. The bits of a reader are those of `bytes` after the first `from` bits.
 pub enum TableCase {
-    /// `decode` by the standard table A.
+    /// `decode` with the standard table A.
     StandardA {
         bytes: &'static str,
         from: u8,
         answer: Result<Option<i32>>,
     },
-    /// `decode` by a table.
+    /// `decode` with a table.
     Decoded {
         source: Source,
         bytes: &'static str,
@@ -37,14 +37,14 @@ pub enum TableCase {
         source: Source,
         error: DecodeError,
     },
-    /// `read_custom` of these bytes leaves the reader at this many bits before their end.
+    /// `read_custom` of these bytes leaves the reader this many bits before their end.
     Left {
         bytes: &'static str,
         bits: u8,
     },
 }
 
-/// Whether a case holds. Returns `DecodeError::OutOfMemory` alone.
+/// Whether a case holds. The only error is `DecodeError::OutOfMemory`.
 pub fn table_holds<A: Allocator + Clone>(alloc: &A, case: &TableCase) -> Result<bool> {
     match case {
         TableCase::StandardA {
@@ -120,7 +120,7 @@ fn decode_holds<A: Allocator + Clone>(
     Ok(pass_over(&mut reader, from) && table.decode(&mut reader) == *answer)
 }
 
-/// Whether there are this many bits, at most 32, to be passed over.
+/// Skips this many bits, at most 32. Returns whether they were there.
 fn pass_over(reader: &mut Reader<'_>, count: u8) -> bool {
     count <= 32 && reader.read_bits(count).is_some()
 }

@@ -4,13 +4,13 @@ ghost use Rattle.std.specs.Prelude.{◌≡◌, ◌+◌, ◌-◌, ◌^◌, ◌<�
 use crate::call::Call;
 use hayro_jbig2::{DecodeError, Decoder, Result};
 
-/// Compares the calls that it takes with the expected ones, as they come. It takes no memory.
+/// Compares the calls that it takes with the expected ones, call by call. It takes no memory.
 #[derive(Drop)]
 pub struct Watcher<'c> {
     awaited: &'c [Call],
     differs: bool,
     has_taken: bool,
-    /// How many calls it takes before it refuses one; None where it refuses none.
+    /// How many calls it takes before it refuses one; `None` where it refuses none.
     patience: Option<usize>,
     /// The error that it refuses calls with.
     refusal: DecodeError,
@@ -100,7 +100,7 @@ impl<'c> Watcher<'c> {
 impl<'c> Decoder for Watcher<'c> {
     ghost use Rattle.jbig2_base.specs.declared.error.DecodeError.{DecodeError};
 
-    // What it keeps in all calls is the error that it refuses with.
+    // The error that it refuses with stays the same in all calls.
     ghost conduct = { record {
       Picture = DecodeError;
       picture = λ watcher. watcher.refusal;

@@ -1,5 +1,5 @@
--- What is counted before and after a call (our own rule; no part of the format): a number for each kind of step, words that
--- are loaded and written, decisions, run tests, groups of lanes and single pixels.
+-- The counts of steps before and after a call (our own rule; no part of the format). There is a number for each kind of
+-- step: loads of words, written words, decisions, run tests, groups of lanes and single pixels.
 use Rattle.std.specs.Prelude.{ℕ, ◌+◌}
 
 pub record Counts : Type 0 where
@@ -13,11 +13,11 @@ pub record Counts : Type 0 where
 abbrev pub no_steps : Counts
 no_steps = record { loads = 0; words = 0; decisions = 0; run_tests = 0; groups = 0; pixels = 0 }
 
-abbrev pub words_written : ℕ → ℕ → Counts → Counts  -- this many words more are written, under this many loads
+abbrev pub words_written : ℕ → ℕ → Counts → Counts  -- adds this many written words and this many loads
 words_written words loads c = record c { loads = c.loads + loads; words = c.words + words }
 
-abbrev pub words_loaded : ℕ → Counts → Counts  -- this many words more are loaded
+abbrev pub words_loaded : ℕ → Counts → Counts  -- adds this many loads
 words_loaded n c = record c { loads = c.loads + n }
 
-abbrev pub words_copied : ℕ → Counts → Counts  -- this many words more are loaded and written
+abbrev pub words_copied : ℕ → Counts → Counts  -- adds this many words that are loaded and written
 words_copied n = words_written n n

@@ -1,5 +1,5 @@
-//! A count of what the kernels do, without a byte at run time. A counter begins with a permit, which kernels can't make.
-//! `Work` is a counter beside the work that may still be taken.
+//! Counts of what the kernels do, without a byte at run time. A counter needs a permit, which kernels can't make.
+//! `Work` is a counter together with the units of work that are left.
 #![tactic(auto)]
 
 pub mod work;
@@ -9,8 +9,8 @@ use jbig2_permit::Permit;
 use std::marker::Model;
 use std::sync::ledger::{Blank, Book, Ledger, Share};
 
-/// How much was done so far: each field of the value is one count, and only the call of its name
-/// adds to it. The counts belong to the ledger `L` and exist for the proofs alone.
+/// The counts so far. Each field of the value is one count, and only the calls below add to it. The
+/// counts belong to the ledger `L` and exist only for the proofs.
 #[derive(Drop)]
 pub struct Steps<L: Ledger> {
     book: Book<L>,
@@ -45,7 +45,7 @@ impl<L: Ledger> Steps<L> {
     ghost use Rattle.std.specs.Prelude.{◌≡◌, ◌+◌};
     ghost use Rattle.jbig2_steps.specs.Counts.{Counts, no_steps, words_copied};
 
-    /// A counter that stands at nothing, for the ledger that `blank` opens.
+    /// A counter with all counts at 0, for the ledger that `blank` opens.
     pub fn new(_permit: Permit, blank: Blank) -> Steps<L>
         requires name { blank.name ≡ L.name }
         requires parts { blank.parts ≡ L.parts }
@@ -69,21 +69,21 @@ impl<L: Ledger> Steps<L> {
         }
     }
 
-    /// One load of up to 64 neighbouring pixels of a row.
+    /// Counts one load of up to 64 neighbouring pixels of a row.
     pub fn load(&mut self)
         ensures { self.new ≡ record self.old { loads = self.old.loads + 1 } }
     {
         self.book.add(&mut self.loads, 1);
     }
 
-    /// One word written.
+    /// Counts one written word.
     pub fn word(&mut self)
         ensures { self.new ≡ record self.old { words = self.old.words + 1 } }
     {
         self.book.add(&mut self.words, 1);
     }
 
-    /// This many words loaded and written.
+    /// Counts this many words as loaded and written.
     pub fn copy(&mut self, words: u64)
         ensures { self.new ≡ words_copied words self.old }
     {
@@ -91,28 +91,28 @@ impl<L: Ledger> Steps<L> {
         self.book.add(&mut self.words, words);
     }
 
-    /// One decision of the arithmetic coder.
+    /// Counts one decision of the arithmetic coder.
     pub fn decision(&mut self)
         ensures { self.new ≡ record self.old { decisions = self.old.decisions + 1 } }
     {
         self.book.add(&mut self.decisions, 1);
     }
 
-    /// One test for a run of likely symbols.
+    /// Counts one test for a run of likely symbols.
     pub fn run_test(&mut self)
         ensures { self.new ≡ record self.old { run_tests = self.old.run_tests + 1 } }
     {
         self.book.add(&mut self.run_tests, 1);
     }
 
-    /// One group of eight lanes.
+    /// Counts one group of eight lanes.
     pub fn group(&mut self)
         ensures { self.new ≡ record self.old { groups = self.old.groups + 1 } }
     {
         self.book.add(&mut self.groups, 1);
     }
 
-    /// One pixel beside the lanes.
+    /// Counts one pixel outside the lanes.
     pub fn pixel(&mut self)
         ensures { self.new ≡ record self.old { pixels = self.old.pixels + 1 } }
     {

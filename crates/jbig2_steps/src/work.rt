@@ -1,4 +1,4 @@
-//! The work that may still be taken, beside the counts that it pays for.
+//! The units of work that are left, with the counts that they pay for.
 ghost use Rattle.std.specs.Prelude.{◌≡◌, ◌+◌, ◌*◌, ◌≤◌, IfOk, OnErr};
 ghost use Rattle.jbig2_steps.specs.Counts.{no_steps};
 ghost use Rattle.jbig2_steps.specs.Work.{price_of_bitmap, worth};
@@ -8,18 +8,18 @@ use jbig2_permit::Permit;
 use std::alloc::AllocError;
 use std::sync::ledger::{Blank, Ledger};
 
-/// How much was done so far, and how many units of work may still be taken. Kernels are handed the counts alone, so
-/// they take no unit. A lack of units refuses as a lack of memory does.
+/// The counts so far, and how many units of work are left. Kernels get only the counts, so they take no unit. A
+/// call without enough units is refused like a call without enough memory.
 #[derive(Drop)]
 pub struct Work<L: Ledger> {
-    /// What was counted so far.
+    /// The counts so far.
     pub steps: Steps<L>,
     /// How many units are left: 0 after a refusal.
     pub left: u64,
 }
 
-/// The units of a bitmap of this size: its pixels, rounded up to words of 64 columns, of which each row has one at
-/// least, and 64 more.
+/// The units for a bitmap of this size: its pixels, with each row rounded up to words of 64 columns, at least one,
+/// and 64 more.
 pub fn price_of_bitmap(width: u32, height: u32) -> u64
     ensures { result ≡ price_of_bitmap width height }
 {
@@ -28,7 +28,7 @@ pub fn price_of_bitmap(width: u32, height: u32) -> u64
 }
 
 impl<L: Ledger> Work<L> {
-    /// Nothing is counted yet, for the ledger that `blank` opens, and as many units are left as there can be.
+    /// All counts are 0, for the ledger that `blank` opens, and `u64::MAX` units are left.
     pub fn new(permit: Permit, blank: Blank) -> Work<L>
         requires name { blank.name ≡ L.name }
         requires parts { blank.parts ≡ L.parts }
@@ -38,7 +38,7 @@ impl<L: Ledger> Work<L> {
         Work::within(permit, blank, u64::MAX)
     }
 
-    /// Nothing is counted yet, for the ledger that `blank` opens, and `units` of work are left.
+    /// All counts are 0, for the ledger that `blank` opens, and `units` of work are left.
     pub fn within(permit: Permit, blank: Blank, units: u64) -> Work<L>
         requires name { blank.name ≡ L.name }
         requires parts { blank.parts ≡ L.parts }
@@ -53,7 +53,7 @@ impl<L: Ledger> Work<L> {
         }
     }
 
-    /// Leaves no unit, since more are asked for than are left.
+    /// Leaves no unit, because a call asks for more than are left.
     fn refuse(&mut self) -> AllocError
         ensures steps { self.new.steps ≡ self.old.steps }
         ensures none_left { self.new.left ≡ 0 }
@@ -63,8 +63,8 @@ impl<L: Ledger> Work<L> {
         AllocError
     }
 
-    /// Takes `units` of work before it is done. Where so many aren't left, none is left from then on, and the work is
-    /// refused as memory is.
+    /// Takes `units` of work before the work is done. If fewer are left, none is left from then on, and the call is
+    /// refused as if memory had run out.
     pub fn pay(&mut self, units: u64) -> Result<(), AllocError>
         ensures steps { self.new.steps ≡ self.old.steps }
         ensures left { IfOk result (λ _. self.new.left + units ≡ self.old.left) }
@@ -81,7 +81,7 @@ impl<L: Ledger> Work<L> {
         }
     }
 
-    /// Takes the work of a bitmap of this size before it is begun.
+    /// Takes the units for a bitmap of this size, before the work on it.
     pub fn pay_bitmap(&mut self, width: u32, height: u32) -> Result<(), AllocError>
         ensures steps { self.new.steps ≡ self.old.steps }
         ensures none_left { OnErr result (self.new.left ≡ 0) }
@@ -93,7 +93,7 @@ impl<L: Ledger> Work<L> {
         self.pay(price_of_bitmap(width, height))
     }
 
-    /// Takes the work of `count` bitmaps of this size before they are begun.
+    /// Takes the units for `count` bitmaps of this size, before the work on them.
     pub fn pay_bitmaps(&mut self, count: u64, width: u32, height: u32) -> Result<(), AllocError>
         ensures steps { self.new.steps ≡ self.old.steps }
         ensures none_left { OnErr result (self.new.left ≡ 0) }

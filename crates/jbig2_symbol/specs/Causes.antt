@@ -1,23 +1,49 @@
--- Which rule is broken where a symbol dictionary is refused (T.88, 6.5 and 7.4.2; docs/FORMAT.md, 11), a line an error.
--- The function that refuses cites its predicate `Breaks..`. An error that a reading gave stands as that reading's own (`IsOf`).
-use Rattle.std.specs.{Prelude.{◌≡◌, ◌≢◌, ◌⊎◌, ◌<◌, ◌≤◌, ℕ, ◌+◌, ◌-◌, ◌*◌, ◌/◌, ◌%◌, ◌==◌, max, ◌&&◌, Bool, false, IsTrue, IsFalse, if◌then◌else◌, List, [], ◌∷◌, length, take, Option, Some, None, Result, Ok, ℤ, pos, negsuc, ◌+ℤ◌}, Int.{w16, w32}}
-use Rattle.jbig2_base.specs.{Bits.{Place, aligned, bits_left}, Causes.{BreaksSides, InSteps, IsOf, number_in}, Grid.{Grid, bit_number}, declared.error.{DecodeError.{DecodeError}, OverflowError.TheVariants.{SymbolCount, BitmapDimension}, ParseError.TheVariants.{UnexpectedEof}, RegionError.TheVariants.{InvalidMmrData}, SymbolError.TheVariants.{Invalid, NoSymbols, OutOfRange, TooManySymbols, UnexpectedOob}, TemplateError.TheVariants.{InvalidAtPixel}}}
-use Rattle.jbig2_coder.specs.{PrefixCode.{Member}, declared.integer_procedures.IntegerProcedure.TheVariants.{Iaai}}
+-- Which rule is broken where a symbol dictionary is refused (T.88, 6.5 and 7.4.2; docs/FORMAT.md, 11), one line for
+-- each error. The function that refuses cites its predicate `Breaks..`. `IsOf` is an error that a reading gave.
+use Rattle.std.specs.Prelude.{◌≡◌, ◌≢◌, ◌⊎◌, ◌<◌, ◌≤◌, ℕ, ◌+◌, ◌-◌, ◌*◌, ◌/◌, ◌%◌, ◌==◌, max, ◌&&◌, Bool, false, IsTrue}
+use Rattle.std.specs.Prelude.{IsFalse, if◌then◌else◌, List, [], ◌∷◌, length, take, Option, Some, None, Result, Ok, ℤ}
+use Rattle.std.specs.Prelude.{pos, negsuc, ◌+ℤ◌}
+use Rattle.std.specs.Int.{w16, w32}
+use Rattle.jbig2_base.specs.Bits.{Place, aligned, bits_left}
+use Rattle.jbig2_base.specs.Causes.{BreaksSides, InSteps, IsOf, number_in}
+use Rattle.jbig2_base.specs.Grid.{Grid, bit_number}
+use Rattle.jbig2_base.specs.declared.error.DecodeError.{DecodeError}
+use Rattle.jbig2_base.specs.declared.error.OverflowError.TheVariants.{SymbolCount, BitmapDimension}
+use Rattle.jbig2_base.specs.declared.error.ParseError.TheVariants.{UnexpectedEof}
+use Rattle.jbig2_base.specs.declared.error.RegionError.TheVariants.{InvalidMmrData}
+use Rattle.jbig2_base.specs.declared.error.SymbolError.TheVariants.{Invalid, NoSymbols, OutOfRange, TooManySymbols}
+use Rattle.jbig2_base.specs.declared.error.SymbolError.TheVariants.{UnexpectedOob}
+use Rattle.jbig2_base.specs.declared.error.TemplateError.TheVariants.{InvalidAtPixel}
+use Rattle.jbig2_coder.specs.PrefixCode.{Member}
+use Rattle.jbig2_coder.specs.declared.integer_procedures.IntegerProcedure.TheVariants.{Iaai}
 use Rattle.jbig2_mmr.specs.Causes.{BreaksMmr}
-use Rattle.jbig2_region.specs.{Causes.{BreaksPixels}, Templates.{adaptive_pixel_count, template_of}}
-use Rattle.jbig2_text.specs.{Causes.{Behind, BreaksInstances, NamesNone, ReadingCauses, RefusesValue, coder_causes, prefix_causes}, Refining.{Refining}, Text.{Readings, TextParams}, TextCoding.{Coded, Prefixed, by_coder, by_prefix_codes, next_id}}
-use Rattle.jbig2_symbol.specs.{Symbols.{export_runs, exported, next_run}, SymbolBitmaps.{aggregate_params, id_bits, instance_count, plain_id, prefixed_at, raw_stride}, SymbolHeader.{SymbolHeader}, SymbolReading.{BitmapContexts, ClassReadings, SymbolInput, SymbolReadings, SymbolState, by_procedure, by_table, is_refinement_template, is_template}, declared.symbol.header.{HuffmanTableSelection.{HuffmanTableSelection, TheVariants.{UserSupplied}}, SymbolDictionaryFlags.{SymbolDictionaryFlags}}}
+use Rattle.jbig2_region.specs.Causes.{BreaksPixels}
+use Rattle.jbig2_region.specs.Templates.{adaptive_pixel_count, template_of}
+use Rattle.jbig2_text.specs.Causes.{Behind, BreaksInstances, NamesNone, ReadingCauses, RefusesValue, coder_causes}
+use Rattle.jbig2_text.specs.Causes.{prefix_causes}
+use Rattle.jbig2_text.specs.Refining.{Refining}
+use Rattle.jbig2_text.specs.Text.{Readings, TextParams}
+use Rattle.jbig2_text.specs.TextCoding.{Coded, Prefixed, by_coder, by_prefix_codes, next_id}
+use Rattle.jbig2_symbol.specs.Symbols.{export_runs, exported, next_run}
+use Rattle.jbig2_symbol.specs.SymbolBitmaps.{aggregate_params, id_bits, instance_count, plain_id, prefixed_at}
+use Rattle.jbig2_symbol.specs.SymbolBitmaps.{raw_stride}
+use Rattle.jbig2_symbol.specs.SymbolHeader.{SymbolHeader}
+use Rattle.jbig2_symbol.specs.SymbolReading.{BitmapContexts, ClassReadings, SymbolInput, SymbolReadings, SymbolState}
+use Rattle.jbig2_symbol.specs.SymbolReading.{by_procedure, by_table, is_refinement_template, is_template}
+use Rattle.jbig2_symbol.specs.declared.symbol.header.HuffmanTableSelection.{HuffmanTableSelection}
+use Rattle.jbig2_symbol.specs.declared.symbol.header.HuffmanTableSelection.TheVariants.{UserSupplied}
+use Rattle.jbig2_symbol.specs.declared.symbol.header.SymbolDictionaryFlags.{SymbolDictionaryFlags}
 use Rattle.jbig2_base.specs.declared.error.DecodeError.TheVariants as errors
 use Rattle.jbig2_base.specs.declared.error.HuffmanError.TheVariants as huffman
 
--- where the numbers of exported and of new symbols stand, after the adaptive pixels of symbols and of refinements
+-- the place of the numbers of exported and of new symbols, after the adaptive pixels of symbols and of refinements
 abbrev pub counts_place : ℕ → ℕ
 counts_place flags =
     2 + (if flags % 2 == 1 then 0 else if flags / 1024 % 4 == 0 then 8 else 2)
     + (if flags / 2 % 2 == 1 && flags / 4096 % 2 == 0 then 4 else 0)
 
--- The header (7.4.2.1) with these flags, its first two bytes, ends with those two numbers, of four bytes each. A table
--- selection of two bits has no meaning at 2.
+-- The header (7.4.2.1). Its first two bytes are these flags, and it ends with those two numbers, of four bytes each.
+-- Where two bits choose a table, 2 has no meaning.
 abbrev pub BreaksSymbolFields : ℕ → List ℕ → DecodeError → Type 0
 BreaksSymbolFields flags bytes (errors.Parse UnexpectedEof) = length bytes < counts_place flags + 8
 BreaksSymbolFields flags bytes (errors.Huffman huffman.InvalidSelection) =
@@ -43,7 +69,7 @@ BreaksTables flags customs (errors.Huffman huffman.MissingTables) =
     + taken_by flags.collective_bitmap_size_table + taken_by flags.aggregate_instance_table
 BreaksTables flags customs _ = ⊥
 
--- another dictionary kept no contexts, or those of other templates (7.4.2.2)
+-- the other dictionary kept no contexts, or contexts of other templates (7.4.2.2)
 abbrev pub BreaksContexts : SymbolDictionaryFlags → Option BitmapContexts → DecodeError → Type 0
 BreaksContexts flags None (errors.Symbol Invalid) = IsTrue flags.bitmap_context_used
 BreaksContexts flags (Some contexts) (errors.Symbol Invalid) =
@@ -59,24 +85,24 @@ BreaksRunValue empty left value (errors.Symbol Invalid) = (value ≡ Some (pos 0
 BreaksRunValue empty left value (errors.Symbol OutOfRange) = (run : ℕ) × (value ≡ Some (pos run)) × (left < run)
 BreaksRunValue empty left value _ = ⊥
 
--- the run after these, each of which was read
+-- the run after these runs, which were read
 abbrev pub BreaksRunBehind : {S : Type 0} → List ℕ → ClassReadings S → SymbolInput → ℕ → ℕ → S → DecodeError → Type 0
 BreaksRunBehind [] r d empty left s e =
     InSteps (r.export_run d s) (IsOf (r.export_run d s) e) (λ value. BreaksRunValue empty left value.0 e)
 BreaksRunBehind {S} (run ∷ runs) r d empty left s e =
     (next : S) × (next_run r d empty left s ≡ Ok (run, next)) × BreaksRunBehind runs r d (empty + bit_number (run == 0)) (left - run) next e
 
--- one of the runs, or the number of the symbols that they export is not the stated one
+-- one of the runs is refused, or they export another number of symbols than the header says
 abbrev pub BreaksExports : {S : Type 0} → ClassReadings S → SymbolInput → List Grid → S → DecodeError → Type 0
 BreaksExports r d grids s e =
     InSteps (export_runs r d (length grids) s) ((before : List ℕ) × BreaksRunBehind before r d 0 (length grids) s e) (λ runs.
     (e ≡ errors.Symbol NoSymbols) × (length (exported runs.0 grids) ≢ d.header.num_exported_symbols))
 
-abbrev pub IsNoSize : ℤ → Type 0  -- a number outside 32 bits
+abbrev pub IsNoSize : ℤ → Type 0  -- a number that isn't an unsigned number of 32 bits
 IsNoSize (pos n) = 4294967296 ≤ n
 IsNoSize (negsuc n) = Unit {0}
 
--- The difference of a width (6.5.7), where `room` more symbols may come, after one of this width and this total.
+-- The difference of a width (6.5.7), after a symbol of this width and total. At most `room` more symbols may come.
 abbrev pub BreaksNextWidth : {S : Type 0} → SymbolReadings S → SymbolInput → ℕ → ℕ → ℕ → S → DecodeError → Type 0
 BreaksNextWidth r d room width total s e =
     InSteps (r.width_difference d s) (IsOf (r.width_difference d s) e) (λ value.
@@ -84,13 +110,13 @@ BreaksNextWidth r d room width total s e =
     ⊎ ((e ≡ errors.Overflow BitmapDimension) × ((difference : ℤ) × (value.0 ≡ Some difference)
     × (IsNoSize (pos width +ℤ difference) ⊎ IsNoSize (pos total +ℤ (pos width +ℤ difference))))))
 
--- how many instances a symbol is put together from (6.5.8.2.1): out of band, or below 1
+-- the number of instances of a symbol (6.5.8.2.1): it is out of band, or below 1
 abbrev pub BreaksCount : Option ℤ → DecodeError → Type 0
 BreaksCount value (errors.Symbol UnexpectedOob) = value ≡ None
 BreaksCount value (errors.Symbol Invalid) = (value ≡ Some (pos 0)) ⊎ ((n : ℕ) × (value ≡ Some (negsuc n)))
 BreaksCount value _ = ⊥
 
--- One instance (6.5.8.2.2): its id, RDX, RDY, its symbol, the size or the bits. Several: the size, or a text region.
+-- One instance (6.5.8.2.2): its id, RDX, RDY, symbol, size or bits are refused. Several: the size or a text region.
 abbrev pub BreaksByInstances : {S : Type 0} → ReadingCauses S → Readings S → (S → Result (ℤ × S) DecodeError) → (S → DecodeError → Type 0) → TextParams → ℕ → ℕ → Refining → S → DecodeError → Type 0
 BreaksByInstances c r alone lacks p width height f s e =
     ((p.count ≡ 1) × (lacks s e
@@ -100,14 +126,14 @@ BreaksByInstances c r alone lacks p width height f s e =
     ((e ≡ errors.Symbol OutOfRange) × NamesNone p.symbols id.0) ⊎ BreaksSides width height e ⊎ c.refined rdy.1 e)))))
     ⊎ ((p.count ≢ 1) × (BreaksSides width height e ⊎ BreaksInstances c r p f s e))
 
--- The number of the instances, or after it the instances; by the arithmetic coder no id is refused.
+-- The number of instances is refused, or then the instances. The arithmetic coder never refuses an id.
 abbrev pub BreaksCodedAggregate : SymbolInput → List Grid → ℕ → ℕ → SymbolState Coded → DecodeError → Type 0
 BreaksCodedAggregate d new width height s e =
     Behind (by_procedure Iaai s) (λ value. BreaksCount value.0 e)
     ⊎ Behind (instance_count (by_procedure Iaai s)) (λ count.
     BreaksByInstances coder_causes by_coder (λ c. Ok (next_id c)) (λ c _. ⊥) (aggregate_params d new count.0) width height count.1.contexts.refining count.1.coding e)
 
--- by prefix codes the only id lacks bits
+-- by prefix codes, where the id of a single instance may lack bits
 abbrev pub BreaksPrefixedAggregate : SymbolInput → List Grid → ℕ → ℕ → SymbolState Place → DecodeError → Type 0
 BreaksPrefixedAggregate d new width height s e =
     RefusesValue d.tables.counts (bits_left s.coding) e
@@ -117,7 +143,7 @@ BreaksPrefixedAggregate d new width height s e =
     let lacks : Prefixed → DecodeError → Type 0 = λ c err. (err ≡ errors.Parse UnexpectedEof) × (length (bits_left c.place) < bits) in
     BreaksByInstances prefix_causes by_prefix_codes (plain_id bits) lacks (aggregate_params d new count.0) width height count.1.contexts.refining (prefixed_at d count.1.coding) e)
 
--- A collective bitmap (6.5.9), after the value of its size; MMR data has to be whole in strict mode alone.
+-- A collective bitmap (6.5.9), after the value of its size. Only strict mode requires MMR data to be complete.
 abbrev pub BreaksSized : Bool → ℕ → ℕ → Option ℤ → List ℕ → DecodeError → Type 0
 BreaksSized strict width height None bytes e = e ≡ errors.Huffman huffman.UnexpectedOob
 BreaksSized strict width height (Some (negsuc n)) bytes e = e ≡ errors.Overflow BitmapDimension
@@ -132,17 +158,17 @@ BreaksCollectiveBitmap d width height s e =
     InSteps (by_table d.tables.sizes s) (IsOf (by_table d.tables.sizes s) e) (λ value.
     BreaksSized d.header.strict width height value.0 (aligned value.1.coding).bytes e)
 
--- A class that is too high for its symbols: its collective bitmap, or else the first symbol that is cut from it.
+-- A class that is too high for its symbols: its collective bitmap is refused, or else the first symbol cut from it.
 abbrev pub BreaksTallClass : SymbolInput → ℕ → ℕ → SymbolState Place → DecodeError → Type 0
 BreaksTallClass d width height s e = BreaksCollectiveBitmap d width height s e ⊎ ((e ≡ errors.Overflow BitmapDimension) × (65535 < height))
 
--- A class of no symbol (6.5.5, step 4), where 2^20 classes before it had none.
+-- A class without symbols (6.5.5, step 4), after 2^20 classes that had none.
 abbrev pub BreaksEmptyClass : ℕ → ℕ → DecodeError → Type 0
 BreaksEmptyClass count empty (errors.Symbol Invalid) = (count ≡ 0) × (1048576 ≤ empty)
 BreaksEmptyClass count empty _ = ⊥
 
--- A height class (6.5.6): the difference of its height is out of band, or leads to a height outside 32 bits; or the
--- symbols of the class are refused.
+-- A height class (6.5.6): the difference of its height is out of band, or the height isn't an unsigned number of 32
+-- bits, or the symbols of the class are refused.
 abbrev pub BreaksHeightClass : {S : Type 0} → ClassReadings S → SymbolInput → ℕ → ℕ → List Grid → S → DecodeError → Type 0
 BreaksHeightClass r d before empty new s e =
     InSteps (r.height_difference d s) (IsOf (r.height_difference d s) e) (λ value.
@@ -151,6 +177,6 @@ BreaksHeightClass r d before empty new s e =
     × (((e ≡ errors.Overflow BitmapDimension) × IsNoSize (pos before +ℤ difference))
     ⊎ ((height : ℕ) × (pos before +ℤ difference ≡ pos height) × IsOf (r.class_of_height d height empty new value.1) e))))
 
--- The codes of the ids are never crowded, so only memory can be missing.
+-- The codes of the ids are never crowded, so only memory can run out.
 abbrev pub BreaksIdCodes : SymbolHeader → ℕ → DecodeError → Type 0
 BreaksIdCodes h symbols e = ⊥

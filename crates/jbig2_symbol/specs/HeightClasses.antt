@@ -1,17 +1,23 @@
--- Height classes of a symbol dictionary (T.88, 6.5.5, step 4): the widths of symbols, symbols that are drawn one by one,
--- and the classes. They go by the readings of a coding, and give the new symbols and the state after them.
-use Rattle.std.specs.Prelude.{ℕ, zero, suc, ◌+◌, ◌-◌, ◌==◌, nat_lt, nat_le, ◌&&◌, if◌then◌else◌, List, [], ◌∷◌, ◌++◌, length, Option, Some, None, Result, Ok, Err, ℤ, pos, negsuc, ◌+ℤ◌}
-use Rattle.jbig2_base.specs.{Answer.{◌>>=◌, refuse_if}, Grid.{Grid, bit_number}, declared.error.{DecodeError.{DecodeError}, OverflowError.TheVariants.{BitmapDimension}, SymbolError.TheVariants.{Invalid, TooManySymbols, UnexpectedOob}}}
+-- Height classes of a symbol dictionary (T.88, 6.5.5, step 4): the widths of symbols, classes whose symbols are drawn
+-- one by one, and all classes. They use the readings of a coding, and give the new symbols and the state after them.
+use Rattle.std.specs.Prelude.{ℕ, zero, suc, ◌+◌, ◌-◌, ◌==◌, nat_lt, nat_le, ◌&&◌, if◌then◌else◌, List, [], ◌∷◌, ◌++◌}
+use Rattle.std.specs.Prelude.{length, Option, Some, None, Result, Ok, Err, ℤ, pos, negsuc, ◌+ℤ◌}
+use Rattle.jbig2_base.specs.Answer.{◌>>=◌, refuse_if}
+use Rattle.jbig2_base.specs.Grid.{Grid, bit_number}
+use Rattle.jbig2_base.specs.declared.error.DecodeError.{DecodeError}
+use Rattle.jbig2_base.specs.declared.error.OverflowError.TheVariants.{BitmapDimension}
+use Rattle.jbig2_base.specs.declared.error.SymbolError.TheVariants.{Invalid, TooManySymbols, UnexpectedOob}
 use Rattle.jbig2_text.specs.TextCoding.{in_band}
 use Rattle.jbig2_symbol.specs.SymbolReading.{ClassReadings, SymbolInput, SymbolReadings}
 use Rattle.jbig2_base.specs.declared.error.DecodeError.TheVariants as errors
 
-abbrev pub size_in_word : ℤ → Result ℕ DecodeError  -- a size, refused outside 32 bits (our own rule)
+abbrev pub size_in_word : ℤ → Result ℕ DecodeError  -- a size below 2^32; others are refused (our own rule)
 size_in_word (pos n) = if nat_lt n 4294967296 then Ok n else Err (errors.Overflow BitmapDimension)
 size_in_word (negsuc n) = Err (errors.Overflow BitmapDimension)
 
--- The next symbol's width (SYMWIDTH) and all widths of its class up to it together (TOTWIDTH), by those of the symbol
--- before it and by its difference (step 4 c); at most `room` more symbols may come. Out of band ends the class.
+-- The next symbol's width (SYMWIDTH), and the sum of the widths in its class so far (TOTWIDTH). They come from the
+-- width and the sum before it and from its difference (step 4 c). At most `room` more symbols may come. Out of band
+-- ends the class.
 abbrev pub width_by : ℕ → ℕ → ℕ → Option ℤ → Result (Option (ℕ × ℕ)) DecodeError
 width_by room width total None = Ok None
 width_by room width total (Some difference) = do
@@ -23,7 +29,7 @@ width_by room width total (Some difference) = do
 unfoldable pub next_width : {S : Type 0} → SymbolReadings S → SymbolInput → ℕ → ℕ → ℕ → S → Result (Option (ℕ × ℕ) × S) DecodeError
 next_width r d room width total s = r.width_difference d s >>= λ value. width_by room width total value.0 >>= λ next. Ok (next, value.1)
 
--- the widths of a class after one of this width and total: the running sums of the differences
+-- the widths of a class after one of this width and total: each is the width before it plus a difference
 unfoldable pub widths_from : {S : Type 0} → SymbolReadings S → SymbolInput → ℕ → ℕ → ℕ → S → Result (List ℕ × S) DecodeError
 widths_from r d zero width total s = next_width r d 0 width total s >>= λ end. Ok ([], end.1)
 widths_from r d (suc room) width total s =
@@ -32,11 +38,11 @@ widths_from r d (suc room) width total s =
       | Some at ↦ widths_from r d room at.0 at.1 next.1 >>= λ others. Ok (at.0 ∷ others.0, others.1)
     ])
 
--- a class without a symbol, refused where 2^20 came before (our own rule)
+-- a class without a symbol is refused if 2^20 empty ones came before (our own rule)
 abbrev pub empty_class : ℕ → ℕ → Result (Unit {0}) DecodeError
 empty_class symbols empty = refuse_if (symbols == 0 && nat_le 1048576 empty) (errors.Symbol Invalid)
 
--- the symbols of a class after these new ones and one of this width and total, each with its own bitmap
+-- the symbols of a class after these new ones and after one of this width and total; each has its own bitmap
 unfoldable pub symbols_from : {S : Type 0} → SymbolReadings S → SymbolInput → ℕ → ℕ → ℕ → ℕ → List Grid → S → Result (List Grid × S) DecodeError
 symbols_from r d zero height width total new s = next_width r d 0 width total s >>= λ end. Ok ([], end.1)
 symbols_from r d (suc room) height width total new s =
@@ -47,14 +53,14 @@ symbols_from r d (suc room) height width total new s =
           symbols_from r d room height at.0 at.1 (new ++ symbol.0 ∷ []) symbol.1 >>= λ others. Ok (symbol.0 ∷ others.0, others.1)
     ])
 
--- a class of such symbols, after these new ones and this many classes that had none
+-- a class of such symbols, after these new ones and this many empty classes
 unfoldable pub drawn_class : {S : Type 0} → SymbolReadings S → SymbolInput → ℕ → ℕ → List Grid → S → Result (List Grid × S) DecodeError
 drawn_class r d height empty new s = do
   symbols ← symbols_from r d (d.header.num_new_symbols - length new) height 0 0 new s
   few ← empty_class (length symbols.0) empty
   Ok symbols
 
--- the height class after one of this height: its own height (HCHEIGHT) and its symbols, all of that height
+-- the height class after one of this height: its own height (HCHEIGHT), and its symbols, which all have that height
 unfoldable pub height_class : {S : Type 0} → ClassReadings S → SymbolInput → ℕ → ℕ → List Grid → S → Result (ℕ × List Grid × S) DecodeError
 height_class r d before empty new s = do
   value ← r.height_difference d s
@@ -63,8 +69,8 @@ height_class r d before empty new s = do
   class ← r.class_of_height d height empty new value.1
   Ok (height, class.0, class.1)
 
--- The symbols of the classes after one of this height, until all are there. Each has a symbol or is one of the 2^20 that
--- may be empty, so n of them are enough where n is at least the number of the symbols and the empty classes to come.
+-- The symbols of the classes after one of this height, until there are enough. Each class has a symbol or is one of the
+-- 2^20 that may be empty. So n classes are enough if n is at least the number of symbols and empty classes to come.
 unfoldable pub classes_from : {S : Type 0} → ClassReadings S → SymbolInput → ℕ → ℕ → ℕ → List Grid → S → Result (List Grid × S) DecodeError
 classes_from r d zero before empty new s = Ok ([], s)
 classes_from r d (suc n) before empty new s =

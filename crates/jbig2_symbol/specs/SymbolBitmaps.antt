@@ -1,15 +1,38 @@
--- The bitmaps of a dictionary's symbols (T.88, 6.5.8 and 6.5.9): generic regions of their own, symbols refined or put
--- together by the readings of text regions, or parts of a collective bitmap. Each goes on with the dictionary's state.
-use Rattle.std.specs.Prelude.{ℕ, suc, ◌+◌, ◌==◌, max, true, false, ◌&&◌, if◌then◌else◌, List, ◌++◌, length, Option, Some, None, Result, Ok, Err, ℤ, pos, ◌-◌, ◌*◌, ◌/◌, ◌%◌, nat_lt, Bool, ◌||◌, [], ◌∷◌, slice_index_or}
-use Rattle.jbig2_base.specs.{Answer.{◌>>=◌, refuse_if}, Bits.{Place, aligned, start_of, bit}, Fields.{end_of_bytes, bytes_at}, Grid.{Grid, blank, grid_of, part_or_overflow, wide_or_overflow}, Search.{code_length}, declared.{bitmap.operator.CombinationOperator.TheVariants.{Or}, error.{DecodeError.{DecodeError, TheVariants.{Symbol, Huffman, Overflow}}, SymbolError.TheVariants.{Invalid, UnexpectedOob}, OverflowError.TheVariants.{BitmapDimension}}}}
-use Rattle.jbig2_coder.specs.{PrefixCode.{Member, table_of}, Tables.{uniform}, declared.integer_procedures.IntegerProcedure.TheVariants.{Iaai}}
+-- The bitmaps of a dictionary's symbols (T.88, 6.5.8 and 6.5.9): generic regions of their own, symbols refined or
+-- aggregated with the readings of text regions, or parts of a collective bitmap. Each continues the dictionary's state.
+use Rattle.std.specs.Prelude.{ℕ, suc, ◌+◌, ◌==◌, max, true, false, ◌&&◌, if◌then◌else◌, List, ◌++◌, length, Option}
+use Rattle.std.specs.Prelude.{Some, None, Result, Ok, Err, ℤ, pos, ◌-◌, ◌*◌, ◌/◌, ◌%◌, nat_lt, Bool, ◌||◌, [], ◌∷◌}
+use Rattle.std.specs.Prelude.{slice_index_or}
+use Rattle.jbig2_base.specs.Answer.{◌>>=◌, refuse_if}
+use Rattle.jbig2_base.specs.Bits.{Place, aligned, start_of, bit}
+use Rattle.jbig2_base.specs.Fields.{end_of_bytes, bytes_at}
+use Rattle.jbig2_base.specs.Grid.{Grid, blank, grid_of, part_or_overflow, wide_or_overflow}
+use Rattle.jbig2_base.specs.Search.{code_length}
+use Rattle.jbig2_base.specs.declared.bitmap.operator.CombinationOperator.TheVariants.{Or}
+use Rattle.jbig2_base.specs.declared.error.DecodeError.{DecodeError}
+use Rattle.jbig2_base.specs.declared.error.DecodeError.TheVariants.{Symbol, Huffman, Overflow}
+use Rattle.jbig2_base.specs.declared.error.SymbolError.TheVariants.{Invalid, UnexpectedOob}
+use Rattle.jbig2_base.specs.declared.error.OverflowError.TheVariants.{BitmapDimension}
+use Rattle.jbig2_coder.specs.PrefixCode.{Member, table_of}
+use Rattle.jbig2_coder.specs.Tables.{uniform}
+use Rattle.jbig2_coder.specs.declared.integer_procedures.IntegerProcedure.TheVariants.{Iaai}
 use Rattle.jbig2_mmr.specs.T6.{mmr_rows}
-use Rattle.jbig2_region.specs.{Generic.{coding_of}, Raster.{so_far, decoded_region, no_pixels}, Templates.{template_pixels}}
-use Rattle.jbig2_text.specs.{Refining.{Refining}, Text.{Readings, TextParams, some_symbol, symbol_of, text_region}, TextCoding.{Coded, Prefixed, by_coder, by_prefix_codes, next_id, prefixed_bits, in_band}, TextRegion.{aggregate_tables}, declared.text.header.{ReferenceCorner.TheVariants.{TopLeft}, TextRegionFlags.{TextRegionFlags}}}
-use Rattle.jbig2_symbol.specs.{SymbolHeader.{SymbolHeader}, SymbolReading.{SymbolContexts, SymbolInput, SymbolState, by_procedure, by_table, not_negative}, declared.symbol.header.SymbolDictionaryFlags.{SymbolDictionaryFlags}}
+use Rattle.jbig2_region.specs.Generic.{coding_of}
+use Rattle.jbig2_region.specs.Raster.{so_far, decoded_region, no_pixels}
+use Rattle.jbig2_region.specs.Templates.{template_pixels}
+use Rattle.jbig2_text.specs.Refining.{Refining}
+use Rattle.jbig2_text.specs.Text.{Readings, TextParams, some_symbol, symbol_of, text_region}
+use Rattle.jbig2_text.specs.TextCoding.{Coded, Prefixed, by_coder, by_prefix_codes, next_id, prefixed_bits, in_band}
+use Rattle.jbig2_text.specs.TextRegion.{aggregate_tables}
+use Rattle.jbig2_text.specs.declared.text.header.ReferenceCorner.TheVariants.{TopLeft}
+use Rattle.jbig2_text.specs.declared.text.header.TextRegionFlags.{TextRegionFlags}
+use Rattle.jbig2_symbol.specs.SymbolHeader.{SymbolHeader}
+use Rattle.jbig2_symbol.specs.SymbolReading.{SymbolContexts, SymbolInput, SymbolState, by_procedure, by_table}
+use Rattle.jbig2_symbol.specs.SymbolReading.{not_negative}
+use Rattle.jbig2_symbol.specs.declared.symbol.header.SymbolDictionaryFlags.{SymbolDictionaryFlags}
 use Rattle.jbig2_base.specs.declared.error.HuffmanError.TheVariants as huffman
 
--- neither side of a symbol may pass 65535 (our own rule)
+-- no side of a symbol may be above 65535 (our own rule)
 abbrev pub fits_symbol : ℕ → ℕ → Result (Unit {0}) DecodeError
 fits_symbol w h = refuse_if (nat_lt 65535 w || nat_lt 65535 h) (Overflow BitmapDimension)
 
@@ -24,20 +47,20 @@ coded_symbol h width height s =
     let contexts : SymbolContexts = record s.contexts { generic = region.contexts } in
     fits_symbol width height >>= λ fits. Ok (so_far width height region.pixels, record { coding = coded; contexts = contexts })
 
--- The bits of an id (SBSYMCODELEN) tell all symbols apart: those referred to and all new ones, also those to come.
+-- The number of bits of an id (SBSYMCODELEN), enough for all symbols: those referred to and all new ones, also to come.
 abbrev pub id_bits : SymbolHeader → ℕ → ℕ
 id_bits h symbols = code_length (symbols + h.num_new_symbols)
 
-abbrev pub state_bits : SymbolHeader → ℕ → ℕ  -- those that a dictionary's coder reads; without bit 1 there are none
+abbrev pub state_bits : SymbolHeader → ℕ → ℕ  -- the bits that a dictionary's coder reads; 0 without SDREFAGG
 state_bits h symbols = if h.flags.use_refagg then id_bits h symbols else 0
 
--- their codes (SBSYMCODES) are all as long, with one bit at least; there are some with prefix codes alone
+-- the codes of the ids (SBSYMCODES) all have the same length, at least one bit; there are some only with prefix codes
 abbrev pub id_codes : SymbolHeader → ℕ → Result (List Member) DecodeError
 id_codes h symbols =
     let count = if h.flags.use_huffman && h.flags.use_refagg then symbols + h.num_new_symbols else 0 in
     table_of (uniform count (max 1 (id_bits h symbols)))
 
-abbrev pub some_instances : Option ℤ → Result ℕ DecodeError  -- the number of instances (6.5.8.2.1), one at least
+abbrev pub some_instances : Option ℤ → Result ℕ DecodeError  -- the number of instances (6.5.8.2.1), at least one
 some_instances None = Err (Symbol UnexpectedOob)
 some_instances (Some (pos (suc n))) = Ok (suc n)
 some_instances (Some _) = Err (Symbol Invalid)
@@ -45,7 +68,7 @@ some_instances (Some _) = Err (Symbol Invalid)
 unfoldable pub instance_count : {S : Type 0} → Result (Option ℤ × S) DecodeError → Result (ℕ × S) DecodeError
 instance_count reading = reading >>= λ value. some_instances value.0 >>= λ count. Ok (count, value.1)
 
--- One instance (6.5.8.2.2): the symbol of the id, refined; RDX and RDY say where it lies.
+-- One instance (6.5.8.2.2): the symbol of the id, refined. RDX and RDY are the offset of the reference.
 unfoldable pub refined_alone : {S : Type 0} → Readings S → List Grid → ℤ → ℕ → ℕ → Refining → S → Result (Grid × Refining × S) DecodeError
 refined_alone r symbols id width height f s = do
   rdx ← r.x_delta s
@@ -67,7 +90,7 @@ aggregate_flags flags = record {
   refinement_template = flags.refinement_template;
 }
 
--- this many of the symbols that are there; there may be 32 for each byte of the dictionary's coded data (our own rule)
+-- this many instances of the symbols so far; at most 32 for each byte of the dictionary's coded data (our own rule)
 abbrev pub aggregate_params : SymbolInput → List Grid → ℕ → TextParams
 aggregate_params d new count = record {
   flags = aggregate_flags d.header.flags;
@@ -80,7 +103,7 @@ aggregate_params d new count = record {
 unfoldable pub put_together : {S : Type 0} → Readings S → TextParams → ℕ → ℕ → Refining → S → Result (Grid × Refining × S) DecodeError
 put_together r p width height f s = fits_symbol width height >>= λ fits. text_region r p (blank width height false) f s
 
--- `alone` reads the id of an instance that is the only one.
+-- `alone` reads the id where there is only one instance.
 abbrev pub by_instances : {S : Type 0} → Readings S → (S → Result (ℤ × S) DecodeError) → TextParams → ℕ → ℕ → Refining → S → Result (Grid × Refining × S) DecodeError
 by_instances r alone p width height f s =
     if p.count == 1 then (alone s >>= λ id. refined_alone r p.symbols id.0 width height f id.1)
@@ -96,7 +119,7 @@ unfoldable pub coded_aggregate : SymbolInput → List Grid → ℕ → ℕ → S
 coded_aggregate d new width height s =
     instance_count (by_procedure Iaai s) >>= λ count. coded_instances (aggregate_params d new count.0) width height count.1
 
--- by prefix codes: the id of the only instance is plain bits, and no code
+-- by prefix codes: the id of a single instance is plain bits, not a code
 abbrev pub plain_id : ℕ → Prefixed → Result (ℤ × Prefixed) DecodeError
 plain_id bits s = prefixed_bits end_of_bytes bits s >>= λ id. Ok (pos id.0, id.1)
 
@@ -108,12 +131,12 @@ prefixed_instances d p width height s = do
   symbol ← by_instances by_prefix_codes (plain_id (max 1 (id_bits d.header (length d.symbols)))) p width height s.contexts.refining (prefixed_at d s.coding)
   Ok (symbol.0, record { coding = symbol.2.place; contexts = record s.contexts { refining = symbol.1 } })
 
--- Such a symbol; the table that SDHUFFAGGINST names gives the number of its instances.
+-- The same by prefix codes; the table that SDHUFFAGGINST names gives the number of its instances.
 unfoldable pub prefixed_aggregate : SymbolInput → List Grid → ℕ → ℕ → SymbolState Place → Result (Grid × SymbolState Place) DecodeError
 prefixed_aggregate d new width height s =
     instance_count (by_table d.tables.counts s) >>= λ count. prefixed_instances d (aggregate_params d new count.0) width height count.1
 
--- a pixel of rows that are not coded: each begins with a byte, and the high bit of a byte comes first
+-- a pixel of rows that are not coded: each row begins with a byte, and the high bit of a byte comes first
 abbrev pub raw_pixel : List ℕ → ℕ → ℕ → ℕ → Bool
 raw_pixel bytes stride x y = bit (slice_index_or bytes (y * stride + x / 8) 0) (7 - x % 8)
 
@@ -126,7 +149,7 @@ raw_rows width height bytes = do
   rows ← bytes_at (height * raw_stride width) bytes
   Ok (grid_of width height (raw_pixel rows.0 (raw_stride width)), rows.1)
 
--- or MMR data of this many bytes; each with the bytes after it
+-- or MMR data of this many bytes; both give the bytes after them
 unfoldable pub mmr_bytes : Bool → ℕ → ℕ → ℕ → List ℕ → Result (Grid × List ℕ) DecodeError
 mmr_bytes strict size width height bytes = do
   coded ← bytes_at size bytes
@@ -137,7 +160,7 @@ mmr_bytes strict size width height bytes = do
 abbrev pub rows_of_size : Bool → ℕ → ℕ → ℕ → List ℕ → Result (Grid × List ℕ) DecodeError
 rows_of_size strict size width height bytes = if size == 0 then raw_rows width height bytes else mmr_bytes strict size width height bytes
 
--- The collective bitmap (6.5.9): its size, and from the next whole byte on its rows, which are not coded at size 0.
+-- The collective bitmap (6.5.9): its size, and then its rows from the next whole byte on. At size 0 they are not coded.
 unfoldable pub collective_bitmap : SymbolInput → ℕ → ℕ → SymbolState Place → Result (Grid × SymbolState Place) DecodeError
 collective_bitmap d width height s = do
   value ← by_table d.tables.sizes s
@@ -146,11 +169,11 @@ collective_bitmap d width height s = do
   rows ← rows_of_size d.header.strict size width height (aligned value.1.coding).bytes
   Ok (rows.0, record value.1 { coding = start_of rows.1 })
 
--- the columns of a collective bitmap from `from` on
+-- this many columns of a collective bitmap, from column `from` on
 unfoldable pub symbol_cut : Grid → ℕ → ℕ → ℕ → Result Grid DecodeError
 symbol_cut collective from width height = part_or_overflow collective (record { left = from; top = 0; width = width; height = height })
 
--- the symbols of these widths, side by side from column `from` on
+-- the symbols of these widths, which lie side by side from column `from` on
 unfoldable pub symbols_cut : Grid → ℕ → ℕ → List ℕ → Result (List Grid) DecodeError
 symbols_cut collective height from [] = Ok []
 symbols_cut collective height from (width ∷ widths) = do

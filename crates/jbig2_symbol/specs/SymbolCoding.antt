@@ -1,10 +1,17 @@
 -- The two ways in which symbol dictionaries are coded (T.88, 6.5; SDHUFF): by the arithmetic coder with its integer
--- procedures, and by prefix codes. Each begins with the header and the contexts, and has its readings.
+-- procedures, and by prefix codes. Each has a first state, from the header and the contexts, and its readings.
 use Rattle.std.specs.Prelude.{ℕ, ◌-◌, if◌then◌else◌, List, length, sum, Result, Ok}
-use Rattle.jbig2_base.specs.{Bits.{Place, start_of}, Grid.{Grid}, declared.error.DecodeError.{DecodeError}, Answer.{◌>>=◌}}
+use Rattle.jbig2_base.specs.Bits.{Place, start_of}
+use Rattle.jbig2_base.specs.Grid.{Grid}
+use Rattle.jbig2_base.specs.declared.error.DecodeError.{DecodeError}
+use Rattle.jbig2_base.specs.Answer.{◌>>=◌}
 use Rattle.jbig2_coder.specs.declared.integer_procedures.IntegerProcedure.TheVariants.{Iadh, Iadw, Iaex}
 use Rattle.jbig2_text.specs.TextCoding.{Coded, coded_start}
-use Rattle.jbig2_symbol.specs.{HeightClasses.{drawn_class, empty_class, widths_from}, SymbolBitmaps.{coded_aggregate, coded_symbol, collective_bitmap, prefixed_aggregate, state_bits, symbols_cut}, SymbolReading.{BitmapContexts, ClassReadings, SymbolInput, SymbolReadings, SymbolState, begun_contexts, by_procedure, by_table}}
+use Rattle.jbig2_symbol.specs.HeightClasses.{drawn_class, empty_class, widths_from}
+use Rattle.jbig2_symbol.specs.SymbolBitmaps.{coded_aggregate, coded_symbol, collective_bitmap, prefixed_aggregate}
+use Rattle.jbig2_symbol.specs.SymbolBitmaps.{state_bits, symbols_cut}
+use Rattle.jbig2_symbol.specs.SymbolReading.{BitmapContexts, ClassReadings, SymbolInput, SymbolReadings, SymbolState}
+use Rattle.jbig2_symbol.specs.SymbolReading.{begun_contexts, by_procedure, by_table}
 
 -- by the arithmetic coder, at the start of the bytes
 abbrev pub coder_begun : SymbolInput → BitmapContexts → SymbolState Coded
@@ -13,7 +20,7 @@ coder_begun d contexts = record {
   contexts = begun_contexts d.header contexts;
 }
 
--- a symbol's bitmap: refined or put together from the symbols that are there (SDREFAGG), or else coded by itself
+-- a symbol's bitmap: refined or aggregated from the symbols so far (SDREFAGG), or else coded by itself
 unfoldable pub coded_bitmap : SymbolInput → List Grid → ℕ → ℕ → SymbolState Coded → Result (Grid × SymbolState Coded) DecodeError
 coded_bitmap d new width height s =
     if d.header.flags.use_refagg then coded_aggregate d new width height s else coded_symbol d.header width height s
@@ -21,7 +28,7 @@ coded_bitmap d new width height s =
 abbrev pub symbols_by_coder : SymbolReadings (SymbolState Coded)
 symbols_by_coder = record { width_difference = λ d. by_procedure Iadw; symbol_bitmap = coded_bitmap }
 
-abbrev pub classes_by_coder : ClassReadings (SymbolState Coded)  -- symbols are always drawn one by one
+abbrev pub classes_by_coder : ClassReadings (SymbolState Coded)  -- symbols are always decoded one by one
 classes_by_coder = record {
   height_difference = λ d. by_procedure Iadh;
   class_of_height = drawn_class symbols_by_coder;
@@ -32,11 +39,11 @@ classes_by_coder = record {
 abbrev pub prefix_codes_begun : SymbolInput → BitmapContexts → SymbolState Place
 prefix_codes_begun d contexts = record { coding = start_of d.header.bytes; contexts = begun_contexts d.header contexts }
 
--- a symbol that is drawn by itself is refined or put together from the symbols that are there
+-- a symbol that is decoded by itself is refined or aggregated from the symbols so far
 abbrev pub symbols_by_prefix_codes : SymbolReadings (SymbolState Place)
 symbols_by_prefix_codes = record { width_difference = λ d. by_table d.tables.widths; symbol_bitmap = prefixed_aggregate }
 
--- the symbols of a class, cut out of its collective bitmap, which is as wide as they are together (6.5.5, step 4 d)
+-- the symbols of a class, cut out of its collective bitmap, whose width is the sum of theirs (6.5.5, step 4 d)
 unfoldable pub collective_class : SymbolInput → ℕ → ℕ → List Grid → SymbolState Place → Result (List Grid × SymbolState Place) DecodeError
 collective_class d height empty new s = do
   widths ← widths_from symbols_by_prefix_codes d (d.header.num_new_symbols - length new) 0 0 s
@@ -45,7 +52,7 @@ collective_class d height empty new s = do
   symbols ← symbols_cut collective.0 height 0 widths.0
   Ok (symbols, collective.1)
 
--- symbols are drawn one by one where they are refined or put together (SDREFAGG), and else cut
+-- symbols are decoded one by one where they are refined or aggregated (SDREFAGG), and else cut
 abbrev pub classes_by_prefix_codes : ClassReadings (SymbolState Place)
 classes_by_prefix_codes = record {
   height_difference = λ d. by_table d.tables.heights;

@@ -1,16 +1,34 @@
--- What a symbol dictionary is read by (T.88, 6.5 and 7.4.2): its tables of prefix codes, and its contexts. A coding
--- has readings, each from a state to what is read and the state after it; `SymbolCoding` has those of the two
--- codings.
-use Rattle.std.specs.Prelude.{ℕ, Bool, true, false, not, ◌&&◌, if◌then◌else◌, List, Option, Result, Ok, Err, ℤ, pos, negsuc}
-use Rattle.jbig2_base.specs.{Answer.{◌>>=◌, refuse_if, some_or}, Bits.{Place, bits_left, bits_on}, Grid.{Grid}, declared.error.{DecodeError.{DecodeError}, SymbolError.TheVariants.{Invalid}}}
-use Rattle.jbig2_coder.specs.{Coder.{Context}, PrefixCode.{Member, decoded_value, prefix_code}, Tables.{next_custom, standard, lines_a, lines_b, lines_c, lines_d, lines_e}, declared.integer_procedures.IntegerProcedure.{IntegerProcedure}}
-use Rattle.jbig2_region.specs.{Raster.{fresh_contexts}, RefinementTemplates.{refinement_bits}, Templates.{context_bits}, declared.template.{RefinementTemplate.{RefinementTemplate}, Template.{Template, TheVariants.{Template0, Template1, Template2, Template3}}}}
-use Rattle.jbig2_text.specs.{Refining.{Refining}, TextCoding.{Coded, next_integer}}
-use Rattle.jbig2_symbol.specs.{SymbolHeader.{SymbolHeader}, declared.symbol.header.{HuffmanTableSelection.{HuffmanTableSelection, TheVariants.{TableB1, TableB2, TableB3, TableB4, TableB5, UserSupplied}}, SymbolDictionaryFlags.{SymbolDictionaryFlags}}}
+-- What is needed to read a symbol dictionary (T.88, 6.5 and 7.4.2): its tables of prefix codes, and its contexts. A
+-- coding has readings. Each takes a state, and gives what is read and the state after it. `SymbolCoding` has the
+-- readings of the two codings.
+use Rattle.std.specs.Prelude.{ℕ, Bool, true, false, not, ◌&&◌, if◌then◌else◌, List, Option, Result, Ok, Err, ℤ, pos}
+use Rattle.std.specs.Prelude.{negsuc}
+use Rattle.jbig2_base.specs.Answer.{◌>>=◌, refuse_if, some_or}
+use Rattle.jbig2_base.specs.Bits.{Place, bits_left, bits_on}
+use Rattle.jbig2_base.specs.Grid.{Grid}
+use Rattle.jbig2_base.specs.declared.error.DecodeError.{DecodeError}
+use Rattle.jbig2_base.specs.declared.error.SymbolError.TheVariants.{Invalid}
+use Rattle.jbig2_coder.specs.Coder.{Context}
+use Rattle.jbig2_coder.specs.PrefixCode.{Member, decoded_value, prefix_code}
+use Rattle.jbig2_coder.specs.Tables.{next_custom, standard, lines_a, lines_b, lines_c, lines_d, lines_e}
+use Rattle.jbig2_coder.specs.declared.integer_procedures.IntegerProcedure.{IntegerProcedure}
+use Rattle.jbig2_region.specs.Raster.{fresh_contexts}
+use Rattle.jbig2_region.specs.RefinementTemplates.{refinement_bits}
+use Rattle.jbig2_region.specs.Templates.{context_bits}
+use Rattle.jbig2_region.specs.declared.template.RefinementTemplate.{RefinementTemplate}
+use Rattle.jbig2_region.specs.declared.template.Template.{Template}
+use Rattle.jbig2_region.specs.declared.template.Template.TheVariants.{Template0, Template1, Template2, Template3}
+use Rattle.jbig2_text.specs.Refining.{Refining}
+use Rattle.jbig2_text.specs.TextCoding.{Coded, next_integer}
+use Rattle.jbig2_symbol.specs.SymbolHeader.{SymbolHeader}
+use Rattle.jbig2_symbol.specs.declared.symbol.header.HuffmanTableSelection.{HuffmanTableSelection}
+use Rattle.jbig2_symbol.specs.declared.symbol.header.HuffmanTableSelection.TheVariants.{TableB1, TableB2, TableB3}
+use Rattle.jbig2_symbol.specs.declared.symbol.header.HuffmanTableSelection.TheVariants.{TableB4, TableB5, UserSupplied}
+use Rattle.jbig2_symbol.specs.declared.symbol.header.SymbolDictionaryFlags.{SymbolDictionaryFlags}
 use Rattle.jbig2_base.specs.declared.error.DecodeError.TheVariants as errors
 use Rattle.jbig2_region.specs.declared.template.RefinementTemplate.TheVariants as refinements
 
-pub record SymbolTables : Type 0 where  -- the tables of prefix codes of a dictionary, by what they read
+pub record SymbolTables : Type 0 where  -- the tables of prefix codes of a dictionary, named for what they read
   pub heights : List Member
   pub widths : List Member
   pub sizes : List Member
@@ -26,7 +44,8 @@ table_for TableB4 customs = standard (prefix_code lines_d) customs
 table_for TableB5 customs = standard (prefix_code lines_e) customs
 table_for UserSupplied customs = next_custom customs
 
--- Custom tables in this order, and B.1 for the runs (7.4.2.1.6); too few are refused in either coding (our own rule).
+-- The tables take the custom ones in this order; runs use B.1 (7.4.2.1.6). Too few custom tables are refused in either
+-- coding (our own rule).
 unfoldable pub symbol_tables : SymbolDictionaryFlags → List (List Member) → Result SymbolTables DecodeError
 symbol_tables flags customs = do
   heights ← table_for flags.delta_height_table customs
@@ -67,7 +86,8 @@ is_refinement_template refinements.Template0 refinements.Template0 = true
 is_refinement_template refinements.Template1 refinements.Template1 = true
 is_refinement_template _ _ = false
 
--- The contexts at the beginning (7.4.2.2, step 3): fresh, or kept ones, of the same templates (our own rule).
+-- The contexts at the beginning (7.4.2.2, step 3): fresh, or kept by another dictionary. Kept ones must have the same
+-- templates (our own rule).
 unfoldable pub first_contexts : SymbolDictionaryFlags → Option BitmapContexts → Result BitmapContexts DecodeError
 first_contexts flags kept =
     if not flags.bitmap_context_used then Ok (fresh_bitmap_contexts flags)
@@ -75,24 +95,24 @@ first_contexts flags kept =
     let same = is_template c.template flags.template && is_refinement_template c.refinement_template flags.refinement_template in
     refuse_if (not same) (errors.Symbol Invalid) >>= λ _. Ok c)
 
--- What a dictionary is decoded by, besides the state; `ids` are the codes of the ids where symbols are put together.
+-- What is needed to decode a dictionary, besides the state. `ids` are the codes of the ids in aggregate symbols.
 pub record SymbolInput : Type 0 where
   pub header : SymbolHeader
   pub symbols : List Grid
   pub tables : SymbolTables
   pub ids : List Member
 
-pub record SymbolContexts : Type 0 where  -- the contexts of bitmaps and of refinements, as far as they have learned
+pub record SymbolContexts : Type 0 where  -- the contexts of bitmaps and of refinements, as they have learned so far
   pub template : Template
   pub generic : List Context
   pub refining : Refining
 
--- What its reading has come to: the coder with its integers and ids, or the place in the bits; and the contexts.
+-- The state of reading a dictionary: the coder with its integers and ids, or the place in the bits; and the contexts.
 pub record SymbolState (C : Type 0) : Type 0 where
   pub coding : C
   pub contexts : SymbolContexts
 
--- the contexts with which a dictionary begins, and its refinements' adaptive pixels
+-- the contexts at the beginning of a dictionary, and the adaptive pixels of its refinements
 abbrev pub begun_contexts : SymbolHeader → BitmapContexts → SymbolContexts
 begun_contexts h contexts = record {
   template = contexts.template;
@@ -109,25 +129,25 @@ learned c = record {
 }
 
 -- How the symbols of a height class are read one by one: the difference in width, where out of band ends the class
--- (6.5.7), and the bitmap, after these new symbols and of this width and height (6.5.8).
+-- (6.5.7), and the bitmap of this width and height, after these new symbols (6.5.8).
 pub record SymbolReadings (S : Type 0) : Type 0 where
   pub width_difference : SymbolInput → S → Result (Option ℤ × S) DecodeError
   pub symbol_bitmap : SymbolInput → List Grid → ℕ → ℕ → S → Result (Grid × S) DecodeError
 
--- How a dictionary is read: a height class's difference in height (6.5.6); its symbols (6.5.5, step 4), of this height,
--- after this many classes that had none and these new symbols; and a run of symbols that are exported or not (6.5.10).
+-- How a dictionary is read: the difference in height of a class (6.5.6); the symbols of a class of this height, after
+-- this many empty classes and these new symbols (6.5.5, step 4); a run of symbols that are exported or not (6.5.10).
 pub record ClassReadings (S : Type 0) : Type 0 where
   pub height_difference : SymbolInput → S → Result (Option ℤ × S) DecodeError
   pub class_of_height : SymbolInput → ℕ → ℕ → List Grid → S → Result (List Grid × S) DecodeError
   pub export_run : SymbolInput → S → Result (Option ℤ × S) DecodeError
 
--- a value by a table of prefix codes, or out of band
+-- a value with a code of this table, or out of band
 abbrev pub by_table : List Member → SymbolState Place → Result (Option ℤ × SymbolState Place) DecodeError
 by_table table s =
     let reading = decoded_value table (bits_left s.coding) in
     reading.answer >>= λ value. Ok (value, record s { coding = bits_on reading.taken s.coding })
 
--- a value by an integer procedure, or out of band
+-- a value of an integer procedure, or out of band
 abbrev pub by_procedure : IntegerProcedure → SymbolState Coded → Result (Option ℤ × SymbolState Coded) DecodeError
 by_procedure procedure s = let i = next_integer procedure s.coding in Ok (i.0, record s { coding = i.1 })
 

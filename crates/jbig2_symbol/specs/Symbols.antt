@@ -1,20 +1,31 @@
 -- Symbol dictionaries (T.88, 6.5), and the symbols that they export (6.5.10). `symbols_decoded` takes the header with
--- the coded bytes, the symbols and tables that the dictionary refers to and the contexts that another has kept, and
--- gives the exported symbols and the contexts that it keeps itself.
-use Rattle.std.specs.Prelude.{◌++◌, if◌then◌else◌, List, length, Option, Some, None, Result, Ok, ℕ, zero, suc, ◌+◌, ◌-◌, ◌%◌, ◌==◌, nat_le, nat_lt, not, ◌&&◌, [], ◌∷◌}
-use Rattle.jbig2_base.specs.{Answer.{◌>>=◌, refuse_if}, Grid.{Grid, bit_number}, declared.error.{DecodeError.{DecodeError, TheVariants.{Huffman, Symbol}}, HuffmanError.TheVariants.{InvalidCode, UnexpectedOob}, SymbolError.TheVariants.{Invalid, NoSymbols, OutOfRange}}}
+-- the coded bytes, the symbols and tables that the dictionary refers to, and the contexts that another one kept. It
+-- gives the exported symbols and the contexts that the dictionary itself keeps.
+use Rattle.std.specs.Prelude.{◌++◌, if◌then◌else◌, List, length, Option, Some, None, Result, Ok, ℕ, zero, suc, ◌+◌, ◌-◌}
+use Rattle.std.specs.Prelude.{◌%◌, ◌==◌, nat_le, nat_lt, not, ◌&&◌, [], ◌∷◌}
+use Rattle.jbig2_base.specs.Answer.{◌>>=◌, refuse_if}
+use Rattle.jbig2_base.specs.Grid.{Grid, bit_number}
+use Rattle.jbig2_base.specs.declared.error.DecodeError.{DecodeError}
+use Rattle.jbig2_base.specs.declared.error.DecodeError.TheVariants.{Huffman, Symbol}
+use Rattle.jbig2_base.specs.declared.error.HuffmanError.TheVariants.{InvalidCode, UnexpectedOob}
+use Rattle.jbig2_base.specs.declared.error.SymbolError.TheVariants.{Invalid, NoSymbols, OutOfRange}
 use Rattle.jbig2_coder.specs.PrefixCode.{Member}
-use Rattle.jbig2_symbol.specs.{SymbolBitmaps.{id_codes}, HeightClasses.{new_symbols}, SymbolCoding.{classes_by_coder, classes_by_prefix_codes, coder_begun, prefix_codes_begun}, SymbolHeader.{SymbolHeader}, SymbolReading.{BitmapContexts, ClassReadings, SymbolContexts, SymbolInput, SymbolState, first_contexts, learned, symbol_tables, not_negative}}
+use Rattle.jbig2_symbol.specs.SymbolBitmaps.{id_codes}
+use Rattle.jbig2_symbol.specs.HeightClasses.{new_symbols}
+use Rattle.jbig2_symbol.specs.SymbolCoding.{classes_by_coder, classes_by_prefix_codes, coder_begun, prefix_codes_begun}
+use Rattle.jbig2_symbol.specs.SymbolHeader.{SymbolHeader}
+use Rattle.jbig2_symbol.specs.SymbolReading.{BitmapContexts, ClassReadings, SymbolContexts, SymbolInput, SymbolState}
+use Rattle.jbig2_symbol.specs.SymbolReading.{first_contexts, learned, symbol_tables, not_negative}
 use Rattle.jbig2_text.specs.TextCoding.{in_band}
 
--- ---- exports (6.5.10): runs of symbols that are left out and that are exported, by turns, over those that the
--- dictionary refers to and the new ones
--- how many runs end at symbol i or before it, the first beginning at symbol `from`
+-- ---- exports (6.5.10): runs of symbols in turn, left out and exported, over the symbols that the dictionary refers to
+-- and then the new ones
+-- how many runs end at symbol i or before it; the first run begins at symbol `from`
 unfoldable pub ended_runs : ℕ → List ℕ → ℕ → ℕ
 ended_runs from [] i = 0
 ended_runs from (r ∷ runs) i = bit_number (nat_le (from + r) i) + ended_runs (from + r) runs i
 
--- Those of a list, numbered from `from` on, that are exported: runs are by turns of symbols that are not and that are.
+-- The exported symbols of a list that is numbered from `from` on. Runs of symbols left out and exported take turns.
 unfoldable pub exported_from : List ℕ → ℕ → List Grid → List Grid
 exported_from runs from [] = []
 exported_from runs from (g ∷ grids) =
@@ -23,7 +34,8 @@ exported_from runs from (g ∷ grids) =
 abbrev pub exported : List ℕ → List Grid → List Grid
 exported runs grids = exported_from runs 0 grids
 
--- A run, where `left` symbols are not covered yet and `empty` runs of length 0 came before, of 2^20 (our own rule).
+-- A run, where `left` symbols are not covered yet and `empty` runs of length 0 came before. At most 2^20 runs may be
+-- empty (our own rule).
 unfoldable pub next_run : {S : Type 0} → ClassReadings S → SymbolInput → ℕ → ℕ → S → Result (ℕ × S) DecodeError
 next_run r d empty left s = do
   value ← r.export_run d s
@@ -33,8 +45,8 @@ next_run r d empty left s = do
   within ← refuse_if (nat_lt left run) (Symbol OutOfRange)
   Ok (run, value.1)
 
--- The runs, until all symbols are covered. Each covers a symbol or is one of the 2^20 that may be empty, so n of them are
--- enough where n is at least `left` and the empty ones to come.
+-- The runs, until all symbols are covered. Each covers a symbol or is one of the 2^20 that may be empty. So n runs are
+-- enough if n is at least `left` and the empty runs still to come.
 unfoldable pub runs_from : {S : Type 0} → ClassReadings S → SymbolInput → ℕ → ℕ → ℕ → S → Result (List ℕ × S) DecodeError
 runs_from r d zero empty left s = Ok ([], s)
 runs_from r d (suc n) empty left s =
@@ -45,7 +57,7 @@ runs_from r d (suc n) empty left s =
 abbrev pub export_runs : {S : Type 0} → ClassReadings S → SymbolInput → ℕ → S → Result (List ℕ × S) DecodeError
 export_runs r d count s = runs_from r d (count + 1048576) 0 count s
 
--- The exported ones of all symbols that there are; their number is the one that the header states (our own rule).
+-- The exported symbols among all of these. Their number must be the one in the header (our own rule).
 unfoldable pub exports : {S : Type 0} → ClassReadings S → SymbolInput → List Grid → S → Result (List Grid × S) DecodeError
 exports r d grids s = do
   runs ← export_runs r d (length grids) s
@@ -60,20 +72,20 @@ pub record Symbols : Type 0 where  -- a dictionary: the symbols that it exports,
 abbrev pub symbols_exported : {S : Type 0} → ClassReadings S → SymbolInput → S → Result (List Grid × S) DecodeError
 symbols_exported r d s = new_symbols r d s >>= λ new. exports r d (d.symbols ++ new.0) new.1
 
--- with these contexts at the end, which it keeps where the header says so
+-- the dictionary, with the contexts at its end, which it keeps if the header says so
 abbrev pub dictionary_of : SymbolHeader → List Grid → SymbolContexts → Symbols
 dictionary_of h exported contexts = record { exported = exported; kept = (if h.flags.bitmap_context_retained then Some (learned contexts) else None) }
 
 abbrev pub dictionary_by : {C : Type 0} → ClassReadings (SymbolState C) → SymbolInput → SymbolState C → Result Symbols DecodeError
 dictionary_by r d s = symbols_exported r d s >>= λ exported. Ok (dictionary_of d.header exported.0 exported.1.contexts)
 
--- by the coding that the header names (SDHUFF), with these contexts at the beginning
+-- by the coding that the header names (SDHUFF), beginning with these contexts
 abbrev pub dictionary_from : SymbolInput → BitmapContexts → Result Symbols DecodeError
 dictionary_from d contexts =
     if d.header.flags.use_huffman then dictionary_by classes_by_prefix_codes d (prefix_codes_begun d contexts)
     else dictionary_by classes_by_coder d (coder_begun d contexts)
 
--- the whole dictionary; the last one that it refers to has kept the contexts, if any
+-- the whole dictionary; `kept` are the contexts of the last dictionary that it refers to, if that kept any
 unfoldable pub symbols_decoded : SymbolHeader → List Grid → List (List Member) → Option BitmapContexts → Result Symbols DecodeError
 symbols_decoded h symbols referred kept = do
   contexts ← first_contexts h.flags kept

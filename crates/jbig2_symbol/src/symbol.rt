@@ -1,4 +1,4 @@
-//! Symbol dictionaries (T.88, 6.5 and 7.4.2).
+//! Symbol dictionaries (T.88, 6.5 and 7.4.2): decodes the new symbols and gives the exported ones.
 ghost use Rattle.std.specs.Prelude.{◌≡◌, ◌*◌, ◌≤◌, length, map};
 ghost use Rattle.jbig2_base.specs.Answer.{Gives};
 ghost use Rattle.jbig2_steps.specs.Work.{PaidBut};
@@ -82,7 +82,7 @@ fn dictionary_of<A: Allocator>(
     }
 }
 
-/// Decodes a dictionary whose tables and contexts are there.
+/// Decodes a dictionary, with its tables and its first contexts.
 fn decode_with<A: Allocator + Clone, T: Allocator, L: Ledger>(
     alloc: A,
     input: &SymbolInput<'_, A, T>,
@@ -107,10 +107,10 @@ fn decode_with<A: Allocator + Clone, T: Allocator, L: Ledger>(
 }
 
 /// Decodes a symbol dictionary (T.88, 6.5). It refers to these symbols, at most 2^21, to these
-/// custom tables, and to the contexts that another dictionary has kept. The caller has taken the
-/// work of five numbers for each new symbol.
+/// custom tables, and to the contexts that another dictionary kept. The caller has already taken
+/// the work of five numbers for each new symbol.
 ///
-/// The errors of `first_contexts`, then those of `symbol_tables`, `read_new_symbols` and
+/// Returns the errors of `first_contexts`, then those of `symbol_tables`, `read_new_symbols` and
 /// `read_exports`; `OutOfMemory`.
 #[tactic(auto, unfolding(crate::specs::Symbols::symbols_decoded))]
 pub fn decode<A: Allocator + Clone, T: Allocator, K: Allocator, L: Ledger>(

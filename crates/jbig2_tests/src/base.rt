@@ -1,4 +1,4 @@
-//! Bitmaps, and public calls of readers, fields, page information, codes, operators and segment types, each once.
+//! Tests bitmaps, and each public call of readers, fields, page information, codes, operators and segment types.
 mod bitmaps;
 
 use jbig2_base::bitmap::operator::CombinationOperator;

@@ -1,3 +1,3 @@
-//! Prefix codes, and the numbers that the arithmetic coder writes.
+//! Tests prefix codes, and the numbers that the arithmetic coder decodes.
 mod huffman_tables;
 pub mod integers;

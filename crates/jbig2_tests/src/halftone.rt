@@ -1,4 +1,4 @@
-//! Gray planes, and the pattern dictionaries and halftone regions of the example of T.88, H.1.
+//! Tests gray planes, and the patterns and halftone regions of the example of T.88, H.1.
 ghost use Rattle.std.specs.Prelude.{◌≡◌};
 
 mod planes;
@@ -14,7 +14,7 @@ use std::alloc::Global;
 use std::marker::Brand;
 use std::sync::ledger::{Blank, Ledger};
 
-/// A pattern dictionary and a halftone region of it, as a segment's data each.
+/// The data of two segments: a pattern dictionary, and a halftone region that refers to it.
 struct Case {
     patterns: &'static [u8],
     region: &'static [u8],
@@ -50,7 +50,7 @@ const CASES: &[Case] = &[
     },
 ];
 
-/// What both regions show: shades of gray that grow darker to the right and down.
+/// What both regions show: shades of gray that become darker to the right and down.
 const SHADES: Picture = &[
     "......................#...#...#.",
     "......#..##..##..##..##.###.###.",
@@ -90,7 +90,7 @@ const SHADES: Picture = &[
     ".#...#...##..##..##..##..#######",
 ];
 
-/// The patterns of a dictionary's data.
+/// Decodes the patterns in a dictionary's data.
 fn patterns_of<L: Ledger>(
     alloc: Global,
     data: &[u8],
@@ -101,7 +101,7 @@ fn patterns_of<L: Ledger>(
     pattern::decode(alloc, &header, &mut contexts, steps)
 }
 
-/// Whether a region's data shows the shades by these patterns.
+/// Whether a region's data shows the shades with these patterns.
 fn shows_shades<L: Ledger>(
     alloc: Global,
     data: &[u8],
@@ -114,7 +114,7 @@ fn shows_shades<L: Ledger>(
     Ok(shows(&region.bitmap, SHADES, steps))
 }
 
-/// The index of the first case that does not show the shades, or how many there are.
+/// The index of the first case that does not show the shades, or else the number of cases.
 fn first_that_differs<L: Ledger>(alloc: Global, blank: Blank) -> Result<usize>
     requires name { blank.name ≡ L.name }
     requires parts { blank.parts ≡ L.parts }

@@ -1,8 +1,8 @@
-//! The tests of the library crates, a module for each, by their public calls: what no worked row shows, and vectors
-//! from outside.
+//! Tests of the library crates through their public calls, a module for each crate. They test what no worked row shows,
+//! and use test vectors from other sources.
 //!
-//! `rt try --test --fail-alloc N` in this crate's folder runs these tests with the Nth request for memory refused.
-//! At most one is refused in a test's run: what it was refused to is tried again, or the test ends there.
+//! `rt try --test --fail-alloc N` in this crate's folder runs these tests with the Nth request for memory refused. In a
+//! test's run at most one is refused. Then the test tries the call again, or ends there.
 #![tactic(auto)]
 
 #[cfg(test)]

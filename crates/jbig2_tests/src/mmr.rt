@@ -1,4 +1,4 @@
-//! Runs of every length, written from the code tables and read back.
+//! Tests runs of every length: codes them with the code tables and reads them back.
 ghost use Rattle.std.specs.Prelude.{◌≡◌};
 
 use jbig2_base::bitmap::Bitmap;
@@ -10,7 +10,7 @@ use std::alloc::Global;
 use std::marker::Brand;
 use std::sync::ledger::{Blank, Ledger};
 
-/// The code of the horizontal mode (T.6, table 1): the number that its bits spell, and how many there are.
+/// The code of the horizontal mode (T.6, table 1): the number in its bits, and how many bits there are.
 const HORIZONTAL: (u16, u8) = (1, 3);
 
 /// The codes of white runs (T.6, tables 2 and 3): of 0 to 63, and of 64 to 1728 by 64.
@@ -108,7 +108,7 @@ const WHITE_RUNS: [(u16, u8); 91] = [
     (0x9B, 9),
 ];
 
-/// The same of black runs.
+/// The same for black runs.
 const BLACK_RUNS: [(u16, u8); 91] = [
     (0x37, 10),
     (0x2, 3),
@@ -220,10 +220,10 @@ const LONG_RUNS: [(u16, u8); 13] = [
     (0x1F, 12),
 ];
 
-/// The longest run that one code stands for.
+/// The longest run that one code means.
 const LONGEST: u32 = 2560;
 
-/// The code of a run of at most 63, or of one that 64 divides.
+/// The code of a run of at most 63 pixels, or of a multiple of 64.
 fn code_of(black: bool, length: usize) -> Option<&'static (u16, u8)> {
     let codes = if black { &BLACK_RUNS } else { &WHITE_RUNS };
     if length < 64 {
@@ -245,7 +245,7 @@ fn push_code(bits: &mut Vec<bool>, code: Option<&(u16, u8)>) -> Result<()> {
     Ok(())
 }
 
-/// Appends the codes of a run: the longest ones, one for the rest of at least 64, and the one that ends it.
+/// Appends the codes of a run: the longest ones, then one for the rest if it is at least 64, and then the last one.
 fn push_run(bits: &mut Vec<bool>, black: bool, length: u32) -> Result<()> {
     for _ in 0..length / LONGEST {
         push_code(bits, code_of(black, LONGEST as usize))?;
@@ -257,14 +257,14 @@ fn push_run(bits: &mut Vec<bool>, black: bool, length: u32) -> Result<()> {
     push_code(bits, code_of(black, rest % 64))
 }
 
-/// Appends the codes of a row of a white run and a black one.
+/// Appends the codes of a row with a white run and then a black one.
 fn push_row(bits: &mut Vec<bool>, white: u32, black: u32) -> Result<()> {
     push_code(bits, Some(&HORIZONTAL))?;
     push_run(bits, false, white)?;
     push_run(bits, true, black)
 }
 
-/// Eight bits to a byte, the first in the highest, and zeros after the last.
+/// Eight bits for each byte, the first in the highest bit, and zeros after the last.
 fn bytes_of(alloc: Global, bits: &[bool]) -> Result<Vec<u8>> {
     let mut bytes = Vec::new(alloc);
     for group in bits.chunks(8) {
@@ -277,7 +277,7 @@ fn bytes_of(alloc: Global, bits: &[bool]) -> Result<Vec<u8>> {
     Ok(bytes)
 }
 
-/// Rows of two runs, a white one of these lengths and a black one up to the width.
+/// Codes rows of two runs: a white one of each length, and a black one up to the width.
 fn code_rows(alloc: Global, width: u32, whites: &[u32]) -> Result<Vec<u8>> {
     let mut bits = Vec::new(alloc);
     for white in whites {
@@ -286,7 +286,7 @@ fn code_rows(alloc: Global, width: u32, whites: &[u32]) -> Result<Vec<u8>> {
     bytes_of(alloc, &bits)
 }
 
-/// Of the 64 pixels from column `x` on, the first in the highest bit, those from column `first` on.
+/// Of 64 pixels from column `x` on, those from `first` on; the first pixel is the highest bit.
 fn pixels_from(first: u32, x: u32) -> u64 {
     u64::MAX.checked_shr(first.saturating_sub(x)).unwrap_or(0)
 }
@@ -330,7 +330,7 @@ fn are_read_back(alloc: Global, width: u32, whites: &[u32]) -> Result<bool> {
     are_read_as::<Brand>(alloc, Blank::new(6), width, &bytes, whites)
 }
 
-/// The lengths from 0 on up to this one.
+/// The lengths from 0 to this one.
 fn lengths(alloc: Global, last: u32) -> Result<Vec<u32>> {
     let mut lengths = Vec::new(alloc);
     for length in 0..=last {
@@ -339,8 +339,8 @@ fn lengths(alloc: Global, last: u32) -> Result<Vec<u32>> {
     Ok(lengths)
 }
 
-/// Whether rows of every white run from 0 to 5183, and of every black one, are read back, and a white run and a black
-/// one of the greatest width.
+/// Whether rows with every white run from 0 to 5183, and every black one, are read back; and also a white run and a
+/// black one of the greatest width.
 fn runs_hold(alloc: Global) -> Result<bool> {
     let whites = lengths(alloc, 5183)?;
     Ok(are_read_back(alloc, 5183, &whites)? && are_read_back(alloc, 65535, &[65535, 0])?)

@@ -5,7 +5,7 @@ use jbig2_base::error::Result;
 use std::alloc::Global;
 use std::sync::ledger::Ledger;
 
-/// The rows of a bitmap from the top: `#` is black, all else white.
+/// The rows of a bitmap from the top: `#` is black, any other character white.
 pub type Picture = &'static [&'static str];
 
 /// A letter that goes below the line.
@@ -70,7 +70,7 @@ fn shows_row<L: Ledger>(bitmap: &Bitmap<Global>, y: u32, row: &str, steps: &mut 
     true
 }
 
-/// Whether a bitmap shows a picture, with no row or column besides.
+/// Whether a bitmap shows exactly this picture, with no further row or column.
 pub fn shows<L: Ledger>(bitmap: &Bitmap<Global>, picture: Picture, steps: &mut Steps<L>) -> bool {
     if u32::try_from(picture.len()) != Ok(bitmap.height()) {
         return false;

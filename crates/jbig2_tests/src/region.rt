@@ -1,4 +1,4 @@
-//! What every region's header begins with, and the templates; generic regions and refinements.
+//! Tests region information, templates, generic regions and refinements.
 mod generic;
 mod refinement;
 

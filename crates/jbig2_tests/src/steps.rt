@@ -1,4 +1,4 @@
-//! Counts of what kernels do, and units of work that are taken before it is done.
+//! Tests counts of steps, and units of work that are taken before the work is done.
 ghost use Rattle.std.specs.Prelude.{◌≡◌};
 
 use jbig2_permit::Permit;
@@ -7,7 +7,7 @@ use jbig2_steps::{Steps, Work};
 use std::marker::Brand;
 use std::sync::ledger::{Blank, Ledger};
 
-/// Takes a step of each kind. Steps are counted for the proofs alone.
+/// Takes a step of each kind. Steps are counted only in proofs.
 fn each_step<L: Ledger>(blank: Blank)
     requires name { blank.name ≡ L.name }
     requires parts { blank.parts ≡ L.parts }
@@ -23,7 +23,7 @@ fn each_step<L: Ledger>(blank: Blank)
     steps.pixel();
 }
 
-/// The units that are left of this many, after payments that are taken and after one that is refused.
+/// The units that are left of this many, after payments that are accepted and after one that is refused.
 fn units_left<L: Ledger>(blank: Blank, units: u64) -> [u64; 5]
     requires name { blank.name ≡ L.name }
     requires parts { blank.parts ≡ L.parts }
@@ -62,8 +62,8 @@ fn steps_are_counted(rt: HostRuntime) {
     assert!(rt; is_unlimited::<Brand>(Blank::new(6)));
 }
 
-/// By `docs/FORMAT.md`, 12.6: a row of 65 columns costs two words of 64, one of none or one column a word, and each
-/// bitmap 64 units more.
+/// Prices of `docs/FORMAT.md`, 12.6: a row of 65 columns costs two words of 64, a row of none or one column costs one
+/// word, and each bitmap costs 64 units more.
 #[test]
 fn work_is_paid_for(rt: HostRuntime) {
     let prices = [

@@ -1,4 +1,4 @@
-//! Symbol dictionaries: those of the example of T.88, H.1, and others by the encoder of this repository.
+//! Tests symbol dictionaries: those of the example of T.88, H.1, and others from the encoder of this repository.
 ghost use Rattle.std.specs.Prelude.{◌≡◌, ◌≤◌, length};
 
 use crate::pictures::{A, A_AND_C, C, P, Picture, bitmap_of, shows};
@@ -26,7 +26,7 @@ struct Case {
     symbols: &'static [Picture],
 }
 
-/// The example's dictionaries in their order, and the last of them once more, by prefix codes and with the other
+/// The example's dictionaries in their order. The last one comes once more, with prefix codes and with the other
 /// template of refinements.
 const CASES: &[Case] = &[
     Case {
@@ -76,13 +76,13 @@ const CASES: &[Case] = &[
     },
 ];
 
-/// One symbol that refines `A`, and one that is put together.
+/// One symbol that refines `A`, and one that is aggregated.
 const WITH_AGGREGATES: &[u8] = &[
     8, 2, 2, 0xFF, 0xFF, 0xFF, 0xFF, 0xFF, 0, 0, 0, 3, 0, 0, 0, 2, 0x4F, 0xE9, 0xD7, 0xD5, 0x90,
     0xC3, 0xB5, 0x26, 0xA7, 0xFB, 0x6D, 0x14, 0x98, 0x3F, 0xFF, 0xAC,
 ];
 
-/// The example's dictionary of `C` and `A`, but its contexts are kept.
+/// The example's dictionary of `C` and `A`, but it keeps its contexts.
 const KEEPS_CONTEXTS: &[u8] = &[
     0x0A, 0, 2, 0xFF, 0, 0, 0, 2, 0, 0, 0, 2, 0x4F, 0xE7, 0x8C, 0x20, 0x0E, 0x1D, 0xC7, 0xCF, 1,
     0x11, 0xC4, 0xB2, 0x6F, 0xFF, 0xAC,
@@ -94,7 +94,7 @@ const USES_CONTEXTS: &[u8] = &[
     0xAC,
 ];
 
-/// The dictionary of a segment's data.
+/// Decodes the dictionary in a segment's data.
 fn dictionary_of<L: Ledger>(
     alloc: Global,
     data: &[u8],
@@ -110,7 +110,7 @@ fn dictionary_of<L: Ledger>(
     decode(alloc, &header, symbols, &customs, &tables, contexts, work)
 }
 
-/// The dictionary of a case.
+/// Decodes the dictionary of a case.
 fn case_of<L: Ledger>(
     alloc: Global,
     case: &Case,
@@ -137,7 +137,7 @@ fn exports_symbols<L: Ledger>(
     dictionary.exported_symbols.len() == symbols.len()
 }
 
-/// The index of the first case whose symbols differ, or how many there are.
+/// The index of the first case whose symbols differ, or else the number of cases.
 fn first_that_differs<L: Ledger>(alloc: Global, blank: Blank) -> Result<usize>
     requires name { blank.name ≡ L.name }
     requires parts { blank.parts ≡ L.parts }
@@ -162,7 +162,7 @@ fn symbols_of_the_example(rt: HostRuntime) {
     assert!(rt; index == Ok(CASES.len()));
 }
 
-/// Whether contexts that a dictionary keeps are those that another one begins with.
+/// Whether another dictionary can begin with the contexts that a dictionary keeps.
 fn contexts_go_on<L: Ledger>(alloc: Global, blank: Blank) -> Result<bool>
     requires name { blank.name ≡ L.name }
     requires parts { blank.parts ≡ L.parts }

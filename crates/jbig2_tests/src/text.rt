@@ -1,4 +1,4 @@
-//! Text regions: those of the example of T.88, H.1, and what they are read and refined by.
+//! Tests text regions: those of the example of T.88, H.1, and the calls that read them.
 ghost use Rattle.std.specs.Prelude.{◌≡◌};
 
 use crate::coder::integers::EXAMPLE;
@@ -48,7 +48,7 @@ const CASES: &[Case] = &[
     },
 ];
 
-/// By prefix codes.
+/// With prefix codes.
 const BY_PREFIX_CODES: &[u8] = &[
     0, 0, 0, 0x25, 0, 0, 0, 8, 0, 0, 0, 4, 0, 0, 0, 1, 0, 0x0C, 9, 0, 0x10, 0, 0, 0, 5, 1, 0x10, 0,
     0, 0, 0, 0, 0, 0, 0, 0, 0, 0, 0, 0, 0, 0, 0x0C, 0x40, 7, 8, 0x70, 0x41, 0xD0,
@@ -60,7 +60,7 @@ const WITH_REFINEMENT: &[u8] = &[
     0xF4, 0xC3, 0x7D, 0x96, 0x6A, 0x28, 0xE5, 0x76, 0x8F, 0xFF, 0xAC,
 ];
 
-/// Whether a region's data shows the word by these symbols.
+/// Whether a region's data shows the word with these symbols.
 fn shows_word<L: Ledger>(
     alloc: Global,
     data: &[u8],
@@ -83,7 +83,7 @@ fn holds<L: Ledger>(alloc: Global, case: &Case, work: &mut Work<L>) -> Result<bo
     shows_word(alloc, case.data, &[&first, &second, &third], work)
 }
 
-/// The index of the first case that does not show the word, or how many there are.
+/// The index of the first case that does not show the word, or else the number of cases.
 fn first_that_differs<L: Ledger>(alloc: Global, blank: Blank) -> Result<usize>
     requires name { blank.name ≡ L.name }
     requires parts { blank.parts ≡ L.parts }
@@ -122,7 +122,7 @@ fn header_of_the_example(rt: HostRuntime) {
     assert!(rt; header.num_instances == 4 && header.segment_data_len == 37);
 }
 
-/// Two integers and an id that bytes begin with.
+/// Two integers and an id, at the beginning of some bytes.
 fn coded_numbers<L: Ledger>(alloc: Global, blank: Blank) -> Result<[i64; 3]>
     requires name { blank.name ≡ L.name }
     requires parts { blank.parts ≡ L.parts }
@@ -139,7 +139,7 @@ fn coded_numbers<L: Ledger>(alloc: Global, blank: Blank) -> Result<[i64; 3]>
     Ok([i64::from(first), i64::from(second), id])
 }
 
-/// Numbers by the tables of symbols that are put together (T.88, Table 17): B.8, B.11 and B.1.
+/// Numbers with the tables of aggregate symbols (T.88, Table 17): B.8, B.11 and B.1.
 fn numbers_by_tables(alloc: Global) -> Result<[i32; 3]> {
     let standard = StandardHuffmanTables::new(alloc)?;
     let tables = TextRegionHuffmanTables::of_aggregates(&standard);
@@ -166,7 +166,7 @@ fn numbers_of_regions(rt: HostRuntime) {
     assert!(rt; hold == Ok(true));
 }
 
-/// How many contexts a template of refinements has.
+/// The number of contexts of a template of refinements.
 fn context_count(alloc: Global, template: RefinementTemplate) -> Result<usize> {
     let pixel = AdaptiveTemplatePixel { x: -1, y: -1 };
     let pixels = pixels_of_template(template, [pixel, pixel]);
@@ -176,7 +176,7 @@ fn context_count(alloc: Global, template: RefinementTemplate) -> Result<usize> {
     Ok(refining.into_contexts().len())
 }
 
-/// By the pixels of both templates, 13 and 10 (T.88, Figures 12 and 13).
+/// Checks the numbers for both templates, which have 13 and 10 pixels (T.88, Figures 12 and 13).
 fn counts_hold(alloc: Global) -> Result<bool> {
     let first = context_count(alloc, RefinementTemplate::Template0)?;
     let second = context_count(alloc, RefinementTemplate::Template1)?;

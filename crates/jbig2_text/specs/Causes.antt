@@ -1,23 +1,51 @@
 -- Which rule the input breaks where a text region is refused (docs/FORMAT.md): in its header, at its instances,
--- whatever the numbers are coded by, in its tables, and in its numbers as they are coded. `Breaks..` takes what is
--- read and an error, and the function that refuses cites it. What is refused at an instance is refused after those
--- before it, which are read.
-use Rattle.std.specs.{Prelude.{◌≡◌, ◌<◌, ◌⊎◌, ℕ, ◌+◌, ◌/◌, ◌%◌, ◌==◌, Bool, ◌&&◌, if◌then◌else◌, List, [], length, drop, Result, Ok, Err, IfErr, ℤ, pos, negsuc, ◌≤◌, ◌-◌, ◌*◌, ◌^◌, true, false, ◌+ℤ◌, ◌-ℤ◌, ◌*ℤ◌, Option, Some, None, ◌≢◌, nat_lt}, Int.{w8, w16, int_shr}}
-use Rattle.jbig2_base.specs.{Bits.{Place, bits_left, start_of, aligned}, Causes.{number_in}, declared.error.{DecodeError.{DecodeError, TheVariants.{Huffman, Parse, Region, Unsupported, Overflow, Symbol}}, HuffmanError.TheVariants.{InvalidCode, InvalidSelection, MissingTables}, ParseError.TheVariants.{UnexpectedEof}, RegionError.TheVariants.{InvalidCombinationOperator}, OverflowError.TheVariants.{BitmapDimension, PlacementCoordinate, ReferenceOffset}, SymbolError.TheVariants.{InvalidStripDelta, OutOfRange, TooManyInstances, UnexpectedOob}}, Grid.{Grid}}
-use Rattle.jbig2_coder.specs.{Causes.{AreCrowded, LeavesWord}, PrefixCode.{Member, decoded_value, no_oob}, declared.integer_procedures.IntegerProcedure.{IntegerProcedure, TheVariants.{Iadt, Iafs, Iait, Iardh, Iardw, Iardx, Iardy, Iari}}}
-use Rattle.jbig2_text.specs.{SymbolCodes.{lines_from, runcodes_at, runs_at, short_lengths, value_at}, TextHeader.{ArithmeticCoding, HuffmanCoding, NumberCoding, TextHeader}, Refining.{Refining}, Text.{Reached, Readings, TextParams, after_instances, instance_symbol, is_bottom, is_last_along_s, is_right, refinement_deltas, strip_begun, strip_delta, symbol_of, t_in_strip, with_instance}, declared.text.{cursor.Cursor.{Cursor}, header.{TextRegionFlags.{TextRegionFlags}, TextRegionHuffmanFlags.{TextRegionHuffmanFlags}}}, TextCoding.{Coded, Prefixed, by_coder, by_prefix_codes, next_integer}, TextRegion.{coder_of, prefix_codes_of, refining_of, text_params}}
+-- whatever the coding, in its tables, and in its coded numbers. `Breaks..` takes what is read and an error, and the
+-- function that refuses cites it. An error at an instance comes after the instances before it are read.
+use Rattle.std.specs.Prelude.{◌≡◌, ◌<◌, ◌⊎◌, ℕ, ◌+◌, ◌/◌, ◌%◌, ◌==◌, Bool, ◌&&◌, if◌then◌else◌, List, [], length, drop}
+use Rattle.std.specs.Prelude.{Result, Ok, Err, IfErr, ℤ, pos, negsuc, ◌≤◌, ◌-◌, ◌*◌, ◌^◌, true, false, ◌+ℤ◌, ◌-ℤ◌, ◌*ℤ◌}
+use Rattle.std.specs.Prelude.{Option, Some, None, ◌≢◌, nat_lt}
+use Rattle.std.specs.Int.{w8, w16, int_shr}
+use Rattle.jbig2_base.specs.Bits.{Place, bits_left, start_of, aligned}
+use Rattle.jbig2_base.specs.Causes.{number_in}
+use Rattle.jbig2_base.specs.declared.error.DecodeError.{DecodeError}
+use Rattle.jbig2_base.specs.declared.error.DecodeError.TheVariants.{Huffman, Parse, Region, Unsupported, Overflow}
+use Rattle.jbig2_base.specs.declared.error.DecodeError.TheVariants.{Symbol}
+use Rattle.jbig2_base.specs.declared.error.HuffmanError.TheVariants.{InvalidCode, InvalidSelection, MissingTables}
+use Rattle.jbig2_base.specs.declared.error.ParseError.TheVariants.{UnexpectedEof}
+use Rattle.jbig2_base.specs.declared.error.RegionError.TheVariants.{InvalidCombinationOperator}
+use Rattle.jbig2_base.specs.declared.error.OverflowError.TheVariants.{BitmapDimension, PlacementCoordinate}
+use Rattle.jbig2_base.specs.declared.error.OverflowError.TheVariants.{ReferenceOffset}
+use Rattle.jbig2_base.specs.declared.error.SymbolError.TheVariants.{InvalidStripDelta, OutOfRange, TooManyInstances}
+use Rattle.jbig2_base.specs.declared.error.SymbolError.TheVariants.{UnexpectedOob}
+use Rattle.jbig2_base.specs.Grid.{Grid}
+use Rattle.jbig2_coder.specs.Causes.{AreCrowded, LeavesWord}
+use Rattle.jbig2_coder.specs.PrefixCode.{Member, decoded_value, no_oob}
+use Rattle.jbig2_coder.specs.declared.integer_procedures.IntegerProcedure.{IntegerProcedure}
+use Rattle.jbig2_coder.specs.declared.integer_procedures.IntegerProcedure.TheVariants.{Iadt, Iafs, Iait, Iardh, Iardw}
+use Rattle.jbig2_coder.specs.declared.integer_procedures.IntegerProcedure.TheVariants.{Iardx, Iardy, Iari}
+use Rattle.jbig2_text.specs.SymbolCodes.{lines_from, runcodes_at, runs_at, short_lengths, value_at}
+use Rattle.jbig2_text.specs.TextHeader.{ArithmeticCoding, HuffmanCoding, NumberCoding, TextHeader}
+use Rattle.jbig2_text.specs.Refining.{Refining}
+use Rattle.jbig2_text.specs.Text.{Reached, Readings, TextParams, after_instances, instance_symbol, is_bottom}
+use Rattle.jbig2_text.specs.Text.{is_last_along_s, is_right, refinement_deltas, strip_begun, strip_delta, symbol_of}
+use Rattle.jbig2_text.specs.Text.{t_in_strip, with_instance}
+use Rattle.jbig2_text.specs.declared.text.cursor.Cursor.{Cursor}
+use Rattle.jbig2_text.specs.declared.text.header.TextRegionFlags.{TextRegionFlags}
+use Rattle.jbig2_text.specs.declared.text.header.TextRegionHuffmanFlags.{TextRegionHuffmanFlags}
+use Rattle.jbig2_text.specs.TextCoding.{Coded, Prefixed, by_coder, by_prefix_codes, next_integer}
+use Rattle.jbig2_text.specs.TextRegion.{coder_of, prefix_codes_of, refining_of, text_params}
 use Rattle.jbig2_region.specs.Refinement.{Reference}
 
--- this is returned, and of the answer it holds
+-- the call succeeded, and this holds for its value
 abbrev pub Behind : {A : Type 0} → Result A DecodeError → (A → Type 0) → Type 0
 Behind {A} r P = (x : A) × (r ≡ Ok x) × P x
 
--- what a table of prefix codes refuses at this place, where a number has to stand
+-- a table of prefix codes gives this error at this place, where a number must come
 abbrev pub RefusesNumber : List Member → Place → DecodeError → Type 0
 RefusesNumber table p e = no_oob (decoded_value table (bits_left p)).answer ≡ Err e
 
 -- ---- the codes of the ids (7.4.3.1.7)
--- After a runcode its bits are missing: two after 32, three after 33, seven after 34; or 32 repeats no length.
+-- A runcode whose bits are missing: two after 32, three after 33, seven after 34. Or 32, which has no length to repeat.
 abbrev pub BreaksRun : ℤ → List ℕ → Place → Type 0
 BreaksRun (pos code) so_far p =
     ((code ≡ 32) × ((length (bits_left p) < 2) ⊎ (so_far ≡ [])))
@@ -25,14 +53,14 @@ BreaksRun (pos code) so_far p =
     ⊎ ((33 < code) × (length (bits_left p) < 7))
 BreaksRun (negsuc n) so_far p = Unit {0}
 
--- After some runs there are too few lengths, and of the runcodes, the lengths so far and the place this holds.
+-- There are too few lengths after some runs, and this holds for the runcodes, the lengths so far and the place.
 abbrev pub ARun : ℕ → Place → (List Member → List ℕ → Place → Type 0) → Type 0
 ARun count p Q =
     Behind (runcodes_at p) (λ runcodes. (k : ℕ) × Behind (runs_at k count runcodes.0 [] runcodes.1) (λ lens.
     (length lens.0 < count) × Q runcodes.0 lens.0 lens.1))
 
--- One of the 35 short lengths is missing, or they are crowded; a run is faulty; the lengths of all runs are more than the
--- symbols, or crowded. Or a runcode is refused.
+-- One of the 35 short lengths is missing, or they are crowded. Or a run is faulty. Or the runs have more lengths than
+-- there are symbols, or crowded ones. Or a runcode is refused.
 abbrev pub BreaksSymbolCodes : ℕ → Place → DecodeError → Type 0
 BreaksSymbolCodes count p e =
     ((e ≡ Huffman InvalidCode) × (((k : ℕ) × (k < 35) × Behind (short_lengths k [] p) (λ lens. length (bits_left lens.1) < 4))
@@ -43,14 +71,14 @@ BreaksSymbolCodes count p e =
     ⊎ ARun count p (λ runcodes so_far q. RefusesNumber runcodes q e)
 
 -- ---- the header
--- The flags stand at byte 17. With prefix codes two bytes of table numbers follow, and four of adaptive pixels where
--- symbols are refined at template 0; then four of the number of the instances.
+-- The flags are at byte 17. With prefix codes two bytes of table numbers follow. Where symbols are refined with
+-- template 0, four bytes of adaptive pixels follow. Then come four bytes for the number of instances.
 abbrev pub fields_length : List ℕ → ℕ
 fields_length bytes =
     let flags = number_in w16 17 bytes in
     (if flags % 2 == 1 then 21 else 19) + (if (flags / 2 % 2 == 1) && (flags / 32768 == 0) then 4 else 0) + 4
 
--- with prefix codes, the codes of the ids stand after these fields
+-- with prefix codes, the codes of the ids come after these fields
 abbrev pub BreaksTextHeader : ℕ → List ℕ → DecodeError → Type 0
 BreaksTextHeader symbols bytes e =
     ((e ≡ Parse UnexpectedEof) × (length bytes < fields_length bytes))
@@ -58,7 +86,7 @@ BreaksTextHeader symbols bytes e =
     ⊎ ((e ≡ Unsupported) × (number_in w8 16 bytes / 8 % 2 ≡ 1))
     ⊎ ((number_in w16 17 bytes % 2 ≡ 1) × BreaksSymbolCodes symbols (start_of (drop (fields_length bytes) bytes)) e)
 
--- why each reading of a coding is refused, at a state of the coder
+-- for each reading of a coding, why it is refused at a state of the coder
 pub record ReadingCauses (S : Type 0) : Type 1 where
   pub delta_t : S → DecodeError → Type 0
   pub first_s : S → DecodeError → Type 0
@@ -85,7 +113,7 @@ pub record ReadingsHaveCauses {S : Type 0} (r : Readings S) (c : ReadingCauses S
   pub y_delta : (s : S) → IfErr (r.y_delta s) (c.y_delta s)
   pub refined : (from : Reference) (width height : ℕ) (f : Refining) (s : S) → IfErr (r.refined from width height f s) (c.refined s)
 
-abbrev pub IsNoSide : ℤ → Type 0  -- no side of a symbol: it is negative, or above 65535
+abbrev pub IsNoSide : ℤ → Type 0  -- it can't be a side of a symbol: it is negative, or above 65535
 IsNoSide (pos n) = 65535 < n
 IsNoSide (negsuc n) = Unit {0}
 
@@ -94,7 +122,7 @@ NamesNone symbols (pos id) = length symbols ≤ id
 NamesNone symbols (negsuc id) = Unit {0}
 
 -- ---- strips (6.4.5, step 3)
--- delta T times the strip size leaves 32 bits, or STRIPT and DT, or FIRSTS and DFS together; or a number is refused
+-- delta T times the strip size, STRIPT + DT or FIRSTS + DFS isn't a signed number of 32 bits; or a number is refused
 abbrev pub BreaksStrip : {S : Type 0} → ReadingCauses S → Readings S → TextRegionFlags → ℤ → ℤ → S → DecodeError → Type 0
 BreaksStrip c r flags stript firsts s e =
     ((e ≡ Symbol InvalidStripDelta) × Behind (r.delta_t s) (λ strips. LeavesWord (strips.0 *ℤ pos (2 ^ flags.log_strip_size))))
@@ -103,24 +131,24 @@ BreaksStrip c r flags stript firsts s e =
     ⊎ c.delta_t s e
     ⊎ Behind (strip_delta r flags s) (λ dt. c.first_s dt.1 e)
 
--- the way after IDS: to the next strip, or in this one, where CURS leaves 32 bits by IDS or by SBDSOFFSET
+-- the move after IDS: to the next strip, or in this one, where IDS or SBDSOFFSET takes CURS out of signed 32 bits
 abbrev pub BreaksMoveBy : {S : Type 0} → ReadingCauses S → Readings S → TextRegionFlags → Cursor → Option ℤ → S → DecodeError → Type 0
 BreaksMoveBy c r flags at None s e = BreaksStrip c r flags at.strip_t at.first_s s e
 BreaksMoveBy c r flags at (Some ids) s e =
     (e ≡ Overflow PlacementCoordinate) × (LeavesWord (at.cur_s +ℤ ids) ⊎ LeavesWord (at.cur_s +ℤ ids +ℤ flags.delta_s_offset))
 
 -- ---- an instance (6.4.5, step 3 c)
--- its id, and the state after it
+-- this holds for its id, and for the state after the id
 abbrev pub AtId : {S : Type 0} → Readings S → TextParams → Reached S → (ℤ → S → Type 0) → Type 0
 AtId r p x Q = Behind (t_in_strip r p.flags x.state) (λ t. Behind (r.id t.1) (λ id. Q id.0 id.1))
 
--- it is refined: the symbol of its id, and the state in front of the numbers of its refinement
+-- it is refined, and this holds for the symbol of its id, and for the state before the numbers of its refinement
 abbrev pub AtRefined : {S : Type 0} → Readings S → TextParams → Reached S → (Grid → S → Type 0) → Type 0
 AtRefined r p x Q =
     AtId r p x (λ id s. Behind (if p.flags.use_refinement then r.is_refined s else Ok (false, s)) (λ ri.
     (ri.0 ≡ true) × ((from : Grid) × (symbol_of p.symbols id ≡ Some from) × Q from ri.1)))
 
--- a symbol's other end, its first column or its first row leaves 32 bits
+-- a symbol's other end, its first column or its first row isn't a signed number of 32 bits
 abbrev pub APlaceLeaves : TextRegionFlags → Grid → ℤ → ℤ → Type 0
 APlaceLeaves flags g curs ti =
     let other_end : ℤ = curs +ℤ (pos (if flags.transposed then g.height else g.width) -ℤ pos 1) in
@@ -129,7 +157,7 @@ APlaceLeaves flags g curs ti =
     ⊎ ((is_right flags.reference_corner ≡ true) × LeavesWord ((if flags.transposed then ti else si) -ℤ (pos g.width -ℤ pos 1)))
     ⊎ ((is_bottom flags.reference_corner ≡ true) × LeavesWord ((if flags.transposed then si else ti) -ℤ (pos g.height -ℤ pos 1)))
 
--- one of the four numbers of a refinement is refused, or the symbol's bits after them
+-- one of the four numbers of a refinement is refused, or the bits of the symbol after them
 abbrev pub ARefinementIsRefused : {S : Type 0} → ReadingCauses S → Readings S → S → DecodeError → Type 0
 ARefinementIsRefused c r s e =
     c.width_delta s e
@@ -138,7 +166,7 @@ ARefinementIsRefused c r s e =
     ⊎ Behind (r.x_delta h.1) (λ x. c.y_delta x.1 e)))
     ⊎ Behind (refinement_deltas r s) (λ rd. c.refined rd.1 e)
 
--- Its id has no symbol; a side of a refined symbol, its place or TI leaves its range; or a number is refused.
+-- Its id has no symbol. Or a side of a refined symbol, its place or TI leaves its range. Or a number is refused.
 abbrev pub BreaksInstance : {S : Type 0} → ReadingCauses S → Readings S → TextParams → Reached S → DecodeError → Type 0
 BreaksInstance c r p x e =
     ((e ≡ Symbol OutOfRange) × AtId r p x (λ id s. NamesNone p.symbols id))
@@ -156,7 +184,7 @@ BreaksInstance c r p x e =
     ⊎ AtRefined r p x (λ from s. ARefinementIsRefused c r s e)
 
 -- ---- all instances
--- instance k, after those before it; STRIPT begins at the negative of the first delta T
+-- this holds at instance k, after those before it; STRIPT begins at the negative of the first delta T
 abbrev pub AtInstance : {S : Type 0} → Readings S → TextParams → Refining → S → ℕ → (Reached S → Type 0) → Type 0
 AtInstance r p f s k Q =
     Behind (strip_delta r p.flags s) (λ dt. Behind (strip_begun r p.flags (pos 0 -ℤ dt.0) (pos 0) dt.1) (λ c.
@@ -166,8 +194,9 @@ AtInstance r p f s k Q =
 abbrev pub AtEnd : {S : Type 0} → Readings S → TextParams → Refining → S → (S → Type 0) → Type 0
 AtEnd r p f s Q = (p.strict ≡ true) × AtInstance r p f s (p.count - 1) (λ x. Behind (with_instance r p x) (λ last. Q last.state))
 
--- More instances than 32 for each byte, or in strict mode a further one after the last; the first delta T or its negative
--- leaves 32 bits; or the first delta T, the first strip, an instance, the way to the next one or the last delta S breaks.
+-- There are more instances than 32 for each byte, or in strict mode another one after the last. Or the first delta T or
+-- its negative isn't a signed number of 32 bits. Or the first delta T, the first strip, an instance, the move to the
+-- next one or the last delta S breaks a rule.
 abbrev pub BreaksInstances : {S : Type 0} → ReadingCauses S → Readings S → TextParams → Refining → S → DecodeError → Type 0
 BreaksInstances c r p f s e =
     ((e ≡ Symbol TooManyInstances) × ((32 * p.data_length < p.count)
@@ -182,7 +211,7 @@ BreaksInstances c r p f s e =
     ⊎ AtEnd r p f s (λ u. c.delta_s u e)
 
 -- ---- tables (7.4.3.1.6)
--- a choice among two tables of the standard, which are 0 and 1, and a custom one, which is 3
+-- a number that names no table: neither one of two of the standard, 0 and 1, nor a custom one, 3
 abbrev pub HasNoMeaning : ℕ → Type 0
 HasNoMeaning n = (2 ≤ n) × (n ≢ 3)
 
@@ -220,19 +249,19 @@ coder_causes = record {
 }
 
 -- ---- prefix codes
--- what a table refuses at the front of these bits, where a number or out of band has to stand
+-- a table gives this error at the beginning of these bits, where a number or out of band must come
 abbrev pub RefusesValue : List Member → List ℕ → DecodeError → Type 0
 RefusesValue table bits e = (decoded_value table bits).answer ≡ Err e
 
-abbrev pub LacksBits : DecodeError → ℕ → Prefixed → DecodeError → Type 0  -- with this error, fewer bits are left
+abbrev pub LacksBits : DecodeError → ℕ → Prefixed → DecodeError → Type 0  -- fewer bits than this are left
 LacksBits error count s e = (e ≡ error) × (length (bits_left s.place) < count)
 
--- fewer bytes are left, from the next whole one on, than the size says; or it is negative
+-- fewer bytes than the size are left, from the next whole one on; or the size is negative
 abbrev pub LacksBytes : ℤ → Place → DecodeError → Type 0
 LacksBytes (pos size) p e = (e ≡ Parse UnexpectedEof) × (length (aligned p).bytes < size)
 LacksBytes (negsuc size) p e = e ≡ Parse UnexpectedEof
 
--- of a refined symbol, the size of its bytes is refused, or they are missing
+-- for a refined symbol: the size of its bytes is refused, or bytes are missing
 abbrev pub prefix_causes : ReadingCauses Prefixed
 prefix_causes = record {
   delta_t = λ s. RefusesNumber s.tables.delta_t s.place;

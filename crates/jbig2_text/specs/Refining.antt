@@ -1,9 +1,12 @@
--- Symbols that are refined from others (T.88, 6.4.11): by the refinement template and the contexts of a region or a
--- dictionary, which go on from symbol to symbol. Whoever reads lends them.
+-- Symbols that are refined from others (T.88, 6.4.11). A region or a dictionary has one refinement template and one set
+-- of contexts, which go on from symbol to symbol. It lends them to the code that reads the instances.
 use Rattle.std.specs.Prelude.{ℕ, false, List}
 use Rattle.jbig2_base.specs.Grid.{Grid}
 use Rattle.jbig2_coder.specs.Coder.{Coder, Context, Registers}
-use Rattle.jbig2_region.specs.{Raster.{Region, no_pixels, so_far, decoded_region}, Refinement.{Reference, refinement_coding}, declared.template.{AdaptiveTemplatePixel.{AdaptiveTemplatePixel}, RefinementTemplate.{RefinementTemplate}}}
+use Rattle.jbig2_region.specs.Raster.{Region, no_pixels, so_far, decoded_region}
+use Rattle.jbig2_region.specs.Refinement.{Reference, refinement_coding}
+use Rattle.jbig2_region.specs.declared.template.AdaptiveTemplatePixel.{AdaptiveTemplatePixel}
+use Rattle.jbig2_region.specs.declared.template.RefinementTemplate.{RefinementTemplate}
 
 -- How symbols are refined (SBRTEMPLATE, SBRAT), and what the contexts have learned.
 pub record Refining : Type 0 where

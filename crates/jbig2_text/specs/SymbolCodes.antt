@@ -1,19 +1,27 @@
--- The prefix codes of the symbols' ids (T.88, 7.4.3.1.7): their lengths, as runs that are prefix-coded themselves. A
--- place in the bits and the number of the symbols give the codes, and the place after them.
-use Rattle.std.specs.Prelude.{ℕ, zero, suc, ◌+◌, ◌-◌, nat_lt, ◌==◌, List, [], ◌∷◌, ◌++◌, length, replicate, slice_get, Result, Ok, Err, ℤ, pos, negsuc, if◌then◌else◌}
-use Rattle.jbig2_base.specs.{Answer.{◌>>=◌, refuse_if, some_or}, Bits.{Place, aligned, bits_left, bits_on, start_of}, Fields.{bits_at}, declared.error.{DecodeError.{DecodeError, TheVariants.{Huffman}}, HuffmanError.TheVariants.{InvalidCode}}}
-use Rattle.jbig2_coder.specs.{PrefixCode.{Member, decoded_value, no_oob, table_of}, Tables.{line}, declared.huffman_table.line.TableLine.{TableLine}}
+-- The prefix codes of the symbols' ids (T.88, 7.4.3.1.7). The bits give the lengths of the codes, as runs that have
+-- prefix codes themselves. A place in the bits and the number of symbols give the codes, and the place after them.
+use Rattle.std.specs.Prelude.{ℕ, zero, suc, ◌+◌, ◌-◌, nat_lt, ◌==◌, List, [], ◌∷◌, ◌++◌, length, replicate, slice_get}
+use Rattle.std.specs.Prelude.{Result, Ok, Err, ℤ, pos, negsuc, if◌then◌else◌}
+use Rattle.jbig2_base.specs.Answer.{◌>>=◌, refuse_if, some_or}
+use Rattle.jbig2_base.specs.Bits.{Place, aligned, bits_left, bits_on, start_of}
+use Rattle.jbig2_base.specs.Fields.{bits_at}
+use Rattle.jbig2_base.specs.declared.error.DecodeError.{DecodeError}
+use Rattle.jbig2_base.specs.declared.error.DecodeError.TheVariants.{Huffman}
+use Rattle.jbig2_base.specs.declared.error.HuffmanError.TheVariants.{InvalidCode}
+use Rattle.jbig2_coder.specs.PrefixCode.{Member, decoded_value, no_oob, table_of}
+use Rattle.jbig2_coder.specs.Tables.{line}
+use Rattle.jbig2_coder.specs.declared.huffman_table.line.TableLine.{TableLine}
 
 abbrev pub invalid_code : DecodeError
 invalid_code = Huffman InvalidCode
 
--- a number by a table of prefix codes (B.4), which may not be out of band, and the place after it
+-- a number with a prefix code of this table (B.4), and the place after it; out of band is refused
 abbrev pub value_at : List Member → Place → Result (ℤ × Place) DecodeError
 value_at table p =
     let read = decoded_value table (bits_left p) in
     no_oob read.answer >>= λ n. Ok (n, bits_on read.taken p)
 
-abbrev pub lines_from : ℕ → List ℕ → List TableLine  -- the numbers from n on, by the lengths of their codes
+abbrev pub lines_from : ℕ → List ℕ → List TableLine  -- the numbers from n on, with codes of these lengths
 lines_from n [] = []
 lines_from n (len ∷ lens) = line len 0 (pos n) ∷ lines_from (n + 1) lens
 
@@ -22,10 +30,10 @@ unfoldable pub short_lengths : ℕ → List ℕ → Place → Result (List ℕ �
 short_lengths zero so_far p = Ok (so_far, p)
 short_lengths (suc count) so_far p = bits_at invalid_code 4 p >>= λ len. short_lengths count (so_far ++ len.0 ∷ []) len.1
 
-abbrev pub repeated : List ℕ → ℕ → Result (List ℕ) DecodeError  -- with the last length this many times more
+abbrev pub repeated : List ℕ → ℕ → Result (List ℕ) DecodeError  -- with the last length repeated this many more times
 repeated so_far count = some_or invalid_code (slice_get so_far (length so_far - 1)) >>= λ len. Ok (so_far ++ replicate count len)
 
--- The lengths that a runcode stands for: itself, or the last length 3 to 6 times, or 3 to 10 or 11 to 138 zeros.
+-- The lengths that a runcode means: itself, or the last length 3 to 6 times, or 3 to 10 or 11 to 138 zeros.
 abbrev pub run_at : ℤ → List ℕ → Place → Result (List ℕ × Place) DecodeError
 run_at (negsuc n) so_far p = Err invalid_code
 run_at (pos code) so_far p =
@@ -37,7 +45,7 @@ run_at (pos code) so_far p =
 abbrev pub next_runcode : List Member → List ℕ → Place → Result (List ℕ × Place) DecodeError
 next_runcode runcodes so_far p = value_at runcodes p >>= λ code. run_at code.0 so_far code.1
 
--- Runs, until there are `count` lengths; each run has one at least, so `most` of them are enough where it is `count`.
+-- Runs, until there are `count` lengths. Each run has at least one, so `most` = `count` runs are enough.
 unfoldable pub runs_at : ℕ → ℕ → List Member → List ℕ → Place → Result (List ℕ × Place) DecodeError
 runs_at zero count runcodes so_far p = Ok (so_far, p)
 runs_at (suc most) count runcodes so_far p =
@@ -48,14 +56,14 @@ runs_at (suc most) count runcodes so_far p =
 unfoldable pub runcodes_at : Place → Result (List Member × Place) DecodeError
 runcodes_at p = short_lengths 35 [] p >>= λ lens. table_of (lines_from 0 lens.0) >>= λ runcodes. Ok (runcodes, lens.1)
 
--- the lengths of the codes of `count` symbols (steps 3 and 4); a run that goes past them is refused
+-- the lengths of the codes of `count` symbols (steps 3 and 4); more lengths than that are refused
 unfoldable pub symbol_lengths_at : ℕ → List Member → Place → Result (List ℕ × Place) DecodeError
 symbol_lengths_at count runcodes p = do
   lens ← runs_at count count runcodes [] p
   fit ← refuse_if (nat_lt count (length lens.0)) invalid_code
   Ok lens
 
--- The codes of `count` symbols, and the whole byte after them (step 5).
+-- The codes of `count` symbols, and the place of the next whole byte (step 5).
 unfoldable pub symbol_codes_from : ℕ → Place → Result (List Member × Place) DecodeError
 symbol_codes_from count p = do
   runcodes ← runcodes_at p

@@ -1,11 +1,30 @@
--- Text regions (T.88, 6.4): instances of symbols, whose numbers are read one after the other; then the instances are
--- drawn. Every coordinate is a signed number of 32 bits, else it is refused (our own rule).
-use Rattle.std.specs.{Prelude.{ℕ, zero, suc, ◌-◌, ◌*◌, ◌^◌, nat_le, nat_lt, ◌==◌, Bool, true, false, ◌||◌, if◌then◌else◌, ℤ, pos, negsuc, ◌+ℤ◌, ◌-ℤ◌, ◌*ℤ◌, List, [], ◌∷◌, ◌++◌, slice_get, Option, Some, None, Result, Ok, Err}, Int.{int_shr}, Option.{is_some}}
-use Rattle.jbig2_base.specs.{Answer.{◌>>=◌, refuse_if, some_or}, Combination.{combined}, Grid.{Grid}, declared.{bitmap.operator.CombinationOperator.{CombinationOperator}, error.{DecodeError.{DecodeError, TheVariants.{Overflow, Symbol}}, OverflowError.TheVariants.{BitmapDimension, PlacementCoordinate, ReferenceOffset}, SymbolError.TheVariants.{InvalidStripDelta, OutOfRange, TooManyInstances}}}, Fields.{word_or}}
+-- Text regions (T.88, 6.4): instances of symbols. Their numbers are read one after the other, and then the instances
+-- are drawn. A coordinate that isn't a signed number of 32 bits is refused (our own rule).
+use Rattle.std.specs.Prelude.{ℕ, zero, suc, ◌-◌, ◌*◌, ◌^◌, nat_le, nat_lt, ◌==◌, Bool, true, false, ◌||◌, if◌then◌else◌}
+use Rattle.std.specs.Prelude.{ℤ, pos, negsuc, ◌+ℤ◌, ◌-ℤ◌, ◌*ℤ◌, List, [], ◌∷◌, ◌++◌, slice_get, Option, Some, None}
+use Rattle.std.specs.Prelude.{Result, Ok, Err}
+use Rattle.std.specs.Int.{int_shr}
+use Rattle.std.specs.Option.{is_some}
+use Rattle.jbig2_base.specs.Answer.{◌>>=◌, refuse_if, some_or}
+use Rattle.jbig2_base.specs.Combination.{combined}
+use Rattle.jbig2_base.specs.Grid.{Grid}
+use Rattle.jbig2_base.specs.declared.bitmap.operator.CombinationOperator.{CombinationOperator}
+use Rattle.jbig2_base.specs.declared.error.DecodeError.{DecodeError}
+use Rattle.jbig2_base.specs.declared.error.DecodeError.TheVariants.{Overflow, Symbol}
+use Rattle.jbig2_base.specs.declared.error.OverflowError.TheVariants.{BitmapDimension, PlacementCoordinate}
+use Rattle.jbig2_base.specs.declared.error.OverflowError.TheVariants.{ReferenceOffset}
+use Rattle.jbig2_base.specs.declared.error.SymbolError.TheVariants.{InvalidStripDelta, OutOfRange, TooManyInstances}
+use Rattle.jbig2_base.specs.Fields.{word_or}
 use Rattle.jbig2_region.specs.Refinement.{Reference}
-use Rattle.jbig2_text.specs.{Refining.{Refining}, declared.text.{cursor.Cursor.{Cursor}, header.{ReferenceCorner.{ReferenceCorner, TheVariants.{BottomLeft, BottomRight, TopRight}}, TextRegionFlags.{TextRegionFlags}}, refined.{Outline.{Outline}, RefinementDeltas.{RefinementDeltas}}}}
+use Rattle.jbig2_text.specs.Refining.{Refining}
+use Rattle.jbig2_text.specs.declared.text.cursor.Cursor.{Cursor}
+use Rattle.jbig2_text.specs.declared.text.header.ReferenceCorner.{ReferenceCorner}
+use Rattle.jbig2_text.specs.declared.text.header.ReferenceCorner.TheVariants.{BottomLeft, BottomRight, TopRight}
+use Rattle.jbig2_text.specs.declared.text.header.TextRegionFlags.{TextRegionFlags}
+use Rattle.jbig2_text.specs.declared.text.refined.Outline.{Outline}
+use Rattle.jbig2_text.specs.declared.text.refined.RefinementDeltas.{RefinementDeltas}
 
--- What the instances are read by (Table 9): the flags, SBSYMS, SBNUMINSTANCES; and the length of the segment's data.
+-- What is needed to read the instances (Table 9): flags, SBSYMS, SBNUMINSTANCES, and the length of the segment's data.
 pub record TextParams : Type 0 where
   pub flags : TextRegionFlags
   pub symbols : List Grid
@@ -18,9 +37,9 @@ pub record Instance : Type 0 where  -- a symbol, and the column and the row of i
   pub x : ℤ
   pub y : ℤ
 
--- How the numbers are coded (6.4.6 to 6.4.11): each reading goes from a state of the coder to a value and the state
--- after it. What a delta S has used up is used up also where it is refused; None ends a strip. `t_bits` is by the log
--- of the strip size, `refined` by the reference, the width, the height and the contexts, which it returns as learned.
+-- How the numbers are coded (6.4.6 to 6.4.11). Each reading takes a state of the coder, and gives a value and the state
+-- after it. A delta S takes its bits even where it is refused; its None ends a strip. `t_bits` also takes the log of
+-- the strip size; `refined` takes the reference, the width, the height and the contexts, and returns these as learned.
 pub record Readings (S : Type 0) : Type 0 where
   pub delta_t : S → Result (ℤ × S) DecodeError
   pub first_s : S → Result (ℤ × S) DecodeError
@@ -35,7 +54,7 @@ pub record Readings (S : Type 0) : Type 0 where
   pub y_delta : S → Result (ℤ × S) DecodeError
   pub refined : Reference → ℕ → ℕ → Refining → S → Result (Grid × Refining × S) DecodeError
 
--- the instances so far, where the next one stands, the contexts and the coder
+-- the instances so far, the place of the next one, the contexts and the coder
 pub record Reached (S : Type 0) : Type 0 where
   pub instances : List Instance
   pub cursor : Cursor
@@ -46,14 +65,14 @@ abbrev pub coordinate : ℤ → Result ℤ DecodeError
 coordinate n = word_or (Overflow PlacementCoordinate) n
 
 -- ---- strips (6.4.5, steps 1 to 4)
--- DT, in rows: it is read in whole strips (6.4.6)
+-- DT, in rows; it is coded as a number of whole strips (6.4.6)
 unfoldable pub strip_delta : {S : Type 0} → Readings S → TextRegionFlags → S → Result (ℤ × S) DecodeError
 strip_delta r flags s = do
   strips ← r.delta_t s
   dt ← word_or (Symbol InvalidStripDelta) (strips.0 *ℤ pos (2 ^ flags.log_strip_size))
   Ok (dt, strips.1)
 
--- a strip begins: STRIPT and FIRSTS go on by DT and DFS (6.4.7), and CURS is FIRSTS (steps 3 b and 3 c i)
+-- a strip begins: DT is added to STRIPT and DFS to FIRSTS (6.4.7), and CURS is FIRSTS (steps 3 b and 3 c i)
 unfoldable pub strip_begun : {S : Type 0} → Readings S → TextRegionFlags → ℤ → ℤ → S → Result (Cursor × S) DecodeError
 strip_begun r flags stript firsts s = do
   dt ← strip_delta r flags s
@@ -62,7 +81,7 @@ strip_begun r flags stript firsts s = do
   next_firsts ← coordinate (firsts +ℤ dfs.0)
   Ok (record { strip_t = next_stript; first_s = next_firsts; cur_s = next_firsts }, dfs.1)
 
--- CURS goes on by IDS and SBDSOFFSET in the strip, or else the next strip begins (step 3 c ii, and 6.4.8)
+-- IDS and SBDSOFFSET are added to CURS in the strip, or else the next strip begins (step 3 c ii, and 6.4.8)
 abbrev pub moved_by : {S : Type 0} → Readings S → TextRegionFlags → Cursor → Option ℤ → S → Result (Cursor × S) DecodeError
 moved_by r flags c None s = strip_begun r flags c.strip_t c.first_s s
 moved_by r flags c (Some ids) s = do
@@ -73,7 +92,7 @@ moved_by r flags c (Some ids) s = do
 unfoldable pub cursor_moved : {S : Type 0} → Readings S → TextRegionFlags → Cursor → S → Result (Cursor × S) DecodeError
 cursor_moved r flags c s = r.delta_s s >>= λ ids. moved_by r flags c ids (r.behind_delta_s s)
 
--- CURT, which is read in strips of more than one row alone (6.4.9)
+-- CURT, which is read only in strips of more than one row (6.4.9)
 abbrev pub t_in_strip : {S : Type 0} → Readings S → TextRegionFlags → S → Result (ℤ × S) DecodeError
 t_in_strip r flags s = if flags.log_strip_size == 0 then Ok (pos 0, s) else r.t_bits flags.log_strip_size s
 
@@ -90,7 +109,7 @@ abbrev pub side_of : ℤ → Result ℕ DecodeError  -- a side of a refined symb
 side_of (pos n) = refuse_if (nat_le 2147483648 n) (Overflow BitmapDimension) >>= λ fits. Ok n
 side_of (negsuc n) = Err (Overflow BitmapDimension)
 
--- where the reference lies: half the growth of a side, rounded down, and a difference (Table 12, GRREFERENCEDX)
+-- the offset of the reference: half the growth of a side, rounded down, and a difference (Table 12, GRREFERENCEDX)
 abbrev pub reference_offset : ℤ → ℤ → Result ℤ DecodeError
 reference_offset growth delta = word_or (Overflow ReferenceOffset) (int_shr growth 1 +ℤ delta)
 
@@ -103,7 +122,7 @@ refinement_deltas r s = do
   rdy ← r.y_delta rdx.1
   Ok (record { width = rdw.0; height = rdh.0; x = rdx.0; y = rdy.0 }, rdy.1)
 
--- the width and the height of a refined symbol, and where its reference lies (Table 12)
+-- the width and the height of a refined symbol, and the offset of its reference (Table 12)
 unfoldable pub refined_outline : Grid → RefinementDeltas → Result Outline DecodeError
 refined_outline from rd = do
   width ← side_of (pos from.width +ℤ rd.width)
@@ -112,7 +131,7 @@ refined_outline from rd = do
   dy ← reference_offset rd.height rd.y
   Ok (record { width = width; height = height; dx = dx; dy = dy })
 
--- a symbol that is refined from that of the id; neither side may pass 65535 (our own rule)
+-- a symbol that is refined from that of the id; no side may be above 65535 (our own rule)
 unfoldable pub refined_symbol : {S : Type 0} → Readings S → List Grid → ℤ → Refining → S → Result (Grid × Refining × S) DecodeError
 refined_symbol r symbols id f s = do
   from ← some_symbol (symbol_of symbols id)
@@ -121,12 +140,12 @@ refined_symbol r symbols id f s = do
   fits ← refuse_if (nat_lt 65535 o.width || nat_lt 65535 o.height) (Overflow BitmapDimension)
   r.refined (record { grid = from; dx = o.dx; dy = o.dy }) o.width o.height f rd.1
 
--- an id without a symbol is refused in strict mode, and otherwise stands for nothing (our own rule)
+-- strict reading refuses an id without a symbol; other readings take it as no symbol (our own rule)
 abbrev pub plain_symbol : Bool → Option Grid → Result (Option Grid) DecodeError
 plain_symbol strict (Some g) = Ok (Some g)
 plain_symbol strict None = if strict then Err (Symbol OutOfRange) else Ok None
 
--- the symbol of an instance, IB, by R_I, which is 0 where nothing is refined (6.4.11)
+-- IB, the symbol of an instance: refined if R_I is 1; R_I is 0 where nothing is refined (6.4.11)
 unfoldable pub instance_symbol : {S : Type 0} → Readings S → TextParams → ℤ → Refining → S → Result (Option Grid × Refining × S) DecodeError
 instance_symbol r p id f s = do
   ri ← if p.flags.use_refinement then r.is_refined s else Ok (false, s)
@@ -150,12 +169,12 @@ is_last_along_s flags = if flags.transposed then is_bottom flags.reference_corne
 abbrev pub grown : TextRegionFlags → Grid → ℤ → Result ℤ DecodeError  -- CURS at the other end of a symbol
 grown flags g curs = coordinate (curs +ℤ (pos (if flags.transposed then g.height else g.width) -ℤ pos 1))
 
--- the first column (or row), where the corner at this one may be at the last
+-- the first column (or row) of a symbol: its corner is at this place, which may be the last one
 abbrev pub edge : Bool → ℕ → ℤ → Result ℤ DecodeError
 edge at_last side place = if at_last then coordinate (place -ℤ (pos side -ℤ pos 1)) else Ok place
 
--- A symbol at SI and TI, and CURS after it (steps 3 c vi to x). CURS goes on by the symbol's extent: before it is
--- placed where its corner is the last one along S (vi), else afterwards (x).
+-- A symbol at SI and TI, and CURS after it (steps 3 c vi to x). The symbol's extent is added to CURS: before the symbol
+-- is placed if its corner is the last one along S (vi), and else afterwards (x).
 unfoldable pub symbol_placed : TextRegionFlags → Grid → ℤ → ℤ → Result (Instance × ℤ) DecodeError
 symbol_placed flags g curs ti = do
   si ← if is_last_along_s flags then grown flags g curs else Ok curs
@@ -165,7 +184,7 @@ symbol_placed flags g curs ti = do
   Ok (record { grid = g; x = x; y = y }, next)
 
 -- ---- instances
--- an instance whose id has no symbol moves nothing
+-- an instance whose id has no symbol leaves CURS as it is
 abbrev pub with_symbol : TextRegionFlags → List Instance → Cursor → ℤ → Option Grid → Result (List Instance × Cursor) DecodeError
 with_symbol flags before c ti None = Ok (before, c)
 with_symbol flags before c ti (Some g) =
@@ -181,7 +200,7 @@ with_instance r p x = do
   more ← with_symbol p.flags x.instances x.cursor ti ib.0
   Ok (record { instances = more.0; cursor = more.1; refining = ib.1; state = ib.2 })
 
--- this many more, with others after them
+-- this many more instances, where others come after them
 unfoldable pub after_instances : {S : Type 0} → Readings S → TextParams → ℕ → Reached S → Result (Reached S) DecodeError
 after_instances r p zero x = Ok x
 after_instances r p (suc n) x = do
@@ -192,9 +211,9 @@ after_instances r p (suc n) x = do
 abbrev pub Found : Type 0 → Type 0  -- instances, and the contexts and the coder after them
 Found S = List Instance × Refining × S
 
--- All instances (steps 1, 3 and 4); STRIPT begins at the negative of the first DT, and none take no strip. More than 32
--- for each byte of the segment are refused. The last strip ends out of band, too; in strict mode it is refused
--- otherwise, and lenient reading takes any end (our own rules).
+-- All instances (steps 1, 3 and 4). STRIPT begins at the negative of the first DT; without instances no strip is read.
+-- More than 32 instances for each byte of the segment are refused. An out-of-band value must end the last strip, too:
+-- strict reading refuses any other end, and lenient reading takes it (our own rules).
 unfoldable pub text_instances : {S : Type 0} → Readings S → TextParams → Refining → S → Result (Found S) DecodeError
 text_instances r p f s = do
   few ← refuse_if (nat_lt (32 * p.data_length) p.count) (Symbol TooManyInstances)
@@ -207,12 +226,12 @@ text_instances r p f s = do
     ends ← if p.strict then (r.delta_s last.state >>= λ ids. refuse_if (is_some ids) (Symbol TooManyInstances)) else Ok tt
     Ok (last.instances, last.refining, r.behind_delta_s last.state)
 
--- The instances drawn onto a region, the first one first.
+-- Draws the instances onto a region, the first one first.
 abbrev pub instances_drawn : CombinationOperator → List Instance → Grid → Grid
 instances_drawn operator [] region = region
 instances_drawn operator (i ∷ others) region = instances_drawn operator others (combined operator region i.grid i.x i.y)
 
--- a region (6.4.5) from its default colour on, and the contexts and the coder after it
+-- a region (6.4.5), which begins in its default colour, and the contexts and the coder after it
 unfoldable pub text_region : {S : Type 0} → Readings S → TextParams → Grid → Refining → S → Result (Grid × Refining × S) DecodeError
 text_region r p region f s =
     text_instances r p f s >>= λ found. Ok (instances_drawn p.flags.combination_operator found.0 region, found.1, found.2)

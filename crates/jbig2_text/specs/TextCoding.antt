@@ -1,10 +1,23 @@
 -- The two ways in which the numbers of a text region are coded (T.88, 6.4.6 to 6.4.11): by the arithmetic coder with
--- its integer procedures, and by prefix codes. Symbol dictionaries read by the same states.
+-- its integer procedures, and by prefix codes. Symbol dictionaries read with the same states.
 use Rattle.std.specs.Prelude.{ℕ, ◌%◌, ◌^◌, ◌==◌, not, ℤ, pos, negsuc, nat_abs, List, Option, Result, Ok, Err, replicate}
-use Rattle.jbig2_base.specs.{Answer.{◌>>=◌, some_or}, Bits.{Place, aligned, bits_left, bits_on, start_of}, Fields.{bits_at, bytes_at, end_of_bytes}, Grid.{Grid}, declared.error.{DecodeError.{DecodeError, TheVariants.{Symbol}}, SymbolError.TheVariants.{UnexpectedOob}}}
-use Rattle.jbig2_coder.specs.{Coder.{Coder, fresh, initial_registers}, Integers.{Ids, id, value_of_bits, Procedures, asked, fresh_procedures}, PrefixCode.{Member, decoded_value}, declared.integer_procedures.IntegerProcedure.{IntegerProcedure, TheVariants.{Iads, Iadt, Iafs, Iait, Iardh, Iardw, Iardx, Iardy, Iari}}}
+use Rattle.jbig2_base.specs.Answer.{◌>>=◌, some_or}
+use Rattle.jbig2_base.specs.Bits.{Place, aligned, bits_left, bits_on, start_of}
+use Rattle.jbig2_base.specs.Fields.{bits_at, bytes_at, end_of_bytes}
+use Rattle.jbig2_base.specs.Grid.{Grid}
+use Rattle.jbig2_base.specs.declared.error.DecodeError.{DecodeError}
+use Rattle.jbig2_base.specs.declared.error.DecodeError.TheVariants.{Symbol}
+use Rattle.jbig2_base.specs.declared.error.SymbolError.TheVariants.{UnexpectedOob}
+use Rattle.jbig2_coder.specs.Coder.{Coder, fresh, initial_registers}
+use Rattle.jbig2_coder.specs.Integers.{Ids, id, value_of_bits, Procedures, asked, fresh_procedures}
+use Rattle.jbig2_coder.specs.PrefixCode.{Member, decoded_value}
+use Rattle.jbig2_coder.specs.declared.integer_procedures.IntegerProcedure.{IntegerProcedure}
+use Rattle.jbig2_coder.specs.declared.integer_procedures.IntegerProcedure.TheVariants.{Iads, Iadt, Iafs, Iait, Iardh}
+use Rattle.jbig2_coder.specs.declared.integer_procedures.IntegerProcedure.TheVariants.{Iardw, Iardx, Iardy, Iari}
 use Rattle.jbig2_region.specs.Refinement.{Reference}
-use Rattle.jbig2_text.specs.{Refining.{Refining, refined_with}, SymbolCodes.{invalid_code, value_at}, Text.{Readings}}
+use Rattle.jbig2_text.specs.Refining.{Refining, refined_with}
+use Rattle.jbig2_text.specs.SymbolCodes.{invalid_code, value_at}
+use Rattle.jbig2_text.specs.Text.{Readings}
 
 -- ---- by the arithmetic coder
 -- The coder, and what the contexts of the integer procedures and of the ids (IAID) have learned.
@@ -32,14 +45,14 @@ next_id s =
     let behind : Coder = record s.coder { registers = r.registers } in
     (pos (value_of_bits r.bits), record s { coder = behind; ids = record s.ids { contexts = r.contexts } })
 
--- a number that may not be out of band, else this error
+-- a number, or this error where it is out of band
 abbrev pub in_band : DecodeError → Option ℤ → Result ℤ DecodeError
 in_band e n = some_or e n
 
 abbrev pub number_by_coder : IntegerProcedure → Coded → Result (ℤ × Coded) DecodeError
 number_by_coder procedure s = let i = next_integer procedure s in in_band (Symbol UnexpectedOob) i.0 >>= λ n. Ok (n, i.1)
 
-abbrev pub by_coder : Readings Coded  -- of R_I the low eight bits count (our own rule)
+abbrev pub by_coder : Readings Coded  -- the low eight bits of R_I count (our own rule)
 by_coder = record {
   delta_t = number_by_coder Iadt;
   first_s = number_by_coder Iafs;
@@ -79,12 +92,12 @@ prefixed_value table s = value_at table s.place >>= λ n. Ok (n.0, record s { pl
 abbrev pub prefixed_bits : DecodeError → ℕ → Prefixed → Result (ℕ × Prefixed) DecodeError
 prefixed_bits e count s = bits_at e count s.place >>= λ n. Ok (n.0, record s { place = n.1 })
 
--- this many bytes from the next whole one on, and the place after them
+-- this many bytes from the next whole byte on, and the place after them
 abbrev pub sized_bytes : ℤ → Place → Result (List ℕ × Place) DecodeError
 sized_bytes (pos size) p = bytes_at size (aligned p).bytes >>= λ coded. Ok (coded.0, start_of coded.1)
 sized_bytes (negsuc size) p = Err end_of_bytes
 
--- A refined symbol has bytes of its own, and a coder that begins there (6.4.11, steps 5 to 7).
+-- A refined symbol has bytes of its own, and its coder begins there (6.4.11, steps 5 to 7).
 abbrev pub prefixed_refined : Reference → ℕ → ℕ → Refining → Prefixed → Result (Grid × Refining × Prefixed) DecodeError
 prefixed_refined from width height f s = do
   size ← value_at s.tables.refinement_size s.place

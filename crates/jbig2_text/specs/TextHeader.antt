@@ -1,18 +1,32 @@
 -- The data of a text region segment up to its coded bytes (T.88, 7.4.3.1): region information, flags, adaptive pixels,
 -- the number of instances and the codes of the ids. The bytes give the header, and the coded bytes after it.
-use Rattle.std.specs.{Prelude.{ℕ, ◌/◌, ◌%◌, ◌==◌, nat_lt, Bool, true, false, List, [], length, Option, Some, None, Result, Ok, if◌then◌else◌, ℤ, pos, ◌-ℤ◌}, Int.{w16, w32}}
-use Rattle.jbig2_base.specs.{Answer.{◌>>=◌}, Fields.{number_at}, Combination.{operator_of}, declared.error.DecodeError.{DecodeError}}
+use Rattle.std.specs.Prelude.{ℕ, ◌/◌, ◌%◌, ◌==◌, nat_lt, Bool, true, false, List, [], length, Option, Some, None}
+use Rattle.std.specs.Prelude.{Result, Ok, if◌then◌else◌, ℤ, pos, ◌-ℤ◌}
+use Rattle.std.specs.Int.{w16, w32}
+use Rattle.jbig2_base.specs.Answer.{◌>>=◌}
+use Rattle.jbig2_base.specs.Fields.{number_at}
+use Rattle.jbig2_base.specs.Combination.{operator_of}
+use Rattle.jbig2_base.specs.declared.error.DecodeError.{DecodeError}
 use Rattle.jbig2_coder.specs.PrefixCode.{Member}
-use Rattle.jbig2_region.specs.{RefinementTemplates.{refinement_pixels_at, refinement_template_of}, RegionInfo.{region_info_at}, declared.{region_info.RegionSegmentInfo.{RegionSegmentInfo}, template.AdaptiveTemplatePixel.{AdaptiveTemplatePixel}}}
-use Rattle.jbig2_text.specs.{SymbolCodes.{symbol_codes_at}, declared.text.header.{ReferenceCorner.{ReferenceCorner, TheVariants.{BottomLeft, TopLeft, BottomRight, TopRight}}, TextFields.{TextFields}, TextRegionFlags.{TextRegionFlags}, TextRegionHuffmanFlags.{TextRegionHuffmanFlags}}}
+use Rattle.jbig2_region.specs.RefinementTemplates.{refinement_pixels_at, refinement_template_of}
+use Rattle.jbig2_region.specs.RegionInfo.{region_info_at}
+use Rattle.jbig2_region.specs.declared.region_info.RegionSegmentInfo.{RegionSegmentInfo}
+use Rattle.jbig2_region.specs.declared.template.AdaptiveTemplatePixel.{AdaptiveTemplatePixel}
+use Rattle.jbig2_text.specs.SymbolCodes.{symbol_codes_at}
+use Rattle.jbig2_text.specs.declared.text.header.ReferenceCorner.{ReferenceCorner}
+use Rattle.jbig2_text.specs.declared.text.header.ReferenceCorner.TheVariants.{BottomLeft, TopLeft, BottomRight}
+use Rattle.jbig2_text.specs.declared.text.header.ReferenceCorner.TheVariants.{TopRight}
+use Rattle.jbig2_text.specs.declared.text.header.TextFields.{TextFields}
+use Rattle.jbig2_text.specs.declared.text.header.TextRegionFlags.{TextRegionFlags}
+use Rattle.jbig2_text.specs.declared.text.header.TextRegionHuffmanFlags.{TextRegionHuffmanFlags}
 
--- How the numbers are coded (SBHUFF): by the arithmetic coder, or by prefix codes, with the numbers of their tables and
--- the codes of the symbols' ids (SBSYMCODES).
+-- How the numbers are coded (SBHUFF): by the arithmetic coder, or by prefix codes. Prefix codes have the numbers of
+-- their tables and the codes of the symbols' ids (SBSYMCODES).
 pub data NumberCoding : Type 0 where
   ArithmeticCoding : NumberCoding
   HuffmanCoding : (tables : TextRegionHuffmanFlags) (ids : List Member) → NumberCoding
 
-pub record TextHeader : Type 0 where  -- what a text region's coded bytes are decoded by
+pub record TextHeader : Type 0 where  -- what is needed to decode a text region's coded bytes
   pub region_info : RegionSegmentInfo
   pub flags : TextRegionFlags
   pub coding : NumberCoding
@@ -28,7 +42,7 @@ corner_of n = if n == 0 then BottomLeft else if n == 1 then TopLeft else if n ==
 abbrev pub signed_5 : ℕ → ℤ  -- five bits in two's complement
 signed_5 n = if nat_lt n 16 then pos n else pos n -ℤ pos 32
 
--- whether there are prefix codes (SBHUFF), and the other flags (7.4.3.1.1)
+-- whether prefix codes are used (SBHUFF), and the other flags (7.4.3.1.1)
 unfoldable pub text_flags_at : List ℕ → Result ((Bool × TextRegionFlags) × List ℕ) DecodeError
 text_flags_at bytes = do
   flags ← number_at w16 bytes
@@ -57,12 +71,12 @@ table_numbers flags = record {
   refinement_size_table = flags / 16384 % 2;
 }
 
--- with prefix codes alone
+-- they are there only with prefix codes
 abbrev pub table_numbers_at : Bool → List ℕ → Result (Option TextRegionHuffmanFlags × List ℕ) DecodeError
 table_numbers_at true bytes = number_at w16 bytes >>= λ flags. Ok (Some (table_numbers flags.0), flags.1)
 table_numbers_at false bytes = Ok (None, bytes)
 
--- the fields between the region information and the codes of the ids: adaptive pixels for refinements alone (7.4.3.1.3)
+-- the fields between the region information and the codes of the ids; adaptive pixels only with refinement (7.4.3.1.3)
 unfoldable pub text_fields_at : List ℕ → Result (TextFields × List ℕ) DecodeError
 text_fields_at bytes = do
   flags ← text_flags_at bytes
@@ -80,12 +94,12 @@ text_fields_at bytes = do
     instances.1,
   )
 
--- the codes of the ids of this many symbols, with prefix codes alone
+-- the codes of the ids of this many symbols, only with prefix codes
 abbrev pub coding_at : Option TextRegionHuffmanFlags → ℕ → List ℕ → Result (NumberCoding × List ℕ) DecodeError
 coding_at (Some tables) count bytes = symbol_codes_at count bytes >>= λ ids. Ok (HuffmanCoding tables ids.0, ids.1)
 coding_at None count bytes = Ok (ArithmeticCoding, bytes)
 
--- all of it, for this many symbols, and the coded bytes
+-- the whole header, for this many symbols, and the coded bytes after it
 unfoldable pub text_header_at : ℕ → Bool → List ℕ → Result (TextHeader × List ℕ) DecodeError
 text_header_at symbols strict bytes = do
   info ← region_info_at bytes

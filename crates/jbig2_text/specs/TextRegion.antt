@@ -1,13 +1,28 @@
--- A text region segment (T.88, 7.4.3). `text_decoded` takes the header with the coded bytes, the symbols and the
--- custom tables that it refers to, and gives the region's grid at its place, decoded from fresh states.
+-- A text region segment (T.88, 7.4.3). `text_decoded` takes the header with the coded bytes, and the symbols and the
+-- custom tables that the segment refers to. It gives the region's grid at its place, decoded from fresh states.
 use Rattle.std.specs.Prelude.{ℕ, nat_lt, ◌==◌, ◌||◌, if◌then◌else◌, List, length, Result, Ok, Err}
-use Rattle.jbig2_base.specs.{Answer.{◌>>=◌, refuse_if}, Bits.{start_of}, Grid.{Grid, blank}, declared.error.{DecodeError.{DecodeError, TheVariants.{Huffman, Overflow}}, HuffmanError.TheVariants.{InvalidSelection}, OverflowError.TheVariants.{BitmapDimension}}, Search.{code_length}}
-use Rattle.jbig2_coder.specs.{PrefixCode.{Member, prefix_code}, Tables.{next_custom, standard, lines_a, lines_f, lines_g, lines_h, lines_i, lines_j, lines_k, lines_l, lines_m, lines_n, lines_o}}
-use Rattle.jbig2_region.specs.{Raster.{fresh_contexts}, RefinementTemplates.{refinement_bits}, RegionInfo.{PlacedRegion, placed}}
-use Rattle.jbig2_text.specs.{Refining.{Refining}, Text.{Readings, TextParams, text_region}, TextCoding.{Coded, Prefixed, TextTables, by_coder, by_prefix_codes, coded_start}, TextHeader.{NumberCoding, TextHeader, ArithmeticCoding, HuffmanCoding}, declared.text.header.TextRegionHuffmanFlags.{TextRegionHuffmanFlags}}
+use Rattle.jbig2_base.specs.Answer.{◌>>=◌, refuse_if}
+use Rattle.jbig2_base.specs.Bits.{start_of}
+use Rattle.jbig2_base.specs.Grid.{Grid, blank}
+use Rattle.jbig2_base.specs.declared.error.DecodeError.{DecodeError}
+use Rattle.jbig2_base.specs.declared.error.DecodeError.TheVariants.{Huffman, Overflow}
+use Rattle.jbig2_base.specs.declared.error.HuffmanError.TheVariants.{InvalidSelection}
+use Rattle.jbig2_base.specs.declared.error.OverflowError.TheVariants.{BitmapDimension}
+use Rattle.jbig2_base.specs.Search.{code_length}
+use Rattle.jbig2_coder.specs.PrefixCode.{Member, prefix_code}
+use Rattle.jbig2_coder.specs.Tables.{next_custom, standard, lines_a, lines_f, lines_g, lines_h, lines_i, lines_j}
+use Rattle.jbig2_coder.specs.Tables.{lines_k, lines_l, lines_m, lines_n, lines_o}
+use Rattle.jbig2_region.specs.Raster.{fresh_contexts}
+use Rattle.jbig2_region.specs.RefinementTemplates.{refinement_bits}
+use Rattle.jbig2_region.specs.RegionInfo.{PlacedRegion, placed}
+use Rattle.jbig2_text.specs.Refining.{Refining}
+use Rattle.jbig2_text.specs.Text.{Readings, TextParams, text_region}
+use Rattle.jbig2_text.specs.TextCoding.{Coded, Prefixed, TextTables, by_coder, by_prefix_codes, coded_start}
+use Rattle.jbig2_text.specs.TextHeader.{NumberCoding, TextHeader, ArithmeticCoding, HuffmanCoding}
+use Rattle.jbig2_text.specs.declared.text.header.TextRegionHuffmanFlags.{TextRegionHuffmanFlags}
 
 -- ---- tables (7.4.3.1.6)
--- the table that a number names among two of the standard, or 3 for the next custom one; and those left to take
+-- the table that a number names: one of two of the standard, or 3 for the next custom one; and the custom ones left
 abbrev pub one_of_two : List Member → List Member → ℕ → List (List Member) → Result (List Member × List (List Member)) DecodeError
 one_of_two first second n customs =
     if n == 0 then standard first customs else if n == 1 then standard second customs
@@ -64,7 +79,7 @@ text_params h symbols = record {
   strict = h.strict;
 }
 
-abbrev pub refining_of : TextHeader → Refining  -- by contexts that know nothing yet
+abbrev pub refining_of : TextHeader → Refining  -- with fresh contexts
 refining_of h = record {
   template = h.flags.refinement_template;
   pixels = h.refinement_pixels;
@@ -74,7 +89,7 @@ refining_of h = record {
 unfoldable pub region_from : {S : Type 0} → Readings S → TextHeader → List Grid → Grid → S → Result Grid DecodeError
 region_from r h symbols region s = text_region r (text_params h symbols) region (refining_of h) s >>= λ found. Ok found.0
 
--- the coder, with ids of as many bits as tell the symbols apart (SBSYMCODELEN)
+-- the coder, with ids of as many bits as the number of symbols needs (SBSYMCODELEN)
 abbrev pub coder_of : TextHeader → List Grid → Coded
 coder_of h symbols = coded_start h.bytes (code_length (length symbols))
 
@@ -92,7 +107,7 @@ unfoldable pub text_answer : TextHeader → List Grid → List (List Member) →
 text_answer h symbols customs =
     region_by h h.coding symbols customs (blank h.region_info.width h.region_info.height h.flags.default_pixel)
 
--- A region and its place; a side above 65535 is refused (our own rule).
+-- A region at its place. A side above 65535 is refused (our own rule).
 unfoldable pub text_decoded : TextHeader → List Grid → List (List Member) → Result PlacedRegion DecodeError
 text_decoded h symbols customs = do
   fits ← refuse_if (nat_lt 65535 h.region_info.width || nat_lt 65535 h.region_info.height) (Overflow BitmapDimension)

@@ -1,4 +1,4 @@
-//! Numbers that are read by prefix codes.
+//! Numbers that are coded in prefix codes (T.88, B.4).
 ghost use Rattle.std.specs.Prelude.{◌≡◌};
 ghost use Rattle.jbig2_base.specs.Answer.{Answers};
 ghost use Rattle.jbig2_text.specs.SymbolCodes.{value_at};
@@ -8,7 +8,7 @@ use jbig2_base::reader::Reader;
 use jbig2_coder::huffman_table::HuffmanTable;
 use std::alloc::Allocator;
 
-/// A number by a table of prefix codes, which may not be out of band.
+/// Reads a number with a code of this table. Out of band is an error.
 pub fn value_field<A: Allocator>(table: &HuffmanTable<A>, reader: &mut Reader<'_>) -> Result<i32>
     ensures { Answers (λ n. (n, reader.new)) result (value_at table.now reader.old) }
 {

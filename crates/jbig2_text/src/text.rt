@@ -1,4 +1,4 @@
-//! Text regions (T.88, 6.4 and 7.4.3).
+//! Text regions (T.88, 6.4 and 7.4.3): reads the instances of symbols and draws them.
 ghost use Rattle.std.specs.Prelude.{◌≡◌, ◌≤◌, ◌^◌, length, Ok, OnErr};
 ghost use Rattle.jbig2_base.specs.Answer.{Answers, Gives};
 ghost use Rattle.jbig2_base.specs.Grid.{blank};
@@ -52,7 +52,7 @@ use jbig2_region::template::AdaptiveTemplatePixel;
 use std::alloc::Allocator;
 use std::sync::ledger::Ledger;
 
-/// What the instances of a region are read and placed by.
+/// What is needed to read and place the instances of a region.
 fn params_of<'a, H: Allocator, B: Allocator>(
     header: &TextRegionHeader<'_, H>,
     symbols: &'a [&'a Bitmap<B>],
@@ -71,7 +71,7 @@ fn params_of<'a, H: Allocator, B: Allocator>(
     }
 }
 
-/// The two adaptive pixels of refinements, if these flags ask for any.
+/// The two adaptive pixels of refinements, if these flags have any.
 fn pixels_of(
     flags: &TextRegionFlags,
     pixels: [AdaptiveTemplatePixel; 2],
@@ -84,7 +84,7 @@ fn pixels_of(
     None
 }
 
-/// Refinements of a region's symbols, by contexts that know nothing yet.
+/// The refinements of a region's symbols, with fresh contexts.
 fn refining_of<H: Allocator, M: Allocator>(
     alloc: M,
     header: &TextRegionHeader<'_, H>,
@@ -96,7 +96,7 @@ fn refining_of<H: Allocator, M: Allocator>(
     Refining::fresh(alloc, flags.refinement_template, pixels)
 }
 
-/// The coder at the start of a region's bytes, and contexts that know nothing yet.
+/// The coder at the start of a region's bytes, with fresh contexts.
 fn start_coded<'a, H: Allocator, B: Allocator, M: Allocator + Clone>(
     alloc: M,
     header: &TextRegionHeader<'a, H>,
@@ -129,7 +129,7 @@ fn start_prefixed<'a, 't, H: Allocator, T: Allocator>(
     })
 }
 
-/// Decodes a region by states at its start.
+/// Decodes a region with readings that are at its start.
 #[tactic(auto, unfolding(crate::specs::TextRegion::region_from))]
 fn decode_by<
     R: ReadInstances,
@@ -159,19 +159,19 @@ fn decode_by<
     draw_instances_by(alloc, readings, &mut refining, &params, bitmap, work)
 }
 
-/// Decodes a text region (T.88, 6.4) of these symbols, at most 2^21, into a bitmap of its size
-/// that is all in its default colour. `referred_tables` are the custom tables that it refers to. A
-/// refusal leaves the bitmap as it was.
+/// Decodes a text region (T.88, 6.4) of these symbols, at most 2^21, into a bitmap of its size that
+/// is all in its default colour. `referred_tables` are the custom tables that it refers to. An
+/// error leaves the bitmap as it was.
 ///
-/// First `HuffmanError::InvalidSelection` for a table's number without meaning and
-/// `HuffmanError::MissingTables` where the custom tables run out. Then
-/// `SymbolError::TooManyInstances` for more than 32 instances a byte of the segment, and in strict
-/// mode where the last strip does not end; `ParseError::UnexpectedEof` and
-/// `HuffmanError::InvalidCode` where prefix codes end or there is none; an unexpected out of band
+/// The errors of the tables come first: `HuffmanError::InvalidSelection` for the number of a table
+/// that has no meaning, and `HuffmanError::MissingTables` for too few custom tables. Then come:
+/// `SymbolError::TooManyInstances` for more than 32 instances for each byte of the segment, and in
+/// strict mode where the last strip does not end; `ParseError::UnexpectedEof` and
+/// `HuffmanError::InvalidCode` where the bits end or are no prefix code; an unexpected out of band
 /// as `HuffmanError` or `SymbolError`; `SymbolError::InvalidStripDelta`,
 /// `OverflowError::PlacementCoordinate`, `OverflowError::BitmapDimension` and
-/// `OverflowError::ReferenceOffset` for numbers that leave their ranges; `SymbolError::OutOfRange`
-/// for an id without a symbol, in lenient mode only where it is refined; `OutOfMemory`.
+/// `OverflowError::ReferenceOffset` for numbers out of their ranges; `SymbolError::OutOfRange` for
+/// an id without a symbol, in lenient mode only where it is refined; `OutOfMemory`.
 #[tactic(auto, using(crate::proofs::CausesOfRegions::text_region_cause), unfolding(crate::specs::TextRegion::text_answer))]
 pub fn decode_into<
     H: Allocator,
@@ -222,8 +222,8 @@ pub fn decode_into<
 
 /// Decodes a text region (T.88, 6.4), as `decode_into` does, into a bitmap of its own.
 ///
-/// `OverflowError::BitmapDimension` above 65535 pixels either way; `OutOfMemory` where there is no
-/// room for the bitmap, else as `decode_into`.
+/// Returns `OverflowError::BitmapDimension` for a side above 65535 pixels, `OutOfMemory` where
+/// there is no memory for the bitmap, and else the errors of `decode_into`.
 #[tactic(auto, unfolding(crate::specs::TextRegion::text_decoded))]
 pub fn decode<H: Allocator, B: Allocator, T: Allocator, M: Allocator + Clone, L: Ledger>(
     alloc: M,

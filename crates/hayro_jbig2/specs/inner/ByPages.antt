@@ -1,21 +1,27 @@
--- The segments of a file by their pages, as they are kept.
-use Rattle.std.specs.{Prelude.{◌≡◌, ℕ, suc, ◌==◌, List, [], ◌∷◌, map, option_map, Option, Some, None, if◌then◌else◌}, BTreeMap.{get}, Ordering.{nat_cmp}, declared.vec.Vec.{Vec}}
-use Rattle.jbig2_base.specs.{Segment.{SegmentView}, inner.SegmentViews.{segment_views}, declared.segment.Segment.{Segment}}
-use Rattle.hayro_jbig2.specs.{Files.{of_page, numbers_after, by_pages}, declared.file.segments_by_page.SegmentsByPage.{SegmentsByPage}}
+-- The segments of a file by their pages, as the code keeps them.
+use Rattle.std.specs.Prelude.{◌≡◌, ℕ, suc, ◌==◌, List, [], ◌∷◌, map, option_map, Option, Some, None, if◌then◌else◌}
+use Rattle.std.specs.BTreeMap.{get}
+use Rattle.std.specs.Ordering.{nat_cmp}
+use Rattle.std.specs.declared.vec.Vec.{Vec}
+use Rattle.jbig2_base.specs.Segment.{SegmentView}
+use Rattle.jbig2_base.specs.inner.SegmentViews.{segment_views}
+use Rattle.jbig2_base.specs.declared.segment.Segment.{Segment}
+use Rattle.hayro_jbig2.specs.Files.{of_page, numbers_after, by_pages}
+use Rattle.hayro_jbig2.specs.declared.file.segments_by_page.SegmentsByPage.{SegmentsByPage}
 
 abbrev pub pages_view : {A : Type 0} → List (Vec (Segment A) A) → List (List SegmentView)
 pages_view pages = map (λ own. segment_views own.items) pages
 
--- those of no page, and each page's own
+-- the segments of no page, and those of each page
 abbrev pub by_page_view : {A : Type 0} → SegmentsByPage A → List SegmentView × List (List SegmentView)
 by_page_view s = (segment_views s.shared.items, pages_view s.pages.items)
 
--- where a number first stands among others
+-- the first place of a number in a list
 abbrev pub first_place_of : ℕ → List ℕ → Option ℕ
 first_place_of n [] = None
 first_place_of n (m ∷ ms) = if m == n then Some 0 else option_map suc (first_place_of n ms)
 
--- The segments ps by their pages, each of which is found by its number.
+-- It holds the segments ps by their pages. Each page is found by its number.
 pub record HoldsByPage {A : Type 0} (s : SegmentsByPage A) (ps : List SegmentView) : Type 0 where
   pub shared : segment_views s.shared.items ≡ of_page 0 ps
   pub pages : pages_view s.pages.items ≡ by_pages ps

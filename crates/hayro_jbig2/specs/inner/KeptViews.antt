@@ -1,14 +1,18 @@
--- What is kept under numbers, seen as the definitions see it: each value by the view of its own type.
-use Rattle.std.specs.{Prelude.{List, map, Option, Some, None}, Borrow.{Bor}}
-use Rattle.jbig2_halftone.specs.{Patterns.{Patterns}, inner.DictionaryViews.{dictionary_view}, declared.pattern.dictionary.PatternDictionary.{PatternDictionary}}
-use Rattle.jbig2_symbol.specs.{Symbols.{Symbols}, declared.symbol.dictionary.SymbolDictionary.{SymbolDictionary}}
+-- What is kept under numbers, as the definitions see it: each value by the view of its own type.
+use Rattle.std.specs.Prelude.{List, map, Option, Some, None}
+use Rattle.std.specs.Borrow.{Bor}
+use Rattle.jbig2_halftone.specs.Patterns.{Patterns}
+use Rattle.jbig2_halftone.specs.inner.DictionaryViews.{dictionary_view}
+use Rattle.jbig2_halftone.specs.declared.pattern.dictionary.PatternDictionary.{PatternDictionary}
+use Rattle.jbig2_symbol.specs.Symbols.{Symbols}
+use Rattle.jbig2_symbol.specs.declared.symbol.dictionary.SymbolDictionary.{SymbolDictionary}
 use Rattle.hayro_jbig2.specs.declared.kept.Kept.{Kept}
 use Rattle.jbig2_symbol.specs.inner.SymbolViews as symbol_views
 
 abbrev pub seen : {X V : Type 0} → (X → V) → List (Kept X) → List (Kept V)
 seen view kept = map (λ k. record { segment_number = k.segment_number; value = view k.value }) kept
 
--- what was looked for
+-- the value that was looked for, if it was found
 abbrev pub found : {X V : Type 0} → (X → V) → Option (Bor X) → Option V
 found view None = None
 found view (Some value) = Some (view value.now)

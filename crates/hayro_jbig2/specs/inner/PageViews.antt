@@ -1,8 +1,16 @@
 -- The names of a page's globals, and the page's area as the code returns it.
-use Rattle.std.specs.{Prelude.{◌||◌, Option, Some, None, Result, Ok, Err}, Borrow.{Bor}}
-use Rattle.jbig2_base.specs.{Answer.{◌>>=◌, refuse_if}, Grid.{Grid}, declared.error.{DecodeError.{DecodeError, TheVariants.{Overflow}}, OverflowError.TheVariants.{ReferenceOffset}}}
-use Rattle.jbig2_region.specs.{RegionInfo.{PlacedRegion}, Refinement.{is_far}, declared.region_info.RegionSegmentInfo.{RegionSegmentInfo}}
-use Rattle.hayro_jbig2.specs.{Names.{Names, Shared, no_names}, Regions.{page_area}}
+use Rattle.std.specs.Prelude.{◌||◌, Option, Some, None, Result, Ok, Err}
+use Rattle.std.specs.Borrow.{Bor}
+use Rattle.jbig2_base.specs.Answer.{◌>>=◌, refuse_if}
+use Rattle.jbig2_base.specs.Grid.{Grid}
+use Rattle.jbig2_base.specs.declared.error.DecodeError.{DecodeError}
+use Rattle.jbig2_base.specs.declared.error.DecodeError.TheVariants.{Overflow}
+use Rattle.jbig2_base.specs.declared.error.OverflowError.TheVariants.{ReferenceOffset}
+use Rattle.jbig2_region.specs.RegionInfo.{PlacedRegion}
+use Rattle.jbig2_region.specs.Refinement.{is_far}
+use Rattle.jbig2_region.specs.declared.region_info.RegionSegmentInfo.{RegionSegmentInfo}
+use Rattle.hayro_jbig2.specs.Names.{Names, Shared, no_names}
+use Rattle.hayro_jbig2.specs.Regions.{page_area}
 
 -- the page's area, unless it lies too far to be refined
 abbrev pub near_area : Grid → RegionSegmentInfo → Result PlacedRegion DecodeError

@@ -1,10 +1,28 @@
--- What a region is decoded by, once its header is read and what it refers to is found (T.88, 7.4.3 and 7.4.5 to 7.4.7).
+-- How a region is decoded, once its header is read and what it refers to is found (T.88, 7.4.3 and 7.4.5 to 7.4.7).
 use Rattle.std.specs.Prelude.{◌≡◌, ◌≤◌, Bool, false, ◌||◌, nat_lt, Result, Ok, Err, ◌⊎◌}
-use Rattle.jbig2_base.specs.{Answer.{◌>>=◌, refuse_if}, Grid.{Grid}, declared.error.{DecodeError.{DecodeError, TheVariants.{OutOfMemory, Overflow}}, OverflowError.TheVariants.{BitmapDimension}}}
-use Rattle.jbig2_region.specs.{RegionInfo.{PlacedRegion, placed}, Generic.{generic_answer}, inner.RegionViews.{region_view}, Refinement.{refined_answer}, declared.region_info.RegionSegmentInfo.{RegionSegmentInfo}, GenericHeader.{IsParsed}, RefinementHeader.{IsRefinement}}
-use Rattle.jbig2_halftone.specs.{Halftone.{halftone_answer}, inner.DictionaryViews.{dictionary_view}, HalftoneHeader.{HalftoneHeader}}
+use Rattle.jbig2_base.specs.Answer.{◌>>=◌, refuse_if}
+use Rattle.jbig2_base.specs.Grid.{Grid}
+use Rattle.jbig2_base.specs.declared.error.DecodeError.{DecodeError}
+use Rattle.jbig2_base.specs.declared.error.DecodeError.TheVariants.{OutOfMemory, Overflow}
+use Rattle.jbig2_base.specs.declared.error.OverflowError.TheVariants.{BitmapDimension}
+use Rattle.jbig2_region.specs.RegionInfo.{PlacedRegion, placed}
+use Rattle.jbig2_region.specs.Generic.{generic_answer}
+use Rattle.jbig2_region.specs.inner.RegionViews.{region_view}
+use Rattle.jbig2_region.specs.Refinement.{refined_answer}
+use Rattle.jbig2_region.specs.declared.region_info.RegionSegmentInfo.{RegionSegmentInfo}
+use Rattle.jbig2_region.specs.GenericHeader.{IsParsed}
+use Rattle.jbig2_region.specs.RefinementHeader.{IsRefinement}
+use Rattle.jbig2_halftone.specs.Halftone.{halftone_answer}
+use Rattle.jbig2_halftone.specs.inner.DictionaryViews.{dictionary_view}
+use Rattle.jbig2_halftone.specs.HalftoneHeader.{HalftoneHeader}
 use Rattle.jbig2_text.specs.TextRegion.{text_answer}
-use Rattle.hayro_jbig2.specs.{Names.{nothing_passed}, Page.{Drawing}, declared.{region.parsed_region.ParsedRegion.{ParsedRegion, TheVariants.{Text, Halftone, Generic, Refinement, PageRefinement}}, region.references.References.{References}}, inner.KeptViews.{seen}}
+use Rattle.hayro_jbig2.specs.Names.{nothing_passed}
+use Rattle.hayro_jbig2.specs.Page.{Drawing}
+use Rattle.hayro_jbig2.specs.declared.region.parsed_region.ParsedRegion.{ParsedRegion}
+use Rattle.hayro_jbig2.specs.declared.region.parsed_region.ParsedRegion.TheVariants.{Text, Halftone, Generic}
+use Rattle.hayro_jbig2.specs.declared.region.parsed_region.ParsedRegion.TheVariants.{Refinement, PageRefinement}
+use Rattle.hayro_jbig2.specs.declared.region.references.References.{References}
+use Rattle.hayro_jbig2.specs.inner.KeptViews.{seen}
 use Rattle.jbig2_region.specs.inner.GenericViews as generics
 use Rattle.jbig2_region.specs.inner.RefinedViews as refinements
 use Rattle.jbig2_halftone.specs.inner.HalftoneHeaderViews as halftones
@@ -33,16 +51,16 @@ drawn (Generic header) = generic_answer (generics.header_view header)
 drawn (Refinement header reference) = refined_answer (refinements.header_view header) (region_view reference.now)
 drawn (PageRefinement header area) = refined_answer (refinements.header_view header) (region_view area)
 
--- at its place
+-- the grid at its place, unless a side of the region is too large
 abbrev pub apart : {A : Type 0} → ParsedRegion A → Result PlacedRegion DecodeError
 apart r = refuse_if (nat_lt 65535 (info_of r).width || nat_lt 65535 (info_of r).height) (Overflow BitmapDimension) >>= λ fits. drawn r >>= λ g. Ok (placed (info_of r) g)
 
--- a halftone's grid is no larger than is read
+-- the limits of a halftone's grid
 pub record HasCells (header : HalftoneHeader) : Type 0 where
   pub columns : header.grid_position_and_size.width ≤ 65535
   pub rows : header.grid_position_and_size.height ≤ 65535
 
--- what holds of every region that is parsed
+-- what holds for every region that was parsed
 abbrev pub IsDecodable : {A : Type 0} → ParsedRegion A → Type 0
 IsDecodable (Text header referred) = header.flags.log_strip_size ≤ 3
 IsDecodable (Halftone header patterns) = HasCells (halftones.header_view header)
@@ -50,11 +68,11 @@ IsDecodable (Generic header) = IsParsed (generics.header_view header)
 IsDecodable (Refinement header reference) = IsRefinement (refinements.header_view header)
 IsDecodable (PageRefinement header area) = IsRefinement (refinements.header_view header)
 
--- What was parsed decodes to what was meant, unless memory ran out.
+-- The parsed region decodes to what the definition gives, unless memory ran out.
 abbrev pub Leads : {A : Type 0} → Result (ParsedRegion A) DecodeError → Result PlacedRegion DecodeError → Type 0
 Leads (Ok parsed) meant = meant ≡ apart parsed
 Leads (Err e) meant = (e ≡ OutOfMemory) ⊎ (meant ≡ Err e)
 
--- the page that references see
+-- the page as the references see it
 abbrev pub drawing_of : {A : Type 0} → References A → Drawing
 drawing_of r = record { grid = r.page.now; regions = seen region_view r.regions.now; names = r.names.own.now; untouched = false; passed_over = nothing_passed }

@@ -1,8 +1,9 @@
 -- Bytes that are put into a caller's buffer (our own rule).
-use Rattle.std.specs.{Prelude.{◌≡◌, ℕ, ◌+◌, ◌-◌, ◌*◌, ◌<◌, Bool, List, map, get_or, length}, List.{range_with_len}}
+use Rattle.std.specs.Prelude.{◌≡◌, ℕ, ◌+◌, ◌-◌, ◌*◌, ◌<◌, Bool, List, map, get_or, length}
+use Rattle.std.specs.List.{range_with_len}
 use Rattle.jbig2_coder.specs.Integers.{value_of_bits}
 
--- This many bytes stand at a place then, and those before it are as they were.
+-- This many bytes are put at a place. The bytes before it are as they were.
 pub record Puts (byte : ℕ → ℕ) (place count : ℕ) (old new : List ℕ) : Type 0 where
   pub sized : length new ≡ length old
   pub before : (k : ℕ) → k < place → get_or new k 0 ≡ get_or old k 0

@@ -1,4 +1,4 @@
-//! The page while it is drawn.
+//! The page while its segments are drawn.
 ghost use Rattle.std.specs.Prelude.{◌≡◌, ◌*◌, ◌<◌, ◌≤◌, [], true, false, Ok};
 ghost use Rattle.jbig2_base.specs.Answer.{Gives};
 ghost use Rattle.jbig2_region.specs.inner.RegionViews.{region_view};
@@ -20,8 +20,8 @@ use std::alloc::Allocator;
 use std::marker::Model;
 use std::sync::ledger::Ledger;
 
-/// The page that is drawn, what its segments keep, and the room that drawing uses. The next page
-/// uses it all again, and what it holds from before changes nothing of that.
+/// The page that is drawn, what its segments keep, and the memory that drawing uses. The next page
+/// uses it all again, and its result does not depend on what was there before.
 #[derive(Drop)]
 pub(crate) struct Canvas<A: Allocator> {
     pub(crate) bitmap: Bitmap<A>,
@@ -55,7 +55,7 @@ impl<A: Allocator> Model for Canvas<A> {
 }
 
 impl<A: Allocator + Clone> Canvas<A> {
-    /// A page of no pixels. `DecodeError::OutOfMemory` alone refuses it.
+    /// A page of no pixels. Its only error is `DecodeError::OutOfMemory`.
     pub(crate) fn new(alloc: A) -> Result<Canvas<A>>
         ensures { Gives (λ canvas. canvas) result (Ok nothing_drawn) }
     {
@@ -79,14 +79,14 @@ impl<A: Allocator> Canvas<A> {
         &self.bitmap
     }
 
-    /// The page by its packed rows.
+    /// The page as packed rows.
     pub(crate) fn drawn(&self) -> DrawnPage<'_, A>
         ensures { result ≡ packed_of self.now.grid.width self.now.grid.height self.now.grid }
     {
         DrawnPage::new(&self.bitmap, self.is_white())
     }
 
-    /// Begins a page: nothing of an earlier one is left.
+    /// Begins a page. Nothing is left of an earlier one.
     pub(crate) fn begin(&mut self, initial_page: &InitialPage) -> Result<()>
         requires width { initial_page.now.width ≤ 65535 }
         requires height { initial_page.now.height ≤ 65535 }
@@ -105,7 +105,7 @@ impl<A: Allocator> Canvas<A> {
         Ok(())
     }
 
-    /// Combines an immediate region with the page, at its place as signed numbers (T.88, 7.4.1).
+    /// Combines an immediate region with the page, at its location as signed numbers (T.88, 7.4.1).
     pub(crate) fn combine<L: Ledger>(&mut self, region: &DecodedRegion<A>, work: &mut Work<L>)
         ensures value { Ok self.new ≡ shown self.old (Ok (region_view region.now)) }
         ensures paid { let source = region.now.bitmap in

@@ -1,4 +1,4 @@
-//! What decoding keeps from page to page.
+//! What decoding keeps from one page to the next.
 ghost use Rattle.std.specs.Prelude.{◌≡◌};
 ghost use Rattle.jbig2_base.specs.Answer.{Gives};
 ghost use Rattle.jbig2_base.specs.Counts.{no_steps};
@@ -15,15 +15,14 @@ use std::alloc::Allocator;
 use std::marker::Model;
 use std::sync::ledger::{Blank, Ledger};
 
-/// The room that decoding a page uses and the next page uses again. What it holds from before
-/// changes nothing of a page. It holds the page that was drawn in it last, and the limit of the work that each page
-/// may take.
+/// The memory that decoding a page uses, and that the next page uses again. A page's result does not depend on what was
+/// there before. The context holds the page that was drawn last, and the limit of the work that each page may take.
 #[derive(Drop)]
 pub struct DecoderContext<A: Allocator> {
     pub(crate) canvas: Canvas<A>,
     /// The units of work that a page may take.
     work_limit: Option<u64>,
-    /// What the last page left of them.
+    /// How many of them the last page left.
     work_left: Option<u64>,
 }
 
@@ -39,7 +38,7 @@ impl<A: Allocator> Model for DecoderContext<A> {
     } };
 }
 
-/// A counter that may take the work of a limit, where there is one.
+/// A counter that may take the work of the limit, if there is one.
 pub(crate) fn work_within<L: Ledger>(limit: Option<u64>, blank: Blank) -> Work<L>
     requires name { blank.name ≡ L.name }
     requires parts { blank.parts ≡ L.parts }
@@ -51,8 +50,7 @@ pub(crate) fn work_within<L: Ledger>(limit: Option<u64>, blank: Blank) -> Work<L
 }
 
 impl<A: Allocator + Clone> DecoderContext<A> {
-    /// A context that holds a page of no pixels, without a limit of work. `DecodeError::OutOfMemory` alone
-    /// refuses it.
+    /// A context that holds a page of no pixels, without a limit of work. Its only error is `DecodeError::OutOfMemory`.
     pub fn new(alloc: A) -> Result<DecoderContext<A>>
         ensures { Gives (λ context. context) result (Ok new_context) }
     {
@@ -65,25 +63,25 @@ impl<A: Allocator + Clone> DecoderContext<A> {
 }
 
 impl<A: Allocator> DecoderContext<A> {
-    /// What reading passed over in the page that was drawn last. After a page that was refused it is what
-    /// was passed over before the fault.
+    /// What the reading passed over in the page that was drawn last. After a page that was refused, it is what was
+    /// passed over before the fault.
     pub fn passed_over(&self) -> &PassedOver
         ensures { result.now ≡ self.now.drawing.passed_over }
     {
         &self.canvas.passed_over
     }
 
-    /// The page that was drawn last, by its packed rows. After a page that was refused it is what was drawn
-    /// before the fault, and after want of memory any page.
+    /// The page that was drawn last, as packed rows. After a page that was refused, it is what was drawn before the
+    /// fault. After memory ran out it may be any page.
     pub fn drawn(&self) -> DrawnPage<'_, A>
         ensures { let page = self.now.drawing.grid in result ≡ packed_of page.width page.height page }
     {
         self.canvas.drawn()
     }
 
-    /// Sets how many units of work each page may take that is decoded in this context from now on; `None` is no
-    /// limit, as in a new context. A page that would take more is refused with `DecodeError::OutOfMemory` before that work
-    /// is begun, as one for which memory is missing, and the context serves the next page.
+    /// Sets how many units of work each page may take that is decoded in this context from now on; `None` means no
+    /// limit, as in a new context. A page that needs more is refused with `DecodeError::OutOfMemory` before it does
+    /// that work. The context can still be used for the next page.
     pub fn set_work_limit(&mut self, work: Option<u64>)
         ensures { self.new ≡ record self.old { work_limit = work; work_left = work } }
     {
@@ -91,8 +89,8 @@ impl<A: Allocator> DecoderContext<A> {
         self.work_left = work;
     }
 
-    /// What the page that was decoded last left of its limit; `None` where it had none. It is 0 where the page was refused
-    /// for want of work, so that a caller can tell that from want of memory.
+    /// How many units the last page left of its limit; `None` where it had none. It is 0 where the page was refused
+    /// because work ran out. So a caller can see whether work or memory ran out.
     pub fn work_left(&self) -> Option<u64>
         ensures { result ≡ self.now.work_left }
     {
@@ -111,7 +109,7 @@ impl<A: Allocator> DecoderContext<A> {
         work_within(self.work_limit, blank)
     }
 
-    /// Notes what a page left of its limit.
+    /// Records what a page left of its limit.
     pub(crate) fn end<L: Ledger>(&mut self, work: &Work<L>)
         ensures { self.new ≡ after_page work.now self.old }
     {

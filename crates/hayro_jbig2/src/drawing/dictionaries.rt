@@ -1,5 +1,5 @@
-//! Segments that draw nothing and leave something for later ones (T.88, 7.4.2, 7.4.4 and 7.4.13),
-//! of a page as of its globals. One that fails is passed over in salvage alone.
+//! Segments that draw nothing and keep something for later ones (T.88, 7.4.2, 7.4.4 and 7.4.13), of
+//! a page or of its globals. Only salvage passes over one that fails.
 ghost use Rattle.std.specs.Prelude.{◌≡◌, ◌+◌, ◌*◌, ◌⊎◌, IfErr, IfOk};
 ghost use Rattle.jbig2_base.specs.Answer.{Answers, Gives};
 ghost use Rattle.jbig2_base.specs.inner.SegmentViews.{segment_view};
@@ -28,7 +28,7 @@ use std::sync::ledger::Ledger;
 /// The work of a new symbol besides its bitmap.
 const NEW_SYMBOL: u64 = 16;
 
-/// A symbol dictionary (T.88, 7.4.2), after what it refers to.
+/// Decodes a symbol dictionary (T.88, 7.4.2), after what it refers to.
 #[tactic(auto, unfolding(crate::specs::Names::symbol_dictionary_at))]
 fn decode_symbols<A: Allocator + Clone, L: Ledger>(
     lookup: &Lookup<'_, A>,
@@ -58,7 +58,7 @@ fn decode_symbols<A: Allocator + Clone, L: Ledger>(
     )
 }
 
-/// Takes the work of patterns: of their collective bitmap, of each that is cut out of it, and of the coded bytes.
+/// Takes the work of patterns: of their collective bitmap, of each one that is cut out of it, and of the coded bytes.
 fn pay_patterns<L: Ledger>(header: &PatternDictionaryHeader<'_>, work: &mut Work<L>) -> Result<()>
     ensures memory { IfErr result (λ e. e ≡ DecodeError.OutOfMemory) }
     ensures paid { Paid work.old work.new }
@@ -75,7 +75,7 @@ fn pay_patterns<L: Ledger>(header: &PatternDictionaryHeader<'_>, work: &mut Work
     Ok(())
 }
 
-/// A pattern dictionary (T.88, 7.4.4).
+/// Decodes a pattern dictionary (T.88, 7.4.4).
 #[tactic(auto, unfolding(crate::specs::Names::pattern_dictionary_at))]
 fn decode_patterns<A: Allocator + Clone, L: Ledger>(
     strict: bool,
@@ -95,7 +95,7 @@ fn decode_patterns<A: Allocator + Clone, L: Ledger>(
     dictionary
 }
 
-/// Keeps a symbol dictionary, which may refer to what is kept and to `globals`.
+/// Keeps a symbol dictionary, which may refer to what `names` and `globals` keep.
 #[tactic(auto, unfolding(crate::specs::Names::with_symbols))]
 pub(crate) fn keep_symbols<A: Allocator + Clone, L: Ledger>(
     names: &mut KeptNames<A>,
@@ -152,7 +152,7 @@ pub(crate) fn keep_table<A: Allocator + Clone>(
     names.store_table(segment.header.segment_number, table)
 }
 
-/// An extension segment (T.88, 7.4.14): strict reading refuses one that a decoder has to know.
+/// An extension segment (T.88, 7.4.14): strict reading refuses one that a decoder must know.
 #[tactic(auto, using(crate::proofs::SegmentCauses::extension_cause))]
 pub(crate) fn extension(strict: bool, bytes: &[u8]) -> Result<()>
     ensures value { Answers (λ known. known) result (extension strict bytes.now) }

@@ -1,4 +1,4 @@
-//! What reading passes over.
+//! What a reading passed over.
 ghost use Rattle.std.specs.Prelude.{◌≡◌, ◌<◌};
 ghost use Rattle.hayro_jbig2.specs.Names.{nothing_passed, with_passed};
 
@@ -12,13 +12,13 @@ pub struct PassedSegment {
     pub error: DecodeError,
 }
 
-/// What reading passed over in a page or in globals, where it left everything as it was. In lenient reading that is the
-/// immediate regions that failed (T.88, 8.2), in salvage all segments that failed.
+/// What the reading passed over in a page or in globals. These segments left everything as it was. In lenient reading
+/// they are the immediate regions that failed (T.88, 8.2), in salvage all segments that failed.
 #[derive(Debug, Drop, PartialEq, Eq)]
 pub struct PassedOver {
-    /// How many segments were passed over; 0 for a page that is whole.
+    /// How many segments were passed over; 0 if none was.
     pub count: usize,
-    /// The first of them, in the order in which the page's segments are drawn.
+    /// The first of them, in the order of drawing.
     pub first: Option<PassedSegment>,
 }
 

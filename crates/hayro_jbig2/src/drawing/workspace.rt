@@ -1,4 +1,4 @@
-//! What decoding uses for one segment after another.
+//! What decoding uses again for each segment.
 ghost use Rattle.std.specs.Prelude.{◌≡◌, ◌≤◌, IfErr, vec_len};
 
 use jbig2_base::error::{DecodeError, Result};
@@ -6,11 +6,11 @@ use jbig2_coder::arithmetic_decoder::ArithmeticDecoderContext;
 use jbig2_coder::huffman_table::StandardHuffmanTables;
 use std::alloc::Allocator;
 
-/// The most contexts that are kept for the next segment: as many as the greatest template has.
+/// The most contexts that are kept for the next segment: the number of the largest template.
 pub(crate) const MOST_CONTEXTS: usize = 65536;
 
-/// The standard tables, and the room for the contexts of the arithmetic coder. What the room holds
-/// from an earlier segment changes nothing of the next, and is no more than `MOST_CONTEXTS`.
+/// The standard tables, and memory for the contexts of the arithmetic coder. A segment's result
+/// does not depend on contexts from an earlier one. At most `MOST_CONTEXTS` of them are kept.
 #[derive(Drop)]
 pub(crate) struct Workspace<A: Allocator> {
     pub(crate) alloc: A,

@@ -1,4 +1,4 @@
-//! The pages of a file, one by one.
+//! The pages of a file, one after the other.
 ghost use Rattle.std.specs.Iterator.{UpTo, at_most};
 ghost use Rattle.std.specs.Iterator.SizeHint.{IsWithinCount};
 ghost use Rattle.std.specs.Map.Iter.{TakesFirst};
@@ -18,7 +18,7 @@ pub struct Pages<'a, A: Allocator> {
     indices: Range<usize>,
 }
 
-/// It is seen as the list of the pages that are left.
+/// Definitions see it as the list of the pages that are left.
 impl<'a, A: Allocator> Model for Pages<'a, A> {
     ghost use Rattle.std.specs.Prelude.{◌≡◌, ◌≤◌, List, length, map, drop};
     ghost use Rattle.hayro_jbig2.specs.Files.{page_in};

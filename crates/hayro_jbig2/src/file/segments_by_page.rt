@@ -12,19 +12,19 @@ use jbig2_base::segment::Segment;
 use std::alloc::Allocator;
 use std::collections::BTreeMap;
 
-/// The segments of a file, each of them once: those of no page, and each page's own.
+/// The segments of a file, each of them once: the segments of no page, and those of each page.
 #[derive(Drop)]
 pub(crate) struct SegmentsByPage<'a, A: Allocator> {
-    /// Those of association 0.
+    /// The segments of association 0.
     pub(crate) shared: Vec<Segment<'a, A>, A>,
-    /// Those of each page, in the order in which the pages' numbers first occur.
+    /// The segments of each page, in the order in which the pages' numbers first occur.
     pub(crate) pages: Vec<Vec<Segment<'a, A>, A>, A>,
-    /// Where among these the page of a number stands.
+    /// The index in `pages` of the page with this number.
     places: BTreeMap<u32, usize, A>,
 }
 
 impl<'a, A: Allocator + Clone> SegmentsByPage<'a, A> {
-    /// The segments of a file, in its order.
+    /// Sorts the segments of a file by their pages, and keeps their order.
     pub(crate) fn new(alloc: A, segments: Vec<Segment<'a, A>, A>) -> Result<SegmentsByPage<'a, A>>
         ensures { Gives by_page_view result
             (Ok (
@@ -46,7 +46,7 @@ impl<'a, A: Allocator + Clone> SegmentsByPage<'a, A> {
         Ok(by_page)
     }
 
-    /// Puts a segment after those of its page, or of association 0.
+    /// Adds a segment at the end of those of its page, or of association 0.
     fn add(&mut self, segment: Segment<'a, A>) -> Result<()>
         requires { (ps : List SegmentView) × HoldsByPage self.old ps }
         ensures { (ps : List SegmentView) → HoldsByPage self.old ps

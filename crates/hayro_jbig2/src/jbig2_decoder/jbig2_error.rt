@@ -1,4 +1,4 @@
-//! Why a decoder over a reader refuses.
+//! The errors of a decoder that takes its input from a reader.
 ghost use Rattle.std.specs.Prelude.{◌≡◌};
 ghost use Rattle.jbig2_base.specs.declared.error.DecodeError.TheVariants.{OutOfMemory};
 ghost use Rattle.hayro_jbig2.specs.declared.jbig2_decoder.jbig2_error.Jbig2Error.TheVariants.{Decode};
@@ -8,10 +8,10 @@ use std::alloc::AllocError;
 use std::io;
 use thiserror::Error;
 
-/// Why a decoder over a reader could not be made, or could not draw its page.
+/// Why a decoder over a reader could not be made, or could not give its page.
 #[derive(Debug, Drop, Error)]
 pub enum Jbig2Error {
-    /// The reader failed, or did not come to an end.
+    /// The reader failed, or it never came to an end.
     #[error(transparent)]
     Io(io::Error),
     /// What was read is no page, or memory ran out.

@@ -7,14 +7,14 @@ use std::alloc::Allocator;
 use std::io;
 use std::io::{ErrorKind, Read};
 
-/// How many bytes are asked for at once.
+/// How many bytes one read asks for.
 const BLOCK: usize = 4096;
 
-/// Reads up to the end, going on after an interruption.
+/// Reads up to the end, and goes on after an interruption.
 ///
-/// Returns the reader's fault, or `ErrorKind::TimedOut` where no end comes within 2^64 - 1 reads.
-/// Want of memory is told apart from a reader's fault of that kind, which `Read::read_to_end`
-/// cannot do.
+/// Returns the reader's error, or `ErrorKind::TimedOut` where no end comes within 2^64 - 1 reads.
+/// If memory runs out here, the error is `Jbig2Error::Decode`. If the reader reports that its own
+/// memory ran out, it is `Jbig2Error::Io`. `Read::read_to_end` cannot distinguish the two.
 pub fn read_all<A: Allocator, R: Read>(alloc: A, reader: &mut R) -> Result<Vec<u8, A>, Jbig2Error>
     ensures bytes { ReadsAll (λ v. v.items) (R.remaining reader.old) result }
     ensures lasting { IfErr result IsLasting }

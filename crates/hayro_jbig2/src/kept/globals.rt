@@ -1,4 +1,4 @@
-//! Segments that several pages share.
+//! Globals: segments that several pages share, as in PDF.
 ghost use Rattle.std.specs.Prelude.{◌≡◌, ◌<◌, ◌⊎◌, Ok, IfErr};
 ghost use Rattle.jbig2_base.specs.Answer.{Gives};
 ghost use Rattle.jbig2_base.specs.Reading.{is_strict, reading_of};
@@ -27,8 +27,8 @@ use std::alloc::Allocator;
 use std::marker::{Brand, Model};
 use std::sync::ledger::{Blank, Ledger};
 
-/// Decoded segments that several pages share: what their segments may refer to by a number
-/// (T.88, 7.3).
+/// Decoded segments that several pages share. The pages' segments may refer to them by their
+/// numbers (T.88, 7.3).
 #[derive(Drop)]
 pub struct Globals<A: Allocator> {
     names: KeptNames<A>,
@@ -55,14 +55,14 @@ impl<A: Allocator> Globals<A> {
         &self.names
     }
 
-    /// What salvage passed over of their segments.
+    /// What salvage passed over of the globals' segments.
     pub fn passed_over(&self) -> &PassedOver
         ensures { result.now ≡ self.now.passed_over }
     {
         &self.passed_over
     }
 
-    /// The error that ended the list of their segments early, in salvage: that of lenient reading.
+    /// In salvage, the error of lenient reading that ended the list of their segments early.
     pub fn fault(&self) -> Option<&DecodeError>
         ensures { found (λ e. e) result ≡ self.now.fault }
     {
@@ -71,7 +71,7 @@ impl<A: Allocator> Globals<A> {
 }
 
 impl<A: Allocator + Clone> Globals<A> {
-    /// Globals that keep nothing, of a list that this error ended.
+    /// Globals that keep nothing, from a list of segments that this error ended.
     pub(crate) fn empty(alloc: A, fault: Option<DecodeError>) -> Result<Globals<A>>
         ensures { Gives (λ globals. globals) result (Ok (nothing_shared fault)) }
     {
@@ -82,10 +82,10 @@ impl<A: Allocator + Clone> Globals<A> {
         })
     }
 
-    /// The globals whose segments `bytes` hold, one after the other, without a file header.
+    /// The globals in `bytes`: their segments one after the other, without a file header.
     ///
-    /// Dictionaries, tables and extensions are decoded in the order of their numbers, and no other
-    /// segment. Refused by the first fault of reading the segments, else of decoding them.
+    /// Only dictionaries, tables and extensions are decoded, in the order of their numbers. Returns
+    /// the first fault of reading the segments, or else of decoding them.
     pub fn new(alloc: A, bytes: &[u8], settings: &DecodeSettings) -> Result<Globals<A>>
         ensures value { Gives (λ globals. globals) result
             (globals_at (reading_of settings.now.strict) bytes.now) }
@@ -94,8 +94,8 @@ impl<A: Allocator + Clone> Globals<A> {
         Globals::new_within(alloc, bytes, settings, None)
     }
 
-    /// The globals as `new` has them, for at most `work` units of work. Where that isn't enough it is refused with
-    /// `DecodeError::OutOfMemory`, as memory is. `None` is no limit.
+    /// The globals as `new` has them, for at most `work` units of work. Where more are needed, the error is
+    /// `DecodeError::OutOfMemory`, as when memory runs out. `None` means no limit.
     pub fn new_within(
         alloc: A,
         bytes: &[u8],
@@ -109,9 +109,9 @@ impl<A: Allocator + Clone> Globals<A> {
         Globals::read(alloc, bytes, settings.reading(), work)
     }
 
-    /// The globals as lenient reading has them, where damage leaves out as little as it can: the list of their
-    /// segments ends at the first that is refused, and a segment that fails is passed over. Refused for want of
-    /// memory or of work alone.
+    /// The globals as lenient reading has them, but damage leaves out as little as possible. The list of their segments
+    /// ends at the first one that is refused, and a segment that fails is passed over. They are refused only where
+    /// memory or work runs out.
     pub fn salvaged(alloc: A, bytes: &[u8], work: Option<u64>) -> Result<Globals<A>>
         ensures value { Gives (λ globals. globals) result (globals_at Salvage bytes.now) }
         ensures memory { IfErr result (λ e. e ≡ OutOfMemory) }
@@ -190,8 +190,8 @@ fn decode_shared<A: Allocator + Clone, L: Ledger>(
     shared_within(alloc, reading, segments, fault, &mut work)
 }
 
-/// What these segments keep, each after those before it. At most 32 steps are counted for each unit of work that is
-/// left in `work`.
+/// What these segments keep. Each may refer to those before it. At most 32 steps are counted for each unit of work that
+/// is left in `work`.
 fn shared_within<A: Allocator + Clone, L: Ledger>(
     alloc: A,
     reading: Reading,

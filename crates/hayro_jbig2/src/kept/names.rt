@@ -1,5 +1,5 @@
-//! Symbol dictionaries, custom tables and pattern dictionaries that later segments may refer to by
-//! their numbers (T.88, 7.3).
+//! Symbol dictionaries, custom tables and pattern dictionaries, to which later segments may refer
+//! by their numbers (T.88, 7.3).
 ghost use Rattle.std.specs.Prelude.{◌≡◌, Ok};
 ghost use Rattle.jbig2_base.specs.Answer.{Gives};
 ghost use Rattle.hayro_jbig2.specs.Names.{no_names, kept_under, named};
@@ -48,7 +48,7 @@ impl<A: Allocator + Clone> KeptNames<A> {
 }
 
 impl<A: Allocator> KeptNames<A> {
-    /// How many things are kept.
+    /// How many values are kept.
     pub(crate) fn count(&self) -> usize {
         self.symbols
             .len()
@@ -109,21 +109,18 @@ impl<A: Allocator> KeptNames<A> {
         Ok(())
     }
 
-    /// The symbol dictionaries.
     fn symbols(&self) -> &[Kept<SymbolDictionary<A>>]
         ensures { seen symbols_view result.now ≡ self.now.symbols }
     {
         &self.symbols
     }
 
-    /// The custom tables.
     fn tables(&self) -> &[Kept<HuffmanTable<A>>]
         ensures { result.now ≡ self.now.codes }
     {
         &self.tables
     }
 
-    /// The pattern dictionaries.
     fn patterns(&self) -> &[Kept<PatternDictionary<A>>]
         ensures { seen patterns_view result.now ≡ self.now.patterns }
     {
@@ -131,7 +128,7 @@ impl<A: Allocator> KeptNames<A> {
     }
 }
 
-/// Where a number is looked up: among the page's own names, then among those of the globals.
+/// Where a number is looked up: first in the page's own names, then in those of the globals.
 #[derive(Drop)]
 pub(crate) struct Lookup<'a, A: Allocator> {
     /// Whether a number that names nothing is refused.

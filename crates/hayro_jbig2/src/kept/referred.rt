@@ -1,4 +1,4 @@
-//! What symbol dictionaries and text regions refer to by numbers (T.88, 7.3.1).
+//! What the numbers of a symbol dictionary or a text region refer to (T.88, 7.3.1).
 ghost use Rattle.std.specs.Prelude.{◌≡◌, ◌≤◌, ◌+◌, ◌*◌, ◌++◌, length, map, Ok, OnOk, IfErr, IfOk};
 ghost use Rattle.jbig2_base.specs.Answer.{Gives};
 ghost use Rattle.jbig2_base.specs.Causes.{HasCauseOrNoMemory};
@@ -25,7 +25,7 @@ const SYMBOL: u64 = 16;
 const MAX_SYMBOLS: usize = 1 << 20;
 
 /// The symbols and the custom tables that a segment refers to, and the contexts that the last of
-/// its dictionaries has kept.
+/// its dictionaries kept, if any.
 #[derive(Drop)]
 pub(crate) struct ReferredSegments<'a, A: Allocator> {
     pub(crate) symbols: Vec<&'a Bitmap<A>, A>,
@@ -77,7 +77,7 @@ impl<'a, A: Allocator> ReferredSegments<'a, A> {
         Ok(())
     }
 
-    /// A custom table, or nothing, which strict reading refuses.
+    /// Adds a custom table. `None` is refused by strict reading, and else adds nothing.
     fn add_table(&mut self, strict: bool, table: Option<&'a HuffmanTable<A>>) -> Result<()>
         ensures { Gives (λ _. self.new) result
             (with_table strict (found (λ code. code) table.entry) self.old) }
@@ -92,7 +92,7 @@ impl<'a, A: Allocator> ReferredSegments<'a, A> {
         }
     }
 
-    /// What one number names: a dictionary, else a table.
+    /// Adds what one number names: a symbol dictionary, or else a table.
     fn add_number(&mut self, lookup: &Lookup<'a, A>, number: u32) -> Result<()>
         ensures { Gives (λ _. self.new) result
             (with_number lookup.now.strict lookup.now.own.now lookup.now.globals.now number
@@ -118,10 +118,10 @@ impl<A: Allocator> ReferredSegments<'_, A> {
     }
 }
 
-/// What a segment refers to: each number in turn names a symbol dictionary, else a custom table.
+/// What a segment refers to: each number names a symbol dictionary, or else a custom table.
 ///
-/// `OverflowError::SymbolCount` for more than 2^20 symbols together. Strict reading refuses a
-/// number that names neither.
+/// Returns `OverflowError::SymbolCount` for more than 2^20 symbols together. Strict reading refuses
+/// a number that names neither.
 #[tactic(auto, using(crate::proofs::SegmentCauses::referred_cause))]
 pub(crate) fn gather_referred<'a, A: Allocator + Clone>(
     alloc: A,

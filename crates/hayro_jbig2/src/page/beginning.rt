@@ -1,4 +1,4 @@
-//! What a page begins as (T.88, 7.4.8), in each reading.
+//! How a page begins (T.88, 7.4.8), in each reading.
 ghost use Rattle.std.specs.Prelude.{◌≡◌, ◌≤◌, IfOk, min};
 ghost use Rattle.jbig2_base.specs.Answer.{Answers};
 ghost use Rattle.jbig2_base.specs.inner.SegmentViews.{segment_view, segment_views};
@@ -31,7 +31,7 @@ fn is_immediate_region(kind: SegmentType) -> bool
     )
 }
 
-/// One row below the lowest of a region, at most 65535; its y is read as a signed number (T.88, 7.4.1).
+/// The row below the lowest row of a region, at most 65535. The region's y is read as a signed number (T.88, 7.4.1).
 fn end_of(info: &RegionSegmentInfo) -> u32
     ensures { result ≡ min 65535 (end_of info.now) }
 {
@@ -42,7 +42,7 @@ fn end_of(info: &RegionSegmentInfo) -> u32
     info.y_location.saturating_add(info.height).min(MAX_HEIGHT)
 }
 
-/// How high a page is that ends with this region; 0 for what is no immediate region that can be read and drawn.
+/// How high a page is that ends with this region. It is 0 for all but an immediate region that can be read and drawn.
 fn region_height<A: Allocator>(segment: &Segment<'_, A>) -> u32
     ensures { result ≡ region_height (segment_view segment.now) }
 {
@@ -69,7 +69,7 @@ fn regions_height<A: Allocator>(segments: &[Segment<'_, A>]) -> u32
     height
 }
 
-/// How high a page with these segments is where its page information leaves that open; 0 where nothing tells it.
+/// How high a page with these segments is, where its page information leaves that open; 0 where nothing gives a height.
 fn told_height<A: Allocator>(reading: Reading, segments: &[Segment<'_, A>]) -> u32
     ensures { result ≡ told_height reading (segment_views segments.now) }
 {
@@ -80,8 +80,8 @@ fn told_height<A: Allocator>(reading: Reading, segments: &[Segment<'_, A>]) -> u
     stripes
 }
 
-/// What a page with these segments begins as. In salvage an open height that no stripe tells is that of the lowest
-/// immediate region's end.
+/// How a page with these segments begins. In salvage, where page information and stripes leave the height open, the
+/// page ends with its lowest immediate region.
 #[tactic(auto, unfolding(crate::specs::Page::beginning_of))]
 pub(crate) fn beginning_of<A: Allocator>(
     reading: Reading,

@@ -1,4 +1,4 @@
-//! The calls that spell a bitmap.
+//! The calls that draw a bitmap on a `Decoder`.
 ghost use Rattle.std.specs.Prelude.{◌≡◌, ◌+◌, ◌-◌, ◌*◌, ◌/◌, ◌<◌, ◌≤◌, drop, take};
 ghost use Rattle.jbig2_base.specs.Grid.{Grid};
 ghost use Rattle.jbig2_base.specs.Bits.{bit};
@@ -14,7 +14,7 @@ use jbig2_base::error::Result;
 use std::alloc::Allocator;
 use std::sync::ledger::Ledger;
 
-/// The colour that the eight pixels of row `y` from column `x` on have together, if they have one.
+/// The colour of the eight pixels of row `y` from column `x` on, if all have the same.
 fn byte_colour<A: Allocator, L: Ledger>(
     bitmap: &Bitmap<A>,
     x: u32,
@@ -35,7 +35,7 @@ fn byte_colour<A: Allocator, L: Ledger>(
     None
 }
 
-/// How many of the whole bytes of row `y` from column `x` on have this colour.
+/// How many of the whole bytes of row `y` from column `x` on have this colour, one after the other.
 fn run<A: Allocator, L: Ledger>(
     bitmap: &Bitmap<A>,
     x: u32,
@@ -53,8 +53,8 @@ fn run<A: Allocator, L: Ledger>(
     (end - x) / 8
 }
 
-/// The run of whole bytes of one colour at column `x` of row `y`: its colour, and how many there
-/// are; None where the byte there is not all of one colour.
+/// The run of whole bytes of one colour at column `x` of row `y`: its colour, and its number of
+/// bytes. `None` if the byte there has both colours.
 fn run_at<A: Allocator, L: Ledger>(
     bitmap: &Bitmap<A>,
     x: u32,
@@ -71,7 +71,7 @@ fn run_at<A: Allocator, L: Ledger>(
     }
 }
 
-/// The pixel at a place of loaded ones, the last at place 0.
+/// The pixel at a place of loaded pixels; the last pixel has place 0.
 #[inline(always)]
 pub(crate) fn pixel_of(pixels: u64, place: u32) -> bool
     requires { place < 64 }
@@ -109,7 +109,7 @@ fn push_pixels<A: Allocator, D: Decoder, L: Ledger>(
     Ok(())
 }
 
-/// Makes the calls of one row.
+/// Makes the calls that draw one row.
 fn push_row<A: Allocator, D: Decoder, L: Ledger>(
     bitmap: &Bitmap<A>,
     y: u32,
@@ -144,7 +144,7 @@ fn push_row<A: Allocator, D: Decoder, L: Ledger>(
     decoder.next_line()
 }
 
-/// Makes the calls that spell a bitmap.
+/// Makes the calls that draw a bitmap.
 pub fn push_bitmap<A: Allocator, D: Decoder, L: Ledger>(
     bitmap: &Bitmap<A>,
     decoder: &mut D,

@@ -1,14 +1,14 @@
-//! Whom a page is drawn for.
+//! `Decoder`: what a caller implements to get the pixels of a page.
 ghost use Rattle.hayro_jbig2.specs.Calls.{Pixel, Chunk, Line, Conduct, IsCountable, Takes};
 
 use jbig2_base::error::Result;
 
 /// Takes the pixels of a page, row by row from the top, each row from the left.
 ///
-/// A Decoder may refuse a call by an error, which decoding passes on; nothing is called after a
-/// refusal. For proofs a Decoder has a picture, which each call that it takes changes, a count of
-/// the calls that it refused, and the errors that it refuses calls with; a refused call leaves the
-/// picture.
+/// A Decoder may refuse a call with an error. Decoding returns that error, and makes no further
+/// call. For proofs a Decoder has a picture, a count of the calls that it has refused, and the
+/// errors that it may refuse calls with. Each accepted call changes the picture; a refused call
+/// leaves it as it was.
 pub trait Decoder {
     ghost conduct: { Conduct Self };
 
@@ -17,12 +17,12 @@ pub trait Decoder {
         requires { IsCountable conduct self.old }
         ensures { Takes conduct (Pixel black) result self.old self.new };
 
-    /// `chunk_count` times eight pixels of one colour, from a place that eight divides.
+    /// `chunk_count` times eight pixels of one colour, from a column that eight divides.
     fn push_pixel_chunk(&mut self, black: bool, chunk_count: u32) -> Result<()>
         requires { IsCountable conduct self.old }
         ensures { Takes conduct (Chunk black chunk_count) result self.old self.new };
 
-    /// The row is whole.
+    /// The row is complete.
     fn next_line(&mut self) -> Result<()>
         requires { IsCountable conduct self.old }
         ensures { Takes conduct Line result self.old self.new };

@@ -1,4 +1,4 @@
-//! A page that is drawn, by its packed rows.
+//! A page that was drawn, as packed rows.
 ghost use Rattle.std.specs.Prelude.{◌≡◌, ◌+◌, ◌≤◌, drop, false, length, take, true};
 ghost use Rattle.hayro_jbig2.specs.Image.{packed_of};
 ghost use Rattle.hayro_jbig2.specs.inner.Whole.{IsBegun};
@@ -11,15 +11,15 @@ use std::alloc::Allocator;
 use std::marker::{Brand, Model};
 use std::sync::ledger::{Blank, Ledger};
 
-/// A drawn page, lent by the context that it was drawn in: its packed rows from the top, which need no memory
-/// beside the page's own. A row is a bit for each pixel, 1 for black, the leftmost the highest of its byte, in
-/// `width.div_ceil(8)` bytes, whose last bits are 0 past the width: the form of PBM, TIFF and PDF.
+/// A drawn page, lent by the context that it was drawn in. It gives the packed rows from the top, and needs no memory
+/// besides the page's own. A row has a bit for each pixel, 1 for black, the leftmost pixel in the highest bit of its
+/// byte. It has `width.div_ceil(8)` bytes, and the bits after the width are 0, as in PBM, TIFF and PDF.
 #[derive(Drop)]
 pub struct DrawnPage<'c, A: Allocator> {
     bitmap: &'c Bitmap<A>,
     width: u32,
     height: u32,
-    /// Whether nothing was drawn on a white page: its rows need not be read.
+    /// Whether nothing was drawn on a white page. Its rows need not be read then.
     white: bool,
 }
 
@@ -56,7 +56,7 @@ impl<'c, A: Allocator> DrawnPage<'c, A> {
         self.width.div_ceil(8) as usize * self.height as usize
     }
 
-    /// Fills `buf` with the bytes of the rows from byte `place` of them all on.
+    /// Fills `buf` with bytes of the rows, from byte `place` of all rows on.
     pub fn read_at(&self, place: usize, buf: &mut [u8])
         requires { place + length buf.old ≤ length self.now }
         ensures { buf.new ≡ take (length buf.old) (drop place self.now) }

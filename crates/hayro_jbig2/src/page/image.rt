@@ -1,4 +1,4 @@
-//! A page as bytes.
+//! A page as an image with a byte for each pixel.
 ghost use Rattle.std.specs.Prelude.{◌≡◌, ◌+◌, ◌-◌, ◌*◌, ◌<◌, ◌≤◌, length};
 ghost use Rattle.jbig2_base.specs.Bits.{bit};
 ghost use Rattle.hayro_jbig2.specs.Image.{image_of, shade};
@@ -20,7 +20,7 @@ fn shade(black: bool) -> u8
     if black { 0 } else { 255 }
 }
 
-/// Puts the bytes of the pixels in the highest `count` bits of a word at a place of `buf`.
+/// Puts a byte for each of the highest `count` bits of a word at a place of `buf`.
 #[inline(always)]
 fn put_shades(buf: &mut [u8], place: usize, count: usize, word: u64)
     requires few { count ≤ 64 }
@@ -32,7 +32,7 @@ fn put_shades(buf: &mut [u8], place: usize, count: usize, word: u64)
     }
 }
 
-/// Column `x` of row `y`, where the end of a row is the first column of the next.
+/// Column `x` of row `y`; after the last column of a row comes the first one of the next row.
 #[inline(always)]
 pub(crate) fn wrapped(x: usize, y: u32, width: usize) -> (usize, u32)
     requires some { 0 < width }
@@ -44,7 +44,7 @@ pub(crate) fn wrapped(x: usize, y: u32, width: usize) -> (usize, u32)
     if x == width { (0, y + 1) } else { (x, y) }
 }
 
-/// Writes a byte for each pixel of a page of this size, rows from the top: 0 for black and 255 for
+/// Writes a byte for each pixel of a page of this size, rows from the top: 0 for black, 255 for
 /// white.
 #[tactic(auto, unfolding(crate::specs::Image::image_of))]
 pub(crate) fn write_image<A: Allocator, L: Ledger>(

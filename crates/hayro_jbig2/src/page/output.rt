@@ -1,4 +1,4 @@
-//! The ways out of a page: calls on a `Decoder`, bytes, and packed rows in a context.
+//! How a page is handed out: as calls on a `Decoder`, as bytes, and as packed rows in a context.
 ghost use Rattle.std.specs.Prelude.{◌≡◌, ◌+◌, ◌-◌, ◌*◌, ◌<◌, ◌≤◌, Bool, IfErr, IfOk, IsTrue, OnErr, length, pos};
 ghost use Rattle.jbig2_base.specs.Answer.{Gives, Leaves};
 ghost use Rattle.jbig2_base.specs.Combination.{combined};
@@ -28,7 +28,7 @@ use std::marker::Brand;
 use std::sync::ledger::{Blank, Ledger};
 
 impl<'a, A: Allocator + Clone> Page<'a, A> {
-    /// Makes the calls that spell the page, under a fresh context.
+    /// Makes the calls that draw the page, in a fresh context.
     ///
     /// Returns the first fault of a segment that lenient reading does not pass over, or the
     /// Decoder's own refusal.
@@ -45,8 +45,7 @@ impl<'a, A: Allocator + Clone> Page<'a, A> {
     /// Writes the page into `buf`, which holds a byte for each pixel: rows from the top, 0 for
     /// black and 255 for white.
     ///
-    /// Returns the first fault of a segment that lenient reading does not pass over; `buf` is then
-    /// as it was.
+    /// Returns the first fault that lenient reading does not pass over; `buf` is then as it was.
     pub fn read_image(&self, buf: &mut [u8]) -> Result<()>
         requires { length buf.old ≡ self.now.initial_page.width * self.now.initial_page.height }
         ensures value { Gives (λ _. buf.new) result (image_of_page self.now) }
@@ -56,7 +55,7 @@ impl<'a, A: Allocator + Clone> Page<'a, A> {
         self.read_image_limited(buf, None)
     }
 
-    /// Writes the page as `read_image` does, for at most `work` units of work; `None` is no limit.
+    /// Writes the page as `read_image` does, for at most `work` units; `None` means no limit.
     pub(crate) fn read_image_limited(&self, buf: &mut [u8], work: Option<u64>) -> Result<()>
         requires { length buf.old ≡ self.now.initial_page.width * self.now.initial_page.height }
         ensures value { Gives (λ _. buf.new) result (image_of_page self.now) }
@@ -87,7 +86,7 @@ impl<'a, A: Allocator + Clone> Page<'a, A> {
 
     /// Writes the page as `read_image` does, with the caller's counter.
     ///
-    /// At most 32 steps are counted for each unit of work that is left in `work`. Where more are needed it is
+    /// At most 32 steps are counted for each unit of work that is left in `work`. Where more are needed, the error is
     /// `DecodeError::OutOfMemory`.
     pub fn read_within<L: Ledger>(&self, buf: &mut [u8], work: &mut Work<L>) -> Result<()>
         requires { length buf.old ≡ self.now.initial_page.width * self.now.initial_page.height }
@@ -103,12 +102,11 @@ impl<'a, A: Allocator + Clone> Page<'a, A> {
         Ok(())
     }
 
-    /// Writes the page into `buf` as packed rows, from the top: a bit for each pixel, 1 for black, the
-    /// leftmost the highest of its byte. A row takes `width.div_ceil(8)` bytes, whose last bits are 0
-    /// past the width: the form of PBM, TIFF and PDF.
+    /// Writes the page into `buf` as packed rows, from the top: a bit for each pixel, 1 for black, the leftmost pixel
+    /// in the highest bit of its byte. A row takes `width.div_ceil(8)` bytes, and the bits after the width are 0, as in
+    /// PBM, TIFF and PDF.
     ///
-    /// Returns the first fault of a segment that lenient reading does not pass over; `buf` is then
-    /// as it was.
+    /// Returns the first fault of a segment that lenient reading does not pass over; `buf` is then as it was.
     #[tactic(auto, using(crate::proofs::PackedBits::packed_bits_are_bytes))]
     pub fn read_packed(&self, buf: &mut [u8]) -> Result<()>
         requires { length buf.old ≡ packed_size self.now.initial_page.width
@@ -121,7 +119,7 @@ impl<'a, A: Allocator + Clone> Page<'a, A> {
         self.read_packed_limited(buf, None)
     }
 
-    /// Writes the page as `read_packed` does, for at most `work` units of work; `None` is no limit.
+    /// Writes the page as `read_packed` does, for at most `work` units; `None` means no limit.
     pub(crate) fn read_packed_limited(&self, buf: &mut [u8], work: Option<u64>) -> Result<()>
         requires { length buf.old ≡ packed_size self.now.initial_page.width
             self.now.initial_page.height }
@@ -136,8 +134,8 @@ impl<'a, A: Allocator + Clone> Page<'a, A> {
         Ok(())
     }
 
-    /// Draws the page in the room of a context that earlier pages may have used, which lends it from
-    /// then on: its packed rows, without memory of their own.
+    /// Draws the page in a context, which earlier pages may have used. The context then lends the page's packed rows,
+    /// which need no memory of their own.
     ///
     /// Returns the first fault of a segment that lenient reading does not pass over.
     pub fn draw<'c>(&self, context: &'c mut DecoderContext<A>) -> Result<DrawnPage<'c, A>>
@@ -148,9 +146,8 @@ impl<'a, A: Allocator + Clone> Page<'a, A> {
         Ok(context.drawn())
     }
 
-    /// Draws the page in the room of a context that earlier pages may have used, which holds it from then on:
-    /// `DecoderContext::drawn` lends its packed rows, and `DecoderContext::passed_over` says what reading
-    /// passed over.
+    /// Draws the page in a context, which earlier pages may have used. The context then holds the page:
+    /// `DecoderContext::drawn` lends its packed rows, and `DecoderContext::passed_over` says what was passed over.
     ///
     /// Returns the first fault of a segment that lenient reading does not pass over.
     pub fn draw_in(&self, context: &mut DecoderContext<A>) -> Result<()>
@@ -176,9 +173,9 @@ impl<'a, A: Allocator + Clone> Page<'a, A> {
         self.draw_within(context, &mut work)
     }
 
-    /// Draws the page as `draw_in` does, with the caller's counter in place of the context's limit.
+    /// Draws the page as `draw_in` does, with the caller's counter instead of the context's limit.
     ///
-    /// At most 32 steps are counted for each unit of work that is left in `work`. Where more are needed it is
+    /// At most 32 steps are counted for each unit of work that is left in `work`. Where more are needed, the error is
     /// `DecodeError::OutOfMemory`. The work of handing the page out is paid here too.
     pub fn draw_within<L: Ledger>(
         &self,
@@ -200,7 +197,7 @@ impl<'a, A: Allocator + Clone> Page<'a, A> {
         drawn
     }
 
-    /// A fresh canvas that the page is drawn on.
+    /// Draws the page on a fresh canvas.
     fn drawn<L: Ledger>(&self, work: &mut Work<L>) -> Result<Canvas<A>>
         ensures value { Gives (λ canvas. canvas.grid) result (grid_of_page self.now) }
         ensures paid { Paid work.old work.new }
@@ -213,11 +210,10 @@ impl<'a, A: Allocator + Clone> Page<'a, A> {
         Ok(canvas)
     }
 
-    /// Makes the calls that spell the page, in the room of a context that earlier pages may have
-    /// used.
+    /// Makes the calls that draw the page, in a context that earlier pages may have used.
     ///
     /// Returns the first fault of a segment that lenient reading does not pass over, or the
-    /// Decoder's own refusal. No call is made before all segments are decoded.
+    /// Decoder's own refusal. It decodes all segments before it makes the first call.
     pub fn decode_with<D: Decoder>(
         &self,
         decoder: &mut D,
@@ -260,9 +256,9 @@ impl<'a, A: Allocator + Clone> Page<'a, A> {
         self.decode_within(decoder, context, &mut work)
     }
 
-    /// Makes the calls of `decode_with`, with the caller's counter in place of the context's limit.
+    /// Makes the calls of `decode_with`, with the caller's counter instead of the context's limit.
     ///
-    /// At most 32 steps are counted for each unit of work that is left in `work`. Where more are needed it is
+    /// At most 32 steps are counted for each unit of work that is left in `work`. Where more are needed, the error is
     /// `DecodeError::OutOfMemory`, and no call is made.
     pub fn decode_within<D: Decoder, L: Ledger>(
         &self,
@@ -304,7 +300,7 @@ impl<'a, A: Allocator + Clone> Page<'a, A> {
         }
     }
 
-    /// Draws the page, whose segments may refer to what `globals` keeps.
+    /// Draws the page, whose segments may also refer to what `globals` keeps.
     fn draw_with<L: Ledger>(
         &self,
         globals: &KeptNames<A>,
@@ -319,7 +315,7 @@ impl<'a, A: Allocator + Clone> Page<'a, A> {
             let price = price_of_bitmap page.width page.height in
             IfOk result (λ _. worth work.new + 32 * price ≤ worth work.old) }
     {
-        // A page is cleared, and then handed out.
+        // One bitmap for clearing the page, one for handing it out.
         let (width, height) = self.dimensions();
         work.pay_bitmaps(2, width, height)?;
         canvas.begin(&self.initial_page)?;

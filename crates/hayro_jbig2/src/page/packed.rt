@@ -1,4 +1,4 @@
-//! A page as packed rows.
+//! A page as packed rows, with a bit for each pixel.
 ghost use Rattle.std.specs.Prelude.{◌≡◌, ◌+◌, ◌-◌, ◌*◌, ◌/◌, ◌<◌, ◌≤◌, ℕ, length};
 ghost use Rattle.jbig2_base.specs.Bits.{bit};
 ghost use Rattle.jbig2_base.specs.Counts.{words_loaded};
@@ -36,8 +36,8 @@ fn put_bytes(buf: &mut [u8], place: usize, count: usize, word: u64)
     }
 }
 
-/// Puts what is left of a word of row `y`, from byte `column` on, at a place of `buf`, but no more than `most`
-/// bytes. Returns how many.
+/// Puts the rest of a word of row `y`, from byte `column` on, at a place of `buf`: at most `most` bytes. Returns the
+/// number of bytes.
 #[inline(always)]
 fn put_rest<A: Allocator, L: Ledger>(
     bitmap: &Bitmap<A>,
@@ -62,8 +62,8 @@ fn put_rest<A: Allocator, L: Ledger>(
     count
 }
 
-/// Puts the whole words of row `y`, from byte `column` on, at a place of `buf`: those that are there and lie in
-/// `most` bytes, and none where no word begins. Returns how many bytes. Each word is loaded once.
+/// Puts whole words of row `y`, from byte `column` on, at a place of `buf`: as many as the row has and `most` bytes
+/// hold, and none if `column` isn't the first byte of a word. Returns how many bytes. Each word is loaded once.
 #[inline(always)]
 fn put_words<A: Allocator, L: Ledger>(
     bitmap: &Bitmap<A>,
@@ -87,14 +87,14 @@ fn put_words<A: Allocator, L: Ledger>(
     let count = (most / 8).min(words.len().saturating_sub(first));
     for index in 0..count {
         let word = words.load(first + index, steps);
-        // With a constant this is one store.
+        // A constant length makes this one store.
         put_bytes(buf, place + 8 * index, 8, word);
     }
     8 * count
 }
 
-/// Writes bytes of the rows of a bitmap of this width, from byte `start` of them all on: a bit for each pixel,
-/// 1 for black, the leftmost the highest, and zeros after the last of a row.
+/// Writes bytes of the packed rows of a bitmap of this width, from byte `start` of all rows on: a bit for each pixel, 1
+/// for black, the leftmost pixel in the highest bit, and zeros after the last pixel of a row.
 #[tactic(auto, unfolding(crate::specs::Image::packed_part))]
 pub(crate) fn write_packed<A: Allocator, L: Ledger>(
     bitmap: &Bitmap<A>,

@@ -12,7 +12,7 @@ use jbig2_base::segment::Segment;
 use jbig2_region::generic;
 use std::alloc::Allocator;
 
-/// A generic region. Of unknown length only an immediate one has its row count after its data.
+/// Parses a generic region. Only an immediate one of unknown length ends with its row count.
 #[tactic(auto, unfolding(crate::specs::Regions::generic_at))]
 pub(crate) fn parse_generic<'a, 'n, 'r, A: Allocator>(
     references: &References<'n, 'r, '_, A>,

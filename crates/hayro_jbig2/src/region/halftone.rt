@@ -25,7 +25,7 @@ use jbig2_halftone::pattern::PatternDictionary;
 use std::alloc::Allocator;
 use std::sync::ledger::Ledger;
 
-/// The dictionary that the first referred number names.
+/// The pattern dictionary that the first referred number names.
 #[tactic(auto, using(crate::proofs::SegmentCauses::patterns_cause))]
 fn referred_patterns<'a, A: Allocator>(
     lookup: &Lookup<'a, A>,
@@ -45,7 +45,7 @@ fn referred_patterns<'a, A: Allocator>(
     Err(DecodeError::Segment(SegmentError::MissingPatternDictionary))
 }
 
-/// A halftone region, with the patterns of the dictionary that it refers to.
+/// Parses a halftone region, with the patterns of the dictionary that it refers to.
 #[tactic(auto, unfolding(crate::specs::Regions::halftone_at, jbig2_halftone::specs::Halftone::halftone_decoded))]
 pub(crate) fn parse_halftone<'a, 'n, 'r, A: Allocator>(
     references: &References<'n, 'r, '_, A>,
@@ -64,7 +64,7 @@ pub(crate) fn parse_halftone<'a, 'n, 'r, A: Allocator>(
     Ok(ParsedRegion::Halftone { header, patterns })
 }
 
-/// Takes the work of a halftone's cells: the planes of their values, for each cell a pattern that is combined with the
+/// Takes the work of a halftone's cells: the planes of their values, a pattern for each cell that is combined with the
 /// region, and the coded bytes.
 pub(crate) fn pay_cells<A: Allocator, L: Ledger>(
     header: &HalftoneRegionHeader<'_>,

@@ -1,4 +1,4 @@
-//! Regions whose headers are read (T.88, 7.4.3 and 7.4.5 to 7.4.7).
+//! Regions whose headers were read (T.88, 7.4.3 and 7.4.5 to 7.4.7).
 ghost use Rattle.std.specs.Prelude.{◌≡◌, ◌≤◌, ◌+◌, ◌*◌, IfErr, IfOk};
 ghost use Rattle.jbig2_base.specs.Answer.{Gives};
 ghost use Rattle.jbig2_base.specs.Grid.{blank};
@@ -25,7 +25,7 @@ use jbig2_text::text::header::TextRegionHeader;
 use std::alloc::Allocator;
 use std::sync::ledger::Ledger;
 
-/// What a region is decoded by: its header with the coded bytes, and what it refers to.
+/// What is needed to decode a region: its header with the coded bytes, and what it refers to.
 #[derive(Drop)]
 pub(crate) enum ParsedRegion<'a, 'n, 'r, A: Allocator> {
     Text {
@@ -76,8 +76,7 @@ impl<'a, 'n, 'r, A: Allocator + Clone> ParsedRegion<'a, 'n, 'r, A> {
         }
     }
 
-    /// Takes the work of a region besides the bitmaps of its size: of the symbols that it refers to, of its cells, or of
-    /// its coded bytes.
+    /// Takes the work of a region, without the bitmaps of its size: that of its symbols, its cells or its coded bytes.
     fn pay_besides<L: Ledger>(&self, work: &mut Work<L>) -> Result<()>
         ensures memory { IfErr result (λ e. e ≡ DecodeError.OutOfMemory) }
         ensures paid { Paid work.old work.new }
@@ -93,7 +92,7 @@ impl<'a, 'n, 'r, A: Allocator + Clone> ParsedRegion<'a, 'n, 'r, A> {
         }
     }
 
-    /// Takes the work of `count` bitmaps of the region's size, and of what it takes besides.
+    /// Takes the work of `count` bitmaps of the region's size, and its other work.
     pub(crate) fn pay_bitmaps<L: Ledger>(&self, count: u64, work: &mut Work<L>) -> Result<()>
         ensures memory { IfErr result (λ e. e ≡ DecodeError.OutOfMemory) }
         ensures paid { Paid work.old work.new }
@@ -106,7 +105,7 @@ impl<'a, 'n, 'r, A: Allocator + Clone> ParsedRegion<'a, 'n, 'r, A> {
         Ok(())
     }
 
-    /// Decodes the region into a bitmap of its size that is all in its initial colour.
+    /// Decodes the region into a bitmap that has its size and is all in its initial colour.
     pub(crate) fn decode_into<L: Ledger>(
         &self,
         bitmap: &mut Bitmap<A>,
@@ -125,7 +124,7 @@ impl<'a, 'n, 'r, A: Allocator + Clone> ParsedRegion<'a, 'n, 'r, A> {
         decoded
     }
 
-    /// The same, with the parts of a workspace. It may leave more contexts than are kept.
+    /// Does the same with the parts of a workspace. More contexts may be left than `MOST_CONTEXTS`.
     fn decode_by<L: Ledger>(
         &self,
         alloc: &A,
@@ -172,7 +171,8 @@ impl<'a, 'n, 'r, A: Allocator + Clone> ParsedRegion<'a, 'n, 'r, A> {
         }
     }
 
-    /// Decodes the region into a bitmap of its own. The work of another one is taken ahead, for what becomes of it.
+    /// Decodes the region into a bitmap of its own. It also takes the work of a second bitmap, for what the caller does
+    /// with the region.
     pub(crate) fn decode<L: Ledger>(
         self,
         workspace: &mut Workspace<A>,

@@ -6,8 +6,8 @@ use jbig2_base::bitmap::Bitmap;
 use jbig2_region::generic::DecodedRegion;
 use std::alloc::Allocator;
 
-/// Where a region's numbers are looked up, and the page so far, which a refinement without numbers
-/// refines.
+/// Where a region's numbers are looked up, and the page so far. A refinement without numbers
+/// refines the page.
 #[derive(Drop)]
 pub(crate) struct References<'n, 'r, 'p, A: Allocator> {
     pub(crate) names: Lookup<'n, A>,

@@ -32,7 +32,7 @@ use jbig2_region::region_info::RegionSegmentInfo;
 use std::alloc::Allocator;
 use std::sync::ledger::Ledger;
 
-/// The region that a number names: the first that was kept under it.
+/// The region that a number names: the first one that was kept under it.
 fn region_named<'a, A: Allocator>(
     regions: &'a [Kept<DecodedRegion<A>>],
     number: u32,
@@ -42,8 +42,8 @@ fn region_named<'a, A: Allocator>(
     first_under(regions, number)
 }
 
-/// The region that a segment's first referred number names, if it refers to any. Strict reading
-/// refuses a number that names none.
+/// The region that a segment's first referred number names, if it has one. Strict reading refuses a
+/// number that names no region.
 fn referred_region<'a, A: Allocator>(
     strict: bool,
     numbers: &[u32],
@@ -62,8 +62,8 @@ fn referred_region<'a, A: Allocator>(
     Ok(region)
 }
 
-/// The area of the page that a region covers, white outside the page. A place of 2^31 or more is
-/// refused.
+/// The area of the page that a region covers, white outside the page. A coordinate of 2^31 or more
+/// is refused.
 fn page_area<A: Allocator, B: Allocator, L: Ledger>(
     alloc: A,
     page: &Bitmap<B>,
@@ -95,7 +95,7 @@ fn page_area<A: Allocator, B: Allocator, L: Ledger>(
     })
 }
 
-/// A refinement of the page's area (T.88, 7.4.7.4).
+/// Parses a refinement of the page's area (T.88, 7.4.7.4).
 fn parse_page_refinement<'a, 'n, 'r, A: Allocator + Clone, L: Ledger>(
     header: GenericRefinementRegionHeader<'a>,
     references: &References<'n, 'r, '_, A>,
@@ -120,7 +120,7 @@ fn parse_page_refinement<'a, 'n, 'r, A: Allocator + Clone, L: Ledger>(
     Ok(ParsedRegion::PageRefinement { header, area })
 }
 
-/// A refinement, of the region that it refers to or else of the page so far (T.88, 7.4.7).
+/// Parses a refinement, of the region that it refers to or else of the page so far (T.88, 7.4.7).
 #[tactic(auto, using(crate::proofs::SegmentCauses::refinement_cause), unfolding(crate::specs::Regions::refinement_at))]
 pub(crate) fn parse_refinement<'a, 'n, 'r, A: Allocator + Clone, L: Ledger>(
     references: &References<'n, 'r, '_, A>,

@@ -14,7 +14,7 @@ use jbig2_base::segment::Segment;
 use jbig2_text::text;
 use std::alloc::Allocator;
 
-/// A text region, after what it refers to.
+/// Parses a text region, after what it refers to.
 #[tactic(auto, unfolding(crate::specs::Regions::text_at, jbig2_text::specs::TextRegion::text_decoded))]
 pub(crate) fn parse_text<'a, 'n, 'r, A: Allocator + Clone>(
     references: &References<'n, 'r, '_, A>,

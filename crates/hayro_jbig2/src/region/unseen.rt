@@ -1,4 +1,4 @@
-//! Rows of immediate regions that no page shows.
+//! Leaves out rows of immediate regions that lie below the page.
 ghost use Rattle.std.specs.Prelude.{◌≡◌, ◌≤◌, ◌<◌, ◌-ℤ◌, ℕ, pos};
 ghost use Rattle.std.specs.Int.{w32, cast_signed};
 ghost use Rattle.hayro_jbig2.specs.Page.{Drawing, shown};
@@ -8,7 +8,7 @@ use crate::region::parsed_region::ParsedRegion;
 use jbig2_region::region_info::RegionSegmentInfo;
 use std::alloc::Allocator;
 
-/// How many of a region's rows, from its first, are not below a page of this height.
+/// How many of a region's rows, from its first one on, do not lie below a page of this height.
 fn rows_above_end(info: &RegionSegmentInfo, page_height: u32) -> u32
     ensures fewer { result ≤ info.now.height }
     ensures others { (j n : ℕ) → j < page_height →
@@ -25,9 +25,8 @@ fn rows_above_end(info: &RegionSegmentInfo, page_height: u32) -> u32
 }
 
 impl<'a, 'n, 'r, A: Allocator + Clone> ParsedRegion<'a, 'n, 'r, A> {
-    /// The region without the rows that lie below a page of this height, which change no pixel of it
-    /// and no answer: those of regions by the arithmetic coder, but for text and halftones, and for a
-    /// refinement that is refused by its height.
+    /// The region without the rows that lie below a page of this height, where these change no pixel of the page and no
+    /// error: in regions by the arithmetic coder, except text, halftones, and a refinement whose height is refused.
     pub(crate) fn above_end(self, page_height: u32) -> ParsedRegion<'a, 'n, 'r, A>
         requires { IsDecodable self }
         ensures decodable { IsDecodable result }

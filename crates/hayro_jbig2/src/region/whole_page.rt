@@ -1,4 +1,4 @@
-//! Regions that make up a page by themselves, which are decoded into the page's own bitmap.
+//! Regions that fill a whole page by themselves. They are decoded directly into the page's bitmap.
 ghost use Rattle.std.specs.Prelude.{◌≡◌, ◌⊎◌, true, false, IfErr};
 ghost use Rattle.jbig2_base.specs.Answer.{Gives};
 ghost use Rattle.jbig2_base.specs.declared.error.DecodeError.TheVariants.{OutOfMemory};
@@ -16,7 +16,7 @@ use jbig2_base::error::Result;
 use std::alloc::Allocator;
 use std::sync::ledger::Ledger;
 
-/// Whether on a white page the operator gives the region's pixels themselves.
+/// Whether this operator on a white page gives the region's own pixels.
 fn draws_over_white(operator: CombinationOperator) -> bool
     ensures { result ≡ draws_over operator false }
 {
@@ -39,8 +39,8 @@ impl<A: Allocator> Canvas<A> {
 }
 
 impl<'a, 'n, 'r, A: Allocator + Clone> ParsedRegion<'a, 'n, 'r, A> {
-    /// Whether a white page is the region once that is drawn: it begins white and has the page's
-    /// size, and its operator draws over white.
+    /// Whether drawing the region on a white page gives exactly the region. It must begin white and
+    /// have the page's size and place, and its operator must draw over white.
     pub(crate) fn makes_up(&self, page: &Bitmap<A>) -> bool
         ensures { result ≡ true → IsBegun false page.now →
             IsWhole (info_of self.now) (initial_of self.now) page.now }
@@ -58,8 +58,8 @@ impl<'a, 'n, 'r, A: Allocator + Clone> ParsedRegion<'a, 'n, 'r, A> {
         draws_over_white(info.combination_operator)
     }
 
-    /// Decodes a region that is the whole page into the page's own bitmap. After a refusal that is as
-    /// it was, unless memory is refused.
+    /// Decodes a region that is the whole page into the page's own bitmap. After an error the bitmap is as it was,
+    /// unless memory ran out.
     pub(crate) fn decode_onto<L: Ledger>(
         self,
         page: &mut Bitmap<A>,

@@ -1,20 +1,27 @@
--- Blocks of a page, and single lines of them, that are combined with the pixels of a source (our own rule): what has to lie
--- where before, and what has become of the page then.
+-- Blocks of a page, and single rows of them, that are combined with the pixels of a source (our own rule): what must
+-- hold before, and what the page is afterwards.
 use Rattle.std.specs.Prelude.{◌≡◌, ℕ, ◌+◌, ◌-◌, ◌<◌, ◌≤◌, ◌^◌, List}
-use Rattle.jbig2_base.specs.{declared.bitmap.{operator.CombinationOperator.{CombinationOperator}, rows.blocks.{Block.{Block}, Line.{Line}, Shape.{Shape}}}, Counts.{Counts, words_across, loads_across, words_written}, Blocks.{CombinesBlock, LiesOn, with_run}, Grid.{Grid, pixel_at}, inner.Shapes.{HasShape, grid_in}}
+use Rattle.jbig2_base.specs.declared.bitmap.operator.CombinationOperator.{CombinationOperator}
+use Rattle.jbig2_base.specs.declared.bitmap.rows.blocks.Block.{Block}
+use Rattle.jbig2_base.specs.declared.bitmap.rows.blocks.Line.{Line}
+use Rattle.jbig2_base.specs.declared.bitmap.rows.blocks.Shape.{Shape}
+use Rattle.jbig2_base.specs.Counts.{Counts, words_across, loads_across, words_written}
+use Rattle.jbig2_base.specs.Blocks.{CombinesBlock, LiesOn, with_run}
+use Rattle.jbig2_base.specs.Grid.{Grid, pixel_at}
+use Rattle.jbig2_base.specs.inner.Shapes.{HasShape, grid_in}
 
--- the places after its last column and row are numbers of 32 bits
+-- the ends of the columns and rows are numbers of 32 bits
 pub record HasEnds (block : Block) : Type 0 where
   pub columns : block.left + block.columns < 2 ^ 32
   pub rows : block.top + block.rows < 2 ^ 32
   pub source_columns : block.from + block.columns < 2 ^ 32
   pub source_rows : block.from_row + block.rows < 2 ^ 32
 
--- A block of a source that lies wholly on the page, its top left pixel at column `left` of row `top`.
+-- A block of a source that lies wholly on the page, with its top left pixel at column `left` of row `top`.
 abbrev pub block_of : Grid → ℕ → ℕ → Block
 block_of source left top = record { left = left; top = top; columns = source.width; rows = source.height; from = 0; from_row = 0 }
 
--- ---- the same of words
+-- ---- the same for words
 pub record IsBlockOnBoth (shape : Shape) (words : List ℕ) (from : Shape) (source : List ℕ) (block : Block) : Type 0 where
   pub packed : HasShape shape words
   pub source_packed : HasShape from source

@@ -1,6 +1,10 @@
--- What stands before coded data of unknown length (T.88, 7.2.7).
-use Rattle.std.specs.{Prelude.{ℕ, List, Result, Ok}, Int.{w8}}
-use Rattle.jbig2_base.specs.{Fields.{bytes_at, number_at}, Segment.{adaptive_bytes}, declared.error.DecodeError.{DecodeError}, Answer.{◌>>=◌}}
+-- The fields before coded data of unknown length (T.88, 7.2.7).
+use Rattle.std.specs.Prelude.{ℕ, List, Result, Ok}
+use Rattle.std.specs.Int.{w8}
+use Rattle.jbig2_base.specs.Fields.{bytes_at, number_at}
+use Rattle.jbig2_base.specs.Segment.{adaptive_bytes}
+use Rattle.jbig2_base.specs.declared.error.DecodeError.{DecodeError}
+use Rattle.jbig2_base.specs.Answer.{◌>>=◌}
 
 -- a generic region's flags, and the bytes after its adaptive pixels
 unfoldable pub coded_front_at : List ℕ → Result (ℕ × List ℕ) DecodeError

@@ -1,6 +1,10 @@
--- Segments of the code, seen as segments of the definitions.
+-- Segments of the code, as segments of the definitions.
 use Rattle.std.specs.Prelude.{List, map}
-use Rattle.jbig2_base.specs.{Segment.{Header, SegmentView}, declared.{file.File.{File}, file_header.FileHeader.{FileHeader}, segment.{SegmentHeader.{SegmentHeader}, Segment.{Segment}}}}
+use Rattle.jbig2_base.specs.Segment.{Header, SegmentView}
+use Rattle.jbig2_base.specs.declared.file.File.{File}
+use Rattle.jbig2_base.specs.declared.file_header.FileHeader.{FileHeader}
+use Rattle.jbig2_base.specs.declared.segment.SegmentHeader.{SegmentHeader}
+use Rattle.jbig2_base.specs.declared.segment.Segment.{Segment}
 
 abbrev pub header_view : {A : Type 0} → SegmentHeader A → Header
 header_view h = record {

@@ -1,6 +1,8 @@
--- Words in which rows of a known shape lie (our own rule), and the grid that they hold.
+-- Words in which rows of a known shape lie, and the grid in these words (our own rule).
 use Rattle.std.specs.Prelude.{ℕ, List}
-use Rattle.jbig2_base.specs.{declared.bitmap.rows.blocks.Shape.{Shape}, Grid.{Grid}, inner.Packed.{IsPacked, packed_grid}}
+use Rattle.jbig2_base.specs.declared.bitmap.rows.blocks.Shape.{Shape}
+use Rattle.jbig2_base.specs.Grid.{Grid}
+use Rattle.jbig2_base.specs.inner.Packed.{IsPacked, packed_grid}
 
 abbrev pub HasShape : Shape → List ℕ → Type 0
 HasShape shape words = IsPacked shape.width shape.height shape.stride words

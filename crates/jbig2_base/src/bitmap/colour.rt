@@ -1,4 +1,4 @@
-//! The next pixel of a colour in a row, by words.
+//! Finds the next pixel of a colour in a row, word by word.
 ghost use Rattle.std.specs.Prelude.{◌≡◌, ℕ, ◌-◌, ◌^◌, ◌<◌, ◌≤◌, not};
 ghost use Rattle.jbig2_base.specs.Counts.{words_loaded, words_searched};
 ghost use Rattle.jbig2_base.specs.Grid.{pixel_at};
@@ -10,8 +10,8 @@ use crate::bitmap::steps::Steps;
 use std::alloc::Allocator;
 use std::sync::ledger::Ledger;
 
-/// The first column from `from` on whose pixel in row `y` is black, or white; else the width. A row
-/// outside is white. Each 64 columns that are looked at take one load.
+/// The first column from `from` on whose pixel in row `y` is black, or white if `black` is false;
+/// else the width. A row outside is white. Each 64 columns that are searched take one load.
 pub fn find_colour<A: Allocator, L: Ledger>(
     bitmap: &Bitmap<A>,
     y: u32,
@@ -38,7 +38,7 @@ pub fn find_colour<A: Allocator, L: Ledger>(
     width
 }
 
-/// How many of the lowest `count` bits come before the first one of the colour, from the high end.
+/// How many of the lowest `count` bits come before the first of the colour, from the high end.
 #[inline(always)]
 fn leading_others(pixels: u64, count: u32, black: bool) -> u32
     requires some { 1 ≤ count }

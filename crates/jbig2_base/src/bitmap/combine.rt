@@ -1,4 +1,4 @@
-//! One bitmap combined with another, word by word (T.88, 7.4.1.5).
+//! Combines one bitmap with another, word by word (T.88, 7.4.1.5).
 ghost use Rattle.std.specs.Prelude.{◌≡◌, ℕ, true, ◌+◌, ◌-◌, ◌*◌, ◌/◌, ◌^◌, ◌<◌, ◌≤◌, min, pos, ◌-ℤ◌};
 ghost use Rattle.jbig2_base.specs.Blocks.{CombinesBlock, LiesOn, with_block};
 ghost use Rattle.jbig2_base.specs.inner.Combines.{HasEnds, block_of};
@@ -13,7 +13,7 @@ use crate::bitmap::steps::Steps;
 use std::alloc::Allocator;
 use std::sync::ledger::Ledger;
 
-/// A body for each operator, in which the compiler knows it, so that each has loops of its own.
+/// One body for each operator. The compiler knows the operator there, so each gets its own loops.
 macro_rules! by_operator {
     ($operator:expr, $known:ident => $body:expr) => {
         match $operator {
@@ -41,8 +41,8 @@ macro_rules! by_operator {
     };
 }
 
-/// The pixels of one row of a page from column `left` up to `right`, and the first of the source's
-/// pixels that lie on them.
+/// The pixels of one row of a page from column `left` to column `right` - 1, and the first of the
+/// source's pixels on them.
 #[derive(Clone, Copy)]
 struct Span {
     left: u32,
@@ -53,9 +53,9 @@ struct Span {
 }
 
 impl<A: Allocator> Bitmap<A> {
-    /// Combines `other` into this bitmap, its top left pixel at column `x` of row `y`: each pixel
-    /// of this bitmap that a pixel of `other` lies on becomes what `operator` makes of the two. Any
-    /// place will do, also partly or wholly outside.
+    /// Combines `other` into this bitmap, with its top left pixel at column `x` of row `y`. Each
+    /// pixel of this bitmap under a pixel of `other` becomes the combination of the two by
+    /// `operator`. The place may be anywhere, also partly or wholly outside.
     pub fn combine<B: Allocator, L: Ledger>(
         &mut self,
         other: &Bitmap<B>,
@@ -77,7 +77,7 @@ impl<A: Allocator> Bitmap<A> {
     }
 }
 
-/// Whether a source of one word a row lies wholly on the page, without making its block.
+/// Whether a source with one word in each row lies wholly on the page. This makes no block.
 #[inline(always)]
 fn lies_within<A: Allocator, B: Allocator>(
     page: &Bitmap<A>,
@@ -96,7 +96,7 @@ fn lies_within<A: Allocator, B: Allocator>(
         && u64::from(top) + u64::from(source.height()) <= u64::from(page.height())
 }
 
-/// Combines a source of one word a row that lies wholly on the page.
+/// Combines a source with one word in each row that lies wholly on the page.
 fn stamp<A: Allocator, B: Allocator, L: Ledger>(
     page: &mut Bitmap<A>,
     source: &Bitmap<B>,
@@ -123,7 +123,7 @@ fn stamp<A: Allocator, B: Allocator, L: Ledger>(
     });
 }
 
-/// Combines what lies on the page of a source at any place.
+/// Combines the part of a source that lies on the page. The source may be at any place.
 fn combine_part<A: Allocator, B: Allocator, L: Ledger>(
     page: &mut Bitmap<A>,
     source: &Bitmap<B>,
@@ -155,7 +155,7 @@ fn combine_part<A: Allocator, B: Allocator, L: Ledger>(
     combine_block(page, source, operator, block, steps);
 }
 
-/// Combines a block of the page with the source's pixels that lie on it.
+/// Combines a block of the page with the source's pixels on it.
 fn combine_block<A: Allocator, B: Allocator, L: Ledger>(
     page: &mut Bitmap<A>,
     source: &Bitmap<B>,
@@ -171,7 +171,7 @@ fn combine_block<A: Allocator, B: Allocator, L: Ledger>(
     by_operator!(operator, known => combine_by(page, source, known, block, steps));
 }
 
-/// The same by an operator that the compiler knows.
+/// The same, for an operator that the compiler knows.
 #[inline(always)]
 fn combine_by<A: Allocator, B: Allocator, L: Ledger>(
     page: &mut Bitmap<A>,
@@ -203,8 +203,8 @@ fn combine_by<A: Allocator, B: Allocator, L: Ledger>(
     }
 }
 
-/// Where a source that begins at `x` begins on the page, and with which of its own columns (or
-/// rows).
+/// The first column (or row) of the page under a source that begins at `x`, and the first of the
+/// source's own on the page.
 fn starts(x: i32) -> (u32, u32)
     ensures difference { x ≡ pos result.0 -ℤ pos result.1 }
     ensures one { min result.0 result.1 ≡ 0 }
@@ -256,7 +256,7 @@ fn combine_row<A: Allocator, B: Allocator, L: Ledger>(
     }
 }
 
-/// What `operator` makes of each of the lowest `count` bits.
+/// The lowest `count` bits of `page` and `source`, combined by `operator`.
 #[inline(always)]
 fn combined_bits(operator: CombinationOperator, page: u64, source: u64, count: u32) -> u64
     requires some { 1 ≤ count }

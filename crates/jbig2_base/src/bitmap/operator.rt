@@ -1,4 +1,4 @@
-//! How a region is combined with what lies under it (T.88, 7.4.1.5).
+//! How a region is combined with the bitmap below it (T.88, 7.4.1.5).
 ghost use Rattle.std.specs.Prelude.{◌≡◌, ◌%◌, Ok};
 ghost use Rattle.jbig2_base.specs.Answer.{Answers};
 ghost use Rattle.jbig2_base.specs.Causes.{HasCause, BreaksOperator};
@@ -6,7 +6,7 @@ ghost use Rattle.jbig2_base.specs.Combination.{operator_of};
 
 use crate::error::{DecodeError, RegionError, Result};
 
-/// What becomes of a pixel under a region's pixel. The default is `Or`.
+/// The new colour of a pixel under a region's pixel. The default is `Or`.
 #[derive(Clone, Copy, Debug, PartialEq, Eq)]
 pub enum CombinationOperator {
     /// Black where either is black.
@@ -30,8 +30,8 @@ impl Default for CombinationOperator {
 }
 
 impl CombinationOperator {
-    /// The operator that the low three bits of `value` name; 5 to 7 name none
-    /// (`RegionError::InvalidCombinationOperator`).
+    /// The operator whose number is in the low three bits of `value`. The numbers 5 to 7 return
+    /// `RegionError::InvalidCombinationOperator`.
     #[tactic(auto, using(crate::proofs::PageCauses::operator_cause))]
     pub fn from_value(value: u8) -> Result<CombinationOperator>
         ensures causes { HasCause result (BreaksOperator (value % 8)) }

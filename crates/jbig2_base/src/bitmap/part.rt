@@ -1,5 +1,5 @@
-//! Parts that are cut out of bitmaps: the symbols of a collective bitmap (T.88, 6.5.9), the
-//! patterns of one (6.7.5), and the area of the page that a refinement takes (7.4.7.4).
+//! Cuts parts out of bitmaps: the symbols of a collective bitmap (T.88, 6.5.9), the patterns of a
+//! collective bitmap (6.7.5), and the area of the page that a refinement takes (7.4.7.4).
 ghost use Rattle.std.specs.Prelude.{◌≡◌, ◌+◌, ◌/◌, ◌<◌, ◌≤◌, OnErr, OnOk};
 ghost use Rattle.jbig2_base.specs.Answer.{Gives};
 ghost use Rattle.jbig2_base.specs.Counts.{words_copied, words_of};
@@ -12,7 +12,7 @@ use crate::error::Result;
 use std::alloc::Allocator;
 use std::sync::ledger::Ledger;
 
-/// A rectangle of pixels, which may reach past the sides of a bitmap.
+/// A rectangle of pixels, which may go past the sides of a bitmap.
 #[derive(Clone, Copy, Debug)]
 pub struct Area {
     /// The leftmost column.
@@ -25,7 +25,7 @@ pub struct Area {
     pub height: u32,
 }
 
-/// Row `y` of a part, whose rows above are copied.
+/// Copies row `y` of a part. The rows above it are copied already.
 fn copy_row<A: Allocator, B: Allocator, L: Ledger>(
     bitmap: &Bitmap<A>,
     area: Area,
@@ -50,9 +50,8 @@ fn copy_row<A: Allocator, B: Allocator, L: Ledger>(
 }
 
 impl<A: Allocator> Bitmap<A> {
-    /// The part of this bitmap that `area` covers, white outside, in memory of its own. A side
-    /// above 65535 is refused (`OverflowError::BitmapDimension`). Each of its words is written once, under
-    /// one load.
+    /// The part of this bitmap in `area`, white outside, in new memory. A side above 65535 is refused
+    /// (`OverflowError::BitmapDimension`). Each word of the part is written once, with one load.
     pub fn part<B: Allocator, L: Ledger>(
         &self,
         alloc: B,

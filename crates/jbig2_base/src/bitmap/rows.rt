@@ -1,5 +1,5 @@
-//! Rows of pixels packed into words. Only this module knows the size of a word, and reads and writes words by the calls
-//! of `words` alone.
+//! Rows of pixels packed into words. Only this module knows the size of a word. It reads and writes words only by the
+//! calls of `words`.
 ghost use Rattle.std.specs.Prelude.{◌≡◌, ℕ, ◌+◌, ◌-◌, ◌*◌, ◌/◌, ◌%◌, ◌^◌, ◌<◌, ◌≤◌, ◌&&◌, nat_lt, OnErr, Ok, false, length, slice_index};
 ghost use Rattle.jbig2_base.specs.Answer.{Gives};
 ghost use Rattle.jbig2_base.specs.Counts.{words_copied};
@@ -21,8 +21,8 @@ use std::marker::Model;
 use std::sync::ledger::Ledger;
 use words::{PackedWords, RowPlace, Words};
 
-/// Pixels, row by row. Each row begins with a word of its own, the leftmost pixel of a word is its
-/// highest bit, and the bits past the width are zero.
+/// Pixels, row by row. Each row begins with a new word. The leftmost pixel of a word is its highest
+/// bit, and the bits past the width are zero.
 #[derive(Debug, Drop)]
 pub struct PackedRows<A: Allocator> {
     width: u32,
@@ -44,7 +44,7 @@ impl<A: Allocator> Model for PackedRows<A> {
 }
 
 impl<A: Allocator> PackedRows<A> {
-    /// No rows, without memory.
+    /// No rows; takes no memory.
     pub fn new(alloc: A) -> PackedRows<A>
         ensures { result ≡ blank 0 0 false }
     {
@@ -56,7 +56,7 @@ impl<A: Allocator> PackedRows<A> {
         }
     }
 
-    /// Takes another size, with all pixels of one colour. A refusal changes nothing.
+    /// Changes the size and makes all pixels one colour. A refusal changes nothing.
     pub fn refill(&mut self, width: u32, height: u32, black: bool) -> Result<()>
         ensures value { Gives (λ _. self.new) result (Ok (blank width height black)) }
         ensures err { OnErr result (self.new ≡ self.old) }
@@ -68,7 +68,7 @@ impl<A: Allocator> PackedRows<A> {
         Ok(())
     }
 
-    /// The same rows in memory of their own. Each word counts as loaded and written.
+    /// A copy of the rows in new memory. Each word counts as loaded and written.
     pub fn duplicate<B: Allocator, L: Ledger>(
         &self,
         alloc: B,
@@ -102,7 +102,7 @@ impl<A: Allocator> PackedRows<A> {
         self.height
     }
 
-    /// The pixel at column `x` of row `y`, 0 outside.
+    /// The pixel at column `x` of row `y`, 1 for black; 0 outside.
     #[inline(always)]
     pub fn get_pixel<L: Ledger>(&self, x: u32, y: u32, steps: &mut Steps<L>) -> u8
         ensures value { result ≡ bit_number (pixel_at self.now x y) }
@@ -112,7 +112,7 @@ impl<A: Allocator> PackedRows<A> {
         self.words.load_bits(row, x, 1, steps) as u8
     }
 
-    /// Makes the pixel at column `x` of row `y` black if `black` says so; nothing outside.
+    /// Makes the pixel at column `x` of row `y` black if `black` is true. Outside nothing changes.
     #[inline(always)]
     pub fn set_pixel<L: Ledger>(&mut self, x: u32, y: u32, black: bool, steps: &mut Steps<L>)
         ensures value { self.new ≡ with_pixel self.old x y black }
@@ -124,8 +124,8 @@ impl<A: Allocator> PackedRows<A> {
         self.words.blacken(index, x % 64, blackens, steps);
     }
 
-    /// `count` neighbouring pixels of row `y` from column `x` on, the first in the highest of the
-    /// lowest `count` bits; 0 outside.
+    /// `count` neighbouring pixels of row `y` from column `x` on. The first is in the highest of
+    /// the lowest `count` bits. Pixels outside are 0.
     #[inline(always)]
     pub fn load_pixels<L: Ledger>(&self, x: u32, y: u32, count: u32, steps: &mut Steps<L>) -> u64
         requires some { 1 ≤ count }
@@ -139,7 +139,7 @@ impl<A: Allocator> PackedRows<A> {
         self.words.load_bits(row, x, count, steps)
     }
 
-    /// The words of row `y`, lent to be read one by one.
+    /// The words of row `y`, borrowed for reading one by one.
     #[inline(always)]
     pub fn row_words(&self, y: u32) -> Words<'_>
         requires { y < self.now.height }
@@ -151,8 +151,8 @@ impl<A: Allocator> PackedRows<A> {
             .row(row_place(y, self.width, self.height, self.stride))
     }
 
-    /// Sets `count` neighbouring pixels of row `y` from column `x` on, which lie in one word, to the
-    /// lowest `count` bits of `bits`, the first to the highest of them.
+    /// Sets `count` neighbouring pixels of row `y` from column `x` on to the lowest `count` bits of
+    /// `bits`, high bit first. The pixels lie in one word.
     #[inline(always)]
     pub fn store_pixels<L: Ledger>(
         &mut self,
@@ -174,8 +174,8 @@ impl<A: Allocator> PackedRows<A> {
             .write_field(index, 64 - x % 64 - count, count, bits, steps);
     }
 
-    /// Combines a block with the source's pixels that lie on it, if each row of it lies in one word
-    /// of the source, or begins at the same place of a word in both and takes two words or more.
+    /// Combines a block with the source's pixels on it. Each row of the block lies in one word of
+    /// the source, or it begins at the same place of a word in both and takes at least two words.
     #[inline(always)]
     pub fn combine_block<B: Allocator, L: Ledger>(
         &mut self,
@@ -223,7 +223,7 @@ fn row_place(y: u32, width: u32, height: u32, stride: usize) -> RowPlace
     }
 }
 
-/// Whether a pixel that `black` says so of is inside.
+/// Whether `black` is true and the pixel is inside.
 #[inline(always)]
 fn black_inside(black: bool, x: u32, y: u32, width: u32, height: u32) -> bool
     ensures { result ≡ (black && nat_lt x width && nat_lt y height) }

@@ -1,4 +1,4 @@
-//! Where data of unknown length ends (T.88, 7.2.7).
+//! Finds the end of data of unknown length (T.88, 7.2.7).
 ghost use Rattle.std.specs.Prelude.{◌≡◌, ◌+◌, ◌≤◌, length, IfOk, None};
 ghost use Rattle.std.specs.Bool.{OnTrue};
 ghost use Rattle.jbig2_base.specs.Answer.{Answers};
@@ -50,7 +50,7 @@ fn first_end_marker(flags: u8, bytes: &[u8]) -> Result<usize>
     Err(DecodeError::Segment(SegmentError::MissingEndMarker))
 }
 
-/// A generic region's flags; the reader then stands after its adaptive pixels.
+/// A generic region's flags. The reader is then after its adaptive pixels.
 #[tactic(auto, unfolding(crate::specs::inner::Fronts::coded_front_at))]
 fn coded_front(reader: &mut Reader<'_>) -> Result<u8>
     requires { IsAligned reader.old }
@@ -65,9 +65,9 @@ fn coded_front(reader: &mut Reader<'_>) -> Result<u8>
     Ok(flags)
 }
 
-/// The length of the data at the front of `bytes` whose header leaves it open.
+/// The length of the data at the front of `bytes`, if its header does not state it.
 ///
-/// `SegmentError::MissingEndMarker` where no end marker comes.
+/// Returns `SegmentError::MissingEndMarker` if there is no end marker.
 #[tactic(auto, using(crate::proofs::DataCauses::unknown_cause))]
 pub(super) fn unknown_length(bytes: &[u8]) -> Result<usize>
     ensures causes { HasCause result (BreaksData None bytes.now) }

@@ -1,8 +1,11 @@
--- The code register with bytes that are read ahead, seen as the code register of the definitions (T.88, Annex G).
+-- The code register with bytes that are read ahead, as the code register of the definitions (T.88, Annex G).
 use Rattle.std.specs.Prelude.{◌≡◌, ◌≢◌, ℕ, zero, suc, ◌+◌, ◌-◌, ◌*◌, ◌/◌, ◌%◌, ◌^◌, ◌<◌, ◌≤◌, max, List, length}
-use Rattle.jbig2_coder.specs.{Coder.{Registers, byte_at}, declared.arithmetic_decoder.registers.{BufferedRegisters.{BufferedRegisters}, CodeBuffer.{CodeBuffer}, CodeRegister.{CodeRegister}}}
+use Rattle.jbig2_coder.specs.Coder.{Registers, byte_at}
+use Rattle.jbig2_coder.specs.declared.arithmetic_decoder.registers.BufferedRegisters.{BufferedRegisters}
+use Rattle.jbig2_coder.specs.declared.arithmetic_decoder.registers.CodeBuffer.{CodeBuffer}
+use Rattle.jbig2_coder.specs.declared.arithmetic_decoder.registers.CodeRegister.{CodeRegister}
 
--- without the whole bytes that are ahead
+-- without the whole bytes that are read ahead
 abbrev pub seen_of : CodeBuffer → CodeRegister
 seen_of code =
     record {
@@ -14,12 +17,12 @@ seen_of code =
 abbrev pub seen_registers : BufferedRegisters → Registers
 seen_registers registers = record { a = registers.a; code = seen_of registers.code }
 
--- the number that this many bytes after a place spell, each of them turned
+-- the number that this many bytes after a place make, with each byte inverted
 abbrev pub spelled : List ℕ → ℕ → ℕ → ℕ
 spelled bytes place zero = 0
 spelled bytes place (suc n) = (0xFF - byte_at bytes (place + 1)) * 2 ^ (8 * n) + spelled bytes (place + 1) n
 
--- The lowest bits are this many whole bytes after a place, none of them after a byte FF; `ct` bits stand above them.
+-- The lowest bits are this many whole bytes after a place, and none of them comes after a byte FF. `ct` bits are above.
 pub record Reads (bytes : List ℕ) (ct ahead place : ℕ) (code : CodeBuffer) : Type 0 where
   pub below : ct < 8
   pub bits : code.bits ≡ ct + 8 * ahead
@@ -36,23 +39,23 @@ pub record IsAhead (bytes : List ℕ) (code : CodeBuffer) : Type 0 where
   pub place : ℕ
   pub reads : Reads bytes ct ahead place code
 
--- after this many shifts
+-- the register after this many shifts
 abbrev pub shifted : ℕ → CodeBuffer → CodeBuffer
 shifted k code = record { c = code.c * 2 ^ k % 2 ^ 64; bits = code.bits - k; place = code.place }
 
--- How far A may fall in quiet decisions (T.88, E.3): down to 8000, where a renormalization follows, and no further than
--- one above the upper half of C, below which the lower part of the interval is chosen.
+-- How far A may fall in quiet decisions (T.88, E.3). Below 8000 a renormalization follows. At the upper half of C or
+-- below it, the lower part of the interval is chosen.
 abbrev pub floor_of : ℕ → ℕ
 floor_of c = max (c / 2 ^ 16 + 1) 0x8000
 
--- What holds of the registers between two decisions.
+-- What holds for the registers between two decisions.
 pub record IsAtRest (bytes : List ℕ) (registers : Registers) : Type 0 where
   pub normal : 0x8000 ≤ registers.a
   pub below : registers.a < 0x10000
   pub few : registers.code.ct ≤ 8
   pub within : registers.code.place ≤ length bytes
 
--- What holds of a decoder between two decisions.
+-- What holds for a decoder between two decisions.
 pub record IsKept (bytes : List ℕ) (registers : BufferedRegisters) (floor : ℕ) : Type 0 where
   pub rest : IsAtRest bytes (seen_registers registers)
   pub low : floor ≡ floor_of (seen_of registers.code).c

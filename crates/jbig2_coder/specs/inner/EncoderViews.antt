@@ -1,6 +1,9 @@
--- The encoder of the code, seen as the encoder of the definitions, and a list of contexts as what is known of each.
+-- The encoder of the code, as the encoder of the definitions, and a list of contexts, as a function of their numbers.
 use Rattle.std.specs.Prelude.{ℕ, ◌+◌, ◌*◌, ◌^◌, ◌<◌, ◌≤◌, List, reverse, slice_index_or}
-use Rattle.jbig2_coder.specs.{Coder.{Context, fresh}, Encoder.{Writer, Coding}, declared.mq.encoder.{CodeRegister.{CodeRegister}, Registers.{Registers}}}
+use Rattle.jbig2_coder.specs.Coder.{Context, fresh}
+use Rattle.jbig2_coder.specs.Encoder.{Writer, Coding}
+use Rattle.jbig2_coder.specs.declared.mq.encoder.CodeRegister.{CodeRegister}
+use Rattle.jbig2_coder.specs.declared.mq.encoder.Registers.{Registers}
 
 abbrev pub writer_of : List ℕ → CodeRegister → Writer
 writer_of bytes code = record { register = code.c; wait = code.ct; out = reverse bytes }
@@ -8,29 +11,29 @@ writer_of bytes code = record { register = code.c; wait = code.ct; out = reverse
 abbrev pub coding_of : List ℕ → Registers → Coding
 coding_of bytes registers = record { range = registers.a; writer = writer_of bytes registers.code }
 
--- The next byte out takes what C has by then, with one carry at most.
+-- When the next byte goes out, C fits in it, with at most one carry.
 pub record HasRoom (a : ℕ) (code : CodeRegister) : Type 0 where
   pub some : 1 ≤ code.ct
   pub few : code.ct ≤ 12
   pub room : (code.c + a) * 2 ^ code.ct ≤ 9 * 2 ^ 24
 
--- What holds of the registers between two decisions.
+-- What holds for the registers between two decisions.
 pub record IsAtRest (registers : Registers) : Type 0 where
   pub normal : 0x8000 ≤ registers.a
   pub below : registers.a < 0x10000
   pub room : HasRoom registers.a registers.code
 
--- an encoder once a decision is coded, and the decision's context
+-- the encoder after a decision is coded, and the decision's context then
 abbrev pub Encoding : Type 0
 Encoding = record { coding : Coding; context : Context }
 
--- what is known of each context
+-- the context of each number
 abbrev pub Contexts : Type 0
 Contexts = ℕ → Context
 
 abbrev pub all_fresh : Contexts
 all_fresh = λ _. fresh
 
--- those that a list holds, the others fresh
+-- the contexts of a list; all others are fresh
 unfoldable pub contexts_of : List Context → Contexts
 contexts_of known = λ k. slice_index_or known k fresh

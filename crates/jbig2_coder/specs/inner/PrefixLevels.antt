@@ -1,6 +1,10 @@
--- How a table is kept: by lengths, the lines of each and how many inner nodes the code's tree has there.
-use Rattle.std.specs.Prelude.{◌≡◌, ℕ, zero, suc, ◌+◌, ◌-◌, ◌*◌, ◌/◌, ◌≤◌, nat_lt, List, [], ◌∷◌, ◌++◌, length, take, drop, slice_get, if◌then◌else◌}
-use Rattle.jbig2_coder.specs.{declared.huffman_table.{line.TableLine.{TableLine}, levels.Level.{Level}}, PrefixCode.{Member, CodeReading, shorter, level, line_of, begins_longer}, inner.CodeParts.{found_or, refused, ended}}
+-- How a table is kept: for each length, its lines and how many inner nodes the code's tree has there.
+use Rattle.std.specs.Prelude.{◌≡◌, ℕ, zero, suc, ◌+◌, ◌-◌, ◌*◌, ◌/◌, ◌≤◌, nat_lt, List, [], ◌∷◌, ◌++◌, length, take}
+use Rattle.std.specs.Prelude.{drop, slice_get, if◌then◌else◌}
+use Rattle.jbig2_coder.specs.declared.huffman_table.line.TableLine.{TableLine}
+use Rattle.jbig2_coder.specs.declared.huffman_table.levels.Level.{Level}
+use Rattle.jbig2_coder.specs.PrefixCode.{Member, CodeReading, shorter, level, line_of, begins_longer}
+use Rattle.jbig2_coder.specs.inner.CodeParts.{found_or, refused, ended}
 
 -- the lines of each level
 abbrev pub groups_of : List TableLine → List Level → List (List TableLine)
@@ -22,24 +26,24 @@ abbrev pub codes_from : ℕ → ℕ → List TableLine → List Member
 codes_from zero l lines = []
 codes_from (suc n) l lines = numbered l (shorter l lines) (level l lines) ++ codes_from n (l + 1) lines
 
--- A read bit by bit: of a code's bits k are taken, and spell v.
+-- A read bit by bit: k bits of a code are taken, and they make the number v.
 abbrev pub read_on : List Member → ℕ → ℕ → List ℕ → CodeReading TableLine
 read_on ms k v [] = ended (k + 1)
 read_on ms k v (b ∷ bits) =
     found_or (line_of ms (k + 1) (2 * v + b)) (k + 1)
     (if begins_longer ms (k + 1) (2 * v + b) then read_on ms (k + 1) (2 * v + b) bits else refused (k + 1))
 
--- how many inner nodes stand above the groups, where each has at most two children
+-- how many inner nodes are above the groups, if each has at most two children
 abbrev pub nodes : List (List TableLine) → ℕ
 nodes [] = 0
 nodes (g ∷ gs) = (length g + nodes gs + 1) / 2
 
--- the members, b codes of k bits being used up
+-- the members, after b codes of k bits are used
 abbrev pub codes_at : ℕ → ℕ → List (List TableLine) → List Member
 codes_at k b [] = []
 codes_at k b (g ∷ gs) = numbered (k + 1) (2 * b) g ++ codes_at (k + 1) (2 * b + length g) gs
 
--- The walk down the groups: d is which inner node, k bits being taken.
+-- The walk down the groups: d is the number of the inner node, and k bits are taken.
 abbrev pub walk : List (List TableLine) → ℕ → ℕ → List ℕ → CodeReading TableLine
 walk gs k d [] = ended (k + 1)
 walk [] k d (b ∷ bits) = refused (k + 1)

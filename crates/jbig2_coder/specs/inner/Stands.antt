@@ -1,7 +1,9 @@
--- How the state of a call stands to what it has read so far (our own rule).
+-- How the state of a call relates to what it has read so far (our own rule).
 use Rattle.std.specs.Prelude.{◌≡◌, ℕ, ◌+◌, ◌*◌, ◌%◌, nat_lt, if◌then◌else◌, Bool, List, length}
-use Rattle.jbig2_base.specs.{Counts.{Counts}, Grid.{bit_number}}
-use Rattle.jbig2_coder.specs.{Coder.{Coder, Context}, Integers.{Reading, prev_of}}
+use Rattle.jbig2_base.specs.Counts.{Counts}
+use Rattle.jbig2_base.specs.Grid.{bit_number}
+use Rattle.jbig2_coder.specs.Coder.{Coder, Context}
+use Rattle.jbig2_coder.specs.Integers.{Reading, prev_of}
 
 -- `place` is the number of the next context, `steps` the counts since `start`
 pub record Stands (name : List Bool → ℕ) (start : Counts) (r : Reading) (place : ℕ) (coder : Coder) (contexts : List Context) (steps : Counts) : Type 0 where
@@ -10,15 +12,15 @@ pub record Stands (name : List Bool → ℕ) (start : Counts) (r : Reading) (pla
   pub learned : contexts ≡ r.contexts
   pub counted : steps ≡ record start { decisions = start.decisions + length r.bits }
 
--- What a call says of an integer's bits, wherever among them it stands.
+-- What a call states about an integer's bits, after any number of them.
 abbrev pub Tells : (Reading → Type 0) → ℕ → Coder → List Context → Counts → Type 0
 Tells told prev coder contexts steps = (start : Counts) (r : Reading) → Stands prev_of start r prev coder contexts steps → told r
 
--- This many bits on, it stands after them.
+-- The same relation holds again after the call has read more bits.
 abbrev pub GoesOn : (Reading → Reading) → ℕ → Coder → List Context → Counts → ℕ → Coder → List Context → Counts → Type 0
 GoesOn on prev coder contexts steps prev' coder' contexts' steps' = (start : Counts) (r : Reading) → Stands prev_of start r prev coder contexts steps → Stands prev_of start (on r) prev' coder' contexts' steps'
 
--- PREV, one bit on: it grows until it has eight bits after its 1
+-- PREV after one more bit; it grows until it has eight bits after its 1
 unfoldable pub prev_next : ℕ → Bool → ℕ
 prev_next prev bit =
     let grown = 2 * prev + bit_number bit in

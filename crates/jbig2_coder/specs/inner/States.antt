@@ -1,16 +1,18 @@
--- How a context is kept: in one number, its state.
+-- How a context is kept: as one number, its state.
 use Rattle.std.specs.Prelude.{◌≡◌, ℕ, ◌+◌, ◌*◌, ◌/◌, ◌%◌, ◌<◌, ◌≤◌, ◌==◌}
 use Rattle.jbig2_base.specs.Grid.{bit_number}
-use Rattle.jbig2_coder.specs.{Coder.{Context, likely_next, unlikely_next}, Table.{row_of}, declared.arithmetic_decoder.qe_table.State.{State}}
+use Rattle.jbig2_coder.specs.Coder.{Context, likely_next, unlikely_next}
+use Rattle.jbig2_coder.specs.Table.{row_of}
+use Rattle.jbig2_coder.specs.declared.arithmetic_decoder.qe_table.State.{State}
 
--- twice the row, and one more where 1 is the likely symbol
+-- twice the row, plus 1 if 1 is the likely symbol
 abbrev pub state_of : Context → ℕ
 state_of context = 2 * context.row + bit_number context.likely
 
 abbrev pub context_of : ℕ → Context
 context_of state = record { row = state / 2; likely = state % 2 == 1 }
 
--- what the table says that a context does
+-- the state has the data that the table gives for a context
 pub record Does (state : State) (context : Context) : Type 0 where
   pub qe : state.qe ≡ (row_of context.row).qe
   pub some : 1 ≤ state.qe

@@ -5,9 +5,9 @@ ghost use Rattle.jbig2_coder.specs.Table.{row_of};
 ghost use Rattle.jbig2_coder.specs.Coder.{likely_next, unlikely_next};
 ghost use Rattle.jbig2_coder.specs.inner.States.{context_of};
 
-/// What a context does in one of its states: the probability of the less likely symbol, and the
-/// state after the more and after the less likely one. A state is twice the row of Table E.1, and
-/// one more where 1 is the more likely symbol.
+/// The data of a state: the probability of the less likely symbol, and the next state after the
+/// more and after the less likely one. A state is twice the row of Table E.1, plus 1 if 1 is the
+/// more likely symbol.
 #[derive(Clone, Copy)]
 pub struct State {
     pub qe: u32,
@@ -85,7 +85,7 @@ static STATES: [State; 94] = states![
     (0x5601, 46, 46, 0),
 ];
 
-/// What a context does in state `index`.
+/// The data of state `index`.
 #[inline(always)]
 pub(crate) fn state_at(index: u8) -> State
     requires { index < 94 }

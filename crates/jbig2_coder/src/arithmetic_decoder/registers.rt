@@ -13,9 +13,9 @@ pub struct CodeRegister {
     pub place: usize,
 }
 
-/// The code register with bytes that are read ahead: its upper half in the highest 16 bits of `c`,
-/// then `bits` bits, and zeros. `place` is the place of the byte that was read last. Bytes after a
-/// byte FF are not read ahead, since they may change the bits above them.
+/// The code register with bytes that are read ahead. Its upper half is in the highest 16 bits of
+/// `c`; `bits` bits come after it, and then zeros. `place` is the place of the byte that was read
+/// last. Bytes after a byte FF are not read ahead, because they may change the bits above them.
 #[derive(Clone, Copy)]
 pub struct CodeBuffer {
     pub c: u64,
@@ -39,7 +39,7 @@ impl CodeBuffer {
         (self.c >> 48) as u32
     }
 
-    /// An empty buffer filled with the next bytes, up to one after a byte FF.
+    /// An empty buffer filled with the next bytes, but not with a byte after a byte FF.
     #[inline(always)]
     fn filled(self, bytes: &[u8]) -> CodeBuffer
         requires empty { self.bits ≡ 0 }
@@ -58,7 +58,7 @@ impl CodeBuffer {
     }
 }
 
-/// The byte at `place`, FF past the end.
+/// The byte at `place`; FF past the end.
 #[tactic(auto, unfolding(crate::specs::Coder::byte_at))]
 #[inline(always)]
 pub(crate) fn byte_at(bytes: &[u8], place: usize) -> u8
@@ -67,7 +67,7 @@ pub(crate) fn byte_at(bytes: &[u8], place: usize) -> u8
     bytes.get(place).copied().unwrap_or(0xFF)
 }
 
-/// The code register once the byte after `place` is read into `c` (BYTEIN, Figure G.3).
+/// The code register after the byte after `place` is read into `c` (BYTEIN, Figure G.3).
 #[tactic(auto, unfolding(crate::specs::Coder::byte_in))]
 #[inline(always)]
 pub(crate) fn byte_in(bytes: &[u8], c: u32, place: usize) -> CodeRegister
@@ -96,7 +96,7 @@ pub(crate) fn byte_in(bytes: &[u8], c: u32, place: usize) -> CodeRegister
     }
 }
 
-/// How far A can be shifted at once: up to its top bit, by no more than the bits that are left.
+/// By how many bits A can be shifted at once: up to its top bit, and at most by the bits left.
 #[inline(always)]
 fn batch(a: u32, bits: u32) -> u32
     requires some { 1 ≤ a }
@@ -111,7 +111,7 @@ fn batch(a: u32, bits: u32) -> u32
 }
 
 impl BufferedRegisters {
-    /// Makes A a part of the interval, of this size and above what lies `below` it.
+    /// Narrows the interval to a part of this size; `below` is the size of what lies below it.
     #[inline(always)]
     pub(crate) fn narrow(&mut self, size: u32, below: u32)
         requires inside { below ≤ self.old.code.c / 2 ^ 48 }
@@ -125,7 +125,7 @@ impl BufferedRegisters {
         self.code.c -= u64::from(below) << 48;
     }
 
-    /// Shifts A and the code register, for which there are bits.
+    /// Shifts A and the code register by bits that the buffer has.
     #[inline(always)]
     fn shift(&mut self, shifts: u32)
         requires few { shifts ≤ 15 }
@@ -139,7 +139,7 @@ impl BufferedRegisters {
         self.code.bits -= shifts;
     }
 
-    /// Fills an empty buffer.
+    /// Fills the buffer if it is empty.
     #[inline(always)]
     fn refill(&mut self, bytes: &[u8])
         requires { IsAhead bytes.now self.old.code }
@@ -151,7 +151,7 @@ impl BufferedRegisters {
         }
     }
 
-    /// Shifts once, with an empty buffer: the bits of the next byte come in, whatever stands before it.
+    /// Shifts once, with an empty buffer. The next byte's bits come in, whatever byte is before it.
     #[inline(always)]
     fn take_byte(&mut self, bytes: &[u8])
         requires some { 1 ≤ self.old.a }
@@ -172,7 +172,7 @@ impl BufferedRegisters {
         };
     }
 
-    /// Shifts at least once, as far as A and the bits of the buffer go.
+    /// Shifts at least once, as far as A and the bits of the buffer allow.
     #[inline(always)]
     fn turn(&mut self, bytes: &[u8])
         requires some { 1 ≤ self.old.a }
@@ -192,8 +192,8 @@ impl BufferedRegisters {
         self.shift(batch(self.a, self.code.bits));
     }
 
-    /// Shifts until A has its top bit again, where the buffer has too few bits for it. That is rare,
-    /// so it stands apart.
+    /// Shifts until A has its top bit again, if the buffer has too few bits for it. That is rare, so
+    /// it is a function of its own.
     #[inline(never)]
     fn renormalize_by_turns(&mut self, bytes: &[u8])
         requires some { 1 ≤ self.old.a }

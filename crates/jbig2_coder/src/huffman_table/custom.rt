@@ -1,4 +1,4 @@
-//! The lines that a custom table's bits spell (T.88, B.2).
+//! Reads the lines of a custom table (T.88, B.2).
 ghost use Rattle.std.specs.Prelude.{◌≡◌, ◌+◌, ◌≤◌, ◌<◌, ◌^◌, drop, length, OnOk, IfOk};
 ghost use Rattle.jbig2_base.specs.Bits.{bits_left, bits_on};
 ghost use Rattle.jbig2_coder.specs.CustomTable.{left_at, next_low, custom_header, custom_line, range_lines, end_lines, behind, custom_lines, GivesAt};
@@ -22,7 +22,7 @@ pub(super) struct Header {
     pub(super) range_bits: u8,
     /// The lowest value of the lines that are neither lower nor upper.
     pub(super) minimum: i32,
-    /// One more than the greatest.
+    /// One more than the greatest value of these lines.
     pub(super) maximum: i32,
 }
 
@@ -65,7 +65,7 @@ fn read_range_line(reader: &mut Reader<'_>, header: &Header, low: i32) -> Result
     Ok((line, next))
 }
 
-/// The low value after a range, or an invalid code for a range above signed 32 bits.
+/// The low value after a range, or an invalid code if the range goes past signed 32 bits.
 fn next_low(low: i32, range_length: u32) -> Result<i32>
     ensures value { result ≡ next_low low range_length }
     ensures short { IfOk result (λ _. range_length ≤ 31) }
@@ -100,7 +100,7 @@ fn read_range_lines<A: Allocator>(
     Ok(lines)
 }
 
-/// Reads the lower line, the upper line and the out-of-band line, after `lines`.
+/// Reads the lower line, the upper line and any out-of-band line, and adds them to `lines`.
 fn push_end_lines<A: Allocator>(
     reader: &mut Reader<'_>,
     header: &Header,

@@ -1,4 +1,4 @@
-//! The first table of a code: what the next eight bits begin with.
+//! The first table of a code: it gives the code that begins the next eight bits.
 ghost use Rattle.std.specs.Prelude.{◌≡◌, ◌+◌, ◌≤◌, ◌<◌, ◌^◌, IfOk};
 ghost use Rattle.jbig2_base.specs.Bits.{bits_left};
 ghost use Rattle.jbig2_coder.specs.PrefixCode.{AreShort, Reads};
@@ -10,25 +10,25 @@ use super::line::TableLine;
 use jbig2_base::error::Result;
 use jbig2_base::reader::Reader;
 
-/// The code that a byte begins with.
+/// The code that begins a byte.
 #[derive(Debug, Clone, Copy)]
 pub(super) struct FirstCode {
     /// The place of its line.
     pub(super) line: u16,
-    /// How many bits it has, 0 for no code of at most eight bits.
+    /// How many bits it has; 0 if no code of at most eight bits begins the byte.
     pub(super) length: u8,
 }
 
-/// What each byte begins with.
+/// The codes that begin each byte.
 #[derive(Debug, Clone, Copy)]
 pub(super) struct FirstTable {
-    /// The code of at most eight bits.
+    /// The code of at most eight bits, for each byte.
     codes: [FirstCode; 256],
-    /// The first byte after all codes of at most eight bits: from here on they begin longer ones.
+    /// The first byte after all codes of at most eight bits. It and later ones begin longer codes.
     longer: usize,
 }
 
-/// Enters the codes of a level, `length` bits long and from the number `code` on.
+/// Enters the codes of a level, which have `length` bits and are numbered from `code` on.
 fn enter_level(codes: &mut [FirstCode; 256], level: &Level, length: u8, code: usize)
     requires length { (1 ≤ length) × (length ≤ 8) }
     requires room { code + level.now.count ≤ 2 ^ length }
@@ -36,7 +36,7 @@ fn enter_level(codes: &mut [FirstCode; 256], level: &Level, length: u8, code: us
     ensures { Enters codes.old codes.new level.now length code }
 {
     if level.first + level.count > 65536 {
-        // The places do not fit: such codes are read by the levels.
+        // The places do not fit: these codes are read by the levels.
         return;
     }
     let shift = 8 - length;
@@ -69,8 +69,8 @@ impl FirstTable {
         }
     }
 
-    /// Reads a code by its first eight bits, and goes on by the levels where it is longer. Where
-    /// fewer bits are left, or they begin no code, it is read by the levels alone.
+    /// Reads a code by its first eight bits, and goes on by the levels if it is longer. If fewer
+    /// bits are left, or they begin no code, only the levels read it.
     pub(super) fn read_line(
         &self,
         lines: &[TableLine],

@@ -9,8 +9,8 @@ use jbig2_base::error::{DecodeError, HuffmanError, ParseError, Result};
 use jbig2_base::reader::Reader;
 use std::alloc::Allocator;
 
-/// The lines of one prefix length, in the lines sorted by length, and how many beginnings of longer
-/// codes have that length.
+/// The lines of one prefix length, within the lines sorted by length, and how many beginnings of
+/// longer codes have that length.
 #[derive(Debug, Clone, Copy)]
 pub(super) struct Level {
     /// The place of its first line.
@@ -21,7 +21,7 @@ pub(super) struct Level {
     pub(super) nodes: usize,
 }
 
-/// The greatest prefix length, 0 for no lines.
+/// The greatest prefix length; 0 if there are no lines.
 pub(super) fn longest(lines: &[TableLine]) -> u8
     ensures { result ≡ longest lines.now }
 {
@@ -32,7 +32,7 @@ pub(super) fn longest(lines: &[TableLine]) -> u8
     longest
 }
 
-/// Adds the lines with this prefix length after `sorted`.
+/// Adds the lines with this prefix length at the end of `sorted`.
 pub(super) fn push_level<A: Allocator>(
     lines: &[TableLine],
     length: u8,
@@ -49,8 +49,9 @@ pub(super) fn push_level<A: Allocator>(
     Ok(())
 }
 
-/// Reads a code, bit by bit from a node down the levels: its line, or the end of the bits, or an
-/// invalid code at the first bits that begin none.
+/// Reads a code, bit by bit from a node down the levels, and gives its line. Returns
+/// `ParseError::UnexpectedEof` if the bits end within the code, or `HuffmanError::InvalidCode`
+/// after the first bits that begin no code.
 pub(super) fn read_line(
     lines: &[TableLine],
     levels: &[Level],

@@ -8,12 +8,12 @@ ghost use Rattle.jbig2_base.specs.Bits.{bits_left, bits_on, bits_next};
 use jbig2_base::error::{DecodeError, HuffmanError, Result};
 use jbig2_base::reader::Reader;
 
-/// A line of a table: a prefix length, and the values that stand after its code.
+/// A line of a table: the length of its prefix code, and the values after that code.
 ///
-/// A prefix length of 0 gives the line no code.
+/// A line with a prefix length of 0 has no code.
 #[derive(Debug, Clone, Copy)]
 pub struct TableLine {
-    /// The value at range bits of zero; in a lower line values go down from it.
+    /// The value if the range bits are zero; in a lower line values go down from it.
     pub range_low: i64,
     /// How many bits the code has.
     pub prefix_length: u8,
@@ -21,7 +21,7 @@ pub struct TableLine {
     pub range_length: u8,
     /// Whether the range bits are subtracted.
     pub is_lower: bool,
-    /// Whether the line stands for out of band.
+    /// Whether the line means out of band.
     pub is_out_of_band: bool,
 }
 
@@ -71,7 +71,7 @@ impl TableLine {
         }
     }
 
-    /// The low value and the range bits together, where they fit in 64 bits.
+    /// The low value plus the range bits, or minus them in a lower line, if it fits 64 bits.
     fn moved(&self, offset: u32) -> Option<i64>
         ensures { SomeIff result (FitsSigned w64 (moved self.now offset)) (moved self.now offset) }
     {
@@ -82,7 +82,7 @@ impl TableLine {
         }
     }
 
-    /// The value at these range bits; outside signed 32 bits it is an invalid code.
+    /// The value for these range bits. Outside signed 32 bits it is an invalid code.
     fn value(&self, offset: u32) -> Result<i32>
         ensures { result ≡ in_word (moved self.now offset) }
     {
@@ -95,8 +95,8 @@ impl TableLine {
         }
     }
 
-    /// Reads the range bits after the code: the value, or an invalid code where the bits end or
-    /// the value is outside signed 32 bits.
+    /// Reads the range bits after the code. Gives the value, or an invalid code if the bits end too
+    /// early or the value is outside signed 32 bits.
     #[tactic(auto, using(crate::proofs::Causes::range_cause))]
     pub(super) fn read_value(&self, reader: &mut Reader<'_>) -> Result<Option<i32>>
         requires { self.now.range_length ≤ 32 }

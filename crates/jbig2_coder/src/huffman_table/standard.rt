@@ -9,8 +9,8 @@ use jbig2_base::error::{DecodeError, Result};
 use std::alloc::Allocator;
 use std::marker::Model;
 
-/// A line by its prefix length, its range length and its low value; `lower` and `upper` lines have
-/// 32 range bits, and `oob` lines none.
+/// A line, by its prefix length, its range length and its low value. `lower` and `upper` lines have
+/// 32 range bits, and `oob` lines have none.
 macro_rules! line {
     (lower $prefix_length:expr, $low:expr) => {
         TableLine {
@@ -306,7 +306,7 @@ impl<A: Allocator> Model for StandardHuffmanTables<A> {
 }
 
 impl<A: Allocator + Clone> StandardHuffmanTables<A> {
-    /// Builds all fifteen tables; only memory can fail.
+    /// Builds all fifteen tables. Only a lack of memory makes it fail.
     pub fn new(alloc: A) -> Result<StandardHuffmanTables<A>>
         ensures { IfErr result (λ e. e ≡ DecodeError.OutOfMemory) }
     {
@@ -320,7 +320,7 @@ impl<A: Allocator + Clone> StandardHuffmanTables<A> {
 
 #[tactic(auto, unfolding(crate::specs::Tables::standard_tables))]
 impl<A: Allocator> StandardHuffmanTables<A> {
-    /// The table at this place of the list.
+    /// The table at this place in the list from B.1 to B.15.
     fn table(&self, index: usize) -> &HuffmanTable<A>
         requires { index < 15 }
         ensures { result.now ≡ prefix_code (slice_index_or standard_tables index []) }
@@ -434,7 +434,7 @@ impl<A: Allocator> StandardHuffmanTables<A> {
     }
 }
 
-/// The lines of the table at this place of the list.
+/// The lines of the table at this place in the list from B.1 to B.15.
 pub fn standard_lines(index: usize) -> &'static [TableLine]
     requires { index < 15 }
     ensures { result.now ≡ slice_index_or standard_tables index [] }

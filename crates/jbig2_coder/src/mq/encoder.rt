@@ -13,7 +13,7 @@ use jbig2_base::error::Result;
 use std::alloc::Allocator;
 use std::marker::Model;
 
-/// The code register C, and the shifts before the next byte goes out (CT).
+/// The code register C, and the shifts until the next byte goes out (CT).
 #[derive(Clone, Copy)]
 pub struct CodeRegister {
     pub c: u32,
@@ -27,7 +27,7 @@ pub struct Registers {
     pub code: CodeRegister,
 }
 
-/// The lowest value of C that carries into the byte before.
+/// The lowest value of C that has a carry into the byte before.
 const CARRY: u32 = 0x800_0000;
 
 /// Writes the top eight bits of `c`, below the carry.
@@ -124,7 +124,7 @@ fn shift<A: Allocator>(bytes: &mut Vec<u8, A>, registers: Registers) -> Result<R
     Ok(Registers { a, code })
 }
 
-/// The registers once A has its top bit again (RENORME, E.2.6).
+/// Shifts until A has its top bit again, and gives the registers then (RENORME, E.2.6).
 fn renormalize<A: Allocator>(bytes: &mut Vec<u8, A>, registers: Registers) -> Result<Registers>
     requires some { 1 ≤ registers.a }
     requires below { registers.a < 0x10000 }
@@ -143,7 +143,7 @@ fn renormalize<A: Allocator>(bytes: &mut Vec<u8, A>, registers: Registers) -> Re
     Ok(registers)
 }
 
-/// Narrows the interval to the part of `decision`, and says whether it is to be renormalized
+/// Narrows the interval to the part of `decision`, and returns whether it must be renormalized
 /// (CODEMPS and CODELPS, E.2.4).
 fn narrow(registers: &mut Registers, context: &mut ArithmeticDecoderContext, decision: bool) -> bool
     requires normal { 0x8000 ≤ registers.old.a }
@@ -190,7 +190,7 @@ fn narrow(registers: &mut Registers, context: &mut ArithmeticDecoderContext, dec
     true
 }
 
-/// C with as many low ones as the interval allows (SETBITS, E.2.9).
+/// C with as many low bits set as the interval allows (SETBITS, E.2.9).
 #[tactic(auto, unfolding(crate::specs::Encoder::set_bits))]
 fn set_bits(a: u32, c: u32) -> u32
     requires normal { 0x8000 ≤ a }
@@ -212,7 +212,7 @@ fn is_full(bytes: &[u8]) -> bool
     }
 }
 
-/// Puts the marker FF AC after the bytes (E.2.9). A last byte FF begins it.
+/// Adds the marker FF AC to the bytes (E.2.9). A last byte FF begins the marker.
 fn close<A: Allocator>(bytes: &mut Vec<u8, A>) -> Result<()>
     ensures value { OnOk result (bytes.new.items ≡ closed (reverse bytes.old.items)) }
     ensures err { IfErr result (λ e. e ≡ OutOfMemory) }
@@ -225,7 +225,7 @@ fn close<A: Allocator>(bytes: &mut Vec<u8, A>) -> Result<()>
     Ok(())
 }
 
-/// Writes decisions by their contexts.
+/// Writes decisions in their contexts.
 #[derive(Drop)]
 pub struct ArithmeticEncoder<A: Allocator> {
     registers: Registers,
@@ -258,7 +258,7 @@ impl<A: Allocator> ArithmeticEncoder<A> {
         }
     }
 
-    /// Codes one decision in `context`, which then knows of it (ENCODE, E.2.2).
+    /// Codes one decision in `context`, and changes `context` (ENCODE, E.2.2).
     #[tactic(auto, unfolding(crate::specs::Encoder::encoding))]
     pub fn encode(&mut self, context: &mut ArithmeticDecoderContext, decision: bool) -> Result<()>
         ensures value { OnOk result (self.new ≡ (encoding context.old decision self.old).coding) }
@@ -274,7 +274,7 @@ impl<A: Allocator> ArithmeticEncoder<A> {
         Ok(())
     }
 
-    /// The bytes, closed by the marker FF AC (FLUSH, E.2.9).
+    /// The bytes, with the marker FF AC at the end (FLUSH, E.2.9).
     pub fn finish(self) -> Result<Vec<u8, A>>
         ensures { Gives (λ v. v.items) result (Ok (closed (flushed self).out)) }
     {

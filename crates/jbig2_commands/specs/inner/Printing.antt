@@ -1,10 +1,14 @@
--- What a printer, the Decoder that writes a line for each call, does with one call (our own rule), and the output after
+-- What a printer, the Decoder that writes a line for each call, does with one call (our own rule), and an output with
 -- its buffer. The predicates take what the output held before and after, where that is known, and the call's result.
-use Rattle.std.specs.{Prelude.{◌≡◌, ◌⊎◌, ℕ, ◌+◌, ◌-◌, ◌^◌, Bool, true, false, List, Option, None, Result, Ok, Err, if◌then◌else◌}, Borrow.{GName}, Io.KnownBytes.{Appends, Keeps, append_known}}
-use Rattle.jbig2_base.specs.declared.error.DecodeError.{DecodeError, TheVariants.{OutOfMemory, Unsupported}}
+use Rattle.std.specs.Prelude.{◌≡◌, ◌⊎◌, ℕ, ◌+◌, ◌-◌, ◌^◌, Bool, true, false, List, Option, None, Result, Ok, Err}
+use Rattle.std.specs.Prelude.{if◌then◌else◌}
+use Rattle.std.specs.Borrow.{GName}
+use Rattle.std.specs.Io.KnownBytes.{Appends, Keeps, append_known}
+use Rattle.jbig2_base.specs.declared.error.DecodeError.{DecodeError}
+use Rattle.jbig2_base.specs.declared.error.DecodeError.TheVariants.{OutOfMemory, Unsupported}
 use Rattle.jbig2_commands.specs.declared.output.Output.{Output}
 
--- the bytes that the output holds and those after them that are not yet written, where the first are known
+-- the bytes of the output and then those that are not yet written, where the first are known
 abbrev pub told : {O A : Type 0} → (O → Option (List ℕ)) → Output O A → Option (List ℕ)
 told contents output = append_known (contents output.out.now) output.held.items
 
@@ -12,27 +16,28 @@ told contents output = append_known (contents output.out.now) output.held.items
 abbrev pub whose : {O A : Type 0} → Output O A → GName
 whose output = output.out.ghost_name
 
--- bytes are taken whole, or leave no trace
+-- all of the bytes are added, or nothing changes
 abbrev pub Pushes : Bool → Option (List ℕ) → Option (List ℕ) → List ℕ → Type 0
 Pushes true old new bytes = Appends old new bytes
 Pushes false old new bytes = Keeps old new
 
--- one more refusal is counted where a call was not taken
+-- one more refusal is counted if a call was not taken
 abbrev pub Counts : Bool → Result (Unit {0}) DecodeError → ℕ → ℕ → Type 0
 Counts true (Ok u) old new = new ≡ old
 Counts false (Err e) old new = (new ≡ old + 1) × (e ≡ Unsupported)
 Counts _ _ old new = ⊥
 
--- what is known of an output, where a proof says that its bytes are told
+-- what is known of an output, where a proof says that its bytes are known
 abbrev pub known_if : Bool → Option (List ℕ) → Option (List ℕ)
 known_if is_told known = if is_told then known else None
 
--- A printer whose output no longer tells its bytes, though a proof says so, counts as one that may refuse no more.
+-- Where a proof says that the output's bytes are known, and they no longer are, the printer counts as one that can't
+-- refuse any more.
 abbrev pub refusals_if : Bool → Option (List ℕ) → ℕ → ℕ
 refusals_if true None count = 2 ^ 64 - 1
 refusals_if _ known count = count
 
--- What was meant is added by decoding alone, as `Prints` has it, where no output fails.
+-- Decoding alone adds what was meant, as `Prints` has it, where no output fails.
 abbrev pub Tells : Result (List ℕ) DecodeError → Result (Unit {0}) DecodeError → Option (List ℕ) → Option (List ℕ) → Type 0
 Tells (Ok bytes) (Ok u) old new = Appends old new bytes
 Tells (Err e) (Ok u) old new = ⊥

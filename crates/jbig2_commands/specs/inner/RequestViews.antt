@@ -1,5 +1,6 @@
--- A request of the code as the words have it: the mode, the task and the file of Words.antt.
-use Rattle.std.specs.{Prelude.{ℕ, Bool, List}, Str.Parse.{IsNumeral}}
+-- A request of the code as the definitions see it: the mode, the task and the file of Words.antt.
+use Rattle.std.specs.Prelude.{ℕ, Bool, List}
+use Rattle.std.specs.Str.Parse.{IsNumeral}
 use Rattle.jbig2_commands.specs.{Words.{Task, Pages as PagesTask, Embedded as EmbeddedTask, Calls as CallsTask, Pbm as PbmTask}, declared.request.{Command.{Command, TheVariants.{Pages, Embedded, Calls, Pbm}}, Request.{Request}}}
 
 abbrev pub task_view : Command → Task
@@ -11,7 +12,7 @@ task_view (Pbm index) = PbmTask index.now
 abbrev pub request_view : Request → Bool × Task × List ℕ
 request_view request = (request.strict, task_view request.command, request.file.now)
 
--- what names a page is a numeral
+-- the index of a page is a numeral
 abbrev pub HasIndex : Task → Type 0
 HasIndex (CallsTask index) = IsNumeral 10 index
 HasIndex (PbmTask index) = IsNumeral 10 index

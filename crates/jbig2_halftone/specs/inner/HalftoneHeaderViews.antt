@@ -1,5 +1,6 @@
--- A halftone region's header of the code, seen as the definition's.
-use Rattle.jbig2_halftone.specs.{declared.halftone.header.HalftoneRegionHeader.{HalftoneRegionHeader}, HalftoneHeader.{HalftoneHeader}}
+-- A halftone region's header of the code, as the definitions see it.
+use Rattle.jbig2_halftone.specs.declared.halftone.header.HalftoneRegionHeader.{HalftoneRegionHeader}
+use Rattle.jbig2_halftone.specs.HalftoneHeader.{HalftoneHeader}
 
 abbrev pub header_view : HalftoneRegionHeader → HalftoneHeader
 header_view h = record {

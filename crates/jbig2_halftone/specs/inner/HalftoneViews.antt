@@ -1,6 +1,7 @@
--- As what records of the definitions the code's values of gray-scale images are seen (our own rule).
+-- Values of the code for gray-scale images, as the definitions see them (our own rule).
 use Rattle.jbig2_region.specs.inner.RegionViews.{skip_of}
-use Rattle.jbig2_halftone.specs.{GrayScale.{GrayScale}, declared.gray_scale.GrayScaleParams.{GrayScaleParams}}
+use Rattle.jbig2_halftone.specs.GrayScale.{GrayScale}
+use Rattle.jbig2_halftone.specs.declared.gray_scale.GrayScaleParams.{GrayScaleParams}
 
 abbrev pub gray_view : {A : Type 0} → GrayScaleParams A → GrayScale
 gray_view p = record {

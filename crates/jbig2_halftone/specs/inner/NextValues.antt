@@ -1,14 +1,15 @@
--- A value of a gray-scale image with one plane more than before, and rows of values (our own rule).
-use Rattle.std.specs.{Prelude.{◌≡◌, ℕ, ◌+◌, ◌*◌, ◌%◌, ◌<◌, ◌==◌, Bool, List, map, slice_index_or}, List.{range_with_len}}
+-- A value of a gray-scale image after one more plane, and rows of values (our own rule).
+use Rattle.std.specs.Prelude.{◌≡◌, ℕ, ◌+◌, ◌*◌, ◌%◌, ◌<◌, ◌==◌, Bool, List, map, slice_index_or}
+use Rattle.std.specs.List.{range_with_len}
 use Rattle.jbig2_base.specs.Grid.{Grid, bit_number, pixel_at, differ}
 use Rattle.jbig2_halftone.specs.GrayScale.{gray_value}
 
--- Planes come from the highest on, so a value's bits move up by one. The new lowest bit is the plane's pixel, turned
--- round where the bit above it is set.
+-- The highest plane comes first, so each plane moves a value's bits up by one. The new lowest bit is the plane's pixel,
+-- inverted if the bit above it is set.
 abbrev pub next_value : ℕ → Bool → ℕ
 next_value v black = 2 * v + bit_number (differ black (v % 2 == 1))
 
--- a row of values takes row y of a plane
+-- a row of values after it takes row y of a plane
 abbrev pub TakesPlane : Grid → ℕ → List ℕ → List ℕ → Type 0
 TakesPlane plane y old new = (k : ℕ) → k < plane.width → slice_index_or new k 0 ≡ next_value (slice_index_or old k 0) (pixel_at plane k y)
 

@@ -1,5 +1,6 @@
--- As what records of the definitions the code's values of pattern dictionaries are seen (our own rule).
-use Rattle.jbig2_halftone.specs.{PatternHeader.{PatternHeader}, declared.pattern.PatternDictionaryHeader.{PatternDictionaryHeader}}
+-- Values of the code for pattern dictionaries, as the definitions see them (our own rule).
+use Rattle.jbig2_halftone.specs.PatternHeader.{PatternHeader}
+use Rattle.jbig2_halftone.specs.declared.pattern.PatternDictionaryHeader.{PatternDictionaryHeader}
 
 abbrev pub header_view : PatternDictionaryHeader → PatternHeader
 header_view h = record {

@@ -1,16 +1,28 @@
--- What single functions of the code give and take, which the definitions have as a part of something larger.
-use Rattle.std.specs.{Prelude.{ℕ, ◌≡◌, ◌≤◌, ◌+◌, ◌*◌, ◌/◌, ◌%◌, Bool, true, false, ◌||◌, if◌then◌else◌, List, map, None, is_some, ◌⊎◌, Result, Ok}, List.{range_with_len}}
-use Rattle.jbig2_base.specs.{Counts.{Counts, KeepsLanes, WritesWithin, words_copied}, Grid.{Grid, grid_of, part_of}, declared.error.DecodeError.{DecodeError}}
+-- What single functions of the code take and give. The definitions have it as a part of something larger.
+use Rattle.std.specs.Prelude.{ℕ, ◌≡◌, ◌≤◌, ◌+◌, ◌*◌, ◌/◌, ◌%◌, Bool, true, false, ◌||◌, if◌then◌else◌, List, map, None}
+use Rattle.std.specs.Prelude.{is_some, ◌⊎◌, Result, Ok}
+use Rattle.std.specs.List.{range_with_len}
+use Rattle.jbig2_base.specs.Counts.{Counts, KeepsLanes, WritesWithin, words_copied}
+use Rattle.jbig2_base.specs.Grid.{Grid, grid_of, part_of}
+use Rattle.jbig2_base.specs.declared.error.DecodeError.{DecodeError}
 use Rattle.jbig2_coder.specs.Coder.{Context}
-use Rattle.jbig2_region.specs.{Generic.{coding_of, skipping_coding}, Raster.{Coding, Region, so_far, no_pixels}, Steps.{CountsRegion, CountsSkipping}, Templates.{template_pixels}, declared.template.AdaptiveTemplatePixel.{AdaptiveTemplatePixel}}
-use Rattle.jbig2_halftone.specs.{GrayScale.{GrayScale, nominal_pixels, after_planes, mmr_planes}, Halftone.{column_of, gray_params, row_of, is_apart}, HalftoneHeader.{HalftoneHeader}, Patterns.{Patterns}, Steps.{CountsPlanes, CountsMasked, StopsImage, after_mask, words_of_cells}}
+use Rattle.jbig2_region.specs.Generic.{coding_of, skipping_coding}
+use Rattle.jbig2_region.specs.Raster.{Coding, Region, so_far, no_pixels}
+use Rattle.jbig2_region.specs.Steps.{CountsRegion, CountsSkipping}
+use Rattle.jbig2_region.specs.Templates.{template_pixels}
+use Rattle.jbig2_region.specs.declared.template.AdaptiveTemplatePixel.{AdaptiveTemplatePixel}
+use Rattle.jbig2_halftone.specs.GrayScale.{GrayScale, nominal_pixels, after_planes, mmr_planes}
+use Rattle.jbig2_halftone.specs.Halftone.{column_of, gray_params, row_of, is_apart}
+use Rattle.jbig2_halftone.specs.HalftoneHeader.{HalftoneHeader}
+use Rattle.jbig2_halftone.specs.Patterns.{Patterns}
+use Rattle.jbig2_halftone.specs.Steps.{CountsPlanes, CountsMasked, StopsImage, after_mask, words_of_cells}
 
 -- ---- patterns
 -- pattern k: the columns from k * width on
 abbrev pub pattern_of : Grid → ℕ → ℕ → ℕ → Grid
 pattern_of collective width height k = part_of collective (record { left = k * width; top = 0; width = width; height = height })
 
--- some of this many patterns are cut out, or all
+-- some of this many patterns were cut out, or all
 abbrev pub StopsCut : ℕ → ℕ → Counts → Counts → Type 0
 StopsCut count words before after = (cut : ℕ) × ((cut ≤ count) × (after ≡ words_copied (cut * words) before))
 
@@ -33,7 +45,7 @@ planes_by_coder p bytes = Ok (coded_planes p bytes p.bits_per_pixel)
 abbrev pub planes_by_mmr : GrayScale → List ℕ → Result (List Grid) DecodeError
 planes_by_mmr p bytes = mmr_planes p bytes p.bits_per_pixel
 
--- the contexts after all planes; MMR leaves them alone
+-- the contexts after all planes; MMR leaves them as they were
 abbrev pub planes_contexts : GrayScale → List ℕ → List Context → List Context
 planes_contexts p bytes contexts = if p.use_mmr then contexts else (after_planes p bytes p.bits_per_pixel).contexts
 
@@ -68,19 +80,19 @@ pub record CountsOne (p : GrayScale) (w h : ℕ) (bytes : List ℕ) (start : Reg
   pub masked : is_some p.skip_mask ≡ true → CountsSkipping p.skip_mask w h before after
   pub lanes : KeepsLanes before after
 
--- the highest ones
+-- the highest of them
 pub record CountsCoded (p : GrayScale) (bytes : List ℕ) (count : ℕ) (before after : Counts) : Type 0 where
   pub plain : p.skip_mask ≡ None → CountsPlanes p bytes count before after
   pub masked : is_some p.skip_mask ≡ true → CountsMasked p count before after
 
--- This many planes that MMR wrote are read, and of `all` bytes `left` are left: at most three loads and words together for
--- each word of a plane and each bit of the bytes that are used.
+-- This many planes of MMR data are read, and `left` of `all` bytes are left. There are at most three loads and words
+-- together for each word of a plane and each bit of the bytes that were used.
 pub record CountsMmr (words count all left : ℕ) (before after : Counts) : Type 0 where
   pub moves : after.loads + after.words + 24 * left ≤ before.loads + before.words + 3 * (count * words + 8 * all)
   pub decisions : after.decisions ≡ before.decisions
   pub run_tests : after.run_tests ≡ before.run_tests
 
--- some of them, or all
+-- some of these planes, or all
 abbrev pub StopsCoded : GrayScale → List ℕ → Counts → Counts → Type 0
 StopsCoded p bytes before after = (count : ℕ) × ((count ≤ p.bits_per_pixel) × CountsCoded p bytes count before after)
 
@@ -89,7 +101,7 @@ abbrev pub StopsCells : HalftoneHeader → Patterns → Counts → Counts → Ty
 StopsCells h d before after =
     (after ≡ before) ⊎ StopsImage (gray_params h d) h.bytes (after_mask h d before) after
 
--- this many rows of w pixels, taken out of planes: one load for each group of eight lanes and for each single pixel
+-- this many rows of w pixels, taken from planes: one load for each group of eight lanes and for each single pixel
 abbrev pub after_lane_rows : ℕ → ℕ → Counts → Counts
 after_lane_rows rows w before = record before {
   loads = before.loads + rows * (w / 8 + w % 8);
@@ -105,7 +117,7 @@ after_lanes w before = record before {
   pixels = before.pixels + w % 8;
 }
 
--- cells of which one has no pattern: some rows of values are taken, and at most all cells drawn
+-- one of the cells has no pattern: some rows of values are taken, and at most all cells are drawn
 abbrev pub StopsRows : HalftoneHeader → Patterns → ℕ → Counts → Counts → Type 0
 StopsRows h d planes before after =
     let grid = h.grid_position_and_size in

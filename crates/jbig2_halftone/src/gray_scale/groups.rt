@@ -1,4 +1,4 @@
-//! The next values of eight pixels by lanes, and of one pixel. Each call counts what it does.
+//! The next values of eight pixels in lanes, and of one pixel. Each call counts its steps.
 ghost use Rattle.std.specs.Prelude.{◌≡◌, ℕ, ◌+◌, ◌-◌, ◌^◌, ◌<◌, length, slice_index};
 ghost use Rattle.std.specs.List.{All};
 ghost use Rattle.jbig2_base.specs.Grid.{bit_number};
@@ -9,10 +9,10 @@ use jbig2_base::bitmap::steps::Steps;
 use std::simd::prelude::*;
 use std::sync::ledger::Ledger;
 
-/// How many pixels a group of lanes has.
+/// The number of pixels in a group of lanes.
 pub const LANES: u32 = 8;
 
-/// Eight pixels as lanes of 0 and 1, the first pixel being the byte's highest bit.
+/// Eight pixels as lanes of 0 and 1. The first pixel is the byte's highest bit.
 #[inline(always)]
 fn spread(byte: u32) -> u32x8
     ensures lanes { length result ≡ 8 }
@@ -23,7 +23,7 @@ fn spread(byte: u32) -> u32x8
     black.select(u32x8::splat(1), u32x8::splat(0))
 }
 
-/// The next values of eight pixels. One group.
+/// The next values of eight pixels. Counts one group.
 #[inline(always)]
 pub fn next_group<L: Ledger>(byte: u32, values: u32x8, steps: &mut Steps<L>) -> u32x8
     requires lanes { length values ≡ 8 }
@@ -37,7 +37,7 @@ pub fn next_group<L: Ledger>(byte: u32, values: u32x8, steps: &mut Steps<L>) -> 
     values + values + (spread(byte) ^ (values & u32x8::splat(1)))
 }
 
-/// The next value of one pixel. One pixel beside the lanes.
+/// The next value of one pixel. Counts one pixel outside of lanes.
 #[inline(always)]
 pub fn next_pixel<L: Ledger>(black: bool, value: u32, steps: &mut Steps<L>) -> u32
     requires { value < 2 ^ 31 }

@@ -1,4 +1,4 @@
-//! A row of a plane added to a row of values, by groups of eight lanes.
+//! Adds a row of a plane to a row of values, in groups of eight lanes.
 ghost use Rattle.std.specs.Prelude.{◌≡◌, ◌^◌, ◌<◌, length};
 ghost use Rattle.std.specs.List.{All};
 ghost use Rattle.jbig2_halftone.specs.inner.NextValues.{TakesPlane};
@@ -11,8 +11,8 @@ use std::alloc::Allocator;
 use std::simd::prelude::*;
 use std::sync::ledger::Ledger;
 
-/// Adds row `y` of the next lower coded plane to a row of values: a value's new lowest bit is the
-/// plane's pixel, turned round where the bit above it is set (T.88, C.5).
+/// Adds row `y` of the next lower coded plane to a row of values. A value's new lowest bit is the
+/// plane's pixel, inverted if the bit above it is set (T.88, C.5).
 pub fn add_row<A: Allocator, L: Ledger>(
     plane: &Bitmap<A>,
     y: u32,

@@ -42,7 +42,7 @@ fn nominal_pixels(template: Template) -> [AdaptiveTemplatePixel; 4]
     ]
 }
 
-/// The next plane that the arithmetic coder wrote, into a white bitmap of its size.
+/// Decodes the next plane with the arithmetic coder, into a white bitmap of its size.
 fn decode_plane<M: Allocator, A: Allocator, L: Ledger>(
     params: &GrayScaleParams<'_, M>,
     plane: &mut Bitmap<A>,
@@ -84,7 +84,8 @@ fn decode_plane<M: Allocator, A: Allocator, L: Ledger>(
     );
 }
 
-/// The planes that the arithmetic coder wrote. Where memory is short, the steps of those before are taken.
+/// Decodes the planes with the arithmetic coder. If memory runs out at a plane, the steps of those before it are
+/// counted.
 fn read_coded_planes<M: Allocator, A: Allocator + Clone, L: Ledger>(
     alloc: A,
     bytes: &[u8],
@@ -115,7 +116,7 @@ fn read_coded_planes<M: Allocator, A: Allocator + Clone, L: Ledger>(
     Ok(planes)
 }
 
-/// The next plane that MMR wrote, and the bytes after it.
+/// Decodes the next plane with MMR, and gives the bytes after it.
 fn read_mmr_plane<'a, M: Allocator, A: Allocator, L: Ledger>(
     alloc: A,
     bytes: &'a [u8],
@@ -140,7 +141,7 @@ fn read_mmr_plane<'a, M: Allocator, A: Allocator, L: Ledger>(
     Ok((plane, &bytes[used..]))
 }
 
-/// The planes that MMR wrote, each after the bytes that those before it used.
+/// Decodes the planes with MMR, each after the bytes that those before it used.
 fn read_mmr_planes<M: Allocator, A: Allocator + Clone, L: Ledger>(
     alloc: A,
     bytes: &[u8],
@@ -169,8 +170,8 @@ fn read_mmr_planes<M: Allocator, A: Allocator + Clone, L: Ledger>(
     Ok(planes)
 }
 
-/// The planes of an image. The contexts are left as the last plane leaves them; MMR data does not
-/// touch them.
+/// Decodes the planes of an image. Afterwards `contexts` holds what the last plane leaves; MMR data
+/// does not change it.
 pub fn read_planes<M: Allocator, A: Allocator + Clone, B: Allocator, L: Ledger>(
     alloc: A,
     bytes: &[u8],

@@ -1,4 +1,4 @@
-//! Rows of values, gathered from the rows of their planes.
+//! Rows of values, taken from the rows of their planes.
 ghost use Rattle.std.specs.Prelude.{◌≡◌, ◌*◌, ◌≤◌, [], length, slice_index};
 ghost use Rattle.std.specs.List.{All};
 ghost use Rattle.jbig2_halftone.specs.GrayScale.{gray_values};
@@ -29,7 +29,7 @@ pub fn gray_row<A: Allocator, L: Ledger>(
     }
 }
 
-/// The values of all rows, which are all 0 before.
+/// The values of all rows. They must all be 0 before.
 pub fn gray_rows<A: Allocator, L: Ledger>(
     planes: &[Bitmap<A>],
     width: u32,

@@ -1,4 +1,4 @@
-//! Where the cells of a halftone region's grid stand (T.88, 6.6.5.1 and 6.6.5.2).
+//! The places of the cells of a halftone region's grid (T.88, 6.6.5.1 and 6.6.5.2).
 ghost use Rattle.std.specs.Prelude.{◌≡◌, pos, ◌+ℤ◌, ◌-ℤ◌, ◌||◌, FitsSigned};
 ghost use Rattle.std.specs.Int.{w32, w64, int_shr};
 ghost use Rattle.jbig2_halftone.specs.Halftone.{is_apart};
@@ -42,7 +42,7 @@ pub fn next_in_row(place: CellPlace, x_vector: u16, y_vector: u16) -> CellPlace
     }
 }
 
-/// The place of the first cell of the next row, by that of this row's.
+/// The place of the first cell of the next row, from that of this row.
 #[inline(always)]
 pub fn next_row(place: CellPlace, x_vector: u16, y_vector: u16) -> CellPlace
     requires x { FitsSigned w64 (place.x +ℤ pos y_vector) }

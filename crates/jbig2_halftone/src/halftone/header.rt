@@ -21,7 +21,7 @@ const MAX_DIMENSION: u32 = 65535;
 /// The flags of a halftone region (T.88, 7.4.5.1.1).
 #[derive(Clone, Copy, Debug)]
 pub struct HalftoneRegionFlags {
-    /// Whether the planes are coded with MMR, in place of the arithmetic coder.
+    /// Whether the planes are coded with MMR, instead of the arithmetic coder.
     pub mmr: bool,
     pub template: Template,
     /// Whether cells whose pattern would lie wholly outside are left out of the planes.
@@ -32,7 +32,7 @@ pub struct HalftoneRegionFlags {
     pub initial_pixel_color: bool,
 }
 
-/// A grid's size, and where its first cell stands (T.88, 7.4.5.1.2).
+/// A grid's size, and the place of its first cell (T.88, 7.4.5.1.2).
 #[derive(Clone, Copy, Debug)]
 pub struct HalftoneGridPositionAndSize {
     /// In cells.
@@ -45,7 +45,7 @@ pub struct HalftoneGridPositionAndSize {
     pub vertical_offset: i32,
 }
 
-/// How far a cell stands from the one before it in its row (T.88, 7.4.5.1.3).
+/// How far a cell lies from the one before it in its row (T.88, 7.4.5.1.3).
 #[derive(Clone, Copy, Debug)]
 pub struct HalftoneGridVector {
     /// To the right, in 256ths of a pixel.
@@ -54,7 +54,7 @@ pub struct HalftoneGridVector {
     pub y_vector: u16,
 }
 
-/// What a halftone region's coded bytes are decoded by (T.88, 7.4.5).
+/// What is needed to decode a halftone region's coded bytes (T.88, 7.4.5).
 #[derive(Clone, Copy, Debug)]
 pub struct HalftoneRegionHeader<'a> {
     pub region_info: RegionSegmentInfo,
@@ -109,13 +109,13 @@ fn parse_grid(reader: &mut Reader<'_>) -> Result<HalftoneGridPositionAndSize>
     })
 }
 
-/// The header of a halftone region at the reader's place, which holds the coded bytes after it
-/// (T.88, 7.4.5).
+/// Reads the header of a halftone region (T.88, 7.4.5). The reader is then at the coded bytes,
+/// which the header holds too.
 ///
-/// `ParseError::UnexpectedEof` where the bytes do not hold it; the errors of
+/// Returns `ParseError::UnexpectedEof` where the bytes do not hold the header; the errors of
 /// `parse_region_segment_info`; `RegionError::InvalidCombinationOperator` where the flags name no
 /// operator; `OverflowError::GridDimension` for a grid of more than 65535 columns or rows. An error
-/// leaves the reader where it was. Takes no memory.
+/// leaves the reader where it was. It takes no memory.
 #[tactic(auto, unfolding(crate::specs::HalftoneHeader::halftone_header_at))]
 pub fn parse<'a>(reader: &mut Reader<'a>, strict: bool) -> Result<HalftoneRegionHeader<'a>>
     requires { IsAligned reader.old }

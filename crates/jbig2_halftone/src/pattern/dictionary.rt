@@ -6,7 +6,7 @@ ghost use Rattle.jbig2_halftone.specs.PatternHeader.{HasSize};
 use jbig2_base::bitmap::Bitmap;
 use std::alloc::Allocator;
 
-/// Patterns, of which a gray value names one.
+/// Patterns of one size, one for each gray value.
 #[derive(Drop)]
 pub struct PatternDictionary<A: Allocator> {
     /// Pattern `k` is drawn for gray value `k`.

@@ -1,9 +1,15 @@
--- What the calls of a T.6 decoder that may meet a fault say (our own rule).
-use Rattle.std.specs.Prelude.{◌≡◌, ℕ, ◌+◌, ◌-◌, ◌*◌, ◌<◌, Bool, true, false, ◌&&◌, if◌then◌else◌, List, Option, Some, None}
-use Rattle.jbig2_base.specs.{Bits.{bit}, Grid.{Grid, differ}}
-use Rattle.jbig2_mmr.specs.{declared.mmr.{change.RowWord.{RowWord}, row.{Place.{Place}, Turn.{Turn}}}, T6.{Head, Step, black_at}, inner.T6Reading.{IsTurn, IsRow}}
+-- What the calls of a T.6 decoder that may meet a fault state (our own rule).
+use Rattle.std.specs.Prelude.{◌≡◌, ℕ, ◌+◌, ◌-◌, ◌*◌, ◌<◌, Bool, true, false, ◌&&◌, if◌then◌else◌, List, Option, Some}
+use Rattle.std.specs.Prelude.{None}
+use Rattle.jbig2_base.specs.Bits.{bit}
+use Rattle.jbig2_base.specs.Grid.{Grid, differ}
+use Rattle.jbig2_mmr.specs.declared.mmr.change.RowWord.{RowWord}
+use Rattle.jbig2_mmr.specs.declared.mmr.row.Place.{Place}
+use Rattle.jbig2_mmr.specs.declared.mmr.row.Turn.{Turn}
+use Rattle.jbig2_mmr.specs.T6.{Head, Step, black_at}
+use Rattle.jbig2_mmr.specs.inner.T6Reading.{IsTurn, IsRow}
 
--- a place in a row, as the definition says it
+-- a place in a row, as the definition has it
 abbrev pub head_of : Place → Head
 head_of p = record { a0 = p.a0; begun = p.begun; black = p.black }
 
@@ -15,14 +21,14 @@ pub record IsWordOf (row : ℕ → Bool) (w : RowWord) : Type 0 where
   pub others : (k : ℕ) → k < 63 → bit left k ≡ bit w.pixels (k + 1)
   pub changes : (black : Bool) (k : ℕ) → bit (if black then w.to_white else w.to_black) k ≡ (differ (bit w.pixels k) (bit left k) && differ (bit w.pixels k) black)
 
--- a mode that was read, against its meaning
+-- a mode that was read, compared with the definition
 abbrev pub ReadStep : ℕ → Head → Option Step → Option Turn → List ℕ → Type 0
 ReadStep w h (Some s) (Some t) left = (s.head ≡ head_of t.next) × (s.left ≡ left) × IsTurn w h s.added t.turn (head_of t.next)
 ReadStep w h None None left = Unit {0}
 ReadStep w h (Some s) None left = ⊥
 ReadStep w h None (Some t) left = ⊥
 
--- a row that was read, against its meaning; a row with a fault is white
+-- a row that was read, compared with the definition; a row with a fault is white
 abbrev pub ReadRow : Option (List ℕ × List ℕ) → Bool → Grid → Grid → ℕ → List ℕ → Type 0
 ReadRow (Some r) true old new y left = IsRow old new y (black_at r.0) × (r.1 ≡ left)
 ReadRow None false old new y left = IsRow old new y (λ x. false)

@@ -1,8 +1,11 @@
--- What single calls of a T.6 decoder say (our own rule).
-use Rattle.std.specs.Prelude.{◌≡◌, ℕ, zero, suc, ◌+◌, ◌*◌, ◌/◌, ◌%◌, ◌<◌, ◌≤◌, Bool, true, false, List, [], ◌∷◌, ◌++◌, length, drop, replicate, Option, Some, None, if◌then◌else◌}
-use Rattle.{jbig2_base.specs.{Grid.{Grid, pixel_at, differ}, Table.{IsTable}}, jbig2_mmr.specs.T6.{begins, ends_block, Head, black_at}}
+-- What the single calls of a T.6 decoder state (our own rule).
+use Rattle.std.specs.Prelude.{◌≡◌, ℕ, zero, suc, ◌+◌, ◌*◌, ◌/◌, ◌%◌, ◌<◌, ◌≤◌, Bool, true, false, List, [], ◌∷◌, ◌++◌}
+use Rattle.std.specs.Prelude.{length, drop, replicate, Option, Some, None, if◌then◌else◌}
+use Rattle.jbig2_base.specs.Grid.{Grid, pixel_at, differ}
+use Rattle.jbig2_base.specs.Table.{IsTable}
+use Rattle.jbig2_mmr.specs.T6.{begins, ends_block, Head, black_at}
 
--- the lowest n bits of a number, high bit first, before others
+-- the lowest n bits of a number, high bit first, and then other bits
 abbrev pub spell : ℕ → ℕ → List ℕ → List ℕ
 spell zero v behind = behind
 spell (suc n) v behind = spell n (v / 2) (v % 2 ∷ behind)
@@ -12,21 +15,21 @@ pub record Rest : Type 0 where
   pub bytes : List ℕ
   pub left : List ℕ
 
--- what the code that begins the bits stands for, and how many bits it takes
+-- the value of the code that begins the bits, and how many bits it takes
 unfoldable pub code_at : {A : Type 0} → List (A × List ℕ) → List ℕ → Option (A × ℕ)
 code_at [] bits = None
 code_at (c ∷ cs) bits = if begins c.1 bits then Some (c.0, length c.1) else code_at cs bits
 
--- An entry of a table of runs: 16 times the run, plus the size of its code in bits; 0 where there is no code.
+-- An entry of a table of runs: 16 times the run, plus the size of its code in bits; 0 if there is no code.
 abbrev pub entry_of : Option (ℕ × ℕ) → ℕ
 entry_of None = 0
 entry_of (Some r) = 16 * r.0 + r.1
 
--- the bits after an end of block, where they begin with one
+-- the bits after an end of block, if they begin with one
 abbrev pub after_end : List ℕ → List ℕ
 after_end bits = if ends_block bits then drop 24 bits else bits
 
--- zeros after the bits
+-- the bits, and zeros after them
 abbrev pub padded : List ℕ → List ℕ
 padded bits = bits ++ replicate 24 0
 
@@ -35,7 +38,7 @@ abbrev pub with_rest : {A : Type 0} → Option A → List ℕ → Option (A × L
 with_rest None left = None
 with_rest (Some n) left = Some (n, left)
 
--- a run that was read, against its meaning: none where it is longer than the room
+-- a run that was read, compared with the definition; none if it is longer than the room
 abbrev pub ReadRun : Option (ℕ × List ℕ) → ℕ → Option ℕ → List ℕ → Type 0
 ReadRun (Some r) room (Some n) left = (r.0 ≡ n) × (r.1 ≡ left) × (n ≤ room)
 ReadRun (Some r) room None left = room < r.0
@@ -51,7 +54,7 @@ abbrev pub row_above : Grid → ℕ → ℕ → Bool
 row_above g zero x = false
 row_above g (suc y) x = pixel_at g x y
 
--- row y has the pixels of f, and the other rows are the old ones
+-- row y has the pixels of f, and the other rows are unchanged
 pub record IsRow (old new : Grid) (y : ℕ) (f : ℕ → Bool) : Type 0 where
   pub width : new.width ≡ old.width
   pub height : new.height ≡ old.height
@@ -59,7 +62,7 @@ pub record IsRow (old new : Grid) (y : ℕ) (f : ℕ → Bool) : Type 0 where
   pub here : (x : ℕ) → x < old.width → pixel_at new x y ≡ f x
   pub other : (x j : ℕ) → (j ≡ y → ⊥) → pixel_at new x j ≡ pixel_at old x j
 
--- the pixels of row y from column `from` up to column `to` have one colour, all others are the old ones
+-- the pixels of row y from column `from` to column `to` - 1 have one colour, and all others are unchanged
 pub record IsSpan (old new : Grid) (y from to : ℕ) (black : Bool) : Type 0 where
   pub width : new.width ≡ old.width
   pub height : new.height ≡ old.height
@@ -69,8 +72,7 @@ pub record IsSpan (old new : Grid) (y from to : ℕ) (black : Bool) : Type 0 whe
   pub right : (x : ℕ) → to ≤ x → pixel_at new x y ≡ pixel_at old x y
   pub other : (x j : ℕ) → (j ≡ y → ⊥) → pixel_at new x j ≡ pixel_at old x j
 
--- From the head on, up to `turn` the added changes leave the colour, and from there up to a0 of the
--- head that follows they turn it.
+-- From the head on, the added changes keep the colour up to `turn`, and change it from there up to a0 of the next head.
 pub record IsTurn (w : ℕ) (h : Head) (added : List ℕ) (turn : ℕ) (next : Head) : Type 0 where
   pub begun : next.begun ≡ true
   pub forward : h.a0 ≤ turn

@@ -1,26 +1,28 @@
--- How many loads and words single calls of a T.6 decoder count (our own rule).
+-- How many loads and words the single calls of a T.6 decoder count (our own rule).
 use Rattle.std.specs.Prelude.{ℕ, ◌+◌, ◌-◌, ◌/◌, min, Bool, if◌then◌else◌, Option, Some, None, ℤ, pos, ◌-ℤ◌, ◌≤ℤ◌}
-use Rattle.jbig2_mmr.specs.declared.mmr.{codes.Mode.{Mode, TheVariants.{Pass, Horizontal, Vertical}}, row.Turn.{Turn}}
+use Rattle.jbig2_mmr.specs.declared.mmr.codes.Mode.{Mode}
+use Rattle.jbig2_mmr.specs.declared.mmr.codes.Mode.TheVariants.{Pass, Horizontal, Vertical}
+use Rattle.jbig2_mmr.specs.declared.mmr.row.Turn.{Turn}
 
 -- how many words of a row of w columns come after that of column a, up to that of column b or the last one
 abbrev pub words_after : ℕ → ℕ → ℕ → ℕ
 words_after w a b = min b (w - 1) / 64 - a / 64
 
--- how many loads find a turn from column a on: one more than there are words up to where it ends; at a fault up to the row's end
+-- how many loads find a turn from column a on: one more than the words up to its end; at a fault all words of the row
 abbrev pub turn_loads : ℕ → ℕ → Option Turn → ℕ
 turn_loads w a None = words_after w a w
 turn_loads w a (Some t) = words_after w a t.next.a0 + 1
 
-abbrev pub span_words : ℕ → ℕ → ℕ  -- how many words the columns from one on up to another lie in, at most
+abbrev pub span_words : ℕ → ℕ → ℕ  -- in how many words at most the columns `from` to `to` - 1 lie
 span_words from to = (to + 63) / 64 - from / 64
 
-abbrev pub bits_taken : Bool → ℕ → ℕ → ℕ  -- how many of the bits a row takes that leaves `left`; all at a fault
+abbrev pub bits_taken : Bool → ℕ → ℕ → ℕ  -- how many bits a row takes that leaves `left`; all at a fault
 bits_taken whole bits left = if whole then bits - left else bits
 
-abbrev pub IsNear : ℤ → Type 0  -- a distance at most three pixels to the left (T.6, table 1)
+abbrev pub IsNear : ℤ → Type 0  -- a distance of at most three pixels to the left (T.6, table 1)
 IsNear distance = (pos 0 -ℤ pos 3) ≤ℤ distance
 
-abbrev pub IsNearMode : Option Mode → Type 0  -- so is the distance of a vertical mode
+abbrev pub IsNearMode : Option Mode → Type 0  -- the same for the distance of a vertical mode
 IsNearMode None = Unit {0}
 IsNearMode (Some Pass) = Unit {0}
 IsNearMode (Some Horizontal) = Unit {0}

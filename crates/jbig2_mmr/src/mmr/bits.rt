@@ -1,4 +1,4 @@
-//! The bits of MMR data, and the codes in them (T.6).
+//! Reads the bits of MMR data, and the codes in them (T.6).
 ghost use Rattle.std.specs.Prelude.{◌≡◌, ℕ, ◌+◌, ◌-◌, ◌*◌, ◌/◌, ◌^◌, ◌<◌, ◌≤◌, ◌++◌, List, length, drop, take, min, slice_index, IfSome, IsTrue, if◌then◌else◌};
 ghost use Rattle.jbig2_base.specs.Bits.{number_after};
 ghost use Rattle.jbig2_mmr.specs.T6.{read_code, run, bits_of, ends_block, is_prefix_free, runs_of};
@@ -11,7 +11,7 @@ use crate::mmr::codes::modes::MODES;
 use crate::mmr::codes::{Mode, run_entry};
 use std::marker::Model;
 
-/// Data and a place in it, by byte and bit apart, so that no length overflows.
+/// Data and a place in it. The place has a byte and a bit, so that no length overflows.
 #[derive(Drop)]
 pub struct CodeReader<'a> {
     bytes: &'a [u8],
@@ -47,7 +47,7 @@ impl<'a> CodeReader<'a> {
         }
     }
 
-    /// How many bytes are read, a begun one whole.
+    /// How many bytes are read, the last one whole.
     pub fn bytes_used(&self) -> usize
         ensures { result ≡ length self.now.bytes - length self.now.left / 8 }
     {
@@ -58,7 +58,7 @@ impl<'a> CodeReader<'a> {
         }
     }
 
-    /// The next 24 bits as a number, zeros after the end.
+    /// The next 24 bits as a number, with zeros after the end.
     #[inline(always)]
     fn window(&self) -> u32
         ensures value { (n : ℕ) → n ≤ 24 → result / 2 ^ (24 - n) ≡
@@ -69,7 +69,7 @@ impl<'a> CodeReader<'a> {
         (first_word(&self.bytes[self.byte..]) << self.bit) >> 8
     }
 
-    /// How many bits are left, counted up to 24.
+    /// How many bits are left, at most 24.
     #[inline(always)]
     fn few(&self) -> u32
         ensures { result ≡ min 24 (length self.now.left) }
@@ -81,7 +81,7 @@ impl<'a> CodeReader<'a> {
         (8 * bytes as u32 - self.bit).min(24)
     }
 
-    /// Goes over `count` bits.
+    /// Moves on by `count` bits.
     #[inline(always)]
     fn skip(&mut self, count: u32)
         requires few { count ≤ 24 }
@@ -93,7 +93,7 @@ impl<'a> CodeReader<'a> {
         self.bit = bit % 8;
     }
 
-    /// Goes over an end-of-block code, and says whether one stood there.
+    /// Moves past an end-of-block code, and returns whether there was one.
     pub fn skip_end_of_block(&mut self) -> bool
         ensures value { result ≡ ends_block self.old.left }
         ensures rest { self.new ≡ record self.old { left = after_end self.old.left } }
@@ -105,7 +105,7 @@ impl<'a> CodeReader<'a> {
         true
     }
 
-    /// The next mode (T.6, table 1). None where the bits begin with no code of one; the place stays.
+    /// The next mode (T.6, table 1). None if no mode's code begins the bits; then the place stays.
     #[inline(always)]
     pub fn read_mode(&mut self) -> Option<Mode>
         ensures value { with_rest result self.new.left ≡ read_code modes self.old.left }
@@ -130,7 +130,7 @@ impl<'a> CodeReader<'a> {
         Some(Mode::Pass)
     }
 
-    /// The run that the next code of the colour stands for (T.6, tables 2 and 3).
+    /// The run of the next code of the colour (T.6, tables 2 and 3).
     #[inline(always)]
     fn read_run_code(&mut self, black: bool) -> Option<u16>
         ensures value { with_rest result self.new.left ≡ read_code (runs_of black) self.old.left }
@@ -147,8 +147,8 @@ impl<'a> CodeReader<'a> {
         Some(entry / 16)
     }
 
-    /// The next run of a colour: make-up codes, then a terminating code. None where it is longer
-    /// than `room`, or bits stand there that are no code.
+    /// The next run of a colour: make-up codes, then a terminating code. None if it is longer than
+    /// `room`, or if no code begins the bits.
     #[inline(always)]
     pub fn read_run(&mut self, black: bool, room: u32) -> Option<u32>
         ensures value { ReadRun (run black self.old.left) room result self.new.left }
@@ -170,7 +170,7 @@ impl<'a> CodeReader<'a> {
     }
 }
 
-/// The first four bytes as a number, zeros after the end.
+/// The first four bytes as a number, with zeros after the end.
 #[inline(always)]
 fn first_word(bytes: &[u8]) -> u32
     ensures value { result ≡ slice_index bytes.now 0 * 16777216 +
@@ -190,7 +190,7 @@ fn first_word(bytes: &[u8]) -> u32
     ])
 }
 
-/// The byte at `index`, 0 past the end.
+/// The byte at `index`; 0 past the end.
 #[inline(always)]
 fn byte_at(bytes: &[u8], index: usize) -> u8
     ensures { result ≡ slice_index bytes.now index }

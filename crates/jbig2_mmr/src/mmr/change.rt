@@ -1,4 +1,4 @@
-//! The next changing element of a row (T.6, 2.2.1), by words.
+//! Finds the next changing element of a row (T.6, 2.2.1), word by word.
 ghost use Rattle.std.specs.Prelude.{◌≡◌, ℕ, ◌+◌, ◌*◌, ◌/◌, ◌^◌, ◌<◌, ◌≤◌, ◌&&◌, if◌then◌else◌};
 ghost use Rattle.jbig2_base.specs.Counts.{KeepsLanes, words_loaded, words_searched};
 ghost use Rattle.jbig2_base.specs.Search.{place_from};
@@ -13,8 +13,8 @@ use jbig2_base::bitmap::steps::Steps;
 use std::alloc::Allocator;
 use std::sync::ledger::Ledger;
 
-/// Word `index` of a row, and its changes to either colour: the bits where pixels have that colour and their left neighbours the
-/// other one. Left of the word is white.
+/// Word `index` of a row, and its changes to either colour: the bits of pixels that have that colour while their left
+/// neighbours have the other one. Left of the word is white.
 #[derive(Clone, Copy)]
 pub struct RowWord {
     pub index: u32,
@@ -47,7 +47,7 @@ impl RowWord {
         }
     }
 
-    /// The word of row `y` that column `x` lies in: this one, if it is that.
+    /// The word of row `y` in which column `x` lies; it is this one, if `x` lies here.
     #[inline(always)]
     pub fn at<A: Allocator, L: Ledger>(
         self,
@@ -77,9 +77,9 @@ impl RowWord {
     }
 }
 
-/// The first column from word `first` on where row `y` turns from the colour `black` to the other
+/// The first column from word `first` on where row `y` changes from the colour `black` to the other
 /// one, else the width. The lowest bit of `before` is the pixel left of that word. Left of column 0
-/// is white, and a row outside is white too. Each word that is looked at takes one load.
+/// is white, and a row outside is white too. Each word that is searched takes one load.
 pub fn find_change<A: Allocator, L: Ledger>(
     bitmap: &Bitmap<A>,
     y: u32,
@@ -117,7 +117,7 @@ pub fn left_neighbours(pixels: u64, before: u64) -> u64
     (pixels >> 1) | (before << 63)
 }
 
-/// The bits where pixels have not the colour `black` and their left neighbours have it.
+/// The bits of pixels that do not have the colour `black` while their left neighbours have it.
 #[inline(always)]
 pub fn changes_from(pixels: u64, left: u64, black: bool) -> u64
     ensures { (k : ℕ) →

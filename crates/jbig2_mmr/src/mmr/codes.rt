@@ -1,7 +1,7 @@
 //! The codes of T.6.
 //!
-//! A table of runs is looked up by the next bits. An entry is 16 times the run that the code at their front
-//! stands for, plus the size of that code in bits; it is 0 where no code stands there.
+//! The next bits are the index into a table of runs. An entry is 16 times the run of the code at their
+//! front, plus the size of that code in bits. It is 0 if there is no code at their front.
 ghost use Rattle.std.specs.Prelude.{◌≡◌, ◌^◌, ◌<◌, []};
 ghost use Rattle.jbig2_mmr.specs.T6.{runs_of};
 ghost use Rattle.jbig2_mmr.specs.inner.T6Reading.{entry_of, code_at, spell};
@@ -16,7 +16,7 @@ use crate::mmr::codes::white::white_entry;
 /// A coding mode (T.6, 2.2.2).
 #[derive(Clone, Copy)]
 pub enum Mode {
-    /// a0 moves under b2.
+    /// a0 moves to the place below b2.
     Pass,
     /// Two runs.
     Horizontal,
@@ -24,7 +24,7 @@ pub enum Mode {
     Vertical(i32),
 }
 
-/// The entry of the code of a run that begins these 24 bits.
+/// The entry of the run code that begins these 24 bits.
 #[inline(always)]
 pub fn run_entry(black: bool, bits: u32) -> u16
     requires { bits < 2 ^ 24 }

@@ -1,4 +1,4 @@
-//! One row, mode by mode (T.6, 2.2).
+//! Reads one row, mode by mode (T.6, 2.2).
 ghost use Rattle.std.specs.Prelude.{◌≡◌, ℕ, ◌+◌, ◌-◌, ◌*◌, ◌/◌, ◌<◌, ◌≤◌, List, length, IfSome, Some, not, true, false, nat_le, if◌then◌else◌, ◌≢◌};
 ghost use Rattle.jbig2_base.specs.Bits.{bit};
 ghost use Rattle.jbig2_base.specs.Counts.{KeepsLanes, words_loaded};
@@ -19,7 +19,7 @@ use jbig2_base::bitmap::steps::Steps;
 use std::alloc::Allocator;
 use std::sync::ledger::Ledger;
 
-/// Where a row stands: at `a0`, with the colour from there on.
+/// The state of a row: the place `a0`, and the colour from there on.
 #[derive(Clone, Copy)]
 pub struct Place {
     a0: u32,
@@ -27,15 +27,15 @@ pub struct Place {
     black: bool,
 }
 
-/// What a mode does: the colour goes on up to `turn`, and from there the other one up to a0 of `next`.
+/// A mode's result: the colour stays up to `turn`, then the other one comes up to a0 of `next`.
 #[derive(Clone, Copy)]
 pub struct Turn {
     turn: u32,
     next: Place,
 }
 
-/// Reads white row `y`, whose reference row is the one above it. False at a fault, which leaves it
-/// white.
+/// Reads row `y`, which is white before. Its reference row is the one above it. Returns false at a
+/// fault, which leaves the row white.
 pub fn read_row<A: Allocator, L: Ledger>(
     bitmap: &mut Bitmap<A>,
     y: u32,
@@ -85,7 +85,7 @@ pub fn read_row<A: Allocator, L: Ledger>(
     true
 }
 
-/// The row above row `y`; above row 0 a row outside, which is white.
+/// The row above row `y`. Above row 0 it is a row outside, which is white.
 fn reference_row<A: Allocator>(bitmap: &Bitmap<A>, y: u32) -> u32
     requires { y < bitmap.now.height }
     ensures value { (x : ℕ) → row_of bitmap.now result x ≡ row_above bitmap.now y x }
@@ -94,7 +94,7 @@ fn reference_row<A: Allocator>(bitmap: &Bitmap<A>, y: u32) -> u32
     if y == 0 { bitmap.height() } else { y - 1 }
 }
 
-/// Reads a mode. None at a fault. `word` is the word of row `above` with the pixel above a0.
+/// Reads a mode; None at a fault. `word` is the word of row `above` with the pixel above a0.
 #[inline(always)]
 fn read_turn<A: Allocator, L: Ledger>(
     bitmap: &Bitmap<A>,
@@ -123,7 +123,7 @@ fn read_turn<A: Allocator, L: Ledger>(
     }
 }
 
-/// The pass mode: a0 moves under b2, the next change after b1, which is one of the other colour.
+/// The pass mode: a0 moves to the place below b2, the next change after b1, to the other colour.
 #[inline(always)]
 fn pass<A: Allocator, L: Ledger>(
     bitmap: &Bitmap<A>,
@@ -156,7 +156,7 @@ fn pass<A: Allocator, L: Ledger>(
     passed(find_b1(bitmap, above, word, turned, steps), place.black)
 }
 
-/// The turn that leaves the colour up to b2.
+/// The result of a pass mode, in which the colour stays up to b2.
 #[inline(always)]
 fn passed(b2: u32, black: bool) -> Turn
     ensures { result ≡ record {
@@ -195,7 +195,7 @@ fn horizontal(reader: &mut CodeReader, place: Place, width: u32) -> Option<Turn>
     })
 }
 
-/// A vertical mode: a1 is b1 plus `distance`. None where it lies left of a0 or past the width.
+/// A vertical mode: a1 is b1 plus `distance`. None if it is left of a0 or past the width.
 #[inline(always)]
 fn vertical<A: Allocator, L: Ledger>(
     bitmap: &Bitmap<A>,
@@ -233,8 +233,8 @@ fn vertical<A: Allocator, L: Ledger>(
     })
 }
 
-/// b1: the first pixel of the reference row right of a0 that has not the colour of a0, and whose left
-/// neighbour has it. `word` is the word of that row above a0.
+/// b1: the first pixel of the reference row right of a0 that does not have the colour of a0, but
+/// whose left neighbour has it. `word` is the word of that row above a0.
 #[inline(always)]
 fn find_b1<A: Allocator, L: Ledger>(
     bitmap: &Bitmap<A>,
@@ -269,7 +269,7 @@ fn find_b1<A: Allocator, L: Ledger>(
     )
 }
 
-/// The bits of a0's word where b1 may lie: right of a0, and before the first mode all.
+/// The bits of a0's word where b1 may lie: those right of a0, or all before the first mode.
 #[inline(always)]
 fn right_of(place: Place) -> u64
     requires { place.begun ≡ false → place.a0 ≡ 0 }

@@ -1,4 +1,4 @@
-//! Spans of one colour in a row of a bitmap, by words.
+//! Fills spans of one colour in a row of a bitmap, word by word.
 ghost use Rattle.std.specs.Prelude.{◌≡◌, ℕ, ◌<◌, ◌≤◌};
 ghost use Rattle.jbig2_base.specs.Counts.{KeepsLanes};
 ghost use Rattle.jbig2_base.specs.Table.{IsTable};
@@ -12,7 +12,7 @@ use jbig2_base::bitmap::steps::Steps;
 use std::alloc::Allocator;
 use std::sync::ledger::Ledger;
 
-/// Gives the pixels of row `y` from column `from` up to column `to` one colour.
+/// Gives one colour to the pixels of row `y` from column `from` to column `to` - 1.
 #[inline(always)]
 pub fn fill_span<A: Allocator, L: Ledger>(
     bitmap: &mut Bitmap<A>,

@@ -1,5 +1,5 @@
-//! The example of T.88 H.1: three pages of symbols and text, generic regions, patterns and halftones, by prefix
-//! codes, MMR and the arithmetic coder; `data/t88-h1.jb2` holds the same bytes.
+//! Tests the example of T.88, H.1: three pages of symbols and text, generic regions, patterns and halftones, with
+//! prefix codes, MMR and the arithmetic coder. `data/t88-h1.jb2` holds the same bytes.
 use super::ends_over;
 use hayro_jbig2::{DecodeError, Result};
 use jbig2_commands::run;
@@ -83,7 +83,7 @@ const LAST_PAGE: [u8; 48] = [
     0xF8, 0xF0, 0, 0, 0x80, 0, 0, 0, 0, 0x80, 0, 0,
 ];
 
-/// Words, and what is printed in either mode.
+/// Words, and what is printed in both modes.
 const PRINTED: &[(&[&str], &[u8])] = &[
     (
         &["--strict", "pages", "file"],
@@ -94,7 +94,7 @@ const PRINTED: &[(&[&str], &[u8])] = &[
     (&["--strict", "pbm", "file", "2"], &LAST_PAGE),
 ];
 
-/// Whether this is printed with all of these words, and without the first.
+/// Whether this is printed with all of these words, and also without the first.
 fn is_printed(alloc: Global, words: &[&str], out: &[u8]) -> Result<bool> {
     let strict = ends_over(alloc, words, &FILE, (0, out, b""))?;
     let lenient = ends_over(alloc, words.get(1..).unwrap_or(&[]), &FILE, (0, out, b""))?;
@@ -112,10 +112,10 @@ fn the_example_of_the_standard_is_drawn(rt: HostRuntime) {
     }
 }
 
-/// What stands for a byte.
+/// The values that replace a byte.
 const VALUES: [u8; 4] = [0x00, 0x7F, 0x80, 0xFF];
 
-/// The index of the page that a byte belongs to; the first page's for a byte of none.
+/// The index of the page that a byte belongs to; the first page's for a byte that belongs to none.
 fn index_of(place: usize) -> &'static str {
     match place {
         0..=399 => "0",
@@ -124,7 +124,7 @@ fn index_of(place: usize) -> &'static str {
     }
 }
 
-/// Whether a page of these bytes is drawn, or refused and nothing is written.
+/// Whether a page of these bytes is drawn, or it is refused and nothing is written.
 fn is_drawn_or_silent(alloc: Global, words: &[&str], bytes: &[u8]) -> Result<bool> {
     let mut out = Vec::with_capacity(alloc, 512)?;
     let mut err = Vec::with_capacity(alloc, 64)?;
@@ -140,7 +140,7 @@ fn is_drawn_or_silent(alloc: Global, words: &[&str], bytes: &[u8]) -> Result<boo
     Ok(drawn || refused)
 }
 
-/// Whether a byte's page is so in either mode.
+/// Whether that is so for a byte's page in both modes.
 fn both_are_silent(alloc: Global, place: usize, bytes: &[u8]) -> bool {
     let words = ["--strict", "pbm", "file", index_of(place)];
     let strict = is_drawn_or_silent(alloc, &words, bytes).unwrap_or(true);

@@ -1,15 +1,19 @@
--- A stretch of a row, decoded, and its decisions (our own rule).
+-- Some decoded pixels of a row, and their decisions (our own rule).
 use Rattle.std.specs.Prelude.{◌≡◌, ◌+◌, ◌*◌, ℕ, Bool, List, Option, Some, None, length, slice_index_or, slice_set}
-use Rattle.jbig2_base.specs.{Counts.{Counts}, Grid.{Grid, bit_number}}
+use Rattle.jbig2_base.specs.Counts.{Counts}
+use Rattle.jbig2_base.specs.Grid.{Grid, bit_number}
 use Rattle.jbig2_coder.specs.Coder.{Coder, Context, Decision, fresh, decision}
-use Rattle.jbig2_region.specs.{inner.{RowCounts.{decided_pixels}, Holds.{Holds}, Rows.{after_pixels}}, Raster.{Coding, Region}}
+use Rattle.jbig2_region.specs.inner.RowCounts.{decided_pixels}
+use Rattle.jbig2_region.specs.inner.Holds.{Holds}
+use Rattle.jbig2_region.specs.inner.Rows.{after_pixels}
+use Rattle.jbig2_region.specs.Raster.{Coding, Region}
 
 -- A bitmap, a coder and contexts before and after n pixels of row y, from column x on.
 abbrev pub Codes : Coding → Bool → ℕ → ℕ → ℕ → Grid → Coder → List Context → Grid → Coder → List Context → Type 0
 Codes coding predicted x y n grid coder states grid' coder' states' =
     (w h : ℕ) (input : List ℕ) (r : Region) → length r.pixels ≡ y * w + x → r.predicted ≡ predicted → Holds w h input r grid coder states → Holds w h input (after_pixels coding w h input n r) grid' coder' states'
 
--- The decisions taken for these pixels: those of them that take one.
+-- The decisions taken for these pixels: one for each pixel that takes one.
 abbrev pub CountsCodes : Coding → Bool → ℕ → ℕ → ℕ → Grid → Coder → List Context → ℕ → ℕ → Type 0
 CountsCodes coding predicted x y n grid coder states before after =
     (w h : ℕ) (input : List ℕ) (r : Region) → length r.pixels ≡ y * w + x → r.predicted ≡ predicted → Holds w h input r grid coder states → after ≡ before + decided_pixels coding w h input n r
@@ -28,7 +32,7 @@ pub record Knows (colour : Bool) (d : Coder) (s : List Context) (before : Counts
   pub states : s' ≡ s
   pub steps : after ≡ before
 
--- the next pixel, of a known colour or else decided in the context of number k
+-- the next pixel: of a known colour, or else decided in the context with number k
 abbrev pub Takes : Option Bool → ℕ → Coder → List Context → Counts → ℕ → Coder → List Context → Counts → Type 0
 Takes (Some colour) k d s before n d' s' after = Knows colour d s before n d' s' after
 Takes None k d s before n d' s' after = Decides (decision d.bytes d.registers (slice_index_or s k fresh)) k d s before n d' s' after

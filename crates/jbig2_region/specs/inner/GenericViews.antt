@@ -1,5 +1,7 @@
--- A generic region's header of the code, seen as the definition's.
-use Rattle.jbig2_region.specs.{inner.PixelArrays.{is_extended, pixels_view}, declared.generic.GenericRegionHeader.{GenericRegionHeader}, GenericHeader.{GenericHeader}}
+-- The code's header of a generic region, as the definition's header.
+use Rattle.jbig2_region.specs.inner.PixelArrays.{is_extended, pixels_view}
+use Rattle.jbig2_region.specs.declared.generic.GenericRegionHeader.{GenericRegionHeader}
+use Rattle.jbig2_region.specs.GenericHeader.{GenericHeader}
 
 abbrev pub header_view : GenericRegionHeader → GenericHeader
 header_view h = record {

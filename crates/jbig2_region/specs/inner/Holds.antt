@@ -1,10 +1,10 @@
--- What the decoder holds of a region in the making (our own rule).
+-- What the decoder holds of a region during decoding (our own rule).
 use Rattle.std.specs.Prelude.{◌≡◌, ◌≤◌, ◌^◌, ℕ, Bool, false, List, Option, length}
 use Rattle.jbig2_base.specs.Grid.{Grid, blank}
 use Rattle.jbig2_coder.specs.Coder.{Coder, Context}
 use Rattle.jbig2_region.specs.Raster.{Coding, Region, so_far, row_begun, decoded_region, no_pixels}
 
--- A white bitmap of no longer sides than a region may have, and this many contexts as a number of these bits tells apart.
+-- A white bitmap whose sides a region may have, and as many contexts as a number of this many bits has values.
 pub record IsReady (bits : ℕ) (grid : Grid) (states : List Context) : Type 0 where
   pub columns : grid.width ≤ 65535
   pub rows : grid.height ≤ 65535
@@ -17,11 +17,11 @@ pub record Holds (w h : ℕ) (input : List ℕ) (r : Region) (grid : Grid) (code
   pub registers : coder.registers ≡ r.registers
   pub contexts : states ≡ r.contexts
 
--- the same once a row is begun, and whether the row is predicted
+-- the same after the start of a row, and whether the row is predicted
 pub record BeginsRow (w h : ℕ) (row_context : Option ℕ) (r : Region) (is_predicted : Bool) (grid : Grid) (before coder : Coder) (states : List Context) : Type 0 where
   pub holds : Holds w h before.bytes (row_begun row_context before.bytes r) grid coder states
   pub predicted : (row_begun row_context before.bytes r).predicted ≡ is_predicted
 
--- A whole region is decoded, from where the coder and the contexts stand.
+-- A whole region is decoded, from the present state of the coder and the contexts.
 abbrev pub DecodesRegion : Coding → Grid → Coder → List Context → Grid → Coder → List Context → Type 0
 DecodesRegion coding g d s g' d' s' = Holds g.width g.height d.bytes (decoded_region coding g.width g.height d.bytes (no_pixels d.registers s)) g' d' s'

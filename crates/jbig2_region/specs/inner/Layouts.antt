@@ -1,11 +1,17 @@
 -- The templates of generic regions by their neighbours (our own rule).
 use Rattle.std.specs.Prelude.{ℕ, ◌≡◌, false, List}
-use Rattle.jbig2_region.specs.{inner.Neighbours.{IsMixed, adaptive_count, mixed_count, mixed_pixels}, Templates.{adaptive_pixel_count, context_bits, template_pixels}, declared.template.{neighbours.{Adaptives.{Adaptives}, Neighbours.{Neighbours}}, AdaptiveTemplatePixel.{AdaptiveTemplatePixel}, Template.{Template, TheVariants.{Template0, Template1, Template2, Template3}}}}
+use Rattle.jbig2_region.specs.inner.Neighbours.{IsMixed, adaptive_count, mixed_count, mixed_pixels}
+use Rattle.jbig2_region.specs.Templates.{adaptive_pixel_count, context_bits, template_pixels}
+use Rattle.jbig2_region.specs.declared.template.neighbours.Adaptives.{Adaptives}
+use Rattle.jbig2_region.specs.declared.template.neighbours.Neighbours.{Neighbours}
+use Rattle.jbig2_region.specs.declared.template.AdaptiveTemplatePixel.{AdaptiveTemplatePixel}
+use Rattle.jbig2_region.specs.declared.template.Template.{Template}
+use Rattle.jbig2_region.specs.declared.template.Template.TheVariants.{Template0, Template1, Template2, Template3}
 
 abbrev pub neighbours_of : ℕ → ℕ → ℕ → ℕ → ℕ → Neighbours
 neighbours_of left above_reach above_count top_reach top_count = record { left = left; above = record { reach = above_reach; count = above_count }; top = record { reach = top_reach; count = top_count } }
 
--- with the adaptive pixels where they are nominal, and without them
+-- with adaptive pixels at their nominal places, and without adaptive pixels
 abbrev pub nominal_neighbours : Template → Neighbours
 nominal_neighbours Template0 = neighbours_of 4 3 7 2 5
 nominal_neighbours Template1 = neighbours_of 3 3 6 2 4
@@ -18,7 +24,7 @@ fixed_neighbours Template1 = neighbours_of 3 2 5 2 4
 fixed_neighbours Template2 = neighbours_of 2 1 4 1 3
 fixed_neighbours Template3 = neighbours_of 4 1 5 0 0
 
--- what adaptive pixels make of a template
+-- how a template's adaptive pixels lie between its neighbours
 pub record FitsAdaptives (template : Template) (a : List AdaptiveTemplatePixel) (r : Adaptives) : Type 0 where
   pub pixels : mixed_pixels (fixed_neighbours template) r ≡ template_pixels false template a
   pub mixed : IsMixed (fixed_neighbours template) r

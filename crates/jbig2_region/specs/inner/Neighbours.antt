@@ -1,10 +1,23 @@
 -- Templates of generic regions as neighbours that lie side by side, with adaptive pixels between them (our own rule).
-use Rattle.std.specs.Prelude.{◌≡◌, ◌==◌, ℕ, zero, suc, ◌+◌, ◌-◌, ◌*◌, ◌/◌, ◌%◌, ◌^◌, ◌<◌, ◌≤◌, ℤ, pos, negsuc, ◌-ℤ◌, List, [], ◌∷◌, ◌++◌, length, Bool, true, false, ◌&&◌, if◌then◌else◌, Option, Some, None, min}
-use Rattle.jbig2_base.specs.{Grid.{Grid, pixel, pixel_at}, Bits.{bit}}
+use Rattle.std.specs.Prelude.{◌≡◌, ◌==◌, ℕ, zero, suc, ◌+◌, ◌-◌, ◌*◌, ◌/◌, ◌%◌, ◌^◌, ◌<◌, ◌≤◌, ℤ, pos, negsuc, ◌-ℤ◌}
+use Rattle.std.specs.Prelude.{List, [], ◌∷◌, ◌++◌, length, Bool, true, false, ◌&&◌, if◌then◌else◌, Option, Some, None}
+use Rattle.std.specs.Prelude.{min}
+use Rattle.jbig2_base.specs.Grid.{Grid, pixel, pixel_at}
+use Rattle.jbig2_base.specs.Bits.{bit}
 use Rattle.jbig2_coder.specs.Coder.{Coder, Context}
-use Rattle.jbig2_region.specs.{Generic.{context_at, known_colour}, inner.{Holds.{Holds}, Rows.{after_pixels}}, Raster.{Coding, Region}, declared.{template.{neighbours.{Adaptives.{Adaptives}, Layout.{Layout}, Neighbours.{Neighbours}, Stretch.{Stretch}}, AdaptiveTemplatePixel.{AdaptiveTemplatePixel}}, generic_kernel.windows.{WideWindows.{WideWindows}, Windows.{Windows}}}}
+use Rattle.jbig2_region.specs.Generic.{context_at, known_colour}
+use Rattle.jbig2_region.specs.inner.Holds.{Holds}
+use Rattle.jbig2_region.specs.inner.Rows.{after_pixels}
+use Rattle.jbig2_region.specs.Raster.{Coding, Region}
+use Rattle.jbig2_region.specs.declared.template.neighbours.Adaptives.{Adaptives}
+use Rattle.jbig2_region.specs.declared.template.neighbours.Layout.{Layout}
+use Rattle.jbig2_region.specs.declared.template.neighbours.Neighbours.{Neighbours}
+use Rattle.jbig2_region.specs.declared.template.neighbours.Stretch.{Stretch}
+use Rattle.jbig2_region.specs.declared.template.AdaptiveTemplatePixel.{AdaptiveTemplatePixel}
+use Rattle.jbig2_region.specs.declared.generic_kernel.windows.WideWindows.{WideWindows}
+use Rattle.jbig2_region.specs.declared.generic_kernel.windows.Windows.{Windows}
 
--- this many pixels in the row that stands this many rows higher, the rightmost first
+-- this many pixels in the row this many rows up, the rightmost first
 abbrev pub side_by_side : ℤ → ℕ → ℕ → List AdaptiveTemplatePixel
 side_by_side x rows zero = []
 side_by_side x rows (suc count) = record { x = x; y = pos 0 -ℤ pos rows } ∷ side_by_side (x -ℤ pos 1) rows count
@@ -15,7 +28,7 @@ left_pixels n = side_by_side (negsuc 0) 0 n.left
 abbrev pub stretch_pixels : Stretch → ℕ → List AdaptiveTemplatePixel
 stretch_pixels s rows = side_by_side (pos s.reach) rows s.count
 
--- without adaptive pixels, or with them nominal, which makes them neighbours too
+-- the pixels without adaptive ones, or with nominal ones, which are neighbours too
 abbrev pub nominal_pixels : Neighbours → List AdaptiveTemplatePixel
 nominal_pixels n = left_pixels n ++ (stretch_pixels n.above 1 ++ stretch_pixels n.top 2)
 
@@ -42,8 +55,8 @@ pub record IsNear (n : Neighbours) : Type 0 where
   pub top_count : n.top.count ≤ 7
   pub few : neighbour_count n ≤ 16
 
--- A window on a row about column x: bit 55 is the pixel at x, and those to the right of it stand lower. It shows this many
--- columns, the first of them eight left of x.
+-- A window on a row around column x: bit 55 is the pixel at x, and pixels to the right of it are in lower bits. It
+-- shows this many columns, the first of them eight left of x.
 abbrev pub IsWindow : Grid → ℕ → ℤ → ℕ → ℕ → Type 0
 IsWindow g x row seen word = (k : ℕ) → k < seen → bit word (63 - k) ≡ pixel g (pos (x + k) -ℤ pos 8) row
 
@@ -60,22 +73,21 @@ pub record ShowsBefore (g : Grid) (x y : ℕ) (w : Windows) : Type 0 where
   pub above : IsBefore g x (pos y -ℤ pos 1) w.above
   pub top : IsBefore g x (pos y -ℤ pos 2) w.top
 
--- Windows about column x that serve this many bytes, at most eight: the second of them is asked for where there are more
--- than four.
+-- Windows around column x that serve this many bytes, at most eight. The second is needed only for more than four.
 pub record ShowsGroup (g : Grid) (x y bytes : ℕ) (w : WideWindows) : Type 0 where
   pub first : Shows g x y 64 w.first
   pub second : 5 ≤ bytes → Shows g (x + 32) y 64 w.second
 
--- the windows at byte `done` of a group, whose second ones stay
+-- the windows at byte `done` of a group; the second ones stay the same
 pub record ShowsByte (g : Grid) (x y done : ℕ) (group w : WideWindows) : Type 0 where
   pub first : Shows g (x + 8 * done) y (64 - 8 * (done % 4)) w.first
   pub second : w.second ≡ group.second
 
--- wherever the group's windows serve this many bytes
+-- the same, whenever the group's windows serve this many bytes
 abbrev pub StandAtByte : ℕ → ℕ → WideWindows → WideWindows → Type 0
 StandAtByte bytes done group w = (g : Grid) (x y : ℕ) → ShowsGroup g x y bytes group → ShowsByte g x y done group w
 
--- windows about column x, with what a run of `most` bytes is tested by
+-- windows around column x, with the pixels by which a run of `most` bytes is tested
 pub record ShowsRun (g : Grid) (x y most : ℕ) (w : WideWindows) : Type 0 where
   pub first : Shows g x y (8 * min most 4 + 12) w.first
   pub second : 5 ≤ most → Shows g (x + 32) y 44 w.second
@@ -97,34 +109,34 @@ abbrev pub DecodesPixels : List AdaptiveTemplatePixel → Bool → ℕ → ℕ �
 DecodesPixels template predicted x y n grid coder states grid' coder' states' =
     (w h : ℕ) (input : List ℕ) (r : Region) → length r.pixels ≡ y * w + x → r.predicted ≡ predicted → Holds w h input r grid coder states → Holds w h input (after_pixels (row_coding template) w h input n r) grid' coder' states'
 
--- the part of a context that a window holds of a stretch, seen from `offset` columns right of the window's column
+-- the part of a context that a window has for a stretch, seen from `offset` columns right of the window's column
 abbrev pub stretch_bits : Stretch → ℕ → ℕ → ℕ
 stretch_bits s word offset = word / 2 ^ (55 - offset - s.reach) % 2 ^ s.count
 
--- whether this many bits of a number are all of one colour
+-- whether this many bits of a number all have one colour
 abbrev pub is_field : ℕ → ℕ → ℕ → Bool → Bool
 is_field word shift count colour = word / 2 ^ shift % 2 ^ count == (if colour then 2 ^ count - 1 else 0)
 
--- a stretch, from the window's column and each of the next m columns right of it; none is of either colour
+-- whether a stretch has the colour, from the window's column and each of the m columns right of it; yes if it is empty
 abbrev pub stretch_stays : Stretch → ℕ → Bool → ℕ → Bool
 stretch_stays s m colour word = if s.count == 0 then true else is_field word (55 - m - s.reach) (s.count + m) colour
 
--- both of them, and with the pixels at the left
+-- the same for both stretches, and then also for the pixels on the left
 abbrev pub stretches_stay : Neighbours → ℕ → Bool → Windows → Bool
 stretches_stay n m colour w = stretch_stays n.above m colour w.above && stretch_stays n.top m colour w.top
 
 abbrev pub neighbours_stay : Neighbours → ℕ → Bool → ℕ → Windows → Bool
 neighbours_stay n m colour left w = is_field left 0 n.left colour && stretches_stay n m colour w
 
--- what the windows show of the stretches, in one number that moves on by doubling
+-- the pixels of the stretches in the windows, in one number that moves on by doubling
 abbrev pub register_of : Neighbours → Windows → ℕ
 register_of n w = w.above / 2 ^ (48 - n.above.reach) % 2 ^ 16 * 2 ^ 16 + w.top / 2 ^ (48 - n.top.reach) % 2 ^ 16 * 2 ^ 40
 
--- the stretches' part of a context, which it holds
+-- the stretches' part of a context, from this number
 abbrev pub stretches_of : Neighbours → ℕ → ℕ
 stretches_of n register = register / 2 ^ 23 % 2 ^ n.above.count + register / 2 ^ 47 % 2 ^ n.top.count * 2 ^ n.above.count
 
--- the context, with the pixels at the left in another number
+-- the context, with the pixels on the left from another number
 abbrev pub cut_of : Neighbours → ℕ → ℕ → ℕ
 cut_of n register beside = beside % 2 ^ n.left + stretches_of n register * 2 ^ n.left
 
@@ -134,7 +146,7 @@ adaptive_count a = length a.first.now + (length a.middle.now + length a.last.now
 abbrev pub mixed_count : Neighbours → Adaptives → ℕ
 mixed_count n a = n.left + (length a.first.now + (n.above.count + (length a.middle.now + (n.top.count + length a.last.now))))
 
--- neighbours near by, and no more adaptive pixels than a context has room for
+-- near neighbours, and no more adaptive pixels than a context has room for
 pub record IsMixed (n : Neighbours) (a : Adaptives) : Type 0 where
   pub near : IsNear n
   pub few : mixed_count n a ≤ 16
@@ -151,7 +163,7 @@ abbrev pub IsLayout : Neighbours → Option Adaptives → Type 0
 IsLayout n None = IsNear n
 IsLayout n (Some a) = IsMixed n a
 
--- without adaptive pixels there are run bytes
+-- whether there are run bytes: only without adaptive pixels
 abbrev pub is_nominal_layout : Option Adaptives → Bool
 is_nominal_layout None = true
 is_nominal_layout (Some a) = false

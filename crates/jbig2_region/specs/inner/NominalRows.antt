@@ -1,9 +1,14 @@
--- Rows, and whole regions of few columns, of a template without adaptive pixels: what has to be there before, and what their
+-- Rows, and whole regions of few columns, of a template without adaptive pixels: what must hold before, and what
 -- decoding leaves and counts (our own rule).
 use Rattle.std.specs.Prelude.{◌≡◌, ℕ, ◌+◌, ◌-◌, ◌*◌, ◌/◌, ◌^◌, ◌<◌, ◌≤◌, true, false, List, length}
-use Rattle.jbig2_base.specs.{Counts.{Counts, KeepsLanes}, Grid.{Grid, blank}}
+use Rattle.jbig2_base.specs.Counts.{Counts, KeepsLanes}
+use Rattle.jbig2_base.specs.Grid.{Grid, blank}
 use Rattle.jbig2_coder.specs.Coder.{Coder, Context}
-use Rattle.jbig2_region.specs.{Raster.{no_pixels}, Steps.{CountsRegion}, inner.{Neighbours.{DecodesPixels, IsNear, neighbour_count, nominal_pixels, row_coding}, RowCounts.{CountsRuns}}, declared.template.neighbours.Neighbours.{Neighbours}}
+use Rattle.jbig2_region.specs.Raster.{no_pixels}
+use Rattle.jbig2_region.specs.Steps.{CountsRegion}
+use Rattle.jbig2_region.specs.inner.Neighbours.{DecodesPixels, IsNear, neighbour_count, nominal_pixels, row_coding}
+use Rattle.jbig2_region.specs.inner.RowCounts.{CountsRuns}
+use Rattle.jbig2_region.specs.declared.template.neighbours.Neighbours.{Neighbours}
 
 -- ---- one row
 pub record FitsRow (n : Neighbours) (y : ℕ) (g : Grid) (s : List Context) : Type 0 where

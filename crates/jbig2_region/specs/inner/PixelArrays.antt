@@ -1,6 +1,12 @@
--- The code's arrays of adaptive pixels, which hold four, twelve or two of them: a region has the first that many.
+-- The code's arrays of four, twelve or two adaptive pixels. A region uses the first of them, as many as it has.
 use Rattle.std.specs.Prelude.{ℕ, ◌≡◌, Bool, true, false, List, [], ◌∷◌, zero, suc, take}
-use Rattle.jbig2_region.specs.{declared.template.{AdaptiveTemplatePixel.{AdaptiveTemplatePixel}, Template.{Template}, GenericTemplatePixels.{GenericTemplatePixels, TheVariants.{Regular, Extended}}, RefinementTemplate.{RefinementTemplate}}, Templates.{right, adaptive_pixel_count}, RefinementTemplates.{refinement_pixel_count}}
+use Rattle.jbig2_region.specs.declared.template.AdaptiveTemplatePixel.{AdaptiveTemplatePixel}
+use Rattle.jbig2_region.specs.declared.template.Template.{Template}
+use Rattle.jbig2_region.specs.declared.template.GenericTemplatePixels.{GenericTemplatePixels}
+use Rattle.jbig2_region.specs.declared.template.GenericTemplatePixels.TheVariants.{Regular, Extended}
+use Rattle.jbig2_region.specs.declared.template.RefinementTemplate.{RefinementTemplate}
+use Rattle.jbig2_region.specs.Templates.{right, adaptive_pixel_count}
+use Rattle.jbig2_region.specs.RefinementTemplates.{refinement_pixel_count}
 
 abbrev pub four_pixels : Template → List AdaptiveTemplatePixel → List AdaptiveTemplatePixel
 four_pixels template a = take (adaptive_pixel_count false false template) a
@@ -13,7 +19,7 @@ abbrev pub pixels_view : Bool → Template → GenericTemplatePixels → List Ad
 pixels_view mmr template (Regular a) = take (adaptive_pixel_count mmr false template) a
 pixels_view mmr template (Extended a) = take (adaptive_pixel_count mmr true template) a
 
--- An array of this many pixels that begins with these. The others lie at (0, 0), and no template takes them.
+-- An array of this many pixels that begins with these. The others lie at (0, 0), and no template uses them.
 abbrev pub filled : ℕ → List AdaptiveTemplatePixel → List AdaptiveTemplatePixel
 filled zero a = []
 filled (suc count) [] = right 0 0 ∷ filled count []
@@ -23,6 +29,6 @@ abbrev pub IsFilled : GenericTemplatePixels → List AdaptiveTemplatePixel → T
 IsFilled (Regular a) pixels = a ≡ filled 4 pixels
 IsFilled (Extended a) pixels = a ≡ filled 12 pixels
 
--- those of the code's array of two that a template has
+-- the pixels of the code's array of two that a template has
 abbrev pub two_pixels : RefinementTemplate → List AdaptiveTemplatePixel → List AdaptiveTemplatePixel
 two_pixels template a = take (refinement_pixel_count template) a

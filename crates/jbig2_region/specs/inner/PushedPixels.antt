@@ -1,22 +1,27 @@
 -- Pixels that are decoded into a number and then stored (our own rule).
 use Rattle.std.specs.Prelude.{◌≡◌, ℕ, ◌+◌, ◌*◌, ◌%◌, ◌<◌, ◌≤◌, false, List}
-use Rattle.jbig2_base.specs.{Grid.{Grid}, Writes.{with_pixels}}
+use Rattle.jbig2_base.specs.Grid.{Grid}
+use Rattle.jbig2_base.specs.Writes.{with_pixels}
 use Rattle.jbig2_coder.specs.Coder.{Coder, Context}
-use Rattle.jbig2_region.specs.{inner.{Neighbours.{DecodesPixels, IsLeft, Shows, ShowsGroup, ShowsRun, nominal_pixels}, RowCounts.{CountsRuns}}, declared.{generic_kernel.windows.{WideWindows.{WideWindows}, Windows.{Windows}}, template.neighbours.Neighbours.{Neighbours}}}
+use Rattle.jbig2_region.specs.inner.Neighbours.{DecodesPixels, IsLeft, Shows, ShowsGroup, ShowsRun, nominal_pixels}
+use Rattle.jbig2_region.specs.inner.RowCounts.{CountsRuns}
+use Rattle.jbig2_region.specs.declared.generic_kernel.windows.WideWindows.{WideWindows}
+use Rattle.jbig2_region.specs.declared.generic_kernel.windows.Windows.{Windows}
+use Rattle.jbig2_region.specs.declared.template.neighbours.Neighbours.{Neighbours}
 
--- a bitmap with this many columns from column x of row y on, what the windows show of it there, and the pixels left of it
+-- a bitmap with this many columns from column x of row y on, what the windows show there, and the pixels left of it
 pub record StandsAt (shown : Type 0) (g : Grid) (x y count left : ℕ) : Type 0 where
   pub columns : x + count ≤ g.width
   pub row : y < g.height
   pub shows : shown
   pub beside : IsLeft g x y left
 
--- the next k pixels are the lowest bits of a number, wherever a bitmap stands so
+-- the next k pixels are the lowest bits of a number, for each such bitmap
 abbrev pub Pushes : (Grid → ℕ → ℕ → Type 0) → Neighbours → ℕ → ℕ → Coder → List Context → Coder → List Context → Type 0
 Pushes Stands n k pixels d s d' s' =
     (g : Grid) (x y : ℕ) → Stands g x y → DecodesPixels (nominal_pixels n) false x y k g d s (with_pixels g x y k pixels) d' s'
 
--- this many decisions are counted for them, wherever a bitmap stands so and a byte begins
+-- this many decisions are counted for them, for each such bitmap where a byte begins
 abbrev pub CountsPushed : (Grid → ℕ → ℕ → Type 0) → Neighbours → ℕ → Coder → List Context → ℕ → ℕ → Type 0
 CountsPushed Stands n k d s before after =
     (g : Grid) (x y : ℕ) → x % 8 ≡ 0 → Stands g x y → CountsRuns (nominal_pixels n) x y k g d s before after
@@ -28,7 +33,7 @@ Stands g x y count left w = StandsAt (Shows g x y 20 w) g x y count left
 abbrev pub PushesPixels : Neighbours → ℕ → ℕ → Windows → ℕ → ℕ → Coder → List Context → Coder → List Context → Type 0
 PushesPixels n count left w = Pushes (λ g x y. Stands g x y count left w) n
 
--- ---- bytes that are tested for a run: none of them is the row's last
+-- ---- bytes that are tested for a run; none of them is the row's last
 abbrev pub StandsBytes : Grid → ℕ → ℕ → ℕ → ℕ → WideWindows → Type 0
 StandsBytes g x y most left w = StandsAt (ShowsRun g x y most w) g x y (8 * most + 1) left
 
@@ -48,7 +53,7 @@ PushesGroup n bytes left w k = Pushes (λ g x y. StandsGroup g x y bytes left w)
 abbrev pub CountsGroup : Neighbours → ℕ → ℕ → WideWindows → ℕ → Coder → List Context → ℕ → ℕ → Type 0
 CountsGroup n bytes left w k = CountsPushed (λ g x y. StandsGroup g x y bytes left w) n (8 * k)
 
--- ---- a narrow row's byte that is not its last
+-- ---- a byte of a narrow row that is not its last
 abbrev pub CountsByte : Neighbours → ℕ → Windows → Coder → List Context → ℕ → ℕ → Type 0
 CountsByte n left w = CountsPushed (λ g x y. Stands g x y 9 left w) n 8
 

@@ -1,5 +1,7 @@
--- A refinement's header of the code, seen as the definition's.
-use Rattle.jbig2_region.specs.{inner.PixelArrays.{two_pixels}, declared.generic_refinement.GenericRefinementRegionHeader.{GenericRefinementRegionHeader}, RefinementHeader.{RefinementHeader}}
+-- The code's header of a refinement, as the definition's header.
+use Rattle.jbig2_region.specs.inner.PixelArrays.{two_pixels}
+use Rattle.jbig2_region.specs.declared.generic_refinement.GenericRefinementRegionHeader.{GenericRefinementRegionHeader}
+use Rattle.jbig2_region.specs.RefinementHeader.{RefinementHeader}
 
 abbrev pub header_view : GenericRefinementRegionHeader → RefinementHeader
 header_view h = record {

@@ -1,6 +1,8 @@
--- A decoded region of the code, seen as the definitions' region.
-use Rattle.jbig2_region.specs.{declared.region_info.DecodedRegion.{DecodedRegion}, RegionInfo.{PlacedRegion}}
-use Rattle.std.specs.{Prelude.{Option, Some, None}, Borrow.{Bor}}
+-- A decoded region of the code, as the definitions' region.
+use Rattle.jbig2_region.specs.declared.region_info.DecodedRegion.{DecodedRegion}
+use Rattle.jbig2_region.specs.RegionInfo.{PlacedRegion}
+use Rattle.std.specs.Prelude.{Option, Some, None}
+use Rattle.std.specs.Borrow.{Bor}
 use Rattle.jbig2_base.specs.Grid.{Grid}
 
 abbrev pub region_view : {A : Type 0} → DecodedRegion A → PlacedRegion

@@ -1,18 +1,23 @@
--- Decisions and run bytes as the decoder counts them, by the pixels of a row and by rows (our own rule).
+-- Decisions and run bytes as the decoder counts them, by the pixels of a row and by whole rows (our own rule).
 use Rattle.std.specs.Prelude.{◌≡◌, ℕ, zero, suc, ◌+◌, ◌*◌, Bool, false, if◌then◌else◌, List, length}
 use Rattle.jbig2_base.specs.Grid.{Grid, bit_number}
 use Rattle.jbig2_coder.specs.Coder.{Coder, Context}
-use Rattle.jbig2_region.specs.{Steps.{takes_decision, is_run_byte}, Raster.{Coding, Region, row_begun}, inner.{Holds.{Holds}, Neighbours.{row_coding}, Rows.{after_pixels, after_rows}}, declared.template.AdaptiveTemplatePixel.{AdaptiveTemplatePixel}}
+use Rattle.jbig2_region.specs.Steps.{takes_decision, is_run_byte}
+use Rattle.jbig2_region.specs.Raster.{Coding, Region, row_begun}
+use Rattle.jbig2_region.specs.inner.Holds.{Holds}
+use Rattle.jbig2_region.specs.inner.Neighbours.{row_coding}
+use Rattle.jbig2_region.specs.inner.Rows.{after_pixels, after_rows}
+use Rattle.jbig2_region.specs.declared.template.AdaptiveTemplatePixel.{AdaptiveTemplatePixel}
 
 -- ---- decisions
--- how many of the next n pixels take one
+-- how many of the next n pixels take a decision
 unfoldable pub decided_pixels : Coding → ℕ → ℕ → List ℕ → ℕ → Region → ℕ
 decided_pixels coding w h bytes zero r = 0
 decided_pixels coding w h bytes (suc n) r =
     decided_pixels coding w h bytes n r
     + bit_number (takes_decision coding w h (after_pixels coding w h bytes n r))
 
--- how many of the first n rows' pixels do
+-- how many pixels of the first n rows take a decision
 unfoldable pub decided_rows : Coding → ℕ → ℕ → List ℕ → ℕ → Region → ℕ
 decided_rows coding w h bytes zero r = 0
 decided_rows coding w h bytes (suc n) r =
@@ -20,7 +25,7 @@ decided_rows coding w h bytes (suc n) r =
     + decided_pixels coding w h bytes w (row_begun coding.row_context bytes (after_rows coding w h bytes n r))
 
 -- ---- run bytes
--- how many of the next n pixels begin one
+-- how many of the next n pixels begin a run byte
 unfoldable pub run_bytes : List AdaptiveTemplatePixel → ℕ → ℕ → List ℕ → ℕ → Region → ℕ
 run_bytes template w h bytes zero r = 0
 run_bytes template w h bytes (suc n) r = run_bytes template w h bytes n r + bit_number (is_run_byte template w h bytes (after_pixels (row_coding template) w h bytes n r))
@@ -30,19 +35,19 @@ abbrev pub CountsRuns : List AdaptiveTemplatePixel → ℕ → ℕ → ℕ → G
 CountsRuns template x y n grid coder states before after =
     (w h : ℕ) (input : List ℕ) (r : Region) → length r.pixels ≡ y * w + x → r.predicted ≡ false → Holds w h input r grid coder states → after + 8 * run_bytes template w h input n r ≡ before + n
 
--- The same of row y, whole, in a template with run bytes or without; a predicted row takes no decision.
+-- The same for the whole row y, in a template with run bytes or without. A predicted row takes no decision.
 abbrev pub CountsRow : List AdaptiveTemplatePixel → Bool → Bool → ℕ → Grid → Coder → List Context → ℕ → ℕ → Type 0
 CountsRow template nominal predicted y grid coder states before after =
     (w h : ℕ) (input : List ℕ) (r : Region) → length r.pixels ≡ y * w → r.predicted ≡ predicted → Holds w h input r grid coder states
     → after + 8 * (if predicted then 0 else if nominal then run_bytes template w h input w r else 0) ≡ before + (if predicted then 0 else w)
 
--- how many of the first n rows are coded, and not predicted
+-- how many of the first n rows are coded, not predicted
 unfoldable pub coded_rows : Coding → ℕ → ℕ → List ℕ → ℕ → Region → ℕ
 coded_rows coding w h bytes zero r = 0
 coded_rows coding w h bytes (suc n) r =
     coded_rows coding w h bytes n r + (if (row_begun coding.row_context bytes (after_rows coding w h bytes n r)).predicted then 0 else 1)
 
--- how many run bytes these have, in a template with run bytes or without
+-- how many run bytes these rows have, in a template with run bytes or without
 unfoldable pub rows_runs : List AdaptiveTemplatePixel → Bool → Coding → ℕ → ℕ → List ℕ → ℕ → Region → ℕ
 rows_runs template nominal coding w h bytes zero r = 0
 rows_runs template nominal coding w h bytes (suc n) r =

@@ -1,13 +1,13 @@
--- A region as the decoder makes it, a row and in it a pixel after another (our own rule).
+-- A region as the decoder makes it: row by row, and in a row pixel by pixel (our own rule).
 use Rattle.std.specs.Prelude.{ℕ, suc, zero, ◌==◌, if◌then◌else◌, List}
 use Rattle.jbig2_region.specs.Raster.{Coding, Region, after_pixel, row_begun}
 
--- n pixels more, of a row that is begun
+-- n more pixels of a row, after its start
 unfoldable pub after_pixels : Coding → ℕ → ℕ → List ℕ → ℕ → Region → Region
 after_pixels coding w h bytes zero r = r
 after_pixels coding w h bytes (suc n) r = after_pixel coding w h bytes (after_pixels coding w h bytes n r)
 
--- n rows more
+-- n more rows
 unfoldable pub after_rows : Coding → ℕ → ℕ → List ℕ → ℕ → Region → Region
 after_rows coding w h bytes zero r = r
 after_rows coding w h bytes (suc n) r =

@@ -1,4 +1,4 @@
-//! Rows of a template without adaptive pixels, byte by byte, with runs of likely symbols.
+//! Decodes rows of a template without adaptive pixels byte by byte, with runs of likely symbols.
 ghost use Rattle.std.specs.Prelude.{◌≡◌, ℕ, ◌+◌, ◌-◌, ◌*◌, ◌/◌, ◌%◌, ◌^◌, ◌<◌, ◌≤◌, false, length, if◌then◌else◌};
 ghost use Rattle.jbig2_base.specs.Counts.{KeepsLanes};
 ghost use Rattle.jbig2_region.specs.inner.Neighbours.{IsNear, neighbour_count};
@@ -29,8 +29,8 @@ fn uniform(black: bool, count: u32) -> u64
     0
 }
 
-/// The next `count` pixels, at most a byte, from the windows' column on: the first is the highest
-/// of the lowest `count` bits.
+/// Decodes the next `count` pixels, at most a byte, from the windows' column on. The first is the
+/// highest of the lowest `count` bits.
 #[inline(always)]
 pub fn push_pixels<L: Ledger>(
     neighbours: Neighbours,
@@ -67,16 +67,16 @@ pub fn push_pixels<L: Ledger>(
     u64::from(beside) % (1 << count)
 }
 
-/// Whole bytes of a row that are decoded: how many, and their pixels, the first in the highest of so
-/// many bits.
+/// Decoded whole bytes of a row: how many, and their pixels, the first in the highest of the lowest
+/// 8 * `bytes` bits.
 #[derive(Clone, Copy)]
 pub struct PushedBytes {
     pub bytes: u32,
     pub pixels: u64,
 }
 
-/// The next bytes of a row, none of them its last, from the windows' column on: a run of `most` or
-/// fewer, or else one that is decoded pixel by pixel.
+/// Decodes the next bytes of a row, none of them its last, from the windows' column on: a run of at
+/// most `most` bytes, or else one byte pixel by pixel.
 #[inline(always)]
 pub fn push_bytes<L: Ledger>(
     neighbours: Neighbours,
@@ -118,8 +118,9 @@ pub fn push_bytes<L: Ledger>(
     PushedBytes { bytes: 1, pixels }
 }
 
-/// How many bytes a run is tested for at byte `done` of a group of this many bytes: all eight of a
-/// whole one at its start, else one, since counting how many of a few stay costs more than it saves.
+/// For how many bytes a run is tested at byte `done` of a group of this many bytes: all eight of a
+/// whole group at its start, else one. To count how many of a few bytes stay costs more than it
+/// saves.
 #[inline(always)]
 fn most_bytes(done: u32, bytes: u32) -> u32
     requires some { done < bytes }
@@ -134,7 +135,7 @@ fn most_bytes(done: u32, bytes: u32) -> u32
     1
 }
 
-/// Pixels with these bytes after them.
+/// `pixels` with these bytes after them.
 #[inline(always)]
 fn join(pixels: u64, behind: PushedBytes) -> u64
     requires few { behind.bytes ≤ 8 }
@@ -147,8 +148,8 @@ fn join(pixels: u64, behind: PushedBytes) -> u64
     (pixels << (8 * behind.bytes)) + behind.pixels
 }
 
-/// The next `bytes` bytes of a row, at most eight and none of them its last, from the windows' column
-/// on: their pixels, the first in the highest of this many bits.
+/// Decodes the next `bytes` bytes of a row, at most eight and none of them its last, from the
+/// windows' column on. Returns their pixels, the first in the highest of the lowest 8 * `bytes` bits.
 #[inline(always)]
 fn push_group<L: Ledger>(
     neighbours: Neighbours,
@@ -189,7 +190,7 @@ fn push_group<L: Ledger>(
     pixels
 }
 
-/// Row `y`, whose rows above are decoded.
+/// Decodes row `y`, whose rows above are decoded.
 #[inline(always)]
 pub fn decode_row_by_bytes<A: Allocator, L: Ledger>(
     neighbours: Neighbours,

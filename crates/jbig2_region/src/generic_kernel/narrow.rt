@@ -1,5 +1,5 @@
-//! Narrow regions without adaptive pixels and without typical prediction: the windows on the two rows
-//! above are made out of the rows as they are decoded, and each row is stored at once.
+//! Decodes narrow regions without adaptive pixels and without typical prediction. The windows on the
+//! two rows above are made from the rows as they are decoded, and each row is stored at once.
 ghost use Rattle.std.specs.Prelude.{◌≡◌, ℕ, ◌+◌, ◌-◌, ◌*◌, ◌/◌, ◌%◌, ◌^◌, ◌<◌, ◌≤◌, length};
 ghost use Rattle.jbig2_base.specs.Counts.{KeepsLanes};
 ghost use Rattle.jbig2_base.specs.Grid.{Grid, pixel_at};
@@ -22,8 +22,8 @@ use jbig2_coder::arithmetic_decoder::{ArithmeticDecoder, ArithmeticDecoderContex
 use std::alloc::Allocator;
 use std::sync::ledger::Ledger;
 
-/// The next byte of a row, which is not its last, from the windows' column on: a run, or else pixel
-/// by pixel.
+/// Decodes the next byte of a row, which is not its last, from the windows' column on: as a run, or
+/// else pixel by pixel.
 #[inline(always)]
 fn push_byte<L: Ledger>(
     neighbours: Neighbours,
@@ -55,8 +55,8 @@ fn push_byte<L: Ledger>(
     push_bytes(neighbours, 1, left, shown, decoder, contexts, steps).pixels
 }
 
-/// A row of `width` pixels, the first in the highest of the lowest `width` bits, by the windows
-/// about its first column.
+/// Decodes a row of `width` pixels by the windows around its first column. The first pixel is in
+/// the highest of the lowest `width` bits.
 #[inline(always)]
 fn push_row<L: Ledger>(
     neighbours: Neighbours,
@@ -97,8 +97,7 @@ fn push_row<L: Ledger>(
     pixels * (1 << count) + last
 }
 
-/// The windows about the first column of the next row, out of those of a row of these `width`
-/// pixels.
+/// The windows around the first column of the next row, from those of a row and its `width` pixels.
 #[inline(always)]
 fn lowered(windows: Windows, width: u32, pixels: u64) -> Windows
     requires some { 1 ≤ width }
@@ -114,7 +113,7 @@ fn lowered(windows: Windows, width: u32, pixels: u64) -> Windows
     }
 }
 
-/// All rows of a region, into a white bitmap of its size.
+/// Decodes all rows of a region into a white bitmap of its size.
 #[inline(always)]
 fn decode_rows<A: Allocator, L: Ledger>(
     neighbours: Neighbours,
@@ -137,7 +136,7 @@ fn decode_rows<A: Allocator, L: Ledger>(
     }
 }
 
-/// The same of the template of this number.
+/// The same for the template with the number `TEMPLATE`.
 #[inline(never)]
 fn decode_constant_rows<A: Allocator, L: Ledger, const TEMPLATE: u8>(
     neighbours: Neighbours,
@@ -156,7 +155,7 @@ fn decode_constant_rows<A: Allocator, L: Ledger, const TEMPLATE: u8>(
     decode_rows(constant, bitmap, decoder, contexts, steps);
 }
 
-/// A whole region of 1 to 48 columns, into a white bitmap of its size.
+/// Decodes a whole region of 1 to 48 columns into a white bitmap of its size.
 pub fn decode_narrow<A: Allocator, L: Ledger>(
     neighbours: Neighbours,
     bitmap: &mut Bitmap<A>,

@@ -1,5 +1,5 @@
-//! Rows of the templates with nominal adaptive pixels: each template has a loop of its own, in which
-//! the places of its pixels are constants.
+//! Decodes rows of the templates with nominal adaptive pixels. Each template has a loop of its own,
+//! in which the places of its pixels are constants.
 ghost use Rattle.std.specs.Prelude.{◌≡◌, ◌%◌};
 ghost use Rattle.jbig2_region.specs.Templates.{template_of};
 ghost use Rattle.jbig2_region.specs.inner.Layouts.{nominal_neighbours};
@@ -15,7 +15,7 @@ use jbig2_coder::arithmetic_decoder::{ArithmeticDecoder, ArithmeticDecoderContex
 use std::alloc::Allocator;
 use std::sync::ledger::Ledger;
 
-/// Row `y`, whose rows above are decoded, of the template of this number.
+/// Decodes row `y`, whose rows above are decoded, by the template with the number `TEMPLATE`.
 #[inline(never)]
 fn decode_constant_row<A: Allocator, L: Ledger, const TEMPLATE: u8>(
     neighbours: Neighbours,
@@ -34,7 +34,7 @@ fn decode_constant_row<A: Allocator, L: Ledger, const TEMPLATE: u8>(
     decode_row_by_bytes(constant, bitmap, y, decoder, contexts, steps);
 }
 
-/// Row `y`, whose rows above are decoded.
+/// Decodes row `y`, whose rows above are decoded.
 pub fn decode_nominal_row<A: Allocator, L: Ledger>(
     neighbours: Neighbours,
     bitmap: &mut Bitmap<A>,

@@ -1,4 +1,4 @@
-//! Rows of a template with adaptive pixels, which are read one by one.
+//! Decodes rows of a template with adaptive pixels, which are read one by one.
 ghost use Rattle.std.specs.Prelude.{◌≡◌, ℕ, ◌+◌, ◌-◌, ◌*◌, ◌/◌, ◌%◌, ◌^◌, ◌<◌, ◌≤◌, false, length};
 ghost use Rattle.jbig2_base.specs.Counts.{KeepsLanes};
 ghost use Rattle.jbig2_region.specs.Generic.{context_at};
@@ -13,8 +13,8 @@ use jbig2_coder::arithmetic_decoder::{ArithmeticDecoder, ArithmeticDecoderContex
 use std::alloc::Allocator;
 use std::sync::ledger::Ledger;
 
-/// The number of the context at column `x + offset` of row `y`, where the windows lie about column
-/// `x` and `left` are the pixels at the left, the nearest in bit 0.
+/// The number of the context at column `x + offset` of row `y`. The windows lie around column `x`.
+/// `left` has the pixels on the left, the nearest in bit 0.
 #[inline(always)]
 fn mixed_context<A: Allocator, L: Ledger>(
     neighbours: Neighbours,
@@ -51,8 +51,8 @@ fn mixed_context<A: Allocator, L: Ledger>(
     joined(left % (1 << neighbours.left), after_left, neighbours.left)
 }
 
-/// The `count` pixels from column `x` of row `y` on, at most 32. Returns the four pixels left of the
-/// next column.
+/// Decodes `count` pixels, at most 32, from column `x` of row `y` on. Returns the four pixels left
+/// of the next column.
 #[inline(always)]
 fn decode_pixels<A: Allocator, L: Ledger>(
     neighbours: Neighbours,
@@ -103,7 +103,7 @@ fn decode_pixels<A: Allocator, L: Ledger>(
     left
 }
 
-/// Row `y`, whose rows above are decoded.
+/// Decodes row `y`, whose rows above are decoded.
 pub fn decode_row_by_pixels<A: Allocator, L: Ledger>(
     neighbours: Neighbours,
     adaptive: &Adaptives<'_>,

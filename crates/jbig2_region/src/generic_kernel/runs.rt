@@ -1,4 +1,4 @@
-//! Runs of likely symbols in rows of a template without adaptive pixels.
+//! Finds runs of likely symbols in rows of a template without adaptive pixels.
 ghost use Rattle.std.specs.Prelude.{◌≡◌, ◌==◌, ℕ, ◌+◌, ◌-◌, ◌*◌, ◌/◌, ◌%◌, ◌^◌, ◌<◌, ◌≤◌, false, true, max, min, nat_lt, length, slice_index_or, if◌then◌else◌};
 ghost use Rattle.jbig2_base.specs.Grid.{Grid, same_colour};
 ghost use Rattle.jbig2_coder.specs.Coder.{fresh};
@@ -15,7 +15,7 @@ use jbig2_base::bitmap::steps::Steps;
 use jbig2_coder::arithmetic_decoder::{ArithmeticDecoder, ArithmeticDecoderContext};
 use std::sync::ledger::Ledger;
 
-/// A word all of whose bits are of one colour.
+/// A word whose bits all have one colour.
 #[inline(always)]
 fn all_bits(black: bool) -> u64
     ensures { result ≡ (if black then 2 ^ 64 - 1 else 0) }
@@ -26,9 +26,10 @@ fn all_bits(black: bool) -> u64
     0
 }
 
-/// Which pixels of a stretch are unlike a colour, the first of those that only the next columns see
-/// in bit 55, and those right of it below: no bit stands at `56 - m` or higher exactly where the
-/// stretch is all of the colour, seen from the window's column and each of the next `m`.
+/// The pixels of a stretch that do not have a colour. Bit 55 is the first of those that only the
+/// next columns see, and pixels right of it are in lower bits. The result is below 2^(56 - m)
+/// exactly if the stretch has only this colour, seen from the window's column and each of the next
+/// `m` columns.
 #[inline(always)]
 fn unlike_stretch(stretch: Stretch, black: bool, window: u64) -> u64
     requires reach { stretch.reach ≤ 3 }
@@ -43,7 +44,7 @@ fn unlike_stretch(stretch: Stretch, black: bool, window: u64) -> u64
     (unlike << (9 + stretch.reach - stretch.count)) >> (8 - stretch.count)
 }
 
-/// Which pixels of both stretches are unlike a colour, each in its stretch's place.
+/// The pixels of both stretches that do not have a colour, each in its stretch's place.
 #[inline(always)]
 fn unlike_stretches(neighbours: Neighbours, black: bool, windows: Windows) -> u64
     requires near { IsNear neighbours }
@@ -55,7 +56,7 @@ fn unlike_stretches(neighbours: Neighbours, black: bool, windows: Windows) -> u6
     above | top
 }
 
-/// Which pixels of a stretch that the next byte sees are unlike a colour, the rightmost in bit 0.
+/// The pixels of a stretch that the next byte sees and that lack a colour, the rightmost in bit 0.
 #[inline(always)]
 fn unlike_near(stretch: Stretch, black: bool, window: u64) -> u32
     requires reach { stretch.reach ≤ 3 }
@@ -71,7 +72,7 @@ fn unlike_near(stretch: Stretch, black: bool, window: u64) -> u32
     seen ^ all
 }
 
-/// Which pixels at the left are unlike a colour.
+/// The pixels on the left that do not have a colour.
 #[inline(always)]
 fn unlike_left(count: u32, black: bool, left: u32) -> u32
     requires { count ≤ 4 }
@@ -81,7 +82,7 @@ fn unlike_left(count: u32, black: bool, left: u32) -> u32
     (left % (1 << count)) ^ all
 }
 
-/// How many of the next bytes stay in one context: one, or all of eight where this many are asked for.
+/// How many of the next bytes stay in one context: none, one, or all eight if `most` is eight.
 #[inline(always)]
 fn staying_bytes(
     neighbours: Neighbours,
@@ -103,7 +104,7 @@ fn staying_bytes(
     let above = unlike_near(neighbours.above, black, windows.first.above);
     let top = unlike_near(neighbours.top, black, windows.first.top);
     let beside = unlike_left(neighbours.left, black, left);
-    // One test of all parts of the context: a jump between two of them would be hard to foretell.
+    // One test of all parts of the context: a jump between two of them would be hard to predict.
     if above | top | beside != 0 {
         return 0;
     }
@@ -117,7 +118,7 @@ fn staying_bytes(
     1
 }
 
-/// The number of the context whose pixels are all of one colour, out of `count`.
+/// The number of the context whose pixels all have one colour, of `count` contexts.
 #[inline(always)]
 fn uniform_context(black: bool, count: usize) -> usize
     requires { 1 ≤ count }
@@ -140,8 +141,8 @@ fn same_colour(black: bool, other: bool) -> bool
     !other
 }
 
-/// Takes of the next `most` bytes as many as are one run of `black` from the first on, or this many of
-/// these as are tested at once: none only if the first is no such run.
+/// Takes bytes of the next `most`, from the first on, that are one run of `black`, but no more than
+/// are tested at once. It takes none only if the first is no such run.
 #[inline(always)]
 pub fn take_runs<L: Ledger>(
     neighbours: Neighbours,

@@ -1,4 +1,4 @@
-//! Windows on the rows above: 64 pixels of each, of which one load serves many contexts.
+//! Windows on the rows above. Each shows 64 pixels, so one load serves many contexts.
 ghost use Rattle.std.specs.Prelude.{◌≡◌, ℕ, ◌+◌, ◌-◌, ◌*◌, ◌/◌, ◌%◌, ◌^◌, ◌<◌, ◌≤◌, bit_or, pos, ◌-ℤ◌};
 ghost use Rattle.jbig2_region.specs.inner.Neighbours.{IsNear, IsWindow, Shows, ShowsBefore, ShowsGroup, StandAtByte, cut_of, neighbour_count, register_of, stretch_bits};
 ghost use Rattle.jbig2_base.specs.Grid.{Grid, pixel};
@@ -10,22 +10,22 @@ use jbig2_base::bitmap::steps::Steps;
 use std::alloc::Allocator;
 use std::sync::ledger::Ledger;
 
-/// The pixels about one column in the row above and in the row above that. Bit 55 is the pixel at
-/// the column, and those to the right of it stand lower.
+/// The pixels around one column, in the row above and in the row above that. Bit 55 is the pixel at
+/// the column, and pixels to the right of it are in lower bits.
 #[derive(Clone, Copy)]
 pub struct Windows {
     pub above: u64,
     pub top: u64,
 }
 
-/// Windows about a column, and about the column 32 to the right of it.
+/// Windows around a column, and around the column 32 to the right of it.
 #[derive(Clone, Copy)]
 pub struct WideWindows {
     pub first: Windows,
     pub second: Windows,
 }
 
-/// `count` pixels from column `x` on in the row that stands `back` rows above row `y`; 0 above row 0.
+/// `count` pixels from column `x` on in the row `back` rows above row `y`; 0 above row 0.
 #[inline(always)]
 pub fn pixels_above<A: Allocator, L: Ledger>(
     bitmap: &Bitmap<A>,
@@ -49,7 +49,7 @@ pub fn pixels_above<A: Allocator, L: Ledger>(
     bitmap.load_pixels(x, y - back, count, steps)
 }
 
-/// The window about column `x` in the row that stands `back` rows above row `y`.
+/// The window around column `x` in the row `back` rows above row `y`.
 #[inline(always)]
 fn window<A: Allocator, L: Ledger>(
     bitmap: &Bitmap<A>,
@@ -68,7 +68,7 @@ fn window<A: Allocator, L: Ledger>(
     pixels_above(bitmap, x - 8, y, back, 64, steps)
 }
 
-/// The windows about column `x` on the two rows above row `y`.
+/// The windows around column `x` on the two rows above row `y`.
 #[inline(always)]
 pub fn windows_at<A: Allocator, L: Ledger>(
     bitmap: &Bitmap<A>,
@@ -85,8 +85,8 @@ pub fn windows_at<A: Allocator, L: Ledger>(
     Windows { above, top }
 }
 
-/// The words from column `x` on of the two rows above row `y`: windows about the column eight further
-/// on.
+/// The words from column `x` on of the two rows above row `y`. They are windows around the column
+/// eight further to the right.
 #[inline(always)]
 pub fn words_at<A: Allocator, L: Ledger>(
     bitmap: &Bitmap<A>,
@@ -102,7 +102,7 @@ pub fn words_at<A: Allocator, L: Ledger>(
     Windows { above, top }
 }
 
-/// The words after those from column `x` on: white where the rows end before.
+/// The words after those from column `x` on; white if the rows end before.
 #[inline(always)]
 pub fn words_after<A: Allocator, L: Ledger>(
     bitmap: &Bitmap<A>,
@@ -122,8 +122,8 @@ pub fn words_after<A: Allocator, L: Ledger>(
     words_at(bitmap, x + 64, y, steps)
 }
 
-/// The windows about a column, and about the column 32 further on, out of the words before, at and
-/// after the first of them.
+/// The windows around a column, and around the column 32 further to the right, from the words
+/// before, at and after the first of these columns.
 #[inline(always)]
 pub fn windows_between(before: Windows, here: Windows, after: Windows) -> WideWindows
     ensures { (g : Grid) (x y bytes : ℕ) → ShowsBefore g x y before → Shows g (x + 8) y 64 here →
@@ -140,7 +140,7 @@ pub fn windows_between(before: Windows, here: Windows, after: Windows) -> WideWi
     WideWindows { first, second }
 }
 
-/// The 64 bits from bit `pixels` on, counted from the highest, of two words side by side.
+/// 64 bits of two words side by side, from bit `pixels` on, counted from the highest.
 #[inline(always)]
 fn cut(word: u64, next: u64, pixels: u32) -> u64
     requires few { pixels ≤ 56 }
@@ -149,8 +149,8 @@ fn cut(word: u64, next: u64, pixels: u32) -> u64
     (word << pixels) | ((next >> 8) >> (56 - pixels))
 }
 
-/// The windows about the column of a row's last byte, out of the words at the byte before it and
-/// after these; of a row of one byte, out of white words and the first.
+/// The windows around the column of a row's last byte, from the words at the byte before it and the
+/// words after these. In a row of one byte they come from white words and the first words.
 #[inline(always)]
 pub fn last_windows(words: Windows, after: Windows, whole: u32) -> Windows
     requires fits { whole + 7 < 2 ^ 32 }
@@ -179,7 +179,7 @@ pub fn stretch_bits(stretch: Stretch, window: u64, offset: u32) -> u32
 }
 
 impl Windows {
-    /// The windows about the column this many pixels to the right, which show as many columns less.
+    /// The windows around the column this many pixels to the right. They show as many columns less.
     #[inline(always)]
     pub fn moved(self, pixels: u32) -> Windows
         requires few { pixels ≤ 32 }
@@ -194,7 +194,7 @@ impl Windows {
 }
 
 impl WideWindows {
-    /// The windows at byte `done` of those that they serve.
+    /// The windows at byte `done` of the bytes that these windows serve.
     #[inline(always)]
     fn at_byte(self, done: u32) -> WideWindows
         requires few { done < 8 }
@@ -206,7 +206,7 @@ impl WideWindows {
         WideWindows { first, second }
     }
 
-    /// The windows at byte `done` of those that a group's windows serve, from those at the byte before.
+    /// The windows at byte `done` that a group's windows serve, from those at the byte before.
     #[inline(always)]
     fn next_byte(self, group: WideWindows, done: u32) -> WideWindows
         ensures { (bytes before : ℕ) → bytes ≤ 8 → done < bytes → before + 1 ≡ done →
@@ -219,7 +219,7 @@ impl WideWindows {
     }
 
     /// The windows at byte `done` of a group of `bytes`, from those at the first of the `taken` bytes
-    /// before it: only after several bytes they are cut out of the group's windows anew.
+    /// before it. Only after several bytes they are cut out of the group's windows again.
     #[inline(always)]
     pub fn moved_on(self, group: WideWindows, taken: u32, done: u32, bytes: u32) -> WideWindows
         requires few { bytes ≤ 8 }
@@ -237,8 +237,8 @@ impl WideWindows {
 }
 
 impl Neighbours {
-    /// What the windows show of the two stretches, in one number. It moves on by doubling: after so
-    /// many pixels, up to seven, `context` finds the next one's context in it.
+    /// The pixels of the two stretches in the windows, in one number. It moves on by doubling:
+    /// after up to seven pixels, `context` finds the next pixel's context in it.
     #[inline(always)]
     pub fn register(self, windows: Windows) -> u64
         requires near { IsNear self }
@@ -250,9 +250,9 @@ impl Neighbours {
         above * 65536 + top * 1099511627776
     }
 
-    /// The number of the context of which a register holds the two stretches, and the lowest bits of
-    /// `beside` the pixels at the left. One product brings the stretches side by side, from bit 48 on.
-    /// The pixels at the left are added after it, so that it waits for none of their decisions.
+    /// The number of the context. `register` has the two stretches, and the lowest bits of `beside`
+    /// are the pixels on the left. One product brings the stretches side by side, from bit 48 on. The
+    /// pixels on the left are added after it, so that the product waits for none of their decisions.
     #[inline(always)]
     pub fn context(self, register: u64, beside: u32) -> u32
         requires near { IsNear self }

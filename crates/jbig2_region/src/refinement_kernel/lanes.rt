@@ -1,4 +1,4 @@
-//! The windows of a refinement side by side in one number, out of which one product makes a context.
+//! The windows of a refinement side by side in one number, from which one product makes a context.
 ghost use Rattle.std.specs.Prelude.{◌≡◌, ℕ, ◌+◌, ◌*◌, ◌/◌, ◌%◌, ◌^◌, ◌<◌, ◌≤◌};
 ghost use Rattle.jbig2_region.specs.RefinementTemplates.{refinement_bits};
 ghost use Rattle.jbig2_region.specs.inner.RefinementLanes.{Lanes, nine_in, region_in};
@@ -7,9 +7,9 @@ ghost use Rattle.jbig2_region.specs.inner.RefinementWindows.{context_of};
 use crate::refinement_kernel::windows::RefinementWindows;
 use crate::template::RefinementTemplate;
 
-/// Fifteen pixels of each window, from the one `offset` right of its first on: those of the row below
-/// lowest, those of the region highest. Lanes move on by doubling: after this many pixels, up to twelve,
-/// `lanes_context` finds the next one's context in them.
+/// Fifteen pixels of each window, from the one `offset` right of its first on. The row below is in the
+/// lowest bits, and the region in the highest. Lanes move on by doubling: after up to twelve pixels,
+/// `lanes_context` finds the next pixel's context in them.
 #[inline(always)]
 pub fn lanes_at(windows: RefinementWindows, offset: u32) -> u64
     requires offset { offset ≤ 32 }
@@ -22,8 +22,8 @@ pub fn lanes_at(windows: RefinementWindows, offset: u32) -> u64
     below + here * 32768 + above * 1073741824 + region * 35184372088832
 }
 
-/// The context at template 0 of four times three pixels: the product brings them side by side, from
-/// bit 51 on.
+/// The context at template 0 from four times three pixels. The product brings them side by side,
+/// from bit 51 on.
 #[inline(always)]
 fn gathered_0(below: u64, here: u64, above: u64, region: u64) -> u32
     requires below { below < 8 }
@@ -37,7 +37,7 @@ fn gathered_0(below: u64, here: u64, above: u64, region: u64) -> u32
     (fields.wrapping_mul(549890064400) >> 51) as u32
 }
 
-/// The same at template 1, which takes some of them.
+/// The same at template 1, which uses only some of the pixels.
 #[inline(always)]
 fn gathered_1(below: u64, here: u64, above: u64, region: u64) -> u32
     requires below { below < 8 }
@@ -51,7 +51,7 @@ fn gathered_1(below: u64, here: u64, above: u64, region: u64) -> u32
     (fields.wrapping_mul(549822930946) >> 51) as u32
 }
 
-/// The number of the context that lanes make with `left`, the pixel at the left.
+/// The number of the context that lanes make with `left`, the pixel on the left.
 #[inline(always)]
 pub fn lanes_context(template: RefinementTemplate, lanes: u64, left: u32) -> u32
     requires left { left < 2 }

@@ -1,4 +1,4 @@
-//! Windows on the rows that a refinement's pixels are taken from: 64 pixels of each, of which one load
+//! Windows on the rows from which a refinement takes its pixels. Each shows 64 pixels, so one load
 //! serves 32 columns.
 ghost use Rattle.std.specs.Prelude.{◌≡◌, ℕ, ◌+◌, ◌-◌, ◌*◌, ◌/◌, ◌%◌, ◌^◌, ◌<◌, ◌≤◌, pos, negsuc, ◌+ℤ◌, ◌-ℤ◌, ◌<ℤ◌, true, false};
 ghost use Rattle.jbig2_base.specs.Grid.{Grid, pixel_at};
@@ -12,18 +12,18 @@ use jbig2_base::bitmap::steps::Steps;
 use std::alloc::Allocator;
 use std::sync::ledger::Ledger;
 
-/// 64 pixels of each row, from the column left of some column on, the first in bit 63.
+/// 64 pixels of each row, from one column left of some column on, the first in bit 63.
 #[derive(Clone, Copy)]
 pub struct RefinementWindows {
-    /// In the region, the row above the one that is decoded.
+    /// In the region: the row above the one that is decoded.
     pub region: u64,
-    /// In the reference, the row above it, its own and the one below.
+    /// In the reference: the row above it, its own row and the row below.
     pub above: u64,
     pub here: u64,
     pub below: u64,
 }
 
-/// The window on a row from a column on, each of which may lie outside, also far away.
+/// The window on a row from a column on. Both may lie outside, also far away.
 #[inline(always)]
 fn window<A: Allocator, L: Ledger>(
     bitmap: &Bitmap<A>,
@@ -46,7 +46,7 @@ fn window<A: Allocator, L: Ledger>(
     bitmap.load_pixels(column as u32, row as u32, 64, steps)
 }
 
-/// The windows about row `y` that serve column `x` of the region and the 31 columns after it.
+/// The windows around row `y` that serve column `x` of the region and the 31 columns after it.
 #[inline(always)]
 pub fn windows_at<A: Allocator, B: Allocator, L: Ledger>(
     bitmap: &Bitmap<A>,
@@ -70,7 +70,7 @@ pub fn windows_at<A: Allocator, B: Allocator, L: Ledger>(
     }
 }
 
-/// The last of them alone.
+/// Only the last of these windows.
 #[inline(always)]
 fn window_below<B: Allocator, L: Ledger>(
     reference: &ReferenceBitmap<'_, B>,
@@ -89,7 +89,7 @@ fn window_below<B: Allocator, L: Ledger>(
     window(reference.bitmap, column, row + 1, steps)
 }
 
-/// The window from the column left of a row on, whose pixels are the lowest `width` bits of `pixels`.
+/// The window from one column left of a row on. Its pixels are the lowest `width` bits of `pixels`.
 #[inline(always)]
 fn row_window(pixels: u64, width: u32) -> u64
     requires some { 1 ≤ width }
@@ -102,8 +102,8 @@ fn row_window(pixels: u64, width: u32) -> u64
 }
 
 impl RefinementWindows {
-    /// The windows that serve column 0 of row `y`, out of those of the row above, whose pixels are the
-    /// lowest `width` bits of `pixels`.
+    /// The windows that serve column 0 of row `y`, from those of the row above. The pixels of that row
+    /// are the lowest `width` bits of `pixels`.
     #[inline(always)]
     pub fn lowered<B: Allocator, L: Ledger>(
         self,
@@ -130,7 +130,7 @@ impl RefinementWindows {
         }
     }
 
-    /// All of `count` columns if the pixels that they are seen with are white, else none.
+    /// All of `count` columns if all pixels that their contexts see are white, else none.
     #[inline(always)]
     pub fn white_columns(self, count: u32) -> u32
         ensures most { result ≤ count }
@@ -144,8 +144,8 @@ impl RefinementWindows {
         0
     }
 
-    /// The columns whose colour is known, that of the windows in bit 62: in a predicted row those about
-    /// which the reference's nine pixels are alike.
+    /// The columns whose colour is known; bit 62 is the windows' column. In a predicted row they are
+    /// those around which the reference's nine pixels all have one colour.
     #[inline(always)]
     pub fn known_columns(self, predicted: bool) -> u64
         ensures { (k : ℕ) → k < 32
@@ -161,8 +161,8 @@ impl RefinementWindows {
         black | !mixed
     }
 
-    /// `pixels`, followed by the reference's of `count` columns from the one `offset` right of the
-    /// windows' column on.
+    /// `pixels`, and then the reference's pixels of `count` columns, from the one `offset` right of
+    /// the windows' column on.
     #[inline(always)]
     pub fn copied_pixels(self, offset: u32, count: u32, pixels: u64) -> u64
         requires within { offset + count ≤ 32 }
@@ -174,7 +174,7 @@ impl RefinementWindows {
     }
 }
 
-/// Of the highest `most` bits those before the first that isn't set.
+/// How many of the highest `most` bits come before the first that isn't set.
 #[inline(always)]
 pub fn leading_ones(word: u64, most: u32) -> u32
     requires { most < 64 }
@@ -185,7 +185,7 @@ pub fn leading_ones(word: u64, most: u32) -> u32
     word.leading_ones().min(most)
 }
 
-/// Of the highest `most` bits those before the first that is set.
+/// How many of the highest `most` bits come before the first that is set.
 #[inline(always)]
 pub fn leading_zeros(word: u64, most: u32) -> u32
     requires { most < 64 }

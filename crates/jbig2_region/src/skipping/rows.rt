@@ -1,4 +1,4 @@
-//! Rows of which pixels are skipped, in a template without adaptive pixels: contexts come out of
+//! Decodes rows with skipped pixels, in a template without adaptive pixels. Contexts come from
 //! windows on the rows above, and a window on the mask says which of 32 pixels are skipped.
 ghost use Rattle.std.specs.Prelude.{◌≡◌, ℕ, ◌+◌, ◌-◌, ◌*◌, ◌/◌, ◌%◌, ◌^◌, ◌<◌, ◌≤◌, false, length, Some, None, if◌then◌else◌};
 ghost use Rattle.jbig2_base.specs.Counts.{KeepsLanes};
@@ -17,7 +17,7 @@ use jbig2_coder::arithmetic_decoder::{ArithmeticDecoder, ArithmeticDecoderContex
 use std::alloc::Allocator;
 use std::sync::ledger::Ledger;
 
-/// Which of the 32 pixels from column `x` of row `y` on are skipped: bit 31 is the first.
+/// Which of the 32 pixels from column `x` of row `y` on are skipped; bit 31 is the first.
 #[inline(always)]
 fn mask_at<M: Allocator, L: Ledger>(
     skip: Option<&Bitmap<M>>,
@@ -35,8 +35,8 @@ fn mask_at<M: Allocator, L: Ledger>(
     mask.load_pixels(x, y, 32, steps)
 }
 
-/// The number of the context at the column `offset` columns right of the windows' column, where
-/// `left` are the pixels at the left, the nearest in bit 0.
+/// The number of the context at the column `offset` columns right of the windows' column. `left`
+/// has the pixels on the left, the nearest in bit 0.
 #[inline(always)]
 fn plain_context(neighbours: Neighbours, windows: Windows, left: u32, offset: u32) -> u32
     requires near { IsNear neighbours }
@@ -50,7 +50,7 @@ fn plain_context(neighbours: Neighbours, windows: Windows, left: u32, offset: u3
     joined(left % (1 << neighbours.left), higher, neighbours.left)
 }
 
-/// The next pixel, 1 for black: white where it is skipped.
+/// Decodes the next pixel, 1 for black. A skipped pixel is white.
 #[inline(always)]
 fn decode_pixel<L: Ledger>(
     skipped: bool,
@@ -71,8 +71,8 @@ fn decode_pixel<L: Ledger>(
     decoder.decode(&mut contexts[context as usize], steps)
 }
 
-/// The `count` pixels from column `x` of row `y` on, at most 32. Returns the four pixels left of the
-/// next column.
+/// Decodes `count` pixels, at most 32, from column `x` of row `y` on. Returns the four pixels left
+/// of the next column.
 #[inline(always)]
 fn decode_block<M: Allocator, A: Allocator, L: Ledger>(
     neighbours: Neighbours,
@@ -120,7 +120,7 @@ fn decode_block<M: Allocator, A: Allocator, L: Ledger>(
     (pixels % 16) as u32
 }
 
-/// Row `y`, whose rows above are decoded.
+/// Decodes row `y`, whose rows above are decoded.
 #[inline(always)]
 fn decode_row<M: Allocator, A: Allocator, L: Ledger>(
     neighbours: Neighbours,
@@ -155,7 +155,7 @@ fn decode_row<M: Allocator, A: Allocator, L: Ledger>(
     }
 }
 
-/// A whole region, into a white bitmap of its size.
+/// Decodes a whole region into a white bitmap of its size.
 pub fn decode_rows<M: Allocator, A: Allocator, L: Ledger>(
     neighbours: Neighbours,
     skip: Option<&Bitmap<M>>,

@@ -1,4 +1,4 @@
-//! The adaptive pixels of templates, as segments hold them (T.88, 7.4.6.3 and 7.4.7.3).
+//! Reads the adaptive pixels of templates from segments (T.88, 7.4.6.3 and 7.4.7.3).
 ghost use Rattle.std.specs.Prelude.{◌≡◌, ◌≤◌, false, [], ◌∷◌, length, IfOk, OnOk, ℕ};
 ghost use Rattle.jbig2_base.specs.Answer.{Answers};
 ghost use Rattle.jbig2_base.specs.Bits.{IsAligned};
@@ -15,7 +15,7 @@ use jbig2_base::error::{DecodeError, Result, TemplateError};
 use jbig2_base::field::i8_field;
 use jbig2_base::reader::Reader;
 
-/// A pixel that may lie anywhere.
+/// Reads a pixel that may lie anywhere.
 #[tactic(auto, unfolding(crate::specs::Templates::free_pixel_at))]
 fn parse_free_pixel(reader: &mut Reader<'_>) -> Result<AdaptiveTemplatePixel>
     requires { IsAligned reader.old }
@@ -29,14 +29,14 @@ fn parse_free_pixel(reader: &mut Reader<'_>) -> Result<AdaptiveTemplatePixel>
     Ok(AdaptiveTemplatePixel { x, y })
 }
 
-/// Whether a pixel is decoded before the one from which it lies so far away.
+/// Whether a pixel at this place, relative to the pixel that is decoded, is decoded before it.
 fn is_earlier(pixel: AdaptiveTemplatePixel) -> bool
     ensures { result ≡ is_earlier pixel }
 {
     pixel.y < 0 || (pixel.y <= 0 && pixel.x < 0)
 }
 
-/// A pixel that comes before the one that is decoded.
+/// Reads a pixel, which must come before the one that is decoded.
 #[tactic(auto, unfolding(crate::specs::Templates::adaptive_pixel_at))]
 fn parse_adaptive_template_pixel(reader: &mut Reader<'_>) -> Result<AdaptiveTemplatePixel>
     requires { IsAligned reader.old }
@@ -79,7 +79,7 @@ fn parse_twelve(reader: &mut Reader<'_>) -> Result<[AdaptiveTemplatePixel; 12]>
     Ok([a1, a2, a3, a4, a5, a6, a7, a8, a9, a10, a11, a12])
 }
 
-/// With a first pixel alone, the other three are without meaning.
+/// Four pixels, of which only the first is used.
 fn first_alone(first: AdaptiveTemplatePixel) -> [AdaptiveTemplatePixel; 4]
     ensures { result ≡ filled 4 (first ∷ []) }
 {
@@ -87,12 +87,12 @@ fn first_alone(first: AdaptiveTemplatePixel) -> [AdaptiveTemplatePixel; 4]
     [first, unused, unused, unused]
 }
 
-/// The adaptive pixels of a template that is not extended, at the reader's place (T.88, 7.4.6.3).
-/// Templates 1 to 3 have the first alone; the other three are then at (0, 0), without meaning.
+/// Reads the adaptive pixels of a template that is not extended, at the reader's place (T.88,
+/// 7.4.6.3). Templates 1 to 3 have only the first; the other three are then at (0, 0) and not used.
 ///
-/// `ParseError::UnexpectedEof` where the bytes do not hold them; `TemplateError::InvalidAtPixel` where
-/// one does not come before the pixel that is decoded. An error leaves the reader where it was. Takes
-/// no memory.
+/// Returns `ParseError::UnexpectedEof` if there are too few bytes, or `TemplateError::InvalidAtPixel`
+/// if a pixel does not come before the one that is decoded. An error leaves the reader where it was.
+/// Takes no memory.
 pub fn parse_adaptive_template_pixels(
     reader: &mut Reader<'_>,
     template: Template,
@@ -111,7 +111,7 @@ pub fn parse_adaptive_template_pixels(
     Ok(pixels)
 }
 
-/// All adaptive pixels of a generic region: none with MMR, twelve with the extended template 0.
+/// Reads all adaptive pixels of a generic region: none with MMR, twelve with extended template 0.
 #[tactic(auto, using(crate::proofs::PixelCauses::template_pixels_cause))]
 pub fn parse_generic_template_pixels(
     reader: &mut Reader<'_>,
@@ -142,11 +142,11 @@ pub fn parse_generic_template_pixels(
     Ok(GenericTemplatePixels::Regular(parse_adaptive_template_pixels(reader, template)?))
 }
 
-/// The two adaptive pixels at the reader's place (T.88, 7.4.7.3), which may lie anywhere; at template 1
-/// nothing is read, and they are at (0, 0), without meaning.
+/// Reads the two adaptive pixels at the reader's place (T.88, 7.4.7.3). They may lie anywhere. At
+/// template 1 nothing is read, and they are at (0, 0) and not used.
 ///
-/// `ParseError::UnexpectedEof` where the bytes do not hold them. An error leaves the reader where it was.
-/// Takes no memory.
+/// Returns `ParseError::UnexpectedEof` if there are too few bytes. An error leaves the reader where it
+/// was. Takes no memory.
 #[tactic(auto, using(crate::proofs::PixelCauses::refinement_pixels_cause), unfolding(crate::specs::RefinementTemplates::refinement_pixels_at))]
 pub fn parse_template_pixels(
     reader: &mut Reader<'_>,

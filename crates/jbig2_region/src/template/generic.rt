@@ -1,5 +1,5 @@
-//! What the templates of generic regions have besides pixels side by side (T.88, 6.2.5.3): the
-//! extended one's pixels, and the contexts of the decisions that begin rows (6.2.5.7).
+//! Parts of the templates of generic regions (T.88, 6.2.5.3): the pixels of the extended one, and
+//! the contexts of the decisions that begin rows (6.2.5.7).
 ghost use Rattle.std.specs.Prelude.{◌≡◌, ◌^◌, ◌<◌, if◌then◌else◌, take, true, Some, None, IfSome};
 ghost use Rattle.jbig2_region.specs.Templates.{context_bits, row_context, template_pixels};
 ghost use Rattle.jbig2_region.specs.declared.template.Template.TheVariants.{Template0};
@@ -44,7 +44,7 @@ fn row_context(template: Template) -> u32
     }
 }
 
-/// That context, with typical prediction.
+/// That context with typical prediction, else None.
 pub fn typical_context(template: Template, typical: bool) -> Option<u32>
     ensures value { result ≡ (if typical then Some (row_context template) else None) }
     ensures small { IfSome result (λ k. k < 2 ^ context_bits template) }

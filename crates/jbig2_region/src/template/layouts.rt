@@ -1,4 +1,4 @@
-//! The templates of generic regions (T.88, 6.2.5.3) by their neighbours.
+//! The templates of generic regions (T.88, 6.2.5.3), by their neighbours.
 ghost use Rattle.std.specs.Prelude.{◌≡◌, [], ◌∷◌, false};
 ghost use Rattle.jbig2_region.specs.GenericSteps.{read_pixels};
 ghost use Rattle.jbig2_region.specs.inner.Layouts.{FitsAdaptives, fixed_neighbours, neighbours_of, nominal_neighbours};
@@ -32,7 +32,7 @@ fn neighbours_of(
     }
 }
 
-/// The pixels side by side of a template whose adaptive pixels are nominal.
+/// The pixels that lie side by side in a template whose adaptive pixels are nominal.
 #[inline(always)]
 pub fn nominal_neighbours(template: Template) -> Neighbours
     ensures { result ≡ nominal_neighbours template }
@@ -45,7 +45,7 @@ pub fn nominal_neighbours(template: Template) -> Neighbours
     }
 }
 
-/// The pixels side by side of a template, its adaptive pixels left out.
+/// The pixels that lie side by side in a template, without its adaptive pixels.
 pub fn fixed_neighbours(template: Template) -> Neighbours
     ensures { result ≡ fixed_neighbours template }
 {
@@ -78,7 +78,7 @@ fn is_nominal(template: Template, a: &[AdaptiveTemplatePixel; 4]) -> bool
     }
 }
 
-/// The adaptive pixels of template 0 by the neighbours between which they stand.
+/// The adaptive pixels of template 0, by the neighbours between which they come.
 fn four_adaptives(a: &[AdaptiveTemplatePixel; 4]) -> Adaptives<'_>
     ensures first { result.first.now ≡ adaptive a.now 0 ∷ [] }
     ensures middle { result.middle.now ≡ adaptive a.now 1 ∷ adaptive a.now 2 ∷ [] }

@@ -3,7 +3,7 @@ ghost use Rattle.std.specs.Prelude.{◌≡◌, ℕ, ◌+◌, ◌-◌, ◌*◌, �
 
 use crate::template::AdaptiveTemplatePixel;
 
-/// `count` pixels of a row above, the rightmost of them `reach` columns right of the pixel that is
+/// `count` pixels of a row above. The rightmost is `reach` columns right of the pixel that is
 /// decoded.
 #[derive(Clone, Copy, PartialEq, Eq)]
 pub struct Stretch {
@@ -11,7 +11,7 @@ pub struct Stretch {
     pub count: u32,
 }
 
-/// Pixels side by side: `left` of them left of the pixel that is decoded, and a stretch in each of
+/// Pixels side by side: `left` pixels left of the pixel that is decoded, and a stretch in each of
 /// the two rows above.
 #[derive(Clone, Copy, PartialEq, Eq)]
 pub struct Neighbours {
@@ -20,7 +20,7 @@ pub struct Neighbours {
     pub top: Stretch,
 }
 
-/// The adaptive pixels, by the neighbours between which their bits stand: after those at the left,
+/// The adaptive pixels, by the neighbours between which their bits come: after those on the left,
 /// after those above, and last.
 #[derive(Clone, Copy, Drop)]
 pub struct Adaptives<'a> {
@@ -29,7 +29,7 @@ pub struct Adaptives<'a> {
     pub last: &'a [AdaptiveTemplatePixel],
 }
 
-/// A template: neighbours, and adaptive pixels unless these are nominal, and so neighbours too.
+/// A template: neighbours, and adaptive pixels. If these are nominal, they are neighbours too.
 #[derive(Clone, Copy, Drop)]
 pub struct Layout<'a> {
     pub neighbours: Neighbours,

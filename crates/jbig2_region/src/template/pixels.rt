@@ -1,5 +1,5 @@
-//! All pixels of a template (T.88, 6.2.5.3), bit 0 of a context first, put together from those that
-//! lie side by side and the adaptive ones.
+//! Puts together all pixels of a template (T.88, 6.2.5.3), bit 0 of a context first, from the
+//! pixels that lie side by side and the adaptive ones.
 ghost use Rattle.std.specs.Prelude.{◌≡◌, ◌+◌, ◌≤◌, ◌<◌, ◌≤ℤ◌, ◌++◌, [], ◌∷◌, false, length, negsuc, pos};
 ghost use Rattle.jbig2_region.specs.Templates.{template_pixels};
 ghost use Rattle.jbig2_region.specs.inner.PixelArrays.{four_pixels};
@@ -32,7 +32,7 @@ impl Model for TemplatePixels {
 }
 
 impl TemplatePixels {
-    /// Those of a template with these adaptive pixels, which is not extended.
+    /// The pixels of a template that is not extended, with these adaptive pixels.
     #[tactic(auto, using(crate::proofs::UsedPixels::same_pixels))]
     pub fn regular(template: Template, a: &[AdaptiveTemplatePixel; 4]) -> TemplatePixels
         ensures { result ≡ template_pixels false template (four_pixels template a.now) }
@@ -71,7 +71,7 @@ impl TemplatePixels {
         self.count += 1;
     }
 
-    /// Pixels side by side, `rows` rows above, from this column to the left.
+    /// Adds `count` pixels side by side, `rows` rows up, from this column to the left.
     fn push_row(&mut self, column: i16, rows: u16, count: u32)
         requires left { negsuc 0 ≤ℤ column }
         requires right { column ≤ℤ pos 3 }

@@ -27,14 +27,14 @@ pub fn reference_0(a: &[AdaptiveTemplatePixel; 2]) -> [AdaptiveTemplatePixel; 9]
     ]
 }
 
-/// The region's pixels in template 0, whose bits follow.
+/// The region's pixels in template 0. Their bits follow.
 pub fn region_0(a: &[AdaptiveTemplatePixel; 2]) -> [AdaptiveTemplatePixel; 4]
     ensures { result ≡ region_pixels Template0 (two_pixels Template0 a.now) }
 {
     [pixel(-1, 0), pixel(1, -1), pixel(0, -1), a[0]]
 }
 
-/// Whether the adaptive pixels lie where the standard has them by default (Figure 12); template 1 has
+/// Whether the adaptive pixels lie where the standard has them by default (Figure 12). Template 1 has
 /// none.
 pub fn is_nominal(template: RefinementTemplate, a: &[AdaptiveTemplatePixel; 2]) -> bool
     ensures value { result ≡ is_nominal template (two_pixels template a.now) }

@@ -4,13 +4,13 @@ use crate::coder::CoderCase;
 use crate::errors::{INVALID_CODE, TOO_EARLY};
 use crate::table::{Source, TableCase};
 
-/// The decisions of T.88, H.2, eight to a byte.
+/// The decisions of T.88, H.2, eight for each byte.
 pub const DECISIONS: &[u8] = &[
     0x00, 0x02, 0x00, 0x51, 0x00, 0x00, 0x00, 0xC0, 0x03, 0x52, 0x87, 0x2A, 0xAA, 0xAA, 0xAA, 0xAA,
     0x82, 0xC0, 0x20, 0x00, 0xFC, 0xD7, 0x9E, 0xF6, 0xBF, 0x7F, 0xED, 0x90, 0x4F, 0x46, 0xA3, 0xBF,
 ];
 
-/// The bytes that they are coded as.
+/// The bytes that code these decisions.
 pub const CODED: &str = "84C73BFC E1A14304 02200000 410DBB86 F4317FFF 88FF3747 1ADB6ADF FFAC";
 
 /// The rows R5.

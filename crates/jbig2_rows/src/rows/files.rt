@@ -1,4 +1,4 @@
-//! The cases of the rows of files.
+//! The rows R9, and the cases of files in other rows.
 use crate::call::{DOT, WHITE};
 use crate::case::Answer::{Calls, Undrawn};
 use crate::case::Case::File;

@@ -7,7 +7,7 @@ use crate::case::Row;
 use crate::errors::INVALID_SIZE;
 use hayro_jbig2::{DecodeError, SegmentError};
 
-/// One row of two white pixels among black ones.
+/// One row of black pixels with two white ones among them.
 const FAR_PIXEL: &[Call] = &[INK, INK, INK, INK, INK, PAPER, INK, PAPER, LINE];
 
 const UNKNOWN_LENGTH: DecodeError = DecodeError::Segment(SegmentError::InvalidUnknownLength);

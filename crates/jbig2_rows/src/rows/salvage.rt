@@ -10,7 +10,7 @@ use crate::file_case::FilePage;
 use crate::salvage::{NOTHING, SalvageCase, Told};
 use hayro_jbig2::{DecodeError, FormatError, SegmentError};
 
-/// A row of eight white pixels, and one of a black pixel and seven white ones.
+/// A row of eight white pixels, and then one of a black pixel and seven white ones.
 const WHITE_DOT: &[Call] = &[
     Call::Chunk(false, 1),
     LINE,
@@ -25,7 +25,7 @@ const WHITE_DOT: &[Call] = &[
     LINE,
 ];
 
-/// The same rows, the other way round.
+/// The same rows in the other order.
 const DOT_WHITE: &[Call] = &[
     INK,
     PAPER,
@@ -46,28 +46,28 @@ const ONE_PAGE: &[FilePage] = &[FilePage {
     answer: Calls(WHITE),
 }];
 
-/// A list that ends before a header with this error.
+/// A list that this error of a header ended.
 const BAD_REFERENCE: Told = Told {
     passed_over: 0,
     first: None,
     fault: Some(INVALID_REFERENCE),
 };
 
-/// A list in random access that the bytes cut off.
+/// A list in random access whose bytes end too early.
 const CUT_OFF: Told = Told {
     passed_over: 0,
     first: None,
     fault: Some(TOO_EARLY),
 };
 
-/// The dictionary of number 1 was passed over, which asks for a table that isn't listed.
+/// The dictionary with number 1 was passed over. It asks for a table that it does not refer to.
 const ONE_PASSED: Told = Told {
     passed_over: 1,
     first: Some((1, INVALID_SELECTION)),
     fault: None,
 };
 
-/// And a region that needs it.
+/// A region that needs this dictionary was passed over too.
 const TWO_PASSED: Told = Told {
     passed_over: 2,
     first: Some((1, INVALID_SELECTION)),
@@ -261,7 +261,7 @@ const ROWS: &[Row] = &[
     Row {
         name: "R17.6",
         cases: &[
-            // The data of page 2 isn't all there.
+            // Some data of page 2 is missing.
             Case::Salvage(SalvageCase::File {
                 bytes: "H 00 00000002 00000000 30 00 01 00000013 00000001 30 00 02 00000013 \
                     00000002 33 00 00 00000000 00000008 00000001 00*11 00000008 00000001 00*10",
@@ -269,7 +269,7 @@ const ROWS: &[Row] = &[
                 left_out: &[],
                 told: CUT_OFF,
             }),
-            // The data begins where a header is refused.
+            // A header is refused, and the data begins there.
             Case::Salvage(SalvageCase::File {
                 bytes: "H 00 00000001 00000000 30 00 01 00000013 00000008 00A00001 00*11",
                 pages: &[],

@@ -21,8 +21,8 @@ pub const ROW_12: &[Case] = &[
 
 pub const ROW_17: &[Case] = &[Page(Both, "P S@7=000A000E@24=0000 00*655359", Undrawn(INVALID))];
 
-/// The decisions of a symbol dictionary of one black symbol of 1 by 1, with the contexts of heights, widths
-/// and runs from 1024, 1536 and 2048 on.
+/// The decisions of a symbol dictionary of one black symbol of 1 by 1. The contexts of heights, widths and runs begin
+/// at 1024, 1536 and 2048.
 const DICTIONARY: &[(u16, bool)] = &[
     // The height of the class.
     (1025, false),
@@ -41,7 +41,7 @@ const DICTIONARY: &[(u16, bool)] = &[
     (1539, false),
     (1542, false),
     (1548, false),
-    // No symbol that is not exported, and one that is.
+    // A run of 0 symbols that are not exported, and a run of 1 that is.
     (2049, false),
     (2050, false),
     (2052, false),
@@ -52,10 +52,9 @@ const DICTIONARY: &[(u16, bool)] = &[
     (2056, true),
 ];
 
-/// The decisions of a text region of one instance, with the contexts of first places from 512 and of
-/// distances from 1024 on.
+/// The decisions of a text region of one instance. The contexts of first places begin at 512, of distances at 1024.
 const TEXT: &[(u16, bool)] = &[
-    // Where the strips begin, and the first of them.
+    // The place where the strips begin, and the place of the first strip.
     (1, false),
     (2, false),
     (4, false),
@@ -174,7 +173,7 @@ const ROWS_8: &[Row] = &[
     },
 ];
 
-/// The rows R13 but for those of files.
+/// The rows R13, except those of files.
 const ROWS_13: &[Row] = &[
     Row {
         name: "R13.1",

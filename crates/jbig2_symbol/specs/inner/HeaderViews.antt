@@ -1,9 +1,14 @@
--- How a header of the code, and the contexts that a dictionary has kept, are seen by the definitions (our own rule).
+-- A header of the code, and the contexts that a dictionary kept, as the definitions see them (our own rule).
 use Rattle.std.specs.Prelude.{List, [], if◌then◌else◌}
-use Rattle.jbig2_region.specs.{inner.PixelArrays.{two_pixels, four_pixels}, declared.template.AdaptiveTemplatePixel.{AdaptiveTemplatePixel}}
-use Rattle.jbig2_symbol.specs.{SymbolHeader.{SymbolHeader}, SymbolReading.{BitmapContexts}, declared.symbol.{dictionary.RetainedContexts.{RetainedContexts}, header.{SymbolDictionaryFlags.{SymbolDictionaryFlags}, SymbolDictionaryHeader.{SymbolDictionaryHeader}}}}
+use Rattle.jbig2_region.specs.inner.PixelArrays.{two_pixels, four_pixels}
+use Rattle.jbig2_region.specs.declared.template.AdaptiveTemplatePixel.{AdaptiveTemplatePixel}
+use Rattle.jbig2_symbol.specs.SymbolHeader.{SymbolHeader}
+use Rattle.jbig2_symbol.specs.SymbolReading.{BitmapContexts}
+use Rattle.jbig2_symbol.specs.declared.symbol.dictionary.RetainedContexts.{RetainedContexts}
+use Rattle.jbig2_symbol.specs.declared.symbol.header.SymbolDictionaryFlags.{SymbolDictionaryFlags}
+use Rattle.jbig2_symbol.specs.declared.symbol.header.SymbolDictionaryHeader.{SymbolDictionaryHeader}
 
--- those of the code's arrays that these flags have
+-- as many pixels of the code's arrays as these flags say
 abbrev pub coded_pixels : SymbolDictionaryFlags → List AdaptiveTemplatePixel → List AdaptiveTemplatePixel
 coded_pixels flags a = if flags.use_huffman then [] else four_pixels flags.template a
 

@@ -1,6 +1,15 @@
--- How a dictionary's input, and what its reading has come to, are seen by the definitions (our own rule).
-use Rattle.std.specs.{Borrow.{Bor}, Prelude.{ℕ, ◌+◌, ◌-◌, ◌*◌, ◌==◌, ◌≡◌, ◌++◌, List, length, map, Option, Some, None, option_map, Result, Ok, Err}}
-use Rattle.jbig2_base.specs.{Answer.{◌>>=◌}, declared.error.{DecodeError.{DecodeError, TheVariants.{Huffman, Overflow}}, HuffmanError.TheVariants.{UnexpectedOob}, OverflowError.TheVariants.{BitmapDimension}}, Bits.{Place, aligned}, Fields.{bytes_at}, Grid.{Grid, bit_number, wide_or_overflow}}
+-- A dictionary's input, and the state of reading it, as the definitions see them (our own rule).
+use Rattle.std.specs.Borrow.{Bor}
+use Rattle.std.specs.Prelude.{ℕ, ◌+◌, ◌-◌, ◌*◌, ◌==◌, ◌≡◌, ◌++◌, List, length, map, Option, Some, None, option_map}
+use Rattle.std.specs.Prelude.{Result, Ok, Err}
+use Rattle.jbig2_base.specs.Answer.{◌>>=◌}
+use Rattle.jbig2_base.specs.declared.error.DecodeError.{DecodeError}
+use Rattle.jbig2_base.specs.declared.error.DecodeError.TheVariants.{Huffman, Overflow}
+use Rattle.jbig2_base.specs.declared.error.HuffmanError.TheVariants.{UnexpectedOob}
+use Rattle.jbig2_base.specs.declared.error.OverflowError.TheVariants.{BitmapDimension}
+use Rattle.jbig2_base.specs.Bits.{Place, aligned}
+use Rattle.jbig2_base.specs.Fields.{bytes_at}
+use Rattle.jbig2_base.specs.Grid.{Grid, bit_number, wide_or_overflow}
 use Rattle.jbig2_text.specs.TextCoding.{Coded, in_band}
 use Rattle.jbig2_symbol.specs.{SymbolBitmaps.{collective_bitmap, raw_stride}, SymbolReading.{BitmapContexts, SymbolInput, SymbolState, SymbolTables, by_table, not_negative}, Symbols.{Symbols}, inner.HeaderViews.{contexts_view, header_view}, declared.symbol.{coded.CodedSymbols.{CodedSymbols}, dictionary.{RetainedContexts.{RetainedContexts}, SymbolDictionary.{SymbolDictionary}}, input.{SymbolInput.{SymbolInput as Input}, SymbolTables.{SymbolTables as Tables}}, prefixed.PrefixedSymbols.{PrefixedSymbols}, widths.RunningWidths.{RunningWidths}}}
 use Rattle.jbig2_text.specs.inner.TextViews as texts
@@ -22,14 +31,14 @@ input_view d = record {
   ids = d.ids.now;
 }
 
--- a reading's state, by the arithmetic coder and by prefix codes
+-- a reading's state: that of the arithmetic coder, and that of prefix codes
 abbrev pub coded_view : {A : Type 0} → CodedSymbols A → SymbolState Coded
 coded_view r = record { coding = texts.coded_view r.coded; contexts = r.contexts }
 
 abbrev pub prefixed_view : {A : Type 0} → PrefixedSymbols A → SymbolState Place
 prefixed_view r = record { coding = r.reader; contexts = r.contexts }
 
--- an answer of which only the error matters
+-- a result of which only the error matters
 abbrev pub with_no_value : {X : Type 0} → Result X DecodeError → Result (Unit {0}) DecodeError
 with_no_value answer = answer >>= λ _. Ok tt
 
@@ -37,7 +46,7 @@ with_no_value answer = answer >>= λ _. Ok tt
 abbrev pub bytes_of_rows : ℕ → ℕ → List ℕ → Result (List ℕ × List ℕ) DecodeError
 bytes_of_rows width height bytes = wide_or_overflow width height >>= λ _. bytes_at (height * raw_stride width) bytes
 
--- how many bytes a collective bitmap has, and the state at the first of them
+-- the number of bytes of a collective bitmap, and the state at the first of them
 abbrev pub size_of_rows : SymbolInput → SymbolState Place → Result (ℕ × SymbolState Place) DecodeError
 size_of_rows d s = do
   value ← by_table d.tables.sizes s
@@ -45,15 +54,15 @@ size_of_rows d s = do
   size ← not_negative (Overflow BitmapDimension) number
   Ok (size, record value.1 { coding = aligned value.1.coding })
 
--- why a class is refused that is too high for its symbols: by its collective bitmap, or else by its first symbol
+-- the error of a class that is too high for its symbols: that of its collective bitmap, or else of its first symbol
 abbrev pub tall_class : SymbolInput → ℕ → ℕ → SymbolState Place → Result (Unit {0}) DecodeError
 tall_class d width height s = collective_bitmap d width height s >>= λ _. Err (Overflow BitmapDimension)
 
--- what is read, after others
+-- all that was read, where these came before
 abbrev pub behind : {X S : Type 0} → List X → Result (List X × S) DecodeError → Result (List X × S) DecodeError
 behind before answer = answer >>= λ more. Ok (before ++ more.0, more.1)
 
--- symbols after others
+-- all symbols, where these came before
 abbrev pub put_behind : List Grid → Result (List Grid) DecodeError → Result (List Grid) DecodeError
 put_behind before answer = answer >>= λ more. Ok (before ++ more)
 
@@ -61,19 +70,19 @@ put_behind before answer = answer >>= λ more. Ok (before ++ more)
 abbrev pub room_behind : SymbolInput → List Grid → ℕ
 room_behind d new = d.header.num_new_symbols - length new
 
--- one more class that had no symbol, if this one has none
+-- the number of empty classes, after a class with these symbols
 abbrev pub empty_with : List Grid → ℕ → ℕ
 empty_with symbols empty = empty + bit_number (length symbols == 0)
 
--- a class after others, by all symbols, its height, and how many classes had no symbol
+-- a class after others: all symbols so far, its height, and the number of empty classes
 abbrev pub class_behind : {S : Type 0} → List Grid → ℕ → Result (ℕ × List Grid × S) DecodeError → Result (List Grid × (ℕ × (ℕ × S))) DecodeError
 class_behind before empty answer = answer >>= λ class. Ok (before ++ class.1, (class.0, (empty_with class.1 empty, class.2)))
 
--- the symbols that are referred to, and the new ones after them
+-- the symbols that are referred to, and then the new ones
 abbrev pub all_symbols : List (Bor Grid) → List Grid → List Grid
 all_symbols symbols new = map (λ b. b.now) symbols ++ new
 
--- contexts that another dictionary has kept, if any
+-- the contexts that another dictionary kept, if it kept any
 abbrev pub kept_view : {A : Type 0} → Option (Bor (RetainedContexts A)) → Option BitmapContexts
 kept_view kept = option_map (λ contexts. contexts_view contexts.now) kept
 
@@ -85,7 +94,7 @@ dictionary_view d = record { exported = d.exported_symbols.items; kept = option_
 abbrev pub with_total : ℕ → Option ℕ → Option (ℕ × ℕ)
 with_total total next = option_map (λ width. (width, total)) next
 
--- widths gone on by what was read: by a width, which is the last then, or not at all
+-- The widths after one reading: they have moved to this width, or not at all.
 abbrev pub Moved : RunningWidths → Option ℕ → RunningWidths → Type 0
 Moved before None after = after ≡ before
 Moved before (Some width) after =

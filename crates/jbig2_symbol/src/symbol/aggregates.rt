@@ -1,4 +1,4 @@
-//! Symbols that are refined from another one or put together from several (T.88, 6.5.8.2).
+//! Symbols that are refined from another one or aggregated from several (T.88, 6.5.8.2).
 ghost use Rattle.std.specs.Prelude.{◌≡◌, ◌+◌, ◌*◌, ◌≤◌, length, max};
 ghost use Rattle.jbig2_base.specs.Answer.{Answers, Gives};
 ghost use Rattle.jbig2_steps.specs.Work.{Paid, PaidBut};
@@ -32,7 +32,7 @@ pub struct SymbolSize {
     pub height: u32,
 }
 
-/// The bits of the symbols' ids, which tell all symbols apart, the new ones too.
+/// The number of bits of a symbol's id. It is enough for all symbols, also the new ones.
 pub fn id_bits(header: &SymbolDictionaryHeader<'_>, symbols: usize) -> u32
     requires symbols { symbols ≤ 2097152 }
     requires fresh { header.now.num_new_symbols ≤ 1048576 }
@@ -42,7 +42,7 @@ pub fn id_bits(header: &SymbolDictionaryHeader<'_>, symbols: usize) -> u32
     code_length(symbols + header.num_new_symbols as usize)
 }
 
-/// The bits of the ids that a dictionary's coder reads.
+/// The number of bits of the ids that a dictionary's coder reads; 0 without SDREFAGG.
 pub fn state_bits(header: &SymbolDictionaryHeader<'_>, symbols: usize) -> u32
     requires symbols { symbols ≤ 2097152 }
     requires fresh { header.now.num_new_symbols ≤ 1048576 }
@@ -55,8 +55,8 @@ pub fn state_bits(header: &SymbolDictionaryHeader<'_>, symbols: usize) -> u32
     id_bits(header, symbols)
 }
 
-/// The codes of the symbols' ids, where symbols are put together by prefix codes. They are never
-/// crowded, so nothing but memory is refused.
+/// The codes of the symbols' ids, where symbols are aggregated by prefix codes. These codes are
+/// never crowded, so the only error is `OutOfMemory`.
 #[tactic(auto, using(crate::proofs::IdCodes::id_codes_cause))]
 pub fn id_codes<A: Allocator + Clone>(
     alloc: A,
@@ -76,8 +76,8 @@ pub fn id_codes<A: Allocator + Clone>(
     HuffmanTable::build_uniform(alloc, count, id_bits(header, symbols).max(1))
 }
 
-/// How the instances of a symbol are placed: as in a text region in strips of one row, from the top
-/// left (T.88, Table 17).
+/// How the instances of a symbol are placed: as in a text region in strips of one row, by their top
+/// left pixels (T.88, Table 17).
 fn aggregate_flags(flags: &SymbolDictionaryFlags) -> TextRegionFlags
     ensures { result ≡ aggregate_flags flags.now }
 {
@@ -93,7 +93,7 @@ fn aggregate_flags(flags: &SymbolDictionaryFlags) -> TextRegionFlags
     }
 }
 
-/// The number of a symbol's instances, of which there is one at least (T.88, 6.5.8.2.1).
+/// The number of a symbol's instances. It must be at least one (T.88, 6.5.8.2.1).
 pub fn instance_count(number: Option<i32>) -> Result<u32>
     ensures { Answers (λ count. count) result (some_instances number) }
 {
@@ -106,8 +106,8 @@ pub fn instance_count(number: Option<i32>) -> Result<u32>
     Ok(number as u32)
 }
 
-/// What this many instances are read and placed by, of the symbols that are referred to and the new
-/// ones so far.
+/// What is needed to read and place this many instances, of the symbols that are referred to and
+/// the new ones so far.
 pub fn aggregate_params<'a, A: Allocator, T: Allocator>(
     input: &SymbolInput<'a, A, T>,
     new: &'a [Bitmap<A>],
@@ -127,7 +127,7 @@ pub fn aggregate_params<'a, A: Allocator, T: Allocator>(
     }
 }
 
-/// The symbol of an id, refined into one of this size (T.88, 6.5.8.2.2).
+/// Refines the symbol of an id into one of this size (T.88, 6.5.8.2.2).
 #[tactic(auto, unfolding(crate::specs::SymbolBitmaps::refined_alone))]
 pub fn refine_alone<R: ReadInstances, A: Allocator, M: Allocator, C: Allocator, L: Ledger>(
     alloc: M,
@@ -155,7 +155,7 @@ pub fn refine_alone<R: ReadInstances, A: Allocator, M: Allocator, C: Allocator, 
     Ok(refined)
 }
 
-/// Several instances, put together into a symbol of this size.
+/// Reads several instances, and draws them into a symbol of this size.
 #[tactic(auto, unfolding(crate::specs::SymbolBitmaps::put_together))]
 pub fn put_together<R: ReadInstances, A: Allocator, M: Allocator + Clone, C: Allocator, L: Ledger>(
     alloc: M,

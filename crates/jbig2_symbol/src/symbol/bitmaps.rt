@@ -1,5 +1,5 @@
-//! The bitmaps of symbols that prefix codes describe: those of a height class stand side by side in
-//! one collective bitmap (T.88, 6.5.9).
+//! The bitmaps of symbols by prefix codes: those of a height class lie side by side in one
+//! collective bitmap (T.88, 6.5.9).
 ghost use Rattle.std.specs.Prelude.{◌≡◌, ◌+◌, ◌*◌, ◌/◌, ◌<◌, ◌≤◌, false, length, sum, OnOk};
 ghost use Rattle.jbig2_base.specs.Answer.{Answers, Gives};
 ghost use Rattle.jbig2_base.specs.Bits.{IsAligned};
@@ -23,7 +23,7 @@ use std::sync::ledger::Ledger;
 /// The most pixels of a collective bitmap.
 const MOST_PIXELS: u64 = 65535 * 65535;
 
-/// Row `y` of rows that are not coded, onto a bitmap that has the rows above.
+/// Copies row `y` of rows that are not coded into a bitmap that has the rows above it.
 fn fill_row<A: Allocator, L: Ledger>(
     bytes: &[u8],
     y: u32,
@@ -50,7 +50,7 @@ fn fill_row<A: Allocator, L: Ledger>(
     }
 }
 
-/// Refuses more pixels than a collective bitmap may have.
+/// Refuses a size with more pixels than a collective bitmap may have.
 fn check_pixels(width: u32, height: u32) -> Result<()>
     ensures { Answers (λ _. blank width height false) result (wide_or_overflow width height) }
 {
@@ -60,7 +60,7 @@ fn check_pixels(width: u32, height: u32) -> Result<()>
     Ok(())
 }
 
-/// The bytes of rows that are not coded, at the reader's place (T.88, 6.5.9).
+/// Reads the bytes of rows that are not coded (T.88, 6.5.9).
 fn raw_bytes<'a>(width: u32, height: u32, reader: &mut Reader<'a>) -> Result<&'a [u8]>
     requires { IsAligned reader.old }
     ensures value { let meant = bytes_of_rows width height reader.old.bytes in
@@ -72,8 +72,7 @@ fn raw_bytes<'a>(width: u32, height: u32, reader: &mut Reader<'a>) -> Result<&'a
     bytes_field(reader, height as usize * stride)
 }
 
-/// Rows that are not coded, at the reader's place (T.88, 6.5.9). Memory is taken for them once their
-/// bytes are there.
+/// Reads rows that are not coded (T.88, 6.5.9). It takes memory for them only if their bytes are there.
 #[tactic(auto, unfolding(crate::specs::SymbolBitmaps::raw_rows))]
 fn read_raw_rows<A: Allocator, L: Ledger>(
     alloc: A,
@@ -101,7 +100,7 @@ fn read_raw_rows<A: Allocator, L: Ledger>(
     Ok(bitmap)
 }
 
-/// MMR data of `size` bytes at the reader's place (T.88, 6.5.9).
+/// Reads MMR data of `size` bytes (T.88, 6.5.9).
 #[tactic(auto, unfolding(crate::specs::SymbolBitmaps::mmr_bytes))]
 fn read_mmr_rows<A: Allocator, L: Ledger>(
     alloc: A,
@@ -120,7 +119,7 @@ fn read_mmr_rows<A: Allocator, L: Ledger>(
 {
     let bytes = bytes_field(reader, size)?;
     check_pixels(width, height)?;
-    // Codes may stand for no pixel.
+    // Some codes may give no pixel.
     work.pay(size as u64)?;
     work.pay_bitmap(width, height)?;
     let mut bitmap = Bitmap::new_wide(alloc, width, height)?;
@@ -128,8 +127,7 @@ fn read_mmr_rows<A: Allocator, L: Ledger>(
     Ok(bitmap)
 }
 
-/// The rows of a collective bitmap at the reader's place, which are not coded where `size` is 0
-/// (T.88, 6.5.9).
+/// Reads the rows of a collective bitmap, which are not coded where `size` is 0 (T.88, 6.5.9).
 pub fn read_rows<A: Allocator, L: Ledger>(
     alloc: A,
     strict: bool,
@@ -151,8 +149,8 @@ pub fn read_rows<A: Allocator, L: Ledger>(
     read_mmr_rows(alloc, strict, size, width, height, reader, work)
 }
 
-/// Refuses MMR data of `size` bytes as `read_mmr_rows` does. Only strict mode decodes it, and only
-/// where the bytes may have all rows: each takes a bit at least.
+/// Refuses MMR data of `size` bytes with the same errors as `read_mmr_rows`. It decodes only in
+/// strict mode, and only if the bytes are enough for all rows: each row takes at least one bit.
 #[tactic(auto, unfolding(crate::specs::SymbolBitmaps::mmr_bytes))]
 fn check_mmr_rows<A: Allocator, L: Ledger>(
     alloc: A,
@@ -181,8 +179,8 @@ fn check_mmr_rows<A: Allocator, L: Ledger>(
     Ok(())
 }
 
-/// Refuses the rows of a collective bitmap as `read_rows` does, where the bitmap itself is not
-/// needed (T.88, 6.5.9).
+/// Refuses the rows of a collective bitmap with the same errors as `read_rows`, where the bitmap
+/// itself is not needed (T.88, 6.5.9).
 pub fn check_rows<A: Allocator, L: Ledger>(
     alloc: A,
     strict: bool,
@@ -204,8 +202,8 @@ pub fn check_rows<A: Allocator, L: Ledger>(
     Ok(())
 }
 
-/// Puts the symbols of these widths, which stand side by side in a collective bitmap, after those
-/// that `symbols` holds.
+/// Cuts the symbols of these widths, which lie side by side, out of a collective bitmap, and adds
+/// them to `symbols`.
 pub fn cut_symbols<A: Allocator + Clone, B: Allocator, L: Ledger>(
     alloc: A,
     collective: &Bitmap<B>,

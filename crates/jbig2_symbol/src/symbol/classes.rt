@@ -22,7 +22,7 @@ use std::sync::ledger::Ledger;
 /// The most height classes without a symbol.
 const MAX_EMPTY: u32 = 1 << 20;
 
-/// The work of a height class besides its symbols.
+/// The work of a height class, without its symbols.
 const CLASS: u64 = 256;
 
 /// The new symbols of a dictionary so far.
@@ -35,7 +35,7 @@ struct NewSymbols<A: Allocator> {
     empty: u32,
 }
 
-/// Refuses a class without a symbol, where too many came before.
+/// Refuses a class without a symbol, where too many such classes came before.
 #[tactic(auto, using(crate::proofs::ClassCauses::empty_class_cause))]
 pub fn check_class(symbols: usize, empty: u32) -> Result<()>
     ensures value { Answers (λ few. few) result (empty_class symbols empty) }
@@ -47,7 +47,7 @@ pub fn check_class(symbols: usize, empty: u32) -> Result<()>
     Ok(())
 }
 
-/// Puts the symbols of a class, each of which has a bitmap of its own, after the others.
+/// Reads the symbols of a class, each with a bitmap of its own, and adds them to `bitmaps`.
 fn read_symbols<R: ReadSymbols, A: Allocator + Clone, T: Allocator, L: Ledger>(
     alloc: A,
     input: &SymbolInput<'_, A, T>,
@@ -86,7 +86,7 @@ fn read_symbols<R: ReadSymbols, A: Allocator + Clone, T: Allocator, L: Ledger>(
     }
 }
 
-/// Puts the symbols of such a class after the others; this many classes before it had none.
+/// Reads such a class, after this many empty classes, and adds its symbols to `bitmaps`.
 #[tactic(auto, unfolding(crate::specs::HeightClasses::drawn_class))]
 pub fn read_drawn_class<R: ReadSymbols, A: Allocator + Clone, T: Allocator, L: Ledger>(
     alloc: A,
@@ -118,7 +118,7 @@ pub fn read_drawn_class<R: ReadSymbols, A: Allocator + Clone, T: Allocator, L: L
     check_class(bitmaps.len() - before, empty)
 }
 
-/// Reads one height class more.
+/// Reads one more height class.
 #[tactic(auto, using(crate::proofs::ClassCauses::height_class_cause), unfolding(crate::specs::HeightClasses::height_class))]
 fn read_height_class<R: ReadClasses, A: Allocator + Clone, T: Allocator, L: Ledger>(
     alloc: A,
@@ -190,7 +190,7 @@ pub fn read_new_symbols<R: ReadClasses, A: Allocator + Clone, T: Allocator, L: L
         height: 0,
         empty: 0,
     };
-    // Each class has a symbol or is one of those that may be empty, so no more of them come.
+    // Each class has a symbol or is one of those that may be empty, so there are no more classes.
     for _ in 0..input.header.num_new_symbols + MAX_EMPTY {
         if symbols.bitmaps.len() >= input.header.num_new_symbols as usize {
             break;

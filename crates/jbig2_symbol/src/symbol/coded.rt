@@ -1,4 +1,4 @@
-//! Symbol dictionaries by the arithmetic coder (T.88, 6.5).
+//! Symbol dictionaries that are coded by the arithmetic coder (T.88, 6.5).
 ghost use Rattle.std.specs.Prelude.{◌≡◌, ◌*◌, ◌≤◌, length, Ok};
 ghost use Rattle.jbig2_base.specs.Answer.{Answers, Gives};
 ghost use Rattle.jbig2_text.specs.TextCoding.{Coded};
@@ -40,7 +40,7 @@ pub struct CodedSymbols<'a, A: Allocator> {
 }
 
 impl<'a, A: Allocator + Clone> CodedSymbols<'a, A> {
-    /// The coder at the start of a dictionary's bytes, with these contexts of its bitmaps.
+    /// The coder at the start of a dictionary's bytes, with these contexts for its bitmaps.
     pub fn new<T: Allocator>(
         alloc: A,
         input: &SymbolInput<'a, A, T>,
@@ -74,8 +74,8 @@ impl<A: Allocator> CodedSymbols<'_, A> {
         Ok(self.coded.next_integer(procedure, work))
     }
 
-    /// The bitmap of a symbol that is coded by itself, which goes on with the dictionary's contexts
-    /// (T.88, 6.5.8.1).
+    /// Decodes the bitmap of a symbol that is coded by itself. It goes on with the dictionary's
+    /// contexts (T.88, 6.5.8.1).
     #[tactic(auto, unfolding(crate::specs::SymbolBitmaps::coded_symbol))]
     fn decode_symbol<M: Allocator, L: Ledger>(
         &mut self,
@@ -103,7 +103,7 @@ impl<A: Allocator> CodedSymbols<'_, A> {
         Ok(bitmap)
     }
 
-    /// A symbol of this many instances.
+    /// Reads a symbol of this many instances.
     fn read_instances<S: Allocator, M: Allocator + Clone, L: Ledger>(
         &mut self,
         alloc: M,
@@ -126,7 +126,7 @@ impl<A: Allocator> CodedSymbols<'_, A> {
         refine_alone(alloc, readings, refining, &params.symbols, id, size, work)
     }
 
-    /// A symbol that is refined from another one or put together from several (T.88, 6.5.8.2).
+    /// Reads a symbol that is refined from another one or aggregated from several (T.88, 6.5.8.2).
     #[tactic(auto, using(crate::proofs::SymbolCauses::coded_aggregate_cause), unfolding(crate::specs::SymbolBitmaps::coded_aggregate, crate::specs::SymbolBitmaps::instance_count))]
     fn read_aggregate<T: Allocator, M: Allocator + Clone, L: Ledger>(
         &mut self,
@@ -149,7 +149,7 @@ impl<A: Allocator> CodedSymbols<'_, A> {
         self.read_instances(alloc, &params, size, work)
     }
 
-    /// A symbol's bitmap (T.88, 6.5.8), by the dictionary's flags.
+    /// Reads a symbol's bitmap (T.88, 6.5.8), as the dictionary's flags say.
     #[tactic(auto, unfolding(crate::specs::SymbolCoding::coded_bitmap))]
     fn read_bitmap<T: Allocator, M: Allocator + Clone, L: Ledger>(
         &mut self,

@@ -1,4 +1,4 @@
-//! The contexts with which a symbol dictionary begins, and goes on (T.88, 7.4.2.2).
+//! The contexts of a symbol dictionary, from its beginning to its end (T.88, 7.4.2.2).
 ghost use Rattle.std.specs.Prelude.{◌≡◌, option_map, Ok};
 ghost use Rattle.jbig2_base.specs.Answer.{Gives};
 ghost use Rattle.jbig2_symbol.specs.SymbolReading.{begun_contexts, first_contexts, fresh_bitmap_contexts, is_refinement_template, is_template, learned};
@@ -39,7 +39,7 @@ fn is_refinement_template(template: RefinementTemplate, other: RefinementTemplat
     }
 }
 
-/// Contexts of which nothing is known.
+/// Contexts that have learned nothing.
 fn fresh_contexts<A: Allocator + Clone>(
     alloc: A,
     flags: &SymbolDictionaryFlags,
@@ -62,7 +62,7 @@ fn fresh_contexts<A: Allocator + Clone>(
     })
 }
 
-/// A copy of what another dictionary has kept.
+/// A copy of the contexts that another dictionary kept.
 fn duplicate_contexts<A: Allocator + Clone, K: Allocator>(
     alloc: A,
     kept: &RetainedContexts<K>,
@@ -81,10 +81,10 @@ fn duplicate_contexts<A: Allocator + Clone, K: Allocator>(
     })
 }
 
-/// The contexts at the beginning: fresh, or as another dictionary of the same templates left them.
+/// The contexts at the beginning: fresh, or those that another dictionary kept.
 ///
-/// `SymbolError::Invalid` where there are none, or of other templates; `OutOfMemory` where there is
-/// no room.
+/// Returns `SymbolError::Invalid` where there are none, or where they have other templates;
+/// `OutOfMemory` where there is no memory for them.
 #[tactic(auto, using(crate::proofs::ReadingCauses::contexts_cause), unfolding(crate::specs::SymbolReading::first_contexts))]
 pub fn first_contexts<A: Allocator + Clone, K: Allocator>(
     alloc: A,
@@ -111,7 +111,7 @@ pub fn first_contexts<A: Allocator + Clone, K: Allocator>(
     duplicate_contexts(alloc, kept)
 }
 
-/// The contexts of a dictionary's bitmaps and of its refinements, as far as they have learned.
+/// The contexts of a dictionary's bitmaps and of its refinements, as they have learned so far.
 #[derive(Drop)]
 pub struct WorkingContexts<A: Allocator> {
     pub(crate) template: Template,
@@ -136,7 +136,7 @@ impl<A: Allocator> Model for WorkingContexts<A> {
 }
 
 impl<A: Allocator> WorkingContexts<A> {
-    /// The contexts with which a dictionary of this header begins.
+    /// The contexts at the beginning of a dictionary with this header.
     pub fn new(
         header: &SymbolDictionaryHeader<'_>,
         contexts: RetainedContexts<A>,
@@ -157,7 +157,7 @@ impl<A: Allocator> WorkingContexts<A> {
         }
     }
 
-    /// What they have learned, for another dictionary.
+    /// What the contexts have learned, for another dictionary.
     pub fn into_retained(self) -> RetainedContexts<A>
         ensures { contexts_view result ≡ learned self }
     {

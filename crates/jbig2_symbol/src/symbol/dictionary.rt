@@ -1,4 +1,4 @@
-//! Symbols that are decoded, and what a dictionary keeps for another one.
+//! A decoded symbol dictionary: its symbols, and what it keeps for another one.
 ghost use Rattle.std.specs.Prelude.{◌≡◌, ◌^◌, length};
 ghost use Rattle.jbig2_region.specs.RefinementTemplates.{refinement_bits};
 ghost use Rattle.jbig2_region.specs.Templates.{context_bits};

@@ -73,7 +73,7 @@ pub fn read_runs<R: ReadClasses, M: Allocator, A: Allocator, T: Allocator, L: Le
     let mut runs = Vec::new(alloc);
     let mut left = count;
     let mut empty = 0;
-    // Each run covers a symbol or is one of those that may be empty, so no more of them come.
+    // Each run covers a symbol or is one of those that may be empty, so there are no more runs.
     for _ in 0..count + u64::from(MAX_EMPTY) {
         if left == 0 {
             break;
@@ -103,7 +103,7 @@ fn duplicate<A: Allocator, S: Allocator, L: Ledger>(
     symbol.duplicate(alloc, &mut work.steps)
 }
 
-/// A copy of a symbol, by its number among those that are referred to and the new ones after them.
+/// A copy of a symbol, by its number: first the symbols that are referred to, then the new ones.
 fn duplicate_symbol<A: Allocator, S: Allocator, L: Ledger>(
     alloc: A,
     symbols: &[&Bitmap<S>],
@@ -123,7 +123,7 @@ fn duplicate_symbol<A: Allocator, S: Allocator, L: Ledger>(
     duplicate(alloc, &new[index - symbols.len()], work)
 }
 
-/// Puts copies of `count` symbols from number `first` on after those that are exported so far.
+/// Adds copies of `count` symbols, from number `first` on, to those that are exported so far.
 fn push_symbols<A: Allocator + Clone, S: Allocator, L: Ledger>(
     alloc: A,
     symbols: &[&Bitmap<S>],
@@ -145,7 +145,7 @@ fn push_symbols<A: Allocator + Clone, S: Allocator, L: Ledger>(
     Ok(())
 }
 
-/// The symbols that the runs export, of those that are referred to and the new ones after them.
+/// The symbols that the runs export: of those that are referred to, and then the new ones.
 pub fn export_symbols<A: Allocator + Clone, S: Allocator, L: Ledger>(
     alloc: A,
     runs: &[u32],
@@ -181,7 +181,7 @@ pub fn export_symbols<A: Allocator + Clone, S: Allocator, L: Ledger>(
     Ok(exported)
 }
 
-/// The same, where the new symbols serve for nothing else: if just they are exported, they are not copied.
+/// Does the same, but moves the new symbols where exactly these are exported, instead of copying them.
 #[tactic(auto, using(crate::proofs::ExportedLemmas::exported_new))]
 fn take_exports<A: Allocator + Clone, S: Allocator, L: Ledger>(
     alloc: A,
@@ -201,11 +201,11 @@ fn take_exports<A: Allocator + Clone, S: Allocator, L: Ledger>(
     export_symbols(alloc, runs, symbols, &new, work)
 }
 
-/// Reads which symbols a dictionary exports, of those that it refers to and the new ones after
-/// them, and copies those that it can't take.
+/// Reads which symbols a dictionary exports, of those that it refers to and then the new ones. It
+/// copies those that it can't move.
 ///
-/// The errors of `read_runs`; `SymbolError::NoSymbols` where they are not as many as the header
-/// states; `OutOfMemory` where there is no room for them.
+/// Returns the errors of `read_runs`; `SymbolError::NoSymbols` where their number is not the
+/// header's; `OutOfMemory` where there is no memory for them.
 #[tactic(auto, using(crate::proofs::ReadingCauses::exports_cause), unfolding(crate::specs::Symbols::exports))]
 pub fn read_exports<R: ReadClasses, A: Allocator + Clone, T: Allocator, L: Ledger>(
     alloc: A,

@@ -21,7 +21,7 @@ use jbig2_text::text::pixels_of_template;
 /// The most symbols that a dictionary may have, new or exported.
 const MAX_SYMBOLS: u32 = 1 << 20;
 
-/// The table of prefix codes that one kind of number is coded by (T.88, 7.4.2.1.6).
+/// The table of prefix codes for one kind of number (T.88, 7.4.2.1.6).
 #[derive(Clone, Copy, Debug, PartialEq, Eq)]
 pub enum HuffmanTableSelection {
     TableB1,
@@ -36,15 +36,15 @@ pub enum HuffmanTableSelection {
 /// How a symbol dictionary is coded (T.88, 7.4.2.1.1).
 #[derive(Clone, Copy, Debug)]
 pub struct SymbolDictionaryFlags {
-    /// Whether prefix codes are used, in place of the arithmetic coder.
+    /// Whether prefix codes are used, instead of the arithmetic coder.
     pub use_huffman: bool,
-    /// Whether symbols are refined from others, or put together from several.
+    /// Whether symbols are refined from others, or aggregated from several.
     pub use_refagg: bool,
     pub delta_height_table: HuffmanTableSelection,
     pub delta_width_table: HuffmanTableSelection,
     pub collective_bitmap_size_table: HuffmanTableSelection,
     pub aggregate_instance_table: HuffmanTableSelection,
-    /// Whether the contexts begin as another dictionary left them.
+    /// Whether the contexts begin with those that another dictionary kept.
     pub bitmap_context_used: bool,
     /// Whether the contexts are kept for another dictionary.
     pub bitmap_context_retained: bool,
@@ -52,13 +52,13 @@ pub struct SymbolDictionaryFlags {
     pub refinement_template: RefinementTemplate,
 }
 
-/// What a symbol dictionary's coded bytes are decoded by (T.88, 7.4.2.1).
+/// What is needed to decode a symbol dictionary's coded bytes (T.88, 7.4.2.1).
 #[derive(Clone, Copy, Debug)]
 pub struct SymbolDictionaryHeader<'a> {
     pub flags: SymbolDictionaryFlags,
-    /// Without meaning with prefix codes; templates 1 to 3 have the first alone.
+    /// Has no meaning with prefix codes. Templates 1 to 3 use only the first.
     pub adaptive_template_pixels: [AdaptiveTemplatePixel; 4],
-    /// Without meaning where no symbol is refined, and at refinement template 1.
+    /// Has no meaning where no symbol is refined, and with refinement template 1.
     pub refinement_at_pixels: [AdaptiveTemplatePixel; 2],
     pub num_exported_symbols: u32,
     pub num_new_symbols: u32,
@@ -69,8 +69,8 @@ pub struct SymbolDictionaryHeader<'a> {
 }
 
 impl SymbolDictionaryHeader<'_> {
-    /// The adaptive pixels of symbols' bitmaps: those that there are by the flags, and others at
-    /// (0, 0), which no template takes.
+    /// The adaptive pixels of symbols' bitmaps: those that the flags say, and (0, 0) for the
+    /// others, which no template uses.
     #[tactic(auto, using(crate::proofs::UsedPixels::first_filled, crate::proofs::UsedPixels::four_filled))]
     pub(crate) fn symbol_pixels(&self) -> [AdaptiveTemplatePixel; 4]
         ensures { result ≡ filled 4 (header_view self.now).adaptive_template_pixels }
@@ -86,7 +86,7 @@ impl SymbolDictionaryHeader<'_> {
         }
     }
 
-    /// The adaptive pixels of refinements, where there are any.
+    /// The adaptive pixels of refinements, if there are any.
     pub(crate) fn refinement_pixels(&self) -> Option<[AdaptiveTemplatePixel; 2]>
         ensures { some_pixels result ≡ (header_view self.now).refinement_at_pixels }
     {
@@ -154,7 +154,7 @@ fn symbol_flags(flags: u16) -> Result<SymbolDictionaryFlags>
     })
 }
 
-/// The adaptive pixels of the symbols' bitmaps; none are read with prefix codes.
+/// Reads the adaptive pixels of the symbols' bitmaps. With prefix codes there are none.
 fn parse_coded_pixels(
     reader: &mut Reader<'_>,
     flags: &SymbolDictionaryFlags,
@@ -171,7 +171,7 @@ fn parse_coded_pixels(
     parse_adaptive_template_pixels(reader, flags.template)
 }
 
-/// The adaptive pixels of refinements, where symbols are refined.
+/// Reads the adaptive pixels of refinements, where symbols are refined.
 fn parse_refined_pixels(
     reader: &mut Reader<'_>,
     flags: &SymbolDictionaryFlags,
@@ -188,14 +188,14 @@ fn parse_refined_pixels(
     generic_refinement::parse_template_pixels(reader, flags.refinement_template)
 }
 
-/// The header of a symbol dictionary at the reader's place, which holds the coded bytes after it
-/// (T.88, 7.4.2.1).
+/// Reads the header of a symbol dictionary (T.88, 7.4.2.1). The reader is then at the coded bytes,
+/// which the header holds too.
 ///
-/// `ParseError::UnexpectedEof` where the bytes do not hold it; `HuffmanError::InvalidSelection`
-/// where the flags name no table for heights or widths, also without prefix codes;
-/// `TemplateError::InvalidAtPixel` where an adaptive pixel does not come before the pixel that is
-/// decoded; `OverflowError::SymbolCount` for more than 2^20 symbols, new or exported. An error
-/// leaves the reader where it was. Takes no memory.
+/// Returns `ParseError::UnexpectedEof` where the bytes do not hold the header;
+/// `HuffmanError::InvalidSelection` where the flags name no table for heights or widths, also
+/// without prefix codes; `TemplateError::InvalidAtPixel` where an adaptive pixel does not come
+/// before the pixel that is decoded; `OverflowError::SymbolCount` for more than 2^20 symbols, new
+/// or exported. An error leaves the reader where it was. It takes no memory.
 #[tactic(auto, using(crate::proofs::Causes::symbol_header_cause), unfolding(crate::specs::SymbolHeader::symbol_header_at))]
 pub fn parse<'a>(reader: &mut Reader<'a>, strict: bool) -> Result<SymbolDictionaryHeader<'a>>
     requires { IsAligned reader.old }

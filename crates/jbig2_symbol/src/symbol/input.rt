@@ -1,11 +1,11 @@
-//! What a symbol dictionary is decoded by (T.88, 6.5).
+//! What is needed to decode a symbol dictionary (T.88, 6.5).
 
 use crate::symbol::header::SymbolDictionaryHeader;
 use jbig2_base::bitmap::Bitmap;
 use jbig2_coder::huffman_table::{HuffmanTable, StandardHuffmanTables};
 use std::alloc::Allocator;
 
-/// The tables of prefix codes of a dictionary, by what they read.
+/// The tables of prefix codes of a dictionary, named for what they read.
 #[derive(Drop)]
 pub struct SymbolTables<'a, T: Allocator> {
     pub heights: &'a HuffmanTable<T>,
@@ -15,14 +15,14 @@ pub struct SymbolTables<'a, T: Allocator> {
     pub runs: &'a HuffmanTable<T>,
 }
 
-/// What a dictionary is decoded by, besides what its reading has come to.
+/// What is needed to decode a dictionary, besides the state of its reading.
 #[derive(Drop)]
 pub struct SymbolInput<'a, A: Allocator, T: Allocator> {
     pub header: &'a SymbolDictionaryHeader<'a>,
     /// The symbols of the dictionaries that are referred to.
     pub symbols: &'a [&'a Bitmap<A>],
     pub tables: &'a SymbolTables<'a, T>,
-    /// The codes of the ids in symbols that are put together from others.
+    /// The codes of the ids in symbols that are aggregated from others.
     pub ids: &'a HuffmanTable<A>,
     pub standard: &'a StandardHuffmanTables<T>,
 }

@@ -1,4 +1,4 @@
-//! Symbol dictionaries by prefix codes (T.88, 6.5).
+//! Symbol dictionaries that are coded by prefix codes (T.88, 6.5).
 ghost use Rattle.std.specs.Prelude.{◌≡◌, ◌+◌, ◌*◌, ◌<◌, ◌≤◌, length, OnOk};
 ghost use Rattle.jbig2_base.specs.Answer.{Answers, Gives};
 ghost use Rattle.jbig2_base.specs.Bits.{IsAligned, Place};
@@ -38,7 +38,7 @@ use std::sync::ledger::Ledger;
 /// The most rows of a symbol.
 const MOST_ROWS: u32 = 65535;
 
-/// A symbol by prefix codes, with an id of this many bits where there is one instance.
+/// Reads a symbol by prefix codes. A single instance has an id of this many bits.
 fn read_by_instances<T: Allocator, A: Allocator, M: Allocator + Clone, C: Allocator, L: Ledger>(
     alloc: M,
     readings: &mut PrefixedReadings<'_, '_, T, A>,
@@ -65,8 +65,7 @@ fn read_by_instances<T: Allocator, A: Allocator, M: Allocator + Clone, C: Alloca
     refine_alone(alloc, readings, refining, &params.symbols, id, size, work)
 }
 
-/// The place in the bits, and the contexts of bitmaps and refinements; those of bitmaps stay as
-/// they are.
+/// The place in the bits, and the contexts of bitmaps, which stay as they are, and of refinements.
 #[derive(Drop)]
 pub struct PrefixedSymbols<'a, A: Allocator> {
     reader: Reader<'a>,
@@ -74,7 +73,7 @@ pub struct PrefixedSymbols<'a, A: Allocator> {
 }
 
 impl<'a, A: Allocator> PrefixedSymbols<'a, A> {
-    /// The start of a dictionary's bytes, with these contexts of its bitmaps.
+    /// The start of a dictionary's bytes, with these contexts for its bitmaps.
     pub fn new<S: Allocator, T: Allocator>(
         input: &SymbolInput<'a, S, T>,
         contexts: RetainedContexts<A>,
@@ -88,7 +87,7 @@ impl<'a, A: Allocator> PrefixedSymbols<'a, A> {
         }
     }
 
-    /// A number by a table, or out of band.
+    /// A number with a code of this table, or out of band.
     fn number<T: Allocator>(&mut self, table: &HuffmanTable<T>) -> Result<Option<i32>>
         ensures { let meant = by_table table.now (prefixed_view self.old) in
             Answers (λ value. (value, prefixed_view self.new)) result meant }
@@ -96,7 +95,7 @@ impl<'a, A: Allocator> PrefixedSymbols<'a, A> {
         table.decode(&mut self.reader)
     }
 
-    /// A symbol of this many instances.
+    /// Reads a symbol of this many instances.
     fn read_instances<T: Allocator, M: Allocator + Clone, L: Ledger>(
         &mut self,
         alloc: M,
@@ -130,7 +129,7 @@ impl<'a, A: Allocator> PrefixedSymbols<'a, A> {
         }
     }
 
-    /// A symbol that is refined from another one or put together from several (T.88, 6.5.8.2).
+    /// Reads a symbol that is refined from another one or aggregated from several (T.88, 6.5.8.2).
     #[tactic(auto, using(crate::proofs::SymbolCauses::prefixed_aggregate_cause), unfolding(crate::specs::SymbolBitmaps::prefixed_aggregate, crate::specs::SymbolBitmaps::instance_count))]
     fn read_aggregate<T: Allocator, M: Allocator + Clone, L: Ledger>(
         &mut self,
@@ -157,8 +156,7 @@ impl<'a, A: Allocator> PrefixedSymbols<'a, A> {
         self.read_instances(alloc, input, &params, size, work)
     }
 
-    /// How many bytes the rows of a collective bitmap have, from the next whole byte on (T.88,
-    /// 6.5.9).
+    /// Reads the number of bytes of a collective bitmap, from the next whole byte on (T.88, 6.5.9).
     fn read_size<S: Allocator, T: Allocator>(
         &mut self,
         input: &SymbolInput<'_, S, T>,
@@ -178,7 +176,7 @@ impl<'a, A: Allocator> PrefixedSymbols<'a, A> {
         Ok(size as usize)
     }
 
-    /// The collective bitmap of a height class (T.88, 6.5.9).
+    /// Reads the collective bitmap of a height class (T.88, 6.5.9).
     #[tactic(auto, using(crate::proofs::ClassCauses::collective_cause), unfolding(crate::specs::SymbolBitmaps::collective_bitmap))]
     fn read_collective<M: Allocator, S: Allocator, T: Allocator, L: Ledger>(
         &mut self,
@@ -208,9 +206,9 @@ impl<'a, A: Allocator> PrefixedSymbols<'a, A> {
         )
     }
 
-    /// Refuses a height class that is too high for a symbol: with the error of its collective
-    /// bitmap, if it has one, or else with that of the first symbol (T.88, 6.5.9). The bitmap is
-    /// not made, unless strict mode has MMR data to decode.
+    /// Refuses a height class that is too high for a symbol. The error is that of its collective
+    /// bitmap, if it has one, or else that of the first symbol (T.88, 6.5.9). The bitmap is made
+    /// only where strict mode has to decode MMR data.
     #[tactic(auto, using(crate::proofs::ClassCauses::tall_class_cause), unfolding(crate::specs::SymbolBitmaps::collective_bitmap))]
     fn refuse_tall_class<M: Allocator, S: Allocator, T: Allocator, L: Ledger>(
         &mut self,
@@ -242,7 +240,7 @@ impl<'a, A: Allocator> PrefixedSymbols<'a, A> {
         Err(DecodeError::Overflow(OverflowError::BitmapDimension))
     }
 
-    /// Puts the symbols of a class, cut out of its collective bitmap, after the others.
+    /// Cuts the symbols of a class out of its collective bitmap, and adds them to `bitmaps`.
     #[tactic(auto, unfolding(crate::specs::SymbolCoding::collective_class))]
     fn read_collective_class<M: Allocator + Clone, T: Allocator, L: Ledger>(
         &mut self,

@@ -1,4 +1,4 @@
-//! How the symbols of a dictionary are read (T.88, 6.5.5 to 6.5.10).
+//! Reads the symbols of a dictionary, in either coding (T.88, 6.5.5 to 6.5.10).
 ghost use Rattle.std.specs.Prelude.{◌+◌, ◌*◌, ◌≤◌, length, OnOk};
 ghost use Rattle.jbig2_base.specs.Answer.{Answers, Gives};
 ghost use Rattle.jbig2_steps.specs.Work.{PaidBut};
@@ -15,8 +15,7 @@ use jbig2_base::error::Result;
 use std::alloc::Allocator;
 use std::sync::ledger::Ledger;
 
-/// Reads the symbols of a height class one by one. Whoever asks has taken the work of the numbers that are read: five
-/// for each symbol.
+/// Reads the symbols of a height class one by one. The caller has already paid for five numbers for each symbol.
 pub trait ReadSymbols {
     ghost State: { Type 0 };
 
@@ -24,7 +23,7 @@ pub trait ReadSymbols {
 
     ghost readings: { SymbolReadings State };
 
-    /// A symbol's difference in width; out of band ends a height class (T.88, 6.5.7).
+    /// Reads a symbol's difference in width. Out of band ends a height class (T.88, 6.5.7).
     fn width_difference<A: Allocator, T: Allocator, L: Ledger>(
         &mut self,
         input: &SymbolInput<'_, A, T>,
@@ -34,7 +33,7 @@ pub trait ReadSymbols {
             Answers (λ value. (value, state self.new)) result meant }
         ensures paid { PaidBut (number_steps 1) work.old work.new };
 
-    /// The bitmap of a symbol after these new ones (T.88, 6.5.8).
+    /// Reads the bitmap of a symbol, after these new symbols (T.88, 6.5.8).
     fn symbol_bitmap<A: Allocator + Clone, T: Allocator, L: Ledger>(
         &mut self,
         alloc: A,
@@ -52,8 +51,8 @@ pub trait ReadSymbols {
         ensures paid { PaidBut (number_steps 4) work.old work.new };
 }
 
-/// Reads a dictionary, one height class after the other, and what it exports. Whoever asks has taken the work of five
-/// numbers for each symbol, and of a number more for each call.
+/// Reads a dictionary, one height class after the other, and what it exports. The caller has already taken the work of
+/// five numbers for each symbol, and of one more number for each call.
 pub trait ReadClasses {
     ghost State: { Type 0 };
 
@@ -61,7 +60,7 @@ pub trait ReadClasses {
 
     ghost readings: { ClassReadings State };
 
-    /// A height class's difference in height, or out of band (T.88, 6.5.6).
+    /// Reads a height class's difference in height, or out of band (T.88, 6.5.6).
     fn height_difference<A: Allocator, T: Allocator, L: Ledger>(
         &mut self,
         input: &SymbolInput<'_, A, T>,
@@ -71,8 +70,8 @@ pub trait ReadClasses {
             Answers (λ value. (value, state self.new)) result meant }
         ensures paid { PaidBut (number_steps 1) work.old work.new };
 
-    /// Puts the symbols of a class of this height after the others; this many classes before it had
-    /// none (T.88, 6.5.5, step 4).
+    /// Reads a class of this height, after this many empty classes, and adds its symbols to
+    /// `bitmaps` (T.88, 6.5.5, step 4).
     fn class_of_height<A: Allocator + Clone, T: Allocator, L: Ledger>(
         &mut self,
         alloc: A,
@@ -97,7 +96,7 @@ pub trait ReadClasses {
             let most = input.now.header.now.num_new_symbols in
             OnOk result (PaysSymbols before after most 1 work.old work.new) };
 
-    /// A run of symbols that are exported, or are not, or out of band (T.88, 6.5.10).
+    /// Reads a run of symbols, all exported or all not, or out of band (T.88, 6.5.10).
     fn export_run<A: Allocator, T: Allocator, L: Ledger>(
         &mut self,
         input: &SymbolInput<'_, A, T>,

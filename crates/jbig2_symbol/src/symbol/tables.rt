@@ -14,7 +14,7 @@ use jbig2_coder::huffman_table::{HuffmanTable, StandardHuffmanTables};
 use jbig2_coder::table_selection::next_custom;
 use std::alloc::Allocator;
 
-/// The table that a selection names; the custom tables left to take.
+/// The table that a selection names, and the custom tables still left.
 #[tactic(auto, unfolding(crate::specs::SymbolReading::table_for))]
 fn table_for<'a, T: Allocator>(
     standard: &'a StandardHuffmanTables<T>,
@@ -34,9 +34,9 @@ fn table_for<'a, T: Allocator>(
     }
 }
 
-/// The tables of a dictionary, which takes the custom ones that it refers to in their order.
+/// The tables of a dictionary. It takes the custom ones that it refers to in their order.
 ///
-/// `HuffmanError::MissingTables` where it refers to too few, also without prefix codes.
+/// Returns `HuffmanError::MissingTables` where it refers to too few, also without prefix codes.
 #[tactic(auto, using(crate::proofs::ReadingCauses::symbol_tables_cause), unfolding(crate::specs::SymbolReading::symbol_tables))]
 pub fn symbol_tables<'a, T: Allocator>(
     flags: &SymbolDictionaryFlags,

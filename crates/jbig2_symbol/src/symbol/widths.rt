@@ -19,12 +19,12 @@ use std::sync::ledger::Ledger;
 #[derive(Drop)]
 pub struct ClassWidths<A: Allocator> {
     pub each: Vec<u32, A>,
-    /// All together.
+    /// The sum of the widths.
     pub total: u32,
     ghost summed: { total ≡ sum each.items },
 }
 
-/// A size and a difference together.
+/// The sum of a size and a difference.
 pub fn size_moved(size: u32, difference: i32) -> Result<u32>
     ensures { Answers (λ s. s) result (size_in_word (pos size +ℤ difference)) }
 {
@@ -35,7 +35,7 @@ pub fn size_moved(size: u32, difference: i32) -> Result<u32>
     Ok(moved as u32)
 }
 
-/// Two sizes together.
+/// The sum of two sizes.
 fn size_sum(size: u32, other: u32) -> Result<u32>
     ensures value { Answers (λ s. s) result (size_in_word (pos size +ℤ pos other)) }
     ensures exact { IfOk result (λ s. s ≡ size + other) }
@@ -46,14 +46,14 @@ fn size_sum(size: u32, other: u32) -> Result<u32>
     }
 }
 
-/// How far the widths of a height class are read.
+/// The state of reading the widths of a height class.
 #[derive(Drop)]
 pub struct RunningWidths {
     /// How many more symbols may come.
     left: u32,
     /// The last width (SYMWIDTH).
     width: u32,
-    /// All widths so far together (TOTWIDTH).
+    /// The sum of all widths so far (TOTWIDTH).
     total: u32,
 }
 
@@ -69,7 +69,7 @@ impl RunningWidths {
         }
     }
 
-    /// Goes on by a difference, and returns the width there; `None` ends the class.
+    /// Adds a difference to the last width, and returns the next one. `None` ends the class.
     fn move_by(&mut self, difference: Option<i32>) -> Result<Option<u32>>
         ensures value { let before = self.old in
             let meant = width_by before.left before.width before.total difference in
@@ -116,7 +116,7 @@ impl RunningWidths {
     }
 }
 
-/// Reads the widths of a class up to out of band; at most `room` of them may come.
+/// Reads the widths of a class up to out of band. At most `room` of them may come.
 pub fn read_widths<R: ReadSymbols, M: Allocator, A: Allocator, T: Allocator, L: Ledger>(
     alloc: M,
     input: &SymbolInput<'_, A, T>,

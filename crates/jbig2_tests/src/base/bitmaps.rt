@@ -1,4 +1,4 @@
-//! Bitmaps that are combined: row R10.1.
+//! Tests combinations of bitmaps: row R10.1.
 ghost use Rattle.std.specs.Prelude.{◌≡◌};
 
 use jbig2_base::bitmap::Bitmap;
@@ -20,21 +20,21 @@ const OPERATORS: [CombinationOperator; 5] = [
 
 const WIDTHS: [u32; 9] = [7, 8, 9, 31, 32, 33, 63, 64, 65];
 
-/// How many rows a bitmap has.
+/// The number of rows of both bitmaps.
 const HEIGHT: u32 = 3;
 
-/// What makes the pixels of the page, and those of the source.
+/// The seeds for the pixels of the page and of the source.
 const PAGE: u32 = 0x9E37_79B9;
 
 const SOURCE: u32 = 0x7F4A_7C15;
 
-/// Whether a pixel is black, without a pattern.
+/// Whether a pixel is black; the pixels look random.
 fn is_black(seed: u32, x: u32, y: u32) -> bool {
     let mixed = (x.wrapping_mul(40503) ^ y.wrapping_mul(25717)).wrapping_mul(seed);
     (mixed >> 17) % 2 == 1
 }
 
-/// Makes a bitmap of these pixels.
+/// Draws these pixels onto a bitmap.
 fn speckle<L: Ledger>(
     bitmap: &mut Bitmap<Global>,
     width: u32,
@@ -50,7 +50,7 @@ fn speckle<L: Ledger>(
     Ok(())
 }
 
-/// The pixel of a source of this width at a place that may lie outside.
+/// The pixel of a source of this width, at a place that may lie outside.
 fn source_pixel(width: u32, x: i64, y: i64) -> Option<bool> {
     let column = u32::try_from(x).ok()?;
     let row = u32::try_from(y).ok()?;
@@ -60,7 +60,7 @@ fn source_pixel(width: u32, x: i64, y: i64) -> Option<bool> {
     Some(is_black(SOURCE, column, row))
 }
 
-/// The pixel that a combination at a place leaves on the page.
+/// The pixel of the page after it is combined with this pixel of the source, if there is one.
 fn combined_pixel(operator: CombinationOperator, page: bool, source: Option<bool>) -> bool {
     let Some(source) = source else {
         return page;
@@ -74,7 +74,7 @@ fn combined_pixel(operator: CombinationOperator, page: bool, source: Option<bool
     }
 }
 
-/// Whether the page is as the pixels one by one make it.
+/// Whether the page is what combining pixel by pixel gives.
 fn is_combined<L: Ledger>(
     page: &Bitmap<Global>,
     operator: CombinationOperator,
@@ -94,7 +94,7 @@ fn is_combined<L: Ledger>(
     true
 }
 
-/// Whether each operator gives what a copy by pixels gives, with the source at one place.
+/// Whether each operator gives the same as combining pixel by pixel, with the source at one place.
 fn each_operator_agrees<L: Ledger>(
     page: &mut Bitmap<Global>,
     source: &Bitmap<Global>,
@@ -111,7 +111,7 @@ fn each_operator_agrees<L: Ledger>(
     Ok(true)
 }
 
-/// Whether that holds at each place of the source.
+/// Whether that is so at each place of the source.
 fn each_place_agrees<L: Ledger>(
     page: &mut Bitmap<Global>,
     source: &Bitmap<Global>,
@@ -127,7 +127,7 @@ fn each_place_agrees<L: Ledger>(
     Ok(true)
 }
 
-/// Whether that holds for each width. Both bitmaps are made anew for it.
+/// Whether that is so for each width. Both bitmaps are made anew for each.
 fn each_width_agrees<L: Ledger>(
     page: &mut Bitmap<Global>,
     source: &mut Bitmap<Global>,
@@ -147,7 +147,7 @@ fn each_width_agrees<L: Ledger>(
     Ok(true)
 }
 
-/// Against a copy pixel by pixel. After a request for memory that was refused all is done once more.
+/// Compares combinations with a copy pixel by pixel. If memory runs out, everything is done once more.
 #[test]
 fn combinations_agree_with_a_copy_by_pixels(rt: HostRuntime) {
     let mut page = Bitmap::new_empty(rt.alloc());

@@ -1,4 +1,4 @@
-//! Prefix codes: the standard tables, and a table of lines.
+//! Tests prefix codes: the standard tables, and a table that is built from lines.
 use jbig2_base::error::{DecodeError, HuffmanError, ParseError, Result};
 use jbig2_base::reader::Reader;
 use jbig2_coder::huffman_table::{HuffmanTable, StandardHuffmanTables, TableLine, standard_lines};
@@ -8,15 +8,15 @@ const INVALID: DecodeError = DecodeError::Huffman(HuffmanError::InvalidCode);
 
 const END_OF_BYTES: DecodeError = DecodeError::Parse(ParseError::UnexpectedEof);
 
-/// Bytes, and what a code that they begin with stands for.
+/// Bytes, and the value of the code that they begin with.
 type Code = (&'static [u8], Result<Option<i32>>);
 
-/// Whether the codes stand for what is expected.
+/// Whether the codes have the expected values.
 fn codes_hold(table: &HuffmanTable<Global>, codes: &[Code]) -> bool {
     codes.iter().all(|(bytes, expected)| table.decode(&mut Reader::new(bytes)) == *expected)
 }
 
-/// Codes of a table of two lines, with range bits and without.
+/// Codes of a table of two lines, one with range bits and one without.
 const LINES: &[Code] = &[
     (&[0b01100000], Ok(Some(0))),
     (&[0b10000000], Ok(Some(7))),
@@ -32,7 +32,7 @@ fn lines_hold(alloc: Global) -> Result<bool> {
 /// The shortest code of zeros, and range bits of zero.
 const ZEROS: &[u8] = &[0; 8];
 
-/// Codes of the standard tables in their order, of nine bits too (T.88, table B.8), and one that the end cuts off.
+/// Codes of the standard tables in their order, also one of nine bits (T.88, table B.8) and one that the bytes end in.
 const STANDARD: [&[Code]; 15] = [
     &[(ZEROS, Ok(Some(0)))],
     &[(ZEROS, Ok(Some(0))), (&[0xFC], Ok(None))],
@@ -82,14 +82,14 @@ fn standard_tables_hold(alloc: Global) -> Result<bool> {
     Ok(hold && numbers_hold(&tables))
 }
 
-/// Whether a code that is no number is told from one that is.
+/// Checks both: a code that is no number is refused, and one that is a number is read.
 fn numbers_hold(tables: &StandardHuffmanTables<Global>) -> bool {
     let out_of_band = tables.table_b().decode_no_oob(&mut Reader::new(&[0xFC]));
     let number = tables.table_n().decode_no_oob(&mut Reader::new(&[0x80]));
     out_of_band == Err(DecodeError::Huffman(HuffmanError::UnexpectedOob)) && number == Ok(-2)
 }
 
-/// Both of them; the first that fails ends it.
+/// Whether both hold. The first error is returned.
 fn tables_hold(alloc: Global) -> Result<[bool; 2]> {
     Ok([lines_hold(alloc)?, standard_tables_hold(alloc)?])
 }

@@ -1,4 +1,4 @@
-//! Values worked out by Annex A's text.
+//! Tests integers and ids, with values that were computed from the text of Annex A.
 ghost use Rattle.std.specs.Prelude.{◌≡◌};
 
 use jbig2_base::bitmap::steps::Steps;
@@ -14,7 +14,7 @@ use std::sync::ledger::{Blank, Ledger};
 /// The coded bytes of T.88, H.2.
 pub const EXAMPLE: &[u8] = &[0x84, 0xC7, 0x3B, 0xFC, 0xE1, 0xA1, 0x43, 0x04, 0x02, 0x20];
 
-/// The integers that bytes begin with. No bytes at all give values of twelve and of 32 bits.
+/// Bytes, and the integers that they begin with. No bytes give values of twelve and of 32 bits.
 const INTEGERS: [(&[u8], [Option<i32>; 5]); 2] = [
     (EXAMPLE, [Some(1), Some(-2), Some(5), Some(8), None]),
     (
@@ -71,7 +71,7 @@ fn ids_hold<L: Ledger>(alloc: Global, blank: Blank) -> Result<bool>
     Ok(true)
 }
 
-/// Whether all hold.
+/// Whether all integers and ids are as expected.
 fn annex_a_holds(alloc: Global) -> Result<bool> {
     for (bytes, numbers) in &INTEGERS {
         if !integers_hold::<Brand>(alloc, Blank::new(6), bytes, numbers)? {

@@ -1,9 +1,8 @@
-//! An image of several planes that the arithmetic coder wrote, with a pixel that is skipped.
+//! Tests an image of several planes by the arithmetic coder, with a pixel that is skipped.
 //!
-//! The planes are given as their decisions, each with the number of its context. In template 3 with
-//! its nominal adaptive pixel, bits 0 to 3 of that number are the four pixels to the left, the nearest
-//! first, and bits 4 to 9 those of the row above, from two columns to the right to three to the left
-//! (T.88, Figure 6).
+//! The planes are given as their decisions, each with the number of its context. In template 3 with its nominal
+//! adaptive pixel, bits 0 to 3 of that number are the four pixels to the left, the nearest first. Bits 4 to 9 are those
+//! of the row above, from two columns to the right to three to the left (T.88, Figure 6).
 ghost use Rattle.std.specs.Prelude.{◌≡◌};
 
 use jbig2_base::bitmap::Bitmap;
@@ -37,7 +36,7 @@ const PLANES: &[(u16, bool)] = &[
 
 const VALUES: &[u32] = &[3, 0, 1, 2, 0, 3];
 
-/// Whether bytes are decoded to `VALUES`, where these pixels are skipped.
+/// Whether bytes are decoded to `VALUES`, where the pixels of `skip` are skipped.
 fn values_hold<L: Ledger>(
     alloc: Global,
     bytes: &[u8],

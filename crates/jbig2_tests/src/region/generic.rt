@@ -1,4 +1,4 @@
-//! The generic regions of the example of T.88, H.1.
+//! Tests the generic regions of the example of T.88, H.1.
 ghost use Rattle.std.specs.Prelude.{◌≡◌};
 
 use jbig2_base::bitmap::Bitmap;
@@ -29,7 +29,7 @@ const EDGE: u64 = (1 << 54) - 1;
 
 const SIDES: u64 = (0b11 << 52) | 0b11;
 
-/// Whether a bitmap of 54 by 44 has a black frame, two pixels wide, and is white in it.
+/// Whether a bitmap of 54 by 44 has a black frame, two pixels wide, and is white inside it.
 fn is_frame<L: Ledger>(bitmap: &Bitmap<Global>, steps: &mut Steps<L>) -> bool {
     for y in 0..44 {
         let row = if y < 2 || y >= 42 { EDGE } else { SIDES };

@@ -1,4 +1,4 @@
-//! Refinements of a small bitmap: templates, adaptive pixels, places and typical prediction.
+//! Tests refinements of a small bitmap: templates, adaptive pixels, places and typical prediction.
 ghost use Rattle.std.specs.Prelude.{◌≡◌, ◌^◌, length};
 ghost use Rattle.jbig2_region.specs.RefinementTemplates.{refinement_bits};
 ghost use Rattle.jbig2_region.specs.declared.template.RefinementTemplate.TheVariants.{Template1};
@@ -18,7 +18,7 @@ use std::alloc::Global;
 use std::marker::Brand;
 use std::sync::ledger::{Blank, Ledger};
 
-/// Nothing but bytes; another reading of T.88 gave the rows that they are expected to make.
+/// Bytes that no encoder made. The expected rows come from another reading of T.88.
 const BYTES: [u8; 9] = [0x93, 0x95, 0x65, 0x0C, 0xF9, 0x38, 0x0B, 0x8E, 0xDB];
 
 /// A bitmap of 8 by 3 pixels.
@@ -38,7 +38,7 @@ fn rows<L: Ledger>(bitmap: &Bitmap<Global>, steps: &mut Steps<L>) -> [u64; 3] {
     ]
 }
 
-/// The flags of a refinement, and the adaptive pixels where it is by template 0.
+/// The flags of a refinement, and its adaptive pixels with template 0.
 type Coding = [u8; 5];
 
 const NOMINAL: Coding = [0, 0xFF, 0xFF, 0xFF, 0xFF];
@@ -55,12 +55,12 @@ const TEMPLATE_1_WITH_PREDICTION: Coding = [3, 0, 0, 0, 0];
 
 /// A refinement.
 struct Case {
-    /// Where the reference lies on the page.
+    /// The place of the reference on the page.
     reference: (u32, u32),
-    /// Where the region of 8 by 3 pixels lies on the page.
+    /// The place of the region, of 8 by 3 pixels, on the page.
     region: (u8, u8),
     coding: Coding,
-    /// The rows that it is expected to make, eight bits each.
+    /// The expected rows, of eight bits each.
     rows: [u64; 3],
 }
 
@@ -122,7 +122,7 @@ const CASES: &[Case] = &[
     },
 ];
 
-/// The rows of the refinement by template 1 that lies where its reference does.
+/// The rows of the refinement with template 1 that lies where its reference lies.
 const TEMPLATE_1_ROWS: [u64; 3] = [0x12, 0x2C, 0x47];
 
 /// A segment's data up to the coded bytes.
@@ -149,7 +149,7 @@ fn is_refined<L: Ledger>(
     Ok(rows(&region.bitmap, steps) == case.rows)
 }
 
-/// The index of the first case that comes out otherwise than expected, or how many there are.
+/// The index of the first case that does not give the expected rows, or else the number of cases.
 fn first_that_differs<L: Ledger>(alloc: Global, blank: Blank) -> Result<usize>
     requires name { blank.name ≡ L.name }
     requires parts { blank.parts ≡ L.parts }
@@ -180,7 +180,7 @@ fn refinements(rt: HostRuntime) {
     assert!(rt; index == Ok(CASES.len()));
 }
 
-/// The rows of a refinement by template 1, with the coder and its contexts where they stand.
+/// The rows of a refinement with template 1. The coder and its contexts go on from their states.
 fn next_refinement<L: Ledger>(
     alloc: Global,
     reference: &ReferenceBitmap<'_, Global>,
@@ -205,7 +205,7 @@ fn next_refinement<L: Ledger>(
     Ok(rows(&bitmap, steps))
 }
 
-/// Two refinements, where one coder and its contexts go on from the first to the second.
+/// Two refinements: one coder and its contexts go on from the first to the second.
 fn one_after_the_other<L: Ledger>(
     alloc: Global,
     reference: &ReferenceBitmap<'_, Global>,
@@ -219,7 +219,7 @@ fn one_after_the_other<L: Ledger>(
     Ok([first, second])
 }
 
-/// Two, one after the other, and the first of two whose reference lies far away.
+/// Checks two refinements, one after the other, and the first of two whose reference lies far away.
 fn coders_hold<L: Ledger>(alloc: Global, blank: Blank) -> Result<bool>
     requires name { blank.name ≡ L.name }
     requires parts { blank.parts ≡ L.parts }

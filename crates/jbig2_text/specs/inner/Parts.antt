@@ -1,9 +1,27 @@
--- Parts of the definitions, under names of their own: what some private functions give.
-use Rattle.std.specs.{Prelude.{ℕ, ◌-◌, ◌/◌, ◌%◌, ◌==◌, Bool, false, if◌then◌else◌, ℤ, pos, ◌-ℤ◌, List, [], Option, Result, Ok}, Option.{is_some}}
-use Rattle.jbig2_base.specs.{Answer.{◌>>=◌, refuse_if}, Grid.{Grid}, declared.{bitmap.operator.CombinationOperator.{CombinationOperator}, error.{DecodeError.{DecodeError, TheVariants.{Symbol}}, SymbolError.TheVariants.{TooManyInstances}}}}
-use Rattle.jbig2_coder.specs.{Coder.{Context}, PrefixCode.{Member, prefix_code}, Tables.{next_custom, standard, lines_a, lines_n, lines_o}}
-use Rattle.jbig2_region.specs.{Raster.{fresh_contexts}, RefinementTemplates.{refinement_bits, refinement_pixels_at, refinement_template_of}, declared.template.{AdaptiveTemplatePixel.{AdaptiveTemplatePixel}, RefinementTemplate.{RefinementTemplate}}}
-use Rattle.jbig2_text.specs.{Refining.{Refining}, Text.{Found, Instance, Reached, Readings, TextParams, after_instances, cursor_moved, grown, is_last_along_s, strip_begun, with_instance}, TextHeader.{corner_of, signed_5}, TextRegion.{one_of_two}, declared.text.{cursor.Cursor.{Cursor}, header.TextRegionFlags.{TextRegionFlags}}}
+-- Parts of the definitions that have a name here, because private functions give them.
+use Rattle.std.specs.Prelude.{ℕ, ◌-◌, ◌/◌, ◌%◌, ◌==◌, Bool, false, if◌then◌else◌, ℤ, pos, ◌-ℤ◌, List, [], Option}
+use Rattle.std.specs.Prelude.{Result, Ok}
+use Rattle.std.specs.Option.{is_some}
+use Rattle.jbig2_base.specs.Answer.{◌>>=◌, refuse_if}
+use Rattle.jbig2_base.specs.Grid.{Grid}
+use Rattle.jbig2_base.specs.declared.bitmap.operator.CombinationOperator.{CombinationOperator}
+use Rattle.jbig2_base.specs.declared.error.DecodeError.{DecodeError}
+use Rattle.jbig2_base.specs.declared.error.DecodeError.TheVariants.{Symbol}
+use Rattle.jbig2_base.specs.declared.error.SymbolError.TheVariants.{TooManyInstances}
+use Rattle.jbig2_coder.specs.Coder.{Context}
+use Rattle.jbig2_coder.specs.PrefixCode.{Member, prefix_code}
+use Rattle.jbig2_coder.specs.Tables.{next_custom, standard, lines_a, lines_n, lines_o}
+use Rattle.jbig2_region.specs.Raster.{fresh_contexts}
+use Rattle.jbig2_region.specs.RefinementTemplates.{refinement_bits, refinement_pixels_at, refinement_template_of}
+use Rattle.jbig2_region.specs.declared.template.AdaptiveTemplatePixel.{AdaptiveTemplatePixel}
+use Rattle.jbig2_region.specs.declared.template.RefinementTemplate.{RefinementTemplate}
+use Rattle.jbig2_text.specs.Refining.{Refining}
+use Rattle.jbig2_text.specs.Text.{Found, Instance, Reached, Readings, TextParams, after_instances, cursor_moved, grown}
+use Rattle.jbig2_text.specs.Text.{is_last_along_s, strip_begun, with_instance}
+use Rattle.jbig2_text.specs.TextHeader.{corner_of, signed_5}
+use Rattle.jbig2_text.specs.TextRegion.{one_of_two}
+use Rattle.jbig2_text.specs.declared.text.cursor.Cursor.{Cursor}
+use Rattle.jbig2_text.specs.declared.text.header.TextRegionFlags.{TextRegionFlags}
 
 -- ---- the header
 -- the bits of the flags after SBHUFF
@@ -40,11 +58,11 @@ abbrev pub fresh_refining : RefinementTemplate → List AdaptiveTemplatePixel �
 fresh_refining template pixels = refining_by template pixels (fresh_contexts (refinement_bits template))
 
 -- ---- places
--- the last pixel of a side lies so far after its first
+-- the distance from the first pixel of a side to the last
 abbrev pub behind_first : ℕ → ℤ
 behind_first side = pos side -ℤ pos 1
 
--- CURS where a symbol is placed, and after it
+-- CURS where a symbol is placed, and CURS after it
 abbrev pub s_before : TextRegionFlags → Grid → ℤ → Result ℤ DecodeError
 s_before flags g curs = if is_last_along_s flags then grown flags g curs else Ok curs
 
@@ -55,25 +73,25 @@ s_behind flags g curs = if is_last_along_s flags then Ok curs else grown flags g
 abbrev pub reached : {S : Type 0} → List Instance → Cursor → Refining → S → Reached S
 reached found c f s = record { instances = found; cursor = c; refining = f; state = s }
 
--- one more, and where the one after it stands
+-- one more instance, and the place of the one after it
 abbrev pub with_next_instance : {S : Type 0} → Readings S → TextParams → Reached S → Result (Reached S) DecodeError
 with_next_instance r p x = do
   y ← with_instance r p x
   c ← cursor_moved r p.flags y.cursor y.state
   Ok (reached y.instances c.0 y.refining c.1)
 
--- a strip may end with this IDS
+-- whether a strip may end with this IDS
 abbrev pub end_of_strip : Bool → Result (Option ℤ) DecodeError → Result (Unit {0}) DecodeError
 end_of_strip strict ids = if strict then (ids >>= λ o. refuse_if (is_some o) (Symbol TooManyInstances)) else Ok tt
 
--- the last instance, and the IDS after it
+-- the last instance, and then the end of its strip
 abbrev pub with_last : {S : Type 0} → Readings S → TextParams → Reached S → Result (Found S) DecodeError
 with_last r p x = do
   last ← with_instance r p x
   ends ← end_of_strip p.strict (r.delta_s last.state)
   Ok (last.instances, last.refining, r.behind_delta_s last.state)
 
--- all strips after this STRIPT, where there are some; and where there may be none
+-- all strips after this STRIPT, where there are instances; `strips` allows for none
 abbrev pub some_strips : {S : Type 0} → Readings S → TextParams → ℤ → Refining → S → Result (Found S) DecodeError
 some_strips r p stript f s = do
   c ← strip_begun r p.flags stript (pos 0) s

@@ -1,15 +1,17 @@
--- Values of the code, seen as values of the definitions.
-use Rattle.std.specs.{Prelude.{List, [], ◌++◌, map, if◌then◌else◌, take, Option, Some, None}, Borrow.{Bor}}
+-- Values of the code, as the definitions see them.
+use Rattle.std.specs.Prelude.{List, [], ◌++◌, map, if◌then◌else◌, take, Option, Some, None}
+use Rattle.std.specs.Borrow.{Bor}
 use Rattle.jbig2_base.specs.Grid.{Grid}
-use Rattle.jbig2_region.specs.{inner.PixelArrays.{two_pixels}, declared.template.AdaptiveTemplatePixel.{AdaptiveTemplatePixel}}
+use Rattle.jbig2_region.specs.inner.PixelArrays.{two_pixels}
+use Rattle.jbig2_region.specs.declared.template.AdaptiveTemplatePixel.{AdaptiveTemplatePixel}
 use Rattle.jbig2_text.specs.{Refining.{Refining}, Text.{Instance, Reached, TextParams as Params}, TextCoding.{Coded, Prefixed, TextTables}, declared.text.{coded.CodedReadings.{CodedReadings}, header.{TextFields.{TextFields}, TextRegionCoding.{TextRegionCoding}, TextRegionFlags.{TextRegionFlags}, TextRegionHeader.{TextRegionHeader}}, instances.PlacedInstances.{PlacedInstances}, placement.Instance.{Instance as PlacedSymbol}, prefixed.PrefixedReadings.{PrefixedReadings}, symbol_list.SymbolList.{SymbolList}, symbols.{InstanceSymbol.{InstanceSymbol, TheVariants.{Shared, Refined}}, TextParams.{TextParams}}, tables.TextRegionHuffmanTables.{TextRegionHuffmanTables}}, TextHeader.{NumberCoding, ArithmeticCoding, HuffmanCoding, TextHeader}}
 use Rattle.jbig2_text.specs.declared.text.header.TextRegionCoding.TheVariants as codings
 
--- those of the code's two refinement pixels that these flags have
+-- as many of the code's two refinement pixels as the flags say
 abbrev pub text_pixels : TextRegionFlags → List AdaptiveTemplatePixel → List AdaptiveTemplatePixel
 text_pixels flags a = if flags.use_refinement then two_pixels flags.refinement_template a else []
 
--- the fields, with those of the code's two refinement pixels that the flags have
+-- the fields, with as many refinement pixels as the flags say
 abbrev pub fields_view : TextFields → TextFields
 fields_view f = record f { refinement_at_pixels = text_pixels f.flags f.refinement_at_pixels }
 
@@ -31,7 +33,7 @@ tables_view t = record {
 abbrev pub prefixed_view : {T I : Type 0} → PrefixedReadings T I → Prefixed
 prefixed_view r = record { place = r.reader; tables = tables_view r.tables; ids = r.ids.now }
 
--- what each reference of a list refers to
+-- the grids that a list of references refers to
 abbrev pub symbols_view : List (Bor Grid) → List Grid
 symbols_view symbols = map (λ symbol. symbol.now) symbols
 
@@ -58,7 +60,7 @@ instance_view i = record { grid = symbol_view i.symbol; x = i.x; y = i.y }
 abbrev pub instances_view : {B M : Type 0} → List (PlacedSymbol B M) → List Instance
 instances_view instances = map (λ i. instance_view i) instances
 
--- the instances so far, and the lent states
+-- the instances so far, and the states that are lent
 abbrev pub reached_view : {B M S : Type 0} → PlacedInstances B M → Refining → S → Reached S
 reached_view placed f s = record { instances = instances_view placed.instances.items; cursor = placed.cursor; refining = f; state = s }
 
@@ -78,7 +80,7 @@ header_view h = record {
   strict = h.strict;
 }
 
--- the code's two adaptive pixels, where there are any
+-- the code's first two adaptive pixels, where there are any
 abbrev pub some_pixels : Option (List AdaptiveTemplatePixel) → List AdaptiveTemplatePixel
 some_pixels None = []
 some_pixels (Some a) = take 2 a

@@ -1,4 +1,4 @@
-//! The numbers of a text region that the arithmetic coder wrote.
+//! Reads the numbers of a text region by the arithmetic coder (T.88, 6.4.6 to 6.4.11).
 ghost use Rattle.std.specs.Prelude.{◌≡◌, ◌≤◌, Ok};
 ghost use Rattle.jbig2_base.specs.Answer.{Answers, Gives};
 ghost use Rattle.jbig2_steps.specs.Work.{PaidBut};
@@ -19,7 +19,7 @@ use std::alloc::Allocator;
 use std::sync::ledger::Ledger;
 
 /// The coder, and what the contexts of the integer procedures and of the symbols' ids have learned
-/// (T.88, Annex A). Text regions and symbol dictionaries read by it.
+/// (T.88, Annex A). Text regions and symbol dictionaries use it.
 #[derive(Drop)]
 pub struct CodedReadings<'a, A: Allocator> {
     pub decoder: ArithmeticDecoder<'a>,
@@ -28,11 +28,11 @@ pub struct CodedReadings<'a, A: Allocator> {
 }
 
 impl<'a, A: Allocator + Clone> CodedReadings<'a, A> {
-    /// A coder at the start of `bytes`, and contexts that know nothing yet; ids have `code_length`
-    /// bits, at most 30.
+    /// A coder at the start of `bytes`, with fresh contexts and ids of `code_length` bits (up to
+    /// 30).
     ///
     /// # Errors
-    /// `OutOfMemory` where the contexts find no room.
+    /// `OutOfMemory` where there is no memory for the contexts.
     #[tactic(auto, unfolding(crate::specs::TextCoding::coded_start))]
     pub fn new(alloc: A, bytes: &'a [u8], code_length: u32) -> Result<CodedReadings<'a, A>>
         requires { code_length ≤ 30 }
@@ -48,7 +48,7 @@ impl<'a, A: Allocator + Clone> CodedReadings<'a, A> {
     }
 }
 
-/// A number that may not be out of band.
+/// A number; out of band is an error.
 fn in_band(number: Option<i32>) -> Result<i32>
     ensures { Answers (λ n. n) result
         (in_band (DecodeError.Symbol SymbolError.UnexpectedOob) number) }

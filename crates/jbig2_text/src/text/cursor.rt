@@ -1,6 +1,6 @@
-//! Where the instances of a text region stand (T.88, 6.4.5).
+//! The place of the next instance of a text region (T.88, 6.4.5).
 
-/// Where the next instance stands: the T of its strip (STRIPT), the first S of the strip (FIRSTS),
+/// The place of the next instance: the T of its strip (STRIPT), the first S of the strip (FIRSTS),
 /// and its own S (CURS).
 #[derive(Clone, Copy, Debug)]
 pub struct Cursor {

@@ -22,7 +22,7 @@ use jbig2_region::region_info::{RegionSegmentInfo, parse_region_segment_info};
 use jbig2_region::template::{AdaptiveTemplatePixel, RefinementTemplate};
 use std::alloc::Allocator;
 
-/// The corner of a symbol that its coordinates name (T.88, 6.4.5).
+/// The corner of a symbol to which its coordinates refer (T.88, 6.4.5).
 #[derive(Clone, Copy, Debug, PartialEq, Eq)]
 pub enum ReferenceCorner {
     BottomLeft,
@@ -38,9 +38,9 @@ pub struct TextRegionFlags {
     pub use_refinement: bool,
     /// The strip size is 2 to the power of this.
     pub log_strip_size: u8,
-    /// The corner of a symbol that stands at its coordinates.
+    /// The corner of a symbol that lies at its coordinates.
     pub reference_corner: ReferenceCorner,
-    /// Whether S goes down and T to the right, in place of S to the right and T down.
+    /// Whether S goes down and T to the right, instead of S to the right and T down.
     pub transposed: bool,
     /// How symbols are drawn onto the region.
     pub combination_operator: CombinationOperator,
@@ -80,22 +80,22 @@ pub enum TextRegionCoding<A: Allocator> {
 #[derive(Clone, Copy)]
 pub struct TextFields {
     pub flags: TextRegionFlags,
-    /// With prefix codes alone.
+    /// Only with prefix codes.
     pub table_numbers: Option<TextRegionHuffmanFlags>,
     pub refinement_at_pixels: [AdaptiveTemplatePixel; 2],
     pub num_instances: u32,
 }
 
-/// What a text region's coded bytes are decoded by (T.88, 7.4.3.1).
+/// What is needed to decode a text region's coded bytes (T.88, 7.4.3.1).
 #[derive(Drop)]
 pub struct TextRegionHeader<'a, A: Allocator> {
     pub region_info: RegionSegmentInfo,
     pub flags: TextRegionFlags,
     pub coding: TextRegionCoding<A>,
-    /// Without meaning unless symbols may be refined at template 0.
+    /// Has no meaning unless symbols may be refined with template 0.
     pub refinement_at_pixels: [AdaptiveTemplatePixel; 2],
     pub num_instances: u32,
-    /// How many bytes the segment's data has.
+    /// The number of bytes in the segment's data.
     pub segment_data_len: usize,
     /// The coded bytes.
     pub bytes: &'a [u8],
@@ -117,7 +117,7 @@ impl ReferenceCorner {
     }
 }
 
-/// The low five bits in two's complement.
+/// The number in the low five bits, in two's complement.
 fn signed_5(value: u16) -> i8
     ensures { result ≡ signed_5 (value % 32) }
 {
@@ -125,7 +125,7 @@ fn signed_5(value: u16) -> i8
     if low < 16 { low } else { low - 32 }
 }
 
-/// The bits of the flags after the first.
+/// The flags after the first bit.
 fn other_flags(flags: u16, combination_operator: CombinationOperator) -> TextRegionFlags
     ensures value { result ≡ other_flags flags combination_operator }
     ensures strips { result.log_strip_size ≤ 3 }
@@ -142,7 +142,7 @@ fn other_flags(flags: u16, combination_operator: CombinationOperator) -> TextReg
     }
 }
 
-/// Whether there are prefix codes, and the other flags.
+/// Reads whether prefix codes are used, and the other flags.
 #[tactic(auto, unfolding(crate::specs::TextHeader::text_flags_at))]
 fn parse_flags(reader: &mut Reader<'_>) -> Result<(bool, TextRegionFlags)>
     requires { IsAligned reader.old }
@@ -171,7 +171,7 @@ fn table_numbers(flags: u16) -> TextRegionHuffmanFlags
     }
 }
 
-/// The numbers of the tables, with prefix codes alone.
+/// Reads the numbers of the tables, only with prefix codes.
 fn parse_table_numbers(
     reader: &mut Reader<'_>,
     use_huffman: bool,
@@ -188,7 +188,7 @@ fn parse_table_numbers(
     Ok(Some(table_numbers(flags)))
 }
 
-/// The adaptive pixels of refinements, where symbols may be refined.
+/// Reads the adaptive pixels of refinements, where symbols may be refined.
 fn parse_refinement_pixels(
     reader: &mut Reader<'_>,
     flags: &TextRegionFlags,
@@ -207,7 +207,7 @@ fn parse_refinement_pixels(
     Ok([unused, unused])
 }
 
-/// The fields after the region information.
+/// Reads the fields after the region information.
 #[tactic(auto, unfolding(crate::specs::TextHeader::text_fields_at))]
 fn parse_fields(reader: &mut Reader<'_>) -> Result<TextFields>
     requires { IsAligned reader.old }
@@ -230,7 +230,7 @@ fn parse_fields(reader: &mut Reader<'_>) -> Result<TextFields>
     })
 }
 
-/// How the numbers are coded; with prefix codes the codes of the symbols' ids are read.
+/// How the numbers are coded. With prefix codes, it reads the codes of the symbols' ids.
 fn parse_coding<A: Allocator + Clone>(
     alloc: A,
     reader: &mut Reader<'_>,
@@ -250,13 +250,14 @@ fn parse_coding<A: Allocator + Clone>(
     Ok(TextRegionCoding::Huffman { tables, ids })
 }
 
-/// The header of a text region of this many symbols, at most 2^21, at the reader's place, which
-/// holds the coded bytes after it (T.88, 7.4.3.1). A refusal leaves the reader where it was.
+/// Reads the header of a text region with this many symbols, at most 2^21 (T.88, 7.4.3.1). The
+/// reader is then at the coded bytes, which the header holds too. An error leaves the reader where
+/// it was.
 ///
-/// `ParseError::UnexpectedEof` where the bytes do not hold it; the errors of
-/// `parse_region_segment_info`; `HuffmanError::InvalidCode` where the codes of the symbols' ids
-/// end early, do not fit or are not as many as the symbols; `OutOfMemory` where there is no room
-/// for them.
+/// Returns `ParseError::UnexpectedEof` where the bytes do not hold the header; the errors of
+/// `parse_region_segment_info`; `HuffmanError::InvalidCode` where the codes of the symbols' ids end
+/// early, do not fit or are not as many as the symbols; `OutOfMemory` where there is no memory for
+/// them.
 #[tactic(auto, using(crate::proofs::CausesOfHeaders::text_header_cause), unfolding(crate::specs::TextHeader::text_header_at))]
 pub fn parse<'a, A: Allocator + Clone>(
     alloc: A,

@@ -1,4 +1,4 @@
-//! The instances of a text region (T.88, 6.4.5).
+//! The instances of a text region (T.88, 6.4.5). All are read before the first is drawn.
 ghost use Rattle.std.specs.Prelude.{◌≡◌, ◌+◌, ◌*◌, ◌≤◌, [], nat_lt, option_map, IfOk, OnErr};
 ghost use Rattle.jbig2_base.specs.Answer.{Gives};
 ghost use Rattle.jbig2_steps.specs.Work.{Paid, PaidBut, worth};
@@ -21,13 +21,13 @@ use jbig2_base::error::{DecodeError, Result, SymbolError};
 use std::alloc::Allocator;
 use std::sync::ledger::Ledger;
 
-/// The work of an instance besides the pixels of its symbol.
+/// The work of an instance, without the pixels of its symbol.
 const INSTANCE: u64 = 256;
 
-/// How many instances a byte of a segment may stand for.
+/// How many instances there may be for each byte of a segment.
 const INSTANCES_PER_BYTE: usize = 32;
 
-/// The instances so far, where the next one stands, and the work of drawing them.
+/// The instances so far, the place of the next one, and the work of drawing them.
 #[derive(Drop)]
 pub struct PlacedInstances<'a, B: Allocator, M: Allocator> {
     instances: Vec<Instance<'a, B, M>, M>,
@@ -36,7 +36,7 @@ pub struct PlacedInstances<'a, B: Allocator, M: Allocator> {
 }
 
 impl<'a, B: Allocator, M: Allocator> PlacedInstances<'a, B, M> {
-    /// No instances, and where the first one stands.
+    /// No instances, and the place of the first one.
     fn new(alloc: M, cursor: Cursor) -> PlacedInstances<'a, B, M>
         ensures none { instances_view result.instances.items ≡ [] }
         ensures cursor { result.cursor ≡ cursor }
@@ -49,7 +49,7 @@ impl<'a, B: Allocator, M: Allocator> PlacedInstances<'a, B, M> {
         }
     }
 
-    /// Adds the instance of a symbol at CURS and at T; without a symbol nothing moves.
+    /// Adds the instance of a symbol at CURS and at T. Without a symbol nothing changes.
     fn push_symbol(
         &mut self,
         flags: &TextRegionFlags,
@@ -107,7 +107,7 @@ fn read_instance<'a, R: ReadInstances, B: Allocator, M: Allocator + Clone, C: Al
     placed.push_symbol(&params.flags, t, symbol)
 }
 
-/// Reads the instance at the cursor, which moves on to the one after it.
+/// Reads the instance at the cursor, and moves the cursor on to the next one.
 fn read_and_move<'a, R: ReadInstances, B: Allocator, M: Allocator + Clone, C: Allocator, L: Ledger>(
     readings: &mut R,
     refining: &mut Refining<C>,
@@ -129,7 +129,7 @@ fn read_and_move<'a, R: ReadInstances, B: Allocator, M: Allocator + Clone, C: Al
     Ok(())
 }
 
-/// Reads this many instances, after which there is another.
+/// Reads this many instances, where another comes after them.
 fn read_inner<'a, R: ReadInstances, B: Allocator, M: Allocator + Clone, C: Allocator, L: Ledger>(
     readings: &mut R,
     refining: &mut Refining<C>,
@@ -156,7 +156,7 @@ fn read_inner<'a, R: ReadInstances, B: Allocator, M: Allocator + Clone, C: Alloc
     Ok(())
 }
 
-/// Reads the last instance, and the difference of S after it.
+/// Reads the last instance, and then the end of its strip.
 fn read_last<'a, R: ReadInstances, B: Allocator, M: Allocator + Clone, C: Allocator, L: Ledger>(
     readings: &mut R,
     refining: &mut Refining<C>,
@@ -182,7 +182,7 @@ fn read_last<'a, R: ReadInstances, B: Allocator, M: Allocator + Clone, C: Alloca
     Ok(placed.instances)
 }
 
-/// Reads the strips, of which there is one at least, after this T.
+/// Reads the strips after this T. There is at least one.
 fn read_some_strips<
     'a,
     R: ReadInstances,
@@ -215,7 +215,7 @@ fn read_some_strips<
     read_last(readings, refining, params, placed, work)
 }
 
-/// Reads all strips after this T.
+/// Reads all strips after this T, where there are any.
 fn read_strips<'a, R: ReadInstances, B: Allocator, M: Allocator + Clone, C: Allocator, L: Ledger>(
     alloc: M,
     readings: &mut R,
@@ -239,7 +239,7 @@ fn read_strips<'a, R: ReadInstances, B: Allocator, M: Allocator + Clone, C: Allo
     read_some_strips(alloc, readings, refining, params, strip_t, work)
 }
 
-/// Whether there are more instances than the segment's bytes may stand for.
+/// Whether there are more instances than the segment's bytes allow.
 fn is_too_many(count: u32, data_len: usize) -> bool
     ensures { result ≡ nat_lt (32 * data_len) count }
 {
@@ -297,11 +297,11 @@ fn draw_instances<B: Allocator, M: Allocator, D: Allocator, L: Ledger>(
     }
 }
 
-/// Reads the instances of a text region (T.88, 6.4.5) by states that go on from where they stand,
-/// and draws them onto `region`, which is all in its default colour. `alloc` is for the list of
-/// instances and for refined symbols. An error leaves the region as it was.
+/// Reads the instances of a text region (T.88, 6.4.5), where `readings` and `refining` go on from
+/// their states. Draws them onto `region`, which is all in its default colour. `alloc` is for the
+/// list of instances and for refined symbols. An error leaves the region as it was.
 ///
-/// The errors are those of `decode_into` after its tables.
+/// The errors are those that `decode_into` returns after the errors of its tables.
 #[tactic(auto, unfolding(crate::specs::Text::text_region))]
 pub fn draw_instances_by<
     R: ReadInstances,

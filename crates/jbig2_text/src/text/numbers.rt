@@ -1,4 +1,4 @@
-//! Sums of coordinates and sizes, within signed 32 bits.
+//! Sums of coordinates and sizes. A result that isn't a signed number of 32 bits is refused.
 ghost use Rattle.std.specs.Prelude.{◌≡◌, ◌*◌, ◌^◌, ◌≤◌, pos, ◌+ℤ◌, ◌-ℤ◌, ◌*ℤ◌};
 ghost use Rattle.jbig2_base.specs.Answer.{Answers};
 ghost use Rattle.jbig2_base.specs.declared.error.DecodeError.TheVariants.{Symbol};
@@ -8,7 +8,7 @@ ghost use Rattle.jbig2_text.specs.inner.Parts.{behind_first};
 
 use jbig2_base::error::{DecodeError, OverflowError, Result, SymbolError};
 
-/// A number in signed 32 bits, or the error.
+/// A number, or this error if it isn't a signed number of 32 bits.
 fn word_or(number: i64, error: DecodeError) -> Result<i32>
     ensures { Answers (λ n. n) result (word_or error number) }
 {
@@ -27,35 +27,35 @@ fn coordinate(number: i64) -> Result<i32>
     )
 }
 
-/// A coordinate and a difference together.
+/// The sum of a coordinate and a difference.
 pub fn moved(place: i32, difference: i32) -> Result<i32>
     ensures { Answers (λ n. n) result (coordinate (place +ℤ difference)) }
 {
     coordinate(i64::from(place) + i64::from(difference))
 }
 
-/// The coordinate of the last pixel of a side, by that of the first.
+/// The coordinate of a side's last pixel, from that of its first one.
 pub fn last_of(first: i32, side: u32) -> Result<i32>
     ensures { Answers (λ n. n) result (coordinate (first +ℤ behind_first side)) }
 {
     coordinate(i64::from(first) + (i64::from(side) - 1))
 }
 
-/// The coordinate of the first pixel of a side, by that of the last.
+/// The coordinate of a side's first pixel, from that of its last one.
 pub fn first_of(last: i32, side: u32) -> Result<i32>
     ensures { Answers (λ n. n) result (coordinate (last -ℤ behind_first side)) }
 {
     coordinate(i64::from(last) - (i64::from(side) - 1))
 }
 
-/// The coordinate on the other side of 0.
+/// The negative of a coordinate.
 pub fn opposite(place: i32) -> Result<i32>
     ensures { Answers (λ n. n) result (coordinate (pos 0 -ℤ place)) }
 {
     coordinate(0 - i64::from(place))
 }
 
-/// This many strips of 2 to the power of `log` rows.
+/// The rows in this many strips of 2 to the power of `log` rows.
 pub fn strips(count: i32, log: u8) -> Result<i32>
     requires { log ≤ 3 }
     ensures { let meant = word_or (Symbol InvalidStripDelta) (count *ℤ pos (2 ^ log)) in
@@ -68,7 +68,7 @@ pub fn strips(count: i32, log: u8) -> Result<i32>
     )
 }
 
-/// A side of a refined symbol, by that of its reference.
+/// A side of a refined symbol, from that of its reference and a difference.
 pub fn refined_side(side: u32, difference: i32) -> Result<u32>
     ensures { Answers (λ n. n) result (side_of (pos side +ℤ difference)) }
 {
@@ -81,8 +81,7 @@ pub fn refined_side(side: u32, difference: i32) -> Result<u32>
     Ok(refined)
 }
 
-/// Where a refined symbol's reference lies along one axis, by the growth of its side and a
-/// difference.
+/// The offset of a refined symbol's reference along one axis: half the growth and a difference.
 pub fn reference_offset(growth: i32, difference: i32) -> Result<i32>
     ensures { Answers (λ n. n) result (reference_offset growth difference) }
 {

@@ -1,4 +1,4 @@
-//! Where the symbols of a text region lie (T.88, 6.4.5, step 3 c).
+//! The places of the symbols of a text region (T.88, 6.4.5, step 3 c).
 ghost use Rattle.std.specs.Prelude.{◌≡◌, if◌then◌else◌, IfOk};
 ghost use Rattle.jbig2_base.specs.Answer.{Answers};
 ghost use Rattle.jbig2_text.specs.Text.{is_right, is_bottom, is_last_along_s, grown, edge, symbol_placed};
@@ -90,7 +90,7 @@ fn s_behind<B: Allocator, M: Allocator>(
     grown(flags, symbol, s)
 }
 
-/// The first column (or row), where `place` may be the last one.
+/// The first column (or row) of a symbol, where `place` may be its last one.
 fn edge(at_last: bool, side: u32, place: i32) -> Result<i32>
     ensures { Answers (λ n. n) result (edge at_last side place) }
 {
@@ -100,7 +100,7 @@ fn edge(at_last: bool, side: u32, place: i32) -> Result<i32>
     Ok(place)
 }
 
-/// Column and row, by S and T.
+/// The column and the row for this S and T.
 fn column_and_row(transposed: bool, s: i32, t: i32) -> (i32, i32)
     ensures column { result.0 ≡ if transposed then t else s }
     ensures row { result.1 ≡ if transposed then s else t }
@@ -111,7 +111,7 @@ fn column_and_row(transposed: bool, s: i32, t: i32) -> (i32, i32)
     (s, t)
 }
 
-/// A symbol at S and T, and S after it.
+/// Places a symbol at S and T, and gives S after it.
 #[tactic(auto, unfolding(crate::specs::Text::symbol_placed))]
 pub fn place<'a, B: Allocator, M: Allocator>(
     flags: &TextRegionFlags,

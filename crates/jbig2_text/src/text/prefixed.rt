@@ -1,4 +1,4 @@
-//! The numbers of a text region that are written in prefix codes.
+//! Reads the numbers of a text region that are coded in prefix codes (T.88, 6.4.6 to 6.4.11).
 ghost use Rattle.std.specs.Prelude.{◌≡◌, ◌≤◌};
 ghost use Rattle.jbig2_base.specs.Answer.{Answers};
 ghost use Rattle.jbig2_text.specs.TextCoding.{sized_bytes};
@@ -19,8 +19,8 @@ use jbig2_region::generic_refinement::ReferenceBitmap;
 use std::alloc::Allocator;
 use std::sync::ledger::Ledger;
 
-/// The place in the bits, the tables, and the codes of the symbols' ids. A dictionary hands it a
-/// duplicate of its own reader, and takes the reader back.
+/// The place in the bits, the tables, and the codes of the symbols' ids. A symbol dictionary passes
+/// in a duplicate of its own reader, and takes the reader back.
 #[derive(Drop)]
 pub struct PrefixedReadings<'a, 't, T: Allocator, I: Allocator> {
     pub reader: Reader<'a>,
@@ -28,7 +28,7 @@ pub struct PrefixedReadings<'a, 't, T: Allocator, I: Allocator> {
     pub ids: &'t HuffmanTable<I>,
 }
 
-/// This many bytes from the next whole one on.
+/// Reads this many bytes from the next whole byte on.
 fn sized_bytes<'a>(size: i32, reader: &mut Reader<'a>) -> Result<&'a [u8]>
     ensures { Answers (λ bytes. (bytes.now, reader.new)) result (sized_bytes size reader.old) }
 {

@@ -1,4 +1,4 @@
-//! How the numbers of a text region are read (T.88, 6.4.6 to 6.4.11).
+//! Reads the numbers of a text region, in either coding (T.88, 6.4.6 to 6.4.11).
 ghost use Rattle.std.specs.Prelude.{◌≡◌, ◌*◌, ◌≤◌, false};
 ghost use Rattle.jbig2_base.specs.Answer.{Answers};
 ghost use Rattle.jbig2_base.specs.Grid.{blank};
@@ -15,8 +15,8 @@ use jbig2_region::generic_refinement::ReferenceBitmap;
 use std::alloc::Allocator;
 use std::sync::ledger::Ledger;
 
-/// Reads the numbers of a text region, one after the other. Whoever asks has taken the work of a number, and of the
-/// bitmap that is refined.
+/// Reads the numbers of a text region, one after the other. The caller has already taken the work of a number, or of
+/// the bitmap that is refined.
 pub trait ReadInstances {
     ghost State: { Type 0 };
 
@@ -24,63 +24,63 @@ pub trait ReadInstances {
 
     ghost readings: { Readings State };
 
-    /// A difference of T, in strips.
+    /// Reads a difference of T, in strips.
     fn delta_t<L: Ledger>(&mut self, work: &mut Work<L>) -> Result<i32>
         ensures value { Answers (λ n. (n, state self.new)) result (readings.delta_t (state self.old)) }
         ensures paid { PaidBut (number_steps 1) work.old work.new };
 
-    /// The difference of S between the first instances of two strips.
+    /// Reads the difference of S between the first instances of two strips.
     fn first_s<L: Ledger>(&mut self, work: &mut Work<L>) -> Result<i32>
         ensures value { Answers (λ n. (n, state self.new)) result (readings.first_s (state self.old)) }
         ensures paid { PaidBut (number_steps 1) work.old work.new };
 
-    /// A difference of S in a strip, or `None` at its end.
+    /// Reads a difference of S in a strip, or `None` at its end.
     fn delta_s<L: Ledger>(&mut self, work: &mut Work<L>) -> Result<Option<i32>>
         ensures value { result ≡ readings.delta_s (state self.old) }
         ensures state { state self.new ≡ readings.behind_delta_s (state self.old) }
         ensures paid { PaidBut (number_steps 1) work.old work.new };
 
-    /// T in a strip of 2 to the power of `log` rows.
+    /// Reads T in a strip of 2 to the power of `log` rows.
     fn t_bits<L: Ledger>(&mut self, log: u8, work: &mut Work<L>) -> Result<i32>
         requires { log ≤ 3 }
         ensures value { let meant = readings.t_bits log (state self.old) in
             Answers (λ n. (n, state self.new)) result meant }
         ensures paid { PaidBut (number_steps 1) work.old work.new };
 
-    /// The id of a symbol.
+    /// Reads the id of a symbol.
     fn id<L: Ledger>(&mut self, work: &mut Work<L>) -> Result<i64>
         ensures value { Answers (λ n. (n, state self.new)) result (readings.id (state self.old)) }
         ensures paid { PaidBut (number_steps 1) work.old work.new };
 
-    /// Whether the symbol is refined.
+    /// Reads whether the symbol is refined.
     fn is_refined<L: Ledger>(&mut self, work: &mut Work<L>) -> Result<bool>
         ensures value { let meant = readings.is_refined (state self.old) in
             Answers (λ b. (b, state self.new)) result meant }
         ensures paid { PaidBut (number_steps 1) work.old work.new };
 
-    /// How much wider a refined symbol is.
+    /// Reads how much wider a refined symbol is.
     fn width_delta<L: Ledger>(&mut self, work: &mut Work<L>) -> Result<i32>
         ensures value { let meant = readings.width_delta (state self.old) in
             Answers (λ n. (n, state self.new)) result meant }
         ensures paid { PaidBut (number_steps 1) work.old work.new };
 
-    /// How much higher a refined symbol is.
+    /// Reads how much higher a refined symbol is.
     fn height_delta<L: Ledger>(&mut self, work: &mut Work<L>) -> Result<i32>
         ensures value { let meant = readings.height_delta (state self.old) in
             Answers (λ n. (n, state self.new)) result meant }
         ensures paid { PaidBut (number_steps 1) work.old work.new };
 
-    /// How far a refined symbol lies to the right.
+    /// Reads how far a refined symbol is moved to the right.
     fn x_delta<L: Ledger>(&mut self, work: &mut Work<L>) -> Result<i32>
         ensures value { Answers (λ n. (n, state self.new)) result (readings.x_delta (state self.old)) }
         ensures paid { PaidBut (number_steps 1) work.old work.new };
 
-    /// How far a refined symbol lies below.
+    /// Reads how far a refined symbol is moved down.
     fn y_delta<L: Ledger>(&mut self, work: &mut Work<L>) -> Result<i32>
         ensures value { Answers (λ n. (n, state self.new)) result (readings.y_delta (state self.old)) }
         ensures paid { PaidBut (number_steps 1) work.old work.new };
 
-    /// Refines `reference` into a white bitmap, by contexts that go on from where they stand.
+    /// Refines `reference` into a white bitmap. The contexts go on from their state.
     fn refine<A: Allocator, B: Allocator, C: Allocator, L: Ledger>(
         &mut self,
         reference: &ReferenceBitmap<'_, B>,

@@ -1,4 +1,4 @@
-//! Symbols that are refined from others as their numbers are read (T.88, 6.4.11).
+//! Symbols that are refined from others while the instances are read (T.88, 6.4.11).
 ghost use Rattle.std.specs.Prelude.{◌≡◌, ◌+◌, ◌*◌, ◌≤◌, ◌⊎◌, false, IfErr, IfOk};
 ghost use Rattle.jbig2_base.specs.Answer.{Answers, Gives};
 ghost use Rattle.jbig2_base.specs.Grid.{blank, blank_or_overflow};
@@ -22,8 +22,8 @@ use std::sync::ledger::Ledger;
 /// The longest side of a bitmap.
 const MAX_DIMENSION: u32 = 65535;
 
-/// How much wider and higher a refined symbol is (RDW, RDH), and how far it lies to the right and
-/// below (RDX, RDY).
+/// How much wider and higher a refined symbol is (RDW, RDH), and how far it is moved to the right
+/// and down (RDX, RDY).
 #[derive(Clone, Copy, Debug)]
 pub struct RefinementDeltas {
     pub width: i32,
@@ -32,7 +32,7 @@ pub struct RefinementDeltas {
     pub y: i32,
 }
 
-/// The size of a refined symbol, and where its reference lies.
+/// The size of a refined symbol, and the offset of its reference.
 #[derive(Clone, Copy, Debug)]
 pub struct Outline {
     pub width: u32,
@@ -79,7 +79,8 @@ fn outline_of<B: Allocator>(from: &Bitmap<B>, deltas: &RefinementDeltas) -> Resu
     })
 }
 
-/// Refuses a size that a bitmap can't have: a side above 65535 (`OverflowError::BitmapDimension`).
+/// Refuses a size that a bitmap can't have: a side above 65535 gives
+/// `OverflowError::BitmapDimension`.
 pub fn check_sides(width: u32, height: u32) -> Result<()>
     ensures { let meant = blank_or_overflow width height false in
         Answers (λ _. blank width height false) result meant }
@@ -90,8 +91,7 @@ pub fn check_sides(width: u32, height: u32) -> Result<()>
     Ok(())
 }
 
-/// A white bitmap for a symbol. Its work is taken once its size is checked, so that a size which is
-/// refused takes none.
+/// A white bitmap for a symbol. The size is checked first, so that a refused size takes no work.
 pub fn new_symbol<M: Allocator, L: Ledger>(
     alloc: M,
     width: u32,
@@ -114,7 +114,7 @@ pub fn new_symbol<M: Allocator, L: Ledger>(
     Bitmap::new(alloc, width, height)
 }
 
-/// A symbol that is refined from that of the id.
+/// Reads a symbol that is refined from that of the id.
 #[tactic(auto, unfolding(crate::specs::Text::refined_symbol))]
 pub fn read_refined<R: ReadInstances, B: Allocator, M: Allocator, C: Allocator, L: Ledger>(
     alloc: M,

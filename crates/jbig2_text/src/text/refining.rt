@@ -1,4 +1,4 @@
-//! Refinements of symbols by contexts that are lent (T.88, 6.4.11).
+//! Refinements of symbols, with contexts that are lent (T.88, 6.4.11).
 ghost use Rattle.std.specs.Prelude.{◌≡◌, ◌*◌, ◌≤◌, ◌^◌, length, false, Ok};
 ghost use Rattle.jbig2_base.specs.Answer.{Gives};
 ghost use Rattle.jbig2_base.specs.Grid.{blank};
@@ -20,11 +20,11 @@ use std::alloc::Allocator;
 use std::marker::Model;
 use std::sync::ledger::Ledger;
 
-/// How symbols are refined, and what the contexts have learned.
+/// How symbols are refined, and what the contexts have learned so far.
 #[derive(Drop)]
 pub struct Refining<A: Allocator> {
     template: RefinementTemplate,
-    /// None where the template has no adaptive pixels, or no symbol is refined.
+    /// `None` where the template has no adaptive pixels, or no symbol is refined.
     pixels: Option<[AdaptiveTemplatePixel; 2]>,
     contexts: Vec<ArithmeticDecoderContext, A>,
 }
@@ -57,10 +57,10 @@ pub fn pixels_of_template(
 }
 
 impl<A: Allocator> Refining<A> {
-    /// Refinements by contexts that know nothing yet, and by these adaptive pixels, where there are any.
+    /// Refinements with fresh contexts and these adaptive pixels, if there are any.
     ///
     /// # Errors
-    /// `OutOfMemory` where the contexts find no room.
+    /// `OutOfMemory` where there is no memory for the contexts.
     pub fn fresh(
         alloc: A,
         template: RefinementTemplate,
@@ -78,8 +78,7 @@ impl<A: Allocator> Refining<A> {
         })
     }
 
-    /// Refinements by contexts that have learned, as many as the template has, and by these adaptive
-    /// pixels, where there are any.
+    /// Refinements with contexts that have learned, as many as the template has, and these adaptive pixels, if any.
     pub fn with_contexts(
         template: RefinementTemplate,
         pixels: Option<[AdaptiveTemplatePixel; 2]>,
@@ -110,8 +109,7 @@ impl<A: Allocator> Refining<A> {
         self.contexts
     }
 
-    /// Refines `reference` into a white bitmap. The coder and the contexts go on from where they
-    /// stand.
+    /// Refines `reference` into a white bitmap. The coder and the contexts go on from their states.
     pub fn refine<M: Allocator, B: Allocator, L: Ledger>(
         &mut self,
         reference: &ReferenceBitmap<'_, B>,
@@ -140,7 +138,7 @@ impl<A: Allocator> Refining<A> {
     }
 }
 
-/// Two adaptive pixels, which no template takes where there are none.
+/// The two adaptive pixels. Where there are none, these values are never used.
 #[tactic(auto, using(crate::proofs::RefiningLemmas::two_filled))]
 fn two_of(pixels: Option<[AdaptiveTemplatePixel; 2]>) -> [AdaptiveTemplatePixel; 2]
     ensures { result ≡ filled 2 (some_pixels pixels) }
@@ -151,7 +149,7 @@ fn two_of(pixels: Option<[AdaptiveTemplatePixel; 2]>) -> [AdaptiveTemplatePixel;
     }
 }
 
-/// Refines `reference` by these contexts.
+/// Refines `reference` with these contexts.
 fn refine_by<M: Allocator, B: Allocator, L: Ledger>(
     template: RefinementTemplate,
     pixels: Option<[AdaptiveTemplatePixel; 2]>,

@@ -14,7 +14,7 @@ use jbig2_base::bitmap::steps::Work;
 use jbig2_base::error::{DecodeError, Result, SymbolError};
 use std::sync::ledger::Ledger;
 
-/// A difference of T, in rows.
+/// Reads a difference of T, in rows.
 #[tactic(auto, unfolding(crate::specs::Text::strip_delta))]
 pub fn read_strip_delta<R: ReadInstances, L: Ledger>(
     readings: &mut R,
@@ -30,8 +30,7 @@ pub fn read_strip_delta<R: ReadInstances, L: Ledger>(
     numbers::strips(delta, flags.log_strip_size)
 }
 
-/// A strip begins: where its first instance stands, by the T and the first S of the strip before
-/// it.
+/// Begins a strip. Gives the place of its first instance, from the T and first S of the last strip.
 #[tactic(auto, unfolding(crate::specs::Text::strip_begun))]
 pub fn begin_strip<R: ReadInstances, L: Ledger>(
     readings: &mut R,
@@ -56,7 +55,7 @@ pub fn begin_strip<R: ReadInstances, L: Ledger>(
     })
 }
 
-/// Where an instance stands that is `delta` after the last one, or begins the next strip.
+/// The place of an instance that is `delta` after the last one, or that begins the next strip.
 fn move_by<R: ReadInstances, L: Ledger>(
     readings: &mut R,
     flags: &TextRegionFlags,
@@ -77,7 +76,7 @@ fn move_by<R: ReadInstances, L: Ledger>(
     Ok(Cursor { cur_s, ..cursor })
 }
 
-/// Where the next instance stands.
+/// Reads how far the next instance is, and gives its place.
 #[tactic(auto, unfolding(crate::specs::Text::cursor_moved))]
 pub fn move_on<R: ReadInstances, L: Ledger>(
     readings: &mut R,
@@ -94,7 +93,7 @@ pub fn move_on<R: ReadInstances, L: Ledger>(
     move_by(readings, flags, cursor, delta, work)
 }
 
-/// T in the strip, which is 0 in strips of one row.
+/// Reads T in the strip. It is 0 in strips of one row.
 pub fn read_t_in_strip<R: ReadInstances, L: Ledger>(
     readings: &mut R,
     flags: &TextRegionFlags,

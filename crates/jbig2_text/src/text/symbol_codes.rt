@@ -14,7 +14,7 @@ use jbig2_base::reader::Reader;
 use jbig2_coder::huffman_table::{HuffmanTable, TableLine};
 use std::alloc::Allocator;
 
-/// How many runcodes there are.
+/// The number of runcodes.
 const RUNCODES: u32 = 35;
 
 fn invalid_code() -> DecodeError
@@ -23,7 +23,7 @@ fn invalid_code() -> DecodeError
     DecodeError::Huffman(HuffmanError::InvalidCode)
 }
 
-/// The numbers from 0 on, by the lengths of their codes.
+/// The table lines of the numbers from 0 on, with codes of these lengths.
 fn code_lines<A: Allocator>(alloc: A, lengths: &[u8]) -> Result<Vec<TableLine, A>>
     requires { length lengths.now ≤ 2 ^ 31 }
     ensures lines { Gives (λ lines. lines.items) result (Ok (lines_from 0 lengths.now)) }
@@ -36,7 +36,7 @@ fn code_lines<A: Allocator>(alloc: A, lengths: &[u8]) -> Result<Vec<TableLine, A
     Ok(lines)
 }
 
-/// The codes of these lengths, for the numbers from 0 on.
+/// The prefix codes of these lengths, for the numbers from 0 on.
 fn codes_of<A: Allocator + Clone>(alloc: A, lengths: &[u8]) -> Result<HuffmanTable<A>>
     requires { length lengths.now ≤ 2 ^ 31 }
     ensures { Gives (λ table. table) result (table_of (lines_from 0 lengths.now)) }
@@ -45,7 +45,7 @@ fn codes_of<A: Allocator + Clone>(alloc: A, lengths: &[u8]) -> Result<HuffmanTab
     HuffmanTable::build(alloc, &lines)
 }
 
-/// The lengths of the runcodes.
+/// Reads the lengths of the runcodes.
 fn read_short_lengths<A: Allocator>(alloc: A, reader: &mut Reader<'_>) -> Result<Vec<u8, A>>
     ensures value { let meant = short_lengths 35 [] reader.old in
         Gives (λ lengths. (lengths.items, reader.new)) result meant }
@@ -62,7 +62,7 @@ fn read_short_lengths<A: Allocator>(alloc: A, reader: &mut Reader<'_>) -> Result
     Ok(lengths)
 }
 
-/// Adds a length this many times.
+/// Adds this many times a length.
 fn push_lengths<A: Allocator>(lengths: &mut Vec<u8, A>, value: u8, count: u32) -> Result<()>
     requires { length lengths.old.items ≤ 2 ^ 21 }
     ensures { let meant = Ok (lengths.old.items ++ replicate count value) in
@@ -73,7 +73,7 @@ fn push_lengths<A: Allocator>(lengths: &mut Vec<u8, A>, value: u8, count: u32) -
     Ok(())
 }
 
-/// Adds the last length this many times.
+/// Adds this many times the last length.
 fn repeat_last<A: Allocator>(lengths: &mut Vec<u8, A>, count: u32) -> Result<()>
     requires { length lengths.old.items ≤ 2 ^ 21 }
     ensures { Gives (λ _. lengths.new.items) result (repeated lengths.old.items count) }
@@ -85,7 +85,7 @@ fn repeat_last<A: Allocator>(lengths: &mut Vec<u8, A>, count: u32) -> Result<()>
     push_lengths(lengths, last, count)
 }
 
-/// Adds the lengths that a runcode stands for.
+/// Adds the lengths that a runcode means.
 fn push_run<A: Allocator>(
     runcode: i32,
     reader: &mut Reader<'_>,
@@ -128,7 +128,7 @@ fn read_run<A: Allocator, B: Allocator>(
     push_run(runcode, reader, lengths)
 }
 
-/// The codes of the runcodes.
+/// Reads the codes of the runcodes.
 #[tactic(auto, unfolding(crate::specs::SymbolCodes::runcodes_at))]
 fn read_runcodes<A: Allocator + Clone>(alloc: A, reader: &mut Reader<'_>) -> Result<HuffmanTable<A>>
     ensures { Gives (λ table. (table, reader.new)) result (runcodes_at reader.old) }
@@ -137,7 +137,7 @@ fn read_runcodes<A: Allocator + Clone>(alloc: A, reader: &mut Reader<'_>) -> Res
     codes_of(alloc, &lengths)
 }
 
-/// The lengths of this many symbols, or more where a run goes past them.
+/// Reads the lengths of this many symbols' codes. A run that goes past them gives more.
 fn read_lengths<A: Allocator, B: Allocator>(
     alloc: A,
     count: u32,
@@ -149,7 +149,7 @@ fn read_lengths<A: Allocator, B: Allocator>(
         Gives (λ lens. (lens.items, reader.new)) result meant }
 {
     let mut lengths = Vec::new(alloc);
-    // Each run has one length at least.
+    // Each run has at least one length.
     for _ in 0..count {
         if lengths.len() >= count as usize {
             return Ok(lengths);
@@ -162,7 +162,7 @@ fn read_lengths<A: Allocator, B: Allocator>(
     Ok(lengths)
 }
 
-/// The lengths of this many symbols.
+/// Reads the lengths of exactly this many symbols' codes.
 #[tactic(auto, unfolding(crate::specs::SymbolCodes::symbol_lengths_at))]
 fn read_symbol_lengths<A: Allocator, B: Allocator>(
     alloc: A,
@@ -201,12 +201,11 @@ fn read_symbol_codes<A: Allocator + Clone>(
     Ok(codes)
 }
 
-/// Reads the codes of this many symbols, at most 2^21; the reader then stands at the beginning of a
-/// byte.
+/// Reads the codes of this many symbols, at most 2^21. The reader is then at a whole byte.
 ///
-/// `ParseError::UnexpectedEof` where the bits end in a runcode; `HuffmanError::InvalidCode` where
-/// they end elsewhere, for codes that do not fit, for a last length that is repeated where there
-/// is none, and for more lengths than symbols; `OutOfMemory`.
+/// Returns `ParseError::UnexpectedEof` where the bits end in a runcode; `HuffmanError::InvalidCode`
+/// where they end elsewhere, for codes that do not fit, where no length comes before a repeated
+/// one, and for more lengths than symbols; `OutOfMemory`.
 #[tactic(auto, using(crate::proofs::Causes::symbol_code_cause))]
 pub fn parse_symbol_codes<A: Allocator + Clone>(
     alloc: A,

@@ -1,4 +1,4 @@
-//! The symbols that instances are of (T.88, 6.4.10).
+//! The symbols to which the instances' ids refer (T.88, 6.4.10).
 ghost use Rattle.std.specs.Prelude.{◌≡◌, option_map};
 ghost use Rattle.jbig2_text.specs.Text.{symbol_of};
 ghost use Rattle.jbig2_text.specs.inner.TextViews.{list_view};
@@ -6,8 +6,8 @@ ghost use Rattle.jbig2_text.specs.inner.TextViews.{list_view};
 use jbig2_base::bitmap::Bitmap;
 use std::alloc::Allocator;
 
-/// Symbols, whose ids are their places: first those of other dictionaries, then the new ones of the
-/// dictionary that is being decoded. A text region has no new ones.
+/// Symbols; a symbol's id is its index. First come those of other dictionaries, then the new ones
+/// of the dictionary that is being decoded. A text region has no new ones.
 #[derive(Drop)]
 pub struct SymbolList<'a, B: Allocator> {
     pub input_symbols: &'a [&'a Bitmap<B>],

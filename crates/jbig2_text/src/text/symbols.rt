@@ -18,26 +18,26 @@ use jbig2_base::error::{DecodeError, Result, SymbolError};
 use std::alloc::Allocator;
 use std::sync::ledger::Ledger;
 
-/// What the instances of a text region are read and placed by (T.88, Table 9).
+/// What is needed to read and place the instances of a text region (T.88, Table 9).
 #[derive(Drop)]
 pub struct TextParams<'a, B: Allocator> {
     pub flags: TextRegionFlags,
     pub symbols: SymbolList<'a, B>,
     pub num_instances: u32,
-    /// How many bytes the segment's data has.
+    /// The number of bytes in the segment's data.
     pub data_len: usize,
     /// Whether ids without a symbol and a strip that does not end are refused.
     pub strict: bool,
 }
 
-/// The symbol of an instance.
+/// The symbol of an instance, as it is in the list or refined.
 #[derive(Drop)]
 pub enum InstanceSymbol<'a, B: Allocator, M: Allocator> {
     Shared(&'a Bitmap<B>),
     Refined(Bitmap<M>),
 }
 
-/// Whether the symbol is refined, which is read where symbols may be.
+/// Reads whether the symbol is refined, where symbols may be.
 fn read_refinement_flag<R: ReadInstances, L: Ledger>(
     readings: &mut R,
     flags: &TextRegionFlags,
@@ -53,7 +53,7 @@ fn read_refinement_flag<R: ReadInstances, L: Ledger>(
     readings.is_refined(work)
 }
 
-/// The symbol of an id as it is. In lenient mode an id without a symbol stands for nothing.
+/// The symbol of an id as it is. In lenient mode an id without a symbol gives none.
 fn plain_symbol<'a, B: Allocator, M: Allocator>(
     params: &TextParams<'a, B>,
     id: i64,
@@ -69,7 +69,7 @@ fn plain_symbol<'a, B: Allocator, M: Allocator>(
     }
 }
 
-/// The symbol of an instance, whose id is read.
+/// Reads the symbol of an instance, after its id.
 #[tactic(auto, unfolding(crate::specs::Text::instance_symbol))]
 pub fn read_symbol<'a, R: ReadInstances, B: Allocator, M: Allocator, C: Allocator, L: Ledger>(
     alloc: M,
@@ -118,7 +118,7 @@ impl<B: Allocator, M: Allocator> InstanceSymbol<'_, B, M> {
         }
     }
 
-    /// Combines the symbol into a region, its top left pixel at column `x` of row `y`.
+    /// Combines the symbol with a region, its top left pixel at column `x` of row `y`.
     pub fn draw<D: Allocator, L: Ledger>(
         &self,
         region: &mut Bitmap<D>,

@@ -15,7 +15,7 @@ use jbig2_coder::huffman_table::{HuffmanTable, StandardHuffmanTables};
 use jbig2_coder::table_selection::next_custom;
 use std::alloc::Allocator;
 
-/// Which table reads which numbers (T.88, Table 9).
+/// The table for each kind of number (T.88, Table 9).
 #[derive(Drop)]
 pub struct TextRegionHuffmanTables<'a, T: Allocator> {
     pub first_s: &'a HuffmanTable<T>,
@@ -46,7 +46,8 @@ impl<'a, T: Allocator> TextRegionHuffmanTables<'a, T> {
     }
 }
 
-/// The table that a number names among two, and 3 for a custom one; those left to take.
+/// The table that a number names: one of these two, or a custom one for 3; and the rest of
+/// `customs`.
 fn one_of_two<'a, T: Allocator>(
     first: &'a HuffmanTable<T>,
     second: &'a HuffmanTable<T>,
@@ -64,7 +65,7 @@ fn one_of_two<'a, T: Allocator>(
     }
 }
 
-/// The table that a number names among three, otherwise a custom one; those left to take.
+/// The table that a number names: one of these three, or a custom one; and the rest of `customs`.
 fn one_of_three<'a, T: Allocator>(
     first: &'a HuffmanTable<T>,
     second: &'a HuffmanTable<T>,
@@ -84,7 +85,7 @@ fn one_of_three<'a, T: Allocator>(
     }
 }
 
-/// The table that a number names for the differences of a refined symbol; those left to take.
+/// The table that a number names for a refined symbol's differences; and the rest of `customs`.
 fn refinement_table<'a, T: Allocator>(
     standard: &'a StandardHuffmanTables<T>,
     number: u8,
@@ -96,7 +97,7 @@ fn refinement_table<'a, T: Allocator>(
     one_of_two(standard.table_n(), standard.table_o(), number, customs)
 }
 
-/// The table that a number names for the sizes of refined symbols; those left to take.
+/// The table that a number names for the sizes of refined symbols; and the rest of `customs`.
 fn size_table<'a, T: Allocator>(
     standard: &'a StandardHuffmanTables<T>,
     number: u8,
@@ -111,10 +112,10 @@ fn size_table<'a, T: Allocator>(
     next_custom(customs)
 }
 
-/// The tables that the flags name; each custom one is the next of `customs`.
+/// The tables that the flags name. Each custom one is the next of `customs`.
 ///
-/// `HuffmanError::InvalidSelection` for a number without meaning; `HuffmanError::MissingTables`
-/// where the custom tables run out. Takes no memory.
+/// Returns `HuffmanError::InvalidSelection` for a number without meaning, and
+/// `HuffmanError::MissingTables` for too few custom tables. It takes no memory.
 #[tactic(auto, using(crate::proofs::CausesOfRegions::text_table_cause), unfolding(crate::specs::TextRegion::text_tables))]
 pub fn select_tables<'a, T: Allocator>(
     flags: &TextRegionHuffmanFlags,

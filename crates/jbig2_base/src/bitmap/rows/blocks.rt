@@ -1,4 +1,4 @@
-//! Blocks of a page combined with a source, where the pixels that lie on a word of the page lie in
+//! Combines a block of a page with a source, where the source's pixels on a word of the page lie in
 //! one word of the source.
 ghost use Rattle.std.specs.Prelude.{◌≡◌, ℕ, ◌+◌, ◌-◌, ◌*◌, ◌/◌, ◌%◌, ◌<◌, ◌≤◌, if◌then◌else◌};
 ghost use Rattle.jbig2_base.specs.Combination.{combined_pixel};
@@ -13,7 +13,7 @@ use crate::bitmap::rows::words::{Words, WordsMut};
 use crate::bitmap::steps::Steps;
 use std::sync::ledger::Ledger;
 
-/// A block of a page, and the first of the source's pixels that lie on it.
+/// A block of a page, and the first of the source's pixels on it.
 #[derive(Clone, Copy)]
 pub struct Block {
     pub left: u32,
@@ -24,7 +24,7 @@ pub struct Block {
     pub from_row: u32,
 }
 
-/// How rows lie in words, `stride` of them for each row.
+/// How rows lie in words, with `stride` words for each row.
 #[derive(Clone, Copy)]
 pub struct Shape {
     pub width: u32,
@@ -46,7 +46,7 @@ pub enum Layout {
     Near,
     /// In one word of the source.
     Narrow,
-    /// From the same place of a word on in page and source, over two words or more.
+    /// Beginning at the same place of a word in page and source, over at least two words.
     Aligned,
 }
 
@@ -60,7 +60,7 @@ struct Line {
     from_y: usize,
 }
 
-/// Neighbouring pixels of row `y` in one of its words, the first of them `offset` from its left.
+/// Neighbouring pixels of row `y` in one of its words, the first `offset` pixels from its left.
 #[derive(Clone, Copy)]
 struct Run {
     y: usize,
@@ -69,8 +69,8 @@ struct Run {
     count: u32,
 }
 
-/// Combines a block with the source's pixels that lie on it, if each row of it lies in one word of the
-/// source, or begins at the same place of a word in both and takes two words or more.
+/// Combines a block with the source's pixels on it. Each row of the block lies in one word of the
+/// source, or it begins at the same place of a word in both and takes at least two words.
 #[inline(always)]
 pub fn combine_rows<L: Ledger>(
     words: &mut WordsMut<'_>,
@@ -87,7 +87,7 @@ pub fn combine_rows<L: Ledger>(
     ensures combines { CombinesBlockOfWords operator shape words.old.words.now source.entry.shape
         source.entry.words.words.now block words.new.words.now steps.old steps.new }
 {
-    // A call of its own for each layout, so that each has a loop of its own.
+    // One call for each layout, so that each gets a loop of its own.
     if block.from / 64 != (block.from + block.columns - 1) / 64 {
         combine_laid(
             Layout::Aligned,
@@ -105,7 +105,7 @@ pub fn combine_rows<L: Ledger>(
     }
 }
 
-/// The same where each row lies so.
+/// The same, if each row has this layout.
 #[inline(always)]
 fn combine_laid<L: Ledger>(
     layout: Layout,
@@ -134,7 +134,7 @@ fn combine_laid<L: Ledger>(
     }
 }
 
-/// Combines a row that lies so.
+/// Combines a row that has this layout.
 #[inline(always)]
 fn combine_line<L: Ledger>(
     layout: Layout,
@@ -226,7 +226,7 @@ fn narrow_row<L: Ledger>(
     combine_run(words, shape, operator, rest, bits << near, steps);
 }
 
-/// Combines a row that begins at the same place of a word in page and source, of two words or more.
+/// Combines a row of at least two words that begins at the same place of a word in both.
 #[inline(always)]
 fn aligned_row<L: Ledger>(
     words: &mut WordsMut<'_>,
@@ -275,7 +275,7 @@ fn aligned_row<L: Ledger>(
     combine_run(words, shape, operator, end, bits, steps);
 }
 
-/// Combines the pixels of a run with those at the same places of `bits`.
+/// Combines the pixels of a run with the bits at the same places of `bits`.
 #[inline(always)]
 fn combine_run<L: Ledger>(
     words: &mut WordsMut<'_>,
@@ -304,7 +304,7 @@ fn combine_run<L: Ledger>(
     words.write(place, combined_word(operator, page, bits, mask), steps);
 }
 
-/// What `operator` makes of each bit of `page` that is set in `mask`.
+/// `page`, in which each bit that is set in `mask` is combined with that of `source` by `operator`.
 #[inline(always)]
 fn combined_word(operator: CombinationOperator, page: u64, source: u64, mask: u64) -> u64
     ensures { (b : ℕ) → b < 64 → bit result b

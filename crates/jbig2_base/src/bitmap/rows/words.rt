@@ -1,5 +1,5 @@
-//! The words of packed rows. This module alone indexes them: each of its calls reads or writes one word, or reads the
-//! two that neighbouring pixels lie in, and counts that. No other module gets a slice of them.
+//! The words of packed rows. Only this module indexes them. Each of its calls reads or writes one word, or reads the
+//! two words in which neighbouring pixels lie, and counts that. No other module gets a slice of them.
 ghost use Rattle.std.specs.Prelude.{◌≡◌, ℕ, ◌+◌, ◌-◌, ◌*◌, ◌/◌, ◌%◌, ◌^◌, ◌<◌, ◌≤◌, [], OnErr, Ok, true, if◌then◌else◌, length, slice_index, slice_set, bit_or};
 ghost use Rattle.jbig2_base.specs.Answer.{Gives};
 ghost use Rattle.jbig2_base.specs.Bits.{bit};
@@ -37,20 +37,20 @@ pub struct RowPlace {
     pub stride: usize,
 }
 
-/// Words that are lent to be read, one in a call.
+/// Words that are borrowed for reading, one in each call.
 #[derive(Clone, Copy)]
 pub struct Words<'a> {
     words: &'a [u64],
 }
 
-/// Words that are lent to be read and written, one in a call.
+/// Words that are borrowed for reading and writing, one in each call.
 #[derive(Drop)]
 pub struct WordsMut<'a> {
     words: &'a mut [u64],
 }
 
 impl<A: Allocator> PackedWords<A> {
-    /// No words, without memory.
+    /// No words; takes no memory.
     pub fn new(alloc: A) -> PackedWords<A>
         ensures { result ≡ [] }
     {
@@ -59,7 +59,7 @@ impl<A: Allocator> PackedWords<A> {
         }
     }
 
-    /// Takes the words of another size, with all pixels of one colour. A refusal changes nothing.
+    /// Changes the size, and makes all pixels one colour. A refusal changes nothing.
     pub fn refill(&mut self, width: u32, height: u32, black: bool) -> Result<()>
         ensures value { Gives (λ _. self.new) result (Ok (blank_words width height black)) }
         ensures err { OnErr result (self.new ≡ self.old) }
@@ -73,7 +73,7 @@ impl<A: Allocator> PackedWords<A> {
         Ok(())
     }
 
-    /// The same words in memory of their own. Each counts as loaded and written.
+    /// A copy of the words in new memory. Each counts as loaded and written.
     pub fn duplicate<B: Allocator, L: Ledger>(
         &self,
         alloc: B,
@@ -88,8 +88,8 @@ impl<A: Allocator> PackedWords<A> {
         Ok(PackedWords { words })
     }
 
-    /// `count` neighbouring bits of a row from bit `x` on, 1 to 64 of them: the first in the highest of the lowest
-    /// `count` bits, 0 past the row. One load.
+    /// `count` neighbouring bits of a row from bit `x` on, 1 to 64 of them. The first is in the highest of the
+    /// lowest `count` bits. Bits past the row are 0. Counts one load.
     #[inline(always)]
     pub fn load_bits<L: Ledger>(
         &self,
@@ -116,7 +116,7 @@ impl<A: Allocator> PackedWords<A> {
         (first | second) >> (64 - count)
     }
 
-    /// Word `index` of a row, 0 past it.
+    /// Word `index` of a row; 0 past the row.
     #[inline(always)]
     fn word(&self, row: RowPlace, index: u32) -> u64
         requires { 0 < row.stride → row.first + row.stride ≤ length self.now }
@@ -129,7 +129,7 @@ impl<A: Allocator> PackedWords<A> {
         self.words[row.first + index as usize]
     }
 
-    /// Sets a bit of a word, the leftmost being 0, if `black` says so. One word.
+    /// Sets bit `offset` of a word, where the leftmost is 0, if `black` is true. Counts one word.
     #[inline(always)]
     pub fn blacken<L: Ledger>(
         &mut self,
@@ -150,7 +150,7 @@ impl<A: Allocator> PackedWords<A> {
         }
     }
 
-    /// Replaces the `count` bits of a word from `shift` on by the lowest `count` of `bits`. One word.
+    /// Replaces `count` bits of a word from `shift` on by the lowest of `bits`. Counts one word.
     #[inline(always)]
     pub fn write_field<L: Ledger>(
         &mut self,
@@ -172,7 +172,7 @@ impl<A: Allocator> PackedWords<A> {
         self.words[index] = with_field(self.words[index], shift, count, bits);
     }
 
-    /// The words of a row, lent to be read one by one.
+    /// The words of a row, borrowed for reading one by one.
     #[inline(always)]
     pub fn row(&self, row: RowPlace) -> Words<'_>
         requires { row.first + row.stride ≤ length self.now }
@@ -185,8 +185,7 @@ impl<A: Allocator> PackedWords<A> {
         }
     }
 
-    /// Combines a block with the source's pixels that lie on it, as `combine_rows` does, which these words and the
-    /// source's are lent to.
+    /// Combines a block with the source's pixels on it. Calls `combine_rows` with the words of both.
     #[inline(always)]
     pub fn combine<B: Allocator, L: Ledger>(
         &mut self,
@@ -213,7 +212,7 @@ impl<A: Allocator> PackedWords<A> {
     }
 }
 
-/// Lends the words of a page to `combine_rows`.
+/// Calls `combine_rows` with the words of a page.
 #[inline(always)]
 fn combine_lent<L: Ledger>(
     words: &mut [u64],
@@ -234,7 +233,7 @@ fn combine_lent<L: Ledger>(
 }
 
 impl<'a> Words<'a> {
-    /// How many there are.
+    /// The number of words.
     #[inline(always)]
     pub fn len(self) -> usize
         ensures { result ≡ length self.entry.words.now }
@@ -242,7 +241,7 @@ impl<'a> Words<'a> {
         self.words.len()
     }
 
-    /// A word. One load.
+    /// Word `index`. Counts one load.
     #[inline(always)]
     pub fn load<L: Ledger>(self, index: usize, steps: &mut Steps<L>) -> u64
         requires { index < length self.words.now }
@@ -255,7 +254,7 @@ impl<'a> Words<'a> {
 }
 
 impl<'a> WordsMut<'a> {
-    /// A word. One load.
+    /// Word `index`. Counts one load.
     #[inline(always)]
     pub fn load<L: Ledger>(&self, index: usize, steps: &mut Steps<L>) -> u64
         requires { index < length self.now.words.now }
@@ -266,7 +265,7 @@ impl<'a> WordsMut<'a> {
         self.words[index]
     }
 
-    /// Puts a word in the place of another. One word.
+    /// Replaces word `index`. Counts one word.
     #[inline(always)]
     pub fn write<L: Ledger>(&mut self, index: usize, word: u64, steps: &mut Steps<L>)
         requires { index < length self.old.words.now }
@@ -279,7 +278,7 @@ impl<'a> WordsMut<'a> {
     }
 }
 
-/// `word` with the `count` bits from `shift` on replaced by the lowest `count` of `bits`.
+/// `word` with the `count` bits from `shift` on replaced by the lowest `count` bits of `bits`.
 #[inline(always)]
 fn with_field(word: u64, shift: u32, count: u32, bits: u64) -> u64
     requires some { 1 ≤ count }
@@ -290,7 +289,7 @@ fn with_field(word: u64, shift: u32, count: u32, bits: u64) -> u64
     (word & !mask) | ((bits << shift) & mask)
 }
 
-/// Makes zeroed words rows of one colour.
+/// Makes rows of one colour of words that are zero.
 fn fill_rows<A: Allocator>(words: &mut Vec<u64, A>, width: u32, black: bool)
     requires columns { 0 < length words.old.items → 0 < width }
     requires zero { (k : ℕ) → k < length words.old.items → slice_index words.old.items k ≡ 0 }

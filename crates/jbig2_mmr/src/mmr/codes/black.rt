@@ -3,14 +3,14 @@ ghost use Rattle.std.specs.Prelude.{◌≡◌, ◌^◌, ◌<◌, []};
 ghost use Rattle.jbig2_mmr.specs.T6Codes.{black_runs};
 ghost use Rattle.jbig2_mmr.specs.inner.T6Reading.{entry_of, code_at, spell};
 
-/// By the next 6 bits, where the next 13 are 512 or more.
+/// The index is the next 6 bits, if the next 13 are 512 or more.
 pub static BLACK_SHORT: [u16; 64] = [
     0, 0, 0, 0, 150, 134, 117, 117, 100, 100, 100, 100, 84, 84, 84, 84, 19, 19, 19, 19, 19, 19, 19,
     19, 67, 67, 67, 67, 67, 67, 67, 67, 50, 50, 50, 50, 50, 50, 50, 50, 50, 50, 50, 50, 50, 50, 50,
     50, 34, 34, 34, 34, 34, 34, 34, 34, 34, 34, 34, 34, 34, 34, 34, 34,
 ];
 
-/// By the next 13 bits, where they are below 512.
+/// The index is the next 13 bits, if they are below 512.
 pub static BLACK_LONG: [u16; 512] = [
     0, 0, 0, 0, 0, 0, 0, 0, 0, 0, 0, 0, 0, 0, 0, 0, 0, 0, 0, 0, 0, 0, 0, 0, 0, 0, 0, 0, 0, 0, 0, 0,
     28683, 28683, 28683, 28683, 31756, 31756, 32780, 32780, 33804, 33804, 34828, 34828, 35852,

@@ -3,7 +3,7 @@ ghost use Rattle.std.specs.Prelude.{◌≡◌, ◌^◌, ◌<◌, []};
 ghost use Rattle.jbig2_mmr.specs.T6Codes.{white_runs};
 ghost use Rattle.jbig2_mmr.specs.inner.T6Reading.{entry_of, code_at, spell};
 
-/// By the next 9 bits, where the next 12 are 32 or more.
+/// The index is the next 9 bits, if the next 12 are 32 or more.
 pub static WHITE_SHORT: [u16; 512] = [
     0, 0, 0, 0, 472, 472, 488, 488, 728, 728, 744, 744, 359, 359, 359, 359, 375, 375, 375, 375,
     760, 760, 776, 776, 214, 214, 214, 214, 214, 214, 214, 214, 327, 327, 327, 327, 536, 536, 552,
@@ -34,7 +34,7 @@ pub static WHITE_SHORT: [u16; 512] = [
     116, 116, 116, 116, 116, 116, 116, 116, 116, 116, 116, 116, 116, 116,
 ];
 
-/// By the next 12 bits, where they are below 32.
+/// The index is the next 12 bits, if they are below 32.
 pub static WHITE_LONG: [u16; 32] = [
     0, 0, 0, 0, 0, 0, 0, 0, 0, 0, 0, 0, 0, 0, 0, 0, 28683, 28683, 31756, 32780, 33804, 34828,
     35852, 36876, 29707, 29707, 30731, 30731, 37900, 38924, 39948, 40972,
