@@ -10,7 +10,7 @@ use Rattle.jbig2_base.specs.declared.error.SymbolError.TheVariants.{OutOfRange, 
 use Rattle.jbig2_coder.specs.PrefixCode.{Member}
 use Rattle.jbig2_region.specs.RegionInfo.{region_info_at}
 use Rattle.jbig2_text.specs.Refining.{Refining}
-use Rattle.jbig2_text.specs.Text.{Reached, Readings, TextParams, after_instances, coordinate, cursor_moved, instance_symbol, plain_symbol, refined_symbol, strip_begun, strip_delta, symbol_of, t_in_strip, text_instances, text_region, with_instance, with_symbol}
+use Rattle.jbig2_text.specs.Text.{Reached, Readings, TextParams, after_instances, coordinate, cursor_moved, instance_symbol, plain_symbol, refined_symbol, strip_begun, strip_delta, symbol_of, t_in_strip, text_region, with_instance, with_symbol}
 use Rattle.jbig2_text.specs.TextCoding.{by_coder, by_prefix_codes}
 use Rattle.jbig2_text.specs.TextHeader.{NumberCoding, TextHeader, ArithmeticCoding, HuffmanCoding, coding_at, text_fields_at, text_header_at}
 use Rattle.jbig2_text.specs.TextRegion.{coder_of, prefix_codes_of, refining_of, region_by, region_from, text_answer, text_decoded, text_params}
@@ -36,7 +36,7 @@ unfolding with_instance
 with-instance-same r p x =
     same-then (t_in_strip r p.flags x.state) _ _ (λ curt. same-then (coordinate (x.cursor.strip_t +ℤ curt.0)) _ _ (λ ti. same-then (r.id curt.1) _ _ (λ id.
     same-next (instance_symbol r p id.0 x.refining id.1) (instance_symbol r (lenient_params p) id.0 x.refining id.1) _ _ (instance-symbol-same r p id.0 x.refining id.1) (λ ib.
-    same-itself (with_symbol p.flags x.instances x.cursor ti ib.0 >>= λ more. Ok (record { instances = more.0; cursor = more.1; refining = ib.1; state = ib.2 }))))))
+    same-itself (with_symbol p.flags x.region x.cursor ti ib.0 >>= λ more. Ok (record { region = more.0; cursor = more.1; refining = ib.1; state = ib.2 }))))))
 
 after-instances-same : {S : Type 0} (r : Readings S) (p : TextParams) (n : ℕ) (x : Reached S) → Same (after_instances r p n x) (after_instances r (lenient_params p) n x)
 unfolding after_instances
@@ -51,20 +51,16 @@ ends-same true (Ok ids) = same-refusal (is_some ids) (Symbol TooManyInstances)
 ends-same true (Err e) = tt
 ends-same false delta = refl
 
-text-instances-same : {S : Type 0} (r : Readings S) (p : TextParams) (f : Refining) (s : S) → Same (text_instances r p f s) (text_instances r (lenient_params p) f s)
-unfolding text_instances
-text-instances-same r p f s =
-    same-then (refuse_if (nat_lt (32 * p.data_length) p.count) (Symbol TooManyInstances)) _ _ (λ few. same-then (strip_delta r p.flags s) _ _ (λ dt.
-    same-then (coordinate (pos 0 -ℤ dt.0)) _ _ (λ stript. same-if (eqb p.count 0) (Ok ([], f, dt.1)) (Ok ([], f, dt.1)) _ _ refl
-    (same-then (strip_begun r p.flags stript (pos 0) dt.1) _ _ (λ c.
-    same-next (after_instances r p (p.count - 1) (record { instances = []; cursor = c.0; refining = f; state = c.1 })) (after_instances r (lenient_params p) (p.count - 1) (record { instances = []; cursor = c.0; refining = f; state = c.1 })) _ _
-    (after-instances-same r p (p.count - 1) (record { instances = []; cursor = c.0; refining = f; state = c.1 })) (λ x.
-    same-next (with_instance r p x) (with_instance r (lenient_params p) x) _ _ (with-instance-same r p x) (λ last.
-    same-next (cond p.strict (r.delta_s last.state >>= λ ids. refuse_if (is_some ids) (Symbol TooManyInstances)) (Ok tt)) (Ok tt) _ _ (ends-same p.strict (r.delta_s last.state)) (λ ends. refl))))))))
-
 pub text-region-same : {S : Type 0} (r : Readings S) (p : TextParams) (region : Grid) (f : Refining) (s : S) → Same (text_region r p region f s) (text_region r (lenient_params p) region f s)
 unfolding text_region
-text-region-same r p region f s = same-next (text_instances r p f s) (text_instances r (lenient_params p) f s) _ _ (text-instances-same r p f s) (λ found. refl)
+text-region-same r p region f s =
+    same-then (refuse_if (nat_lt (32 * p.data_length) p.count) (Symbol TooManyInstances)) _ _ (λ few. same-then (strip_delta r p.flags s) _ _ (λ dt.
+    same-then (coordinate (pos 0 -ℤ dt.0)) _ _ (λ stript. same-if (eqb p.count 0) (Ok (region, f, dt.1)) (Ok (region, f, dt.1)) _ _ refl
+    (same-then (strip_begun r p.flags stript (pos 0) dt.1) _ _ (λ c.
+    same-next (after_instances r p (p.count - 1) (record { region = region; cursor = c.0; refining = f; state = c.1 })) (after_instances r (lenient_params p) (p.count - 1) (record { region = region; cursor = c.0; refining = f; state = c.1 })) _ _
+    (after-instances-same r p (p.count - 1) (record { region = region; cursor = c.0; refining = f; state = c.1 })) (λ x.
+    same-next (with_instance r p x) (with_instance r (lenient_params p) x) _ _ (with-instance-same r p x) (λ last.
+    same-next (cond p.strict (r.delta_s last.state >>= λ ids. refuse_if (is_some ids) (Symbol TooManyInstances)) (Ok tt)) (Ok tt) _ _ (ends-same p.strict (r.delta_s last.state)) (λ ends. refl))))))))
 
 -- ---- text regions
 abbrev pub lenient_text : TextHeader → TextHeader

@@ -1,10 +1,12 @@
 -- What a region decodes to is a table of its size.
-use Rattle.std.proofs.Common.{◌≡◌, ℕ, ◌+◌, ◌*◌, Bool, true, false, not, ◌&&◌, if◌then◌else◌, ℤ, List, [], ◌∷◌, slice_index_or, Result, Ok, Err, refl, sym, ◌∙◌, ap, subst}
-use Rattle.jbig2_base.specs.Answer.{◌>>=◌}
+use Rattle.std.proofs.Common.{◌≡◌, ℕ, zero, suc, ◌+◌, ◌-◌, ◌*◌, eqb, nat_lt, Bool, true, false, not, ◌&&◌, if◌then◌else◌, ℤ, pos, ◌+ℤ◌, ◌-ℤ◌, List, [], ◌∷◌, slice_index_or, Option, Some, None, Result, Ok, Err, refl, sym, ◌∙◌, ap, subst}
+use Rattle.jbig2_base.specs.Answer.{◌>>=◌, refuse_if}
 use Rattle.jbig2_base.specs.Combination.{combined, drawn_pixel}
 use Rattle.jbig2_base.specs.Grid.{Grid, grid_of, blank}
 use Rattle.jbig2_base.specs.declared.bitmap.operator.CombinationOperator.{CombinationOperator}
 use Rattle.jbig2_base.specs.declared.error.DecodeError.{DecodeError}
+use Rattle.jbig2_base.specs.declared.error.DecodeError.TheVariants.{Symbol}
+use Rattle.jbig2_base.specs.declared.error.SymbolError.TheVariants.{TooManyInstances}
 use Rattle.jbig2_halftone.specs.GrayScale.{gray_scale_image}
 use Rattle.jbig2_halftone.specs.Halftone.{cells_drawn, gray_params, halftone_answer, pattern_for, with_cell}
 use Rattle.jbig2_halftone.specs.HalftoneHeader.{HalftoneHeader}
@@ -16,7 +18,10 @@ use Rattle.jbig2_region.specs.Raster.{so_far}
 use Rattle.jbig2_region.specs.Refinement.{offset, refined_answer, refined_grid, refined_region}
 use Rattle.jbig2_region.specs.RefinementHeader.{RefinementHeader}
 use Rattle.jbig2_text.specs.Refining.{Refining}
-use Rattle.jbig2_text.specs.Text.{Found, Instance, Readings, instances_drawn, text_instances, text_region}
+use Rattle.jbig2_text.specs.Text.{Reached, Readings, TextParams, after_instances, coordinate, cursor_moved, instance_symbol, strip_begun, strip_delta, symbol_placed, t_in_strip, text_region, with_instance, with_symbol}
+use Rattle.jbig2_text.specs.declared.text.cursor.Cursor.{Cursor}
+use Rattle.jbig2_text.specs.declared.text.header.TextRegionFlags.{TextRegionFlags}
+use Rattle.jbig2_text.specs.inner.Parts.{end_of_strip}
 use Rattle.jbig2_text.specs.TextCoding.{by_coder, by_prefix_codes}
 use Rattle.jbig2_text.specs.TextHeader.{NumberCoding, TextHeader, ArithmeticCoding, HuffmanCoding}
 use Rattle.jbig2_text.specs.TextRegion.{coder_of, prefix_codes_of, refining_of, region_by, region_from, text_answer, text_params}
@@ -90,20 +95,67 @@ halftone-made h d g is =
     is
 
 -- ---- text regions
-instances-made : (w h : ℕ) (op : CombinationOperator) (instances : List Instance) (region : Grid) → Made w h region → Made w h (instances_drawn op instances region)
-instances-made w h op [] region made = made
-instances-made w h op (i ∷ others) region made = instances-made w h op others (combined op region i.grid i.x i.y) (combined-made w h op region i.grid i.x i.y made)
+-- this holds for what a step gives, if it gives something
+abbrev OnValue : {X : Type 0} → (X → Type 0) → Result X DecodeError → Type 0
+OnValue {X} P a = (x : X) → a ≡ Ok x → P x
 
-abbrev behind : {S : Type 0} → CombinationOperator → Grid → Found S → Result (Grid × Refining × S) DecodeError
-behind op region found = Ok (instances_drawn op found.0 region, found.1, found.2)
+value-next : {X Y : Type 0} (P : Y → Type 0) (a : Result X DecodeError) (next : X → Result Y DecodeError) → ((x : X) → a ≡ Ok x → OnValue P (next x)) → OnValue P (a >>= next)
+value-next P (Ok x) next each = each x refl
+value-next P (Err e) next each = λ y is. absurd cc
 
-found-made : {S : Type 0} (w h : ℕ) (op : CombinationOperator) (a : Result (Found S) DecodeError) (region g : Grid) → Made w h region → (a >>= behind op region >>= λ found. Ok found.0) ≡ Ok g → Made w h g
-found-made w h op (Ok found) region g made is = subst (Made w h) (sym (ok-same (instances_drawn op found.0 region) g is)) (instances-made w h op found.0 region made)
-found-made w h op (Err e) region g made is = absurd (let never : bad {X = Grid} e ≡ good g = is in cc)
+value-is : {Y : Type 0} (P : Y → Type 0) (y : Y) → P y → OnValue P (Ok y)
+value-is P y holds = λ z is. subst P cc holds
+
+value-if : {Y : Type 0} (P : Y → Type 0) (t : Bool) (a b : Result Y DecodeError) → OnValue P a → OnValue P b → OnValue P (if t then a else b)
+value-if P true a b one other = one
+value-if P false a b one other = other
+
+symbol-made : {w v : ℕ} (flags : TextRegionFlags) (region : Grid) (c : Cursor) (ti : ℤ) (ib : Option Grid) → Made w v region → OnValue (λ more. Made w v more.0) (with_symbol flags region c ti ib)
+symbol-made {w} {v} flags region c ti None made = value-is (λ more. Made w v more.0) (region, c) made
+symbol-made {w} {v} flags region c ti (Some g) made =
+    value-next (λ more. Made w v more.0) (symbol_placed flags g c.cur_s ti) _ (λ i is.
+    value-is (λ more. Made w v more.0) (combined flags.combination_operator region i.0.grid i.0.x i.0.y, record c { cur_s = i.1 })
+    (combined-made w v flags.combination_operator region i.0.grid i.0.x i.0.y made))
+
+instance-made : {w v : ℕ} {S : Type 0} (r : Readings S) (p : TextParams) (x : Reached S) → Made w v x.region → OnValue (λ y. Made w v y.region) (with_instance r p x)
+unfolding with_instance
+instance-made {w} {v} {S} r p x made =
+    let P : Reached S → Type 0 = λ y. Made w v y.region in
+    value-next P (t_in_strip r p.flags x.state) _ (λ t t_is.
+    value-next P (coordinate (x.cursor.strip_t +ℤ t.0)) _ (λ ti ti_is.
+    value-next P (r.id t.1) _ (λ id id_is.
+    value-next P (instance_symbol r p id.0 x.refining id.1) _ (λ ib ib_is.
+    value-next P (with_symbol p.flags x.region x.cursor ti ib.0) _ (λ more more_is.
+    value-is P (record { region = more.0; cursor = more.1; refining = ib.1; state = ib.2 }) (symbol-made p.flags x.region x.cursor ti ib.0 made more more_is))))))
+
+instances-made : {w v : ℕ} {S : Type 0} (r : Readings S) (p : TextParams) (n : ℕ) (x : Reached S) → Made w v x.region → OnValue (λ y. Made w v y.region) (after_instances r p n x)
+unfolding after_instances
+instances-made {w} {v} {S} r p zero x made = value-is (λ (y : Reached S). Made w v y.region) x made
+instances-made {w} {v} {S} r p (suc n) x made =
+    let P : Reached S → Type 0 = λ y. Made w v y.region in
+    value-next P (with_instance r p x) _ (λ y y_is.
+    value-next P (cursor_moved r p.flags y.cursor y.state) _ (λ c c_is.
+    instances-made r p n (record y { cursor = c.0; state = c.1 }) (instance-made r p x made y y_is)))
+
+region-made : {w v : ℕ} {S : Type 0} (r : Readings S) (p : TextParams) (region : Grid) (f : Refining) (s : S) → Made w v region → OnValue (λ drawn. Made w v drawn.0) (text_region r p region f s)
+unfolding text_region
+region-made {w} {v} {S} r p region f s made =
+    let P : Grid × Refining × S → Type 0 = λ drawn. Made w v drawn.0 in
+    value-next P (refuse_if (nat_lt (32 * p.data_length) p.count) (Symbol TooManyInstances)) _ (λ few few_is.
+    value-next P (strip_delta r p.flags s) _ (λ dt dt_is.
+    value-next P (coordinate (pos 0 -ℤ dt.0)) _ (λ stript stript_is.
+    value-if P (eqb p.count 0) _ _ (value-is P (region, f, dt.1) made) (value-next P (strip_begun r p.flags stript (pos 0) dt.1) _ (λ c c_is.
+    value-next P (after_instances r p (p.count - 1) (record { region = region; cursor = c.0; refining = f; state = c.1 })) _ (λ x x_is.
+    value-next P (with_instance r p x) _ (λ last last_is.
+    value-next P (end_of_strip p.strict (r.delta_s last.state)) _ (λ ends ends_is.
+    value-is P (last.region, last.refining, r.behind_delta_s last.state)
+    (instance-made r p x (instances-made r p (p.count - 1) (record { region = region; cursor = c.0; refining = f; state = c.1 }) made x x_is) last last_is)))))))))
 
 from-made : {S : Type 0} (w v : ℕ) (r : Readings S) (h : TextHeader) (symbols : List Grid) (region g : Grid) (s : S) → Made w v region → region_from r h symbols region s ≡ Ok g → Made w v g
-unfolding region_from text_region
-from-made w v r h symbols region g s made is = found-made w v h.flags.combination_operator (text_instances r (text_params h symbols) (refining_of h) s) region g made is
+unfolding region_from
+from-made w v r h symbols region g s made is =
+    value-next (Made w v) (text_region r (text_params h symbols) region (refining_of h) s) _ (λ drawn drawn_is.
+    value-is (Made w v) drawn.0 (region-made r (text_params h symbols) region (refining_of h) s made drawn drawn_is)) g is
 
 by-made : (w v : ℕ) (h : TextHeader) (coding : NumberCoding) (symbols : List Grid) (customs : List (List Member)) (region g : Grid) → Made w v region → region_by h coding symbols customs region ≡ Ok g → Made w v g
 by-made w v h ArithmeticCoding symbols customs region g made is = from-made w v by_coder h symbols region g (coder_of h symbols) made is

@@ -112,6 +112,13 @@ impl<A: Allocator> Bitmap<A> {
         self.rows.refill(width, height, default_pixel)
     }
 
+    /// Makes all pixels one colour: black if `black` is true.
+    pub fn fill(&mut self, black: bool)
+        ensures { self.new ≡ blank self.old.width self.old.height black }
+    {
+        self.rows.fill(black);
+    }
+
     /// The number of columns.
     #[inline(always)]
     pub fn width(&self) -> u32

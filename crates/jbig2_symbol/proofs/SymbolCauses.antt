@@ -7,7 +7,7 @@ use Rattle.jbig2_base.specs.Bits.{Place, bits_left, bits_on}
 use Rattle.jbig2_base.specs.Causes.{BreaksSides, HasCauseOrNoMemory, InSteps, IsOf}
 use Rattle.jbig2_base.proofs.CauseSteps.{call-cause-or-memory}
 use Rattle.jbig2_base.specs.Fields.{end_of_bytes}
-use Rattle.jbig2_base.specs.Grid.{Grid}
+use Rattle.jbig2_base.specs.Grid.{Grid, blank}
 use Rattle.jbig2_base.specs.declared.error.DecodeError.{DecodeError}
 use Rattle.jbig2_base.specs.declared.error.DecodeError.TheVariants as errors
 use Rattle.jbig2_base.specs.declared.error.OverflowError.TheVariants.{BitmapDimension}
@@ -17,7 +17,7 @@ use Rattle.jbig2_coder.specs.PrefixCode.{Member, decoded_value}
 use Rattle.jbig2_coder.specs.declared.integer_procedures.IntegerProcedure.TheVariants.{Iaai}
 use Rattle.jbig2_text.specs.Causes.{Behind, BreaksInstances, ReadingsHaveCauses, NamesNone, ReadingCauses, RefusesValue, coder_causes, prefix_causes}
 use Rattle.jbig2_text.specs.Refining.{Refining}
-use Rattle.jbig2_text.specs.Text.{Readings, TextParams, some_symbol, symbol_of, text_instances, text_region}
+use Rattle.jbig2_text.specs.Text.{Readings, TextParams, some_symbol, symbol_of, text_region}
 use Rattle.jbig2_text.specs.TextCoding.{Coded, Prefixed, by_coder, by_prefix_codes, next_id}
 use Rattle.jbig2_symbol.specs.Causes.{BreaksByInstances, BreaksCodedAggregate, BreaksCount, BreaksPrefixedAggregate}
 use Rattle.jbig2_symbol.specs.SymbolBitmaps.{aggregate_params, by_instances, coded_aggregate, fits_symbol, id_bits, instance_count, plain_id, prefixed_aggregate, prefixed_at, put_together, refined_alone}
@@ -64,11 +64,12 @@ cause-alone c r a P symbols id width height f s why =
     cause-more (c.refined rdy.1) P (r.refined _ width height f rdy.1) (a.refined _ width height f rdy.1) (λ e no. why e (inr (rdx, x_is, inr (rdy, y_is, inr (inr no)))))))))
 
 cause-together : {S : Type 0} (c : ReadingCauses S) (r : Readings S) (a : ReadingsHaveCauses r c) (P : DecodeError → Type 0) (p : TextParams) (width height : ℕ) (f : Refining) (s : S)
-    → ((e : DecodeError) → BreaksSides width height e ⊎ BreaksInstances c r p f s e → P e) → IfErr (put_together r p width height f s) P
-unfolding put_together text_region
+    → ((e : DecodeError) → BreaksSides width height e ⊎ BreaksInstances c r p (blank width height false) f s e → P e) → IfErr (put_together r p width height f s) P
+unfolding put_together
 cause-together c r a P p width height f s why =
     cause-next P (fits_symbol width height) _ (cause-more (BreaksSides width height) P (fits_symbol width height) (sides-cause width height) (λ e no. why e (inl no))) (λ fits fits_is.
-    cause-next P (text_instances r p f s) _ (cause-more (BreaksInstances c r p f s) P (text_instances r p f s) (all_instance_causes c r a p f s) (λ e no. why e (inr no))) (λ found found_is. tt))
+    let region : Grid = blank width height false in
+    cause-more (BreaksInstances c r p region f s) P (text_region r p region f s) (all_instance_causes c r a p region f s) (λ e no. why e (inr no)))
 
 cause-instances : {S : Type 0} (c : ReadingCauses S) (r : Readings S) (a : ReadingsHaveCauses r c) (alone : S → Result (ℤ × S) DecodeError) (lacks : S → DecodeError → Type 0) (law : (s : S) → IfErr (alone s) (lacks s)) (p : TextParams) (width height : ℕ) (f : Refining) (s : S)
     → IfErr (by_instances r alone p width height f s) (BreaksByInstances c r alone lacks p width height f s)

@@ -16,7 +16,7 @@ use Rattle.jbig2_region.specs.Raster.{so_far, with_next, after_pixel, row_begun,
 use Rattle.jbig2_region.specs.Refinement.{refined_context}
 use Rattle.jbig2_region.specs.RefinementTemplates.{refinement_pixels_at}
 use Rattle.jbig2_text.specs.Refining.{refined_by}
-use Rattle.jbig2_text.specs.Text.{strip_delta, strip_begun, cursor_moved, instance_symbol, symbol_placed, with_instance, after_instances, text_instances, text_region}
+use Rattle.jbig2_text.specs.Text.{strip_delta, strip_begun, cursor_moved, instance_symbol, symbol_placed, with_instance, after_instances, text_region}
 use Rattle.jbig2_symbol.specs.SymbolBitmaps.{instance_count, refined_alone, put_together, prefixed_aggregate}
 use Rattle.jbig2_symbol.specs.Symbols.{ended_runs, exported_from, next_run, runs_from, exports, Symbols, symbols_decoded}
 use Rattle.jbig2_symbol.specs.SymbolHeader.{symbol_flags_of, symbol_header_at}
@@ -54,5 +54,5 @@ row_R8_2-none = refl
 
 -- a black symbol drawn twice at the same place, and the delta S after the second instance
 two_instances : dictionary dot (one_symbol (0x42 ∷ 0 ∷ 0 ∷ 0x1F ∷ 0xC2 ∷ 0x10 ∷ [])) ≡ Ok (record { exported = dot ∷ []; kept = None })
-unfolding dictionary symbol_header_at symbol_flags_of symbols_decoded first_contexts symbol_tables is_crowded weight table_for classes_from height_class drawn_class symbols_from next_width prefixed_aggregate instance_count refined_alone put_together text_region text_instances after_instances with_instance symbol_placed instance_symbol cursor_moved strip_begun strip_delta lines_f lines_h lines_k drawn_pixel exports runs_from next_run exported_from ended_runs decoded_value read_code least prefix_code shorter lines_a lines_b lines_d lines_o bits_left bits_on table pixel_at refinement_pixels_at
+unfolding dictionary symbol_header_at symbol_flags_of symbols_decoded first_contexts symbol_tables is_crowded weight table_for classes_from height_class drawn_class symbols_from next_width prefixed_aggregate instance_count refined_alone put_together text_region after_instances with_instance symbol_placed instance_symbol cursor_moved strip_begun strip_delta lines_f lines_h lines_k drawn_pixel exports runs_from next_run exported_from ended_runs decoded_value read_code least prefix_code shorter lines_a lines_b lines_d lines_o bits_left bits_on table pixel_at refinement_pixels_at
 two_instances = refl

@@ -6,7 +6,7 @@ use Rattle.std.specs.Prelude.{pos, negsuc, ◌+ℤ◌}
 use Rattle.std.specs.Int.{w16, w32}
 use Rattle.jbig2_base.specs.Bits.{Place, aligned, bits_left}
 use Rattle.jbig2_base.specs.Causes.{BreaksSides, InSteps, IsOf, number_in}
-use Rattle.jbig2_base.specs.Grid.{Grid, bit_number}
+use Rattle.jbig2_base.specs.Grid.{Grid, bit_number, blank}
 use Rattle.jbig2_base.specs.declared.error.DecodeError.{DecodeError}
 use Rattle.jbig2_base.specs.declared.error.OverflowError.TheVariants.{SymbolCount, BitmapDimension}
 use Rattle.jbig2_base.specs.declared.error.ParseError.TheVariants.{UnexpectedEof}
@@ -124,7 +124,7 @@ BreaksByInstances c r alone lacks p width height f s e =
     ⊎ Behind (r.x_delta id.1) (λ rdx. c.y_delta rdx.1 e
     ⊎ Behind (r.y_delta rdx.1) (λ rdy.
     ((e ≡ errors.Symbol OutOfRange) × NamesNone p.symbols id.0) ⊎ BreaksSides width height e ⊎ c.refined rdy.1 e)))))
-    ⊎ ((p.count ≢ 1) × (BreaksSides width height e ⊎ BreaksInstances c r p f s e))
+    ⊎ ((p.count ≢ 1) × (BreaksSides width height e ⊎ BreaksInstances c r p (blank width height false) f s e))
 
 -- The number of instances is refused, or then the instances. The arithmetic coder never refuses an id.
 abbrev pub BreaksCodedAggregate : SymbolInput → List Grid → ℕ → ℕ → SymbolState Coded → DecodeError → Type 0

@@ -5,7 +5,7 @@ use Rattle.jbig2_base.specs.declared.error.DecodeError.{DecodeError}
 use Rattle.jbig2_base.proofs.Answered.{Answered, IsAnswered, answered-if, answered-next, answered-refusal}
 use Rattle.jbig2_region.specs.Refinement.{Reference}
 use Rattle.jbig2_text.specs.Refining.{Refining}
-use Rattle.{jbig2_text.specs.Text.{Instance, Reached, Readings, TextParams, after_instances, cursor_moved, edge, instance_symbol, moved_by, plain_symbol, refined_outline, refined_symbol, refinement_deltas, side_of, some_symbol, strip_begun, strip_delta, symbol_placed, t_in_strip, text_instances, text_region, with_instance, with_symbol}, jbig2_base.specs.Fields.{word_or}}
+use Rattle.{jbig2_text.specs.Text.{Reached, Readings, TextParams, after_instances, cursor_moved, edge, instance_symbol, moved_by, plain_symbol, refined_outline, refined_symbol, refinement_deltas, side_of, some_symbol, strip_begun, strip_delta, symbol_placed, t_in_strip, text_region, with_instance, with_symbol}, jbig2_base.specs.Fields.{word_or}}
 use Rattle.jbig2_text.specs.inner.Parts.{s_before, s_behind}
 use Rattle.jbig2_text.specs.declared.text.cursor.Cursor.{Cursor}
 use Rattle.jbig2_text.specs.declared.text.refined.RefinementDeltas.{RefinementDeltas}
@@ -95,9 +95,9 @@ unfolding symbol_placed
 answered-placed flags g curs ti = search (answered-next, answered-before, answered-edge, answered-after) depth 8
 
 -- ---- instances
-answered-with_symbol : (flags : TextRegionFlags) (before : List Instance) (c : Cursor) (ti : ℤ) (g : Option Grid) → Answered (with_symbol flags before c ti g)
-answered-with_symbol flags before c ti None = tt
-answered-with_symbol flags before c ti (Some g) = search (answered-next, answered-placed)
+answered-with_symbol : (flags : TextRegionFlags) (region : Grid) (c : Cursor) (ti : ℤ) (g : Option Grid) → Answered (with_symbol flags region c ti g)
+answered-with_symbol flags region c ti None = tt
+answered-with_symbol flags region c ti (Some g) = search (answered-next, answered-placed)
 
 answered-instance : {S : Type 0} (r : Readings S) (a : AreAnswered r) (p : TextParams) (x : Reached S) → Answered (with_instance r p x)
 unfolding with_instance
@@ -110,11 +110,7 @@ answered-instances r a p (suc n) x =
     let others = answered-instances r a p n in
     search (answered-next, answered-instance r a, answered-cursor r a, others)
 
-answered-text_instances : {S : Type 0} (r : Readings S) (a : AreAnswered r) (p : TextParams) (f : Refining) (s : S) → Answered (text_instances r p f s)
-unfolding text_instances
-answered-text_instances r a p f s =
-    search (answered-next, answered-refusal, answered-if, answered-strip_delta r a, answered-word, answered-strip_begun r a, answered-instances r a, answered-instance r a, a.delta_s) depth 18
-
 pub answered-text_region : {S : Type 0} (r : Readings S) (a : AreAnswered r) (p : TextParams) (region : Grid) (f : Refining) (s : S) → Answered (text_region r p region f s)
 unfolding text_region
-answered-text_region r a p region f s = search (answered-next, answered-text_instances r a)
+answered-text_region r a p region f s =
+    search (answered-next, answered-refusal, answered-if, answered-strip_delta r a, answered-word, answered-strip_begun r a, answered-instances r a, answered-instance r a, a.delta_s) depth 18

@@ -14,7 +14,7 @@ use Rattle.jbig2_base.proofs.Causes.{cause-next, cause-refused}
 use Rattle.jbig2_coder.specs.Causes.{LeavesWord}
 use Rattle.jbig2_text.specs.Causes.{Behind, APlaceLeaves, ARefinementIsRefused, BreaksInstance, ReadingsHaveCauses, IsNoSide, NamesNone, ReadingCauses}
 use Rattle.jbig2_text.specs.Refining.{Refining}
-use Rattle.jbig2_text.specs.Text.{Instance, Reached, Readings, TextParams, coordinate, edge, grown, instance_symbol, is_bottom, is_last_along_s, is_right, plain_symbol, reference_offset, refined_outline, refined_symbol, refinement_deltas, side_of, some_symbol, symbol_of, symbol_placed, t_in_strip, with_instance, with_symbol}
+use Rattle.jbig2_text.specs.Text.{Reached, Readings, TextParams, coordinate, edge, grown, instance_symbol, is_bottom, is_last_along_s, is_right, plain_symbol, reference_offset, refined_outline, refined_symbol, refinement_deltas, side_of, some_symbol, symbol_of, symbol_placed, t_in_strip, with_instance, with_symbol}
 use Rattle.jbig2_text.specs.declared.text.cursor.Cursor.{Cursor}
 use Rattle.jbig2_text.specs.declared.text.header.TextRegionFlags.{TextRegionFlags}
 use Rattle.jbig2_text.specs.declared.text.refined.Outline.{Outline}
@@ -160,10 +160,10 @@ cause-placed P flags g curs ti leaves =
     (cause-edge P (is_bottom flags.reference_corner) g.height (cond flags.transposed si ti) (λ is large. leaves (inr (inr (is, rw si_is large))))) (λ y y_is.
     cause-next P (s_behind flags g si) _ (cause-behind P flags g curs si si_is (λ large. leaves (inl large))) (λ next next_is. tt))))
 
-cause-with : (P : DecodeError → Type 0) (flags : TextRegionFlags) (before : List Instance) (at : Cursor) (ti : ℤ) (o : Option Grid)
-    → ((g : Grid) → o ≡ Some g → APlaceLeaves flags g at.cur_s ti → P (Overflow PlacementCoordinate)) → IfErr (with_symbol flags before at ti o) P
-cause-with P flags before at ti None leaves = tt
-cause-with P flags before at ti (Some g) leaves = cause-next P (symbol_placed flags g at.cur_s ti) _ (cause-placed P flags g at.cur_s ti (leaves g refl)) (λ i i_is. tt)
+cause-with : (P : DecodeError → Type 0) (flags : TextRegionFlags) (region : Grid) (at : Cursor) (ti : ℤ) (o : Option Grid)
+    → ((g : Grid) → o ≡ Some g → APlaceLeaves flags g at.cur_s ti → P (Overflow PlacementCoordinate)) → IfErr (with_symbol flags region at ti o) P
+cause-with P flags region at ti None leaves = tt
+cause-with P flags region at ti (Some g) leaves = cause-next P (symbol_placed flags g at.cur_s ti) _ (cause-placed P flags g at.cur_s ti (leaves g refl)) (λ i i_is. tt)
 
 -- ---- an instance
 pub instance_causes : {S : Type 0} (c : ReadingCauses S) (r : Readings S) (a : ReadingsHaveCauses r c) (p : TextParams) (x : Reached S) → IfErr (with_instance r p x) (BreaksInstance c r p x)
@@ -183,5 +183,5 @@ instance_causes c r a p x =
       flag = λ e no. inr (inr (inr (inr (inr (inr (inl (t, t_is, (id, id_is, no))))))));
       refused = λ e no. inr (inr (inr (inr (inr (inr (inr (t, t_is, (id, id_is, no))))))));
     })) (λ ib ib_is.
-    cause-next P (with_symbol p.flags x.instances x.cursor ti ib.0) _
-    (cause-with P p.flags x.instances x.cursor ti ib.0 (λ g g_is leaves. inr (inr (inr (inl (refl, (t, t_is, inr (id, id_is, (ib, ib_is, (g, g_is, subst (λ (n : ℤ). APlaceLeaves p.flags g x.cursor.cur_s n) (sym ti_is) leaves)))))))))) (λ more more_is. tt)))))
+    cause-next P (with_symbol p.flags x.region x.cursor ti ib.0) _
+    (cause-with P p.flags x.region x.cursor ti ib.0 (λ g g_is leaves. inr (inr (inr (inl (refl, (t, t_is, inr (id, id_is, (ib, ib_is, (g, g_is, subst (λ (n : ℤ). APlaceLeaves p.flags g x.cursor.cur_s n) (sym ti_is) leaves)))))))))) (λ more more_is. tt)))))

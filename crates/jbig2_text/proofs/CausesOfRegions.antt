@@ -5,7 +5,7 @@ use Rattle.std.proofs.lemmas.Bool.{cond-true, eqb-false, eqb-true, lt-ltb, ltb-t
 use Rattle.jbig2_base.specs.Answer.{◌>>=◌, refuse_if}
 use Rattle.jbig2_base.specs.Bits.{Place, aligned, bits_left}
 use Rattle.jbig2_base.specs.Fields.{bytes_at, end_of_bytes}
-use Rattle.jbig2_base.specs.Grid.{Grid, blank}
+use Rattle.jbig2_base.specs.Grid.{Grid}
 use Rattle.jbig2_base.specs.declared.error.DecodeError.{DecodeError}
 use Rattle.jbig2_base.specs.declared.error.DecodeError.TheVariants.{Huffman, OutOfMemory, Symbol}
 use Rattle.jbig2_base.specs.declared.error.HuffmanError.TheVariants.{InvalidSelection, MissingTables}
@@ -19,12 +19,12 @@ use Rattle.jbig2_region.specs.Refinement.{Reference}
 use Rattle.jbig2_text.specs.SymbolCodes.{invalid_code, value_at}
 use Rattle.jbig2_text.specs.Causes.{Behind, RefusesNumber, BreaksInstance, BreaksInstances, BreaksStrip, ReadingsHaveCauses, ReadingCauses, BreaksRegionBy, BreaksTextRegion, BreaksTextTables, HasNoMeaning, IsOutOfBand, LacksBytes, RefusesValue, coder_causes, customs_if, prefix_causes}
 use Rattle.jbig2_text.specs.Refining.{Refining}
-use Rattle.jbig2_text.specs.Text.{Reached, Readings, TextParams, after_instances, coordinate, cursor_moved, strip_begun, strip_delta, text_instances, text_region, with_instance}
+use Rattle.jbig2_text.specs.Text.{Reached, Readings, TextParams, after_instances, coordinate, cursor_moved, strip_begun, strip_delta, text_region, with_instance}
 use Rattle.jbig2_text.specs.declared.text.cursor.Cursor.{Cursor}
 use Rattle.jbig2_text.specs.inner.Parts.{end_of_strip, reached, some_strips, strips, table_of_size}
 use Rattle.jbig2_text.specs.TextCoding.{Coded, Prefixed, by_coder, by_prefix_codes, in_band, next_integer, number_by_coder, prefixed_refined, prefixed_value, sized_bytes}
 use Rattle.jbig2_text.specs.TextHeader.{ArithmeticCoding, HuffmanCoding, NumberCoding, TextHeader}
-use Rattle.jbig2_text.specs.TextRegion.{coder_of, one_of_three, one_of_two, prefix_codes_of, refining_of, region_by, region_from, text_answer, text_params, text_tables}
+use Rattle.jbig2_text.specs.TextRegion.{blank_region, coder_of, one_of_three, one_of_two, prefix_codes_of, refining_of, region_by, region_from, text_answer, text_params, text_tables}
 use Rattle.jbig2_text.proofs.Causes.{cause-bits, cause-value, own-error}
 use Rattle.jbig2_text.proofs.CausesOfInstances.{instance_causes}
 use Rattle.jbig2_text.proofs.CausesOfText.{BreaksMove, cause-delta, cause-move, cause-strip, told-word}
@@ -54,19 +54,19 @@ cause-end P true (Ok None) more refused = tt
 cause-end P true (Ok (Some ids)) more refused = more refl (Some ids, refl, (ids, refl))
 cause-end P true (Err e) more refused = refused refl
 
-pub all_instance_causes : {S : Type 0} (c : ReadingCauses S) (r : Readings S) → ReadingsHaveCauses r c → (p : TextParams) (f : Refining) (s : S) → IfErr (text_instances r p f s) (BreaksInstances c r p f s)
-unfolding text_instances
-all_instance_causes c r a p f s =
-    let P : DecodeError → Type 0 = BreaksInstances c r p f s in
+pub all_instance_causes : {S : Type 0} (c : ReadingCauses S) (r : Readings S) → ReadingsHaveCauses r c → (p : TextParams) (region : Grid) (f : Refining) (s : S) → IfErr (text_region r p region f s) (BreaksInstances c r p region f s)
+unfolding text_region
+all_instance_causes c r a p region f s =
+    let P : DecodeError → Type 0 = BreaksInstances c r p region f s in
     cause-next P (refuse_if (ltb (32 * p.data_length) p.count) (Symbol TooManyInstances)) _
     (cause-refused P (ltb (32 * p.data_length) p.count) (Symbol TooManyInstances) (λ many. inl (refl, inl (ltb-true (32 * p.data_length) p.count many)))) (λ few few_is.
     cause-next P (strip_delta r p.flags s) _ (cause-delta c r a p.flags s P (λ leaves. inr (inl (refl, leaves))) (λ e no. inr (inr (inr (inl no))))) (λ dt dt_is.
     cause-last P _ (coordinate (pos 0 -ℤ dt.0)) _ (told-word P _ (pos 0 -ℤ dt.0) (λ large. inr (inr (inl (refl, (dt, dt_is, large)))))) (λ stript stript_is.
-    subst (λ (n : ℤ). IfErr (strips r p n f dt.1) P) stript_is
-    (cause-if P (eqb p.count 0) _ (some_strips r p (pos 0 -ℤ dt.0) f dt.1) (λ none. tt) (λ some.
+    subst (λ (n : ℤ). IfErr (strips r p region n f dt.1) P) stript_is
+    (cause-if P (eqb p.count 0) _ (some_strips r p region (pos 0 -ℤ dt.0) f dt.1) (λ none. tt) (λ some.
     cause-next P (strip_begun r p.flags (pos 0 -ℤ dt.0) (pos 0) dt.1) _
     (cause-more (BreaksStrip c r p.flags (pos 0 -ℤ dt.0) (pos 0) dt.1) P (strip_begun r p.flags (pos 0 -ℤ dt.0) (pos 0) dt.1) (cause-strip c r a p.flags (pos 0 -ℤ dt.0) (pos 0) dt.1) (λ e broken. inr (inr (inr (inr (inl (dt, dt_is, broken))))))) (λ at at_is.
-    let first = reached [] at.0 f at.1 in
+    let first = reached region at.0 f at.1 in
     cause-next P (after_instances r p (p.count - 1) first) _
     (cause-after c r a p P (p.count - 1) first (λ k below e there. inr (inr (inr (inr (inr (inl (k, omega (arith, below), (dt, dt_is, (at, at_is, there)))))))))) (λ x x_is.
     cause-next P (with_instance r p x) _
@@ -201,25 +201,24 @@ by_prefix_codes-causes = record {
 
 -- ---- regions
 cause-from : {S : Type 0} (c : ReadingCauses S) (r : Readings S) (a : ReadingsHaveCauses r c) (h : TextHeader) (symbols : List Grid) (region : Grid) (s : S)
-    → IfErr (region_from r h symbols region s) (BreaksInstances c r (text_params h symbols) (refining_of h) s)
-unfolding region_from text_region
+    → IfErr (region_from r h symbols region s) (BreaksInstances c r (text_params h symbols) region (refining_of h) s)
+unfolding region_from
 cause-from c r a h symbols region s =
-    let P : DecodeError → Type 0 = BreaksInstances c r (text_params h symbols) (refining_of h) s in
-    cause-next P (text_region r (text_params h symbols) region (refining_of h) s) _
-    (cause-next P (text_instances r (text_params h symbols) (refining_of h) s) _ (all_instance_causes c r a (text_params h symbols) (refining_of h) s) (λ found is. tt)) (λ found is. tt)
+    let P : DecodeError → Type 0 = BreaksInstances c r (text_params h symbols) region (refining_of h) s in
+    cause-next P (text_region r (text_params h symbols) region (refining_of h) s) _ (all_instance_causes c r a (text_params h symbols) region (refining_of h) s) (λ drawn is. tt)
 
-cause-by : (h : TextHeader) (coding : NumberCoding) (symbols : List Grid) (customs : List (List Member)) (region : Grid) → IfErr (region_by h coding symbols customs region) (BreaksRegionBy h coding symbols customs)
+cause-by : (h : TextHeader) (coding : NumberCoding) (symbols : List Grid) (customs : List (List Member)) (region : Grid) → IfErr (region_by h coding symbols customs region) (BreaksRegionBy h coding symbols customs region)
 cause-by h ArithmeticCoding symbols customs region = cause-from coder_causes by_coder by_coder-causes h symbols region (coder_of h symbols)
 cause-by h (HuffmanCoding numbers ids) symbols customs region =
-    let P : DecodeError → Type 0 = BreaksRegionBy h (HuffmanCoding numbers ids) symbols customs in
+    let P : DecodeError → Type 0 = BreaksRegionBy h (HuffmanCoding numbers ids) symbols customs region in
     cause-next P (prefix_codes_of h numbers ids customs) _
     (cause-next P (text_tables numbers customs) _ (cause-more (BreaksTextTables numbers customs) P (text_tables numbers customs) (text_table_causes numbers customs) (λ e broken. inl broken)) (λ tables is. tt)) (λ s is.
-    cause-more (BreaksInstances prefix_causes by_prefix_codes (text_params h symbols) (refining_of h) s) P (region_from by_prefix_codes h symbols region s)
+    cause-more (BreaksInstances prefix_causes by_prefix_codes (text_params h symbols) region (refining_of h) s) P (region_from by_prefix_codes h symbols region s)
     (cause-from prefix_causes by_prefix_codes by_prefix_codes-causes h symbols region s) (λ e broken. inr (s, is, broken)))
 
 text_region_causes : (h : TextHeader) (symbols : List Grid) (customs : List (List Member)) → IfErr (text_answer h symbols customs) (BreaksTextRegion h symbols customs)
-unfolding text_answer
-text_region_causes h symbols customs = cause-by h h.coding symbols customs (blank h.region_info.width h.region_info.height h.flags.default_pixel)
+unfolding text_answer BreaksTextRegion
+text_region_causes h symbols customs = cause-by h h.coding symbols customs (blank_region h)
 
 pub text_region_cause : {X : Type 0} (h : TextHeader) (symbols : List Grid) (customs : List (List Member)) (r : Result X DecodeError) → IfErr r (λ e. (e ≡ OutOfMemory) ⊎ (text_answer h symbols customs ≡ Err e))
     → HasCauseOrNoMemory r (BreaksTextRegion h symbols customs)

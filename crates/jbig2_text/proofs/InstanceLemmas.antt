@@ -1,21 +1,15 @@
 -- The steps of reading the instances of a text region.
-use Rattle.std.proofs.Common.{◌≡◌, ℕ, suc, ◌+◌, ◌-◌, ◌*◌, ◌<◌, ◌≤◌, Bool, false, ℤ, pos, List, [], ◌∷◌, length, drop, get_or, Result, Ok, Err, refl, sym, ◌∙◌, ap, arith, inl, inr, ◌⊎◌}
-use Rattle.std.proofs.Math.Seq.{drop-cons}
+use Rattle.std.proofs.Common.{◌≡◌, ℕ, suc, ◌+◌, ◌-◌, ◌*◌, ◌<◌, ◌≤◌, Bool, false, ℤ, pos, Result, Ok, Err, refl, sym, ◌∙◌, ap, arith, inl, inr, ◌⊎◌}
 use Rattle.std.specs.Prelude.{nat_lt, ◌-ℤ◌}
 use Rattle.jbig2_base.specs.Answer.{◌>>=◌, refuse_if}
-use Rattle.jbig2_base.specs.Combination.{combined}
 use Rattle.jbig2_base.specs.Grid.{Grid}
-use Rattle.jbig2_base.specs.declared.bitmap.operator.CombinationOperator.{CombinationOperator}
 use Rattle.jbig2_base.specs.declared.error.DecodeError.{DecodeError}
 use Rattle.jbig2_base.specs.declared.error.DecodeError.TheVariants.{OutOfMemory, Symbol}
 use Rattle.jbig2_base.specs.declared.error.SymbolError.TheVariants.{TooManyInstances}
 use Rattle.jbig2_text.specs.Refining.{Refining}
-use Rattle.jbig2_text.specs.Text.{Instance, Readings, Reached, TextParams, after_instances, coordinate, cursor_moved, instances_drawn, strip_begun, strip_delta, text_instances, with_instance}
+use Rattle.jbig2_text.specs.Text.{Readings, Reached, TextParams, after_instances, coordinate, cursor_moved, strip_begun, strip_delta, text_region, with_instance}
 use Rattle.jbig2_text.specs.inner.Parts.{reached, some_strips, strips, with_last, with_next_instance}
-use Rattle.jbig2_text.specs.inner.TextViews.{instances_view, reached_view, symbol_view}
 use Rattle.jbig2_text.specs.declared.text.cursor.Cursor.{Cursor}
-use Rattle.jbig2_text.specs.declared.text.instances.PlacedInstances.{PlacedInstances}
-use Rattle.jbig2_text.specs.declared.text.placement.Instance.{Instance as PlacedSymbol}
 
 -- the next step's next step
 next-next : {A B C : Type 0} (r : Result A DecodeError) (f : A → Result B DecodeError) (g : B → Result C DecodeError) → (r >>= λ x. f x >>= g) ≡ (r >>= f >>= g)
@@ -29,8 +23,8 @@ ap-next (Err e) same = refl
 inner-step : {S : Type 0} (r : Readings S) (p : TextParams) (n : ℕ) (x : Reached S) → after_instances r p (suc n) x ≡ (with_next_instance r p x >>= λ y. after_instances r p n y)
 unfolding after_instances
 inner-step {S} r p n x =
-    ap-next (with_instance r p x) (λ y. next-next (cursor_moved r p.flags y.cursor y.state) (λ c. Ok (reached y.instances c.0 y.refining c.1)) (λ z. after_instances r p n z))
-    ∙ next-next (with_instance r p x) (λ y. cursor_moved r p.flags y.cursor y.state >>= λ c. Ok (reached y.instances c.0 y.refining c.1)) (λ z. after_instances r p n z)
+    ap-next (with_instance r p x) (λ y. next-next (cursor_moved r p.flags y.cursor y.state) (λ c. Ok (reached y.region c.0 y.refining c.1)) (λ z. after_instances r p n z))
+    ∙ next-next (with_instance r p x) (λ y. cursor_moved r p.flags y.cursor y.state >>= λ c. Ok (reached y.region c.0 y.refining c.1)) (λ z. after_instances r p n z)
 
 pub inner-next : {S : Type 0} (r : Readings S) (p : TextParams) (n k : ℕ) (x y : Reached S) (whole : Result (Reached S) DecodeError) → k < n → after_instances r p (n - k) x ≡ whole → with_next_instance r p x ≡ Ok y → after_instances r p (n - (k + 1)) y ≡ whole
 inner-next {S} r p n k x y whole below goes read =
@@ -49,23 +43,15 @@ inner-done r p n k x whole done goes =
     let e : n - k ≡ 0 = omega arith in
     sym goes ∙ ap (λ m. after_instances r p m x) e
 
--- the strips, from what the code holds where the first one begins
-pub begun-is : {B M S : Type 0} (r : Readings S) (p : TextParams) (t : ℤ) (f : Refining) (s next : S) (c : Cursor) (placed : PlacedInstances B M) → strip_begun r p.flags t (pos 0) s ≡ Ok (c, next) → instances_view placed.instances.items ≡ [] → placed.cursor ≡ c → some_strips r p t f s ≡ (after_instances r p (p.count - 1) (reached_view placed f next) >>= λ x. with_last r p x)
-begun-is {B} {M} {S} r p t f s next c placed begun none is =
-    ap (λ (z : Result (Cursor × S) DecodeError). z >>= λ y. after_instances r p (p.count - 1) (reached [] y.0 f y.1) >>= λ x. with_last r p x) begun
-    ∙ ap (λ (l : List Instance). after_instances r p (p.count - 1) (reached l c f next) >>= λ x. with_last r p x) (sym none)
-    ∙ ap (λ (d : Cursor). after_instances r p (p.count - 1) (reached (instances_view placed.instances.items) d f next) >>= λ x. with_last r p x) (sym is)
+-- the strips, where the first one begins here
+pub begun-is : {S : Type 0} (r : Readings S) (p : TextParams) (region : Grid) (t : ℤ) (f : Refining) (s next : S) (c : Cursor) → strip_begun r p.flags t (pos 0) s ≡ Ok (c, next) → some_strips r p region t f s ≡ (after_instances r p (p.count - 1) (reached region c f next) >>= λ x. with_last r p x)
+begun-is {S} r p region t f s next c begun =
+    ap (λ (z : Result (Cursor × S) DecodeError). z >>= λ y. after_instances r p (p.count - 1) (reached region y.0 f y.1) >>= λ x. with_last r p x) begun
 
 -- the strips that there are, and where they begin
-pub instances-are : {S : Type 0} (r : Readings S) (p : TextParams) (f : Refining) (s next : S) (delta stript : ℤ) → nat_lt (32 * p.data_length) p.count ≡ false → strip_delta r p.flags s ≡ Ok (delta, next) → coordinate (pos 0 -ℤ delta) ≡ Ok stript → text_instances r p f s ≡ strips r p stript f next
-unfolding text_instances
-instances-are {S} r p f s next delta stript few begun start =
-    ap (λ (b : Bool). refuse_if b (Symbol TooManyInstances) >>= λ few. strip_delta r p.flags s >>= λ dt. coordinate (pos 0 -ℤ dt.0) >>= λ t. strips r p t f dt.1) few
-    ∙ ap (λ (z : Result (ℤ × S) DecodeError). z >>= λ dt. coordinate (pos 0 -ℤ dt.0) >>= λ t. strips r p t f dt.1) begun
-    ∙ ap (λ (z : Result ℤ DecodeError). z >>= λ t. strips r p t f next) start
-
-pub draw-next : {B M : Type 0} (operator : CombinationOperator) (all : List (PlacedSymbol B M)) (k : ℕ) (i : PlacedSymbol B M) (region next whole : Grid) → k < length all → i ≡ get_or all k i → instances_drawn operator (instances_view (drop k all)) region ≡ whole → next ≡ combined operator region (symbol_view i.symbol) i.x i.y → instances_drawn operator (instances_view (drop (k + 1) all)) next ≡ whole
-draw-next {B} {M} operator all k i region next whole inside is goes done =
-    let split : drop k all ≡ i ∷ drop (suc k) all = drop-cons all k i inside ∙ ap (λ (j : PlacedSymbol B M). j ∷ drop (suc k) all) (sym is) in
-    let e : k + 1 ≡ suc k = omega arith in
-    rw (done, e) (sym (ap (λ (l : List (PlacedSymbol B M)). instances_drawn operator (instances_view l) region) split) ∙ goes)
+pub region-strips : {S : Type 0} (r : Readings S) (p : TextParams) (region : Grid) (f : Refining) (s next : S) (delta stript : ℤ) → nat_lt (32 * p.data_length) p.count ≡ false → strip_delta r p.flags s ≡ Ok (delta, next) → coordinate (pos 0 -ℤ delta) ≡ Ok stript → text_region r p region f s ≡ strips r p region stript f next
+unfolding text_region
+region-strips {S} r p region f s next delta stript few begun start =
+    ap (λ (b : Bool). refuse_if b (Symbol TooManyInstances) >>= λ few. strip_delta r p.flags s >>= λ dt. coordinate (pos 0 -ℤ dt.0) >>= λ t. strips r p region t f dt.1) few
+    ∙ ap (λ (z : Result (ℤ × S) DecodeError). z >>= λ dt. coordinate (pos 0 -ℤ dt.0) >>= λ t. strips r p region t f dt.1) begun
+    ∙ ap (λ (z : Result ℤ DecodeError). z >>= λ t. strips r p region t f next) start

@@ -33,7 +33,7 @@ use Rattle.jbig2_text.specs.declared.text.cursor.Cursor.{Cursor}
 use Rattle.jbig2_text.specs.declared.text.header.TextRegionFlags.{TextRegionFlags}
 use Rattle.jbig2_text.specs.declared.text.header.TextRegionHuffmanFlags.{TextRegionHuffmanFlags}
 use Rattle.jbig2_text.specs.TextCoding.{Coded, Prefixed, by_coder, by_prefix_codes, next_integer}
-use Rattle.jbig2_text.specs.TextRegion.{coder_of, prefix_codes_of, refining_of, text_params}
+use Rattle.jbig2_text.specs.TextRegion.{blank_region, coder_of, prefix_codes_of, refining_of, text_params}
 use Rattle.jbig2_region.specs.Refinement.{Reference}
 
 -- the call succeeded, and this holds for its value
@@ -185,30 +185,31 @@ BreaksInstance c r p x e =
 
 -- ---- all instances
 -- this holds at instance k, after those before it; STRIPT begins at the negative of the first delta T
-abbrev pub AtInstance : {S : Type 0} → Readings S → TextParams → Refining → S → ℕ → (Reached S → Type 0) → Type 0
-AtInstance r p f s k Q =
+abbrev pub AtInstance : {S : Type 0} → Readings S → TextParams → Grid → Refining → S → ℕ → (Reached S → Type 0) → Type 0
+AtInstance r p region f s k Q =
     Behind (strip_delta r p.flags s) (λ dt. Behind (strip_begun r p.flags (pos 0 -ℤ dt.0) (pos 0) dt.1) (λ c.
-    Behind (after_instances r p k (record { instances = []; cursor = c.0; refining = f; state = c.1 })) Q))
+    Behind (after_instances r p k (record { region = region; cursor = c.0; refining = f; state = c.1 })) Q))
 
 -- the state after the last instance, in strict mode
-abbrev pub AtEnd : {S : Type 0} → Readings S → TextParams → Refining → S → (S → Type 0) → Type 0
-AtEnd r p f s Q = (p.strict ≡ true) × AtInstance r p f s (p.count - 1) (λ x. Behind (with_instance r p x) (λ last. Q last.state))
+abbrev pub AtEnd : {S : Type 0} → Readings S → TextParams → Grid → Refining → S → (S → Type 0) → Type 0
+AtEnd r p region f s Q =
+    (p.strict ≡ true) × AtInstance r p region f s (p.count - 1) (λ x. Behind (with_instance r p x) (λ last. Q last.state))
 
 -- There are more instances than 32 for each byte, or in strict mode another one after the last. Or the first delta T or
 -- its negative isn't a signed number of 32 bits. Or the first delta T, the first strip, an instance, the move to the
 -- next one or the last delta S breaks a rule.
-abbrev pub BreaksInstances : {S : Type 0} → ReadingCauses S → Readings S → TextParams → Refining → S → DecodeError → Type 0
-BreaksInstances c r p f s e =
+abbrev pub BreaksInstances : {S : Type 0} → ReadingCauses S → Readings S → TextParams → Grid → Refining → S → DecodeError → Type 0
+BreaksInstances c r p region f s e =
     ((e ≡ Symbol TooManyInstances) × ((32 * p.data_length < p.count)
-    ⊎ AtEnd r p f s (λ u. Behind (r.delta_s u) (λ ids. (n : ℤ) × (ids ≡ Some n)))))
+    ⊎ AtEnd r p region f s (λ u. Behind (r.delta_s u) (λ ids. (n : ℤ) × (ids ≡ Some n)))))
     ⊎ ((e ≡ Symbol InvalidStripDelta) × Behind (r.delta_t s) (λ strips. LeavesWord (strips.0 *ℤ pos (2 ^ p.flags.log_strip_size))))
     ⊎ ((e ≡ Overflow PlacementCoordinate) × Behind (strip_delta r p.flags s) (λ dt. LeavesWord (pos 0 -ℤ dt.0)))
     ⊎ c.delta_t s e
     ⊎ Behind (strip_delta r p.flags s) (λ dt. BreaksStrip c r p.flags (pos 0 -ℤ dt.0) (pos 0) dt.1 e)
-    ⊎ ((k : ℕ) × (k < p.count) × AtInstance r p f s k (λ x. BreaksInstance c r p x e
+    ⊎ ((k : ℕ) × (k < p.count) × AtInstance r p region f s k (λ x. BreaksInstance c r p x e
     ⊎ Behind (with_instance r p x) (λ y. c.delta_s y.state e
     ⊎ Behind (r.delta_s y.state) (λ ids. BreaksMoveBy c r p.flags y.cursor ids (r.behind_delta_s y.state) e))))
-    ⊎ AtEnd r p f s (λ u. c.delta_s u e)
+    ⊎ AtEnd r p region f s (λ u. c.delta_s u e)
 
 -- ---- tables (7.4.3.1.6)
 -- a number that names no table: neither one of two of the standard, 0 and 1, nor a custom one, 3
@@ -280,13 +281,13 @@ prefix_causes = record {
 }
 
 -- ---- a region
-abbrev pub BreaksRegionBy : TextHeader → NumberCoding → List Grid → List (List Member) → DecodeError → Type 0
-BreaksRegionBy h ArithmeticCoding symbols customs e =
-    BreaksInstances coder_causes by_coder (text_params h symbols) (refining_of h) (coder_of h symbols) e
-BreaksRegionBy h (HuffmanCoding numbers ids) symbols customs e =
+abbrev pub BreaksRegionBy : TextHeader → NumberCoding → List Grid → List (List Member) → Grid → DecodeError → Type 0
+BreaksRegionBy h ArithmeticCoding symbols customs region e =
+    BreaksInstances coder_causes by_coder (text_params h symbols) region (refining_of h) (coder_of h symbols) e
+BreaksRegionBy h (HuffmanCoding numbers ids) symbols customs region e =
     BreaksTextTables numbers customs e
     ⊎ Behind (prefix_codes_of h numbers ids customs) (λ s.
-    BreaksInstances prefix_causes by_prefix_codes (text_params h symbols) (refining_of h) s e)
+    BreaksInstances prefix_causes by_prefix_codes (text_params h symbols) region (refining_of h) s e)
 
-abbrev pub BreaksTextRegion : TextHeader → List Grid → List (List Member) → DecodeError → Type 0
-BreaksTextRegion h symbols customs = BreaksRegionBy h h.coding symbols customs
+unfoldable pub BreaksTextRegion : TextHeader → List Grid → List (List Member) → DecodeError → Type 0
+BreaksTextRegion h symbols customs = BreaksRegionBy h h.coding symbols customs (blank_region h)

@@ -1,14 +1,13 @@
--- Text regions (T.88, 6.4): instances of symbols. Their numbers are read one after the other, and then the instances
--- are drawn. A coordinate that isn't a signed number of 32 bits is refused (our own rule).
+-- Text regions (T.88, 6.4): instances of symbols, one after the other. The numbers of an instance are read, and then its
+-- symbol is drawn. A coordinate that isn't a signed number of 32 bits is refused (our own rule).
 use Rattle.std.specs.Prelude.{ℕ, zero, suc, ◌-◌, ◌*◌, ◌^◌, nat_le, nat_lt, ◌==◌, Bool, true, false, ◌||◌, if◌then◌else◌}
-use Rattle.std.specs.Prelude.{ℤ, pos, negsuc, ◌+ℤ◌, ◌-ℤ◌, ◌*ℤ◌, List, [], ◌∷◌, ◌++◌, slice_get, Option, Some, None}
+use Rattle.std.specs.Prelude.{ℤ, pos, negsuc, ◌+ℤ◌, ◌-ℤ◌, ◌*ℤ◌, List, slice_get, Option, Some, None}
 use Rattle.std.specs.Prelude.{Result, Ok, Err}
 use Rattle.std.specs.Int.{int_shr}
 use Rattle.std.specs.Option.{is_some}
 use Rattle.jbig2_base.specs.Answer.{◌>>=◌, refuse_if, some_or}
 use Rattle.jbig2_base.specs.Combination.{combined}
 use Rattle.jbig2_base.specs.Grid.{Grid}
-use Rattle.jbig2_base.specs.declared.bitmap.operator.CombinationOperator.{CombinationOperator}
 use Rattle.jbig2_base.specs.declared.error.DecodeError.{DecodeError}
 use Rattle.jbig2_base.specs.declared.error.DecodeError.TheVariants.{Overflow, Symbol}
 use Rattle.jbig2_base.specs.declared.error.OverflowError.TheVariants.{BitmapDimension, PlacementCoordinate}
@@ -54,9 +53,9 @@ pub record Readings (S : Type 0) : Type 0 where
   pub y_delta : S → Result (ℤ × S) DecodeError
   pub refined : Reference → ℕ → ℕ → Refining → S → Result (Grid × Refining × S) DecodeError
 
--- the instances so far, the place of the next one, the contexts and the coder
+-- the region so far (SBREG), the place of the next instance, the contexts and the coder
 pub record Reached (S : Type 0) : Type 0 where
-  pub instances : List Instance
+  pub region : Grid
   pub cursor : Cursor
   pub refining : Refining
   pub state : S
@@ -184,11 +183,12 @@ symbol_placed flags g curs ti = do
   Ok (record { grid = g; x = x; y = y }, next)
 
 -- ---- instances
--- an instance whose id has no symbol leaves CURS as it is
-abbrev pub with_symbol : TextRegionFlags → List Instance → Cursor → ℤ → Option Grid → Result (List Instance × Cursor) DecodeError
-with_symbol flags before c ti None = Ok (before, c)
-with_symbol flags before c ti (Some g) =
-    symbol_placed flags g c.cur_s ti >>= λ i. Ok (before ++ i.0 ∷ [], record c { cur_s = i.1 })
+-- IB is drawn onto SBREG by SBCOMBOP (step 3 c ix). An instance whose id has no symbol leaves CURS as it is.
+abbrev pub with_symbol : TextRegionFlags → Grid → Cursor → ℤ → Option Grid → Result (Grid × Cursor) DecodeError
+with_symbol flags region c ti None = Ok (region, c)
+with_symbol flags region c ti (Some g) = do
+  i ← symbol_placed flags g c.cur_s ti
+  Ok (combined flags.combination_operator region i.0.grid i.0.x i.0.y, record c { cur_s = i.1 })
 
 -- one instance more: TI is STRIPT and CURT, then come ID and IB (steps 3 c iii to x)
 unfoldable pub with_instance : {S : Type 0} → Readings S → TextParams → Reached S → Result (Reached S) DecodeError
@@ -197,8 +197,8 @@ with_instance r p x = do
   ti ← coordinate (x.cursor.strip_t +ℤ curt.0)
   id ← r.id curt.1
   ib ← instance_symbol r p id.0 x.refining id.1
-  more ← with_symbol p.flags x.instances x.cursor ti ib.0
-  Ok (record { instances = more.0; cursor = more.1; refining = ib.1; state = ib.2 })
+  more ← with_symbol p.flags x.region x.cursor ti ib.0
+  Ok (record { region = more.0; cursor = more.1; refining = ib.1; state = ib.2 })
 
 -- this many more instances, where others come after them
 unfoldable pub after_instances : {S : Type 0} → Readings S → TextParams → ℕ → Reached S → Result (Reached S) DecodeError
@@ -208,30 +208,17 @@ after_instances r p (suc n) x = do
   c ← cursor_moved r p.flags y.cursor y.state
   after_instances r p n (record y { cursor = c.0; state = c.1 })
 
-abbrev pub Found : Type 0 → Type 0  -- instances, and the contexts and the coder after them
-Found S = List Instance × Refining × S
-
--- All instances (steps 1, 3 and 4). STRIPT begins at the negative of the first DT; without instances no strip is read.
--- More than 32 instances for each byte of the segment are refused. An out-of-band value must end the last strip, too:
--- strict reading refuses any other end, and lenient reading takes it (our own rules).
-unfoldable pub text_instances : {S : Type 0} → Readings S → TextParams → Refining → S → Result (Found S) DecodeError
-text_instances r p f s = do
+-- A region (steps 1, 3 and 4), which begins in its default colour, and the contexts and the coder after it. STRIPT begins at the negative of the first DT; without
+-- instances no strip is read. More than 32 instances for each byte of the segment are refused. An out-of-band value must
+-- end the last strip, too: strict reading refuses any other end, and lenient reading takes it (our own rules).
+unfoldable pub text_region : {S : Type 0} → Readings S → TextParams → Grid → Refining → S → Result (Grid × Refining × S) DecodeError
+text_region r p region f s = do
   few ← refuse_if (nat_lt (32 * p.data_length) p.count) (Symbol TooManyInstances)
   dt ← strip_delta r p.flags s
   stript ← coordinate (pos 0 -ℤ dt.0)
-  if p.count == 0 then Ok ([], f, dt.1) else do
+  if p.count == 0 then Ok (region, f, dt.1) else do
     c ← strip_begun r p.flags stript (pos 0) dt.1
-    x ← after_instances r p (p.count - 1) (record { instances = []; cursor = c.0; refining = f; state = c.1 })
+    x ← after_instances r p (p.count - 1) (record { region = region; cursor = c.0; refining = f; state = c.1 })
     last ← with_instance r p x
     ends ← if p.strict then (r.delta_s last.state >>= λ ids. refuse_if (is_some ids) (Symbol TooManyInstances)) else Ok tt
-    Ok (last.instances, last.refining, r.behind_delta_s last.state)
-
--- Draws the instances onto a region, the first one first.
-abbrev pub instances_drawn : CombinationOperator → List Instance → Grid → Grid
-instances_drawn operator [] region = region
-instances_drawn operator (i ∷ others) region = instances_drawn operator others (combined operator region i.grid i.x i.y)
-
--- a region (6.4.5), which begins in its default colour, and the contexts and the coder after it
-unfoldable pub text_region : {S : Type 0} → Readings S → TextParams → Grid → Refining → S → Result (Grid × Refining × S) DecodeError
-text_region r p region f s =
-    text_instances r p f s >>= λ found. Ok (instances_drawn p.flags.combination_operator found.0 region, found.1, found.2)
+    Ok (last.region, last.refining, r.behind_delta_s last.state)

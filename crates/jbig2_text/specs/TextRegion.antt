@@ -103,9 +103,12 @@ region_by h ArithmeticCoding symbols customs region = region_from by_coder h sym
 region_by h (HuffmanCoding numbers ids) symbols customs region =
     prefix_codes_of h numbers ids customs >>= λ s. region_from by_prefix_codes h symbols region s
 
+abbrev pub blank_region : TextHeader → Grid  -- a region in its default colour
+blank_region h = blank h.region_info.width h.region_info.height h.flags.default_pixel
+
 unfoldable pub text_answer : TextHeader → List Grid → List (List Member) → Result Grid DecodeError
 text_answer h symbols customs =
-    region_by h h.coding symbols customs (blank h.region_info.width h.region_info.height h.flags.default_pixel)
+    region_by h h.coding symbols customs (blank_region h)
 
 -- A region at its place. A side above 65535 is refused (our own rule).
 unfoldable pub text_decoded : TextHeader → List Grid → List (List Member) → Result PlacedRegion DecodeError

@@ -151,12 +151,14 @@ fn decode_by<
         let state = R.state readings.old in
         let meant = region_from R.readings h (symbols_view symbols.now) bitmap.old state in
         Gives (λ _. bitmap.new) result meant }
-    ensures same { OnErr result (bitmap.new ≡ bitmap.old) }
+    ensures same { let info = header.now.region_info in
+        bitmap.old ≡ blank info.width info.height header.now.flags.default_pixel
+        → OnErr result (bitmap.new ≡ bitmap.old) }
     ensures paid { PaidBut (number_steps 1) work.old work.new }
 {
-    let mut refining = refining_of(alloc.clone()?, header)?;
+    let mut refining = refining_of(alloc, header)?;
     let params = params_of(header, symbols);
-    draw_instances_by(alloc, readings, &mut refining, &params, bitmap, work)
+    draw_instances_by(readings, &mut refining, &params, bitmap, work)
 }
 
 /// Decodes a text region (T.88, 6.4) of these symbols, at most 2^21, into a bitmap of its size that

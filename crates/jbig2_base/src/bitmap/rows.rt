@@ -68,6 +68,13 @@ impl<A: Allocator> PackedRows<A> {
         Ok(())
     }
 
+    /// Makes all pixels one colour.
+    pub fn fill(&mut self, black: bool)
+        ensures { self.new ≡ blank self.old.width self.old.height black }
+    {
+        self.words.fill(self.width, black);
+    }
+
     /// A copy of the rows in new memory. Each word counts as loaded and written.
     pub fn duplicate<B: Allocator, L: Ledger>(
         &self,

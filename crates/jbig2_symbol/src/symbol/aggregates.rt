@@ -157,7 +157,7 @@ pub fn refine_alone<R: ReadInstances, A: Allocator, M: Allocator, C: Allocator, 
 
 /// Reads several instances, and draws them into a symbol of this size.
 #[tactic(auto, unfolding(crate::specs::SymbolBitmaps::put_together))]
-pub fn put_together<R: ReadInstances, A: Allocator, M: Allocator + Clone, C: Allocator, L: Ledger>(
+pub fn put_together<R: ReadInstances, A: Allocator, M: Allocator, C: Allocator + Clone, L: Ledger>(
     alloc: M,
     readings: &mut R,
     refining: &mut Refining<C>,
@@ -172,7 +172,7 @@ pub fn put_together<R: ReadInstances, A: Allocator, M: Allocator + Clone, C: All
         Gives (λ g. (g, refining.new, R.state readings.new)) result meant }
     ensures paid { Paid work.old work.new }
 {
-    let mut symbol = new_symbol(alloc.clone()?, size.width, size.height, work)?;
-    draw_instances_by(alloc, readings, refining, params, &mut symbol, work)?;
+    let mut symbol = new_symbol(alloc, size.width, size.height, work)?;
+    draw_instances_by(readings, refining, params, &mut symbol, work)?;
     Ok(symbol)
 }

@@ -60,7 +60,7 @@ impl<'a, A: Allocator + Clone> CodedSymbols<'a, A> {
     }
 }
 
-impl<A: Allocator> CodedSymbols<'_, A> {
+impl<A: Allocator + Clone> CodedSymbols<'_, A> {
     /// A number of an integer procedure, or out of band.
     fn number<L: Ledger>(
         &mut self,
@@ -171,7 +171,7 @@ impl<A: Allocator> CodedSymbols<'_, A> {
     }
 }
 
-impl<C: Allocator> ReadSymbols for CodedSymbols<'_, C> {
+impl<C: Allocator + Clone> ReadSymbols for CodedSymbols<'_, C> {
     ghost use Rattle.jbig2_text.specs.TextCoding.{Coded};
     ghost use Rattle.jbig2_symbol.specs.SymbolCoding.{symbols_by_coder};
     ghost use Rattle.jbig2_symbol.specs.SymbolReading.{SymbolState};
@@ -203,7 +203,7 @@ impl<C: Allocator> ReadSymbols for CodedSymbols<'_, C> {
     }
 }
 
-impl<C: Allocator> ReadClasses for CodedSymbols<'_, C> {
+impl<C: Allocator + Clone> ReadClasses for CodedSymbols<'_, C> {
     ghost use Rattle.jbig2_text.specs.TextCoding.{Coded};
     ghost use Rattle.jbig2_symbol.specs.SymbolCoding.{classes_by_coder};
     ghost use Rattle.jbig2_symbol.specs.SymbolReading.{SymbolState};

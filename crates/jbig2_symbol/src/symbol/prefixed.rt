@@ -39,7 +39,7 @@ use std::sync::ledger::Ledger;
 const MOST_ROWS: u32 = 65535;
 
 /// Reads a symbol by prefix codes. A single instance has an id of this many bits.
-fn read_by_instances<T: Allocator, A: Allocator, M: Allocator + Clone, C: Allocator, L: Ledger>(
+fn read_by_instances<T: Allocator, A: Allocator, M: Allocator, C: Allocator + Clone, L: Ledger>(
     alloc: M,
     readings: &mut PrefixedReadings<'_, '_, T, A>,
     refining: &mut Refining<C>,
@@ -72,7 +72,7 @@ pub struct PrefixedSymbols<'a, A: Allocator> {
     pub(crate) contexts: WorkingContexts<A>,
 }
 
-impl<'a, A: Allocator> PrefixedSymbols<'a, A> {
+impl<'a, A: Allocator + Clone> PrefixedSymbols<'a, A> {
     /// The start of a dictionary's bytes, with these contexts for its bitmaps.
     pub fn new<S: Allocator, T: Allocator>(
         input: &SymbolInput<'a, S, T>,
@@ -276,7 +276,7 @@ impl<'a, A: Allocator> PrefixedSymbols<'a, A> {
     }
 }
 
-impl<C: Allocator> ReadSymbols for PrefixedSymbols<'_, C> {
+impl<C: Allocator + Clone> ReadSymbols for PrefixedSymbols<'_, C> {
     ghost use Rattle.jbig2_base.specs.Bits.{Place};
     ghost use Rattle.jbig2_symbol.specs.SymbolCoding.{symbols_by_prefix_codes};
     ghost use Rattle.jbig2_symbol.specs.SymbolReading.{SymbolState};
@@ -308,7 +308,7 @@ impl<C: Allocator> ReadSymbols for PrefixedSymbols<'_, C> {
     }
 }
 
-impl<C: Allocator> ReadClasses for PrefixedSymbols<'_, C> {
+impl<C: Allocator + Clone> ReadClasses for PrefixedSymbols<'_, C> {
     ghost use Rattle.jbig2_base.specs.Bits.{Place};
     ghost use Rattle.jbig2_symbol.specs.SymbolCoding.{classes_by_prefix_codes};
     ghost use Rattle.jbig2_symbol.specs.SymbolReading.{SymbolState};

@@ -1,5 +1,5 @@
 -- Parts of the definitions that have a name here, because private functions give them.
-use Rattle.std.specs.Prelude.{ℕ, ◌-◌, ◌/◌, ◌%◌, ◌==◌, Bool, false, if◌then◌else◌, ℤ, pos, ◌-ℤ◌, List, [], Option}
+use Rattle.std.specs.Prelude.{◌≡◌, ℕ, ◌-◌, ◌/◌, ◌%◌, ◌==◌, Bool, false, if◌then◌else◌, ℤ, pos, ◌-ℤ◌, List, [], Option}
 use Rattle.std.specs.Prelude.{Result, Ok}
 use Rattle.std.specs.Option.{is_some}
 use Rattle.jbig2_base.specs.Answer.{◌>>=◌, refuse_if}
@@ -16,7 +16,7 @@ use Rattle.jbig2_region.specs.RefinementTemplates.{refinement_bits, refinement_p
 use Rattle.jbig2_region.specs.declared.template.AdaptiveTemplatePixel.{AdaptiveTemplatePixel}
 use Rattle.jbig2_region.specs.declared.template.RefinementTemplate.{RefinementTemplate}
 use Rattle.jbig2_text.specs.Refining.{Refining}
-use Rattle.jbig2_text.specs.Text.{Found, Instance, Reached, Readings, TextParams, after_instances, cursor_moved, grown}
+use Rattle.jbig2_text.specs.Text.{Reached, Readings, TextParams, after_instances, cursor_moved, grown}
 use Rattle.jbig2_text.specs.Text.{is_last_along_s, strip_begun, with_instance}
 use Rattle.jbig2_text.specs.TextHeader.{corner_of, signed_5}
 use Rattle.jbig2_text.specs.TextRegion.{one_of_two}
@@ -70,33 +70,37 @@ abbrev pub s_behind : TextRegionFlags → Grid → ℤ → Result ℤ DecodeErro
 s_behind flags g curs = if is_last_along_s flags then Ok curs else grown flags g curs
 
 -- ---- instances
-abbrev pub reached : {S : Type 0} → List Instance → Cursor → Refining → S → Reached S
-reached found c f s = record { instances = found; cursor = c; refining = f; state = s }
+abbrev pub reached : {S : Type 0} → Grid → Cursor → Refining → S → Reached S
+reached region c f s = record { region = region; cursor = c; refining = f; state = s }
 
 -- one more instance, and the place of the one after it
 abbrev pub with_next_instance : {S : Type 0} → Readings S → TextParams → Reached S → Result (Reached S) DecodeError
 with_next_instance r p x = do
   y ← with_instance r p x
   c ← cursor_moved r p.flags y.cursor y.state
-  Ok (reached y.instances c.0 y.refining c.1)
+  Ok (reached y.region c.0 y.refining c.1)
 
 -- whether a strip may end with this IDS
 abbrev pub end_of_strip : Bool → Result (Option ℤ) DecodeError → Result (Unit {0}) DecodeError
 end_of_strip strict ids = if strict then (ids >>= λ o. refuse_if (is_some o) (Symbol TooManyInstances)) else Ok tt
 
 -- the last instance, and then the end of its strip
-abbrev pub with_last : {S : Type 0} → Readings S → TextParams → Reached S → Result (Found S) DecodeError
+abbrev pub with_last : {S : Type 0} → Readings S → TextParams → Reached S → Result (Grid × Refining × S) DecodeError
 with_last r p x = do
   last ← with_instance r p x
   ends ← end_of_strip p.strict (r.delta_s last.state)
-  Ok (last.instances, last.refining, r.behind_delta_s last.state)
+  Ok (last.region, last.refining, r.behind_delta_s last.state)
 
 -- all strips after this STRIPT, where there are instances; `strips` allows for none
-abbrev pub some_strips : {S : Type 0} → Readings S → TextParams → ℤ → Refining → S → Result (Found S) DecodeError
-some_strips r p stript f s = do
+abbrev pub some_strips : {S : Type 0} → Readings S → TextParams → Grid → ℤ → Refining → S → Result (Grid × Refining × S) DecodeError
+some_strips r p region stript f s = do
   c ← strip_begun r p.flags stript (pos 0) s
-  x ← after_instances r p (p.count - 1) (reached [] c.0 f c.1)
+  x ← after_instances r p (p.count - 1) (reached region c.0 f c.1)
   with_last r p x
 
-abbrev pub strips : {S : Type 0} → Readings S → TextParams → ℤ → Refining → S → Result (Found S) DecodeError
-strips r p stript f s = if p.count == 0 then Ok ([], f, s) else some_strips r p stript f s
+abbrev pub strips : {S : Type 0} → Readings S → TextParams → Grid → ℤ → Refining → S → Result (Grid × Refining × S) DecodeError
+strips r p region stript f s = if p.count == 0 then Ok (region, f, s) else some_strips r p region stript f s
+
+-- after an error, too, a region keeps its size
+abbrev pub KeepsSize : Grid → Grid → Type 0
+KeepsSize old new = (new.width ≡ old.width) × (new.height ≡ old.height)

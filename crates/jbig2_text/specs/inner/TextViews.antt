@@ -4,7 +4,7 @@ use Rattle.std.specs.Borrow.{Bor}
 use Rattle.jbig2_base.specs.Grid.{Grid}
 use Rattle.jbig2_region.specs.inner.PixelArrays.{two_pixels}
 use Rattle.jbig2_region.specs.declared.template.AdaptiveTemplatePixel.{AdaptiveTemplatePixel}
-use Rattle.jbig2_text.specs.{Refining.{Refining}, Text.{Instance, Reached, TextParams as Params}, TextCoding.{Coded, Prefixed, TextTables}, declared.text.{coded.CodedReadings.{CodedReadings}, header.{TextFields.{TextFields}, TextRegionCoding.{TextRegionCoding}, TextRegionFlags.{TextRegionFlags}, TextRegionHeader.{TextRegionHeader}}, instances.PlacedInstances.{PlacedInstances}, placement.Instance.{Instance as PlacedSymbol}, prefixed.PrefixedReadings.{PrefixedReadings}, symbol_list.SymbolList.{SymbolList}, symbols.{InstanceSymbol.{InstanceSymbol, TheVariants.{Shared, Refined}}, TextParams.{TextParams}}, tables.TextRegionHuffmanTables.{TextRegionHuffmanTables}}, TextHeader.{NumberCoding, ArithmeticCoding, HuffmanCoding, TextHeader}}
+use Rattle.jbig2_text.specs.{Text.{Instance, TextParams as Params}, TextCoding.{Coded, Prefixed, TextTables}, declared.text.{coded.CodedReadings.{CodedReadings}, header.{TextFields.{TextFields}, TextRegionCoding.{TextRegionCoding}, TextRegionFlags.{TextRegionFlags}, TextRegionHeader.{TextRegionHeader}}, placement.Instance.{Instance as PlacedSymbol}, prefixed.PrefixedReadings.{PrefixedReadings}, symbol_list.SymbolList.{SymbolList}, symbols.{InstanceSymbol.{InstanceSymbol, TheVariants.{Shared, Refined}}, TextParams.{TextParams}}, tables.TextRegionHuffmanTables.{TextRegionHuffmanTables}}, TextHeader.{NumberCoding, ArithmeticCoding, HuffmanCoding, TextHeader}}
 use Rattle.jbig2_text.specs.declared.text.header.TextRegionCoding.TheVariants as codings
 
 -- as many of the code's two refinement pixels as the flags say
@@ -56,13 +56,6 @@ symbol_view (Refined bitmap) = bitmap
 
 abbrev pub instance_view : {B M : Type 0} → PlacedSymbol B M → Instance
 instance_view i = record { grid = symbol_view i.symbol; x = i.x; y = i.y }
-
-abbrev pub instances_view : {B M : Type 0} → List (PlacedSymbol B M) → List Instance
-instances_view instances = map (λ i. instance_view i) instances
-
--- the instances so far, and the states that are lent
-abbrev pub reached_view : {B M S : Type 0} → PlacedInstances B M → Refining → S → Reached S
-reached_view placed f s = record { instances = instances_view placed.instances.items; cursor = placed.cursor; refining = f; state = s }
 
 abbrev pub coding_view : {A : Type 0} → TextRegionCoding A → NumberCoding
 coding_view codings.Arithmetic = ArithmeticCoding

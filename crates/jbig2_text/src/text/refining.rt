@@ -94,6 +94,11 @@ impl<A: Allocator> Refining<A> {
         }
     }
 
+    /// The allocator of its contexts.
+    pub fn allocator(&self) -> &A {
+        Vec::allocator(&self.contexts)
+    }
+
     /// The template of its contexts.
     pub fn template(&self) -> RefinementTemplate
         ensures { result ≡ self.now.template }

@@ -73,6 +73,17 @@ impl<A: Allocator> PackedWords<A> {
         Ok(())
     }
 
+    /// Makes all pixels one colour, in rows of `width` columns.
+    pub fn fill(&mut self, width: u32, black: bool)
+        requires { 0 < length self.old → 0 < width }
+        ensures size { length self.new ≡ length self.old }
+        ensures value { (k : ℕ) → k < length self.new
+            → slice_index self.new k ≡ blank_word width black k }
+    {
+        self.words.fill(0);
+        fill_rows(&mut self.words, width, black);
+    }
+
     /// A copy of the words in new memory. Each counts as loaded and written.
     pub fn duplicate<B: Allocator, L: Ledger>(
         &self,

@@ -1,19 +1,16 @@
-use Rattle.std.proofs.Common.{arith, rules, refl, ◌≡◌}
-use Rattle.jbig2_base.specs.Combination.{combined}
-use Rattle.jbig2_text.specs.Text.{instances_drawn}
-use Rattle.jbig2_text.specs.inner.TextViews.{instances_view, symbol_view}
-use Rattle.jbig2_text.proofs.InstanceLemmas.{draw-next}
-use Rattle.jbig2_text.proofs.PayingLemmas.{drawing-next}
+use Rattle.std.proofs.Common.{◌≡◌, ◌*◌, false, rules, Ok, pos}
+use Rattle.std.specs.Prelude.{nat_lt, ◌-ℤ◌}
+use Rattle.jbig2_text.specs.Text.{coordinate, strip_delta}
+use Rattle.jbig2_text.specs.inner.TextViews.{params_view}
+use Rattle.jbig2_text.proofs.InstanceLemmas.{region-strips}
 use Rattle.jbig2_text.proofs.text.instances.draw_instances.Goals as goal
 
-pub loop-instance-init : goal.loop-instance-init
-loop-instance-init g c = record { drawn = refl; paid = omega arith }
-
-pub loop-instance-preserved : goal.loop-instance-preserved
-loop-instance-preserved g c =
-    let i = c.instance-item.result in
-    let next : c.draw.new.region ≡ combined c.args.operator c.loop-instance.region (symbol_view i.symbol) i.x i.y = search rules in
-    record {
-      drawn = draw-next c.args.operator c.args.instances.now c.loop-instance.instance-index i c.loop-instance.region c.draw.new.region (instances_drawn c.args.operator (instances_view c.args.instances.now) c.args.region.now) c.loop-instance-test.true c.instance-item.is c.loop-instance.invariant.drawn next;
-      paid = omega (arith, c.draw.ensures.paid, c.loop-instance.invariant.paid, drawing-next c.args.instances.now c.loop-instance.instance-index i c.loop-instance-test.true c.instance-item.is);
-    }
+pub returns-clause-value : goal.returns-clause-value
+returns-clause-value g c =
+    let r = g.R.ReadInstances in
+    let p = params_view c.args.params.now in
+    let few : nat_lt (32 * p.data_length) p.count ≡ false = search rules in
+    let begun : strip_delta r.readings p.flags (r.state c.args.readings.now) ≡ Ok (c.in_ok-delta.delta, r.state c.read_strip_delta.new.readings) = search rules in
+    let start : coordinate (pos 0 -ℤ c.in_ok-delta.delta) ≡ Ok c.in_ok-strip_t.strip_t = search rules in
+    let is = region-strips r.readings p c.args.region.now c.args.refining.now (r.state c.args.readings.now) (r.state c.read_strip_delta.new.readings) c.in_ok-delta.delta c.in_ok-strip_t.strip_t few begun start in
+    rw is (search rules)
