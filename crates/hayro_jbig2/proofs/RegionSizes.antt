@@ -99,12 +99,15 @@ halftone-made h d g is =
 abbrev OnValue : {X : Type 0} → (X → Type 0) → Result X DecodeError → Type 0
 OnValue {X} P a = (x : X) → a ≡ Ok x → P x
 
+value-same : {Y : Type 0} (y z : Y) → good y ≡ good z → y ≡ z
+value-same y z is = cc
+
 value-next : {X Y : Type 0} (P : Y → Type 0) (a : Result X DecodeError) (next : X → Result Y DecodeError) → ((x : X) → a ≡ Ok x → OnValue P (next x)) → OnValue P (a >>= next)
 value-next P (Ok x) next each = each x refl
-value-next P (Err e) next each = λ y is. absurd cc
+value-next {X} {Y} P (Err e) next each = λ y is. absurd (let never : bad {X = Y} e ≡ good y = is in cc)
 
 value-is : {Y : Type 0} (P : Y → Type 0) (y : Y) → P y → OnValue P (Ok y)
-value-is P y holds = λ z is. subst P cc holds
+value-is {Y} P y made = λ z is. subst {A = Y} P {x = y} {y = z} (value-same y z is) made
 
 value-if : {Y : Type 0} (P : Y → Type 0) (t : Bool) (a b : Result Y DecodeError) → OnValue P a → OnValue P b → OnValue P (if t then a else b)
 value-if P true a b one other = one
