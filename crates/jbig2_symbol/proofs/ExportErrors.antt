@@ -1,6 +1,6 @@
 -- What the exports are refused for, where their runs are, or their number.
-use Rattle.std.proofs.Common.{◌≡◌, ◌≢◌, ◌⊎◌, inl, inr, ℕ, ◌+◌, ◌==◌, Bool, true, not, List, length, Result, Ok, Err, sym, ap, subst, ◌∙◌, length-append}
-use Rattle.std.proofs.lemmas.Bool.{ne_eqb}
+use Rattle.std.proofs.Common.{◌≡◌, ◌≢◌, ◌⊎◌, inl, inr, ℕ, ◌+◌, ◌==◌, Bool, true, false, not, List, length, Result, Ok, Err, refl, sym, ap, subst, ◌∙◌, length-append}
+use Rattle.std.proofs.lemmas.Bool.{eq-eqb, ne_eqb}
 use Rattle.std.proofs.lemmas.List.{length-map}
 use Rattle.std.specs.Borrow.{Bor}
 use Rattle.std.specs.Prelude.{map}
@@ -12,7 +12,9 @@ use Rattle.jbig2_base.specs.declared.error.SymbolError.TheVariants.{NoSymbols}
 use Rattle.jbig2_base.proofs.Causes.{same-ok}
 use Rattle.jbig2_symbol.specs.SymbolReading.{ClassReadings, SymbolInput}
 use Rattle.jbig2_symbol.specs.Symbols.{export_runs, exported, exports}
+use Rattle.jbig2_symbol.specs.inner.JoinedRuns.{joined_runs}
 use Rattle.jbig2_symbol.specs.inner.SymbolViews.{all_symbols}
+use Rattle.jbig2_symbol.proofs.JoinedLemmas.{exported-joined}
 
 all-length : (input : List (Bor Grid)) (new : List Grid) → length (all_symbols input new) ≡ length input + length new
 all-length input new =
@@ -23,24 +25,49 @@ all-length input new =
 abbrev AfterRuns : {S : Type 0} → SymbolInput → List Grid → Result (List ℕ × S) DecodeError → Result (List Grid × S) DecodeError
 AfterRuns d all read = read >>= λ runs. refuse_if (not (length (exported runs.0 all) == d.header.num_exported_symbols)) (Symbol NoSymbols) >>= λ right. Ok (exported runs.0 all, runs.1)
 
+-- it is the same if they are joined
+after-joined : {S : Type 0} (d : SymbolInput) (all : List Grid) (read : Result (List ℕ × S) DecodeError) → AfterRuns d all read ≡ AfterRuns d all (joined_runs read)
+after-joined d all (Ok runs) = rw (exported-joined runs.0 all) refl
+after-joined d all (Err e) = refl
+
+after-runs : {S : Type 0} (r : ClassReadings S) (d : SymbolInput) (input : List (Bor Grid)) (new : List Grid) (count : ℕ) (s : S) (read : Result (List ℕ × S) DecodeError)
+    → count ≡ length input + length new → joined_runs (export_runs r d count s) ≡ read → exports r d (all_symbols input new) s ≡ AfterRuns d (all_symbols input new) read
+unfolding exports
+after-runs {S} r d input new count s read is read_is =
+    let all = all_symbols input new in
+    let whole : joined_runs (export_runs r d (length all) s) ≡ read = subst (λ (n : ℕ). joined_runs (export_runs r d n s) ≡ read) (is ∙ sym (all-length input new)) read_is in
+    after-joined d all (export_runs r d (length all) s) ∙ ap (AfterRuns d all) whole
+
 -- the runs are refused
 pub exports-unread : {S : Type 0} (r : ClassReadings S) (d : SymbolInput) (input : List (Bor Grid)) (new : List Grid) (count : ℕ) (s : S) (e : DecodeError)
-    → count ≡ length input + length new → (e ≡ OutOfMemory) ⊎ (export_runs r d count s ≡ Err e) → (e ≡ OutOfMemory) ⊎ (exports r d (all_symbols input new) s ≡ Err e)
-unfolding exports
+    → count ≡ length input + length new → (e ≡ OutOfMemory) ⊎ (joined_runs (export_runs r d count s) ≡ Err e) → (e ≡ OutOfMemory) ⊎ (exports r d (all_symbols input new) s ≡ Err e)
 exports-unread r d input new count s e is (inl memory) = inl memory
-exports-unread r d input new count s e is (inr unread) =
-    let all = all_symbols input new in
-    inr (ap (AfterRuns d all) (subst (λ (n : ℕ). export_runs r d n s ≡ Err e) (is ∙ sym (all-length input new)) unread))
+exports-unread r d input new count s e is (inr unread) = inr (after-runs r d input new count s (Err e) is unread)
+
+-- how many they are, by the program
+listed-length : (ran runs : List ℕ) (all listed : List Grid) (n : ℕ) → ran ≡ runs → ◌≡◌ {A = Result (List Grid) DecodeError} (Ok (exported ran all)) (Ok listed) → n ≡ length listed → n ≡ length (exported runs all)
+listed-length ran runs all listed n ran_is listed_is n_is = n_is ∙ ap length (sym (same-ok (exported ran all) listed listed_is)) ∙ ap (λ (rs : List ℕ). length (exported rs all)) ran_is
 
 -- they are not as many as the header states
 pub exports-other : {S : Type 0} (r : ClassReadings S) (d : SymbolInput) (input : List (Bor Grid)) (new : List Grid) (count : ℕ) (s after : S) (runs ran : List ℕ) (listed : List Grid) (n : ℕ)
-    → count ≡ length input + length new → export_runs r d count s ≡ Ok (runs, after) → ran ≡ runs → ◌≡◌ {A = Result (List Grid) DecodeError} (Ok (exported ran (all_symbols input new))) (Ok listed)
+    → count ≡ length input + length new → joined_runs (export_runs r d count s) ≡ Ok (runs, after) → ran ≡ runs → ◌≡◌ {A = Result (List Grid) DecodeError} (Ok (exported ran (all_symbols input new))) (Ok listed)
     → n ≡ length listed → n ≢ d.header.num_exported_symbols → exports r d (all_symbols input new) s ≡ Err (Symbol NoSymbols)
-unfolding exports
 exports-other {S} r d input new count s after runs ran listed n is read ran_is listed_is n_is other =
     let all = all_symbols input new in
-    let whole : export_runs r d (length all) s ≡ Ok (runs, after) = subst (λ (m : ℕ). export_runs r d m s ≡ Ok (runs, after)) (is ∙ sym (all-length input new)) read in
-    let size : n ≡ length (exported runs all) = n_is ∙ ap length (sym (same-ok (exported ran all) listed listed_is)) ∙ ap (λ (rs : List ℕ). length (exported rs all)) ran_is in
+    let size : n ≡ length (exported runs all) = listed-length ran runs all listed n ran_is listed_is n_is in
     let apart : not (length (exported runs all) == d.header.num_exported_symbols) ≡ true = ap not (ne_eqb (length (exported runs all)) d.header.num_exported_symbols (λ same. other (size ∙ same))) in
     let refused : Bool → Result (List Grid × S) DecodeError = λ b. refuse_if b (Symbol NoSymbols) >>= λ right. Ok (exported runs all, after) in
-    ap (AfterRuns d all) whole ∙ ap refused apart
+    after-runs r d input new count s (Ok (runs, after)) is read ∙ ap refused apart
+
+-- they are
+pub exports-all : {S : Type 0} (r : ClassReadings S) (d : SymbolInput) (input : List (Bor Grid)) (new : List Grid) (count : ℕ) (s after : S) (runs ran : List ℕ) (listed : List Grid) (n : ℕ)
+    → count ≡ length input + length new → joined_runs (export_runs r d count s) ≡ Ok (runs, after) → ran ≡ runs → ◌≡◌ {A = Result (List Grid) DecodeError} (Ok (exported ran (all_symbols input new))) (Ok listed)
+    → n ≡ length listed → n ≡ d.header.num_exported_symbols → exports r d (all_symbols input new) s ≡ Ok (listed, after)
+exports-all {S} r d input new count s after runs ran listed n is read ran_is listed_is n_is same =
+    let all = all_symbols input new in
+    let size : n ≡ length (exported runs all) = listed-length ran runs all listed n ran_is listed_is n_is in
+    let as_many : not (length (exported runs all) == d.header.num_exported_symbols) ≡ false = ap not (eq-eqb (length (exported runs all)) d.header.num_exported_symbols (sym size ∙ same)) in
+    let refused : Bool → Result (List Grid × S) DecodeError = λ b. refuse_if b (Symbol NoSymbols) >>= λ right. Ok (exported runs all, after) in
+    after-runs r d input new count s (Ok (runs, after)) is read
+    ∙ ap refused as_many
+    ∙ ap (λ (gs : List Grid). Ok (gs, after)) (ap (λ (rs : List ℕ). exported rs all) (sym ran_is) ∙ same-ok (exported ran all) listed listed_is)

@@ -10,6 +10,7 @@ pub mod ExportErrors
 pub mod ExportLemmas
 pub mod ExportedLemmas
 mod IdCodes
+pub mod JoinedLemmas
 pub mod MmrRows
 pub mod PayingLemmas
 pub mod ReadingCauses

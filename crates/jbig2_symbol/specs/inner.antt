@@ -1,2 +1,3 @@
 pub mod HeaderViews
+pub mod JoinedRuns
 pub mod SymbolViews

@@ -27,7 +27,7 @@ struct Case {
 }
 
 /// The example's dictionaries in their order. The last one comes once more, with prefix codes and with the other
-/// template of refinements.
+/// template of refinements. Then comes one with empty export runs.
 const CASES: &[Case] = &[
     Case {
         data: &[
@@ -74,6 +74,17 @@ const CASES: &[Case] = &[
         refers_to_a: true,
         symbols: &[A, C, A_AND_C],
     },
+    Case {
+        data: EMPTY_RUNS,
+        refers_to_a: true,
+        symbols: &[A, C],
+    },
+];
+
+/// The new symbols `C` and `P`. The export runs are of 0, 0, 0, 1, 0, 1 and 1 symbols: `P` is left out.
+const EMPTY_RUNS: &[u8] = &[
+    0, 1, 0, 0, 0, 2, 0, 0, 0, 2, 0xE5, 0xCF, 0xF0, 0, 0x78, 0x84, 0x80, 0x80, 0x84, 0x78, 0xB9,
+    0x7E, 0, 0xF0, 0x88, 0x88, 0x88, 0xF0, 0x80, 0x80, 0x80, 0, 0, 0x10, 4, 0x20,
 ];
 
 /// One symbol that refines `A`, and one that is aggregated.

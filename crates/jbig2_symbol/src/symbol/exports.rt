@@ -7,6 +7,7 @@ ghost use Rattle.jbig2_steps.specs.Work.{Paid, PaidBut};
 ghost use Rattle.jbig2_text.specs.Paying.{number_steps};
 ghost use Rattle.jbig2_symbol.specs.Causes.{BreaksExports};
 ghost use Rattle.jbig2_symbol.specs.Symbols.{export_runs, exported, exports, next_run};
+ghost use Rattle.jbig2_symbol.specs.inner.JoinedRuns.{joined_runs};
 ghost use Rattle.jbig2_symbol.specs.inner.SymbolViews.{all_symbols, input_view};
 
 use crate::symbol::input::SymbolInput;
@@ -55,22 +56,30 @@ fn read_run<R: ReadClasses, A: Allocator, T: Allocator, L: Ledger>(
     Ok(run)
 }
 
-/// Reads the runs, until they cover `count` symbols.
+/// Reads the runs, until they cover `count` symbols. The runs before and after an empty one are joined,
+/// so there are hardly more than there are symbols.
 pub fn read_runs<R: ReadClasses, M: Allocator, A: Allocator, T: Allocator, L: Ledger>(
     alloc: M,
     input: &SymbolInput<'_, A, T>,
     count: u64,
     readings: &mut R,
     work: &mut Work<L>,
-) -> Result<Vec<u32, M>>
+) -> Result<Vec<u64, M>>
     requires { count ≤ 9223372036855824384 }
     ensures value { let d = input_view input.now in
-        let meant = export_runs R.readings d count (R.state readings.old) in
+        let meant = joined_runs (export_runs R.readings d count (R.state readings.old)) in
         Gives (λ runs. (runs.items, R.state readings.new)) result meant }
     ensures whole { IfOk result (λ runs. sum runs.items ≡ count) }
+    ensures small { IfOk result (λ runs. length runs.items ≤ count + 1) }
     ensures paid { Paid work.old work.new }
 {
     let mut runs = Vec::new(alloc);
+    if count == 0 {
+        return Ok(runs);
+    }
+    let mut last = 0;
+    // Whether the run that is read next belongs to the last one: an empty run came between.
+    let mut joins = true;
     let mut left = count;
     let mut empty = 0;
     // Each run covers a symbol or is one of those that may be empty, so there are no more runs.
@@ -83,10 +92,19 @@ pub fn read_runs<R: ReadClasses, M: Allocator, A: Allocator, T: Allocator, L: Le
             Ok(run) => run,
             Err(error) => return Err(error),
         };
-        runs.push(run)?;
+        if joins {
+            last += run as u64;
+            joins = false;
+        } else if run == 0 {
+            joins = true;
+        } else {
+            runs.push(last)?;
+            last = run as u64;
+        }
         left -= run as u64;
         empty += u32::from(run == 0);
     }
+    runs.push(last)?;
     Ok(runs)
 }
 
@@ -148,7 +166,7 @@ fn push_symbols<A: Allocator + Clone, S: Allocator, L: Ledger>(
 /// The symbols that the runs export: of those that are referred to, and then the new ones.
 pub fn export_symbols<A: Allocator + Clone, S: Allocator, L: Ledger>(
     alloc: A,
-    runs: &[u32],
+    runs: &[u64],
     symbols: &[&Bitmap<S>],
     new: &[Bitmap<A>],
     work: &mut Work<L>,
@@ -185,7 +203,7 @@ pub fn export_symbols<A: Allocator + Clone, S: Allocator, L: Ledger>(
 #[tactic(auto, using(crate::proofs::ExportedLemmas::exported_new))]
 fn take_exports<A: Allocator + Clone, S: Allocator, L: Ledger>(
     alloc: A,
-    runs: &[u32],
+    runs: &[u64],
     symbols: &[&Bitmap<S>],
     new: Vec<Bitmap<A>, A>,
     work: &mut Work<L>,
@@ -206,7 +224,7 @@ fn take_exports<A: Allocator + Clone, S: Allocator, L: Ledger>(
 ///
 /// Returns the errors of `read_runs`; `SymbolError::NoSymbols` where their number is not the
 /// header's; `OutOfMemory` where there is no memory for them.
-#[tactic(auto, using(crate::proofs::ReadingCauses::exports_cause), unfolding(crate::specs::Symbols::exports))]
+#[tactic(auto, using(crate::proofs::ReadingCauses::exports_cause))]
 pub fn read_exports<R: ReadClasses, A: Allocator + Clone, T: Allocator, L: Ledger>(
     alloc: A,
     input: &SymbolInput<'_, A, T>,
