@@ -49,13 +49,8 @@ fn draw_symbol<B: Allocator, M: Allocator, D: Allocator, L: Ledger>(
     let (instance, cur_s) = place(flags, symbol, cursor.cur_s, t)?;
     let symbol = &instance.symbol;
     work.pay_bitmap(symbol.width(), symbol.height())?;
-    symbol.draw(
-        region,
-        instance.x,
-        instance.y,
-        flags.combination_operator,
-        work,
-    );
+    let operator = flags.combination_operator;
+    symbol.draw(region, instance.x, instance.y, operator, work);
     Ok(Cursor { cur_s, ..cursor })
 }
 
