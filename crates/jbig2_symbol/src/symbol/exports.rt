@@ -25,8 +25,8 @@ const RUN: u64 = 64;
 
 /// Reads a run, where `left` symbols are not covered yet and `empty` runs of length 0 came before.
 #[tactic(auto, unfolding(crate::specs::Symbols::next_run))]
-fn read_run<R: ReadClasses, A: Allocator, T: Allocator, L: Ledger>(
-    input: &SymbolInput<'_, A, T>,
+fn read_run<R: ReadClasses<A>, A: Allocator + Clone, L: Ledger>(
+    input: &SymbolInput<'_, A>,
     empty: u32,
     left: u64,
     readings: &mut R,
@@ -56,9 +56,9 @@ fn read_run<R: ReadClasses, A: Allocator, T: Allocator, L: Ledger>(
 }
 
 /// Reads the runs, until they cover `count` symbols.
-pub fn read_runs<R: ReadClasses, M: Allocator, A: Allocator, T: Allocator, L: Ledger>(
+pub fn read_runs<R: ReadClasses<A>, M: Allocator, A: Allocator + Clone, L: Ledger>(
     alloc: M,
-    input: &SymbolInput<'_, A, T>,
+    input: &SymbolInput<'_, A>,
     count: u64,
     readings: &mut R,
     work: &mut Work<L>,
@@ -207,9 +207,9 @@ fn take_exports<A: Allocator + Clone, S: Allocator, L: Ledger>(
 /// Returns the errors of `read_runs`; `SymbolError::NoSymbols` where their number is not the
 /// header's; `OutOfMemory` where there is no memory for them.
 #[tactic(auto, using(crate::proofs::ReadingCauses::exports_cause), unfolding(crate::specs::Symbols::exports))]
-pub fn read_exports<R: ReadClasses, A: Allocator + Clone, T: Allocator, L: Ledger>(
+pub fn read_exports<R: ReadClasses<A>, A: Allocator + Clone, L: Ledger>(
     alloc: A,
-    input: &SymbolInput<'_, A, T>,
+    input: &SymbolInput<'_, A>,
     new: Vec<Bitmap<A>, A>,
     readings: &mut R,
     work: &mut Work<L>,
