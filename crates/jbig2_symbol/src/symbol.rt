@@ -43,9 +43,9 @@ use std::alloc::Allocator;
 use std::sync::ledger::Ledger;
 
 /// Reads the new symbols of a dictionary, and gives those that it exports.
-fn decode_by<R: ReadClasses, A: Allocator + Clone, T: Allocator, L: Ledger>(
+fn decode_by<R: ReadClasses<A>, A: Allocator + Clone, L: Ledger>(
     alloc: A,
-    input: &SymbolInput<'_, A, T>,
+    input: &SymbolInput<'_, A>,
     readings: &mut R,
     work: &mut Work<L>,
 ) -> Result<Vec<Bitmap<A>, A>>
@@ -83,9 +83,9 @@ fn dictionary_of<A: Allocator>(
 }
 
 /// Decodes a dictionary, with its tables and its first contexts.
-fn decode_with<A: Allocator + Clone, T: Allocator, L: Ledger>(
+fn decode_with<A: Allocator + Clone, L: Ledger>(
     alloc: A,
-    input: &SymbolInput<'_, A, T>,
+    input: &SymbolInput<'_, A>,
     contexts: RetainedContexts<A>,
     work: &mut Work<L>,
 ) -> Result<SymbolDictionary<A>>
@@ -113,13 +113,13 @@ fn decode_with<A: Allocator + Clone, T: Allocator, L: Ledger>(
 /// Returns the errors of `first_contexts`, then those of `symbol_tables`, `read_new_symbols` and
 /// `read_exports`; `OutOfMemory`.
 #[tactic(auto, unfolding(crate::specs::Symbols::symbols_decoded))]
-pub fn decode<A: Allocator + Clone, T: Allocator, K: Allocator, L: Ledger>(
+pub fn decode<A: Allocator + Clone, L: Ledger>(
     alloc: A,
     header: &SymbolDictionaryHeader<'_>,
     symbols: &[&Bitmap<A>],
-    referred_tables: &[&HuffmanTable<T>],
-    standard_tables: &StandardHuffmanTables<T>,
-    retained_contexts: Option<&RetainedContexts<K>>,
+    referred_tables: &[&HuffmanTable<A>],
+    standard_tables: &StandardHuffmanTables<A>,
+    retained_contexts: Option<&RetainedContexts<A>>,
     work: &mut Work<L>,
 ) -> Result<SymbolDictionary<A>>
     requires few { length symbols.now ≤ 2097152 }

@@ -53,10 +53,10 @@ use std::alloc::Allocator;
 use std::sync::ledger::Ledger;
 
 /// What is needed to read and place the instances of a region.
-fn params_of<'a, H: Allocator, B: Allocator>(
-    header: &TextRegionHeader<'_, H>,
-    symbols: &'a [&'a Bitmap<B>],
-) -> TextParams<'a, B>
+fn params_of<'a, A: Allocator>(
+    header: &TextRegionHeader<'_, A>,
+    symbols: &'a [&'a Bitmap<A>],
+) -> TextParams<'a, A>
     ensures { params_view result ≡ text_params (header_view header.now) (symbols_view symbols.now) }
 {
     TextParams {
@@ -85,10 +85,7 @@ fn pixels_of(
 }
 
 /// The refinements of a region's symbols, with fresh contexts.
-fn refining_of<H: Allocator, M: Allocator>(
-    alloc: M,
-    header: &TextRegionHeader<'_, H>,
-) -> Result<Refining<M>>
+fn refining_of<A: Allocator>(alloc: A, header: &TextRegionHeader<'_, A>) -> Result<Refining<A>>
     ensures { Gives (λ r. r) result (Ok (refining_of (header_view header.now))) }
 {
     let flags = &header.flags;
@@ -97,11 +94,11 @@ fn refining_of<H: Allocator, M: Allocator>(
 }
 
 /// The coder at the start of a region's bytes, with fresh contexts.
-fn start_coded<'a, H: Allocator, B: Allocator, M: Allocator + Clone>(
-    alloc: M,
-    header: &TextRegionHeader<'a, H>,
-    symbols: &[&Bitmap<B>],
-) -> Result<CodedReadings<'a, M>>
+fn start_coded<'a, A: Allocator + Clone>(
+    alloc: A,
+    header: &TextRegionHeader<'a, A>,
+    symbols: &[&Bitmap<A>],
+) -> Result<CodedReadings<'a, A>>
     requires { length symbols.now ≤ 2 ^ 21 }
     ensures { let meant = coder_of (header_view header.now) (symbols_view symbols.now) in
         Gives (λ r. coded_view r) result (Ok meant) }
@@ -110,13 +107,13 @@ fn start_coded<'a, H: Allocator, B: Allocator, M: Allocator + Clone>(
 }
 
 /// The prefix codes at the start of a region's bytes.
-fn start_prefixed<'a, 't, H: Allocator, T: Allocator>(
-    header: &'t TextRegionHeader<'a, H>,
+fn start_prefixed<'a, 't, A: Allocator>(
+    header: &'t TextRegionHeader<'a, A>,
     numbers: &TextRegionHuffmanFlags,
-    ids: &'t HuffmanTable<H>,
-    customs: &'t [&'t HuffmanTable<T>],
-    standard: &'t StandardHuffmanTables<T>,
-) -> Result<PrefixedReadings<'a, 't, T, H>>
+    ids: &'t HuffmanTable<A>,
+    customs: &'t [&'t HuffmanTable<A>],
+    standard: &'t StandardHuffmanTables<A>,
+) -> Result<PrefixedReadings<'a, 't, A>>
     ensures { let h = header_view header.now in
         let meant = prefix_codes_of h numbers.now ids.now (customs_view customs.now) in
         Answers (λ r. prefixed_view r) result meant }
@@ -131,19 +128,12 @@ fn start_prefixed<'a, 't, H: Allocator, T: Allocator>(
 
 /// Decodes a region with readings that are at its start.
 #[tactic(auto, unfolding(crate::specs::TextRegion::region_from))]
-fn decode_by<
-    R: ReadInstances,
-    H: Allocator,
-    B: Allocator,
-    M: Allocator + Clone,
-    D: Allocator,
-    L: Ledger,
->(
-    alloc: M,
+fn decode_by<R: ReadInstances, A: Allocator + Clone, L: Ledger>(
+    alloc: A,
     readings: &mut R,
-    header: &TextRegionHeader<'_, H>,
-    symbols: &[&Bitmap<B>],
-    bitmap: &mut Bitmap<D>,
+    header: &TextRegionHeader<'_, A>,
+    symbols: &[&Bitmap<A>],
+    bitmap: &mut Bitmap<A>,
     work: &mut Work<L>,
 ) -> Result<()>
     requires { header.now.flags.log_strip_size ≤ 3 }
@@ -175,20 +165,13 @@ fn decode_by<
 /// `OverflowError::ReferenceOffset` for numbers out of their ranges; `SymbolError::OutOfRange` for
 /// an id without a symbol, in lenient mode only where it is refined; `OutOfMemory`.
 #[tactic(auto, using(crate::proofs::CausesOfRegions::text_region_cause), unfolding(crate::specs::TextRegion::text_answer))]
-pub fn decode_into<
-    H: Allocator,
-    B: Allocator,
-    T: Allocator,
-    M: Allocator + Clone,
-    D: Allocator,
-    L: Ledger,
->(
-    alloc: M,
-    header: &TextRegionHeader<'_, H>,
-    symbols: &[&Bitmap<B>],
-    referred_tables: &[&HuffmanTable<T>],
-    standard_tables: &StandardHuffmanTables<T>,
-    bitmap: &mut Bitmap<D>,
+pub fn decode_into<A: Allocator + Clone, L: Ledger>(
+    alloc: A,
+    header: &TextRegionHeader<'_, A>,
+    symbols: &[&Bitmap<A>],
+    referred_tables: &[&HuffmanTable<A>],
+    standard_tables: &StandardHuffmanTables<A>,
+    bitmap: &mut Bitmap<A>,
     work: &mut Work<L>,
 ) -> Result<()>
     requires strips { header.now.flags.log_strip_size ≤ 3 }
@@ -227,14 +210,14 @@ pub fn decode_into<
 /// Returns `OverflowError::BitmapDimension` for a side above 65535 pixels, `OutOfMemory` where
 /// there is no memory for the bitmap, and else the errors of `decode_into`.
 #[tactic(auto, unfolding(crate::specs::TextRegion::text_decoded))]
-pub fn decode<H: Allocator, B: Allocator, T: Allocator, M: Allocator + Clone, L: Ledger>(
-    alloc: M,
-    header: &TextRegionHeader<'_, H>,
-    symbols: &[&Bitmap<B>],
-    referred_tables: &[&HuffmanTable<T>],
-    standard_tables: &StandardHuffmanTables<T>,
+pub fn decode<A: Allocator + Clone, L: Ledger>(
+    alloc: A,
+    header: &TextRegionHeader<'_, A>,
+    symbols: &[&Bitmap<A>],
+    referred_tables: &[&HuffmanTable<A>],
+    standard_tables: &StandardHuffmanTables<A>,
     work: &mut Work<L>,
-) -> Result<DecodedRegion<M>>
+) -> Result<DecodedRegion<A>>
     requires strips { header.now.flags.log_strip_size ≤ 3 }
     requires few { length symbols.now ≤ 2 ^ 21 }
     ensures value { let customs = customs_view referred_tables.now in

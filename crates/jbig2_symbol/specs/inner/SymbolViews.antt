@@ -14,7 +14,7 @@ use Rattle.jbig2_text.specs.TextCoding.{Coded, in_band}
 use Rattle.jbig2_symbol.specs.{SymbolBitmaps.{collective_bitmap, raw_stride}, SymbolReading.{BitmapContexts, SymbolInput, SymbolState, SymbolTables, by_table, not_negative}, Symbols.{Symbols}, inner.HeaderViews.{contexts_view, header_view}, declared.symbol.{coded.CodedSymbols.{CodedSymbols}, dictionary.{RetainedContexts.{RetainedContexts}, SymbolDictionary.{SymbolDictionary}}, input.{SymbolInput.{SymbolInput as Input}, SymbolTables.{SymbolTables as Tables}}, prefixed.PrefixedSymbols.{PrefixedSymbols}, widths.RunningWidths.{RunningWidths}}}
 use Rattle.jbig2_text.specs.inner.TextViews as texts
 
-abbrev pub tables_view : {T : Type 0} → Tables T → SymbolTables
+abbrev pub tables_view : {A : Type 0} → Tables A → SymbolTables
 tables_view t = record {
   heights = t.heights.now;
   widths = t.widths.now;
@@ -23,7 +23,7 @@ tables_view t = record {
   runs = t.runs.now;
 }
 
-abbrev pub input_view : {S T : Type 0} → Input S T → SymbolInput
+abbrev pub input_view : {A : Type 0} → Input A → SymbolInput
 input_view d = record {
   header = header_view d.header.now;
   symbols = map (λ b. b.now) d.symbols.now;

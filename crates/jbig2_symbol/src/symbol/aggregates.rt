@@ -108,8 +108,8 @@ pub fn instance_count(number: Option<i32>) -> Result<u32>
 
 /// What is needed to read and place this many instances, of the symbols that are referred to and
 /// the new ones so far.
-pub fn aggregate_params<'a, A: Allocator, T: Allocator>(
-    input: &SymbolInput<'a, A, T>,
+pub fn aggregate_params<'a, A: Allocator>(
+    input: &SymbolInput<'a, A>,
     new: &'a [Bitmap<A>],
     count: u32,
 ) -> TextParams<'a, A>
@@ -129,15 +129,15 @@ pub fn aggregate_params<'a, A: Allocator, T: Allocator>(
 
 /// Refines the symbol of an id into one of this size (T.88, 6.5.8.2.2).
 #[tactic(auto, unfolding(crate::specs::SymbolBitmaps::refined_alone))]
-pub fn refine_alone<R: ReadInstances, A: Allocator, M: Allocator, C: Allocator, L: Ledger>(
-    alloc: M,
+pub fn refine_alone<R: ReadInstances, A: Allocator, L: Ledger>(
+    alloc: A,
     readings: &mut R,
-    refining: &mut Refining<C>,
+    refining: &mut Refining<A>,
     symbols: &SymbolList<'_, A>,
     id: i64,
     size: SymbolSize,
     work: &mut Work<L>,
-) -> Result<Bitmap<M>>
+) -> Result<Bitmap<A>>
     ensures value { let state = R.state readings.old in
         let all = list_view symbols.now in
         let meant = refined_alone R.readings all id size.width size.height refining.old state in
@@ -157,14 +157,14 @@ pub fn refine_alone<R: ReadInstances, A: Allocator, M: Allocator, C: Allocator, 
 
 /// Reads several instances, and draws them into a symbol of this size.
 #[tactic(auto, unfolding(crate::specs::SymbolBitmaps::put_together))]
-pub fn put_together<R: ReadInstances, A: Allocator, M: Allocator, C: Allocator + Clone, L: Ledger>(
-    alloc: M,
+pub fn put_together<R: ReadInstances, A: Allocator + Clone, L: Ledger>(
+    alloc: A,
     readings: &mut R,
-    refining: &mut Refining<C>,
+    refining: &mut Refining<A>,
     params: &TextParams<'_, A>,
     size: SymbolSize,
     work: &mut Work<L>,
-) -> Result<Bitmap<M>>
+) -> Result<Bitmap<A>>
     requires { params.now.flags.log_strip_size ≤ 3 }
     ensures value { let state = R.state readings.old in
         let p = params_view params.now in

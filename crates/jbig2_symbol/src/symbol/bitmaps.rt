@@ -204,9 +204,9 @@ pub fn check_rows<A: Allocator, L: Ledger>(
 
 /// Cuts the symbols of these widths, which lie side by side, out of a collective bitmap, and adds
 /// them to `symbols`.
-pub fn cut_symbols<A: Allocator + Clone, B: Allocator, L: Ledger>(
+pub fn cut_symbols<A: Allocator + Clone, L: Ledger>(
     alloc: A,
-    collective: &Bitmap<B>,
+    collective: &Bitmap<A>,
     height: u32,
     widths: &[u32],
     symbols: &mut Vec<Bitmap<A>, A>,

@@ -48,9 +48,9 @@ pub fn check_class(symbols: usize, empty: u32) -> Result<()>
 }
 
 /// Reads the symbols of a class, each with a bitmap of its own, and adds them to `bitmaps`.
-fn read_symbols<R: ReadSymbols, A: Allocator + Clone, T: Allocator, L: Ledger>(
+fn read_symbols<R: ReadSymbols<A>, A: Allocator + Clone, L: Ledger>(
     alloc: A,
-    input: &SymbolInput<'_, A, T>,
+    input: &SymbolInput<'_, A>,
     room: u32,
     height: u32,
     bitmaps: &mut Vec<Bitmap<A>, A>,
@@ -88,9 +88,9 @@ fn read_symbols<R: ReadSymbols, A: Allocator + Clone, T: Allocator, L: Ledger>(
 
 /// Reads such a class, after this many empty classes, and adds its symbols to `bitmaps`.
 #[tactic(auto, unfolding(crate::specs::HeightClasses::drawn_class))]
-pub fn read_drawn_class<R: ReadSymbols, A: Allocator + Clone, T: Allocator, L: Ledger>(
+pub fn read_drawn_class<R: ReadSymbols<A>, A: Allocator + Clone, L: Ledger>(
     alloc: A,
-    input: &SymbolInput<'_, A, T>,
+    input: &SymbolInput<'_, A>,
     height: u32,
     empty: u32,
     bitmaps: &mut Vec<Bitmap<A>, A>,
@@ -120,9 +120,9 @@ pub fn read_drawn_class<R: ReadSymbols, A: Allocator + Clone, T: Allocator, L: L
 
 /// Reads one more height class.
 #[tactic(auto, using(crate::proofs::ClassCauses::height_class_cause), unfolding(crate::specs::HeightClasses::height_class))]
-fn read_height_class<R: ReadClasses, A: Allocator + Clone, T: Allocator, L: Ledger>(
+fn read_height_class<R: ReadClasses<A>, A: Allocator + Clone, L: Ledger>(
     alloc: A,
-    input: &SymbolInput<'_, A, T>,
+    input: &SymbolInput<'_, A>,
     symbols: &mut NewSymbols<A>,
     readings: &mut R,
     work: &mut Work<L>,
@@ -172,9 +172,9 @@ fn read_height_class<R: ReadClasses, A: Allocator + Clone, T: Allocator, L: Ledg
 }
 
 /// Reads the new symbols of a dictionary (T.88, 6.5.5).
-pub fn read_new_symbols<R: ReadClasses, A: Allocator + Clone, T: Allocator, L: Ledger>(
+pub fn read_new_symbols<R: ReadClasses<A>, A: Allocator + Clone, L: Ledger>(
     alloc: A,
-    input: &SymbolInput<'_, A, T>,
+    input: &SymbolInput<'_, A>,
     readings: &mut R,
     work: &mut Work<L>,
 ) -> Result<Vec<Bitmap<A>, A>>

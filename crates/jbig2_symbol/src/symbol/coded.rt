@@ -41,9 +41,9 @@ pub struct CodedSymbols<'a, A: Allocator> {
 
 impl<'a, A: Allocator + Clone> CodedSymbols<'a, A> {
     /// The coder at the start of a dictionary's bytes, with these contexts for its bitmaps.
-    pub fn new<T: Allocator>(
+    pub fn new(
         alloc: A,
-        input: &SymbolInput<'a, A, T>,
+        input: &SymbolInput<'a, A>,
         contexts: RetainedContexts<A>,
     ) -> Result<CodedSymbols<'a, A>>
         requires symbols { length input.now.symbols.now ≤ 2097152 }
@@ -77,14 +77,14 @@ impl<A: Allocator + Clone> CodedSymbols<'_, A> {
     /// Decodes the bitmap of a symbol that is coded by itself. It goes on with the dictionary's
     /// contexts (T.88, 6.5.8.1).
     #[tactic(auto, unfolding(crate::specs::SymbolBitmaps::coded_symbol))]
-    fn decode_symbol<M: Allocator, L: Ledger>(
+    fn decode_symbol<L: Ledger>(
         &mut self,
-        alloc: M,
+        alloc: A,
         header: &SymbolDictionaryHeader<'_>,
         width: u32,
         height: u32,
         work: &mut Work<L>,
-    ) -> Result<Bitmap<M>>
+    ) -> Result<Bitmap<A>>
         ensures value { let h = header_view header.now in
             let meant = coded_symbol h width height (coded_view self.old) in
             Gives (λ symbol. (symbol, coded_view self.new)) result meant }
@@ -104,13 +104,13 @@ impl<A: Allocator + Clone> CodedSymbols<'_, A> {
     }
 
     /// Reads a symbol of this many instances.
-    fn read_instances<S: Allocator, M: Allocator + Clone, L: Ledger>(
+    fn read_instances<L: Ledger>(
         &mut self,
-        alloc: M,
-        params: &TextParams<'_, S>,
+        alloc: A,
+        params: &TextParams<'_, A>,
         size: SymbolSize,
         work: &mut Work<L>,
-    ) -> Result<Bitmap<M>>
+    ) -> Result<Bitmap<A>>
         requires { params.now.flags.log_strip_size ≤ 3 }
         ensures value { let p = params_view params.now in
             let meant = coded_instances p size.width size.height (coded_view self.old) in
@@ -128,14 +128,14 @@ impl<A: Allocator + Clone> CodedSymbols<'_, A> {
 
     /// Reads a symbol that is refined from another one or aggregated from several (T.88, 6.5.8.2).
     #[tactic(auto, using(crate::proofs::SymbolCauses::coded_aggregate_cause), unfolding(crate::specs::SymbolBitmaps::coded_aggregate, crate::specs::SymbolBitmaps::instance_count))]
-    fn read_aggregate<T: Allocator, M: Allocator + Clone, L: Ledger>(
+    fn read_aggregate<L: Ledger>(
         &mut self,
-        alloc: M,
-        input: &SymbolInput<'_, M, T>,
-        new: &[Bitmap<M>],
+        alloc: A,
+        input: &SymbolInput<'_, A>,
+        new: &[Bitmap<A>],
         size: SymbolSize,
         work: &mut Work<L>,
-    ) -> Result<Bitmap<M>>
+    ) -> Result<Bitmap<A>>
         ensures value { let d = input_view input.now in
             let meant = coded_aggregate d new.now size.width size.height (coded_view self.old) in
             Gives (λ symbol. (symbol, coded_view self.new)) result meant }
@@ -151,14 +151,14 @@ impl<A: Allocator + Clone> CodedSymbols<'_, A> {
 
     /// Reads a symbol's bitmap (T.88, 6.5.8), as the dictionary's flags say.
     #[tactic(auto, unfolding(crate::specs::SymbolCoding::coded_bitmap))]
-    fn read_bitmap<T: Allocator, M: Allocator + Clone, L: Ledger>(
+    fn read_bitmap<L: Ledger>(
         &mut self,
-        alloc: M,
-        input: &SymbolInput<'_, M, T>,
-        new: &[Bitmap<M>],
+        alloc: A,
+        input: &SymbolInput<'_, A>,
+        new: &[Bitmap<A>],
         size: SymbolSize,
         work: &mut Work<L>,
-    ) -> Result<Bitmap<M>>
+    ) -> Result<Bitmap<A>>
         ensures value { let d = input_view input.now in
             let meant = coded_bitmap d new.now size.width size.height (coded_view self.old) in
             Gives (λ symbol. (symbol, coded_view self.new)) result meant }
@@ -171,7 +171,7 @@ impl<A: Allocator + Clone> CodedSymbols<'_, A> {
     }
 }
 
-impl<C: Allocator + Clone> ReadSymbols for CodedSymbols<'_, C> {
+impl<A: Allocator + Clone> ReadSymbols<A> for CodedSymbols<'_, A> {
     ghost use Rattle.jbig2_text.specs.TextCoding.{Coded};
     ghost use Rattle.jbig2_symbol.specs.SymbolCoding.{symbols_by_coder};
     ghost use Rattle.jbig2_symbol.specs.SymbolReading.{SymbolState};
@@ -183,18 +183,18 @@ impl<C: Allocator + Clone> ReadSymbols for CodedSymbols<'_, C> {
 
     ghost readings = { symbols_by_coder };
 
-    fn width_difference<A: Allocator, T: Allocator, L: Ledger>(
+    fn width_difference<L: Ledger>(
         &mut self,
-        _input: &SymbolInput<'_, A, T>,
+        _input: &SymbolInput<'_, A>,
         work: &mut Work<L>,
     ) -> Result<Option<i32>> {
         self.number(IntegerProcedure::Iadw, work)
     }
 
-    fn symbol_bitmap<A: Allocator + Clone, T: Allocator, L: Ledger>(
+    fn symbol_bitmap<L: Ledger>(
         &mut self,
         alloc: A,
-        input: &SymbolInput<'_, A, T>,
+        input: &SymbolInput<'_, A>,
         new: &[Bitmap<A>],
         size: SymbolSize,
         work: &mut Work<L>,
@@ -203,7 +203,7 @@ impl<C: Allocator + Clone> ReadSymbols for CodedSymbols<'_, C> {
     }
 }
 
-impl<C: Allocator + Clone> ReadClasses for CodedSymbols<'_, C> {
+impl<A: Allocator + Clone> ReadClasses<A> for CodedSymbols<'_, A> {
     ghost use Rattle.jbig2_text.specs.TextCoding.{Coded};
     ghost use Rattle.jbig2_symbol.specs.SymbolCoding.{classes_by_coder};
     ghost use Rattle.jbig2_symbol.specs.SymbolReading.{SymbolState};
@@ -215,18 +215,18 @@ impl<C: Allocator + Clone> ReadClasses for CodedSymbols<'_, C> {
 
     ghost readings = { classes_by_coder };
 
-    fn height_difference<A: Allocator, T: Allocator, L: Ledger>(
+    fn height_difference<L: Ledger>(
         &mut self,
-        _input: &SymbolInput<'_, A, T>,
+        _input: &SymbolInput<'_, A>,
         work: &mut Work<L>,
     ) -> Result<Option<i32>> {
         self.number(IntegerProcedure::Iadh, work)
     }
 
-    fn class_of_height<A: Allocator + Clone, T: Allocator, L: Ledger>(
+    fn class_of_height<L: Ledger>(
         &mut self,
         alloc: A,
-        input: &SymbolInput<'_, A, T>,
+        input: &SymbolInput<'_, A>,
         height: u32,
         empty: u32,
         bitmaps: &mut Vec<Bitmap<A>, A>,
@@ -235,9 +235,9 @@ impl<C: Allocator + Clone> ReadClasses for CodedSymbols<'_, C> {
         read_drawn_class(alloc, input, height, empty, bitmaps, self, work)
     }
 
-    fn export_run<A: Allocator, T: Allocator, L: Ledger>(
+    fn export_run<L: Ledger>(
         &mut self,
-        _input: &SymbolInput<'_, A, T>,
+        _input: &SymbolInput<'_, A>,
         work: &mut Work<L>,
     ) -> Result<Option<i32>> {
         self.number(IntegerProcedure::Iaex, work)

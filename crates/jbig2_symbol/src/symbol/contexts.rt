@@ -63,9 +63,9 @@ fn fresh_contexts<A: Allocator + Clone>(
 }
 
 /// A copy of the contexts that another dictionary kept.
-fn duplicate_contexts<A: Allocator + Clone, K: Allocator>(
+fn duplicate_contexts<A: Allocator + Clone>(
     alloc: A,
-    kept: &RetainedContexts<K>,
+    kept: &RetainedContexts<A>,
 ) -> Result<RetainedContexts<A>>
     ensures { Gives (λ contexts. contexts_view contexts) result (Ok (contexts_view kept.now)) }
 {
@@ -86,10 +86,10 @@ fn duplicate_contexts<A: Allocator + Clone, K: Allocator>(
 /// Returns `SymbolError::Invalid` where there are none, or where they have other templates;
 /// `OutOfMemory` where there is no memory for them.
 #[tactic(auto, using(crate::proofs::ReadingCauses::contexts_cause), unfolding(crate::specs::SymbolReading::first_contexts))]
-pub fn first_contexts<A: Allocator + Clone, K: Allocator>(
+pub fn first_contexts<A: Allocator + Clone>(
     alloc: A,
     flags: &SymbolDictionaryFlags,
-    kept: Option<&RetainedContexts<K>>,
+    kept: Option<&RetainedContexts<A>>,
 ) -> Result<RetainedContexts<A>>
     ensures value { let others = option_map (λ c. contexts_view c.now) kept.entry in
         let meant = first_contexts flags.now others in

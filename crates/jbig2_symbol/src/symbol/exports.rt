@@ -26,8 +26,8 @@ const RUN: u64 = 64;
 
 /// Reads a run, where `left` symbols are not covered yet and `empty` runs of length 0 came before.
 #[tactic(auto, unfolding(crate::specs::Symbols::next_run))]
-fn read_run<R: ReadClasses, A: Allocator, T: Allocator, L: Ledger>(
-    input: &SymbolInput<'_, A, T>,
+fn read_run<R: ReadClasses<A>, A: Allocator + Clone, L: Ledger>(
+    input: &SymbolInput<'_, A>,
     empty: u32,
     left: u64,
     readings: &mut R,
@@ -56,11 +56,16 @@ fn read_run<R: ReadClasses, A: Allocator, T: Allocator, L: Ledger>(
     Ok(run)
 }
 
+<<<<<<< HEAD
 /// Reads the runs, until they cover `count` symbols. The runs before and after an empty one are joined,
 /// so there are hardly more than there are symbols.
 pub fn read_runs<R: ReadClasses, M: Allocator, A: Allocator, T: Allocator, L: Ledger>(
+=======
+/// Reads the runs, until they cover `count` symbols.
+pub fn read_runs<R: ReadClasses<A>, M: Allocator, A: Allocator + Clone, L: Ledger>(
+>>>>>>> 1b1b1ba205b6df7627d56876350ba33368472d35
     alloc: M,
-    input: &SymbolInput<'_, A, T>,
+    input: &SymbolInput<'_, A>,
     count: u64,
     readings: &mut R,
     work: &mut Work<L>,
@@ -224,10 +229,15 @@ fn take_exports<A: Allocator + Clone, S: Allocator, L: Ledger>(
 ///
 /// Returns the errors of `read_runs`; `SymbolError::NoSymbols` where their number is not the
 /// header's; `OutOfMemory` where there is no memory for them.
+<<<<<<< HEAD
 #[tactic(auto, using(crate::proofs::ReadingCauses::exports_cause))]
 pub fn read_exports<R: ReadClasses, A: Allocator + Clone, T: Allocator, L: Ledger>(
+=======
+#[tactic(auto, using(crate::proofs::ReadingCauses::exports_cause), unfolding(crate::specs::Symbols::exports))]
+pub fn read_exports<R: ReadClasses<A>, A: Allocator + Clone, L: Ledger>(
+>>>>>>> 1b1b1ba205b6df7627d56876350ba33368472d35
     alloc: A,
-    input: &SymbolInput<'_, A, T>,
+    input: &SymbolInput<'_, A>,
     new: Vec<Bitmap<A>, A>,
     readings: &mut R,
     work: &mut Work<L>,

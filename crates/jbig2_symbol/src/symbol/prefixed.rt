@@ -39,15 +39,15 @@ use std::sync::ledger::Ledger;
 const MOST_ROWS: u32 = 65535;
 
 /// Reads a symbol by prefix codes. A single instance has an id of this many bits.
-fn read_by_instances<T: Allocator, A: Allocator, M: Allocator, C: Allocator + Clone, L: Ledger>(
-    alloc: M,
-    readings: &mut PrefixedReadings<'_, '_, T, A>,
-    refining: &mut Refining<C>,
+fn read_by_instances<A: Allocator + Clone, L: Ledger>(
+    alloc: A,
+    readings: &mut PrefixedReadings<'_, '_, A>,
+    refining: &mut Refining<A>,
     id_bits: u8,
     params: &TextParams<'_, A>,
     size: SymbolSize,
     work: &mut Work<L>,
-) -> Result<Bitmap<M>>
+) -> Result<Bitmap<A>>
     requires bits { id_bits ≤ 32 }
     requires strips { params.now.flags.log_strip_size ≤ 3 }
     ensures value { let state = texts.prefixed_view readings.old in
@@ -74,10 +74,7 @@ pub struct PrefixedSymbols<'a, A: Allocator> {
 
 impl<'a, A: Allocator + Clone> PrefixedSymbols<'a, A> {
     /// The start of a dictionary's bytes, with these contexts for its bitmaps.
-    pub fn new<S: Allocator, T: Allocator>(
-        input: &SymbolInput<'a, S, T>,
-        contexts: RetainedContexts<A>,
-    ) -> PrefixedSymbols<'a, A>
+    pub fn new(input: &SymbolInput<'a, A>, contexts: RetainedContexts<A>) -> PrefixedSymbols<'a, A>
         ensures { let meant = prefix_codes_begun (input_view input.now) (contexts_view contexts) in
             prefixed_view result ≡ meant }
     {
@@ -88,7 +85,7 @@ impl<'a, A: Allocator + Clone> PrefixedSymbols<'a, A> {
     }
 
     /// A number with a code of this table, or out of band.
-    fn number<T: Allocator>(&mut self, table: &HuffmanTable<T>) -> Result<Option<i32>>
+    fn number(&mut self, table: &HuffmanTable<A>) -> Result<Option<i32>>
         ensures { let meant = by_table table.now (prefixed_view self.old) in
             Answers (λ value. (value, prefixed_view self.new)) result meant }
     {
@@ -96,14 +93,14 @@ impl<'a, A: Allocator + Clone> PrefixedSymbols<'a, A> {
     }
 
     /// Reads a symbol of this many instances.
-    fn read_instances<T: Allocator, M: Allocator + Clone, L: Ledger>(
+    fn read_instances<L: Ledger>(
         &mut self,
-        alloc: M,
-        input: &SymbolInput<'_, M, T>,
-        params: &TextParams<'_, M>,
+        alloc: A,
+        input: &SymbolInput<'_, A>,
+        params: &TextParams<'_, A>,
         size: SymbolSize,
         work: &mut Work<L>,
-    ) -> Result<Bitmap<M>>
+    ) -> Result<Bitmap<A>>
         requires symbols { length input.now.symbols.now ≤ 2097152 }
         requires fresh { input.now.header.now.num_new_symbols ≤ 1048576 }
         requires strips { params.now.flags.log_strip_size ≤ 3 }
@@ -131,14 +128,14 @@ impl<'a, A: Allocator + Clone> PrefixedSymbols<'a, A> {
 
     /// Reads a symbol that is refined from another one or aggregated from several (T.88, 6.5.8.2).
     #[tactic(auto, using(crate::proofs::SymbolCauses::prefixed_aggregate_cause), unfolding(crate::specs::SymbolBitmaps::prefixed_aggregate, crate::specs::SymbolBitmaps::instance_count))]
-    fn read_aggregate<T: Allocator, M: Allocator + Clone, L: Ledger>(
+    fn read_aggregate<L: Ledger>(
         &mut self,
-        alloc: M,
-        input: &SymbolInput<'_, M, T>,
-        new: &[Bitmap<M>],
+        alloc: A,
+        input: &SymbolInput<'_, A>,
+        new: &[Bitmap<A>],
         size: SymbolSize,
         work: &mut Work<L>,
-    ) -> Result<Bitmap<M>>
+    ) -> Result<Bitmap<A>>
         requires symbols { length input.now.symbols.now ≤ 2097152 }
         requires fresh { input.now.header.now.num_new_symbols ≤ 1048576 }
         ensures value { let d = input_view input.now in
@@ -157,10 +154,7 @@ impl<'a, A: Allocator + Clone> PrefixedSymbols<'a, A> {
     }
 
     /// Reads the number of bytes of a collective bitmap, from the next whole byte on (T.88, 6.5.9).
-    fn read_size<S: Allocator, T: Allocator>(
-        &mut self,
-        input: &SymbolInput<'_, S, T>,
-    ) -> Result<usize>
+    fn read_size(&mut self, input: &SymbolInput<'_, A>) -> Result<usize>
         ensures value { let d = input_view input.now in
             let meant = size_of_rows d (prefixed_view self.old) in
             Answers (λ size. (size, prefixed_view self.new)) result meant }
@@ -178,14 +172,14 @@ impl<'a, A: Allocator + Clone> PrefixedSymbols<'a, A> {
 
     /// Reads the collective bitmap of a height class (T.88, 6.5.9).
     #[tactic(auto, using(crate::proofs::ClassCauses::collective_cause), unfolding(crate::specs::SymbolBitmaps::collective_bitmap))]
-    fn read_collective<M: Allocator, S: Allocator, T: Allocator, L: Ledger>(
+    fn read_collective<L: Ledger>(
         &mut self,
-        alloc: M,
-        input: &SymbolInput<'_, S, T>,
+        alloc: A,
+        input: &SymbolInput<'_, A>,
         width: u32,
         height: u32,
         work: &mut Work<L>,
-    ) -> Result<Bitmap<M>>
+    ) -> Result<Bitmap<A>>
         ensures value { let d = input_view input.now in
             let meant = collective_bitmap d width height (prefixed_view self.old) in
             Gives (λ bitmap. (bitmap, prefixed_view self.new)) result meant }
@@ -210,10 +204,10 @@ impl<'a, A: Allocator + Clone> PrefixedSymbols<'a, A> {
     /// bitmap, if it has one, or else that of the first symbol (T.88, 6.5.9). The bitmap is made
     /// only where strict mode has to decode MMR data.
     #[tactic(auto, using(crate::proofs::ClassCauses::tall_class_cause), unfolding(crate::specs::SymbolBitmaps::collective_bitmap))]
-    fn refuse_tall_class<M: Allocator, S: Allocator, T: Allocator, L: Ledger>(
+    fn refuse_tall_class<L: Ledger>(
         &mut self,
-        alloc: M,
-        input: &SymbolInput<'_, S, T>,
+        alloc: A,
+        input: &SymbolInput<'_, A>,
         width: u32,
         height: u32,
         work: &mut Work<L>,
@@ -242,13 +236,13 @@ impl<'a, A: Allocator + Clone> PrefixedSymbols<'a, A> {
 
     /// Cuts the symbols of a class out of its collective bitmap, and adds them to `bitmaps`.
     #[tactic(auto, unfolding(crate::specs::SymbolCoding::collective_class))]
-    fn read_collective_class<M: Allocator + Clone, T: Allocator, L: Ledger>(
+    fn read_collective_class<L: Ledger>(
         &mut self,
-        alloc: M,
-        input: &SymbolInput<'_, M, T>,
+        alloc: A,
+        input: &SymbolInput<'_, A>,
         height: u32,
         empty: u32,
-        bitmaps: &mut Vec<Bitmap<M>, M>,
+        bitmaps: &mut Vec<Bitmap<A>, A>,
         work: &mut Work<L>,
     ) -> Result<()>
         requires { length bitmaps.old.items ≤ input.now.header.now.num_new_symbols }
@@ -276,7 +270,7 @@ impl<'a, A: Allocator + Clone> PrefixedSymbols<'a, A> {
     }
 }
 
-impl<C: Allocator + Clone> ReadSymbols for PrefixedSymbols<'_, C> {
+impl<A: Allocator + Clone> ReadSymbols<A> for PrefixedSymbols<'_, A> {
     ghost use Rattle.jbig2_base.specs.Bits.{Place};
     ghost use Rattle.jbig2_symbol.specs.SymbolCoding.{symbols_by_prefix_codes};
     ghost use Rattle.jbig2_symbol.specs.SymbolReading.{SymbolState};
@@ -288,18 +282,18 @@ impl<C: Allocator + Clone> ReadSymbols for PrefixedSymbols<'_, C> {
 
     ghost readings = { symbols_by_prefix_codes };
 
-    fn width_difference<A: Allocator, T: Allocator, L: Ledger>(
+    fn width_difference<L: Ledger>(
         &mut self,
-        input: &SymbolInput<'_, A, T>,
+        input: &SymbolInput<'_, A>,
         _work: &mut Work<L>,
     ) -> Result<Option<i32>> {
         self.number(input.tables.widths)
     }
 
-    fn symbol_bitmap<A: Allocator + Clone, T: Allocator, L: Ledger>(
+    fn symbol_bitmap<L: Ledger>(
         &mut self,
         alloc: A,
-        input: &SymbolInput<'_, A, T>,
+        input: &SymbolInput<'_, A>,
         new: &[Bitmap<A>],
         size: SymbolSize,
         work: &mut Work<L>,
@@ -308,7 +302,7 @@ impl<C: Allocator + Clone> ReadSymbols for PrefixedSymbols<'_, C> {
     }
 }
 
-impl<C: Allocator + Clone> ReadClasses for PrefixedSymbols<'_, C> {
+impl<A: Allocator + Clone> ReadClasses<A> for PrefixedSymbols<'_, A> {
     ghost use Rattle.jbig2_base.specs.Bits.{Place};
     ghost use Rattle.jbig2_symbol.specs.SymbolCoding.{classes_by_prefix_codes};
     ghost use Rattle.jbig2_symbol.specs.SymbolReading.{SymbolState};
@@ -320,18 +314,18 @@ impl<C: Allocator + Clone> ReadClasses for PrefixedSymbols<'_, C> {
 
     ghost readings = { classes_by_prefix_codes };
 
-    fn height_difference<A: Allocator, T: Allocator, L: Ledger>(
+    fn height_difference<L: Ledger>(
         &mut self,
-        input: &SymbolInput<'_, A, T>,
+        input: &SymbolInput<'_, A>,
         _work: &mut Work<L>,
     ) -> Result<Option<i32>> {
         self.number(input.tables.heights)
     }
 
-    fn class_of_height<A: Allocator + Clone, T: Allocator, L: Ledger>(
+    fn class_of_height<L: Ledger>(
         &mut self,
         alloc: A,
-        input: &SymbolInput<'_, A, T>,
+        input: &SymbolInput<'_, A>,
         height: u32,
         empty: u32,
         bitmaps: &mut Vec<Bitmap<A>, A>,
@@ -343,9 +337,9 @@ impl<C: Allocator + Clone> ReadClasses for PrefixedSymbols<'_, C> {
         self.read_collective_class(alloc, input, height, empty, bitmaps, work)
     }
 
-    fn export_run<A: Allocator, T: Allocator, L: Ledger>(
+    fn export_run<L: Ledger>(
         &mut self,
-        input: &SymbolInput<'_, A, T>,
+        input: &SymbolInput<'_, A>,
         _work: &mut Work<L>,
     ) -> Result<Option<i32>> {
         self.number(input.tables.runs)

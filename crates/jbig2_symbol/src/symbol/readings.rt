@@ -16,7 +16,7 @@ use std::alloc::Allocator;
 use std::sync::ledger::Ledger;
 
 /// Reads the symbols of a height class one by one. The caller has already paid for five numbers for each symbol.
-pub trait ReadSymbols {
+pub trait ReadSymbols<A: Allocator + Clone> {
     ghost State: { Type 0 };
 
     ghost state: { Self → State };
@@ -24,9 +24,9 @@ pub trait ReadSymbols {
     ghost readings: { SymbolReadings State };
 
     /// Reads a symbol's difference in width. Out of band ends a height class (T.88, 6.5.7).
-    fn width_difference<A: Allocator, T: Allocator, L: Ledger>(
+    fn width_difference<L: Ledger>(
         &mut self,
-        input: &SymbolInput<'_, A, T>,
+        input: &SymbolInput<'_, A>,
         work: &mut Work<L>,
     ) -> Result<Option<i32>>
         ensures value { let meant = readings.width_difference (input_view input.now) (state self.old) in
@@ -34,10 +34,10 @@ pub trait ReadSymbols {
         ensures paid { PaidBut (number_steps 1) work.old work.new };
 
     /// Reads the bitmap of a symbol, after these new symbols (T.88, 6.5.8).
-    fn symbol_bitmap<A: Allocator + Clone, T: Allocator, L: Ledger>(
+    fn symbol_bitmap<L: Ledger>(
         &mut self,
         alloc: A,
-        input: &SymbolInput<'_, A, T>,
+        input: &SymbolInput<'_, A>,
         new: &[Bitmap<A>],
         size: SymbolSize,
         work: &mut Work<L>,
@@ -53,7 +53,7 @@ pub trait ReadSymbols {
 
 /// Reads a dictionary, one height class after the other, and what it exports. The caller has already taken the work of
 /// five numbers for each symbol, and of one more number for each call.
-pub trait ReadClasses {
+pub trait ReadClasses<A: Allocator + Clone> {
     ghost State: { Type 0 };
 
     ghost state: { Self → State };
@@ -61,9 +61,9 @@ pub trait ReadClasses {
     ghost readings: { ClassReadings State };
 
     /// Reads a height class's difference in height, or out of band (T.88, 6.5.6).
-    fn height_difference<A: Allocator, T: Allocator, L: Ledger>(
+    fn height_difference<L: Ledger>(
         &mut self,
-        input: &SymbolInput<'_, A, T>,
+        input: &SymbolInput<'_, A>,
         work: &mut Work<L>,
     ) -> Result<Option<i32>>
         ensures value { let meant = readings.height_difference (input_view input.now) (state self.old) in
@@ -72,10 +72,10 @@ pub trait ReadClasses {
 
     /// Reads a class of this height, after this many empty classes, and adds its symbols to
     /// `bitmaps` (T.88, 6.5.5, step 4).
-    fn class_of_height<A: Allocator + Clone, T: Allocator, L: Ledger>(
+    fn class_of_height<L: Ledger>(
         &mut self,
         alloc: A,
-        input: &SymbolInput<'_, A, T>,
+        input: &SymbolInput<'_, A>,
         height: u32,
         empty: u32,
         bitmaps: &mut Vec<Bitmap<A>, A>,
@@ -97,9 +97,9 @@ pub trait ReadClasses {
             OnOk result (PaysSymbols before after most 1 work.old work.new) };
 
     /// Reads a run of symbols, all exported or all not, or out of band (T.88, 6.5.10).
-    fn export_run<A: Allocator, T: Allocator, L: Ledger>(
+    fn export_run<L: Ledger>(
         &mut self,
-        input: &SymbolInput<'_, A, T>,
+        input: &SymbolInput<'_, A>,
         work: &mut Work<L>,
     ) -> Result<Option<i32>>
         ensures value { let meant = readings.export_run (input_view input.now) (state self.old) in

@@ -16,11 +16,11 @@ use std::alloc::Allocator;
 
 /// The table that a selection names, and the custom tables still left.
 #[tactic(auto, unfolding(crate::specs::SymbolReading::table_for))]
-fn table_for<'a, T: Allocator>(
-    standard: &'a StandardHuffmanTables<T>,
+fn table_for<'a, A: Allocator>(
+    standard: &'a StandardHuffmanTables<A>,
     selection: HuffmanTableSelection,
-    customs: &'a [&'a HuffmanTable<T>],
-) -> Result<(&'a HuffmanTable<T>, &'a [&'a HuffmanTable<T>])>
+    customs: &'a [&'a HuffmanTable<A>],
+) -> Result<(&'a HuffmanTable<A>, &'a [&'a HuffmanTable<A>])>
     ensures { let meant = table_for selection (customs_view customs.now) in
         Answers (λ t. (t.0.now, customs_view t.1.now)) result meant }
 {
@@ -38,11 +38,11 @@ fn table_for<'a, T: Allocator>(
 ///
 /// Returns `HuffmanError::MissingTables` where it refers to too few, also without prefix codes.
 #[tactic(auto, using(crate::proofs::ReadingCauses::symbol_tables_cause), unfolding(crate::specs::SymbolReading::symbol_tables))]
-pub fn symbol_tables<'a, T: Allocator>(
+pub fn symbol_tables<'a, A: Allocator>(
     flags: &SymbolDictionaryFlags,
-    standard: &'a StandardHuffmanTables<T>,
-    referred: &'a [&'a HuffmanTable<T>],
-) -> Result<SymbolTables<'a, T>>
+    standard: &'a StandardHuffmanTables<A>,
+    referred: &'a [&'a HuffmanTable<A>],
+) -> Result<SymbolTables<'a, A>>
     ensures value { let meant = symbol_tables flags.now (customs_view referred.now) in
         Answers (λ tables. tables_view tables) result meant }
     ensures causes { HasCause result (BreaksTables flags.now (customs_view referred.now)) }

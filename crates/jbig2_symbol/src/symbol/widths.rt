@@ -91,9 +91,9 @@ impl RunningWidths {
 
     /// Reads the next width of the class; `None` ends it.
     #[tactic(auto, using(crate::proofs::ReadingCauses::widths_cause), unfolding(crate::specs::HeightClasses::next_width))]
-    pub fn read_next<R: ReadSymbols, A: Allocator, T: Allocator, L: Ledger>(
+    pub fn read_next<R: ReadSymbols<A>, A: Allocator + Clone, L: Ledger>(
         &mut self,
-        input: &SymbolInput<'_, A, T>,
+        input: &SymbolInput<'_, A>,
         readings: &mut R,
         work: &mut Work<L>,
     ) -> Result<Option<u32>>
@@ -117,13 +117,13 @@ impl RunningWidths {
 }
 
 /// Reads the widths of a class up to out of band. At most `room` of them may come.
-pub fn read_widths<R: ReadSymbols, M: Allocator, A: Allocator, T: Allocator, L: Ledger>(
-    alloc: M,
-    input: &SymbolInput<'_, A, T>,
+pub fn read_widths<R: ReadSymbols<A>, A: Allocator + Clone, L: Ledger>(
+    alloc: A,
+    input: &SymbolInput<'_, A>,
     room: u32,
     readings: &mut R,
     work: &mut Work<L>,
-) -> Result<ClassWidths<M>>
+) -> Result<ClassWidths<A>>
     ensures value { let d = input_view input.now in
         let meant = widths_from R.readings d room 0 0 (R.state readings.old) in
         Gives (λ widths. (widths.each.items, R.state readings.new)) result meant }

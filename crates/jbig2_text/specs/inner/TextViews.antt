@@ -18,7 +18,7 @@ fields_view f = record f { refinement_at_pixels = text_pixels f.flags f.refineme
 abbrev pub coded_view : {A : Type 0} → CodedReadings A → Coded
 coded_view r = record { coder = r.decoder; procedures = r.procedures; ids = r.ids }
 
-abbrev pub tables_view : {T : Type 0} → TextRegionHuffmanTables T → TextTables
+abbrev pub tables_view : {A : Type 0} → TextRegionHuffmanTables A → TextTables
 tables_view t = record {
   first_s = t.first_s.now;
   delta_s = t.delta_s.now;
@@ -30,7 +30,7 @@ tables_view t = record {
   refinement_size = t.refinement_size.now;
 }
 
-abbrev pub prefixed_view : {T I : Type 0} → PrefixedReadings T I → Prefixed
+abbrev pub prefixed_view : {A : Type 0} → PrefixedReadings A → Prefixed
 prefixed_view r = record { place = r.reader; tables = tables_view r.tables; ids = r.ids.now }
 
 -- the grids that a list of references refers to
@@ -38,10 +38,10 @@ abbrev pub symbols_view : List (Bor Grid) → List Grid
 symbols_view symbols = map (λ symbol. symbol.now) symbols
 
 -- the symbols of other dictionaries, then those of this one
-abbrev pub list_view : {B : Type 0} → SymbolList B → List Grid
+abbrev pub list_view : {A : Type 0} → SymbolList A → List Grid
 list_view symbols = symbols_view symbols.input_symbols.now ++ symbols.new_symbols.now
 
-abbrev pub params_view : {B : Type 0} → TextParams B → Params
+abbrev pub params_view : {A : Type 0} → TextParams A → Params
 params_view p = record {
   flags = p.flags;
   symbols = list_view p.symbols;
@@ -50,11 +50,11 @@ params_view p = record {
   strict = p.strict;
 }
 
-abbrev pub symbol_view : {B M : Type 0} → InstanceSymbol B M → Grid
+abbrev pub symbol_view : {A : Type 0} → InstanceSymbol A → Grid
 symbol_view (Shared bitmap) = bitmap.now
 symbol_view (Refined bitmap) = bitmap
 
-abbrev pub instance_view : {B M : Type 0} → PlacedSymbol B M → Instance
+abbrev pub instance_view : {A : Type 0} → PlacedSymbol A → Instance
 instance_view i = record { grid = symbol_view i.symbol; x = i.x; y = i.y }
 
 abbrev pub coding_view : {A : Type 0} → TextRegionCoding A → NumberCoding

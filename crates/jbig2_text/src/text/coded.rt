@@ -147,11 +147,11 @@ impl<A: Allocator> ReadInstances for CodedReadings<'_, A> {
         self.number(IntegerProcedure::Iardy, work)
     }
 
-    fn refine<M: Allocator, B: Allocator, C: Allocator, L: Ledger>(
+    fn refine<B: Allocator, L: Ledger>(
         &mut self,
         reference: &ReferenceBitmap<'_, B>,
-        refining: &mut Refining<C>,
-        bitmap: &mut Bitmap<M>,
+        refining: &mut Refining<B>,
+        bitmap: &mut Bitmap<B>,
         work: &mut Work<L>,
     ) -> Result<()> {
         refining.refine(reference, bitmap, &mut self.decoder, work);

@@ -29,12 +29,12 @@ const INSTANCE: u64 = 256;
 const INSTANCES_PER_BYTE: usize = 32;
 
 /// Draws a symbol at CURS and at T, and returns the place after it. Without a symbol nothing changes.
-fn draw_symbol<B: Allocator, M: Allocator, D: Allocator, L: Ledger>(
+fn draw_symbol<A: Allocator, L: Ledger>(
     flags: &TextRegionFlags,
     t: i32,
-    symbol: Option<InstanceSymbol<'_, B, M>>,
+    symbol: Option<InstanceSymbol<'_, A>>,
     cursor: Cursor,
-    region: &mut Bitmap<D>,
+    region: &mut Bitmap<A>,
     work: &mut Work<L>,
 ) -> Result<Cursor>
     ensures value { let ib = option_map (λ x. symbol_view x) symbol.entry in
@@ -56,12 +56,12 @@ fn draw_symbol<B: Allocator, M: Allocator, D: Allocator, L: Ledger>(
 
 /// Reads and draws the instance at the cursor. Returns the cursor after it.
 #[tactic(auto, unfolding(crate::specs::Text::with_instance))]
-fn draw_instance<R: ReadInstances, B: Allocator, C: Allocator + Clone, D: Allocator, L: Ledger>(
+fn draw_instance<R: ReadInstances, A: Allocator + Clone, L: Ledger>(
     readings: &mut R,
-    refining: &mut Refining<C>,
-    params: &TextParams<'_, B>,
+    refining: &mut Refining<A>,
+    params: &TextParams<'_, A>,
     cursor: Cursor,
-    region: &mut Bitmap<D>,
+    region: &mut Bitmap<A>,
     work: &mut Work<L>,
 ) -> Result<Cursor>
     requires { params.now.flags.log_strip_size ≤ 3 }
@@ -80,12 +80,12 @@ fn draw_instance<R: ReadInstances, B: Allocator, C: Allocator + Clone, D: Alloca
 }
 
 /// Reads and draws the instance at the cursor, and moves the cursor on to the next one.
-fn draw_and_move<R: ReadInstances, B: Allocator, C: Allocator + Clone, D: Allocator, L: Ledger>(
+fn draw_and_move<R: ReadInstances, A: Allocator + Clone, L: Ledger>(
     readings: &mut R,
-    refining: &mut Refining<C>,
-    params: &TextParams<'_, B>,
+    refining: &mut Refining<A>,
+    params: &TextParams<'_, A>,
     cursor: Cursor,
-    region: &mut Bitmap<D>,
+    region: &mut Bitmap<A>,
     work: &mut Work<L>,
 ) -> Result<Cursor>
     requires { params.now.flags.log_strip_size ≤ 3 }
@@ -100,13 +100,13 @@ fn draw_and_move<R: ReadInstances, B: Allocator, C: Allocator + Clone, D: Alloca
 }
 
 /// Reads and draws this many instances, where another comes after them.
-fn draw_inner<R: ReadInstances, B: Allocator, C: Allocator + Clone, D: Allocator, L: Ledger>(
+fn draw_inner<R: ReadInstances, A: Allocator + Clone, L: Ledger>(
     readings: &mut R,
-    refining: &mut Refining<C>,
-    params: &TextParams<'_, B>,
+    refining: &mut Refining<A>,
+    params: &TextParams<'_, A>,
     count: u32,
     cursor: Cursor,
-    region: &mut Bitmap<D>,
+    region: &mut Bitmap<A>,
     work: &mut Work<L>,
 ) -> Result<Cursor>
     requires { params.now.flags.log_strip_size ≤ 3 }
@@ -127,12 +127,12 @@ fn draw_inner<R: ReadInstances, B: Allocator, C: Allocator + Clone, D: Allocator
 }
 
 /// Reads and draws the last instance, and reads the end of its strip.
-fn draw_last<R: ReadInstances, B: Allocator, C: Allocator + Clone, D: Allocator, L: Ledger>(
+fn draw_last<R: ReadInstances, A: Allocator + Clone, L: Ledger>(
     readings: &mut R,
-    refining: &mut Refining<C>,
-    params: &TextParams<'_, B>,
+    refining: &mut Refining<A>,
+    params: &TextParams<'_, A>,
     cursor: Cursor,
-    region: &mut Bitmap<D>,
+    region: &mut Bitmap<A>,
     work: &mut Work<L>,
 ) -> Result<()>
     requires { params.now.flags.log_strip_size ≤ 3 }
@@ -148,12 +148,12 @@ fn draw_last<R: ReadInstances, B: Allocator, C: Allocator + Clone, D: Allocator,
 }
 
 /// Reads the strips after this T, and draws their instances. There is at least one.
-fn draw_some_strips<R: ReadInstances, B: Allocator, C: Allocator + Clone, D: Allocator, L: Ledger>(
+fn draw_some_strips<R: ReadInstances, A: Allocator + Clone, L: Ledger>(
     readings: &mut R,
-    refining: &mut Refining<C>,
-    params: &TextParams<'_, B>,
+    refining: &mut Refining<A>,
+    params: &TextParams<'_, A>,
     strip_t: i32,
-    region: &mut Bitmap<D>,
+    region: &mut Bitmap<A>,
     work: &mut Work<L>,
 ) -> Result<()>
     requires strip { params.now.flags.log_strip_size ≤ 3 }
@@ -172,12 +172,12 @@ fn draw_some_strips<R: ReadInstances, B: Allocator, C: Allocator + Clone, D: All
 }
 
 /// Reads all strips after this T, where there are any, and draws their instances.
-fn draw_strips<R: ReadInstances, B: Allocator, C: Allocator + Clone, D: Allocator, L: Ledger>(
+fn draw_strips<R: ReadInstances, A: Allocator + Clone, L: Ledger>(
     readings: &mut R,
-    refining: &mut Refining<C>,
-    params: &TextParams<'_, B>,
+    refining: &mut Refining<A>,
+    params: &TextParams<'_, A>,
     strip_t: i32,
-    region: &mut Bitmap<D>,
+    region: &mut Bitmap<A>,
     work: &mut Work<L>,
 ) -> Result<()>
     requires { params.now.flags.log_strip_size ≤ 3 }
@@ -204,11 +204,11 @@ fn is_too_many(count: u32, data_len: usize) -> bool
 
 /// Reads all instances and draws them, the first one first. After an error some are drawn.
 #[tactic(auto, unfolding(crate::specs::Text::text_region))]
-fn draw_instances<R: ReadInstances, B: Allocator, C: Allocator + Clone, D: Allocator, L: Ledger>(
+fn draw_instances<R: ReadInstances, A: Allocator + Clone, L: Ledger>(
     readings: &mut R,
-    refining: &mut Refining<C>,
-    params: &TextParams<'_, B>,
-    region: &mut Bitmap<D>,
+    refining: &mut Refining<A>,
+    params: &TextParams<'_, A>,
+    region: &mut Bitmap<A>,
     work: &mut Work<L>,
 ) -> Result<()>
     requires { params.now.flags.log_strip_size ≤ 3 }
@@ -231,17 +231,11 @@ fn draw_instances<R: ReadInstances, B: Allocator, C: Allocator + Clone, D: Alloc
 /// is so again. Refined symbols take the allocator of `refining`.
 ///
 /// The errors are those that `decode_into` returns after the errors of its tables.
-pub fn draw_instances_by<
-    R: ReadInstances,
-    B: Allocator,
-    C: Allocator + Clone,
-    D: Allocator,
-    L: Ledger,
->(
+pub fn draw_instances_by<R: ReadInstances, A: Allocator + Clone, L: Ledger>(
     readings: &mut R,
-    refining: &mut Refining<C>,
-    params: &TextParams<'_, B>,
-    region: &mut Bitmap<D>,
+    refining: &mut Refining<A>,
+    params: &TextParams<'_, A>,
+    region: &mut Bitmap<A>,
     work: &mut Work<L>,
 ) -> Result<()>
     requires { params.now.flags.log_strip_size ≤ 3 }

@@ -13,8 +13,8 @@ use std::alloc::Allocator;
 
 /// A symbol, and the column and the row of its top left pixel.
 #[derive(Drop)]
-pub struct Instance<'a, B: Allocator, M: Allocator> {
-    pub symbol: InstanceSymbol<'a, B, M>,
+pub struct Instance<'a, A: Allocator> {
+    pub symbol: InstanceSymbol<'a, A>,
     pub x: i32,
     pub y: i32,
 }
@@ -49,9 +49,9 @@ fn is_last_along_s(flags: &TextRegionFlags) -> bool
 }
 
 /// S at the other end of a symbol.
-fn grown<B: Allocator, M: Allocator>(
+fn grown<A: Allocator>(
     flags: &TextRegionFlags,
-    symbol: &InstanceSymbol<'_, B, M>,
+    symbol: &InstanceSymbol<'_, A>,
     s: i32,
 ) -> Result<i32>
     ensures { Answers (λ n. n) result (grown flags.now (symbol_view symbol.now) s) }
@@ -63,9 +63,9 @@ fn grown<B: Allocator, M: Allocator>(
 }
 
 /// S where a symbol is placed.
-fn s_before<B: Allocator, M: Allocator>(
+fn s_before<A: Allocator>(
     flags: &TextRegionFlags,
-    symbol: &InstanceSymbol<'_, B, M>,
+    symbol: &InstanceSymbol<'_, A>,
     s: i32,
 ) -> Result<i32>
     ensures { Answers (λ n. n) result (s_before flags.now (symbol_view symbol.now) s) }
@@ -77,9 +77,9 @@ fn s_before<B: Allocator, M: Allocator>(
 }
 
 /// S after a symbol that is placed at `s`.
-fn s_behind<B: Allocator, M: Allocator>(
+fn s_behind<A: Allocator>(
     flags: &TextRegionFlags,
-    symbol: &InstanceSymbol<'_, B, M>,
+    symbol: &InstanceSymbol<'_, A>,
     s: i32,
 ) -> Result<i32>
     ensures { Answers (λ n. n) result (s_behind flags.now (symbol_view symbol.now) s) }
@@ -113,12 +113,12 @@ fn column_and_row(transposed: bool, s: i32, t: i32) -> (i32, i32)
 
 /// Places a symbol at S and T, and gives S after it.
 #[tactic(auto, unfolding(crate::specs::Text::symbol_placed))]
-pub fn place<'a, B: Allocator, M: Allocator>(
+pub fn place<'a, A: Allocator>(
     flags: &TextRegionFlags,
-    symbol: InstanceSymbol<'a, B, M>,
+    symbol: InstanceSymbol<'a, A>,
     s: i32,
     t: i32,
-) -> Result<(Instance<'a, B, M>, i32)>
+) -> Result<(Instance<'a, A>, i32)>
     ensures value { let meant = symbol_placed flags.now (symbol_view symbol.entry) s t in
         Answers (λ i. (instance_view i.0, i.1)) result meant }
     ensures symbol { IfOk result (λ i. symbol_view i.0.symbol ≡ symbol_view symbol.entry) }

@@ -22,10 +22,10 @@ use std::sync::ledger::Ledger;
 /// The place in the bits, the tables, and the codes of the symbols' ids. A symbol dictionary passes
 /// in a duplicate of its own reader, and takes the reader back.
 #[derive(Drop)]
-pub struct PrefixedReadings<'a, 't, T: Allocator, I: Allocator> {
+pub struct PrefixedReadings<'a, 't, A: Allocator> {
     pub reader: Reader<'a>,
-    pub tables: TextRegionHuffmanTables<'t, T>,
-    pub ids: &'t HuffmanTable<I>,
+    pub tables: TextRegionHuffmanTables<'t, A>,
+    pub ids: &'t HuffmanTable<A>,
 }
 
 /// Reads this many bytes from the next whole byte on.
@@ -39,7 +39,7 @@ fn sized_bytes<'a>(size: i32, reader: &mut Reader<'a>) -> Result<&'a [u8]>
     bytes_field(reader, size)
 }
 
-impl<T: Allocator, I: Allocator> ReadInstances for PrefixedReadings<'_, '_, T, I> {
+impl<A: Allocator> ReadInstances for PrefixedReadings<'_, '_, A> {
     ghost use Rattle.jbig2_text.specs.TextCoding.{Prefixed, by_prefix_codes};
     ghost use Rattle.jbig2_text.specs.inner.TextViews.{prefixed_view};
 
@@ -100,11 +100,11 @@ impl<T: Allocator, I: Allocator> ReadInstances for PrefixedReadings<'_, '_, T, I
         value_field(self.tables.refinement_y, &mut self.reader)
     }
 
-    fn refine<M: Allocator, B: Allocator, C: Allocator, L: Ledger>(
+    fn refine<B: Allocator, L: Ledger>(
         &mut self,
         reference: &ReferenceBitmap<'_, B>,
-        refining: &mut Refining<C>,
-        bitmap: &mut Bitmap<M>,
+        refining: &mut Refining<B>,
+        bitmap: &mut Bitmap<B>,
         work: &mut Work<L>,
     ) -> Result<()> {
         let size = value_field(self.tables.refinement_size, &mut self.reader)?;

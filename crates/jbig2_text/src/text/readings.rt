@@ -81,10 +81,10 @@ pub trait ReadInstances {
         ensures paid { PaidBut (number_steps 1) work.old work.new };
 
     /// Refines `reference` into a white bitmap. The contexts go on from their state.
-    fn refine<A: Allocator, B: Allocator, C: Allocator, L: Ledger>(
+    fn refine<A: Allocator, L: Ledger>(
         &mut self,
-        reference: &ReferenceBitmap<'_, B>,
-        refining: &mut Refining<C>,
+        reference: &ReferenceBitmap<'_, A>,
+        refining: &mut Refining<A>,
         bitmap: &mut Bitmap<A>,
         work: &mut Work<L>,
     ) -> Result<()>

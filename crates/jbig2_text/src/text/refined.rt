@@ -64,7 +64,7 @@ fn read_deltas<R: ReadInstances, L: Ledger>(
 
 /// The outline of a symbol that is refined from `from`.
 #[tactic(auto, unfolding(crate::specs::Text::refined_outline))]
-fn outline_of<B: Allocator>(from: &Bitmap<B>, deltas: &RefinementDeltas) -> Result<Outline>
+fn outline_of<A: Allocator>(from: &Bitmap<A>, deltas: &RefinementDeltas) -> Result<Outline>
     ensures { Answers (λ o. o) result (refined_outline from.now deltas.now) }
 {
     let width = numbers::refined_side(from.width(), deltas.width)?;
@@ -92,12 +92,12 @@ pub fn check_sides(width: u32, height: u32) -> Result<()>
 }
 
 /// A white bitmap for a symbol. The size is checked first, so that a refused size takes no work.
-pub fn new_symbol<M: Allocator, L: Ledger>(
-    alloc: M,
+pub fn new_symbol<A: Allocator, L: Ledger>(
+    alloc: A,
     width: u32,
     height: u32,
     work: &mut Work<L>,
-) -> Result<Bitmap<M>>
+) -> Result<Bitmap<A>>
     ensures value { Gives (λ b. b) result (blank_or_overflow width height false) }
     ensures width { IfOk result (λ b. b.width ≡ width) }
     ensures height { IfOk result (λ b. b.height ≡ height) }
@@ -116,14 +116,14 @@ pub fn new_symbol<M: Allocator, L: Ledger>(
 
 /// Reads a symbol that is refined from that of the id.
 #[tactic(auto, unfolding(crate::specs::Text::refined_symbol))]
-pub fn read_refined<R: ReadInstances, B: Allocator, M: Allocator, C: Allocator, L: Ledger>(
-    alloc: M,
+pub fn read_refined<R: ReadInstances, A: Allocator, L: Ledger>(
+    alloc: A,
     readings: &mut R,
-    refining: &mut Refining<C>,
-    symbols: &SymbolList<'_, B>,
+    refining: &mut Refining<A>,
+    symbols: &SymbolList<'_, A>,
     id: i64,
     work: &mut Work<L>,
-) -> Result<Bitmap<M>>
+) -> Result<Bitmap<A>>
     ensures value { let state = R.state readings.old in
         let meant = refined_symbol R.readings (list_view symbols.now) id refining.old state in
         Gives (λ g. (g, refining.new, R.state readings.new)) result meant }

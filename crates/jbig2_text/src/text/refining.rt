@@ -115,10 +115,10 @@ impl<A: Allocator> Refining<A> {
     }
 
     /// Refines `reference` into a white bitmap. The coder and the contexts go on from their states.
-    pub fn refine<M: Allocator, B: Allocator, L: Ledger>(
+    pub fn refine<L: Ledger>(
         &mut self,
-        reference: &ReferenceBitmap<'_, B>,
-        bitmap: &mut Bitmap<M>,
+        reference: &ReferenceBitmap<'_, A>,
+        bitmap: &mut Bitmap<A>,
         decoder: &mut ArithmeticDecoder<'_>,
         work: &mut Work<L>,
     )
@@ -155,12 +155,12 @@ fn two_of(pixels: Option<[AdaptiveTemplatePixel; 2]>) -> [AdaptiveTemplatePixel;
 }
 
 /// Refines `reference` with these contexts.
-fn refine_by<M: Allocator, B: Allocator, L: Ledger>(
+fn refine_by<A: Allocator, L: Ledger>(
     template: RefinementTemplate,
     pixels: Option<[AdaptiveTemplatePixel; 2]>,
     contexts: &mut [ArithmeticDecoderContext],
-    reference: &ReferenceBitmap<'_, B>,
-    bitmap: &mut Bitmap<M>,
+    reference: &ReferenceBitmap<'_, A>,
+    bitmap: &mut Bitmap<A>,
     decoder: &mut ArithmeticDecoder<'_>,
     work: &mut Work<L>,
 )

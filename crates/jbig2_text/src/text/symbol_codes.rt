@@ -115,10 +115,10 @@ fn push_run<A: Allocator>(
 }
 
 /// Reads a runcode and adds its lengths.
-fn read_run<A: Allocator, B: Allocator>(
+fn read_run<A: Allocator>(
     runcodes: &HuffmanTable<A>,
     reader: &mut Reader<'_>,
-    lengths: &mut Vec<u8, B>,
+    lengths: &mut Vec<u8, A>,
 ) -> Result<()>
     requires { length lengths.old.items ≤ 2 ^ 21 }
     ensures { let meant = next_runcode runcodes.now lengths.old.items reader.old in
@@ -138,10 +138,10 @@ fn read_runcodes<A: Allocator + Clone>(alloc: A, reader: &mut Reader<'_>) -> Res
 }
 
 /// Reads the lengths of this many symbols' codes. A run that goes past them gives more.
-fn read_lengths<A: Allocator, B: Allocator>(
+fn read_lengths<A: Allocator>(
     alloc: A,
     count: u32,
-    runcodes: &HuffmanTable<B>,
+    runcodes: &HuffmanTable<A>,
     reader: &mut Reader<'_>,
 ) -> Result<Vec<u8, A>>
     requires { count ≤ 2 ^ 21 }
@@ -164,10 +164,10 @@ fn read_lengths<A: Allocator, B: Allocator>(
 
 /// Reads the lengths of exactly this many symbols' codes.
 #[tactic(auto, unfolding(crate::specs::SymbolCodes::symbol_lengths_at))]
-fn read_symbol_lengths<A: Allocator, B: Allocator>(
+fn read_symbol_lengths<A: Allocator>(
     alloc: A,
     count: u32,
-    runcodes: &HuffmanTable<B>,
+    runcodes: &HuffmanTable<A>,
     reader: &mut Reader<'_>,
 ) -> Result<Vec<u8, A>>
     requires { count ≤ 2 ^ 21 }

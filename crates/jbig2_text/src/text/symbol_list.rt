@@ -9,14 +9,14 @@ use std::alloc::Allocator;
 /// Symbols; a symbol's id is its index. First come those of other dictionaries, then the new ones
 /// of the dictionary that is being decoded. A text region has no new ones.
 #[derive(Drop)]
-pub struct SymbolList<'a, B: Allocator> {
-    pub input_symbols: &'a [&'a Bitmap<B>],
-    pub new_symbols: &'a [Bitmap<B>],
+pub struct SymbolList<'a, A: Allocator> {
+    pub input_symbols: &'a [&'a Bitmap<A>],
+    pub new_symbols: &'a [Bitmap<A>],
 }
 
-impl<'a, B: Allocator> SymbolList<'a, B> {
+impl<'a, A: Allocator> SymbolList<'a, A> {
     /// The symbol of an id, if it has one.
-    pub fn symbol(&self, id: i64) -> Option<&'a Bitmap<B>>
+    pub fn symbol(&self, id: i64) -> Option<&'a Bitmap<A>>
         ensures { option_map (λ s. s.now) result ≡ symbol_of (list_view self.now) id }
     {
         let Ok(index) = usize::try_from(id) else {

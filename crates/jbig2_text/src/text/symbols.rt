@@ -20,9 +20,9 @@ use std::sync::ledger::Ledger;
 
 /// What is needed to read and place the instances of a text region (T.88, Table 9).
 #[derive(Drop)]
-pub struct TextParams<'a, B: Allocator> {
+pub struct TextParams<'a, A: Allocator> {
     pub flags: TextRegionFlags,
-    pub symbols: SymbolList<'a, B>,
+    pub symbols: SymbolList<'a, A>,
     pub num_instances: u32,
     /// The number of bytes in the segment's data.
     pub data_len: usize,
@@ -32,9 +32,9 @@ pub struct TextParams<'a, B: Allocator> {
 
 /// The symbol of an instance, as it is in the list or refined.
 #[derive(Drop)]
-pub enum InstanceSymbol<'a, B: Allocator, M: Allocator> {
-    Shared(&'a Bitmap<B>),
-    Refined(Bitmap<M>),
+pub enum InstanceSymbol<'a, A: Allocator> {
+    Shared(&'a Bitmap<A>),
+    Refined(Bitmap<A>),
 }
 
 /// Reads whether the symbol is refined, where symbols may be.
@@ -54,10 +54,10 @@ fn read_refinement_flag<R: ReadInstances, L: Ledger>(
 }
 
 /// The symbol of an id as it is. In lenient mode an id without a symbol gives none.
-fn plain_symbol<'a, B: Allocator, M: Allocator>(
-    params: &TextParams<'a, B>,
+fn plain_symbol<'a, A: Allocator>(
+    params: &TextParams<'a, A>,
     id: i64,
-) -> Result<Option<InstanceSymbol<'a, B, M>>>
+) -> Result<Option<InstanceSymbol<'a, A>>>
     ensures { let symbol = symbol_of (list_view params.now.symbols) id in
         let meant = plain_symbol params.now.strict symbol in
         Answers (λ s. option_map (λ x. symbol_view x) s) result meant }
@@ -71,14 +71,14 @@ fn plain_symbol<'a, B: Allocator, M: Allocator>(
 
 /// Reads the symbol of an instance, after its id.
 #[tactic(auto, unfolding(crate::specs::Text::instance_symbol))]
-pub fn read_symbol<'a, R: ReadInstances, B: Allocator, M: Allocator, C: Allocator, L: Ledger>(
-    alloc: M,
+pub fn read_symbol<'a, R: ReadInstances, A: Allocator, L: Ledger>(
+    alloc: A,
     readings: &mut R,
-    refining: &mut Refining<C>,
-    params: &TextParams<'a, B>,
+    refining: &mut Refining<A>,
+    params: &TextParams<'a, A>,
     id: i64,
     work: &mut Work<L>,
-) -> Result<Option<InstanceSymbol<'a, B, M>>>
+) -> Result<Option<InstanceSymbol<'a, A>>>
     ensures value { let state = R.state readings.old in
         let meant = instance_symbol R.readings (params_view params.now) id refining.old state in
         let view = option_map (λ x. symbol_view x) in
@@ -92,7 +92,7 @@ pub fn read_symbol<'a, R: ReadInstances, B: Allocator, M: Allocator, C: Allocato
     plain_symbol(params, id)
 }
 
-impl<B: Allocator, M: Allocator> InstanceSymbol<'_, B, M> {
+impl<A: Allocator> InstanceSymbol<'_, A> {
     ghost use Rattle.std.specs.Prelude.{◌≡◌, ◌*◌};
     ghost use Rattle.jbig2_base.specs.Combination.{combined};
     ghost use Rattle.jbig2_steps.specs.Work.{PaidBut, price_of_bitmap};
@@ -119,9 +119,9 @@ impl<B: Allocator, M: Allocator> InstanceSymbol<'_, B, M> {
     }
 
     /// Combines the symbol with a region, its top left pixel at column `x` of row `y`.
-    pub fn draw<D: Allocator, L: Ledger>(
+    pub fn draw<L: Ledger>(
         &self,
-        region: &mut Bitmap<D>,
+        region: &mut Bitmap<A>,
         x: i32,
         y: i32,
         operator: CombinationOperator,

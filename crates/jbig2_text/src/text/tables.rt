@@ -17,20 +17,20 @@ use std::alloc::Allocator;
 
 /// The table for each kind of number (T.88, Table 9).
 #[derive(Drop)]
-pub struct TextRegionHuffmanTables<'a, T: Allocator> {
-    pub first_s: &'a HuffmanTable<T>,
-    pub delta_s: &'a HuffmanTable<T>,
-    pub delta_t: &'a HuffmanTable<T>,
-    pub refinement_width: &'a HuffmanTable<T>,
-    pub refinement_height: &'a HuffmanTable<T>,
-    pub refinement_x: &'a HuffmanTable<T>,
-    pub refinement_y: &'a HuffmanTable<T>,
-    pub refinement_size: &'a HuffmanTable<T>,
+pub struct TextRegionHuffmanTables<'a, A: Allocator> {
+    pub first_s: &'a HuffmanTable<A>,
+    pub delta_s: &'a HuffmanTable<A>,
+    pub delta_t: &'a HuffmanTable<A>,
+    pub refinement_width: &'a HuffmanTable<A>,
+    pub refinement_height: &'a HuffmanTable<A>,
+    pub refinement_x: &'a HuffmanTable<A>,
+    pub refinement_y: &'a HuffmanTable<A>,
+    pub refinement_size: &'a HuffmanTable<A>,
 }
 
-impl<'a, T: Allocator> TextRegionHuffmanTables<'a, T> {
+impl<'a, A: Allocator> TextRegionHuffmanTables<'a, A> {
     /// The tables of an aggregate symbol's instances (T.88, 6.5.8.2, Table 17).
-    pub fn of_aggregates(standard: &'a StandardHuffmanTables<T>) -> TextRegionHuffmanTables<'a, T>
+    pub fn of_aggregates(standard: &'a StandardHuffmanTables<A>) -> TextRegionHuffmanTables<'a, A>
         ensures { tables_view result ≡ aggregate_tables }
     {
         TextRegionHuffmanTables {
@@ -48,12 +48,12 @@ impl<'a, T: Allocator> TextRegionHuffmanTables<'a, T> {
 
 /// The table that a number names: one of these two, or a custom one for 3; and the rest of
 /// `customs`.
-fn one_of_two<'a, T: Allocator>(
-    first: &'a HuffmanTable<T>,
-    second: &'a HuffmanTable<T>,
+fn one_of_two<'a, A: Allocator>(
+    first: &'a HuffmanTable<A>,
+    second: &'a HuffmanTable<A>,
     number: u8,
-    customs: &'a [&'a HuffmanTable<T>],
-) -> Result<(&'a HuffmanTable<T>, &'a [&'a HuffmanTable<T>])>
+    customs: &'a [&'a HuffmanTable<A>],
+) -> Result<(&'a HuffmanTable<A>, &'a [&'a HuffmanTable<A>])>
     ensures { let meant = one_of_two first.now second.now number (customs_view customs.now) in
         Answers (λ t. (t.0.now, customs_view t.1.now)) result meant }
 {
@@ -66,13 +66,13 @@ fn one_of_two<'a, T: Allocator>(
 }
 
 /// The table that a number names: one of these three, or a custom one; and the rest of `customs`.
-fn one_of_three<'a, T: Allocator>(
-    first: &'a HuffmanTable<T>,
-    second: &'a HuffmanTable<T>,
-    third: &'a HuffmanTable<T>,
+fn one_of_three<'a, A: Allocator>(
+    first: &'a HuffmanTable<A>,
+    second: &'a HuffmanTable<A>,
+    third: &'a HuffmanTable<A>,
     number: u8,
-    customs: &'a [&'a HuffmanTable<T>],
-) -> Result<(&'a HuffmanTable<T>, &'a [&'a HuffmanTable<T>])>
+    customs: &'a [&'a HuffmanTable<A>],
+) -> Result<(&'a HuffmanTable<A>, &'a [&'a HuffmanTable<A>])>
     ensures { let customs = customs_view customs.now in
         let meant = one_of_three first.now second.now third.now number customs in
         Answers (λ t. (t.0.now, customs_view t.1.now)) result meant }
@@ -86,11 +86,11 @@ fn one_of_three<'a, T: Allocator>(
 }
 
 /// The table that a number names for a refined symbol's differences; and the rest of `customs`.
-fn refinement_table<'a, T: Allocator>(
-    standard: &'a StandardHuffmanTables<T>,
+fn refinement_table<'a, A: Allocator>(
+    standard: &'a StandardHuffmanTables<A>,
     number: u8,
-    customs: &'a [&'a HuffmanTable<T>],
-) -> Result<(&'a HuffmanTable<T>, &'a [&'a HuffmanTable<T>])>
+    customs: &'a [&'a HuffmanTable<A>],
+) -> Result<(&'a HuffmanTable<A>, &'a [&'a HuffmanTable<A>])>
     ensures { let meant = table_of_refinement number (customs_view customs.now) in
         Answers (λ t. (t.0.now, customs_view t.1.now)) result meant }
 {
@@ -98,11 +98,11 @@ fn refinement_table<'a, T: Allocator>(
 }
 
 /// The table that a number names for the sizes of refined symbols; and the rest of `customs`.
-fn size_table<'a, T: Allocator>(
-    standard: &'a StandardHuffmanTables<T>,
+fn size_table<'a, A: Allocator>(
+    standard: &'a StandardHuffmanTables<A>,
     number: u8,
-    customs: &'a [&'a HuffmanTable<T>],
-) -> Result<(&'a HuffmanTable<T>, &'a [&'a HuffmanTable<T>])>
+    customs: &'a [&'a HuffmanTable<A>],
+) -> Result<(&'a HuffmanTable<A>, &'a [&'a HuffmanTable<A>])>
     ensures { let meant = table_of_size number (customs_view customs.now) in
         Answers (λ t. (t.0.now, customs_view t.1.now)) result meant }
 {
@@ -117,11 +117,11 @@ fn size_table<'a, T: Allocator>(
 /// Returns `HuffmanError::InvalidSelection` for a number without meaning, and
 /// `HuffmanError::MissingTables` for too few custom tables. It takes no memory.
 #[tactic(auto, using(crate::proofs::CausesOfRegions::text_table_cause), unfolding(crate::specs::TextRegion::text_tables))]
-pub fn select_tables<'a, T: Allocator>(
+pub fn select_tables<'a, A: Allocator>(
     flags: &TextRegionHuffmanFlags,
-    customs: &'a [&'a HuffmanTable<T>],
-    standard: &'a StandardHuffmanTables<T>,
-) -> Result<TextRegionHuffmanTables<'a, T>>
+    customs: &'a [&'a HuffmanTable<A>],
+    standard: &'a StandardHuffmanTables<A>,
+) -> Result<TextRegionHuffmanTables<'a, A>>
     ensures value { let meant = text_tables flags.now (customs_view customs.now) in
         Answers (λ tables. tables_view tables) result meant }
     ensures causes { HasCause result (BreaksTextTables flags.now (customs_view customs.now)) }
