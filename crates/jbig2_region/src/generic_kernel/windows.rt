@@ -58,6 +58,16 @@ pub struct Windows {
     pub top: u64,
 }
 
+/// `count` pixels of row `y` that are decoded together, from column `x` on. `left` has the pixels on
+/// their left, the nearest in bit 0.
+#[derive(Clone, Copy)]
+pub struct Place {
+    pub x: u32,
+    pub y: u32,
+    pub count: u32,
+    pub left: u32,
+}
+
 /// Windows around a column, and around the column 32 to the right of it.
 #[derive(Clone, Copy)]
 pub struct WideWindows {
