@@ -48,7 +48,7 @@ fn nine() -> [AdaptiveTemplatePixel; 9]
 fn along(place: u32, offset: i32, apart: i16) -> i64
     requires { place < 65536 }
     ensures value { result ≡ pos place -ℤ offset +ℤ apart }
-    ensures below { result <ℤ pos 4294967296 }
+    ensures below { result <ℤ pos (2 ^ 32) }
 {
     i64::from(place) - i64::from(offset) + i64::from(apart)
 }

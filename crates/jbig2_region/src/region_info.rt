@@ -36,7 +36,8 @@ pub struct RegionSegmentInfo {
 #[tactic(auto, using(crate::proofs::Causes::info_has_cause), unfolding(crate::specs::RegionInfo::region_info_at))]
 pub fn parse_region_segment_info(reader: &mut Reader<'_>) -> Result<RegionSegmentInfo>
     requires { IsAligned reader.old }
-    ensures parses { Parses reader.old reader.new result (λ info. info) (region_info_at reader.old.bytes) }
+    ensures parses { Parses reader.old reader.new result (λ info. info)
+        (region_info_at reader.old.bytes) }
     ensures causes { HasCause result (BreaksRegionInfo reader.old.bytes) }
 {
     let mut ahead = reader.duplicate();

@@ -125,7 +125,8 @@ fn decode_rows<A: Allocator, L: Ledger>(
     requires { FitsNarrow neighbours bitmap.old contexts.old }
     ensures holds { DecodesRegion (row_coding (nominal_pixels neighbours)) bitmap.old decoder.old
         contexts.old bitmap.new decoder.new contexts.new }
-    ensures steps { CountsNarrow neighbours bitmap.old decoder.old contexts.old steps.old steps.new }
+    ensures steps { CountsNarrow neighbours bitmap.old decoder.old contexts.old
+        steps.old steps.new }
 {
     let width = bitmap.width();
     let mut windows = Windows { above: 0, top: 0 };
@@ -149,7 +150,8 @@ fn decode_constant_rows<A: Allocator, L: Ledger, const TEMPLATE: u8>(
     requires fits { FitsNarrow neighbours bitmap.old contexts.old }
     ensures holds { DecodesRegion (row_coding (nominal_pixels neighbours)) bitmap.old decoder.old
         contexts.old bitmap.new decoder.new contexts.new }
-    ensures steps { CountsNarrow neighbours bitmap.old decoder.old contexts.old steps.old steps.new }
+    ensures steps { CountsNarrow neighbours bitmap.old decoder.old contexts.old
+        steps.old steps.new }
 {
     let constant = nominal_neighbours(Template::from_byte(TEMPLATE));
     decode_rows(constant, bitmap, decoder, contexts, steps);
@@ -166,7 +168,8 @@ pub fn decode_narrow<A: Allocator, L: Ledger>(
     requires { FitsNarrow neighbours bitmap.old contexts.old }
     ensures holds { DecodesRegion (row_coding (nominal_pixels neighbours)) bitmap.old decoder.old
         contexts.old bitmap.new decoder.new contexts.new }
-    ensures steps { CountsNarrow neighbours bitmap.old decoder.old contexts.old steps.old steps.new }
+    ensures steps { CountsNarrow neighbours bitmap.old decoder.old contexts.old
+        steps.old steps.new }
 {
     by_template!(
         neighbours,

@@ -5,7 +5,7 @@ ghost use Rattle.jbig2_region.specs.Generic.{context_at};
 ghost use Rattle.jbig2_region.specs.inner.Neighbours.{DecodesPixels, IsLeft, IsMixed, Shows, adaptive_count, mixed_count, mixed_pixels};
 
 use crate::generic_coding::context_at;
-use crate::generic_kernel::windows::{Windows, stretch_bits, windows_at};
+use crate::generic_kernel::windows::{Place, Windows, stretch_bits, windows_at};
 use crate::template::neighbours::{Adaptives, Neighbours, joined};
 use jbig2_base::bitmap::Bitmap;
 use jbig2_base::bitmap::steps::Steps;
@@ -13,35 +13,35 @@ use jbig2_coder::arithmetic_decoder::{ArithmeticDecoder, ArithmeticDecoderContex
 use std::alloc::Allocator;
 use std::sync::ledger::Ledger;
 
-/// The number of the context at column `x + offset` of row `y`. The windows lie around column `x`.
+/// The number of the context `offset` columns right of the place, around whose first column the
+/// windows lie.
 /// `left` has the pixels on the left, the nearest in bit 0.
 #[inline(always)]
 fn mixed_context<A: Allocator, L: Ledger>(
     neighbours: Neighbours,
     adaptive: &Adaptives<'_>,
+    place: Place,
     left: u32,
     windows: Windows,
     offset: u32,
     bitmap: &Bitmap<A>,
-    x: u32,
-    y: u32,
     steps: &mut Steps<L>,
 ) -> u32
     requires mixed { IsMixed neighbours adaptive.now }
     requires offset { offset < 32 }
-    requires column { x + offset < 65536 }
-    requires row { y < 65536 }
-    requires shows { Shows bitmap.now x y 64 windows }
-    requires left { IsLeft bitmap.now (x + offset) y left }
+    requires column { place.x + offset < 65536 }
+    requires row { place.y < 65536 }
+    requires shows { Shows bitmap.now place.x place.y 64 windows }
+    requires left { IsLeft bitmap.now (place.x + offset) place.y left }
     ensures value { result ≡ context_at (mixed_pixels neighbours adaptive.now) bitmap.now
-        (x + offset) y }
+        (place.x + offset) place.y }
     ensures bound { result < 2 ^ mixed_count neighbours adaptive.now }
     ensures steps { steps.new ≡
         record steps.old { loads = steps.old.loads + adaptive_count adaptive.now } }
 {
-    let first = context_at(adaptive.first, bitmap, x + offset, y, steps);
-    let middle = context_at(adaptive.middle, bitmap, x + offset, y, steps);
-    let last = context_at(adaptive.last, bitmap, x + offset, y, steps);
+    let first = context_at(adaptive.first, bitmap, place.x + offset, place.y, steps);
+    let middle = context_at(adaptive.middle, bitmap, place.x + offset, place.y, steps);
+    let last = context_at(adaptive.last, bitmap, place.x + offset, place.y, steps);
     let above = stretch_bits(neighbours.above, windows.above, offset);
     let top = stretch_bits(neighbours.top, windows.top, offset);
     let after_middle = joined(top, last, neighbours.top.count);
@@ -51,53 +51,50 @@ fn mixed_context<A: Allocator, L: Ledger>(
     joined(left % (1 << neighbours.left), after_left, neighbours.left)
 }
 
-/// Decodes `count` pixels, at most 32, from column `x` of row `y` on. Returns the four pixels left
-/// of the next column.
+/// Decodes the pixels of a place, at most 32. Returns the four pixels left of the next column.
 #[inline(always)]
 fn decode_pixels<A: Allocator, L: Ledger>(
     neighbours: Neighbours,
     adaptive: &Adaptives<'_>,
+    place: Place,
     bitmap: &mut Bitmap<A>,
-    x: u32,
-    y: u32,
-    count: u32,
-    left: u32,
     decoder: &mut ArithmeticDecoder<'_>,
     contexts: &mut [ArithmeticDecoderContext],
     steps: &mut Steps<L>,
 ) -> u32
     requires mixed { IsMixed neighbours adaptive.now }
     requires contexts { length contexts.old ≡ 2 ^ mixed_count neighbours adaptive.now }
-    requires few { count ≤ 32 }
-    requires aligned { x % 8 ≡ 0 }
-    requires columns { x + count ≤ bitmap.old.width }
-    requires row { y < bitmap.old.height }
+    requires few { place.count ≤ 32 }
+    requires aligned { place.x % 8 ≡ 0 }
+    requires columns { place.x + place.count ≤ bitmap.old.width }
+    requires row { place.y < bitmap.old.height }
     requires widths { bitmap.old.width ≤ 65535 }
     requires heights { bitmap.old.height ≤ 65535 }
-    requires left { IsLeft bitmap.old x y left }
-    requires small { left < 16 }
-    ensures holds { DecodesPixels (mixed_pixels neighbours adaptive.now) false x y count bitmap.old
-        decoder.old contexts.old bitmap.new decoder.new contexts.new }
-    ensures left { IsLeft bitmap.new (x + count) y result }
+    requires left { IsLeft bitmap.old place.x place.y place.left }
+    requires small { place.left < 16 }
+    ensures holds { DecodesPixels (mixed_pixels neighbours adaptive.now) false
+        place.x place.y place.count bitmap.old decoder.old contexts.old bitmap.new decoder.new contexts.new }
+    ensures left { IsLeft bitmap.new (place.x + place.count) place.y result }
     ensures small { result < 16 }
     ensures width { bitmap.new.width ≡ bitmap.old.width }
     ensures height { bitmap.new.height ≡ bitmap.old.height }
     ensures bytes { decoder.new.bytes ≡ decoder.old.bytes }
     ensures contexts { length contexts.new ≡ length contexts.old }
-    ensures decisions { steps.new.decisions ≡ steps.old.decisions + count }
+    ensures decisions { steps.new.decisions ≡ steps.old.decisions + place.count }
     ensures run_tests { steps.new.run_tests ≡ steps.old.run_tests }
-    ensures loads { steps.new.loads ≡ steps.old.loads + (2 + count * adaptive_count adaptive.now) }
-    ensures words { steps.new.words ≡ steps.old.words + count }
+    ensures loads { steps.new.loads ≡
+        steps.old.loads + (2 + place.count * adaptive_count adaptive.now) }
+    ensures words { steps.new.words ≡ steps.old.words + place.count }
     ensures lanes { KeepsLanes steps.old steps.new }
 {
-    let windows = windows_at(bitmap, x, y, steps);
-    let mut left = left;
-    for offset in 0..count {
+    let windows = windows_at(bitmap, place.x, place.y, steps);
+    let mut left = place.left;
+    for offset in 0..place.count {
         let context = mixed_context(
-            neighbours, adaptive, left, windows, offset, bitmap, x, y, steps,
+            neighbours, adaptive, place, left, windows, offset, bitmap, steps,
         );
         let symbol = decoder.decode(&mut contexts[context as usize], steps);
-        bitmap.store_pixels(x + offset, y, 1, u64::from(symbol), steps);
+        bitmap.store_pixels(place.x + offset, place.y, 1, u64::from(symbol), steps);
         left = (left * 2 + symbol) % 16;
     }
     left
@@ -136,8 +133,9 @@ pub fn decode_row_by_pixels<A: Allocator, L: Ledger>(
     for index in 0..width.div_ceil(32) {
         let x = index * 32;
         let count = (width - x).min(32);
+        let place = Place { x, y, count, left };
         left = decode_pixels(
-            neighbours, adaptive, bitmap, x, y, count, left, decoder, contexts, steps,
+            neighbours, adaptive, place, bitmap, decoder, contexts, steps,
         );
     }
 }

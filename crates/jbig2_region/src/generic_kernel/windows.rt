@@ -1,4 +1,23 @@
 //! Windows on the rows above. Each shows 64 pixels, so one load serves many contexts.
+//!
+//! A window around column x, in row y - 1 (`above`) or row y - 2 (`top`):
+//!
+//! ```text
+//! bit     63   ...  56   55   54   ...  0
+//! column  x-8  ...  x-1  x    x+1  ...  x+55
+//! ```
+//!
+//! A stretch takes `count` bits from bit 55 - `reach` up: columns x + reach - count + 1 to x + reach.
+//!
+//! The register, where a is the reach in row y - 1, and t the reach in row y - 2:
+//!
+//! ```text
+//! bit     63 ... 56  55    ...  47  ...  40     39 ... 32  31    ...  23  ...  16     15 ... 0
+//! row                y-2                                   y-1
+//! column  0          x-8+t      x+t      x+7+t  0          x-8+a      x+a      x+7+a  0
+//! ```
+//!
+//! A context takes the bits from 23 up and from 47 up. Each doubling moves both one column on.
 ghost use Rattle.std.specs.Prelude.{◌≡◌, ℕ, ◌+◌, ◌-◌, ◌*◌, ◌/◌, ◌%◌, ◌^◌, ◌<◌, ◌≤◌, bit_or, pos, ◌-ℤ◌};
 ghost use Rattle.jbig2_region.specs.inner.Neighbours.{IsNear, IsWindow, Shows, ShowsBefore, ShowsGroup, StandAtByte, cut_of, neighbour_count, register_of, stretch_bits};
 ghost use Rattle.jbig2_base.specs.Grid.{Grid, pixel};
@@ -10,12 +29,43 @@ use jbig2_base::bitmap::steps::Steps;
 use std::alloc::Allocator;
 use std::sync::ledger::Ledger;
 
+/// A remainder by this leaves the lowest sixteen bits.
+const SIXTEEN: u64 = 1 << 16;
+
+/// A product with this moves pixels of row y - 1 to bit 16, their place in the register.
+const ABOVE: u64 = 1 << 16;
+
+/// The same for row y - 2: bit 40.
+const TOP: u64 = 1 << 40;
+
+/// A product with this moves a context's pixels of row y - 1 to bit 23, their place in the register.
+const TAKEN_ABOVE: u64 = 1 << 23;
+
+/// The same for row y - 2: bit 47.
+const TAKEN_TOP: u64 = 1 << 47;
+
+/// A factor that moves pixels of row y - 1 from bit 23 to bit 48.
+const GATHER_ABOVE: u64 = 1 << 25;
+
+/// A factor that moves pixels of row y - 2 from bit 47 to bit 48.
+const GATHER_TOP: u64 = 1 << 1;
+
 /// The pixels around one column, in the row above and in the row above that. Bit 55 is the pixel at
 /// the column, and pixels to the right of it are in lower bits.
 #[derive(Clone, Copy)]
 pub struct Windows {
     pub above: u64,
     pub top: u64,
+}
+
+/// `count` pixels of row `y` that are decoded together, from column `x` on. `left` has the pixels on
+/// their left, the nearest in bit 0.
+#[derive(Clone, Copy)]
+pub struct Place {
+    pub x: u32,
+    pub y: u32,
+    pub count: u32,
+    pub left: u32,
 }
 
 /// Windows around a column, and around the column 32 to the right of it.
@@ -245,9 +295,9 @@ impl Neighbours {
         ensures value { result ≡ register_of self windows }
         ensures bound { result < 2 ^ 56 }
     {
-        let above = (windows.above >> (48 - self.above.reach)) % 65536;
-        let top = (windows.top >> (48 - self.top.reach)) % 65536;
-        above * 65536 + top * 1099511627776
+        let above = (windows.above >> (48 - self.above.reach)) % SIXTEEN;
+        let top = (windows.top >> (48 - self.top.reach)) % SIXTEEN;
+        above * ABOVE + top * TOP
     }
 
     /// The number of the context. `register` has the two stretches, and the lowest bits of `beside`
@@ -261,8 +311,8 @@ impl Neighbours {
     {
         let above = (register >> 23) % (1 << self.above.count);
         let top = (register >> 47) % (1 << self.top.count);
-        let fields = above * 8388608 + top * 140737488355328;
-        let places = (33554432 << self.left) + (2 << (self.left + self.above.count));
+        let fields = above * TAKEN_ABOVE + top * TAKEN_TOP;
+        let places = (GATHER_ABOVE << self.left) + (GATHER_TOP << (self.left + self.above.count));
         let stretches = (fields.wrapping_mul(places) >> 48) as u32;
         stretches + beside % (1 << self.left)
     }

@@ -1,5 +1,18 @@
 //! Windows on the rows from which a refinement takes its pixels. Each shows 64 pixels, so one load
 //! serves 32 columns.
+//!
+//! The windows that serve column x of row y, where the reference has column u = x - dx and row
+//! v = y - dy:
+//!
+//! ```text
+//! bit     63   62   61   ...  0
+//! region  x-1  x    x+1  ...  x+62  row y-1 of the region
+//! above   u-1  u    u+1  ...  u+62  row v-1 of the reference
+//! here    u-1  u    u+1  ...  u+62  row v of the reference
+//! below   u-1  u    u+1  ...  u+62  row v+1 of the reference
+//! ```
+//!
+//! The context of column x + k takes bits 63 - k to 61 - k of each.
 ghost use Rattle.std.specs.Prelude.{◌≡◌, ℕ, ◌+◌, ◌-◌, ◌*◌, ◌/◌, ◌%◌, ◌^◌, ◌<◌, ◌≤◌, pos, negsuc, ◌+ℤ◌, ◌-ℤ◌, ◌<ℤ◌, true, false};
 ghost use Rattle.jbig2_base.specs.Grid.{Grid, pixel_at};
 ghost use Rattle.jbig2_base.specs.Bits.{bit};
@@ -31,8 +44,8 @@ fn window<A: Allocator, L: Ledger>(
     row: i64,
     steps: &mut Steps<L>,
 ) -> u64
-    requires column { column <ℤ pos 4294967296 }
-    requires row { row <ℤ pos 4294967296 }
+    requires column { column <ℤ pos (2 ^ 32) }
+    requires row { row <ℤ pos (2 ^ 32) }
     ensures value { Sees bitmap.now column row result }
     ensures steps { steps.new ≡ record steps.old { loads = steps.old.loads + 1 } }
 {

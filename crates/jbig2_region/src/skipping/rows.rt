@@ -9,7 +9,7 @@ ghost use Rattle.jbig2_region.specs.inner.Neighbours.{IsLeft, IsNear, neighbour_
 ghost use Rattle.jbig2_region.specs.inner.Masks.{IsMask, plain_context};
 ghost use Rattle.jbig2_region.specs.inner.Stretches.{DecodesPixels};
 
-use crate::generic_kernel::windows::{Windows, stretch_bits, windows_at};
+use crate::generic_kernel::windows::{Place, Windows, stretch_bits, windows_at};
 use crate::template::neighbours::{Neighbours, joined};
 use jbig2_base::bitmap::Bitmap;
 use jbig2_base::bitmap::steps::Steps;
@@ -71,52 +71,48 @@ fn decode_pixel<L: Ledger>(
     decoder.decode(&mut contexts[context as usize], steps)
 }
 
-/// Decodes `count` pixels, at most 32, from column `x` of row `y` on. Returns the four pixels left
-/// of the next column.
+/// Decodes the pixels of a place, at most 32. Returns the four pixels left of the next column.
 #[inline(always)]
 fn decode_block<M: Allocator, A: Allocator, L: Ledger>(
     neighbours: Neighbours,
     skip: Option<&Bitmap<M>>,
+    place: Place,
     bitmap: &mut Bitmap<A>,
-    x: u32,
-    y: u32,
-    count: u32,
-    left: u32,
     decoder: &mut ArithmeticDecoder<'_>,
     contexts: &mut [ArithmeticDecoderContext],
     steps: &mut Steps<L>,
 ) -> u32
     requires near { IsNear neighbours }
     requires contexts { length contexts.old ≡ 2 ^ neighbour_count neighbours }
-    requires some { 1 ≤ count }
-    requires few { count ≤ 32 }
-    requires aligned { x % 32 ≡ 0 }
-    requires columns { x + count ≤ bitmap.old.width }
-    requires row { y < bitmap.old.height }
-    requires left { IsLeft bitmap.old x y left }
-    requires small { left < 16 }
+    requires some { 1 ≤ place.count }
+    requires few { place.count ≤ 32 }
+    requires aligned { place.x % 32 ≡ 0 }
+    requires columns { place.x + place.count ≤ bitmap.old.width }
+    requires row { place.y < bitmap.old.height }
+    requires left { IsLeft bitmap.old place.x place.y place.left }
+    requires small { place.left < 16 }
     ensures decoded { DecodesPixels
-        (skipping_coding (nominal_pixels neighbours) (skip_of skip.entry)) false x y count
-        bitmap.old decoder.old contexts.old steps.old
+        (skipping_coding (nominal_pixels neighbours) (skip_of skip.entry)) false
+        place.x place.y place.count bitmap.old decoder.old contexts.old steps.old
         bitmap.new decoder.new contexts.new steps.new }
-    ensures left { IsLeft bitmap.new (x + count) y result }
+    ensures left { IsLeft bitmap.new (place.x + place.count) place.y result }
     ensures small { result < 16 }
     ensures contexts { length contexts.new ≡ length contexts.old }
     ensures loads { steps.new.loads ≤ steps.old.loads + 3 }
     ensures words { steps.new.words ≡ steps.old.words + 1 }
     ensures lanes { KeepsLanes steps.old steps.new }
 {
-    let windows = windows_at(bitmap, x, y, steps);
-    let mask = mask_at(skip, x, y, steps);
-    let mut pixels = u64::from(left);
-    for offset in 0..count {
+    let windows = windows_at(bitmap, place.x, place.y, steps);
+    let mask = mask_at(skip, place.x, place.y, steps);
+    let mut pixels = u64::from(place.left);
+    for offset in 0..place.count {
         let left = (pixels % 16) as u32;
         let context = plain_context(neighbours, windows, left, offset);
         let skipped = (mask >> (31 - offset)) % 2 == 1;
         let symbol = decode_pixel(skipped, context, decoder, contexts, steps);
         pixels = pixels * 2 + u64::from(symbol);
     }
-    bitmap.store_pixels(x, y, count, pixels, steps);
+    bitmap.store_pixels(place.x, place.y, place.count, pixels, steps);
     (pixels % 16) as u32
 }
 
@@ -149,9 +145,8 @@ fn decode_row<M: Allocator, A: Allocator, L: Ledger>(
     for index in 0..width.div_ceil(32) {
         let x = index * 32;
         let count = (width - x).min(32);
-        left = decode_block(
-            neighbours, skip, bitmap, x, y, count, left, decoder, contexts, steps,
-        );
+        let place = Place { x, y, count, left };
+        left = decode_block(neighbours, skip, place, bitmap, decoder, contexts, steps);
     }
 }
 

@@ -39,7 +39,8 @@ pub fn region_0(a: &[AdaptiveTemplatePixel; 2]) -> [AdaptiveTemplatePixel; 4]
 pub fn is_nominal(template: RefinementTemplate, a: &[AdaptiveTemplatePixel; 2]) -> bool
     ensures value { result ≡ is_nominal template (two_pixels template a.now) }
     ensures reference { result ≡ true
-        → reference_pixels template (two_pixels template a.now) ≡ reference_pixels template corners }
+        → reference_pixels template (two_pixels template a.now)
+        ≡ reference_pixels template corners }
     ensures region { result ≡ true
         → region_pixels template (two_pixels template a.now) ≡ region_pixels template corners }
 {

@@ -9,9 +9,9 @@ invariant-loop-offset g l = record {
   height : l.bitmap.height ≡ l.initial.bitmap.height;
   bytes : l.decoder.bytes ≡ l.initial.decoder.bytes;
   few : l.left < 16;
-  above : SameAbove l.initial.bitmap l.bitmap l.fn.y;
-  left : IsLeft l.bitmap (l.fn.x + l.offset) l.fn.y l.left;
-  holds : DecodesPixels (mixed_pixels l.fn.neighbours l.fn.adaptive) false l.fn.x l.fn.y l.offset l.initial.bitmap l.initial.decoder l.initial.contexts l.bitmap l.decoder l.contexts;
+  above : SameAbove l.initial.bitmap l.bitmap l.fn.place.y;
+  left : IsLeft l.bitmap (l.fn.place.x + l.offset) l.fn.place.y l.left;
+  holds : DecodesPixels (mixed_pixels l.fn.neighbours l.fn.adaptive) false l.fn.place.x l.fn.place.y l.offset l.initial.bitmap l.initial.decoder l.initial.contexts l.bitmap l.decoder l.contexts;
   decisions : l.steps.decisions ≡ l.initial.steps.decisions + l.offset;
   words : l.steps.words ≡ l.initial.steps.words + l.offset;
   run_tests : l.steps.run_tests ≡ l.initial.steps.run_tests;

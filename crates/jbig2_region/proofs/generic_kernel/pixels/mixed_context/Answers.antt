@@ -27,7 +27,7 @@ pub returns-clause-value : goal.returns-clause-value
 returns-clause-value g c =
     c.joined.ensures.value
     ∙ rw (c.joined-after_left.ensures.value, c.joined-after_first.ensures.value, c.joined-after_above.ensures.value, c.joined-after_middle.ensures.value, c.context_at-first.ensures.value, c.context_at-middle.ensures.value, c.context_at-last.ensures.value, c.stretch_bits-above.ensures.value, c.stretch_bits-top.ensures.value, pow-few c.args.neighbours.left (omega (arith, c.requires.mixed.near.left)))
-    (mixed-context c.args.neighbours c.args.adaptive.now c.args.bitmap.now c.args.bitmap.now c.args.x c.args.y c.args.offset c.args.left c.args.windows c.requires.mixed.near c.requires.offset (λ i j less. refl) c.requires.shows c.requires.left)
+    (mixed-context c.args.neighbours c.args.adaptive.now c.args.bitmap.now c.args.bitmap.now c.args.place.x c.args.place.y c.args.offset c.args.left c.args.windows c.requires.mixed.near c.requires.offset (λ i j less. refl) c.requires.shows c.requires.left)
 
 pub returns-clause-bound : goal.returns-clause-bound
 returns-clause-bound g c =
