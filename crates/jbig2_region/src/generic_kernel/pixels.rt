@@ -73,7 +73,8 @@ fn decode_pixels<A: Allocator, L: Ledger>(
     requires left { IsLeft bitmap.old place.x place.y place.left }
     requires small { place.left < 16 }
     ensures holds { DecodesPixels (mixed_pixels neighbours adaptive.now) false
-        place.x place.y place.count bitmap.old decoder.old contexts.old bitmap.new decoder.new contexts.new }
+        place.x place.y place.count bitmap.old decoder.old contexts.old
+        bitmap.new decoder.new contexts.new }
     ensures left { IsLeft bitmap.new (place.x + place.count) place.y result }
     ensures small { result < 16 }
     ensures width { bitmap.new.width ≡ bitmap.old.width }

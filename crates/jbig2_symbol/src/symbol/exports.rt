@@ -56,14 +56,9 @@ fn read_run<R: ReadClasses<A>, A: Allocator + Clone, L: Ledger>(
     Ok(run)
 }
 
-<<<<<<< HEAD
 /// Reads the runs, until they cover `count` symbols. The runs before and after an empty one are joined,
 /// so there are hardly more than there are symbols.
-pub fn read_runs<R: ReadClasses, M: Allocator, A: Allocator, T: Allocator, L: Ledger>(
-=======
-/// Reads the runs, until they cover `count` symbols.
 pub fn read_runs<R: ReadClasses<A>, M: Allocator, A: Allocator + Clone, L: Ledger>(
->>>>>>> 1b1b1ba205b6df7627d56876350ba33368472d35
     alloc: M,
     input: &SymbolInput<'_, A>,
     count: u64,
@@ -229,13 +224,8 @@ fn take_exports<A: Allocator + Clone, S: Allocator, L: Ledger>(
 ///
 /// Returns the errors of `read_runs`; `SymbolError::NoSymbols` where their number is not the
 /// header's; `OutOfMemory` where there is no memory for them.
-<<<<<<< HEAD
 #[tactic(auto, using(crate::proofs::ReadingCauses::exports_cause))]
-pub fn read_exports<R: ReadClasses, A: Allocator + Clone, T: Allocator, L: Ledger>(
-=======
-#[tactic(auto, using(crate::proofs::ReadingCauses::exports_cause), unfolding(crate::specs::Symbols::exports))]
 pub fn read_exports<R: ReadClasses<A>, A: Allocator + Clone, L: Ledger>(
->>>>>>> 1b1b1ba205b6df7627d56876350ba33368472d35
     alloc: A,
     input: &SymbolInput<'_, A>,
     new: Vec<Bitmap<A>, A>,
