@@ -1,7 +1,7 @@
 """The fewest bytes that the crate hayro-jbig2 0.4.0 has alive at once while it goes through segments, from their headers.
 
-A bitmap there has a word of 4 bytes for each 32 pixels of a row. What needs decoding is left out: the bitmaps of symbols, if
-they are not counted, prefix tables, refined instances. So is what the crate asks for after a segment that may have failed.
+A bitmap there has a word of 4 bytes for each 32 pixels of a row. What needs decoding is left out: prefix tables, and the bitmaps
+of symbols and of refined instances, if these are not counted. So is what the crate asks for after a segment that may have failed.
 """
 from model.answers import Fault, Refused, TooMuch, refuse_if
 from model.bitmap import refuse_large
@@ -10,7 +10,7 @@ from model.page import (
     END_OF_FILE, END_OF_PAGE, EXTENSION, GENERIC, HALFTONE, INTERMEDIATE, KEPT, PATTERNS, REGIONS, SYMBOLS, TABLES, TEXT,
 )
 from model.prefix import custom_table
-from model.regions import Halftone, adaptive_pixels, refinement_pixels, region_information
+from model.regions import Halftone, adaptive_pixels, refinement_pixels, region_information, text_region
 from model.symbols import Dictionary, DictionaryReader, code_length
 
 # The bytes of a bitmap without its pixels, of a reference to one, of a number, and of the contexts of coded integers.
@@ -186,8 +186,8 @@ class Walk:
         return region, 0 if flags & 1 else CONTEXTS[template], 0
 
     def text(self, segment, is_sure):
-        """A text region; the codes of its symbols may be refused before its bitmap is made."""
-        referred, _ = self.names.referred(segment, self.strict)
+        """A text region; the codes of its symbols may be refused before its bitmap is made. It has one refined symbol at a time."""
+        referred, tables = self.names.referred(segment, self.strict)
         count = sum(len(dictionary.symbols) for dictionary in referred)
         reader = Reader(segment.data)
         region = region_information(reader)
@@ -195,7 +195,18 @@ class Walk:
         reader.take(2 * (flags & 1) + 4 * (flags >> 1 & 1 and not flags >> 15) + 4)
         refuse_if(flags & 1 and not is_sure, Fault.INVALID_CODE)
         more = REFERENCE * count + REFINING[flags >> 15]
+        if self.work and flags & 2:
+            more += self.largest_refined(segment, [symbol for dictionary in referred for symbol in dictionary.symbols], tables)
         return region, more + (0 if flags & 1 else 1 << code_length(count)), flags >> 9 & 1
+
+    def largest_refined(self, segment, symbols, tables):
+        """The bytes of the largest symbol that is refined for an instance."""
+        self.work.refined = 0
+        try:
+            text_region(self.work, segment.data, symbols, tables, self.strict)
+        except (Refused, TooMuch):
+            pass
+        return 4 * self.work.refined
 
     def halftone(self, segment, is_sure):
         """The values of a grid, two of its planes, and what is skipped."""

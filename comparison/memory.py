@@ -1,14 +1,15 @@
 #!/usr/bin/env python3
 """Measures the most memory that drawing files takes here, beside the least that the crate hayro-jbig2 0.4.0 needs for them.
 
-usage: comparison/memory.py [--strict] [--seconds S] [--memory MIB] [FILE ..]
-       comparison/memory.py [--strict] [--seconds S] [--memory MIB] --damaged COUNT [--first FIRST] [--seed SEED]
+usage: comparison/memory.py [--strict] [--seconds S] [--memory MIB] [--decisions N] [FILE ..]
+       comparison/memory.py [--strict] [--seconds S] [--memory MIB] [--decisions N] --damaged COUNT [--first FIRST] [--seed SEED]
 
 Files have a file header. --damaged makes files as comparison/damage.py does, those of its runs FIRST to FIRST + COUNT - 1.
 All pages of a file are drawn in one context by the library for C, which asks comparison/peak.c for memory; that counts the
 bytes that are alive at once, without those of the file. The crate isn't run: crate_memory.py says from the headers what it
 has alive at least. A file for which the library takes more than twice that and 64 KiB besides is printed, and kept if it was
-damaged. Then its symbols are decoded by comparison/model, and counted too. Status 0 means that no file is still above.
+damaged. Then its symbols are decoded by comparison/model, and counted too. Status 0 means that no file is still above. The model
+stops after N decisions of the coder, 30 million if nothing else is said; what it has counted by then may be too little.
 comparison/README.md says what the library takes that the crate doesn't. Run c/build first. CC may name a compiler.
 """
 import argparse
@@ -29,8 +30,8 @@ from model.page import END_OF_FILE, END_OF_PAGE, KEPT, Drawing, File, Names, pag
 from root import ROOT
 
 ALLOWED = 1 << 16
-# The decisions and the pixels for which symbols are decoded in Python.
-MOST_WORK = 30_000_000, 200_000_000
+# The decisions for which symbols are decoded in Python, and the pixels for each of them.
+MOST_DECISIONS, PIXELS = 30_000_000, 7
 HERE = os.path.join(ROOT, "comparison")
 
 
@@ -106,7 +107,8 @@ class Measured:
 class Tally:
     """What the files so far have come to."""
 
-    def __init__(self):
+    def __init__(self, decisions):
+        self.decisions = decisions
         self.counts = dict.fromkeys(("files", "drawn", "refused", "stopped", "above", "above with symbols"), 0)
         self.highest = (0.0, "none")
 
@@ -118,10 +120,12 @@ class Tally:
         if measured.most > 2 * least + ALLOWED:
             self.counts["above"] += 1
             line = f"{save(name)}: {measured.most} bytes, the crate at least {least}"
-            least = least_of(Work(*MOST_WORK))
+            work = Work(self.decisions, PIXELS * self.decisions)
+            least = least_of(work)
             is_above = measured.most > 2 * least + ALLOWED
             self.counts["above with symbols"] += is_above
-            print(f"{line}, with symbols {least}{', still above' * is_above}", flush=True)
+            stopped = ", where the model stopped" * work.is_used_up
+            print(f"{line}, with symbols {least}{stopped}{', still above' * is_above}", flush=True)
         # Where the crate takes next to nothing, a ratio says nothing.
         self.highest = max(self.highest, (measured.most / max(least, ALLOWED), name))
 
@@ -149,8 +153,8 @@ def least_of_file(data, strict, measured, work):
     return 0 if measured.is_refused else least_bytes(data, strict, measured.shared, measured.pages, work)
 
 
-def measure_all(runner, files, strict):
-    tally = Tally()
+def measure_all(runner, files, strict, decisions):
+    tally = Tally(decisions)
     for name, data, save in files:
         tally.counts["files"] += 1
         ended = runner.run(data, ["--strict", None] if strict else [None])
@@ -171,6 +175,7 @@ def main():
     parser.add_argument("--strict", action="store_true")
     parser.add_argument("--seconds", type=int, default=10)
     parser.add_argument("--memory", type=int, default=3072)
+    parser.add_argument("--decisions", type=int, default=MOST_DECISIONS)
     parser.add_argument("--damaged", type=int, default=0)
     parser.add_argument("--first", type=int, default=0)
     parser.add_argument("--seed", type=int, default=1)
@@ -179,7 +184,7 @@ def main():
     files = damaged_files(options) if options.damaged else given_files(options.files)
     with tempfile.TemporaryDirectory() as folder:
         runner = Runner(build(folder), folder, options.seconds, options.memory << 20)
-        tally = measure_all(runner, files, options.strict)
+        tally = measure_all(runner, files, options.strict, options.decisions)
     print(tally.line())
     return 1 if tally.counts["above with symbols"] else 0
 

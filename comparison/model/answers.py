@@ -62,21 +62,30 @@ class TooMuch(Exception):
 
 
 class Work:
-    """What may still be done: pixels that are decoded one by one, and pixels that are made or combined."""
+    """What may still be done: pixels that are decoded one by one, and pixels that are made or combined. `is_used_up` says that
+    more was asked for, `refined` is the largest symbol that was refined for an instance: its words of 32 pixels."""
 
     def __init__(self, decisions=40_000, pixels=3_000_000):
         self.decisions = decisions
         self.pixels = pixels
+        self.is_used_up = False
+        self.refined = 0
 
     def decide(self, count):
         self.decisions -= count
-        if self.decisions < 0:
-            raise TooMuch
+        self.check(self.decisions)
 
     def draw(self, count):
         self.pixels -= count
-        if self.pixels < 0:
+        self.check(self.pixels)
+
+    def check(self, left):
+        if left < 0:
+            self.is_used_up = True
             raise TooMuch
+
+    def refine(self, width, height):
+        self.refined = max(self.refined, (width + 31) // 32 * height)
 
 
 def refuse_if(condition, fault):

@@ -163,6 +163,7 @@ class TextReader:
             refuse_if(not 0 <= side < 1 << 31, Fault.BITMAP_DIMENSION)
         shift = [in_signed(delta // 2 + place, Fault.REFERENCE_OFFSET) for delta, place in ((grown, x), (higher, y))]
         refuse_large(*size)
+        self.work.refine(*size)
         return self.source.refined(self.settings.refinement, size, symbol, shift)
 
     def placed(self, symbol, s, t):
