@@ -117,47 +117,59 @@ fn looked_for(look: bool, windows: RefinementWindows, count: u32) -> u32
     0
 }
 
-/// Decodes `count` pixels, at most 32, from column `x` of a row on. They are the lowest bits of the
-/// result, and the pixels on the left are above them. It looks for columns where all is white only if
-/// `look` is true.
+/// Columns of a row that are decoded next.
+#[derive(Clone, Copy)]
+struct Stretch {
+    /// The first column.
+    x: u32,
+    count: u32,
+    /// The four pixels on the left, the nearest in the lowest bit.
+    left: u32,
+    /// What is above, and in the reference.
+    windows: RefinementWindows,
+    /// Whether columns where all is white are looked for.
+    look: bool,
+}
+
+/// Decodes a stretch of a row, at most 32 pixels. They are the lowest bits of the result, and the pixels on the left are
+/// above them.
 #[inline(always)]
 fn decode_block<A: Allocator, B: Allocator, L: Ledger>(
     coding: &WindowedCoding<'_, B>,
     row: Row,
-    x: u32,
-    count: u32,
-    left: u32,
-    windows: RefinementWindows,
-    look: bool,
+    stretch: Stretch,
     bitmap: &mut Bitmap<A>,
     decoder: &mut ArithmeticDecoder<'_>,
     contexts: &mut [ArithmeticDecoderContext],
     steps: &mut Steps<L>,
 ) -> u64
     requires contexts { length contexts.old ≡ 2 ^ refinement_bits coding.now.template }
-    requires some { 1 ≤ count }
-    requires few { count ≤ 32 }
-    requires aligned { x % 32 ≡ 0 }
-    requires columns { x + count ≤ bitmap.old.width }
+    requires some { 1 ≤ stretch.count }
+    requires few { stretch.count ≤ 32 }
+    requires aligned { stretch.x % 32 ≡ 0 }
+    requires columns { stretch.x + stretch.count ≤ bitmap.old.width }
     requires row { row.y < bitmap.old.height }
-    requires left { IsLeft bitmap.old x row.y left }
-    requires small { left < 16 }
-    requires sees { SeesRows bitmap.old (reference_view coding.now.reference.now) x row.y windows }
-    ensures decoded { DecodesPixels (windowed_coding coding.now) row.predicted x row.y count
-        bitmap.old decoder.old contexts.old steps.old
+    requires left { IsLeft bitmap.old stretch.x row.y stretch.left }
+    requires small { stretch.left < 16 }
+    requires sees { let reference = reference_view coding.now.reference.now in
+        SeesRows bitmap.old reference stretch.x row.y stretch.windows }
+    ensures decoded { DecodesPixels (windowed_coding coding.now) row.predicted
+        stretch.x row.y stretch.count bitmap.old decoder.old contexts.old steps.old
         bitmap.new decoder.new contexts.new steps.new }
-    ensures left { IsLeft bitmap.new (x + count) row.y (result % 16) }
-    ensures value { (k : ℕ) → k < count
-        → bit result (count - 1 - k) ≡ pixel_at bitmap.new (x + k) row.y }
+    ensures left { IsLeft bitmap.new (stretch.x + stretch.count) row.y (result % 16) }
+    ensures value { (k : ℕ) → k < stretch.count
+        → bit result (stretch.count - 1 - k) ≡ pixel_at bitmap.new (stretch.x + k) row.y }
     ensures contexts { length contexts.new ≡ length contexts.old }
     ensures loads { steps.new.loads ≡ steps.old.loads }
     ensures words { steps.new.words ≡ steps.old.words + 1 }
 {
     let template = coding.template;
+    let count = stretch.count;
+    let windows = stretch.windows;
     let decided = decided_columns(row.predicted, count);
-    let white = looked_for(look, windows, decided);
+    let white = looked_for(stretch.look, windows, decided);
     let known = windows.known_columns(row.predicted);
-    let mut pixels = u64::from(left);
+    let mut pixels = u64::from(stretch.left);
     let mut done = 0;
     while done < white && pixels % 2 == 0 {
         let symbol = decide_pixel(0, decoder, contexts, steps);
@@ -181,7 +193,7 @@ fn decode_block<A: Allocator, B: Allocator, L: Ledger>(
         );
         done += more;
     }
-    bitmap.store_pixels(x, row.y, count, pixels, steps);
+    bitmap.store_pixels(stretch.x, row.y, count, pixels, steps);
     pixels
 }
 
@@ -212,9 +224,14 @@ fn decode_row<A: Allocator, B: Allocator, L: Ledger>(
         let x = index * 32;
         let count = (width - x).min(32);
         let windows = windows_at(bitmap, coding.reference, x, row.y, steps);
-        let pixels = decode_block(
-            coding, row, x, count, left, windows, true, bitmap, decoder, contexts, steps,
-        );
+        let stretch = Stretch {
+            x,
+            count,
+            left,
+            windows,
+            look: true,
+        };
+        let pixels = decode_block(coding, row, stretch, bitmap, decoder, contexts, steps);
         left = (pixels % 16) as u32;
     }
 }
@@ -246,9 +263,14 @@ fn decode_narrow<A: Allocator, B: Allocator, L: Ledger>(
     for y in 0..bitmap.height() {
         predicted = begin_row(row_context, predicted, decoder, contexts, steps);
         let row = Row { y, predicted };
-        let pixels = decode_block(
-            coding, row, 0, width, 0, windows, false, bitmap, decoder, contexts, steps,
-        );
+        let stretch = Stretch {
+            x: 0,
+            count: width,
+            left: 0,
+            windows,
+            look: false,
+        };
+        let pixels = decode_block(coding, row, stretch, bitmap, decoder, contexts, steps);
         windows = windows.lowered(coding.reference, y + 1, pixels, width, steps);
     }
 }
