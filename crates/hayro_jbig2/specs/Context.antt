@@ -1,6 +1,7 @@
 -- What a context keeps from one page to the next (our own rule): the drawing of the last page, how many units of work a
--- page may take, and how many of them the last page left.
-use Rattle.std.specs.Prelude.{◌≡◌, ◌-◌, ◌^◌, ℕ, [], false, true, Option, Some, None, unwrap_or}
+-- page may take, how many of them the last page left, and how many steps it counted.
+use Rattle.std.specs.Prelude.{◌≡◌, ◌-◌, ◌*◌, ◌^◌, ◌≤◌, ℕ, [], false, true, Option, Some, None, unwrap_or}
+use Rattle.jbig2_steps.specs.Work.{counted}
 use Rattle.jbig2_steps.specs.declared.work.Work.{Work}
 use Rattle.hayro_jbig2.specs.Page.{Drawing, nothing_drawn}
 
@@ -8,15 +9,20 @@ pub record Context : Type 0 where
   pub drawing : Drawing
   pub work_limit : Option ℕ
   pub work_left : Option ℕ
+  pub steps : ℕ  -- how many the last page counted
 
 abbrev pub new_context : Context
-new_context = record { drawing = nothing_drawn; work_limit = None; work_left = None }
+new_context = record { drawing = nothing_drawn; work_limit = None; work_left = None; steps = 0 }
 
 abbrev pub units_of : Option ℕ → ℕ  -- without a limit there are as many units as a counter can hold
 units_of limit = unwrap_or limit (2 ^ 64 - 1)
 
-abbrev pub after_page : {L : Type 0} → Work L → Context → Context  -- after a page that left these units
-after_page work c = record c { work_left = left c.work_limit }
+-- what was counted is at most what the units of a limit pay for
+abbrev pub IsWithin : Option ℕ → ℕ → Type 0
+IsWithin limit steps = steps ≤ 32 * units_of limit
+
+abbrev pub after_page : {L : Type 0} → Work L → Context → Context  -- after a page with this counter
+after_page work c = record c { work_left = left c.work_limit; steps = counted work.steps }
   where
     left : Option ℕ → Option ℕ
     left None = None

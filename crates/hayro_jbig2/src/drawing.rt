@@ -14,6 +14,7 @@ ghost use Rattle.jbig2_steps.specs.Work.{Paid, worth};
 
 pub(crate) mod canvas;
 pub(crate) mod context;
+pub(crate) mod counted;
 pub(crate) mod dictionaries;
 pub(crate) mod passed_over;
 pub(crate) mod workspace;

@@ -6,6 +6,7 @@ ghost use Rattle.hayro_jbig2.specs.Context.{after_page, new_context, units_of};
 ghost use Rattle.hayro_jbig2.specs.Image.{packed_of};
 
 use crate::drawing::canvas::Canvas;
+use crate::drawing::counted::Counted;
 use crate::drawing::passed_over::PassedOver;
 use crate::page::drawn_page::DrawnPage;
 use jbig2_base::bitmap::steps::Work;
@@ -24,6 +25,8 @@ pub struct DecoderContext<A: Allocator> {
     work_limit: Option<u64>,
     /// How many of them the last page left.
     work_left: Option<u64>,
+    /// How many steps it counted.
+    counted: Counted,
 }
 
 impl<A: Allocator> Model for DecoderContext<A> {
@@ -35,6 +38,7 @@ impl<A: Allocator> Model for DecoderContext<A> {
       drawing = c.canvas;
       work_limit = c.work_limit;
       work_left = c.work_left;
+      steps = c.counted;
     } };
 }
 
@@ -58,6 +62,7 @@ impl<A: Allocator + Clone> DecoderContext<A> {
             canvas: Canvas::new(alloc)?,
             work_limit: None,
             work_left: None,
+            counted: Counted::nothing(),
         })
     }
 }
@@ -109,10 +114,11 @@ impl<A: Allocator> DecoderContext<A> {
         work_within(self.work_limit, blank)
     }
 
-    /// Records what a page left of its limit.
+    /// Records what a page left of its limit, and what it counted.
     pub(crate) fn end<L: Ledger>(&mut self, work: &Work<L>)
         ensures { self.new ≡ after_page work.now self.old }
     {
         self.work_left = self.work_limit.map(|_| work.left);
+        self.counted = Counted::of(&work.steps);
     }
 }

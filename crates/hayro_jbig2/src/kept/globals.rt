@@ -5,12 +5,14 @@ ghost use Rattle.jbig2_base.specs.Reading.{is_strict, reading_of};
 ghost use Rattle.jbig2_base.specs.declared.error.DecodeError.TheVariants.{OutOfMemory};
 ghost use Rattle.jbig2_base.specs.declared.reading.Reading.TheVariants.{Salvage};
 ghost use Rattle.jbig2_base.specs.inner.SegmentViews.{segment_view, segment_views};
+ghost use Rattle.hayro_jbig2.specs.Context.{IsWithin};
 ghost use Rattle.hayro_jbig2.specs.Names.{globals_at, named_from, kept_by, no_names, nothing_shared, or_shared_without};
 ghost use Rattle.hayro_jbig2.specs.Returned.{IsReturned};
 ghost use Rattle.hayro_jbig2.specs.inner.KeptViews.{found};
 ghost use Rattle.jbig2_steps.specs.Work.{IsWithinLimit, Paid};
 
 use crate::drawing::context::work_within;
+use crate::drawing::counted::Counted;
 use crate::drawing::dictionaries::{extension, keep_patterns, keep_symbols, keep_table};
 use crate::drawing::passed_over::PassedOver;
 use crate::drawing::pay_segment;
@@ -140,7 +142,16 @@ impl<A: Allocator + Clone> Globals<A> {
         ensures { Gives (λ globals. globals) result
             (named_from reading (segment_views segments.now) (nothing_shared fault)) }
     {
-        decode_shared::<A, Brand>(alloc, reading, segments, fault, work, Blank::new(6))
+        let mut counted = Counted::nothing();
+        decode_shared::<A, Brand>(
+            alloc,
+            reading,
+            segments,
+            fault,
+            work,
+            &mut counted,
+            Blank::new(6),
+        )
     }
 
     /// Keeps what one more segment holds. Salvage passes over one that fails.
@@ -171,23 +182,28 @@ impl<A: Allocator + Clone> Globals<A> {
     }
 }
 
-/// What these segments keep, with a counter that begins with this limit.
+/// What these segments keep, with a counter that begins with this limit. `counted` is then what it has counted, after an
+/// error too.
 fn decode_shared<A: Allocator + Clone, L: Ledger>(
     alloc: A,
     reading: Reading,
     segments: &[Segment<'_, A>],
     fault: Option<DecodeError>,
     work: Option<u64>,
+    counted: &mut Counted,
     blank: Blank,
 ) -> Result<Globals<A>>
     requires name { blank.name ≡ L.name }
     requires parts { blank.parts ≡ L.parts }
     requires enough { blank.parts ≡ 6 }
-    ensures { Gives (λ globals. globals) result
+    ensures value { Gives (λ globals. globals) result
         (named_from reading (segment_views segments.now) (nothing_shared fault)) }
+    ensures limit { IsWithin work counted.new }
 {
-    let mut work = work_within::<L>(work, blank);
-    shared_within(alloc, reading, segments, fault, &mut work)
+    let mut counter = work_within::<L>(work, blank);
+    let shared = shared_within(alloc, reading, segments, fault, &mut counter);
+    *counted = Counted::of(&counter.steps);
+    shared
 }
 
 /// What these segments keep. Each may refer to those before it. At most 32 steps are counted for each unit of work that

@@ -6,7 +6,7 @@ ghost use Rattle.jbig2_base.specs.Grid.{Grid, blank};
 ghost use Rattle.jbig2_base.specs.Table.{IsTable};
 ghost use Rattle.jbig2_base.specs.declared.bitmap.operator.CombinationOperator.{CombinationOperator};
 ghost use Rattle.hayro_jbig2.specs.Calls.{CallsAreFew, ChunksFit, DrawsGrid, calls_of, Decodes, IsCountable};
-ghost use Rattle.hayro_jbig2.specs.Context.{IsLeft};
+ghost use Rattle.hayro_jbig2.specs.Context.{IsLeft, IsWithin};
 ghost use Rattle.hayro_jbig2.specs.Image.{PackedBitsAreBytes, image_of_page, packed_of_page, packed_size};
 ghost use Rattle.hayro_jbig2.specs.Page.{segments_drawn, drawing_of_page, grid_of_page, draws_over, page_begun, PagesKeepTheirSize, StrictPassesNothing, UntouchedIsBlank};
 ghost use Rattle.hayro_jbig2.specs.Returned.{IsReturned};
@@ -15,6 +15,7 @@ ghost use Rattle.jbig2_steps.specs.Work.{IsWithinLimit, Paid, price_of_bitmap, w
 use crate::drawing::Drawer;
 use crate::drawing::canvas::Canvas;
 use crate::drawing::context::{DecoderContext, work_within};
+use crate::drawing::counted::Counted;
 use crate::kept::names::KeptNames;
 use crate::page::Page;
 use crate::page::calls::push_bitmap;
@@ -63,13 +64,15 @@ impl<'a, A: Allocator + Clone> Page<'a, A> {
         ensures errors { IfErr result IsReturned }
     {
         let _globals = &self.globals;
-        self.read_counted::<Brand>(buf, work, Blank::new(6))
+        let mut counted = Counted::nothing();
+        self.read_counted::<Brand>(buf, work, &mut counted, Blank::new(6))
     }
 
     fn read_counted<L: Ledger>(
         &self,
         buf: &mut [u8],
         limit: Option<u64>,
+        counted: &mut Counted,
         blank: Blank,
     ) -> Result<()>
         requires sized { length buf.old
@@ -79,9 +82,12 @@ impl<'a, A: Allocator + Clone> Page<'a, A> {
         requires enough { blank.parts ≡ 6 }
         ensures value { Gives (λ _. buf.new) result (image_of_page self.now) }
         ensures unchanged { OnErr result (buf.new ≡ buf.old) }
+        ensures limit { IsWithin limit counted.new }
     {
         let mut work = work_within::<L>(limit, blank);
-        self.read_within(buf, &mut work)
+        let read = self.read_within(buf, &mut work);
+        *counted = Counted::of(&work.steps);
+        read
     }
 
     /// Writes the page as `read_image` does, with the caller's counter.
@@ -150,10 +156,12 @@ impl<'a, A: Allocator + Clone> Page<'a, A> {
     /// `DecoderContext::drawn` lends its packed rows, and `DecoderContext::passed_over` says what was passed over.
     ///
     /// Returns the first fault of a segment that lenient reading does not pass over.
+    /// At most 32 steps are counted for each unit of the context's limit, after an error too.
     pub fn draw_in(&self, context: &mut DecoderContext<A>) -> Result<()>
         ensures value { Gives (λ _. context.new.drawing.grid) result (grid_of_page self.now) }
         ensures drawing { Gives (λ _. context.new.drawing) result (drawing_of_page self.now) }
         ensures kept { context.new.work_limit ≡ context.old.work_limit }
+        ensures limit { IsWithin context.old.work_limit context.new.steps }
         ensures size { PagesKeepTheirSize }
         ensures strict { StrictPassesNothing }
         ensures errors { IfErr result IsReturned }
@@ -168,6 +176,7 @@ impl<'a, A: Allocator + Clone> Page<'a, A> {
         requires enough { blank.parts ≡ 6 }
         ensures drawing { Gives (λ _. context.new.drawing) result (drawing_of_page self.now) }
         ensures kept { context.new.work_limit ≡ context.old.work_limit }
+        ensures limit { IsWithin context.old.work_limit context.new.steps }
     {
         let mut work = context.new_work::<L>(blank);
         self.draw_within(context, &mut work)
@@ -214,6 +223,7 @@ impl<'a, A: Allocator + Clone> Page<'a, A> {
     ///
     /// Returns the first fault of a segment that lenient reading does not pass over, or the
     /// Decoder's own refusal. It decodes all segments before it makes the first call.
+    /// At most 32 steps are counted for each unit of the context's limit, after an error too.
     pub fn decode_with<D: Decoder>(
         &self,
         decoder: &mut D,
@@ -223,6 +233,7 @@ impl<'a, A: Allocator + Clone> Page<'a, A> {
         ensures calls { Decodes D.conduct (grid_of_page self.now) result decoder.old decoder.new }
         ensures drawing { IfOk (drawing_of_page self.now) (Leaves result context.new.drawing) }
         ensures kept { context.new.work_limit ≡ context.old.work_limit }
+        ensures limit { IsWithin context.old.work_limit context.new.steps }
         ensures spelling { (g : Grid) → DrawsGrid (calls_of g) g }
         ensures chunks { (g : Grid) → ChunksFit g.width 0 (calls_of g) }
         ensures few { (g : Grid) → CallsAreFew g }
@@ -251,6 +262,7 @@ impl<'a, A: Allocator + Clone> Page<'a, A> {
         ensures calls { Decodes D.conduct (grid_of_page self.now) result decoder.old decoder.new }
         ensures drawing { IfOk (drawing_of_page self.now) (Leaves result context.new.drawing) }
         ensures kept { context.new.work_limit ≡ context.old.work_limit }
+        ensures limit { IsWithin context.old.work_limit context.new.steps }
     {
         let mut work = context.new_work::<L>(blank);
         self.decode_within(decoder, context, &mut work)
@@ -276,10 +288,12 @@ impl<'a, A: Allocator + Clone> Page<'a, A> {
         ensures paid { Paid work.old work.new }
     {
         let _globals = &self.globals;
-        match self.draw_within(context, work) {
+        let pushed = match self.draw_within(context, work) {
             Ok(()) => push_bitmap(context.canvas.page(), decoder, &mut work.steps),
             Err(error) => Err(error),
-        }
+        };
+        context.end(work);
+        pushed
     }
 
     /// Draws the whole page.

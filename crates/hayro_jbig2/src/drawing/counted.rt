@@ -1,0 +1,83 @@
+//! How many steps were counted, for clauses alone: a number without a byte, whose type names no ledger. So a call that
+//! makes a counter for itself can say what it counted.
+ghost use Rattle.std.specs.Prelude.{◌≡◌, ℕ};
+ghost use Rattle.jbig2_steps.specs.Work.{counted};
+ghost use base.Fml.{ftrue};
+
+use jbig2_base::bitmap::steps::Steps;
+use std::marker::{Model, PhantomData};
+use std::snapshot::Snapshot;
+use std::sync::ledger::Ledger;
+
+/// What can be measured by a number.
+trait Measured {
+    ghost measure: { Self → ℕ };
+}
+
+impl Measured for () {
+    ghost measure = { λ _. 0 };
+}
+
+impl<L: Ledger> Measured for Steps<L> {
+    ghost measure = { λ steps. counted steps };
+}
+
+/// A number. Nothing else is in it.
+struct Tally {
+    marker: PhantomData<()>,
+    ghost amount: { ℕ },
+}
+
+impl Model for Tally {
+    ghost also_owns = { λ _. ftrue };
+}
+
+impl Tally {
+    /// The measure of what `x` points to.
+    fn of<T: Measured>(x: &T) -> Tally
+        ensures { result.amount ≡ T.measure x.now }
+    {
+        let _ = x;
+        Tally {
+            marker: PhantomData,
+        }
+    }
+}
+
+impl Drop for Tally {
+    fn drop(self) {
+        let Tally { marker: _ } = self;
+    }
+}
+
+/// How many steps a counter had counted. Its value is that number.
+#[derive(Drop)]
+pub(crate) struct Counted {
+    tally: Snapshot<Tally>,
+}
+
+impl Model for Counted {
+    ghost Value = { ℕ };
+
+    ghost view = { λ c. c.tally.value.amount };
+}
+
+impl Counted {
+    /// No step.
+    pub(crate) fn nothing() -> Counted
+        ensures { result ≡ 0 }
+    {
+        Counted {
+            tally: Snapshot::of(&Tally::of(&())),
+        }
+    }
+
+    /// What these steps add up to.
+    pub(crate) fn of<L: Ledger>(steps: &Steps<L>) -> Counted
+        ensures { result ≡ counted steps.now }
+    {
+        Counted {
+            tally: Snapshot::of(&Tally::of(steps)),
+        }
+    }
+}
