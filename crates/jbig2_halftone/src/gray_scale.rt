@@ -1,11 +1,10 @@
 //! Gray-scale images (T.88, Annex C).
-ghost use Rattle.std.specs.Prelude.{◌≡◌, ◌≤◌, ℕ, true, [], Ok, OnOk, OnErr};
+ghost use Rattle.std.specs.Prelude.{◌≡◌, ◌≤◌, [], Ok, OnOk, OnErr};
 ghost use Rattle.jbig2_steps.specs.Work.{CountsWithin};
 ghost use Rattle.jbig2_base.specs.Answer.{Gives, Leaves};
 ghost use Rattle.jbig2_base.specs.Counts.{KeepsLanes};
 ghost use Rattle.jbig2_halftone.specs.GrayScale.{gray_values, gray_scale_image, gray_contexts, GrayScale};
 ghost use Rattle.jbig2_halftone.specs.Steps.{CountsImage, CountsLanes, StopsImage, price_of_image};
-ghost use Rattle.jbig2_region.specs.Steps.{row_loads, skipping_loads};
 ghost use Rattle.jbig2_halftone.specs.inner.HalftoneViews.{gray_view};
 ghost use Rattle.jbig2_base.specs.Causes.{HasCauseOrNoMemory};
 ghost use Rattle.jbig2_halftone.specs.Causes.{BreaksGrayScale};
@@ -45,11 +44,6 @@ pub struct GrayScaleParams<'a, M: Allocator> {
     /// Whether faulty MMR data is refused.
     pub strict: bool,
 }
-
-/// A row of a plane without a mask takes no more loads than a row with a mask may take.
-pub fn plain_rows_load_as_few()
-    ensures { (w : ℕ) → row_loads true w ≤ skipping_loads w }
-{}
 
 /// The value 0 for each pixel.
 fn zeros<A: Allocator>(alloc: A, width: u32, height: u32) -> Result<Vec<u32, A>>

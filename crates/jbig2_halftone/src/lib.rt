@@ -4,4 +4,5 @@
 
 pub mod gray_scale;
 pub mod halftone;
+pub mod laws;
 pub mod pattern;

@@ -7,8 +7,8 @@ ghost use Rattle.jbig2_base.specs.Table.{IsTable};
 ghost use Rattle.jbig2_base.specs.declared.bitmap.operator.CombinationOperator.{CombinationOperator};
 ghost use Rattle.hayro_jbig2.specs.Calls.{CallsAreFew, ChunksFit, DrawsGrid, calls_of, Decodes, IsCountable};
 ghost use Rattle.hayro_jbig2.specs.Context.{IsLeft, IsWithin};
-ghost use Rattle.hayro_jbig2.specs.Image.{PackedBitsAreBytes, image_of_page, packed_of_page, packed_size};
-ghost use Rattle.hayro_jbig2.specs.Page.{segments_drawn, drawing_of_page, grid_of_page, draws_over, page_begun, PagesKeepTheirSize, StrictPassesNothing, UntouchedIsBlank};
+ghost use Rattle.hayro_jbig2.specs.Image.{image_of_page, packed_of_page, packed_size};
+ghost use Rattle.hayro_jbig2.specs.Page.{segments_drawn, drawing_of_page, grid_of_page, draws_over, page_begun, UntouchedIsBlank};
 ghost use Rattle.hayro_jbig2.specs.Returned.{IsReturned};
 ghost use Rattle.jbig2_steps.specs.Work.{IsWithinLimit, Paid, price_of_bitmap, worth};
 
@@ -113,13 +113,11 @@ impl<'a, A: Allocator + Clone> Page<'a, A> {
     /// PBM, TIFF and PDF.
     ///
     /// Returns the first fault of a segment that lenient reading does not pass over; `buf` is then as it was.
-    #[tactic(auto, using(crate::proofs::PackedBits::packed_bits_are_bytes))]
     pub fn read_packed(&self, buf: &mut [u8]) -> Result<()>
         requires { length buf.old ≡ packed_size self.now.initial_page.width
             self.now.initial_page.height }
         ensures value { Gives (λ _. buf.new) result (packed_of_page self.now) }
         ensures unchanged { OnErr result (buf.new ≡ buf.old) }
-        ensures bits { PackedBitsAreBytes }
         ensures errors { IfErr result IsReturned }
     {
         self.read_packed_limited(buf, None)
@@ -162,8 +160,6 @@ impl<'a, A: Allocator + Clone> Page<'a, A> {
         ensures drawing { Gives (λ _. context.new.drawing) result (drawing_of_page self.now) }
         ensures kept { context.new.work_limit ≡ context.old.work_limit }
         ensures limit { IsWithin context.old.work_limit context.new.steps }
-        ensures size { PagesKeepTheirSize }
-        ensures strict { StrictPassesNothing }
         ensures errors { IfErr result IsReturned }
     {
         let _globals = &self.globals;

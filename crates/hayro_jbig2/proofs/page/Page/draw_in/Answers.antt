@@ -4,17 +4,10 @@ use Rattle.hayro_jbig2.specs.Causes.{IsAnswered}
 use Rattle.hayro_jbig2.specs.Page.{ReadPage}
 use Rattle.hayro_jbig2.proofs.Answering.{drawn-returned}
 use Rattle.hayro_jbig2.proofs.DrawnPages.{gives-grid}
-use Rattle.hayro_jbig2.proofs.Untouched.{pages_keep_their_size, strict_passes_nothing}
 use Rattle.hayro_jbig2.proofs.page.Page.draw_in.Goals as goal
 
 pub returns-clause-value : goal.returns-clause-value
 returns-clause-value g c = gives-grid c.args.self.now c.draw_counted.result c.draw_counted.new.context.drawing c.draw_counted.ensures.drawing
-
-pub returns-clause-size : goal.returns-clause-size
-returns-clause-size g c = pages_keep_their_size
-
-pub returns-clause-strict : goal.returns-clause-strict
-returns-clause-strict g c = strict_passes_nothing
 
 pub returns-clause-errors : goal.returns-clause-errors
 returns-clause-errors g c =
