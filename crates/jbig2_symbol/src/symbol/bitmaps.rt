@@ -13,7 +13,7 @@ ghost use Rattle.jbig2_symbol.specs.inner.SymbolViews.{bytes_of_rows, put_behind
 use jbig2_base::bitmap::Bitmap;
 use jbig2_base::bitmap::part::Area;
 use jbig2_base::bitmap::steps::{Steps, Work};
-use jbig2_base::error::{DecodeError, OverflowError, RegionError, Result};
+use jbig2_base::error::{OverflowError, RegionError, Result};
 use jbig2_base::field::bytes_field;
 use jbig2_base::reader::Reader;
 use jbig2_mmr::mmr;
@@ -55,7 +55,7 @@ fn check_pixels(width: u32, height: u32) -> Result<()>
     ensures { Answers (λ _. blank width height false) result (wide_or_overflow width height) }
 {
     if u64::from(width) * u64::from(height) > MOST_PIXELS {
-        return Err(DecodeError::Overflow(OverflowError::BitmapDimension));
+        return Err(OverflowError::BitmapDimension.into());
     }
     Ok(())
 }
@@ -174,7 +174,7 @@ fn check_mmr_rows<A: Allocator, L: Ledger>(
     bytes_field(reader, size)?;
     check_pixels(width, height)?;
     if is_checked {
-        return Err(DecodeError::Region(RegionError::InvalidMmrData));
+        return Err(RegionError::InvalidMmrData.into());
     }
     Ok(())
 }

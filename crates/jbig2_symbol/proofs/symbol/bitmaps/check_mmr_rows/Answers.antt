@@ -13,7 +13,7 @@ returns-then-is_checked-2-clause-value g c =
           elim c.else-is_checked.branch [
             | else-is_checked-via-then-is_checked+else-div_ceil-size v ↦
                 let short : c.args.size < (c.args.height + 7) / 8 = omega arith in
-                inr (mmr-refused c.args.strict c.args.size c.args.width c.args.height c.args.reader.now.bytes c.in_ok-bytes_field.field-0.now c.bytes_field.new.reader.bytes (blank c.args.width c.args.height false) w.if-strict.true wide short c.in_ok-bytes_field.ensures.parses.value c.in_ok-check_pixels.ensures)
+                rw c.into.ensures (inr (mmr-refused c.args.strict c.args.size c.args.width c.args.height c.args.reader.now.bytes c.in_ok-bytes_field.field-0.now c.bytes_field.new.reader.bytes (blank c.args.width c.args.height false) w.if-strict.true wide short c.in_ok-bytes_field.ensures.parses.value c.in_ok-check_pixels.ensures))
             | else-is_checked-via-else-is_checked v ↦ absurd (let t = c.if-is_checked-2.true in let f = v.if-is_checked.false in cc)
           ]
       | else-strict w ↦ absurd (let t = c.if-is_checked-2.true in let f = w.is_checked-is in cc)
