@@ -193,8 +193,7 @@ impl<'a, A: Allocator + Clone> PrefixedSymbols<'a, A> {
             alloc,
             input.header.strict,
             size,
-            width,
-            height,
+            SymbolSize { width, height },
             &mut self.reader,
             work,
         )
@@ -226,8 +225,7 @@ impl<'a, A: Allocator + Clone> PrefixedSymbols<'a, A> {
             alloc,
             input.header.strict,
             size,
-            width,
-            height,
+            SymbolSize { width, height },
             &mut self.reader,
             work,
         )?;
