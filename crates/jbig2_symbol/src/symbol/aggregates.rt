@@ -14,7 +14,7 @@ use crate::symbol::header::{SymbolDictionaryFlags, SymbolDictionaryHeader};
 use crate::symbol::input::SymbolInput;
 use jbig2_base::bitmap::steps::Work;
 use jbig2_base::bitmap::{Bitmap, CombinationOperator};
-use jbig2_base::error::{DecodeError, Result, SymbolError};
+use jbig2_base::error::{Result, SymbolError};
 use jbig2_base::search::code_length;
 use jbig2_coder::huffman_table::HuffmanTable;
 use jbig2_region::generic_refinement::ReferenceBitmap;
@@ -98,10 +98,10 @@ pub fn instance_count(number: Option<i32>) -> Result<u32>
     ensures { Answers (λ count. count) result (some_instances number) }
 {
     let Some(number) = number else {
-        return Err(DecodeError::Symbol(SymbolError::UnexpectedOob));
+        return Err(SymbolError::UnexpectedOob.into());
     };
     if number < 1 {
-        return Err(DecodeError::Symbol(SymbolError::Invalid));
+        return Err(SymbolError::Invalid.into());
     }
     Ok(number as u32)
 }
@@ -147,7 +147,7 @@ pub fn refine_alone<R: ReadInstances, A: Allocator, L: Ledger>(
     let dx = readings.x_delta(work)?;
     let dy = readings.y_delta(work)?;
     let Some(bitmap) = symbols.symbol(id) else {
-        return Err(DecodeError::Symbol(SymbolError::OutOfRange));
+        return Err(SymbolError::OutOfRange.into());
     };
     let mut refined = new_symbol(alloc, size.width, size.height, work)?;
     let reference = ReferenceBitmap { bitmap, dx, dy };

@@ -10,10 +10,11 @@ ghost use Rattle.jbig2_steps.specs.Work.{Paid, price_of_bitmap};
 ghost use Rattle.jbig2_symbol.specs.SymbolBitmaps.{symbols_cut, raw_pixel, raw_stride, raw_rows, mmr_bytes, rows_of_size};
 ghost use Rattle.jbig2_symbol.specs.inner.SymbolViews.{bytes_of_rows, put_behind, with_no_value};
 
+use crate::symbol::aggregates::SymbolSize;
 use jbig2_base::bitmap::Bitmap;
 use jbig2_base::bitmap::part::Area;
 use jbig2_base::bitmap::steps::{Steps, Work};
-use jbig2_base::error::{DecodeError, OverflowError, RegionError, Result};
+use jbig2_base::error::{OverflowError, RegionError, Result};
 use jbig2_base::field::bytes_field;
 use jbig2_base::reader::Reader;
 use jbig2_mmr::mmr;
@@ -55,7 +56,7 @@ fn check_pixels(width: u32, height: u32) -> Result<()>
     ensures { Answers (λ _. blank width height false) result (wide_or_overflow width height) }
 {
     if u64::from(width) * u64::from(height) > MOST_PIXELS {
-        return Err(DecodeError::Overflow(OverflowError::BitmapDimension));
+        return Err(OverflowError::BitmapDimension.into());
     }
     Ok(())
 }
@@ -106,23 +107,22 @@ fn read_mmr_rows<A: Allocator, L: Ledger>(
     alloc: A,
     strict: bool,
     size: usize,
-    width: u32,
-    height: u32,
+    sides: SymbolSize,
     reader: &mut Reader<'_>,
     work: &mut Work<L>,
 ) -> Result<Bitmap<A>>
     requires { IsAligned reader.old }
-    ensures value { let meant = mmr_bytes strict size width height reader.old.bytes in
+    ensures value { let meant = mmr_bytes strict size sides.width sides.height reader.old.bytes in
         Gives (λ bitmap. (bitmap, reader.new.bytes)) result meant }
     ensures aligned { IsAligned reader.new }
     ensures paid { Paid work.old work.new }
 {
     let bytes = bytes_field(reader, size)?;
-    check_pixels(width, height)?;
+    check_pixels(sides.width, sides.height)?;
     // Some codes may give no pixel.
     work.pay(size as u64)?;
-    work.pay_bitmap(width, height)?;
-    let mut bitmap = Bitmap::new_wide(alloc, width, height)?;
+    work.pay_bitmap(sides.width, sides.height)?;
+    let mut bitmap = Bitmap::new_wide(alloc, sides.width, sides.height)?;
     mmr::decode(&mut bitmap, bytes, strict, &mut work.steps)?;
     Ok(bitmap)
 }
@@ -132,21 +132,20 @@ pub fn read_rows<A: Allocator, L: Ledger>(
     alloc: A,
     strict: bool,
     size: usize,
-    width: u32,
-    height: u32,
+    sides: SymbolSize,
     reader: &mut Reader<'_>,
     work: &mut Work<L>,
 ) -> Result<Bitmap<A>>
     requires { IsAligned reader.old }
-    ensures value { let meant = rows_of_size strict size width height reader.old.bytes in
+    ensures value { let meant = rows_of_size strict size sides.width sides.height reader.old.bytes in
         Gives (λ bitmap. (bitmap, reader.new.bytes)) result meant }
     ensures aligned { IsAligned reader.new }
     ensures paid { Paid work.old work.new }
 {
     if size == 0 {
-        return read_raw_rows(alloc, width, height, reader, work);
+        return read_raw_rows(alloc, sides.width, sides.height, reader, work);
     }
-    read_mmr_rows(alloc, strict, size, width, height, reader, work)
+    read_mmr_rows(alloc, strict, size, sides, reader, work)
 }
 
 /// Refuses MMR data of `size` bytes with the same errors as `read_mmr_rows`. It decodes only in
@@ -156,25 +155,24 @@ fn check_mmr_rows<A: Allocator, L: Ledger>(
     alloc: A,
     strict: bool,
     size: usize,
-    width: u32,
-    height: u32,
+    sides: SymbolSize,
     reader: &mut Reader<'_>,
     work: &mut Work<L>,
 ) -> Result<()>
     requires { IsAligned reader.old }
-    ensures value { let meant = mmr_bytes strict size width height reader.old.bytes in
+    ensures value { let meant = mmr_bytes strict size sides.width sides.height reader.old.bytes in
         Gives (λ _. tt) result (with_no_value meant) }
     ensures paid { Paid work.old work.new }
 {
-    let is_checked = strict && width > 0;
-    if is_checked && height.div_ceil(8) as usize <= size {
-        read_mmr_rows(alloc, strict, size, width, height, reader, work)?;
+    let is_checked = strict && sides.width > 0;
+    if is_checked && sides.height.div_ceil(8) as usize <= size {
+        read_mmr_rows(alloc, strict, size, sides, reader, work)?;
         return Ok(());
     }
     bytes_field(reader, size)?;
-    check_pixels(width, height)?;
+    check_pixels(sides.width, sides.height)?;
     if is_checked {
-        return Err(DecodeError::Region(RegionError::InvalidMmrData));
+        return Err(RegionError::InvalidMmrData.into());
     }
     Ok(())
 }
@@ -185,20 +183,19 @@ pub fn check_rows<A: Allocator, L: Ledger>(
     alloc: A,
     strict: bool,
     size: usize,
-    width: u32,
-    height: u32,
+    sides: SymbolSize,
     reader: &mut Reader<'_>,
     work: &mut Work<L>,
 ) -> Result<()>
     requires { IsAligned reader.old }
-    ensures value { let meant = rows_of_size strict size width height reader.old.bytes in
+    ensures value { let meant = rows_of_size strict size sides.width sides.height reader.old.bytes in
         Gives (λ _. tt) result (with_no_value meant) }
     ensures paid { Paid work.old work.new }
 {
     if size > 0 {
-        return check_mmr_rows(alloc, strict, size, width, height, reader, work);
+        return check_mmr_rows(alloc, strict, size, sides, reader, work);
     }
-    raw_bytes(width, height, reader)?;
+    raw_bytes(sides.width, sides.height, reader)?;
     Ok(())
 }
 

@@ -15,7 +15,7 @@ use crate::symbol::readings::{ReadClasses, ReadSymbols};
 use crate::symbol::widths::{RunningWidths, size_moved};
 use jbig2_base::bitmap::Bitmap;
 use jbig2_base::bitmap::steps::Work;
-use jbig2_base::error::{DecodeError, Result, SymbolError};
+use jbig2_base::error::{Result, SymbolError};
 use std::alloc::Allocator;
 use std::sync::ledger::Ledger;
 
@@ -42,7 +42,7 @@ pub fn check_class(symbols: usize, empty: u32) -> Result<()>
     ensures causes { HasCause result (BreaksEmptyClass symbols empty) }
 {
     if symbols == 0 && empty >= MAX_EMPTY {
-        return Err(DecodeError::Symbol(SymbolError::Invalid));
+        return Err(SymbolError::Invalid.into());
     }
     Ok(())
 }
@@ -157,7 +157,7 @@ fn read_height_class<R: ReadClasses<A>, A: Allocator + Clone, L: Ledger>(
 {
     work.pay(CLASS)?;
     let Some(difference) = readings.height_difference(input, work)? else {
-        return Err(DecodeError::Symbol(SymbolError::UnexpectedOob));
+        return Err(SymbolError::UnexpectedOob.into());
     };
     let height = size_moved(symbols.height, difference)?;
     let before = symbols.bitmaps.len();

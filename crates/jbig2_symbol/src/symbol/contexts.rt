@@ -9,7 +9,7 @@ ghost use Rattle.jbig2_symbol.specs.declared.symbol.header.SymbolDictionaryFlags
 
 use crate::symbol::dictionary::RetainedContexts;
 use crate::symbol::header::{SymbolDictionaryFlags, SymbolDictionaryHeader};
-use jbig2_base::error::{DecodeError, Result, SymbolError};
+use jbig2_base::error::{Result, SymbolError};
 use jbig2_coder::arithmetic_decoder::ArithmeticDecoderContext;
 use jbig2_region::raster;
 use jbig2_region::template::{RefinementTemplate, Template};
@@ -101,12 +101,12 @@ pub fn first_contexts<A: Allocator + Clone>(
         return fresh_contexts(alloc, flags);
     }
     let Some(kept) = kept else {
-        return Err(DecodeError::Symbol(SymbolError::Invalid));
+        return Err(SymbolError::Invalid.into());
     };
     let same = is_template(kept.template, flags.template)
         && is_refinement_template(kept.refinement_template, flags.refinement_template);
     if !same {
-        return Err(DecodeError::Symbol(SymbolError::Invalid));
+        return Err(SymbolError::Invalid.into());
     }
     duplicate_contexts(alloc, kept)
 }

@@ -10,7 +10,7 @@ ghost use Rattle.jbig2_symbol.specs.inner.HeaderViews.{coded_pixels, header_view
 ghost use Rattle.jbig2_base.specs.Causes.{HasCause};
 ghost use Rattle.jbig2_symbol.specs.Causes.{BreaksSymbolHeader};
 
-use jbig2_base::error::{DecodeError, HuffmanError, OverflowError, Result};
+use jbig2_base::error::{HuffmanError, OverflowError, Result};
 use jbig2_base::field::{u16_field, u32_field};
 use jbig2_base::reader::Reader;
 use jbig2_region::generic::parse_adaptive_template_pixels;
@@ -107,7 +107,7 @@ fn height_selection(number: u16) -> Result<HuffmanTableSelection>
         0 => Ok(HuffmanTableSelection::TableB4),
         1 => Ok(HuffmanTableSelection::TableB5),
         3 => Ok(HuffmanTableSelection::UserSupplied),
-        _ => Err(DecodeError::Huffman(HuffmanError::InvalidSelection)),
+        _ => Err(HuffmanError::InvalidSelection.into()),
     }
 }
 
@@ -120,7 +120,7 @@ fn width_selection(number: u16) -> Result<HuffmanTableSelection>
         0 => Ok(HuffmanTableSelection::TableB2),
         1 => Ok(HuffmanTableSelection::TableB3),
         3 => Ok(HuffmanTableSelection::UserSupplied),
-        _ => Err(DecodeError::Huffman(HuffmanError::InvalidSelection)),
+        _ => Err(HuffmanError::InvalidSelection.into()),
     }
 }
 
@@ -218,7 +218,7 @@ pub fn parse<'a>(reader: &mut Reader<'a>, strict: bool) -> Result<SymbolDictiona
     let num_exported_symbols = u32_field(&mut ahead)?;
     let num_new_symbols = u32_field(&mut ahead)?;
     if num_exported_symbols > MAX_SYMBOLS || num_new_symbols > MAX_SYMBOLS {
-        return Err(DecodeError::Overflow(OverflowError::SymbolCount));
+        return Err(OverflowError::SymbolCount.into());
     }
     let bytes = ahead.tail();
     *reader = ahead;

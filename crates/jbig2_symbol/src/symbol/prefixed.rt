@@ -161,10 +161,10 @@ impl<'a, A: Allocator + Clone> PrefixedSymbols<'a, A> {
         ensures aligned { OnOk result (IsAligned self.new.reader) }
     {
         let Some(size) = self.number(input.tables.sizes)? else {
-            return Err(DecodeError::Huffman(HuffmanError::UnexpectedOob));
+            return Err(HuffmanError::UnexpectedOob.into());
         };
         if size < 0 {
-            return Err(DecodeError::Overflow(OverflowError::BitmapDimension));
+            return Err(OverflowError::BitmapDimension.into());
         }
         self.reader.align();
         Ok(size as usize)
@@ -193,8 +193,7 @@ impl<'a, A: Allocator + Clone> PrefixedSymbols<'a, A> {
             alloc,
             input.header.strict,
             size,
-            width,
-            height,
+            SymbolSize { width, height },
             &mut self.reader,
             work,
         )
@@ -226,12 +225,11 @@ impl<'a, A: Allocator + Clone> PrefixedSymbols<'a, A> {
             alloc,
             input.header.strict,
             size,
-            width,
-            height,
+            SymbolSize { width, height },
             &mut self.reader,
             work,
         )?;
-        Err(DecodeError::Overflow(OverflowError::BitmapDimension))
+        Err(OverflowError::BitmapDimension.into())
     }
 
     /// Cuts the symbols of a class out of its collective bitmap, and adds them to `bitmaps`.

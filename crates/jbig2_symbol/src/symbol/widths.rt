@@ -11,7 +11,7 @@ ghost use Rattle.jbig2_symbol.specs.inner.SymbolViews.{Moved, input_view, with_t
 use crate::symbol::input::SymbolInput;
 use crate::symbol::readings::ReadSymbols;
 use jbig2_base::bitmap::steps::Work;
-use jbig2_base::error::{DecodeError, OverflowError, Result, SymbolError};
+use jbig2_base::error::{OverflowError, Result, SymbolError};
 use std::alloc::Allocator;
 use std::sync::ledger::Ledger;
 
@@ -30,7 +30,7 @@ pub fn size_moved(size: u32, difference: i32) -> Result<u32>
 {
     let moved = i64::from(size) + i64::from(difference);
     if moved < 0 || moved > 0xFFFF_FFFF {
-        return Err(DecodeError::Overflow(OverflowError::BitmapDimension));
+        return Err(OverflowError::BitmapDimension.into());
     }
     Ok(moved as u32)
 }
@@ -42,7 +42,7 @@ fn size_sum(size: u32, other: u32) -> Result<u32>
 {
     match size.checked_add(other) {
         Some(sum) => Ok(sum),
-        None => Err(DecodeError::Overflow(OverflowError::BitmapDimension)),
+        None => Err(OverflowError::BitmapDimension.into()),
     }
 }
 
@@ -80,7 +80,7 @@ impl RunningWidths {
             return Ok(None);
         };
         if self.left == 0 {
-            return Err(DecodeError::Symbol(SymbolError::TooManySymbols));
+            return Err(SymbolError::TooManySymbols.into());
         }
         let width = size_moved(self.width, difference)?;
         self.total = size_sum(self.total, width)?;

@@ -18,7 +18,7 @@ use crate::text::strips::{begin_strip, check_end, move_on, read_strip_delta, rea
 use crate::text::symbols::{InstanceSymbol, TextParams, read_symbol};
 use jbig2_base::bitmap::Bitmap;
 use jbig2_base::bitmap::steps::Work;
-use jbig2_base::error::{DecodeError, Result, SymbolError};
+use jbig2_base::error::{Result, SymbolError};
 use std::alloc::Allocator;
 use std::sync::ledger::Ledger;
 
@@ -219,7 +219,7 @@ fn draw_instances<R: ReadInstances, A: Allocator + Clone, L: Ledger>(
     ensures paid { PaidBut (number_steps 1) work.old work.new }
 {
     if is_too_many(params.num_instances, params.data_len) {
-        return Err(DecodeError::Symbol(SymbolError::TooManyInstances));
+        return Err(SymbolError::TooManyInstances.into());
     }
     let delta = read_strip_delta(readings, &params.flags, work)?;
     let strip_t = numbers::opposite(delta)?;

@@ -73,10 +73,10 @@ pub fn refined_side(side: u32, difference: i32) -> Result<u32>
     ensures { Answers (λ n. n) result (side_of (pos side +ℤ difference)) }
 {
     let Ok(refined) = u32::try_from(i64::from(side) + i64::from(difference)) else {
-        return Err(DecodeError::Overflow(OverflowError::BitmapDimension));
+        return Err(OverflowError::BitmapDimension.into());
     };
     if refined >= 0x8000_0000 {
-        return Err(DecodeError::Overflow(OverflowError::BitmapDimension));
+        return Err(OverflowError::BitmapDimension.into());
     }
     Ok(refined)
 }

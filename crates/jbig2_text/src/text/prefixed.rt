@@ -33,7 +33,7 @@ fn sized_bytes<'a>(size: i32, reader: &mut Reader<'a>) -> Result<&'a [u8]>
     ensures { Answers (λ bytes. (bytes.now, reader.new)) result (sized_bytes size reader.old) }
 {
     let Ok(size) = usize::try_from(size) else {
-        return Err(DecodeError::Parse(ParseError::UnexpectedEof));
+        return Err(ParseError::UnexpectedEof.into());
     };
     reader.align();
     bytes_field(reader, size)

@@ -14,7 +14,7 @@ use crate::text::refining::Refining;
 use crate::text::symbol_list::SymbolList;
 use jbig2_base::bitmap::Bitmap;
 use jbig2_base::bitmap::steps::Work;
-use jbig2_base::error::{DecodeError, OverflowError, Result, SymbolError};
+use jbig2_base::error::{OverflowError, Result, SymbolError};
 use jbig2_region::generic_refinement::ReferenceBitmap;
 use std::alloc::Allocator;
 use std::sync::ledger::Ledger;
@@ -86,7 +86,7 @@ pub fn check_sides(width: u32, height: u32) -> Result<()>
         Answers (λ _. blank width height false) result meant }
 {
     if width > MAX_DIMENSION || height > MAX_DIMENSION {
-        return Err(DecodeError::Overflow(OverflowError::BitmapDimension));
+        return Err(OverflowError::BitmapDimension.into());
     }
     Ok(())
 }
@@ -130,7 +130,7 @@ pub fn read_refined<R: ReadInstances, A: Allocator, L: Ledger>(
     ensures paid { PaidBut (number_steps 4) work.old work.new }
 {
     let Some(bitmap) = symbols.symbol(id) else {
-        return Err(DecodeError::Symbol(SymbolError::OutOfRange));
+        return Err(SymbolError::OutOfRange.into());
     };
     let deltas = read_deltas(readings, work)?;
     let outline = outline_of(bitmap, &deltas)?;

@@ -11,7 +11,7 @@ use crate::text::header::TextRegionFlags;
 use crate::text::numbers;
 use crate::text::readings::ReadInstances;
 use jbig2_base::bitmap::steps::Work;
-use jbig2_base::error::{DecodeError, Result, SymbolError};
+use jbig2_base::error::{Result, SymbolError};
 use std::sync::ledger::Ledger;
 
 /// Reads a difference of T, in rows.
@@ -119,7 +119,7 @@ pub fn check_end(strict: bool, delta: Result<Option<i32>>) -> Result<()>
     }
     match delta {
         Ok(None) => Ok(()),
-        Ok(Some(_)) => Err(DecodeError::Symbol(SymbolError::TooManyInstances)),
+        Ok(Some(_)) => Err(SymbolError::TooManyInstances.into()),
         Err(error) => Err(error),
     }
 }

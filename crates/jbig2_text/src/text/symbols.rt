@@ -14,7 +14,7 @@ use crate::text::refining::Refining;
 use crate::text::symbol_list::SymbolList;
 use jbig2_base::bitmap::steps::Work;
 use jbig2_base::bitmap::{Bitmap, CombinationOperator};
-use jbig2_base::error::{DecodeError, Result, SymbolError};
+use jbig2_base::error::{Result, SymbolError};
 use std::alloc::Allocator;
 use std::sync::ledger::Ledger;
 
@@ -64,7 +64,7 @@ fn plain_symbol<'a, A: Allocator>(
 {
     match params.symbols.symbol(id) {
         Some(bitmap) => Ok(Some(InstanceSymbol::Shared(bitmap))),
-        None if params.strict => Err(DecodeError::Symbol(SymbolError::OutOfRange)),
+        None if params.strict => Err(SymbolError::OutOfRange.into()),
         None => Ok(None),
     }
 }

@@ -10,7 +10,7 @@ ghost use Rattle.jbig2_text.specs.Causes.{BreaksTextTables};
 ghost use Rattle.jbig2_text.specs.declared.text.header.TextRegionHuffmanFlags.{TextRegionHuffmanFlags};
 
 use crate::text::header::TextRegionHuffmanFlags;
-use jbig2_base::error::{DecodeError, HuffmanError, Result};
+use jbig2_base::error::{HuffmanError, Result};
 use jbig2_coder::huffman_table::{HuffmanTable, StandardHuffmanTables};
 use jbig2_coder::table_selection::next_custom;
 use std::alloc::Allocator;
@@ -61,7 +61,7 @@ fn one_of_two<'a, A: Allocator>(
         0 => Ok((first, customs)),
         1 => Ok((second, customs)),
         3 => next_custom(customs),
-        _ => Err(DecodeError::Huffman(HuffmanError::InvalidSelection)),
+        _ => Err(HuffmanError::InvalidSelection.into()),
     }
 }
 

@@ -10,11 +10,11 @@ returns-in_err-decode-clause-paid g c =
     let b = c.in_ok-bitmap.bitmap in
     let within = decode-paid c.decode.result b c.decode.new.bitmap c.args.strict c.in_ok-bytes.bytes.now c.pay_bitmap.new.self.steps c.decode.new.steps c.decode.ensures.value c.decode.ensures.lanes c.decode.ensures.work in
     let more = counts-worth c.pay_bitmap.new.self c.decode.new.steps _ within in
-    omega (arith, more, c.in_ok-pay.ensures.taken, c.in_ok-pay_bitmap.ensures.taken, bytes-many c.args.size c.args.reader.now.bytes c.in_ok-bytes.bytes.now _ c.in_ok-bytes.ensures.parses.value, price-same b.width c.args.width b.height c.args.height (search rules) (search rules))
+    omega (arith, more, c.in_ok-pay.ensures.taken, c.in_ok-pay_bitmap.ensures.taken, bytes-many c.args.size c.args.reader.now.bytes c.in_ok-bytes.bytes.now _ c.in_ok-bytes.ensures.parses.value, price-same b.width c.args.sides.width b.height c.args.sides.height (search rules) (search rules))
 
 pub returns-clause-paid : goal.returns-clause-paid
 returns-clause-paid g c =
     let b = c.in_ok-bitmap.bitmap in
     let within = decode-paid c.decode.result b c.decode.new.bitmap c.args.strict c.in_ok-bytes.bytes.now c.pay_bitmap.new.self.steps c.decode.new.steps c.decode.ensures.value c.decode.ensures.lanes c.decode.ensures.work in
     let more = counts-worth c.pay_bitmap.new.self c.decode.new.steps _ within in
-    omega (arith, more, c.in_ok-pay.ensures.taken, c.in_ok-pay_bitmap.ensures.taken, bytes-many c.args.size c.args.reader.now.bytes c.in_ok-bytes.bytes.now _ c.in_ok-bytes.ensures.parses.value, price-same b.width c.args.width b.height c.args.height (search rules) (search rules))
+    omega (arith, more, c.in_ok-pay.ensures.taken, c.in_ok-pay_bitmap.ensures.taken, bytes-many c.args.size c.args.reader.now.bytes c.in_ok-bytes.bytes.now _ c.in_ok-bytes.ensures.parses.value, price-same b.width c.args.sides.width b.height c.args.sides.height (search rules) (search rules))
