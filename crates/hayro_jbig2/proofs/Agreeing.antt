@@ -1,7 +1,7 @@
 -- Where strict reading accepts, lenient reading gives the same: how definitions are put together.
 use Rattle.std.proofs.Common.{◌≡◌, Bool, true, false, cond, Option, Some, None, Result, Ok, Err, refl, sym, subst}
 use Rattle.std.specs.Prelude.{IfOk}
-use Rattle.jbig2_base.specs.Answer.{◌>>=◌, refuse_if}
+use Rattle.jbig2_base.specs.Results.{◌>>=◌, refuse_if}
 use Rattle.jbig2_base.specs.declared.error.DecodeError.{DecodeError}
 
 -- What the strict answer gives, seen by view, the lenient one gives.

@@ -3,7 +3,7 @@ use Rattle.std.proofs.Common.{◌≡◌, ℕ, eqb, Bool, true, false, cond, not,
 use Rattle.std.specs.Int.{w32}
 use Rattle.std.specs.Option.{option_map_or}
 use Rattle.std.specs.Prelude.{is_none, nat_le, option_map, slice_get}
-use Rattle.jbig2_base.specs.Answer.{◌>>=◌, refuse_if, some_or}
+use Rattle.jbig2_base.specs.Results.{◌>>=◌, refuse_if, some_or}
 use Rattle.jbig2_base.specs.Fields.{number_at}
 use Rattle.jbig2_base.specs.File.{file_at}
 use Rattle.jbig2_base.specs.Grid.{Grid}
@@ -28,10 +28,10 @@ use Rattle.jbig2_region.specs.RegionInfo.{PlacedRegion}
 use Rattle.jbig2_symbol.specs.SymbolHeader.{SymbolHeader, symbol_header_at}
 use Rattle.jbig2_symbol.specs.Symbols.{Symbols}
 use Rattle.jbig2_text.specs.TextHeader.{TextHeader, text_header_at}
-use Rattle.hayro_jbig2.specs.Files.{PageInFile, ReadFile, associated, book_at, by_pages, ends_of, filed_before, filed_each, filed_from, lacks_page, left_out_of, miscounts, of_page, page_in, page_of, shared_by}
+use Rattle.hayro_jbig2.specs.Files.{PageInFile, ReadFile, associated, book_at, by_pages, ends_of, before_pages, pages_in_file, page_in_file, lacks_page, left_out_of, miscounts, of_page, page_in, page_of, shared_by}
 use Rattle.hayro_jbig2.specs.Lenient.{LenientReadingAgrees, ReadingsAgree, SalvageAgrees}
-use Rattle.hayro_jbig2.specs.Names.{Names, Referred, Shared, nothing_shared, or_shared_without, extension, first_named, kept_by, named, no_names, pattern_dictionary_at, referred_by, symbol_dictionary_at, with_code, with_dictionary, with_number, with_numbers, with_patterns, with_symbols, with_table, globals_at, named_from}
-use Rattle.hayro_jbig2.specs.Page.{Drawing, ReadPage, beginning_of, drawing_of_page, embedded, ends_page, immediate, intermediate, keeping, or_left_out, or_passed_over, page_begun, region_at, regions_height, segment_by, segment_on, segments_drawn, shown, told_height}
+use Rattle.hayro_jbig2.specs.Names.{Names, Referred, Shared, nothing_shared, or_shared_without, extension, first_kept, kept_by, kept_of, no_names, pattern_dictionary_at, referred_by, symbol_dictionary_at, with_code, with_dictionary, with_number, with_numbers, with_patterns, with_symbols, with_table, globals_at, shared_from}
+use Rattle.hayro_jbig2.specs.Page.{Drawing, ReadPage, beginning_of, drawing_of_page, embedded, ends_page, immediate, intermediate, with_names, or_left_out, or_passed_over, blank_page, region_at, regions_height, segment_by, segment_on, segments_drawn, shown, known_height}
 use Rattle.hayro_jbig2.specs.Regions.{generic_at, halftone_at, patterns_for, referred_region, refinement_at, text_at}
 use Rattle.hayro_jbig2.specs.declared.kept.Kept.{Kept}
 use Rattle.hayro_jbig2.specs.declared.region.RegionKind.{RegionKind}
@@ -55,7 +55,7 @@ either-same None code r = table-same code r
 numbers-same : (own shared : Names) (numbers : List ℕ) (r : Referred) → Same (with_numbers true own shared numbers r) (with_numbers false own shared numbers r)
 numbers-same own shared [] r = refl
 numbers-same own shared (number ∷ numbers) r =
-    same-next (with_number true own shared number r) (with_number false own shared number r) _ _ (either-same (named number own.symbols shared.symbols) (named number own.codes shared.codes) r) (λ more. numbers-same own shared numbers more)
+    same-next (with_number true own shared number r) (with_number false own shared number r) _ _ (either-same (kept_of number own.symbols shared.symbols) (kept_of number own.codes shared.codes) r) (λ more. numbers-same own shared numbers more)
 
 referred-same : (own shared : Names) (numbers : List ℕ) → Same (referred_by true own shared numbers) (referred_by false own shared numbers)
 referred-same own shared numbers = numbers-same own shared numbers (record { symbols = []; codes = []; kept = None })
@@ -100,7 +100,7 @@ without-same : (number : ℕ) (shared : Shared) (r s : Result Names DecodeError)
 without-same number shared (Ok names) s same = ap (λ (t : Result Names DecodeError). or_shared_without Lenient number shared t) same
 without-same number shared (Err e) s same = tt
 
-named-same : (ps : List SegmentView) (shared : Shared) → Same (named_from Strict ps shared) (named_from Lenient ps shared)
+named-same : (ps : List SegmentView) (shared : Shared) → Same (shared_from Strict ps shared) (shared_from Lenient ps shared)
 named-same [] shared = refl
 named-same (p ∷ ps) shared =
     let kept : Result Names DecodeError = kept_by true no_names p shared.names in
@@ -113,7 +113,7 @@ without-salvaged : (number : ℕ) (shared : Shared) (r : Result Names DecodeErro
 without-salvaged number shared (Ok names) = refl
 without-salvaged number shared (Err e) = tt
 
-named-salvaged : (ps : List SegmentView) (shared : Shared) → Same (named_from Lenient ps shared) (named_from Salvage ps shared)
+named-salvaged : (ps : List SegmentView) (shared : Shared) → Same (shared_from Lenient ps shared) (shared_from Salvage ps shared)
 named-salvaged [] shared = refl
 named-salvaged (p ∷ ps) shared =
     let kept : Result Names DecodeError = kept_by false no_names p shared.names in
@@ -144,7 +144,7 @@ generic_at-same is_intermediate p =
 referred_region-same : (numbers : List ℕ) (regions : List (Kept PlacedRegion)) → Same (referred_region true numbers regions) (referred_region false numbers regions)
 referred_region-same [] regions = refl
 referred_region-same (number ∷ others) regions =
-    same-next (refuse_if (is_none (first_named number regions)) (Segment InvalidReference)) (Ok tt) _ _ (same-refusal (is_none (first_named number regions)) (Segment InvalidReference)) (λ known. refl)
+    same-next (refuse_if (is_none (first_kept number regions)) (Segment InvalidReference)) (Ok tt) _ _ (same-refusal (is_none (first_kept number regions)) (Segment InvalidReference)) (λ known. refl)
 
 refinement_at-same : (is_intermediate : Bool) (page : Grid) (regions : List (Kept PlacedRegion)) (p : SegmentView) → Same (refinement_at true is_intermediate page regions p) (refinement_at false is_intermediate page regions p)
 unfolding refinement_at
@@ -173,7 +173,7 @@ intermediate-same : (globals : Names) (kind : RegionKind) (p : SegmentView) (d :
 unfolding intermediate
 intermediate-same globals kind p d = same-next (region_at true globals kind true p d) (region_at false globals kind true p d) _ _ (region-same globals kind true p d) (λ r. refl)
 
-keeping-same : (globals : Names) (kind : SegmentType) (h : Header) (bytes : List ℕ) (d : Drawing) → Same (keeping d (kept_by true globals (of_type kind h bytes) d.names)) (keeping d (kept_by false globals (of_type kind h bytes) d.names))
+keeping-same : (globals : Names) (kind : SegmentType) (h : Header) (bytes : List ℕ) (d : Drawing) → Same (with_names d (kept_by true globals (of_type kind h bytes) d.names)) (with_names d (kept_by false globals (of_type kind h bytes) d.names))
 keeping-same globals kind h bytes d = same-next (kept_by true globals (of_type kind h bytes) d.names) (kept_by false globals (of_type kind h bytes) d.names) _ _ (kept-same globals kind h bytes d.names) (λ names. refl)
 
 typed-same : (globals : Names) (kind : SegmentType) (h : Header) (bytes : List ℕ) (d : Drawing) → Same (segment_by true globals (of_type kind h bytes) d) (segment_by false globals (of_type kind h bytes) d)
@@ -230,7 +230,7 @@ beginning-salvaged : (ps : List SegmentView) → Same (beginning_of Lenient ps) 
 unfolding beginning_of
 beginning-salvaged ps =
     same-then (first_information ps) _ _ (λ first. same-then (information_at first.bytes) _ _ (λ info.
-    same-next (height_of info.0.height (stripes_height ps)) (height_of info.0.height (told_height Salvage ps)) _ _ (height-salvaged info.0.height (stripes_height ps) (regions_height ps)) (λ height. same-itself _)))
+    same-next (height_of info.0.height (stripes_height ps)) (height_of info.0.height (known_height Salvage ps)) _ _ (height-salvaged info.0.height (stripes_height ps) (regions_height ps)) (λ height. same-itself _)))
 
 -- ---- associations
 associated-same : (ps : List SegmentView) → Same (associated true ps) (associated false ps)
@@ -241,7 +241,7 @@ associated-same (p ∷ ps) = same-guard (lacks_page true p.header) (Segment Miss
 record Milder (one other : Reading) : Type 0 where
   lists : (bytes : List ℕ) → Same (sequential one bytes) (sequential other bytes)
   files : (bytes : List ℕ) → Same (file_at one bytes) (file_at other bytes)
-  named : (ps : List SegmentView) (shared : Shared) → Same (named_from one ps shared) (named_from other ps shared)
+  kept_of : (ps : List SegmentView) (shared : Shared) → Same (shared_from one ps shared) (shared_from other ps shared)
   drawn : (globals : Names) (ps : List SegmentView) (d : Drawing) → Same (segments_drawn one globals ps d) (segments_drawn other globals ps d)
   begins : (ps : List SegmentView) → Same (beginning_of one ps) (beginning_of other ps)
   strictly : (b : Bool) (e : DecodeError) → Same (refuse_if (is_strict one && b) e) (refuse_if (is_strict other && b) e)
@@ -274,27 +274,27 @@ page-relates one other m names bytes =
 page-same : (one other : Reading) → Milder one other → (page twin : ReadPage) → SamePage one other page twin → Same (drawing_of_page page) (drawing_of_page twin)
 page-same one other m page twin same =
     rw (same.first, same.second, same.begun, same.segments)
-    (same-next page.globals twin.globals (λ names. segments_drawn one names page.segments (page_begun page.initial_page)) (λ names. segments_drawn other names page.segments (page_begun page.initial_page)) same.globals (λ names. m.drawn names page.segments (page_begun page.initial_page)))
+    (same-next page.globals twin.globals (λ names. segments_drawn one names page.segments (blank_page page.initial_page)) (λ names. segments_drawn other names page.segments (blank_page page.initial_page)) same.globals (λ names. m.drawn names page.segments (blank_page page.initial_page)))
 
 -- ---- files
-filed-same : (one other : Reading) → Milder one other → (own : List SegmentView) → Same (filed_from one own) (filed_from other own)
-unfolding filed_from
+filed-same : (one other : Reading) → Milder one other → (own : List SegmentView) → Same (page_in_file one own) (page_in_file other own)
+unfolding page_in_file
 filed-same one other m own =
     same-next (refuse_if (is_strict one && not (eqb (ends_of own) 1)) (Format InvalidEndOfPage)) (refuse_if (is_strict other && not (eqb (ends_of own) 1)) (Format InvalidEndOfPage)) _ _ (m.strictly (not (eqb (ends_of own) 1)) (Format InvalidEndOfPage)) (λ ended.
     same-next (beginning_of one own) (beginning_of other own) _ _ (m.begins own) (λ begun. refl))
 
-before-same : (one other : Reading) → Milder one other → (r s : Result PageInFile DecodeError) (others more : Result (List PageInFile) DecodeError) → Same r s → Same others more → Same (filed_before one r others) (filed_before other s more)
+before-same : (one other : Reading) → Milder one other → (r s : Result PageInFile DecodeError) (others more : Result (List PageInFile) DecodeError) → Same r s → Same others more → Same (before_pages one r others) (before_pages other s more)
 before-same one other m (Ok page) s others more first rest =
-    subst (λ (t : Result PageInFile DecodeError). Same (filed_before one (Ok page) others) (filed_before other t more)) (sym first) (same-next others more _ _ rest (λ pages. refl))
+    subst (λ (t : Result PageInFile DecodeError). Same (before_pages one (Ok page) others) (before_pages other t more)) (sym first) (same-next others more _ _ rest (λ pages. refl))
 before-same one other m (Err e) s others more first rest = rw (m.refusals e) tt
 
-each-same : (one other : Reading) → Milder one other → (all : List (List SegmentView)) → Same (filed_each one all) (filed_each other all)
+each-same : (one other : Reading) → Milder one other → (all : List (List SegmentView)) → Same (pages_in_file one all) (pages_in_file other all)
 each-same one other m [] = refl
-each-same one other m (own ∷ others) = before-same one other m (filed_from one own) (filed_from other own) (filed_each one others) (filed_each other others) (filed-same one other m own) (each-same one other m others)
+each-same one other m (own ∷ others) = before-same one other m (page_in_file one own) (page_in_file other own) (pages_in_file one others) (pages_in_file other others) (filed-same one other m own) (each-same one other m others)
 
 shared-same : (one other : Reading) → Milder one other → (pages : List PageInFile) (shared : List SegmentView) → Same (shared_by one pages shared) (shared_by other pages shared)
 shared-same one other m [] shared = refl
-shared-same one other m (page ∷ pages) shared = m.named shared (nothing_shared None)
+shared-same one other m (page ∷ pages) shared = m.kept_of shared (nothing_shared None)
 
 -- a file, and the same in the other reading
 record SameFile (one other : Reading) (book twin : ReadFile) : Type 0 where
@@ -309,7 +309,7 @@ book-relates one other m bytes =
     relates-next (SameFile one other) (file_at one bytes) (file_at other bytes) _ _ (m.files bytes) (λ file.
     relates-next (SameFile one other) (associated (is_strict one) file.1) (associated (is_strict other) file.1) _ _ (m.associations file.1) (λ known.
     relates-next (SameFile one other) (refuse_if (is_strict one && miscounts file.0.number_of_pages (length (by_pages file.1))) (Format PageCountMismatch)) (refuse_if (is_strict other && miscounts file.0.number_of_pages (length (by_pages file.1))) (Format PageCountMismatch)) _ _ (m.strictly (miscounts file.0.number_of_pages (length (by_pages file.1))) (Format PageCountMismatch)) (λ counted.
-    relates-next (SameFile one other) (filed_each one (by_pages file.1)) (filed_each other (by_pages file.1)) _ _ (each-same one other m (by_pages file.1)) (λ pages. (
+    relates-next (SameFile one other) (pages_in_file one (by_pages file.1)) (pages_in_file other (by_pages file.1)) _ _ (each-same one other m (by_pages file.1)) (λ pages. (
       record { reading = other; pages = pages; globals = shared_by other pages (of_page 0 file.1); left_out = left_out_of other (by_pages file.1); fault = fault_of other (file_at Lenient bytes) },
       refl,
       record { first = refl; second = refl; pages = refl; globals = shared-same one other m pages (of_page 0 file.1) },
@@ -336,7 +336,7 @@ strict-lenient : Milder Strict Lenient
 strict-lenient = record {
   lists = sequential-same;
   files = file-same;
-  named = named-same;
+  kept_of = named-same;
   drawn = drawn-same;
   begins = beginning-same;
   strictly = λ b e. same-refusal b e;
@@ -348,7 +348,7 @@ lenient-salvage : Milder Lenient Salvage
 lenient-salvage = record {
   lists = sequential-salvaged;
   files = file-salvaged;
-  named = named-salvaged;
+  kept_of = named-salvaged;
   drawn = drawn-salvaged;
   begins = beginning-salvaged;
   strictly = λ b e. refl;
@@ -364,9 +364,9 @@ globals-salvaged : (bytes : List ℕ) → Same (globals_at Lenient bytes) (globa
 unfolding globals_at
 globals-salvaged bytes = by (sequential Lenient bytes) (sequential Salvage bytes) (sequential-salvaged bytes)
   where
-    by : (r s : Result (List SegmentView) DecodeError) → Same r s → Same ((r >>= λ ps. Ok (by_number ps)) >>= λ ps. named_from Lenient ps (nothing_shared None)) ((s >>= λ ps. Ok (by_number ps)) >>= λ ps. named_from Salvage ps (nothing_shared (fault_of Salvage r)))
+    by : (r s : Result (List SegmentView) DecodeError) → Same r s → Same ((r >>= λ ps. Ok (by_number ps)) >>= λ ps. shared_from Lenient ps (nothing_shared None)) ((s >>= λ ps. Ok (by_number ps)) >>= λ ps. shared_from Salvage ps (nothing_shared (fault_of Salvage r)))
     by (Ok ps) s first =
-        subst (λ (t : Result (List SegmentView) DecodeError). Same (named_from Lenient (by_number ps) (nothing_shared None)) ((t >>= λ qs. Ok (by_number qs)) >>= λ qs. named_from Salvage qs (nothing_shared None))) (sym first) (named-salvaged (by_number ps) (nothing_shared None))
+        subst (λ (t : Result (List SegmentView) DecodeError). Same (shared_from Lenient (by_number ps) (nothing_shared None)) ((t >>= λ qs. Ok (by_number qs)) >>= λ qs. shared_from Salvage qs (nothing_shared None))) (sym first) (named-salvaged (by_number ps) (nothing_shared None))
     by (Err e) s first = tt
 
 agree : (one other : Reading) → Milder one other → ((bytes : List ℕ) → Same (globals_at one bytes) (globals_at other bytes)) → ReadingsAgree one other

@@ -2,19 +2,19 @@
 use Rattle.std.proofs.Common.{◌≡◌, ℕ, zero, suc, ◌+◌, ◌-◌, Bool, true, false, not, ◌&&◌, ◌||◌, nat_lt, List, [], ◌∷◌, length, map, slice_index_or, Result, Ok, refl, ap}
 use Rattle.std.specs.Int.{w8, w16, w32}
 use Rattle.std.specs.List.{range_with_len}
-use Rattle.jbig2_base.specs.Answer.{refuse_if}
+use Rattle.jbig2_base.specs.Results.{refuse_if}
 use Rattle.jbig2_base.specs.Fields.{number_at}
 use Rattle.jbig2_base.specs.Grid.{Grid, blank}
 use Rattle.jbig2_base.specs.declared.error.DecodeError.{DecodeError}
 use Rattle.jbig2_base.specs.declared.error.DecodeError.TheVariants.{Overflow}
 use Rattle.jbig2_base.specs.declared.error.OverflowError.TheVariants.{BitmapDimension}
 use Rattle.jbig2_halftone.specs.GrayScale.{GrayScale, after_planes, gray_scale_image, image_is_too_large, mmr_plane, mmr_planes, nominal_pixels, planes_of}
-use Rattle.jbig2_halftone.specs.Halftone.{cells_drawn, gray_params, halftone_answer, halftone_decoded, pattern_for, with_cell}
+use Rattle.jbig2_halftone.specs.Halftone.{cells_drawn, gray_params, halftone_result, halftone_decoded, pattern_for, with_cell}
 use Rattle.jbig2_halftone.specs.HalftoneHeader.{HalftoneHeader, halftone_flags_at, halftone_grid_at, halftone_header_at}
 use Rattle.jbig2_halftone.specs.PatternHeader.{PatternHeader, pattern_header_at, side_at}
 use Rattle.jbig2_halftone.specs.Patterns.{Patterns, collective_header, collective_width, patterns_decoded}
 use Rattle.jbig2_mmr.specs.T6.{mmr_rows, rows_of}
-use Rattle.jbig2_region.specs.Generic.{generic_answer, generic_decoded, generic_grid, generic_region, skipping_coding}
+use Rattle.jbig2_region.specs.Generic.{generic_result, generic_decoded, generic_grid, generic_region, skipping_coding}
 use Rattle.jbig2_region.specs.GenericHeader.{GenericHeader, generic_header_at, rows_at}
 use Rattle.jbig2_region.specs.Raster.{Region, decoded_region, no_pixels, so_far}
 use Rattle.jbig2_region.specs.RegionInfo.{region_info_at}
@@ -44,14 +44,14 @@ unread : (h : GenericHeader) → generic_grid (lenient_generic h) ≡ generic_gr
 unfolding generic_grid generic_region
 unread h = refl
 
-pub generic-answer-same : (h : GenericHeader) → Same (generic_answer h) (generic_answer (lenient_generic h))
-generic-answer-same h =
+pub generic-result-same : (h : GenericHeader) → Same (generic_result h) (generic_result (lenient_generic h))
+generic-result-same h =
     same-if h.mmr _ _ (Ok (generic_grid h)) (Ok (generic_grid (lenient_generic h)))
     (same-next (mmr_rows h.strict h.region_info.width h.region_info.height h.bytes) (mmr_rows false h.region_info.width h.region_info.height h.bytes) _ _ (mmr-same h.strict h.region_info.width h.region_info.height h.bytes) (λ rows. refl))
     (ap (λ (g : Grid). let r : Result Grid DecodeError = Ok g in r) (unread h))
 
 pub generic-same : (h : GenericHeader) → Same (generic_decoded h) (generic_decoded (lenient_generic h))
-generic-same h = same-next (generic_answer h) (generic_answer (lenient_generic h)) _ _ (generic-answer-same h) (λ g. refl)
+generic-same h = same-next (generic_result h) (generic_result (lenient_generic h)) _ _ (generic-result-same h) (λ g. refl)
 
 -- ---- pattern dictionaries
 abbrev pub lenient_pattern : PatternHeader → PatternHeader
@@ -68,7 +68,7 @@ pub patterns-same : (h : PatternHeader) → Same (patterns_decoded h) (patterns_
 unfolding patterns_decoded
 patterns-same h =
     same-then (refuse_if (nat_lt 65535 (collective_width h)) _) _ _ (λ fits.
-    same-next (generic_answer (collective_header h)) (generic_answer (collective_header (lenient_pattern h))) _ _ (generic-answer-same (collective_header h)) (λ g. refl))
+    same-next (generic_result (collective_header h)) (generic_result (collective_header (lenient_pattern h))) _ _ (generic-result-same (collective_header h)) (λ g. refl))
 
 -- ---- gray-scale images
 abbrev pub lenient_gray : GrayScale → GrayScale
@@ -127,13 +127,13 @@ cells-same h d k [] region = refl
 cells-same h d k (value ∷ values) region =
     same-next (pattern_for h.strict d.grids value) (pattern_for false d.grids value) _ _ (pattern-same h.strict d.grids value) (λ pattern. cells-same h d (k + 1) values (with_cell h k pattern region))
 
-halftone-answer-same : (h : HalftoneHeader) (d : Patterns) → Same (halftone_answer h d) (halftone_answer (lenient_halftone h) d)
-unfolding halftone_answer
-halftone-answer-same h d =
+halftone-result-same : (h : HalftoneHeader) (d : Patterns) → Same (halftone_result h d) (halftone_result (lenient_halftone h) d)
+unfolding halftone_result
+halftone-result-same h d =
     same-next (gray_scale_image (gray_params h d) h.bytes) (gray_scale_image (gray_params (lenient_halftone h) d) h.bytes) _ _ (gray-same (gray_params h d) h.bytes) (λ values.
     cells-same h d 0 values (blank h.region_info.width h.region_info.height h.flags.initial_pixel_color))
 
 pub halftone-same : (h : HalftoneHeader) (d : Patterns) → Same (halftone_decoded h d) (halftone_decoded (lenient_halftone h) d)
 unfolding halftone_decoded
 halftone-same h d =
-    same-then (refuse_if (nat_lt 65535 h.region_info.width || nat_lt 65535 h.region_info.height) (Overflow BitmapDimension)) _ _ (λ fits. same-next (halftone_answer h d) (halftone_answer (lenient_halftone h) d) _ _ (halftone-answer-same h d) (λ grid. refl))
+    same-then (refuse_if (nat_lt 65535 h.region_info.width || nat_lt 65535 h.region_info.height) (Overflow BitmapDimension)) _ _ (λ fits. same-next (halftone_result h d) (halftone_result (lenient_halftone h) d) _ _ (halftone-result-same h d) (λ grid. refl))

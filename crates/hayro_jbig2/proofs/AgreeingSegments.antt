@@ -1,7 +1,7 @@
 -- Where strict reading accepts, lenient reading gives the same, and where that accepts, salvage does: segments and files.
 use Rattle.std.proofs.Common.{◌≡◌, ℕ, zero, suc, ◌/◌, ◌%◌, eqb, Bool, true, false, not, cond, List, [], ◌∷◌, length, Some, None, Result, Ok, Err, refl, sym, subst}
 use Rattle.std.specs.Int.{w8, w32}
-use Rattle.jbig2_base.specs.Answer.{◌>>=◌, refuse_if}
+use Rattle.jbig2_base.specs.Results.{◌>>=◌, refuse_if}
 use Rattle.jbig2_base.specs.File.{file_at, gathered, gathered_before, header_goes_on, headers_in, segments_by, file_header_at}
 use Rattle.jbig2_base.specs.Fields.{number_at}
 use Rattle.jbig2_base.specs.Segment.{Header, SegmentView, header_at, is_immediate_generic, is_reserved, length_of, referred_at, segment_at, segment_data_at, type_of}

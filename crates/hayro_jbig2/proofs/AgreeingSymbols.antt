@@ -1,7 +1,7 @@
 -- Where strict reading accepts, lenient reading gives the same: symbol dictionaries.
 use Rattle.std.proofs.Common.{◌≡◌, ℕ, zero, suc, ◌+◌, ◌-◌, eqb, nat_le, nat_lt, Bool, true, false, not, ◌||◌, ℤ, pos, ◌+ℤ◌, List, [], ◌∷◌, ◌++◌, length, sum, Option, Result, Ok, refl, sym}
 use Rattle.std.specs.Int.{w16, w32}
-use Rattle.jbig2_base.specs.Answer.{◌>>=◌, refuse_if}
+use Rattle.jbig2_base.specs.Results.{◌>>=◌, refuse_if}
 use Rattle.jbig2_base.specs.Bits.{Place}
 use Rattle.jbig2_base.specs.Fields.{bytes_at, number_at}
 use Rattle.jbig2_base.specs.Grid.{Grid, bit_number, blank, wide_or_overflow}
@@ -14,7 +14,7 @@ use Rattle.jbig2_coder.specs.PrefixCode.{Member}
 use Rattle.jbig2_mmr.specs.T6.{mmr_rows}
 use Rattle.jbig2_symbol.specs.HeightClasses.{classes_from, drawn_class, empty_class, height_class, new_symbols, next_width, size_in_word, symbols_from, widths_from}
 use Rattle.jbig2_symbol.specs.SymbolBitmaps.{aggregate_params, by_instances, coded_aggregate, coded_instances, coded_symbol, collective_bitmap, fits_symbol, id_codes, instance_count, mmr_bytes, plain_id, prefixed_aggregate, prefixed_at, prefixed_instances, put_together, raw_rows, refined_alone, rows_of_size, symbols_cut}
-use Rattle.jbig2_symbol.specs.SymbolCoding.{classes_by_coder, classes_by_prefix_codes, coded_bitmap, coder_begun, collective_class, prefix_codes_begun, symbols_by_coder, symbols_by_prefix_codes}
+use Rattle.jbig2_symbol.specs.SymbolCoding.{classes_by_coder, classes_by_prefix_codes, coded_bitmap, coder_start, collective_class, prefix_codes_start, symbols_by_coder, symbols_by_prefix_codes}
 use Rattle.jbig2_symbol.specs.SymbolHeader.{SymbolHeader, coded_pixels_at, refined_pixels_at, symbol_flags_of, symbol_header_at}
 use Rattle.jbig2_symbol.specs.SymbolReading.{BitmapContexts, ClassReadings, SymbolInput, SymbolReadings, SymbolState, by_procedure, by_table, first_contexts, not_negative, symbol_tables}
 use Rattle.jbig2_symbol.specs.Symbols.{dictionary_by, dictionary_from, exported, exports, export_runs, next_run, runs_from, symbols_decoded, symbols_exported}
@@ -214,8 +214,8 @@ by-prefix-codes-alike d = record {
 from-same : (d : SymbolInput) (contexts : BitmapContexts) → Same (dictionary_from d contexts) (dictionary_from (leniently d) contexts)
 from-same d contexts =
     same-if d.header.flags.use_huffman _ _ _ _
-    (dictionary-same classes_by_prefix_codes d (by-prefix-codes-alike d) (prefix_codes_begun d contexts))
-    (dictionary-same classes_by_coder d (by-coder-alike d) (coder_begun d contexts))
+    (dictionary-same classes_by_prefix_codes d (by-prefix-codes-alike d) (prefix_codes_start d contexts))
+    (dictionary-same classes_by_coder d (by-coder-alike d) (coder_start d contexts))
 
 pub symbols-decoded-same : (h : SymbolHeader) (symbols : List Grid) (referred : List (List Member)) (kept : Option BitmapContexts) → Same (symbols_decoded h symbols referred kept) (symbols_decoded (lenient_symbols h) symbols referred kept)
 unfolding symbols_decoded

@@ -1,7 +1,7 @@
 -- Where strict reading accepts, lenient reading gives the same: text regions.
 use Rattle.std.proofs.Common.{ℕ, zero, suc, ◌-◌, ◌*◌, eqb, Bool, true, false, ◌||◌, nat_lt, cond, ℤ, pos, ◌-ℤ◌, ◌+ℤ◌, List, [], Option, Some, None, Result, Ok, Err, refl}
 use Rattle.std.specs.Option.{is_some}
-use Rattle.jbig2_base.specs.Answer.{◌>>=◌, refuse_if}
+use Rattle.jbig2_base.specs.Results.{◌>>=◌, refuse_if}
 use Rattle.jbig2_base.specs.Grid.{Grid, blank}
 use Rattle.jbig2_base.specs.declared.error.DecodeError.{DecodeError}
 use Rattle.jbig2_base.specs.declared.error.DecodeError.TheVariants.{Overflow, Symbol}
@@ -10,10 +10,10 @@ use Rattle.jbig2_base.specs.declared.error.SymbolError.TheVariants.{OutOfRange, 
 use Rattle.jbig2_coder.specs.PrefixCode.{Member}
 use Rattle.jbig2_region.specs.RegionInfo.{region_info_at}
 use Rattle.jbig2_text.specs.Refining.{Refining}
-use Rattle.jbig2_text.specs.Text.{Reached, Readings, TextParams, after_instances, coordinate, cursor_moved, instance_symbol, plain_symbol, refined_symbol, strip_begun, strip_delta, symbol_of, t_in_strip, text_region, with_instance, with_symbol}
+use Rattle.jbig2_text.specs.Text.{Reached, Readings, TextParams, after_instances, coordinate, next_cursor, instance_symbol, plain_symbol, refined_symbol, strip_start, strip_delta, symbol_of, t_in_strip, text_region, with_instance, with_symbol}
 use Rattle.jbig2_text.specs.TextCoding.{by_coder, by_prefix_codes}
 use Rattle.jbig2_text.specs.TextHeader.{NumberCoding, TextHeader, ArithmeticCoding, HuffmanCoding, coding_at, text_fields_at, text_header_at}
-use Rattle.jbig2_text.specs.TextRegion.{coder_of, prefix_codes_of, refining_of, region_by, region_from, text_answer, text_decoded, text_params}
+use Rattle.jbig2_text.specs.TextRegion.{coder_of, prefix_codes_of, refining_of, region_by, region_from, text_result, text_decoded, text_params}
 use Rattle.hayro_jbig2.proofs.Agreeing.{Agrees, Same, agrees-then, same-if, same-itself, same-next, same-refusal, same-then, same-unless}
 
 abbrev pub lenient_params : TextParams → TextParams
@@ -43,7 +43,7 @@ unfolding after_instances
 after-instances-same r p zero x = refl
 after-instances-same r p (suc n) x =
     same-next (with_instance r p x) (with_instance r (lenient_params p) x) _ _ (with-instance-same r p x) (λ y.
-    same-then (cursor_moved r p.flags y.cursor y.state) _ _ (λ c. after-instances-same r p n (record y { cursor = c.0; state = c.1 })))
+    same-then (next_cursor r p.flags y.cursor y.state) _ _ (λ c. after-instances-same r p n (record y { cursor = c.0; state = c.1 })))
 
 -- the last delta of a strip is judged in strict mode alone
 ends-same : (strict : Bool) (delta : Result (Option ℤ) DecodeError) → Same (cond strict (delta >>= λ ids. refuse_if (is_some ids) (Symbol TooManyInstances)) (Ok tt)) (Ok tt)
@@ -56,7 +56,7 @@ unfolding text_region
 text-region-same r p region f s =
     same-then (refuse_if (nat_lt (32 * p.data_length) p.count) (Symbol TooManyInstances)) _ _ (λ few. same-then (strip_delta r p.flags s) _ _ (λ dt.
     same-then (coordinate (pos 0 -ℤ dt.0)) _ _ (λ stript. same-if (eqb p.count 0) (Ok (region, f, dt.1)) (Ok (region, f, dt.1)) _ _ refl
-    (same-then (strip_begun r p.flags stript (pos 0) dt.1) _ _ (λ c.
+    (same-then (strip_start r p.flags stript (pos 0) dt.1) _ _ (λ c.
     same-next (after_instances r p (p.count - 1) (record { region = region; cursor = c.0; refining = f; state = c.1 })) (after_instances r (lenient_params p) (p.count - 1) (record { region = region; cursor = c.0; refining = f; state = c.1 })) _ _
     (after-instances-same r p (p.count - 1) (record { region = region; cursor = c.0; refining = f; state = c.1 })) (λ x.
     same-next (with_instance r p x) (with_instance r (lenient_params p) x) _ _ (with-instance-same r p x) (λ last.
@@ -82,12 +82,12 @@ by-same h ArithmeticCoding symbols customs region = from-same by_coder h symbols
 by-same h (HuffmanCoding numbers ids) symbols customs region =
     same-then (prefix_codes_of h numbers ids customs) _ _ (λ s. from-same by_prefix_codes h symbols region s)
 
-answer-same : (h : TextHeader) (symbols : List Grid) (customs : List (List Member)) → Same (text_answer h symbols customs) (text_answer (lenient_text h) symbols customs)
-unfolding text_answer
-answer-same h symbols customs = by-same h h.coding symbols customs (blank h.region_info.width h.region_info.height h.flags.default_pixel)
+result-same : (h : TextHeader) (symbols : List Grid) (customs : List (List Member)) → Same (text_result h symbols customs) (text_result (lenient_text h) symbols customs)
+unfolding text_result
+result-same h symbols customs = by-same h h.coding symbols customs (blank h.region_info.width h.region_info.height h.flags.default_pixel)
 
 pub text-same : (h : TextHeader) (symbols : List Grid) (customs : List (List Member)) → Same (text_decoded h symbols customs) (text_decoded (lenient_text h) symbols customs)
 unfolding text_decoded
 text-same h symbols customs =
     same-then (refuse_if (nat_lt 65535 h.region_info.width || nat_lt 65535 h.region_info.height) (Overflow BitmapDimension)) _ _ (λ fits.
-    same-next (text_answer h symbols customs) (text_answer (lenient_text h) symbols customs) _ _ (answer-same h symbols customs) (λ grid. refl))
+    same-next (text_result h symbols customs) (text_result (lenient_text h) symbols customs) _ _ (result-same h symbols customs) (λ grid. refl))

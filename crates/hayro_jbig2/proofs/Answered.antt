@@ -2,7 +2,7 @@
 use Rattle.std.proofs.Common.{ℕ, Bool, true, false, List, [], ◌∷◌, length, Option, Some, None, Result, Ok, Err}
 use Rattle.std.specs.Prelude.{IfOk, ◌&&◌}
 use Rattle.std.specs.Option.{option_map_or}
-use Rattle.jbig2_base.specs.Answer.{◌>>=◌, refuse_if, some_or}
+use Rattle.jbig2_base.specs.Results.{◌>>=◌, refuse_if, some_or}
 use Rattle.jbig2_base.specs.File.{file_at}
 use Rattle.jbig2_base.specs.Grid.{Grid}
 use Rattle.jbig2_base.specs.Reading.{is_salvaged, is_strict}
@@ -24,10 +24,10 @@ use Rattle.jbig2_region.proofs.Answered.{answered-generic, answered-generic_head
 use Rattle.jbig2_symbol.specs.Symbols.{Symbols}
 use Rattle.jbig2_symbol.proofs.Answered.{answered-symbol_header, answered-symbols_decoded}
 use Rattle.jbig2_text.proofs.AnsweredRegions.{answered-text, answered-text_header}
-use Rattle.hayro_jbig2.specs.Names.{Names, Referred, Shared, extension, nothing_shared, or_shared_without, kept_by, no_names, pattern_dictionary_at, symbol_dictionary_at, with_code, with_dictionary, with_number, with_numbers, with_patterns, with_symbols, with_table, globals_at, named_from}
-use Rattle.hayro_jbig2.specs.Files.{PageInFile, ReadFile, associated, book_at, by_pages, filed_before, filed_each, filed_from, miscounts, of_page, shared_by}
+use Rattle.hayro_jbig2.specs.Names.{Names, Referred, Shared, extension, nothing_shared, or_shared_without, kept_by, no_names, pattern_dictionary_at, symbol_dictionary_at, with_code, with_dictionary, with_number, with_numbers, with_patterns, with_symbols, with_table, globals_at, shared_from}
+use Rattle.hayro_jbig2.specs.Files.{PageInFile, ReadFile, associated, book_at, by_pages, before_pages, pages_in_file, page_in_file, miscounts, of_page, shared_by}
 use Rattle.hayro_jbig2.specs.Image.{first_page}
-use Rattle.hayro_jbig2.specs.Page.{Drawing, ReadPage, beginning_of, embedded, grid_of_page, immediate, intermediate, keeping, or_left_out, or_passed_over, page_begun, drawing_of_page, region_at, segment_by, segment_on, segments_drawn, shown, told_height}
+use Rattle.hayro_jbig2.specs.Page.{Drawing, ReadPage, beginning_of, embedded, grid_of_page, immediate, intermediate, with_names, or_left_out, or_passed_over, blank_page, drawing_of_page, region_at, segment_by, segment_on, segments_drawn, shown, known_height}
 use Rattle.hayro_jbig2.specs.Regions.{generic_at, halftone_at, referred_region, refinement_at, text_at}
 use Rattle.hayro_jbig2.specs.declared.kept.Kept.{Kept}
 use Rattle.hayro_jbig2.specs.declared.region.RegionKind.{RegionKind}
@@ -117,7 +117,7 @@ answered-intermediate : (strict : Bool) (globals : Names) (kind : RegionKind) (p
 unfolding intermediate
 answered-intermediate strict globals kind p d = answered-next (region_at strict globals kind true p d) _ (answered-region_at strict globals kind true p d) (λ region. tt)
 
-answered-keeping : (d : Drawing) (kept : Result Names DecodeError) → Answered kept → Answered (keeping d kept)
+answered-keeping : (d : Drawing) (kept : Result Names DecodeError) → Answered kept → Answered (with_names d kept)
 answered-keeping d kept is = answered-next kept _ is (λ names. tt)
 
 -- ---- segments
@@ -136,7 +136,7 @@ answered-shared-without : (reading : Reading) (number : ℕ) (shared : Shared) (
 answered-shared-without reading number shared (Ok names) is = tt
 answered-shared-without reading number shared (Err e) is = answered-if (is_salvaged reading e) _ (Err e) tt is
 
-pub answered-named : (reading : Reading) (ps : List SegmentView) (shared : Shared) → Answered (named_from reading ps shared)
+pub answered-named : (reading : Reading) (ps : List SegmentView) (shared : Shared) → Answered (shared_from reading ps shared)
 answered-named reading [] shared = tt
 answered-named reading (p ∷ ps) shared =
     let kept : Result Names DecodeError = kept_by (is_strict reading) no_names p shared.names in
@@ -170,11 +170,11 @@ answered-drawn reading globals (p ∷ ps) d =
 -- a page whose globals gave names, or such an error
 pub answered-grid : (page : ReadPage) → Answered page.globals → Answered (grid_of_page page)
 unfolding grid_of_page
-answered-grid page is = answered-next (drawing_of_page page) _ (answered-next page.globals _ is (λ globals. answered-drawn page.reading globals page.segments (page_begun page.initial_page))) (λ d. tt)
+answered-grid page is = answered-next (drawing_of_page page) _ (answered-next page.globals _ is (λ globals. answered-drawn page.reading globals page.segments (blank_page page.initial_page))) (λ d. tt)
 
 pub answered-beginning : (reading : Reading) (ps : List SegmentView) → Answered (beginning_of reading ps)
 unfolding beginning_of
-answered-beginning reading ps = answered-initial_page_by (told_height reading ps) ps
+answered-beginning reading ps = answered-initial_page_by (known_height reading ps) ps
 
 pub answered-embedded : (reading : Reading) (globals : Names) (bytes : List ℕ) → Answered (embedded reading globals bytes)
 unfolding embedded
@@ -184,17 +184,17 @@ pub answered-associated : (strict : Bool) (ps : List SegmentView) → Answered (
 answered-associated strict [] = tt
 answered-associated strict (p ∷ ps) = answered-if _ (Err _) (associated strict ps) tt (answered-associated strict ps)
 
-pub answered-filed : (reading : Reading) (own : List SegmentView) → Answered (filed_from reading own)
-unfolding filed_from
+pub answered-filed : (reading : Reading) (own : List SegmentView) → Answered (page_in_file reading own)
+unfolding page_in_file
 answered-filed reading own = search (answered-next, answered-refusal, answered-beginning)
 
-answered-filed-before : (reading : Reading) (r : Result PageInFile DecodeError) (others : Result (List PageInFile) DecodeError) → Answered r → Answered others → Answered (filed_before reading r others)
+answered-filed-before : (reading : Reading) (r : Result PageInFile DecodeError) (others : Result (List PageInFile) DecodeError) → Answered r → Answered others → Answered (before_pages reading r others)
 answered-filed-before reading (Ok page) others is rest = answered-next others _ rest (λ pages. tt)
 answered-filed-before reading (Err e) others is rest = answered-if (is_salvaged reading e) others (Err e) rest is
 
-pub answered-each : (reading : Reading) (all : List (List SegmentView)) → Answered (filed_each reading all)
+pub answered-each : (reading : Reading) (all : List (List SegmentView)) → Answered (pages_in_file reading all)
 answered-each reading [] = tt
-answered-each reading (own ∷ others) = answered-filed-before reading (filed_from reading own) (filed_each reading others) (answered-filed reading own) (answered-each reading others)
+answered-each reading (own ∷ others) = answered-filed-before reading (page_in_file reading own) (pages_in_file reading others) (answered-filed reading own) (answered-each reading others)
 
 pub answered-shared : (reading : Reading) (pages : List PageInFile) (shared : List SegmentView) → Answered (shared_by reading pages shared)
 answered-shared reading [] shared = tt
@@ -217,7 +217,7 @@ answered-book_globals reading bytes =
     answered-last P (file_at reading bytes) _ (λ file.
     answered-last P (associated (is_strict reading) file.1) _ (λ known.
     answered-last P (refuse_if (is_strict reading && miscounts file.0.number_of_pages (length (by_pages file.1))) _) _ (λ counted.
-    answered-last P (filed_each reading (by_pages file.1)) _ (λ pages. answered-shared reading pages (of_page 0 file.1)))))
+    answered-last P (pages_in_file reading (by_pages file.1)) _ (λ pages. answered-shared reading pages (of_page 0 file.1)))))
 
 answered-some_page : (page : Option ReadPage) → Answered (some_or (errors.Format MissingPageInfo) page)
 answered-some_page (Some page) = tt

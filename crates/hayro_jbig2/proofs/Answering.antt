@@ -2,7 +2,7 @@
 use Rattle.std.proofs.Common.{◌≡◌, ◌⊎◌, inl, inr, ℕ, List, Result, Ok, Err, sym, subst, arith}
 use Rattle.std.proofs.lemmas.Result.{IfErr-at_err}
 use Rattle.std.specs.Prelude.{IfErr, IfOk}
-use Rattle.jbig2_base.specs.Answer.{Gives}
+use Rattle.jbig2_base.specs.Results.{Gives}
 use Rattle.jbig2_base.specs.Grid.{Grid}
 use Rattle.jbig2_base.specs.Segment.{SegmentView}
 use Rattle.jbig2_base.specs.declared.error.DecodeError.{DecodeError}
@@ -16,7 +16,7 @@ use Rattle.hayro_jbig2.specs.Causes.{ErrorsAreAnswered, IsAnswered}
 use Rattle.hayro_jbig2.specs.Calls.{Conduct, Decodes}
 use Rattle.hayro_jbig2.specs.Files.{PageInFile, ReadFile, book_at, shared_by}
 use Rattle.hayro_jbig2.specs.Image.{image_of_page}
-use Rattle.hayro_jbig2.specs.Page.{Drawing, ReadPage, drawing_of_page, grid_of_page, page_begun}
+use Rattle.hayro_jbig2.specs.Page.{Drawing, ReadPage, drawing_of_page, grid_of_page, blank_page}
 use Rattle.hayro_jbig2.specs.Returned.{IsReturned}
 use Rattle.hayro_jbig2.proofs.Answered.{answered-book, answered-book_globals, answered-drawn, answered-embedded, answered-globals, answered-grid, answered-shared}
 
@@ -34,37 +34,37 @@ back (errors.Template Invalid) never = never
 back (errors.Overflow Index) never = never
 back _ is = tt
 
-of-answer : {X : Type 0} (r : Result X DecodeError) → base.Answered r → IfErr r IsAnswered
-of-answer (Ok x) is = tt
-of-answer (Err e) is = same e is
+of-result : {X : Type 0} (r : Result X DecodeError) → base.Answered r → IfErr r IsAnswered
+of-result (Ok x) is = tt
+of-result (Err e) is = same e is
 
-to-answer : {X : Type 0} (r : Result X DecodeError) → IfErr r IsAnswered → base.Answered r
-to-answer (Ok x) is = tt
-to-answer (Err e) is = back e is
+to-result : {X : Type 0} (r : Result X DecodeError) → IfErr r IsAnswered → base.Answered r
+to-result (Ok x) is = tt
+to-result (Err e) is = back e is
 
 of-book : (book : Result ReadFile DecodeError) → IfOk book (λ b. base.Answered b.globals) → IfOk book (λ b. IfErr b.globals IsAnswered)
-of-book (Ok book) is = of-answer book.globals is
+of-book (Ok book) is = of-result book.globals is
 of-book (Err e) is = tt
 
 drawing_answered : (page : ReadPage) → IfErr page.globals IsAnswered → base.Answered (drawing_of_page page)
-drawing_answered page is = base.answered-next page.globals _ (to-answer page.globals is) (λ names. answered-drawn page.reading names page.segments (page_begun page.initial_page))
+drawing_answered page is = base.answered-next page.globals _ (to-result page.globals is) (λ names. answered-drawn page.reading names page.segments (blank_page page.initial_page))
 
 pub errors_are_answered : ErrorsAreAnswered
 errors_are_answered = record {
-  globals = λ reading bytes. of-answer _ (answered-globals reading bytes);
-  page = λ reading globals bytes. of-answer _ (answered-embedded reading globals bytes);
-  file = λ reading bytes. of-answer _ (answered-book reading bytes);
+  globals = λ reading bytes. of-result _ (answered-globals reading bytes);
+  page = λ reading globals bytes. of-result _ (answered-embedded reading globals bytes);
+  file = λ reading bytes. of-result _ (answered-book reading bytes);
   file_globals = λ reading bytes. of-book (book_at reading bytes) (answered-book_globals reading bytes);
-  drawing = λ page is. of-answer _ (drawing_answered page is);
+  drawing = λ page is. of-result _ (drawing_answered page is);
 }
 
 -- ---- what calls return
 pub shared_answered : (reading : Reading) (pages : List PageInFile) (shared : List SegmentView) → IfErr (shared_by reading pages shared) IsAnswered
-shared_answered reading pages shared = of-answer _ (answered-shared reading pages shared)
+shared_answered reading pages shared = of-result _ (answered-shared reading pages shared)
 
 pub returned_error : {Y : Type 0} (meant : Result Y DecodeError) (e : DecodeError) → base.Answered meant → (e ≡ errors.OutOfMemory) ⊎ (meant ≡ Err e) → IsReturned e
 returned_error meant e is (inl memory) = inl memory
-returned_error meant e is (inr refused) = inr (IfErr-at_err IsAnswered refused (of-answer meant is))
+returned_error meant e is (inr refused) = inr (IfErr-at_err IsAnswered refused (of-result meant is))
 
 -- an answer of a call that meets a definition
 pub returned : {X Y : Type 0} (view : X → Y) (r : Result X DecodeError) (meant : Result Y DecodeError) → base.Answered meant → Gives view r meant → IfErr r IsReturned
@@ -76,15 +76,15 @@ pub drawn-returned : {X : Type 0} (d : X → Drawing) (r : Result X DecodeError)
 drawn-returned d r page is gives = returned d r (drawing_of_page page) (drawing_answered page is) gives
 
 pub grid-returned : (page : ReadPage) (e : DecodeError) → IfErr page.globals IsAnswered → (e ≡ errors.OutOfMemory) ⊎ (grid_of_page page ≡ Err e) → IsReturned e
-grid-returned page e is refused = returned_error (grid_of_page page) e (answered-grid page (to-answer page.globals is)) refused
+grid-returned page e is refused = returned_error (grid_of_page page) e (answered-grid page (to-result page.globals is)) refused
 
 pub image-returned : {X : Type 0} (image : X → List ℕ) (r : Result X DecodeError) (page : ReadPage) → IfErr page.globals IsAnswered → Gives image r (image_of_page page) → IfErr r IsReturned
 image-returned image r page is gives =
-    returned image r (image_of_page page) (base.answered-next (grid_of_page page) _ (answered-grid page (to-answer page.globals is)) (λ g. tt)) gives
+    returned image r (image_of_page page) (base.answered-next (grid_of_page page) _ (answered-grid page (to-result page.globals is)) (λ g. tt)) gives
 
 -- what decoding a page returns where the Decoder refused no call
 pub decoded-returned : {S : Type 0} (c : Conduct S) (page : ReadPage) (r : Result (Unit {0}) DecodeError) (old new : S) → IfErr page.globals IsAnswered → Decodes c (grid_of_page page) r old new → c.refusals new ≡ c.refusals old → IfErr r IsReturned
-decoded-returned {S} c page r old new is decodes none = by (grid_of_page page) r (answered-grid page (to-answer page.globals is)) decodes
+decoded-returned {S} c page r old new is decodes none = by (grid_of_page page) r (answered-grid page (to-result page.globals is)) decodes
   where
     by : (meant : Result Grid DecodeError) (r : Result (Unit {0}) DecodeError) → base.Answered meant → Decodes c meant r old new → IfErr r IsReturned
     by (Ok g) (Ok u) answered decodes = tt

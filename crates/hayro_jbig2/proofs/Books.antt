@@ -5,7 +5,7 @@ use Rattle.std.proofs.lemmas.List.{append_assoc}
 use Rattle.std.specs.Map.Iter.{TakesFirst}
 use Rattle.std.specs.Prelude.{slice_get, option_map}
 use Rattle.jbig2_base.proofs.Causes.{went}
-use Rattle.jbig2_base.specs.Answer.{◌>>=◌, refuse_if}
+use Rattle.jbig2_base.specs.Results.{◌>>=◌, refuse_if}
 use Rattle.jbig2_base.specs.PageInfo.{initial_page_with, first_information, information_at, is_page_information, height_of}
 use Rattle.jbig2_base.specs.File.{file_at}
 use Rattle.jbig2_base.specs.Reading.{fault_of, is_salvaged, is_strict}
@@ -19,9 +19,9 @@ use Rattle.jbig2_base.specs.declared.page_info.PageInformation.{PageInformation}
 use Rattle.jbig2_base.specs.declared.page_info.InitialPage.{InitialPage}
 use Rattle.jbig2_base.specs.declared.reading.Reading.{Reading}
 use Rattle.jbig2_base.specs.declared.reading.Reading.TheVariants.{Lenient}
-use Rattle.hayro_jbig2.specs.Files.{PageInFile, ReadFile, of_page, by_pages, ends_of, error_of, filed_before, filed_from, filed_each, left_out_of, numbers_after, miscounts, associated, book_at, page_in, shared_by, PagesStandAlone}
-use Rattle.hayro_jbig2.specs.Names.{named_from, names_of, nothing_shared}
-use Rattle.hayro_jbig2.specs.Page.{ReadPage, beginning_of, told_height}
+use Rattle.hayro_jbig2.specs.Files.{PageInFile, ReadFile, of_page, by_pages, ends_of, error_of, before_pages, page_in_file, pages_in_file, left_out_of, numbers_after, miscounts, associated, book_at, page_in, shared_by, PagesStandAlone}
+use Rattle.hayro_jbig2.specs.Names.{shared_from, names_of, nothing_shared}
+use Rattle.hayro_jbig2.specs.Page.{ReadPage, beginning_of, known_height}
 
 from_front : {X Y : Type 0} (f : X → Y) (xs : List X) (i : ℕ) → i < length xs → TakesFirst (λ (y : Y). y) (map f (drop i xs)) (option_map f (slice_get xs i)) (map f (drop (suc i) xs))
 from_front f [] i h = absurd (omega arith)
@@ -65,7 +65,7 @@ number-of_initial_page number info height initial_page h =
 number-of_page : (reading : Reading) (n : ℕ) (ps : List SegmentView) (initial_page : InitialPage) → beginning_of reading (of_page n ps) ≡ Ok initial_page → initial_page.number ≡ n
 unfolding beginning_of
 number-of_page reading n ps initial_page h =
-    let told : ℕ = told_height reading (of_page n ps) in
+    let told : ℕ = known_height reading (of_page n ps) in
     let first = went (first_information (of_page n ps)) (initial_page_of_first told) initial_page h in
     let info = went (information_at first.0.bytes) (λ info. height_of info.0.height told >>= λ height. initial_page_with first.0.header.page_association info.0 height) initial_page first.2 in
     let height = went (height_of info.0.0.height told) (λ height. initial_page_with first.0.header.page_association info.0.0 height) initial_page info.2 in
@@ -77,19 +77,19 @@ pub record IsOwn (reading : Reading) (ps : List SegmentView) (page : PageInFile)
   pub segments : page.segments ≡ of_page page.initial_page.number ps
 
 -- what a page that is filed is made of
-filed-with : (reading : Reading) (own : List SegmentView) (page : PageInFile) → filed_from reading own ≡ Ok page → (begun : InitialPage) × (beginning_of reading own ≡ Ok begun) × (◌≡◌ {A = PageInFile} (record { initial_page = begun; segments = own }) page)
-unfolding filed_from
+filed-with : (reading : Reading) (own : List SegmentView) (page : PageInFile) → page_in_file reading own ≡ Ok page → (begun : InitialPage) × (beginning_of reading own ≡ Ok begun) × (◌≡◌ {A = PageInFile} (record { initial_page = begun; segments = own }) page)
+unfolding page_in_file
 filed-with reading own page h =
     let ended = went (refuse_if (is_strict reading && not (ends_of own == 1)) (Format InvalidEndOfPage)) (λ ended. beginning_of reading own >>= λ initial_page. Ok (record { initial_page = initial_page; segments = own })) page h in
     let initial_page = went (beginning_of reading own) (λ initial_page. Ok (record { initial_page = initial_page; segments = own })) page ended.2 in
     (initial_page.0, initial_page.1, let told = initial_page.2 in cc)
 
-pub number-of_filed : (reading : Reading) (n : ℕ) (ps : List SegmentView) (page : PageInFile) → filed_from reading (of_page n ps) ≡ Ok page → page.initial_page.number ≡ n
+pub number-of_filed : (reading : Reading) (n : ℕ) (ps : List SegmentView) (page : PageInFile) → page_in_file reading (of_page n ps) ≡ Ok page → page.initial_page.number ≡ n
 number-of_filed reading n ps page h =
     let made = filed-with reading (of_page n ps) page h in
     ap (λ (p : PageInFile). p.initial_page.number) (sym made.2) ∙ number-of_page reading n ps made.0 made.1
 
-own-filed : (reading : Reading) (ps : List SegmentView) (n : ℕ) (page : PageInFile) → filed_from reading (of_page n ps) ≡ Ok page → IsOwn reading ps page
+own-filed : (reading : Reading) (ps : List SegmentView) (n : ℕ) (page : PageInFile) → page_in_file reading (of_page n ps) ≡ Ok page → IsOwn reading ps page
 own-filed reading ps n page h =
     let own : List SegmentView = of_page n ps in
     let initial_page = filed-with reading own page h in
@@ -107,7 +107,7 @@ AllOwn reading ps (page ∷ pages) = IsOwn reading ps page × AllOwn reading ps 
 
 -- a page before the others, or one that was left out
 own-before : (reading : Reading) (ps : List SegmentView) (r : Result PageInFile DecodeError) (others : Result (List PageInFile) DecodeError) (pages : List PageInFile)
-    → ((page : PageInFile) → r ≡ Ok page → IsOwn reading ps page) → ((rest : List PageInFile) → others ≡ Ok rest → AllOwn reading ps rest) → filed_before reading r others ≡ Ok pages → AllOwn reading ps pages
+    → ((page : PageInFile) → r ≡ Ok page → IsOwn reading ps page) → ((rest : List PageInFile) → others ≡ Ok rest → AllOwn reading ps rest) → before_pages reading r others ≡ Ok pages → AllOwn reading ps pages
 own-before reading ps (Ok page) others pages own rest h =
     let after = went others (λ others. Ok (page ∷ others)) pages h in
     let same : page ∷ after.0 ≡ pages = let told = after.2 in cc in
@@ -118,12 +118,12 @@ own-before reading ps (Err e) others pages own rest h = by (is_salvaged reading 
     by true is = rest pages is
     by false is = absurd (cc)
 
-own-each : (reading : Reading) (ps : List SegmentView) (ns : List ℕ) (pages : List PageInFile) → filed_each reading (map (λ n. of_page n ps) ns) ≡ Ok pages → AllOwn reading ps pages
+own-each : (reading : Reading) (ps : List SegmentView) (ns : List ℕ) (pages : List PageInFile) → pages_in_file reading (map (λ n. of_page n ps) ns) ≡ Ok pages → AllOwn reading ps pages
 own-each reading ps [] pages h =
     let same : [] ≡ pages = cc in
     subst (AllOwn reading ps) same tt
 own-each reading ps (n ∷ ns) pages h =
-    own-before reading ps (filed_from reading (of_page n ps)) (filed_each reading (map (λ m. of_page m ps) ns)) pages (own-filed reading ps n) (own-each reading ps ns) h
+    own-before reading ps (page_in_file reading (of_page n ps)) (pages_in_file reading (map (λ m. of_page m ps) ns)) pages (own-filed reading ps n) (own-each reading ps ns) h
 
 own-at : (reading : Reading) (ps : List SegmentView) (pages : List PageInFile) (index : ℕ) (page : PageInFile) → AllOwn reading ps pages → slice_get pages index ≡ Some page → IsOwn reading ps page
 own-at reading ps [] index page all h = absurd (cc)
@@ -137,7 +137,7 @@ abbrev book_of : Reading → Option DecodeError → FileHeader × List SegmentVi
 book_of reading fault file pages = record { reading = reading; pages = pages; globals = shared_by reading pages (of_page 0 file.1); left_out = left_out_of reading (by_pages file.1); fault = fault }
 
 abbrev pages_with : Reading → Option DecodeError → FileHeader × List SegmentView → Result ReadFile DecodeError
-pages_with reading fault file = filed_each reading (by_pages file.1) >>= λ pages. Ok (book_of reading fault file pages)
+pages_with reading fault file = pages_in_file reading (by_pages file.1) >>= λ pages. Ok (book_of reading fault file pages)
 
 abbrev counted_with : Reading → Option DecodeError → FileHeader × List SegmentView → Result ReadFile DecodeError
 counted_with reading fault file = refuse_if (is_strict reading && miscounts file.0.number_of_pages (length (by_pages file.1))) (Format PageCountMismatch) >>= λ counted. pages_with reading fault file
@@ -146,7 +146,7 @@ abbrev book_with : Reading → Option DecodeError → FileHeader × List Segment
 book_with reading fault file = associated (is_strict reading) file.1 >>= λ known. counted_with reading fault file
 
 pub record Filled (reading : Reading) (fault : Option DecodeError) (ps : List SegmentView) (book : ReadFile) : Type 0 where
-  pub filed : filed_each reading (by_pages ps) ≡ Ok book.pages
+  pub filed : pages_in_file reading (by_pages ps) ≡ Ok book.pages
   pub own : AllOwn reading ps book.pages
   pub mode : book.reading ≡ reading
   pub shared : book.globals ≡ shared_by reading book.pages (of_page 0 ps)
@@ -156,7 +156,7 @@ filled : (reading : Reading) (fault : Option DecodeError) (file : FileHeader × 
 filled reading fault file book h =
     let known = went (associated (is_strict reading) file.1) (λ known. counted_with reading fault file) book h in
     let counted = went (refuse_if (is_strict reading && miscounts file.0.number_of_pages (length (by_pages file.1))) (Format PageCountMismatch)) (λ counted. pages_with reading fault file) book known.2 in
-    let pages = went (filed_each reading (by_pages file.1)) (λ pages. Ok (book_of reading fault file pages)) book counted.2 in
+    let pages = went (pages_in_file reading (by_pages file.1)) (λ pages. Ok (book_of reading fault file pages)) book counted.2 in
     let made : ReadFile = book_of reading fault file pages.0 in
     let same : made ≡ book = let told = pages.2 in cc in
     let own : AllOwn reading file.1 pages.0 = own-each reading file.1 (numbers_after [] file.1) pages.0 pages.1 in
@@ -179,7 +179,7 @@ file-of_book reading bytes book h =
     (file.0, file.1)
 
 -- a file with a page shares its globals
-shares-at : (reading : Reading) (pages : List PageInFile) (shared : List SegmentView) (index : ℕ) (page : PageInFile) → slice_get pages index ≡ Some page → shared_by reading pages shared ≡ named_from reading shared (nothing_shared None)
+shares-at : (reading : Reading) (pages : List PageInFile) (shared : List SegmentView) (index : ℕ) (page : PageInFile) → slice_get pages index ≡ Some page → shared_by reading pages shared ≡ shared_from reading shared (nothing_shared None)
 shares-at reading [] shared index page h = absurd (cc)
 shares-at reading (p ∷ pages) shared index page h = refl
 
@@ -188,7 +188,7 @@ pub shares_none : (reading : Reading) (pages : List PageInFile) (shared : List S
 shares_none reading [] shared none = refl
 shares_none reading (p ∷ pages) shared none = absurd (let long : length (p ∷ pages) ≡ 0 = eqb-true (length (p ∷ pages)) 0 none in omega arith)
 
-pub shares_some : (reading : Reading) (pages : List PageInFile) (shared : List SegmentView) → (length pages == 0) ≡ false → shared_by reading pages shared ≡ named_from reading shared (nothing_shared None)
+pub shares_some : (reading : Reading) (pages : List PageInFile) (shared : List SegmentView) → (length pages == 0) ≡ false → shared_by reading pages shared ≡ shared_from reading shared (nothing_shared None)
 shares_some reading [] shared some = absurd (cc)
 shares_some reading (p ∷ pages) shared some = refl
 
@@ -202,9 +202,9 @@ mapped f None y h = absurd (cc)
 mapped f (Some x) y h = record { from = x; was = refl; is = cc }
 
 abbrev page_from : Reading → Option DecodeError → List SegmentView → List SegmentView → Result ReadPage DecodeError
-page_from reading fault own shared = beginning_of reading own >>= λ begun. Ok (record { reading = reading; initial_page = begun; segments = own; globals = names_of (named_from reading shared (nothing_shared None)); fault = fault })
+page_from reading fault own shared = beginning_of reading own >>= λ begun. Ok (record { reading = reading; initial_page = begun; segments = own; globals = names_of (shared_from reading shared (nothing_shared None)); fault = fault })
 
-own-leaf : (reading : Reading) (fault : Option DecodeError) (ps : List SegmentView) (book : ReadFile) (page : PageInFile) → Filled reading fault ps book → book.globals ≡ named_from reading (of_page 0 ps) (nothing_shared None) → IsOwn reading ps page
+own-leaf : (reading : Reading) (fault : Option DecodeError) (ps : List SegmentView) (book : ReadFile) (page : PageInFile) → Filled reading fault ps book → book.globals ≡ shared_from reading (of_page 0 ps) (nothing_shared None) → IsOwn reading ps page
     → page_from reading fault (of_page page.initial_page.number ps) (of_page 0 ps) ≡ Ok (page_in book page)
 own-leaf reading fault ps book page filled shared own = rw (own.initial_page, filled.mode, filled.ended, own.segments, shared) refl
 
@@ -230,39 +230,39 @@ pages-next : (front : List PageInFile) (page : PageInFile) (r : Result (List Pag
 pages-next front page (Ok pages) = ap (λ (all : List PageInFile). Ok all) (append_assoc front (page ∷ []) pages)
 pages-next front page (Err e) = refl
 
-pub page-made : (front next : List PageInFile) (reading : Reading) (own : List SegmentView) (before others : List (List SegmentView)) (meant : Result (List PageInFile) DecodeError) (page : PageInFile) → next ≡ front ++ page ∷ [] → before ≡ own ∷ others → with_pages front (filed_each reading before) ≡ meant → filed_from reading own ≡ Ok page → with_pages next (filed_each reading others) ≡ meant
+pub page-made : (front next : List PageInFile) (reading : Reading) (own : List SegmentView) (before others : List (List SegmentView)) (meant : Result (List PageInFile) DecodeError) (page : PageInFile) → next ≡ front ++ page ∷ [] → before ≡ own ∷ others → with_pages front (pages_in_file reading before) ≡ meant → page_in_file reading own ≡ Ok page → with_pages next (pages_in_file reading others) ≡ meant
 page-made front next reading own before others meant page pushed is so_far made =
-    ap (λ (pages : List PageInFile). with_pages pages (filed_each reading others)) pushed
-    ∙ pages-next front page (filed_each reading others)
-    ∙ ap (λ (r : Result PageInFile DecodeError). with_pages front (filed_before reading r (filed_each reading others))) (sym made)
-    ∙ ap (λ (rest : List (List SegmentView)). with_pages front (filed_each reading rest)) (sym is)
+    ap (λ (pages : List PageInFile). with_pages pages (pages_in_file reading others)) pushed
+    ∙ pages-next front page (pages_in_file reading others)
+    ∙ ap (λ (r : Result PageInFile DecodeError). with_pages front (before_pages reading r (pages_in_file reading others))) (sym made)
+    ∙ ap (λ (rest : List (List SegmentView)). with_pages front (pages_in_file reading rest)) (sym is)
     ∙ so_far
 
 -- what is meant, where a page is refused
-page-without : (front : List PageInFile) (reading : Reading) (own : List SegmentView) (before others : List (List SegmentView)) (meant : Result (List PageInFile) DecodeError) (e : DecodeError) → before ≡ own ∷ others → with_pages front (filed_each reading before) ≡ meant → filed_from reading own ≡ Err e → meant ≡ with_pages front (cond (is_salvaged reading e) (filed_each reading others) (Err e))
+page-without : (front : List PageInFile) (reading : Reading) (own : List SegmentView) (before others : List (List SegmentView)) (meant : Result (List PageInFile) DecodeError) (e : DecodeError) → before ≡ own ∷ others → with_pages front (pages_in_file reading before) ≡ meant → page_in_file reading own ≡ Err e → meant ≡ with_pages front (cond (is_salvaged reading e) (pages_in_file reading others) (Err e))
 page-without front reading own before others meant e is so_far refused =
     sym so_far
-    ∙ ap (λ (rest : List (List SegmentView)). with_pages front (filed_each reading rest)) is
-    ∙ ap (λ (r : Result PageInFile DecodeError). with_pages front (filed_before reading r (filed_each reading others))) refused
+    ∙ ap (λ (rest : List (List SegmentView)). with_pages front (pages_in_file reading rest)) is
+    ∙ ap (λ (r : Result PageInFile DecodeError). with_pages front (before_pages reading r (pages_in_file reading others))) refused
 
-pub page-refused : (front : List PageInFile) (reading : Reading) (own : List SegmentView) (before others : List (List SegmentView)) (meant : Result (List PageInFile) DecodeError) (e : DecodeError) → before ≡ own ∷ others → with_pages front (filed_each reading before) ≡ meant → filed_from reading own ≡ Err e → is_salvaged reading e ≡ false → meant ≡ Err e
+pub page-refused : (front : List PageInFile) (reading : Reading) (own : List SegmentView) (before others : List (List SegmentView)) (meant : Result (List PageInFile) DecodeError) (e : DecodeError) → before ≡ own ∷ others → with_pages front (pages_in_file reading before) ≡ meant → page_in_file reading own ≡ Err e → is_salvaged reading e ≡ false → meant ≡ Err e
 page-refused front reading own before others meant e is so_far refused kept =
     page-without front reading own before others meant e is so_far refused
-    ∙ ap (λ (r : Result (List PageInFile) DecodeError). with_pages front r) (cond-false (is_salvaged reading e) (filed_each reading others) (Err e) kept)
+    ∙ ap (λ (r : Result (List PageInFile) DecodeError). with_pages front r) (cond-false (is_salvaged reading e) (pages_in_file reading others) (Err e) kept)
 
-pub page-left-out : (front : List PageInFile) (reading : Reading) (own : List SegmentView) (before others : List (List SegmentView)) (meant : Result (List PageInFile) DecodeError) (e : DecodeError) → before ≡ own ∷ others → with_pages front (filed_each reading before) ≡ meant → filed_from reading own ≡ Err e → is_salvaged reading e ≡ true → with_pages front (filed_each reading others) ≡ meant
+pub page-left-out : (front : List PageInFile) (reading : Reading) (own : List SegmentView) (before others : List (List SegmentView)) (meant : Result (List PageInFile) DecodeError) (e : DecodeError) → before ≡ own ∷ others → with_pages front (pages_in_file reading before) ≡ meant → page_in_file reading own ≡ Err e → is_salvaged reading e ≡ true → with_pages front (pages_in_file reading others) ≡ meant
 page-left-out front reading own before others meant e is so_far refused left =
     sym (page-without front reading own before others meant e is so_far refused
-    ∙ ap (λ (r : Result (List PageInFile) DecodeError). with_pages front r) (cond-true (is_salvaged reading e) (filed_each reading others) (Err e) left))
+    ∙ ap (λ (r : Result (List PageInFile) DecodeError). with_pages front r) (cond-true (is_salvaged reading e) (pages_in_file reading others) (Err e) left))
 
 -- the errors of the pages that are left out
-pub left-made : (front : List DecodeError) (reading : Reading) (own : List SegmentView) (before others : List (List SegmentView)) (meant : List DecodeError) (page : PageInFile) → before ≡ own ∷ others → filed_from reading own ≡ Ok page → front ++ left_out_of reading before ≡ meant → front ++ left_out_of reading others ≡ meant
+pub left-made : (front : List DecodeError) (reading : Reading) (own : List SegmentView) (before others : List (List SegmentView)) (meant : List DecodeError) (page : PageInFile) → before ≡ own ∷ others → page_in_file reading own ≡ Ok page → front ++ left_out_of reading before ≡ meant → front ++ left_out_of reading others ≡ meant
 left-made front reading own before others meant page is made so_far =
     ap (λ (r : Result PageInFile DecodeError). front ++ (error_of r ++ left_out_of reading others)) (sym made)
     ∙ ap (λ (rest : List (List SegmentView)). front ++ left_out_of reading rest) (sym is)
     ∙ so_far
 
-pub left-more : (front next : List DecodeError) (reading : Reading) (own : List SegmentView) (before others : List (List SegmentView)) (meant : List DecodeError) (e : DecodeError) → next ≡ front ++ e ∷ [] → before ≡ own ∷ others → filed_from reading own ≡ Err e → front ++ left_out_of reading before ≡ meant → next ++ left_out_of reading others ≡ meant
+pub left-more : (front next : List DecodeError) (reading : Reading) (own : List SegmentView) (before others : List (List SegmentView)) (meant : List DecodeError) (e : DecodeError) → next ≡ front ++ e ∷ [] → before ≡ own ∷ others → page_in_file reading own ≡ Err e → front ++ left_out_of reading before ≡ meant → next ++ left_out_of reading others ≡ meant
 left-more front next reading own before others meant e pushed is refused so_far =
     ap (λ (errors : List DecodeError). errors ++ left_out_of reading others) pushed
     ∙ append_assoc front (e ∷ []) (left_out_of reading others)

@@ -2,7 +2,7 @@
 use Rattle.std.proofs.Common.{◌≡◌, ◌≢◌, ◌⊎◌, ℕ, suc, Bool, true, false, not, ◌&&◌, ◌==◌, List, [], ◌∷◌, length, slice_get, Option, Some, None, Result, Ok, Err, refl, sym, ◌∙◌, arith}
 use Rattle.std.proofs.lemmas.Bool.{and_parts, eq-eqb, eqb-true, false≢true, not-true}
 use Rattle.std.specs.Prelude.{Any, IfErr, IsTrue, option_map}
-use Rattle.jbig2_base.specs.Answer.{refuse_if, some_or}
+use Rattle.jbig2_base.specs.Results.{refuse_if, some_or}
 use Rattle.jbig2_base.specs.File.{file_at}
 use Rattle.jbig2_base.specs.PageInfo.{initial_page_of}
 use Rattle.jbig2_base.specs.Reading.{is_salvaged, is_strict}
@@ -20,10 +20,10 @@ use Rattle.jbig2_base.proofs.Answered.{IsAnswered}
 use Rattle.jbig2_base.proofs.CauseSteps.{call-cause, call-cause-or-memory}
 use Rattle.jbig2_base.proofs.Causes.{cause-next, cause-refused}
 use Rattle.jbig2_base.proofs.InitialCauses.{initial_page_causes}
-use Rattle.jbig2_region.proofs.Told.{cause-if, cause-more}
+use Rattle.jbig2_region.proofs.ResultCauses.{cause-if, cause-more}
 use Rattle.jbig2_symbol.proofs.ReadingCauses.{in-steps}
 use Rattle.hayro_jbig2.specs.Causes.{BreaksBook, BreaksFirstPage, BreaksPages}
-use Rattle.hayro_jbig2.specs.Files.{PageInFile, ReadFile, associated, book_at, by_pages, ends_of, filed_before, filed_each, filed_from, lacks_page, miscounts, needs_page, page_in, page_of}
+use Rattle.hayro_jbig2.specs.Files.{PageInFile, ReadFile, associated, book_at, by_pages, ends_of, before_pages, pages_in_file, page_in_file, lacks_page, miscounts, needs_page, page_in, page_of}
 use Rattle.hayro_jbig2.specs.Page.{ReadPage, beginning_of}
 use Rattle.hayro_jbig2.proofs.Answered.{answered-beginning}
 use Rattle.hayro_jbig2.proofs.Salvaging.{left-out}
@@ -71,8 +71,8 @@ begins-cause P readings.Salvage own begins =
 
 filed-cause : (P : DecodeError → Type 0) (reading : Reading) (own : List SegmentView)
     → (IsTrue (is_strict reading) → ends_of own ≢ 1 → P (errors.Format formats.InvalidEndOfPage))
-    → ((e : DecodeError) → is_salvaged reading e ≡ false → BreaksInitialPage own e → P e) → IfErr (filed_from reading own) (λ e. is_salvaged reading e ≡ false → P e)
-unfolding filed_from
+    → ((e : DecodeError) → is_salvaged reading e ≡ false → BreaksInitialPage own e → P e) → IfErr (page_in_file reading own) (λ e. is_salvaged reading e ≡ false → P e)
+unfolding page_in_file
 filed-cause P reading own ends begins =
     let Kept : DecodeError → Type 0 = λ e. is_salvaged reading e ≡ false → P e in
     let wrong : Bool = is_strict reading && not (ends_of own == 1) in
@@ -82,17 +82,17 @@ filed-cause P reading own ends begins =
     cause-next Kept (beginning_of reading own) _ (begins-cause P reading own begins) (λ page page_is. tt))
 
 -- a page before the others
-before-cause : (P : DecodeError → Type 0) (reading : Reading) (r : Result PageInFile DecodeError) (others : Result (List PageInFile) DecodeError) → IfErr r (λ e. is_salvaged reading e ≡ false → P e) → IfErr others P → IfErr (filed_before reading r others) P
+before-cause : (P : DecodeError → Type 0) (reading : Reading) (r : Result PageInFile DecodeError) (others : Result (List PageInFile) DecodeError) → IfErr r (λ e. is_salvaged reading e ≡ false → P e) → IfErr others P → IfErr (before_pages reading r others) P
 before-cause P reading (Ok page) others first rest = cause-next P others _ rest (λ pages pages_is. tt)
 before-cause P reading (Err e) others first rest = cause-if P (is_salvaged reading e) others (Err e) (λ left. rest) (λ kept. first kept)
 
 each-cause : (P : DecodeError → Type 0) (reading : Reading) (all : List (List SegmentView))
     → (IsTrue (is_strict reading) → Any (λ own. ends_of own ≢ 1) all → P (errors.Format formats.InvalidEndOfPage))
-    → ((e : DecodeError) → is_salvaged reading e ≡ false → Any (λ own. BreaksInitialPage own e) all → P e) → IfErr (filed_each reading all) P
+    → ((e : DecodeError) → is_salvaged reading e ≡ false → Any (λ own. BreaksInitialPage own e) all → P e) → IfErr (pages_in_file reading all) P
 each-cause P reading [] ends begins = tt
 each-cause P reading (own ∷ others) ends begins =
     let Ends : List SegmentView → Type 0 = λ page. ends_of page ≢ 1 in
-    before-cause P reading (filed_from reading own) (filed_each reading others)
+    before-cause P reading (page_in_file reading own) (pages_in_file reading others)
     (filed-cause P reading own (λ is wrong. ends is (at-first Ends own others wrong)) (λ e kept broken. begins e kept (at-first (λ page. BreaksInitialPage page e) own others broken)))
     (each-cause P reading others (λ is some. ends is (at-later Ends own others some)) (λ e kept some. begins e kept (at-later (λ page. BreaksInitialPage page e) own others some)))
 
@@ -138,7 +138,7 @@ file_causes reading bytes =
     let parts = and_parts (is_strict reading) wrong both in
     let count = miscounted file.0.number_of_pages (length (by_pages file.1)) parts.1 in
     (parts.0, count.0, count.1, count.2))) (λ counted counted_is.
-    cause-next P (filed_each reading (by_pages file.1)) _ (each-cause P reading (by_pages file.1) (λ is some. (is, some)) (page-begins reading file.0 file.1)) (λ pages pages_is. tt))))
+    cause-next P (pages_in_file reading (by_pages file.1)) _ (each-cause P reading (by_pages file.1) (λ is some. (is, some)) (page-begins reading file.0 file.1)) (λ pages pages_is. tt))))
 
 pub file_cause : {X : Type 0} (reading : Reading) (bytes : List ℕ) (r : Result X DecodeError) → IfErr r (λ e. (e ≡ errors.OutOfMemory) ⊎ (book_at reading bytes ≡ Err e)) → HasCauseOrNoMemory r (BreaksBook reading bytes)
 file_cause reading bytes r = call-cause-or-memory (BreaksBook reading bytes) (book_at reading bytes) r (file_causes reading bytes)

@@ -4,7 +4,7 @@ use Rattle.std.specs.Int.{w32, cast_signed}
 use Rattle.std.specs.Prelude.{IfErr, pos, ◌-ℤ◌}
 use Rattle.std.proofs.lemmas.Bool.{cond-true, and_from, le-ltb, lt-ltb}
 use Rattle.std.proofs.lemmas.Int.{ints}
-use Rattle.jbig2_base.specs.Answer.{Gives, ◌>>=◌}
+use Rattle.jbig2_base.specs.Results.{Gives, ◌>>=◌}
 use Rattle.jbig2_base.specs.Combination.{combined, drawn_pixel, is_below, combined_pixel}
 use Rattle.jbig2_base.specs.Grid.{Grid, pixel_at, pixel, blank}
 use Rattle.jbig2_base.specs.Segment.{SegmentView}
@@ -37,8 +37,8 @@ use Rattle.hayro_jbig2.specs.Regions.{page_area}
 use Rattle.hayro_jbig2.specs.declared.kept.Kept.{Kept}
 use Rattle.hayro_jbig2.specs.inner.KeptViews.{seen}
 use Rattle.hayro_jbig2.specs.inner.PageViews.{near_area}
-use Rattle.hayro_jbig2.specs.inner.Parsed.{apart, drawing_of, drawn, info_of, initial_of}
-use Rattle.hayro_jbig2.specs.inner.Whole.{IsBegun, IsWhole, touched}
+use Rattle.hayro_jbig2.specs.inner.ParsedRegions.{placed_region, drawing_of, drawn, info_of, initial_of}
+use Rattle.hayro_jbig2.specs.inner.WholePages.{IsBlankPage, IsWhole, after_immediate}
 use Rattle.hayro_jbig2.proofs.PageArea.{area-near}
 use Rattle.hayro_jbig2.proofs.RegionSizes.{Made, generic-made, halftone-made, refined-made, text-made}
 use Rattle.jbig2_region.specs.RefinementHeader.{IsRefinement}
@@ -75,7 +75,7 @@ combined-over op black region table over =
     ∙ sym table
 
 -- ---- a region that is the whole page
-pub whole-page : (info : RegionSegmentInfo) (page : Grid) (black : Bool) → IsBegun black page → info.x_location ≡ 0 → info.y_location ≡ 0 → info.width ≡ page.width → info.height ≡ page.height → draws_over info.combination_operator black ≡ true → IsWhole info black page
+pub whole-page : (info : RegionSegmentInfo) (page : Grid) (black : Bool) → IsBlankPage black page → info.x_location ≡ 0 → info.y_location ≡ 0 → info.width ≡ page.width → info.height ≡ page.height → draws_over info.combination_operator black ≡ true → IsWhole info black page
 whole-page info page black begun x y wide high over = record {
   columns = subst (λ (n : ℕ). n ≤ 65535) (sym wide) begun.columns;
   rows = subst (λ (n : ℕ). n ≤ 65535) (sym high) begun.rows;
@@ -101,32 +101,32 @@ drawn-made (Refinement header reference) g is = refined-made (refinements.header
 drawn-made (PageRefinement header area) g is = refined-made (refinements.header_view header) (region_view area) g is
 
 -- no side of a page is too long
-pub apart-within : {A : Type 0} (r : ParsedRegion A) → (info_of r).width ≤ 65535 → (info_of r).height ≤ 65535 → apart r ≡ (drawn r >>= λ g. Ok (placed (info_of r) g))
-apart-within r columns rows = rw (le-ltb 65535 (info_of r).width columns, le-ltb 65535 (info_of r).height rows) refl
+pub placed-within : {A : Type 0} (r : ParsedRegion A) → (info_of r).width ≤ 65535 → (info_of r).height ≤ 65535 → placed_region r ≡ (drawn r >>= λ g. Ok (placed (info_of r) g))
+placed-within r columns rows = rw (le-ltb 65535 (info_of r).width columns, le-ltb 65535 (info_of r).height rows) refl
 
-whole-shown : {A : Type 0} (r : ParsedRegion A) (meant : Result PlacedRegion DecodeError) (d : Drawing) (g : Grid) → IsWhole (info_of r) (initial_of r) d.grid → meant ≡ apart r → drawn r ≡ Ok g → shown d meant ≡ Ok (record d { grid = g; untouched = false })
+whole-shown : {A : Type 0} (r : ParsedRegion A) (meant : Result PlacedRegion DecodeError) (d : Drawing) (g : Grid) → IsWhole (info_of r) (initial_of r) d.grid → meant ≡ placed_region r → drawn r ≡ Ok g → shown d meant ≡ Ok (record d { grid = g; untouched = false })
 whole-shown r meant d g whole leads is =
     let info : RegionSegmentInfo = info_of r in
     let made = drawn-made r g is in
     let wide : g.width ≡ info.width = ap (λ (q : Grid). q.width) made.1 in
     let high : g.height ≡ info.height = ap (λ (q : Grid). q.height) made.1 in
-    ap (λ (a : Result PlacedRegion DecodeError). shown d a) (leads ∙ apart-within r whole.columns whole.rows)
+    ap (λ (a : Result PlacedRegion DecodeError). shown d a) (leads ∙ placed-within r whole.columns whole.rows)
     ∙ ap (λ (a : Result Grid DecodeError). shown d (a >>= λ q. Ok (placed info q))) is
     ∙ ap (λ (q : Grid). let e : Result Drawing DecodeError = Ok (record d { grid = q; untouched = false }) in e) (whole.over g (table-at g info.width info.height made.0 made.1) wide high)
 
-whole-failed : {A : Type 0} (r : ParsedRegion A) (meant : Result PlacedRegion DecodeError) (d : Drawing) (e : DecodeError) → (info_of r).width ≤ 65535 → (info_of r).height ≤ 65535 → meant ≡ apart r → drawn r ≡ Err e → shown d meant ≡ Err e
+whole-failed : {A : Type 0} (r : ParsedRegion A) (meant : Result PlacedRegion DecodeError) (d : Drawing) (e : DecodeError) → (info_of r).width ≤ 65535 → (info_of r).height ≤ 65535 → meant ≡ placed_region r → drawn r ≡ Err e → shown d meant ≡ Err e
 whole-failed r meant d e columns rows leads is =
-    ap (λ (a : Result PlacedRegion DecodeError). shown d a) (leads ∙ apart-within r columns rows)
+    ap (λ (a : Result PlacedRegion DecodeError). shown d a) (leads ∙ placed-within r columns rows)
     ∙ ap (λ (a : Result Grid DecodeError). shown d (a >>= λ q. Ok (placed (info_of r) q))) is
 
 -- the page's area is refined
-pub page-refined : {A : Type 0} (header : GenericRefinementRegionHeader) (page : Grid) (area : DecodedRegion A) → IsRefinement (refinements.header_view header) → near_area page header.region_info ≡ Ok (region_view area) → refined_decoded (refinements.header_view header) (page_area page header.region_info) ≡ apart (PageRefinement header area)
+pub page-refined : {A : Type 0} (header : GenericRefinementRegionHeader) (page : Grid) (area : DecodedRegion A) → IsRefinement (refinements.header_view header) → near_area page header.region_info ≡ Ok (region_view area) → refined_decoded (refinements.header_view header) (page_area page header.region_info) ≡ placed_region (PageRefinement header area)
 page-refined header page area parsed near =
     ap (λ (from : PlacedRegion). refined_decoded (refinements.header_view header) from) (area-near page header.region_info (region_view area) near)
-    ∙ sym (apart-within (PageRefinement header area) parsed.columns parsed.rows)
+    ∙ sym (placed-within (PageRefinement header area) parsed.columns parsed.rows)
 
 -- drawn directly
-pub whole-gives : {A : Type 0} (r : ParsedRegion A) (meant : Result PlacedRegion DecodeError) (d : Drawing) (g : Grid) (answer : Result (Unit {0}) DecodeError) → IsWhole (info_of r) (initial_of r) d.grid → meant ≡ apart r → Gives (λ _. g) answer (drawn r) → Gives (λ _. record d { grid = g; untouched = false }) answer (shown d meant)
+pub whole-gives : {A : Type 0} (r : ParsedRegion A) (meant : Result PlacedRegion DecodeError) (d : Drawing) (g : Grid) (result : Result (Unit {0}) DecodeError) → IsWhole (info_of r) (initial_of r) d.grid → meant ≡ placed_region r → Gives (λ _. g) result (drawn r) → Gives (λ _. record d { grid = g; untouched = false }) result (shown d meant)
 whole-gives r meant d g (Ok u) whole leads is = whole-shown r meant d g whole leads is
 whole-gives r meant d g (Err e) whole leads (inl memory) = inl memory
 whole-gives r meant d g (Err e) whole leads (inr failed) = inr (whole-failed r meant d e whole.columns whole.rows leads failed)
@@ -140,7 +140,7 @@ pub kept-refused : (number : ℕ) (d : Drawing) (meant : Result PlacedRegion Dec
 kept-refused number d meant e (inl memory) = inl memory
 kept-refused number d meant e (inr failed) = inr (ap (λ (a : Result PlacedRegion DecodeError). a >>= λ r. let kept : Result Drawing DecodeError = Ok (with_region number d r) in kept) failed)
 
-pub led-to : {A : Type 0} (r : ParsedRegion A) (meant : Result PlacedRegion DecodeError) (e : DecodeError) → meant ≡ apart r → (e ≡ OutOfMemory) ⊎ (apart r ≡ Err e) → (e ≡ OutOfMemory) ⊎ (meant ≡ Err e)
+pub led-to : {A : Type 0} (r : ParsedRegion A) (meant : Result PlacedRegion DecodeError) (e : DecodeError) → meant ≡ placed_region r → (e ≡ OutOfMemory) ⊎ (placed_region r ≡ Err e) → (e ≡ OutOfMemory) ⊎ (meant ≡ Err e)
 led-to r meant e leads (inl memory) = inl memory
 led-to r meant e leads (inr failed) = inr (leads ∙ failed)
 
@@ -169,10 +169,10 @@ led {A = A} r strict globals kind is_intermediate p page regions items names unt
     ∙ leads
 
 -- a page that is as it was
-pub left-as-was : (inside d : Drawing) (page : Grid) (answer : Result (Unit {0}) DecodeError) → inside ≡ d → IfErr answer (λ e. (e ≡ OutOfMemory) ⊎ (page ≡ inside.grid)) → IfErr answer (λ e. (e ≡ OutOfMemory) ⊎ (touched (record inside { grid = page }) ≡ touched d))
+pub left-as-was : (inside d : Drawing) (page : Grid) (result : Result (Unit {0}) DecodeError) → inside ≡ d → IfErr result (λ e. (e ≡ OutOfMemory) ⊎ (page ≡ inside.grid)) → IfErr result (λ e. (e ≡ OutOfMemory) ⊎ (after_immediate (record inside { grid = page }) ≡ after_immediate d))
 left-as-was inside d page (Ok u) view left = left
 left-as-was inside d page (Err e) view (inl memory) = inl memory
-left-as-was inside d page (Err e) view (inr same) = inr (ap (λ (g : Grid). touched (record inside { grid = g })) same ∙ ap touched view)
+left-as-was inside d page (Err e) view (inr same) = inr (ap (λ (g : Grid). after_immediate (record inside { grid = g })) same ∙ ap after_immediate view)
 
 -- an intermediate region is kept
 pub stored : (number : ℕ) (inside d : Drawing) (meant : Result PlacedRegion DecodeError) (region : PlacedRegion) → inside ≡ d → meant ≡ Ok region → Ok (with_region number inside region) ≡ (meant >>= λ r. Ok (with_region number d r))
@@ -185,10 +185,10 @@ pub drawn-either : (strict : Bool) (number : ℕ) (d d' : Drawing) (meant : Resu
 drawn-either strict number d d' meant is = ap (λ (r : Result Drawing DecodeError). or_passed_over strict number d r) is
 
 -- a region that failed is passed over
-pub passed : (strict : Bool) (number : ℕ) (d d1 d' : Drawing) (meant : Result Drawing DecodeError) (e : DecodeError) (answer : Result (Unit {0}) DecodeError)
-    → (e ≡ OutOfMemory) ⊎ (meant ≡ Err e) → (e ≡ OutOfMemory) ⊎ (touched d1 ≡ touched d) → (e ≡ OutOfMemory → answer ≡ Err OutOfMemory) → Gives (λ _. d') answer (or_passed_over strict number d1 (Err e)) → Gives (λ _. d') answer (or_passed_over strict number d meant)
-passed strict number d d1 d' meant e answer (inl memory) left refused gives = subst (λ (a : Result (Unit {0}) DecodeError). Gives (λ _. d') a (or_passed_over strict number d meant)) (sym (refused memory)) (inl refl)
-passed strict number d d1 d' meant e answer (inr failed) (inl memory) refused gives = subst (λ (a : Result (Unit {0}) DecodeError). Gives (λ _. d') a (or_passed_over strict number d meant)) (sym (refused memory)) (inl refl)
-passed strict number d d1 d' meant e answer (inr failed) (inr same) refused gives =
-    subst (λ (r : Result Drawing DecodeError). Gives (λ _. d') answer (or_passed_over strict number d r)) (sym failed)
-    (subst (λ (b : Drawing). Gives (λ _. d') answer (if strict then Err e else Ok (record b { untouched = false; passed_over = with_passed number e b.passed_over }))) same gives)
+pub passed : (strict : Bool) (number : ℕ) (d d1 d' : Drawing) (meant : Result Drawing DecodeError) (e : DecodeError) (result : Result (Unit {0}) DecodeError)
+    → (e ≡ OutOfMemory) ⊎ (meant ≡ Err e) → (e ≡ OutOfMemory) ⊎ (after_immediate d1 ≡ after_immediate d) → (e ≡ OutOfMemory → result ≡ Err OutOfMemory) → Gives (λ _. d') result (or_passed_over strict number d1 (Err e)) → Gives (λ _. d') result (or_passed_over strict number d meant)
+passed strict number d d1 d' meant e result (inl memory) left refused gives = subst (λ (a : Result (Unit {0}) DecodeError). Gives (λ _. d') a (or_passed_over strict number d meant)) (sym (refused memory)) (inl refl)
+passed strict number d d1 d' meant e result (inr failed) (inl memory) refused gives = subst (λ (a : Result (Unit {0}) DecodeError). Gives (λ _. d') a (or_passed_over strict number d meant)) (sym (refused memory)) (inl refl)
+passed strict number d d1 d' meant e result (inr failed) (inr same) refused gives =
+    subst (λ (r : Result Drawing DecodeError). Gives (λ _. d') result (or_passed_over strict number d r)) (sym failed)
+    (subst (λ (b : Drawing). Gives (λ _. d') result (if strict then Err e else Ok (record b { untouched = false; passed_over = with_passed number e b.passed_over }))) same gives)

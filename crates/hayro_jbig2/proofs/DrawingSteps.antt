@@ -2,7 +2,7 @@
 use Rattle.std.proofs.Common.{◌≡◌, ℕ, ◌+◌, ◌≤◌, Bool, true, false, List, [], ◌∷◌, Result, Ok, Err, refl, arith}
 use Rattle.std.specs.Prelude.{IfOk}
 use Rattle.std.proofs.lemmas.Bool.{cond_both}
-use Rattle.jbig2_base.specs.Answer.{◌>>=◌}
+use Rattle.jbig2_base.specs.Results.{◌>>=◌}
 use Rattle.jbig2_base.specs.Reading.{is_salvaged, is_strict}
 use Rattle.jbig2_base.specs.Segment.{SegmentView}
 use Rattle.jbig2_base.specs.declared.error.DecodeError.{DecodeError}
@@ -10,7 +10,7 @@ use Rattle.jbig2_base.specs.declared.reading.Reading.{Reading}
 use Rattle.jbig2_base.specs.declared.reading.Reading.TheVariants.{Strict, Lenient, Salvage}
 use Rattle.jbig2_region.specs.RegionInfo.{PlacedRegion}
 use Rattle.hayro_jbig2.specs.Names.{Names, kept_by}
-use Rattle.hayro_jbig2.specs.Page.{Drawing, segments_drawn, ends_page, immediate, intermediate, keeping, or_left_out, or_passed_over, passing, region_at, segment_by, segment_on, shown, with_region}
+use Rattle.hayro_jbig2.specs.Page.{Drawing, segments_drawn, ends_page, immediate, intermediate, with_names, or_left_out, or_passed_over, passing, region_at, segment_by, segment_on, shown, with_region}
 use Rattle.hayro_jbig2.proofs.SegmentTypes.{of-segment}
 
 -- R holds between what was drawn before a segment and what is drawn after it, whatever the segment is.
@@ -29,7 +29,7 @@ step-stored : (strict : Bool) (R : Drawing → Drawing → Type 0) → StepsBy s
 step-stored strict R by number d (Ok region) = by.stores d number region
 step-stored strict R by number d (Err e) = tt
 
-step-kept : (strict : Bool) (R : Drawing → Drawing → Type 0) → StepsBy strict R → (d : Drawing) (kept : Result Names DecodeError) → IfOk (keeping d kept) (R d)
+step-kept : (strict : Bool) (R : Drawing → Drawing → Type 0) → StepsBy strict R → (d : Drawing) (kept : Result Names DecodeError) → IfOk (with_names d kept) (R d)
 step-kept strict R by d (Ok names) = by.keeps d names
 step-kept strict R by d (Err e) = tt
 

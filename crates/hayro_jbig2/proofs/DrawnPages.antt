@@ -1,7 +1,7 @@
 -- Drawings, and what calls make of them.
 use Rattle.std.proofs.Common.{◌≡◌, ℕ, List, Result, Ok, Err, ◌⊎◌, inl, inr, refl, sym, subst, ap, ◌∙◌}
 use Rattle.std.specs.Prelude.{IfOk}
-use Rattle.jbig2_base.specs.Answer.{Gives, Leaves, ◌>>=◌}
+use Rattle.jbig2_base.specs.Results.{Gives, Leaves, ◌>>=◌}
 use Rattle.jbig2_base.specs.Grid.{Grid}
 use Rattle.jbig2_base.specs.declared.error.DecodeError.{DecodeError}
 use Rattle.jbig2_base.specs.declared.error.DecodeError.TheVariants.{OutOfMemory}
@@ -19,7 +19,7 @@ unfolding grid_of_page
 grid-refused page e (inl memory) = inl memory
 grid-refused page e (inr failed) = inr (ap (λ (r : Result Drawing DecodeError). r >>= λ f. let g : Result Grid DecodeError = Ok f.grid in g) failed)
 
-pub gives-grid : (page : ReadPage) (answer : Result (Unit {0}) DecodeError) (d : Drawing) → Gives (λ _. d) answer (drawing_of_page page) → Gives (λ _. d.grid) answer (grid_of_page page)
+pub gives-grid : (page : ReadPage) (result : Result (Unit {0}) DecodeError) (d : Drawing) → Gives (λ _. d) result (drawing_of_page page) → Gives (λ _. d.grid) result (grid_of_page page)
 gives-grid page (Ok u) d is = grid-is page d is
 gives-grid page (Err e) d is = grid-refused page e is
 
@@ -37,8 +37,8 @@ packed-refused page e (inl memory) = inl memory
 packed-refused page e (inr failed) = inr (ap (λ (r : Result Grid DecodeError). r >>= λ q. let made : Result (List ℕ) DecodeError = Ok (packed_of page.initial_page.width page.initial_page.height q) in made) failed)
 
 -- what the context is left with
-pub left-drawn : (meant : Result Drawing DecodeError) (d : Drawing) (answer : Result (Unit {0}) DecodeError) → meant ≡ Ok d → IfOk meant (Leaves answer d)
-left-drawn meant d answer is = subst (λ (r : Result Drawing DecodeError). IfOk r (Leaves answer d)) (sym is) (by answer)
+pub left-drawn : (meant : Result Drawing DecodeError) (d : Drawing) (result : Result (Unit {0}) DecodeError) → meant ≡ Ok d → IfOk meant (Leaves result d)
+left-drawn meant d result is = subst (λ (r : Result Drawing DecodeError). IfOk r (Leaves result d)) (sym is) (by result)
   where
     by : (r : Result (Unit {0}) DecodeError) → Leaves r d d
     by (Ok u) = refl
@@ -50,8 +50,8 @@ left-refused (Err f) d e (inl memory) = tt
 left-refused meant d e (inr failed) = subst (λ (r : Result Drawing DecodeError). IfOk r (Leaves {X = Unit {0}} (Err e) d)) (sym failed) tt
 
 -- the calls that a drawing's grid has
-pub sent : {S : Type 0} (c : Conduct S) (page : ReadPage) (d : Drawing) (b : Grid) (answer : Result (Unit {0}) DecodeError) (old new : S) → drawing_of_page page ≡ Ok d → b ≡ d.grid → Sends c (calls_of b) answer old new → Decodes c (grid_of_page page) answer old new
-sent c page d b answer old new is same sends = subst (λ (r : Result Grid DecodeError). Decodes c r answer old new) (sym (grid-is page d is ∙ ap (λ (g : Grid). let r : Result Grid DecodeError = Ok g in r) (sym same))) (by answer sends)
+pub sent : {S : Type 0} (c : Conduct S) (page : ReadPage) (d : Drawing) (b : Grid) (result : Result (Unit {0}) DecodeError) (old new : S) → drawing_of_page page ≡ Ok d → b ≡ d.grid → Sends c (calls_of b) result old new → Decodes c (grid_of_page page) result old new
+sent c page d b result old new is same sends = subst (λ (r : Result Grid DecodeError). Decodes c r result old new) (sym (grid-is page d is ∙ ap (λ (g : Grid). let r : Result Grid DecodeError = Ok g in r) (sym same))) (by result sends)
   where
     by : (r : Result (Unit {0}) DecodeError) → Sends c (calls_of b) r old new → Decodes c (Ok b) r old new
     by (Ok u) made = made

@@ -1,6 +1,6 @@
 -- Worked rows of files, computed from the definitions alone: from bytes to pages, calls and images, or an error.
 use Rattle.std.proofs.Common.{◌≡◌, ℕ, Bool, true, false, List, [], ◌∷◌, ◌++◌, map, replicate, Result, Ok, Err, refl}
-use Rattle.jbig2_base.specs.Answer.{◌>>=◌}
+use Rattle.jbig2_base.specs.Results.{◌>>=◌}
 use Rattle.jbig2_base.specs.File.{file_at, headers_in, identification, file_header_at}
 use Rattle.jbig2_base.specs.Grid.{table, pixel_at}
 use Rattle.jbig2_base.specs.PageInfo.{information_at}
@@ -15,7 +15,7 @@ use Rattle.jbig2_base.specs.Reading.{reading_of}
 use Rattle.jbig2_base.specs.declared.reading.Reading.{Reading}
 use Rattle.jbig2_base.specs.declared.reading.Reading.TheVariants.{Strict, Lenient}
 use Rattle.hayro_jbig2.specs.Calls.{Call, Chunk, Line, whole_calls, row_of, calls_of}
-use Rattle.hayro_jbig2.specs.Files.{filed_from, book_at, pages_of}
+use Rattle.hayro_jbig2.specs.Files.{page_in_file, book_at, pages_of}
 use Rattle.hayro_jbig2.specs.Image.{first_page, first_size, first_image, image_of}
 use Rattle.hayro_jbig2.specs.Names.{globals_at}
 use Rattle.hayro_jbig2.specs.Page.{beginning_of, grid_of_page}
@@ -82,23 +82,23 @@ unfolding globals_at segments_in segment_at header_at referred_at count_at type_
 row_3-reference = refl
 
 row_16 : calls_in true (headed 1 (page_header ++ (page_data ++ end_of_page))) ≡ Ok one_white
-unfolding calls_in book_at file_at file_header_at segments_in segment_at header_at referred_at count_at type_of filed_from beginning_of information_at grid_of_page table pixel_at calls_of row_of whole_calls
+unfolding calls_in book_at file_at file_header_at segments_in segment_at header_at referred_at count_at type_of page_in_file beginning_of information_at grid_of_page table pixel_at calls_of row_of whole_calls
 row_16 = refl
 
 row_16-unended : book_at Strict (headed 1 (page_header ++ page_data)) ≡ Err (Format InvalidEndOfPage)
-unfolding book_at file_at file_header_at segments_in segment_at header_at referred_at count_at type_of filed_from
+unfolding book_at file_at file_header_at segments_in segment_at header_at referred_at count_at type_of page_in_file
 row_16-unended = refl
 
 row_16-headers_first : calls_in true (headed 0 (page_header ++ (end_of_page ++ (end_of_file ++ page_data)))) ≡ Ok one_white
-unfolding calls_in book_at file_at file_header_at headers_in header_at referred_at count_at type_of filed_from beginning_of information_at grid_of_page table pixel_at calls_of row_of whole_calls
+unfolding calls_in book_at file_at file_header_at headers_in header_at referred_at count_at type_of page_in_file beginning_of information_at grid_of_page table pixel_at calls_of row_of whole_calls
 row_16-headers_first = refl
 
 row_R9_3-size : first_size (headed 1 (page_header ++ (page_data ++ end_of_page))) ≡ Ok (8, 1)
-unfolding first_page book_at file_at file_header_at segments_in segment_at header_at referred_at count_at type_of filed_from beginning_of information_at
+unfolding first_page book_at file_at file_header_at segments_in segment_at header_at referred_at count_at type_of page_in_file beginning_of information_at
 row_R9_3-size = refl
 
 row_R9_3-image : first_image (headed 1 (page_header ++ (page_data ++ end_of_page))) ≡ Ok (replicate 8 255)
-unfolding first_page book_at file_at file_header_at segments_in segment_at header_at referred_at count_at type_of filed_from beginning_of information_at grid_of_page table pixel_at image_of
+unfolding first_page book_at file_at file_header_at segments_in segment_at header_at referred_at count_at type_of page_in_file beginning_of information_at grid_of_page table pixel_at image_of
 row_R9_3-image = refl
 
 row_R9_4 : first_image (identification ++ 3 ∷ []) ≡ Err (Format MissingPageInfo)

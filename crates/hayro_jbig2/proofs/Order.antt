@@ -1,16 +1,16 @@
 -- The order of segments of different numbers, and what stands after the end of a page.
 use Rattle.std.proofs.Common.{◌≡◌, ◌≢◌, ℕ, ◌<◌, Bool, true, false, cond, nat_lt, List, [], ◌∷◌, ◌++◌, Option, Result, Ok, Err, refl, sym, ap, ◌∙◌, arith}
 use Rattle.std.proofs.lemmas.Bool.{cond-true, cond-false, cond_both, ltb-true, ltb-false, lt-ltb, le-ltb}
-use Rattle.jbig2_base.specs.Answer.{◌>>=◌}
+use Rattle.jbig2_base.specs.Results.{◌>>=◌}
 use Rattle.jbig2_base.specs.Reading.{fault_of}
 use Rattle.jbig2_base.specs.Segment.{SegmentView}
 use Rattle.jbig2_base.specs.Sequential.{by_number, insert_by, sequential, sorted_segments}
 use Rattle.jbig2_base.specs.declared.error.DecodeError.{DecodeError}
 use Rattle.jbig2_base.specs.declared.reading.Reading.{Reading}
 use Rattle.jbig2_base.specs.declared.reading.Reading.TheVariants.{Lenient}
-use Rattle.hayro_jbig2.specs.Names.{Names, globals_at, named_from, nothing_shared}
+use Rattle.hayro_jbig2.specs.Names.{Names, globals_at, shared_from, nothing_shared}
 use Rattle.hayro_jbig2.specs.Order.{EndOfPageEnds, IsReordered, OrderChangesNothing, Unchanged, After, Exchanged, Then}
-use Rattle.hayro_jbig2.specs.Page.{Drawing, ReadPage, beginning_of, embedded, ends_page, page_begun, segment_on, segments_drawn}
+use Rattle.hayro_jbig2.specs.Page.{Drawing, ReadPage, beginning_of, embedded, ends_page, blank_page, segment_on, segments_drawn}
 
 -- ---- order
 abbrev number : SegmentView → ℕ
@@ -66,8 +66,8 @@ order_changes_nothing = record {
       (sorted-as reading bytes others ps qs one other moved)
       ∙ ap (λ (f : Option DecodeError). sorted_segments reading others >>= λ segments. beginning_of reading segments >>= λ begun. let made : Result ReadPage DecodeError = Ok (record { reading = reading; initial_page = begun; segments = segments; globals = Ok globals; fault = f }) in made) fault;
   globals = λ reading bytes others ps qs one other moved fault.
-      ap (λ (r : Result (List SegmentView) DecodeError). r >>= λ segments. named_from reading segments (nothing_shared (fault_of reading (sequential Lenient bytes)))) (sorted-as reading bytes others ps qs one other moved)
-      ∙ ap (λ (f : Option DecodeError). sorted_segments reading others >>= λ segments. named_from reading segments (nothing_shared f)) fault;
+      ap (λ (r : Result (List SegmentView) DecodeError). r >>= λ segments. shared_from reading segments (nothing_shared (fault_of reading (sequential Lenient bytes)))) (sorted-as reading bytes others ps qs one other moved)
+      ∙ ap (λ (f : Option DecodeError). sorted_segments reading others >>= λ segments. shared_from reading segments (nothing_shared f)) fault;
 }
 
 -- ---- after the end of a page
@@ -87,6 +87,6 @@ names-next (Err e) next other each = refl
 
 pub end_of_page_ends : EndOfPageEnds
 end_of_page_ends page ps others end are ends =
-    names-next page.globals (λ names. segments_drawn page.reading names page.segments (page_begun page.initial_page)) (λ names. segments_drawn page.reading names ps (page_begun page.initial_page)) (λ names.
-    ap (λ (segments : List SegmentView). segments_drawn page.reading names segments (page_begun page.initial_page)) are
-    ∙ drawn-to-end page.reading names ps others end (page_begun page.initial_page) ends)
+    names-next page.globals (λ names. segments_drawn page.reading names page.segments (blank_page page.initial_page)) (λ names. segments_drawn page.reading names ps (blank_page page.initial_page)) (λ names.
+    ap (λ (segments : List SegmentView). segments_drawn page.reading names segments (blank_page page.initial_page)) are
+    ∙ drawn-to-end page.reading names ps others end (blank_page page.initial_page) ends)

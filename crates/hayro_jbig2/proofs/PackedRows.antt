@@ -3,7 +3,7 @@ use Rattle.std.proofs.Common.{mul-le-mul_left, ⊎_elim, false, get_or, length, 
 use Rattle.std.proofs.lemmas.Bool.{cases_lt}
 use Rattle.std.proofs.lemmas.List.FromFn.{length-map-range_with_len, take-map-range_with_len}
 use Rattle.std.specs.List.{range_with_len}
-use Rattle.jbig2_base.specs.Answer.{◌>>=◌}
+use Rattle.jbig2_base.specs.Results.{◌>>=◌}
 use Rattle.jbig2_base.specs.declared.error.DecodeError.{DecodeError}
 use Rattle.jbig2_base.specs.Grid.{Grid, pixel_at, bit_number}
 use Rattle.jbig2_base.specs.Bits.{bit}
@@ -12,8 +12,8 @@ use Rattle.jbig2_base.proofs.GridLemmas.{pixel_at-below, pixel_at-grid_of, pixel
 use Rattle.jbig2_coder.specs.Integers.{value_of_bits}
 use Rattle.hayro_jbig2.specs.Page.{ReadPage, grid_of_page}
 use Rattle.hayro_jbig2.specs.Image.{packed_byte, packed_of, packed_of_page, packed_part, packed_size, row_bytes}
-use Rattle.hayro_jbig2.specs.inner.Puts.{top_byte, word_byte}
-use Rattle.hayro_jbig2.specs.inner.Whole.{IsBegun}
+use Rattle.hayro_jbig2.specs.inner.BufferBytes.{top_byte, word_byte}
+use Rattle.hayro_jbig2.specs.inner.WholePages.{IsBlankPage}
 
 pub map-same : {X : Type 0} (f g : ℕ → X) (a n : ℕ) → ((i : ℕ) → a ≤ i → i < a + n → f i ≡ g i) → map f (range_with_len a n) ≡ map g (range_with_len a n)
 map-same f g a zero same = refl
@@ -79,7 +79,7 @@ words-more g words before after first index column y place at inside loaded writ
     (cases_lt i (8 * index))
 
 -- a page on which nothing was drawn
-white-pixel : (g : Grid) → IsBegun false g → (x y : ℕ) → pixel_at g x y ≡ false
+white-pixel : (g : Grid) → IsBlankPage false g → (x y : ℕ) → pixel_at g x y ≡ false
 white-pixel g begun x y =
     ⊎_elim
     (λ (left : x < g.width).
@@ -90,7 +90,7 @@ white-pixel g begun x y =
     (λ (right : g.width ≤ x). pixel_at-right g x y right)
     (cases_lt x g.width)
 
-white-byte : (g : Grid) (k y : ℕ) → IsBegun false g → packed_byte g k y ≡ 0
+white-byte : (g : Grid) (k y : ℕ) → IsBlankPage false g → packed_byte g k y ≡ 0
 unfolding packed_byte value_of_bits
 white-byte g k y begun = ap (λ (bits : List Bool). value_of_bits bits) (map-same (λ i. pixel_at g (8 * k + i) y) (λ i. false) 0 8 (λ i above below. white-pixel g begun (8 * k + i) y))
 
@@ -98,7 +98,7 @@ zeros : (a n : ℕ) → map {B = ℕ} (λ (k : ℕ). 0) (range_with_len a n) ≡
 zeros a zero = refl
 zeros a (suc n) = ap (λ (xs : List ℕ). 0 ∷ xs) (zeros (a + 1) n)
 
-pub white-part : (w : ℕ) (g : Grid) (start count : ℕ) → IsBegun false g → packed_part w g start count ≡ replicate count 0
+pub white-part : (w : ℕ) (g : Grid) (start count : ℕ) → IsBlankPage false g → packed_part w g start count ≡ replicate count 0
 unfolding packed_part
 white-part w g start count begun = map-same (λ n. packed_byte g (n % row_bytes w) (n / row_bytes w)) (λ n. 0) start count (λ n above below. white-byte g (n % row_bytes w) (n / row_bytes w) begun) ∙ zeros start count
 

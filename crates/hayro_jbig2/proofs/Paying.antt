@@ -15,7 +15,7 @@ use Rattle.jbig2_steps.specs.Work.{CountsWithin, Paid, PaidBut, price_of_bitmap,
 use Rattle.hayro_jbig2.specs.Page.{Drawing, ReadPage, drawing_of_page}
 use Rattle.hayro_jbig2.specs.declared.region.parsed_region.ParsedRegion.{ParsedRegion}
 use Rattle.hayro_jbig2.specs.declared.region.parsed_region.ParsedRegion.TheVariants.{Text, Halftone, Generic, Refinement, PageRefinement}
-use Rattle.hayro_jbig2.specs.inner.Parsed.{drawn, info_of}
+use Rattle.hayro_jbig2.specs.inner.ParsedRegions.{drawn, info_of}
 use Rattle.hayro_jbig2.specs.inner.Prices.{counts_of, price_besides, price_of_info}
 use Rattle.hayro_jbig2.proofs.Direct.{drawn-made}
 use Rattle.hayro_jbig2.proofs.DrawnPages.{grid-is}

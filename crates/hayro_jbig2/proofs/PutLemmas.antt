@@ -2,16 +2,16 @@
 use Rattle.std.proofs.Common.{◌≡◌, ℕ, ◌+◌, ◌<◌, ◌≤◌, List, length, get_or, set, refl, ap, sym, subst, ◌∙◌, ⊎_elim, arith}
 use Rattle.std.proofs.lemmas.Bool.{cases_lt}
 use Rattle.std.proofs.lemmas.List.{get_or-set_same, get_or-set_other, length-set}
-use Rattle.hayro_jbig2.specs.inner.Puts.{Puts}
+use Rattle.hayro_jbig2.specs.inner.BufferBytes.{Fills}
 
-pub puts-none : (byte : ℕ → ℕ) (place count : ℕ) (buf : List ℕ) → count ≡ 0 → Puts byte place count buf buf
+pub puts-none : (byte : ℕ → ℕ) (place count : ℕ) (buf : List ℕ) → count ≡ 0 → Fills byte place count buf buf
 puts-none byte place count buf none = record {
   sized = refl;
   before = λ k early. refl;
   bytes = λ i below. absurd (omega (arith, below, none));
 }
 
-pub puts-next : (byte : ℕ → ℕ) (place i : ℕ) (old buf : List ℕ) (value : ℕ) → place + i < length buf → value ≡ byte i → Puts byte place i old buf → Puts byte place (i + 1) old (set buf (place + i) value)
+pub puts-next : (byte : ℕ → ℕ) (place i : ℕ) (old buf : List ℕ) (value : ℕ) → place + i < length buf → value ≡ byte i → Fills byte place i old buf → Fills byte place (i + 1) old (set buf (place + i) value)
 puts-next byte place i old buf value inside is kept =
     let at : ℕ = place + i in
     record {
@@ -26,5 +26,5 @@ puts-next byte place i old buf value inside is kept =
           (cases_lt j i);
     }
 
-pub puts-all : (byte : ℕ → ℕ) (place i count : ℕ) (old new : List ℕ) → i ≡ count → Puts byte place i old new → Puts byte place count old new
-puts-all byte place i count old new all put = subst (λ (n : ℕ). Puts byte place n old new) all put
+pub puts-all : (byte : ℕ → ℕ) (place i count : ℕ) (old new : List ℕ) → i ≡ count → Fills byte place i old new → Fills byte place count old new
+puts-all byte place i count old new all put = subst (λ (n : ℕ). Fills byte place n old new) all put

@@ -3,7 +3,7 @@ use Rattle.std.proofs.Common.{◌≡◌, ℕ, ◌==◌, ◌≤◌, ◌||◌, Boo
 use Rattle.std.proofs.lemmas.Bool.{eqb-true, ne_eqb}
 use Rattle.std.specs.Prelude.{Any, slice_get}
 use Rattle.jbig2_base.proofs.Causes.{went}
-use Rattle.jbig2_base.specs.Answer.{◌>>=◌}
+use Rattle.jbig2_base.specs.Results.{◌>>=◌}
 use Rattle.jbig2_base.specs.PageInfo.{first_information}
 use Rattle.jbig2_base.specs.Reading.{fault_of, is_salvaged}
 use Rattle.jbig2_base.specs.Segment.{SegmentView}
@@ -12,10 +12,10 @@ use Rattle.jbig2_base.specs.declared.error.DecodeError.{DecodeError}
 use Rattle.jbig2_base.specs.declared.page_info.InitialPage.{InitialPage}
 use Rattle.jbig2_base.specs.declared.reading.Reading.{Reading}
 use Rattle.jbig2_base.specs.declared.reading.Reading.TheVariants.{Lenient, Salvage}
-use Rattle.hayro_jbig2.specs.Files.{PageInFile, ReadFile, book_at, filed_before, filed_each, filed_from, numbers_after, of_page, page_in, page_of}
+use Rattle.hayro_jbig2.specs.Files.{PageInFile, ReadFile, book_at, before_pages, pages_in_file, page_in_file, numbers_after, of_page, page_in, page_of}
 use Rattle.hayro_jbig2.specs.Lenient.{HasBeginning, SalvageRefusesLittle}
 use Rattle.hayro_jbig2.specs.Names.{Names, Shared}
-use Rattle.hayro_jbig2.specs.Page.{ReadPage, beginning_of, drawing_of_page, embedded, page_begun, segments_drawn}
+use Rattle.hayro_jbig2.specs.Page.{ReadPage, beginning_of, drawing_of_page, embedded, blank_page, segments_drawn}
 use Rattle.hayro_jbig2.proofs.Books.{file-of_book, filled_from, mapped, number-of_filed}
 use Rattle.hayro_jbig2.proofs.ByPages.{is_among, no_segments}
 use Rattle.hayro_jbig2.proofs.Causes.{at-first, at-later}
@@ -24,24 +24,24 @@ use Rattle.hayro_jbig2.proofs.Salvaging.{IsFine, begun, fine-book, fine-drawn, f
 -- ---- pages
 fine-drawing : (page : ReadPage) → page.reading ≡ Salvage → IsFine page.globals → IsFine (drawing_of_page page)
 fine-drawing page is globals =
-    subst (λ (reading : Reading). IsFine (page.globals >>= λ names. segments_drawn reading names page.segments (page_begun page.initial_page))) (sym is)
-    (fine-next page.globals _ globals (λ names. fine-drawn names page.segments (page_begun page.initial_page)))
+    subst (λ (reading : Reading). IsFine (page.globals >>= λ names. segments_drawn reading names page.segments (blank_page page.initial_page))) (sym is)
+    (fine-next page.globals _ globals (λ names. fine-drawn names page.segments (blank_page page.initial_page)))
 
 fine-page : (names : Names) (bytes : List ℕ) (ps : List SegmentView) → sorted_segments Salvage bytes ≡ Ok ps → HasBeginning ps → IsFine (embedded Salvage names bytes >>= λ page. drawing_of_page page)
 unfolding embedded
 fine-page names bytes ps read has =
     let page : List SegmentView → InitialPage → ReadPage = λ own first. record { reading = Salvage; initial_page = first; segments = own; globals = Ok names; fault = fault_of Salvage (sequential Lenient bytes) } in
     subst (λ (r : Result (List SegmentView) DecodeError). IsFine ((r >>= λ own. beginning_of Salvage own >>= λ first. let s : Result ReadPage DecodeError = Ok (page own first) in s) >>= λ p. drawing_of_page p)) (sym read)
-    (fine-over (beginning_of Salvage ps) (page ps) (λ p. drawing_of_page p) (begun ps has) (λ first. fine-drawn names ps (page_begun first)))
+    (fine-over (beginning_of Salvage ps) (page ps) (λ p. drawing_of_page p) (begun ps has) (λ first. fine-drawn names ps (blank_page first)))
 
 -- ---- the pages of a file
-fine-begun : (own : List SegmentView) → HasBeginning own → IsFine (filed_from Salvage own)
-unfolding filed_from
+fine-begun : (own : List SegmentView) → HasBeginning own → IsFine (page_in_file Salvage own)
+unfolding page_in_file
 fine-begun own has = fine-next (beginning_of Salvage own) _ (begun own has) (λ first. refl)
 
 -- a page before the others, or one that is left out: what holds of it, or else of one of the others, holds of one of them all
 any-filed : (P : PageInFile → Type 0) (b : Bool) (r : Result PageInFile DecodeError) (others : Result (List PageInFile) DecodeError) (pages : List PageInFile)
-    → (b ≡ true → IsFine r) → ((page : PageInFile) → b ≡ true → r ≡ Ok page → P page) → (b ≡ false → (rest : List PageInFile) → others ≡ Ok rest → Any P rest) → filed_before Salvage r others ≡ Ok pages → Any P pages
+    → (b ≡ true → IsFine r) → ((page : PageInFile) → b ≡ true → r ≡ Ok page → P page) → (b ≡ false → (rest : List PageInFile) → others ≡ Ok rest → Any P rest) → before_pages Salvage r others ≡ Ok pages → Any P pages
 any-filed P true (Ok page) others pages fine first rest h =
     let after = went others (λ more. Ok (page ∷ more)) pages h in
     let same : page ∷ after.0 ≡ pages = let told = after.2 in cc in
@@ -57,11 +57,11 @@ any-filed P false (Err e) others pages fine first rest h = by (is_salvaged Salva
     by true is = rest refl pages is
     by false is = absurd (cc)
 
-filed-among : (ps : List SegmentView) (n : ℕ) (ns : List ℕ) (pages : List PageInFile) → IsFine (filed_from Salvage (of_page n ps)) → is_among n ns ≡ true → filed_each Salvage (map (λ m. of_page m ps) ns) ≡ Ok pages → Any (λ page. page.initial_page.number ≡ n) pages
+filed-among : (ps : List SegmentView) (n : ℕ) (ns : List ℕ) (pages : List PageInFile) → IsFine (page_in_file Salvage (of_page n ps)) → is_among n ns ≡ true → pages_in_file Salvage (map (λ m. of_page m ps) ns) ≡ Ok pages → Any (λ page. page.initial_page.number ≡ n) pages
 filed-among ps n [] pages fine among h = absurd (cc)
 filed-among ps n (m ∷ ms) pages fine among h =
-    any-filed (λ page. page.initial_page.number ≡ n) (m == n) (filed_from Salvage (of_page m ps)) (filed_each Salvage (map (λ k. of_page k ps) ms)) pages
-    (λ is. subst (λ (q : ℕ). IsFine (filed_from Salvage (of_page q ps))) (sym (eqb-true m n is)) fine)
+    any-filed (λ page. page.initial_page.number ≡ n) (m == n) (page_in_file Salvage (of_page m ps)) (pages_in_file Salvage (map (λ k. of_page k ps) ms)) pages
+    (λ is. subst (λ (q : ℕ). IsFine (page_in_file Salvage (of_page q ps))) (sym (eqb-true m n is)) fine)
     (λ page is made. number-of_filed Salvage m ps page made ∙ eqb-true m n is)
     (λ apart rest made. filed-among ps n ms rest fine (sym (ap (λ (b : Bool). b || is_among n ms) apart) ∙ among) made) h
 

@@ -1,6 +1,6 @@
 -- What a region decodes to is a table of its size.
 use Rattle.std.proofs.Common.{◌≡◌, ℕ, zero, suc, ◌+◌, ◌-◌, ◌*◌, eqb, nat_lt, Bool, true, false, not, ◌&&◌, if◌then◌else◌, ℤ, pos, ◌+ℤ◌, ◌-ℤ◌, List, [], ◌∷◌, slice_index_or, Option, Some, None, Result, Ok, Err, refl, sym, ◌∙◌, ap, subst}
-use Rattle.jbig2_base.specs.Answer.{◌>>=◌, refuse_if}
+use Rattle.jbig2_base.specs.Results.{◌>>=◌, refuse_if}
 use Rattle.jbig2_base.specs.Combination.{combined, drawn_pixel}
 use Rattle.jbig2_base.specs.Grid.{Grid, grid_of, blank}
 use Rattle.jbig2_base.specs.declared.bitmap.operator.CombinationOperator.{CombinationOperator}
@@ -8,23 +8,23 @@ use Rattle.jbig2_base.specs.declared.error.DecodeError.{DecodeError}
 use Rattle.jbig2_base.specs.declared.error.DecodeError.TheVariants.{Symbol}
 use Rattle.jbig2_base.specs.declared.error.SymbolError.TheVariants.{TooManyInstances}
 use Rattle.jbig2_halftone.specs.GrayScale.{gray_scale_image}
-use Rattle.jbig2_halftone.specs.Halftone.{cells_drawn, gray_params, halftone_answer, pattern_for, with_cell}
+use Rattle.jbig2_halftone.specs.Halftone.{cells_drawn, gray_params, halftone_result, pattern_for, with_cell}
 use Rattle.jbig2_halftone.specs.HalftoneHeader.{HalftoneHeader}
 use Rattle.jbig2_halftone.specs.Patterns.{Patterns}
 use Rattle.jbig2_mmr.specs.T6.{Decoded, rows_of, mmr_rows}
-use Rattle.jbig2_region.specs.{RegionInfo.{PlacedRegion}, Generic.{generic_answer, generic_grid, generic_region}}
+use Rattle.jbig2_region.specs.{RegionInfo.{PlacedRegion}, Generic.{generic_result, generic_grid, generic_region}}
 use Rattle.jbig2_region.specs.GenericHeader.{GenericHeader}
 use Rattle.jbig2_region.specs.Raster.{so_far}
-use Rattle.jbig2_region.specs.Refinement.{offset, refined_answer, refined_grid, refined_region}
+use Rattle.jbig2_region.specs.Refinement.{offset, refined_result, refined_grid, refined_region}
 use Rattle.jbig2_region.specs.RefinementHeader.{RefinementHeader}
 use Rattle.jbig2_text.specs.Refining.{Refining}
-use Rattle.jbig2_text.specs.Text.{Reached, Readings, TextParams, after_instances, coordinate, cursor_moved, instance_symbol, strip_begun, strip_delta, symbol_placed, t_in_strip, text_region, with_instance, with_symbol}
+use Rattle.jbig2_text.specs.Text.{Reached, Readings, TextParams, after_instances, coordinate, next_cursor, instance_symbol, strip_start, strip_delta, symbol_placed, t_in_strip, text_region, with_instance, with_symbol}
 use Rattle.jbig2_text.specs.declared.text.cursor.Cursor.{Cursor}
 use Rattle.jbig2_text.specs.declared.text.header.TextRegionFlags.{TextRegionFlags}
-use Rattle.jbig2_text.specs.inner.Parts.{end_of_strip}
+use Rattle.jbig2_text.specs.inner.FunctionResults.{end_of_strip}
 use Rattle.jbig2_text.specs.TextCoding.{by_coder, by_prefix_codes}
 use Rattle.jbig2_text.specs.TextHeader.{NumberCoding, TextHeader, ArithmeticCoding, HuffmanCoding}
-use Rattle.jbig2_text.specs.TextRegion.{coder_of, prefix_codes_of, refining_of, region_by, region_from, text_answer, text_params}
+use Rattle.jbig2_text.specs.TextRegion.{coder_of, prefix_codes_of, refining_of, region_by, region_from, text_result, text_params}
 use Rattle.jbig2_coder.specs.PrefixCode.{Member}
 
 abbrev pub Made : ℕ → ℕ → Grid → Type 0
@@ -59,7 +59,7 @@ rows-made : (strict : Bool) (w h : ℕ) (bytes : List ℕ) (g : Grid) → (mmr_r
 unfolding mmr_rows
 rows-made strict w h bytes g is = (_, rows-grid (strict && not (rows_of w h bytes).whole) _ _ g is)
 
-pub generic-made : (h : GenericHeader) (g : Grid) → generic_answer h ≡ Ok g → Made h.region_info.width h.region_info.height g
+pub generic-made : (h : GenericHeader) (g : Grid) → generic_result h ≡ Ok g → Made h.region_info.width h.region_info.height g
 unfolding generic_grid so_far
 generic-made h g is = either h.mmr is
   where
@@ -68,7 +68,7 @@ generic-made h g is = either h.mmr is
     either false done = ((λ x y. slice_index_or (generic_region h).pixels (y * h.region_info.width + x) false), ok-same (generic_grid h) g done)
 
 -- ---- refinements
-pub refined-made : (h : RefinementHeader) (from : PlacedRegion) (g : Grid) → refined_answer h from ≡ Ok g → Made h.region_info.width h.region_info.height g
+pub refined-made : (h : RefinementHeader) (from : PlacedRegion) (g : Grid) → refined_result h from ≡ Ok g → Made h.region_info.width h.region_info.height g
 unfolding refined_grid so_far
 refined-made h from g is =
     made-behind h.region_info.width h.region_info.height (offset from h.region_info) (λ d. Ok (refined_grid h from)) g
@@ -84,8 +84,8 @@ cells-made w v h d k (value ∷ values) region g made is =
     (λ pattern done. cells-made w v h d (k + 1) values (with_cell h k pattern region) g (combined-made w v h.flags.combination_operator region pattern _ _ made) done)
     is
 
-pub halftone-made : (h : HalftoneHeader) (d : Patterns) (g : Grid) → halftone_answer h d ≡ Ok g → Made h.region_info.width h.region_info.height g
-unfolding halftone_answer
+pub halftone-made : (h : HalftoneHeader) (d : Patterns) (g : Grid) → halftone_result h d ≡ Ok g → Made h.region_info.width h.region_info.height g
+unfolding halftone_result
 halftone-made h d g is =
     let w = h.region_info.width in
     let v = h.region_info.height in
@@ -137,7 +137,7 @@ instances-made {w} {v} {S} r p zero x made = value-is (λ (y : Reached S). Made 
 instances-made {w} {v} {S} r p (suc n) x made =
     let P : Reached S → Type 0 = λ y. Made w v y.region in
     value-next P (with_instance r p x) _ (λ y y_is.
-    value-next P (cursor_moved r p.flags y.cursor y.state) _ (λ c c_is.
+    value-next P (next_cursor r p.flags y.cursor y.state) _ (λ c c_is.
     instances-made r p n (record y { cursor = c.0; state = c.1 }) (instance-made r p x made y y_is)))
 
 region-made : {w v : ℕ} {S : Type 0} (r : Readings S) (p : TextParams) (region : Grid) (f : Refining) (s : S) → Made w v region → OnValue (λ drawn. Made w v drawn.0) (text_region r p region f s)
@@ -147,11 +147,11 @@ region-made {w} {v} {S} r p region f s made =
     value-next P (refuse_if (nat_lt (32 * p.data_length) p.count) (Symbol TooManyInstances)) _ (λ few few_is.
     value-next P (strip_delta r p.flags s) _ (λ dt dt_is.
     value-next P (coordinate (pos 0 -ℤ dt.0)) _ (λ stript stript_is.
-    value-if P (eqb p.count 0) _ _ (value-is P (region, f, dt.1) made) (value-next P (strip_begun r p.flags stript (pos 0) dt.1) _ (λ c c_is.
+    value-if P (eqb p.count 0) _ _ (value-is P (region, f, dt.1) made) (value-next P (strip_start r p.flags stript (pos 0) dt.1) _ (λ c c_is.
     value-next P (after_instances r p (p.count - 1) (record { region = region; cursor = c.0; refining = f; state = c.1 })) _ (λ x x_is.
     value-next P (with_instance r p x) _ (λ last last_is.
     value-next P (end_of_strip p.strict (r.delta_s last.state)) _ (λ ends ends_is.
-    value-is P (last.region, last.refining, r.behind_delta_s last.state)
+    value-is P (last.region, last.refining, r.after_delta_s last.state)
     (instance-made r p x (instances-made r p (p.count - 1) (record { region = region; cursor = c.0; refining = f; state = c.1 }) made x x_is) last last_is)))))))))
 
 from-made : {S : Type 0} (w v : ℕ) (r : Readings S) (h : TextHeader) (symbols : List Grid) (region g : Grid) (s : S) → Made w v region → region_from r h symbols region s ≡ Ok g → Made w v g
@@ -165,8 +165,8 @@ by-made w v h ArithmeticCoding symbols customs region g made is = from-made w v 
 by-made w v h (HuffmanCoding numbers ids) symbols customs region g made is =
     made-behind w v (prefix_codes_of h numbers ids customs) (λ s. region_from by_prefix_codes h symbols region s) g (λ s done. from-made w v by_prefix_codes h symbols region g s made done) is
 
-pub text-made : (h : TextHeader) (symbols : List Grid) (customs : List (List Member)) (g : Grid) → text_answer h symbols customs ≡ Ok g → Made h.region_info.width h.region_info.height g
-unfolding text_answer
+pub text-made : (h : TextHeader) (symbols : List Grid) (customs : List (List Member)) (g : Grid) → text_result h symbols customs ≡ Ok g → Made h.region_info.width h.region_info.height g
+unfolding text_result
 text-made h symbols customs g is =
     let w = h.region_info.width in
     let v = h.region_info.height in

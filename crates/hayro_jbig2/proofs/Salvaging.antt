@@ -3,7 +3,7 @@ use Rattle.std.proofs.Common.{◌≡◌, ℕ, zero, suc, eqb, true, false, List,
 use Rattle.std.proofs.lemmas.Bool.{cond_both, le-ltb, ne_eqb}
 use Rattle.std.specs.Prelude.{IsTrue}
 use Rattle.std.specs.Result.{is_ok}
-use Rattle.jbig2_base.specs.Answer.{◌>>=◌}
+use Rattle.jbig2_base.specs.Results.{◌>>=◌}
 use Rattle.jbig2_base.specs.File.{file_at, file_header_at, gathered, gathered_before, header_goes_on, headers_in, segments_by}
 use Rattle.jbig2_base.specs.PageInfo.{initial_page_with}
 use Rattle.jbig2_base.specs.Reading.{fault_of, is_salvaged}
@@ -16,9 +16,9 @@ use Rattle.jbig2_base.specs.declared.file_header.FileOrganization.TheVariants.{S
 use Rattle.jbig2_base.specs.declared.page_info.PageInformation.{PageInformation}
 use Rattle.jbig2_base.specs.declared.reading.Reading.TheVariants.{Lenient, Salvage}
 use Rattle.jbig2_base.proofs.Answered.{Answered, IsAnswered, answered-header, answered-segment, answered-segment_data}
-use Rattle.hayro_jbig2.specs.Files.{PageInFile, associated, book_at, by_pages, filed_before, filed_each, filed_from, shared_by}
+use Rattle.hayro_jbig2.specs.Files.{PageInFile, associated, book_at, by_pages, before_pages, pages_in_file, page_in_file, shared_by}
 use Rattle.hayro_jbig2.specs.Lenient.{HasBeginning}
-use Rattle.hayro_jbig2.specs.Names.{Names, Shared, globals_at, kept_by, named_from, no_names, nothing_shared, or_shared_without}
+use Rattle.hayro_jbig2.specs.Names.{Names, Shared, globals_at, kept_by, shared_from, no_names, nothing_shared, or_shared_without}
 use Rattle.hayro_jbig2.specs.Page.{Drawing, IsSide, beginning_of, ends_page, or_left_out, segment_by, segment_on, segments_drawn}
 use Rattle.hayro_jbig2.proofs.Answered.{answered-filed, answered-kept, answered-segment_by}
 
@@ -83,7 +83,7 @@ fine-without : (number : ℕ) (shared : Shared) (r : Result Names DecodeError) �
 fine-without number shared (Ok names) is = refl
 fine-without number shared (Err e) is = rw (left-out e is) refl
 
-pub fine-named : (ps : List SegmentView) (shared : Shared) → IsFine (named_from Salvage ps shared)
+pub fine-named : (ps : List SegmentView) (shared : Shared) → IsFine (shared_from Salvage ps shared)
 fine-named [] shared = refl
 fine-named (p ∷ ps) shared =
     let kept : Result Names DecodeError = kept_by false no_names p shared.names in
@@ -106,11 +106,11 @@ fine-drawn globals (p ∷ ps) d =
     (λ goes. fine-next (segment_on Salvage globals p d) _ (fine-left p.header.segment_number d (segment_by false globals p d) (answered-segment_by false globals p d)) (λ e. fine-drawn globals ps e))
 
 -- ---- files
-fine-filed : (all : List (List SegmentView)) → IsFine (filed_each Salvage all)
+fine-filed : (all : List (List SegmentView)) → IsFine (pages_in_file Salvage all)
 fine-filed [] = refl
-fine-filed (own ∷ others) = before (filed_from Salvage own) (filed_each Salvage others) (answered-filed Salvage own) (fine-filed others)
+fine-filed (own ∷ others) = before (page_in_file Salvage own) (pages_in_file Salvage others) (answered-filed Salvage own) (fine-filed others)
   where
-    before : (r : Result PageInFile DecodeError) (rest : Result (List PageInFile) DecodeError) → Answered r → IsFine rest → IsFine (filed_before Salvage r rest)
+    before : (r : Result PageInFile DecodeError) (rest : Result (List PageInFile) DecodeError) → Answered r → IsFine rest → IsFine (before_pages Salvage r rest)
     before (Ok page) rest is fine = fine-next rest _ fine (λ pages. refl)
     before (Err e) rest is fine = rw (left-out e is) fine
 
@@ -121,7 +121,7 @@ associated-fine (p ∷ ps) = associated-fine ps
 pub fine-book : (bytes : List ℕ) → IsFine (file_at Salvage bytes) → IsFine (book_at Salvage bytes)
 unfolding book_at
 fine-book bytes read =
-    fine-next (file_at Salvage bytes) _ read (λ file. fine-next (associated false file.1) _ (associated-fine file.1) (λ known. fine-next (filed_each Salvage (by_pages file.1)) _ (fine-filed (by_pages file.1)) (λ pages. refl)))
+    fine-next (file_at Salvage bytes) _ read (λ file. fine-next (associated false file.1) _ (associated-fine file.1) (λ known. fine-next (pages_in_file Salvage (by_pages file.1)) _ (fine-filed (by_pages file.1)) (λ pages. refl)))
 
 pub fine-file : (bytes : List ℕ) → IsFine (file_header_at bytes) → IsFine (file_at Salvage bytes)
 unfolding file_at

@@ -6,7 +6,7 @@ use Rattle.std.proofs.Math.Nat.{mul-le-mul_left}
 use Rattle.std.proofs.lemmas.Bool.{cases_lt, lt-ltb, le-ltb}
 use Rattle.std.proofs.lemmas.List.{get_or_append_left, get_or_past}
 use Rattle.std.proofs.lemmas.Nat.{mul-add-lt}
-use Rattle.jbig2_base.specs.Answer.{◌>>=◌, refuse_if}
+use Rattle.jbig2_base.specs.Results.{◌>>=◌, refuse_if}
 use Rattle.jbig2_base.specs.Combination.{combined, drawn_pixel, is_below, combined_pixel}
 use Rattle.jbig2_base.specs.Grid.{Grid, grid_of, pixel, pixel_at}
 use Rattle.jbig2_base.specs.declared.bitmap.operator.CombinationOperator.{CombinationOperator}
@@ -14,11 +14,11 @@ use Rattle.jbig2_base.specs.declared.error.DecodeError.{DecodeError}
 use Rattle.jbig2_base.specs.declared.error.DecodeError.TheVariants.{OutOfMemory, Overflow}
 use Rattle.jbig2_base.specs.declared.error.OverflowError.TheVariants.{BitmapDimension}
 use Rattle.jbig2_base.proofs.GridLemmas.{grid_of-ext, pixel_at-below, pixel_at-grid_of, pixel_at-right}
-use Rattle.jbig2_region.specs.Generic.{context_at, generic_answer, generic_coding, generic_grid, generic_region, known_colour, number_of, region_pixel}
+use Rattle.jbig2_region.specs.Generic.{context_at, generic_result, generic_coding, generic_grid, generic_region, known_colour, number_of, region_pixel}
 use Rattle.jbig2_region.specs.GenericHeader.{GenericHeader, IsParsed}
-use Rattle.jbig2_region.specs.Raster.{Coding, Region, after_pixel, at_next, decoded_region, first_pixels, row_begun, so_far, with_next}
+use Rattle.jbig2_region.specs.Raster.{Coding, Region, after_pixel, at_next, decoded_region, first_pixels, after_ltp, so_far, with_next}
 use Rattle.jbig2_region.specs.RegionInfo.{PlacedRegion, placed}
-use Rattle.jbig2_region.specs.Refinement.{Reference, offset, reference_of, reference_pixel, refined_context, refined_grid, refined_region, refinement_coding, refined_answer}
+use Rattle.jbig2_region.specs.Refinement.{Reference, offset, reference_of, reference_pixel, refined_context, refined_grid, refined_region, refinement_coding, refined_result}
 use Rattle.jbig2_region.specs.RefinementTemplates.{reference_pixels, region_pixels}
 use Rattle.jbig2_region.specs.RefinementHeader.{IsRefinement, RefinementHeader}
 use Rattle.jbig2_region.specs.inner.GenericViews as generics
@@ -28,10 +28,10 @@ use Rattle.jbig2_region.specs.declared.generic_refinement.GenericRefinementRegio
 use Rattle.jbig2_region.specs.declared.region_info.RegionSegmentInfo.{RegionSegmentInfo}
 use Rattle.jbig2_region.specs.declared.template.AdaptiveTemplatePixel.{AdaptiveTemplatePixel}
 use Rattle.jbig2_region.proofs.PlaceLemmas.{first_pixels-length}
-use Rattle.jbig2_region.proofs.RasterLemmas.{row_begun-pixels}
+use Rattle.jbig2_region.proofs.RasterLemmas.{after_ltp-pixels}
 use Rattle.hayro_jbig2.specs.Page.{Drawing, shown}
 use Rattle.hayro_jbig2.specs.declared.region.parsed_region.ParsedRegion.TheVariants.{Generic}
-use Rattle.hayro_jbig2.specs.inner.Parsed.{apart}
+use Rattle.hayro_jbig2.specs.inner.ParsedRegions.{placed_region}
 
 -- ---- the pixels so far, seen in a grid of h rows and in one of k
 abbrev bit_at : ℕ → List Bool → ℕ → ℕ → Bool
@@ -106,8 +106,8 @@ next-pixels : (coding : Coding) (w : ℕ) (input : List ℕ) (r : Region) → (a
 unfolding at_next
 next-pixels coding w input r = either (eqb (length r.pixels % w) 0)
   where
-    either : (b : Bool) → (cond b (row_begun coding.row_context input r) r).pixels ≡ r.pixels
-    either true = row_begun-pixels coding.row_context input r
+    either : (b : Bool) → (cond b (after_ltp coding.row_context input r) r).pixels ≡ r.pixels
+    either true = after_ltp-pixels coding.row_context input r
     either false = refl
 
 first-same : (coding : Coding) → ByPixels coding → (w h k : ℕ) (input : List ℕ) (start : Region) → length start.pixels ≡ 0 → k ≤ h → (n : ℕ) → n ≤ w * k → first_pixels coding w h input start n ≡ first_pixels coding w k input start n
@@ -270,17 +270,17 @@ unplaced : (info : RegionSegmentInfo) (r : Result Grid DecodeError) → info.wid
 unplaced info r columns rows = ap (λ (b : Bool). refuse_if b (Overflow BitmapDimension) >>= λ fits. r >>= λ g. Ok (placed info g)) (fits info.width info.height columns rows)
 
 pub generic-shown : (A : Type 0) (header : GenericRegionHeader) (k : ℕ) (d : Drawing) → IsParsed (generics.header_view header) → header.mmr ≡ false → k ≤ header.region_info.height → SeenBy d.grid.height header.region_info k
-    → shown d (apart {A = A} (Generic (record header { region_info = info_rows k header.region_info }))) ≡ shown d (apart {A = A} (Generic header))
+    → shown d (placed_region {A = A} (Generic (record header { region_info = info_rows k header.region_info }))) ≡ shown d (placed_region {A = A} (Generic header))
 generic-shown A header k d parsed coded fewer seen =
     let h : GenericHeader = generics.header_view header in
     let info : RegionSegmentInfo = header.region_info in
-    let plain : (g : GenericHeader) → g.mmr ≡ false → generic_answer g ≡ Ok (generic_grid g) = λ g is. rw is refl in
-    ap (λ (r : Result PlacedRegion DecodeError). shown d r) (unplaced (info_rows k info) (generic_answer (with_rows k h)) parsed.columns (omega (arith, fewer, parsed.rows)) ∙ ap (λ (r : Result Grid DecodeError). r >>= λ g. Ok (placed (info_rows k info) g)) (plain (with_rows k h) coded))
+    let plain : (g : GenericHeader) → g.mmr ≡ false → generic_result g ≡ Ok (generic_grid g) = λ g is. rw is refl in
+    ap (λ (r : Result PlacedRegion DecodeError). shown d r) (unplaced (info_rows k info) (generic_result (with_rows k h)) parsed.columns (omega (arith, fewer, parsed.rows)) ∙ ap (λ (r : Result Grid DecodeError). r >>= λ g. Ok (placed (info_rows k info) g)) (plain (with_rows k h) coded))
     ∙ shown-same d info k (generic_grid h) (generic_grid (with_rows k h)) (generic-begins h k fewer) (generic-height h) (generic-height (with_rows k h)) seen
-    ∙ sym (ap (λ (r : Result PlacedRegion DecodeError). shown d r) (unplaced info (generic_answer h) parsed.columns parsed.rows ∙ ap (λ (r : Result Grid DecodeError). r >>= λ g. Ok (placed info g)) (plain h coded)))
+    ∙ sym (ap (λ (r : Result PlacedRegion DecodeError). shown d r) (unplaced info (generic_result h) parsed.columns parsed.rows ∙ ap (λ (r : Result Grid DecodeError). r >>= λ g. Ok (placed info g)) (plain h coded)))
 
 refined-drawn : (h : RefinementHeader) (from : PlacedRegion) (k : ℕ) (d : Drawing) → IsRefinement h → k ≤ h.region_info.height → h.region_info.height ≤ from.grid.height → SeenBy d.grid.height h.region_info k
-    → shown d (refined_answer (refined_rows k h) from >>= λ g. Ok (placed (info_rows k h.region_info) g)) ≡ shown d (refined_answer h from >>= λ g. Ok (placed h.region_info g))
+    → shown d (refined_result (refined_rows k h) from >>= λ g. Ok (placed (info_rows k h.region_info) g)) ≡ shown d (refined_result h from >>= λ g. Ok (placed h.region_info g))
 refined-drawn h from k d parsed fewer covers seen =
     ap (λ (o : Result (ℤ × ℤ) DecodeError). shown d (o >>= (λ _. Ok (refined_grid (refined_rows k h) from)) >>= λ g. Ok (placed (info_rows k h.region_info) g))) (sym (offset-same h from k fewer covers))
     ∙ by (offset from h.region_info)
@@ -293,16 +293,16 @@ refined-drawn h from k d parsed fewer covers seen =
 abbrev refined-apart : GenericRefinementRegionHeader → PlacedRegion → Result PlacedRegion DecodeError
 refined-apart header from =
     refuse_if (nat_lt 65535 header.region_info.width || nat_lt 65535 header.region_info.height) (Overflow BitmapDimension)
-    >>= λ fits. refined_answer (refinements.header_view header) from >>= λ g. Ok (placed header.region_info g)
+    >>= λ fits. refined_result (refinements.header_view header) from >>= λ g. Ok (placed header.region_info g)
 
 pub refined-shown : (header : GenericRefinementRegionHeader) (from : PlacedRegion) (k : ℕ) (d : Drawing) → IsRefinement (refinements.header_view header) → k ≤ header.region_info.height → header.region_info.height ≤ from.grid.height → SeenBy d.grid.height header.region_info k
     → shown d (refined-apart (record header { region_info = info_rows k header.region_info }) from) ≡ shown d (refined-apart header from)
 refined-shown header from k d parsed fewer covers seen =
     let h : RefinementHeader = refinements.header_view header in
     let info : RegionSegmentInfo = header.region_info in
-    ap (λ (r : Result PlacedRegion DecodeError). shown d r) (unplaced (info_rows k info) (refined_answer (refined_rows k h) from) parsed.columns (omega (arith, fewer, parsed.rows)))
+    ap (λ (r : Result PlacedRegion DecodeError). shown d r) (unplaced (info_rows k info) (refined_result (refined_rows k h) from) parsed.columns (omega (arith, fewer, parsed.rows)))
     ∙ refined-drawn h from k d parsed fewer covers seen
-    ∙ sym (ap (λ (r : Result PlacedRegion DecodeError). shown d r) (unplaced info (refined_answer h from) parsed.columns parsed.rows))
+    ∙ sym (ap (λ (r : Result PlacedRegion DecodeError). shown d r) (unplaced info (refined_result h from) parsed.columns parsed.rows))
 
 -- ---- what is decoded without these rows is drawn as the whole region is
 pub cut-refused : (d : Drawing) (meant whole cut : Result PlacedRegion DecodeError) (e : DecodeError) → meant ≡ whole → shown d cut ≡ shown d whole → (e ≡ OutOfMemory) ⊎ (cut ≡ Err e) → (e ≡ OutOfMemory) ⊎ (shown d meant ≡ Err e)

@@ -5,7 +5,7 @@ use Rattle.std.specs.Prelude.{◌⊎◌, ◌≢◌, Any, IfErr, IfOk, IsTrue, op
 use Rattle.std.specs.List.{flat_map}
 use Rattle.std.specs.Option.{option_map_or}
 use Rattle.std.specs.Int.{w32, from_be_bytes}
-use Rattle.jbig2_base.specs.Answer.{◌>>=◌, refuse_if, some_or}
+use Rattle.jbig2_base.specs.Results.{◌>>=◌, refuse_if, some_or}
 use Rattle.jbig2_base.specs.Fields.{number_at}
 use Rattle.jbig2_base.specs.Causes.{HasCause, HasCauseOrNoMemory}
 use Rattle.jbig2_base.specs.Grid.{Grid}
@@ -19,27 +19,27 @@ use Rattle.jbig2_base.proofs.Causes.{cause-next, cause-number, cause-refused, nu
 use Rattle.jbig2_coder.specs.PrefixCode.{Member}
 use Rattle.jbig2_halftone.specs.Patterns.{Patterns}
 use Rattle.jbig2_region.specs.RegionInfo.{PlacedRegion}
-use Rattle.jbig2_region.specs.Refinement.{offset, refined_answer, refined_decoded}
+use Rattle.jbig2_region.specs.Refinement.{offset, refined_result, refined_decoded}
 use Rattle.jbig2_region.specs.RefinementHeader.{RefinementHeader, refinement_header_at}
 use Rattle.jbig2_region.specs.Causes.{BreaksOffset, BreaksRefinementHeader}
 use Rattle.jbig2_region.proofs.HeaderCauses.{offset_causes, refinement_header_causes}
-use Rattle.jbig2_region.proofs.Told.{cause-more}
+use Rattle.jbig2_region.proofs.ResultCauses.{cause-more}
 use Rattle.jbig2_symbol.specs.Symbols.{Symbols}
 use Rattle.hayro_jbig2.specs.Causes.{BreaksExtension, BreaksPatternReference, BreaksReferred, BreaksRefinement}
-use Rattle.hayro_jbig2.specs.Names.{Names, Referred, first_named, named, referred_by, with_dictionary, with_number, with_numbers, with_table, extension}
+use Rattle.hayro_jbig2.specs.Names.{Names, Referred, first_kept, kept_of, referred_by, with_dictionary, with_number, with_numbers, with_table, extension}
 use Rattle.hayro_jbig2.specs.Regions.{page_area, patterns_for, referred_region, refinement_at}
 use Rattle.hayro_jbig2.specs.declared.kept.Kept.{Kept}
 use Rattle.hayro_jbig2.proofs.Causes.{at-first, at-later}
 
 -- ---- what a segment refers to
 abbrev NamesNothing : Names → Names → ℕ → Type 0
-NamesNothing own shared number = (named number own.symbols shared.symbols ≡ None) × (named number own.codes shared.codes ≡ None)
+NamesNothing own shared number = (kept_of number own.symbols shared.symbols ≡ None) × (kept_of number own.codes shared.codes ≡ None)
 
 abbrev exported_of : Option Symbols → List Grid
 exported_of s = option_map_or (λ d. d.exported) s []
 
 abbrev exported_under : Names → Names → List ℕ → List Grid
-exported_under own shared numbers = flat_map (λ n. exported_of (named n own.symbols shared.symbols)) numbers
+exported_under own shared numbers = flat_map (λ n. exported_of (kept_of n own.symbols shared.symbols)) numbers
 
 abbrev symbols_in : Option Symbols → ℕ
 symbols_in s = length (exported_of s)
@@ -85,8 +85,8 @@ numbers-cause : (P : DecodeError → Type 0) (strict : Bool) (own shared : Names
     → (IsTrue strict → Any (NamesNothing own shared) numbers → P (Segment InvalidReference)) → IfErr (with_numbers strict own shared numbers r) P
 numbers-cause P strict own shared [] r many none = tt
 numbers-cause P strict own shared (number ∷ numbers) r many none =
-    let s = named number own.symbols shared.symbols in
-    let code = named number own.codes shared.codes in
+    let s = kept_of number own.symbols shared.symbols in
+    let code = kept_of number own.codes shared.codes in
     let together = length-append (exported_of s) (exported_under own shared numbers) in
     cause-next P (with_number strict own shared number r) _
     (either-cause P strict s code r (λ over. many (omega (arith, over, together))) (λ is no_symbols no_code.
@@ -130,7 +130,7 @@ is-none (Some x) is = absurd (cc)
 is-none None is = refl
 
 abbrev first_region : List ℕ → List (Kept PlacedRegion) → Option PlacedRegion
-first_region numbers regions = option_and_then (λ number. first_named number regions) (slice_get numbers 0)
+first_region numbers regions = option_and_then (λ number. first_kept number regions) (slice_get numbers 0)
 
 -- the number of a region that is not kept, or an intermediate refinement of none
 abbrev LacksRegion : Bool → List ℕ → List (Kept PlacedRegion) → Type 0
@@ -140,20 +140,20 @@ reference-cause : (P : DecodeError → Type 0) (strict is_intermediate : Bool) (
     → (IsTrue strict → LacksRegion is_intermediate numbers regions → P (Segment InvalidReference)) → IfErr (referred_region strict numbers regions) P
 reference-cause P strict is_intermediate [] regions why = tt
 reference-cause P strict is_intermediate (number ∷ others) regions why =
-    let missing : Bool = is_none (first_named number regions) in
+    let missing : Bool = is_none (first_kept number regions) in
     cause-next P (refuse_if (strict && missing) (Segment InvalidReference)) _ (cause-refused P (strict && missing) (Segment InvalidReference) (λ both.
     let parts = and_parts strict missing both in
-    why parts.0 (is-none (first_named number regions) parts.1, inr (λ (empty : number ∷ others ≡ []). absurd (cc))))) (λ known known_is. tt)
+    why parts.0 (is-none (first_kept number regions) parts.1, inr (λ (empty : number ∷ others ≡ []). absurd (cc))))) (λ known known_is. tt)
 
 reference-is : (strict : Bool) (numbers : List ℕ) (regions : List (Kept PlacedRegion)) → IfOk (referred_region strict numbers regions) (λ r. r ≡ first_region numbers regions)
 reference-is strict [] regions = refl
 reference-is strict (number ∷ others) regions =
-    ok-last (λ (r : Option PlacedRegion). r ≡ first_named number regions) (refuse_if (strict && is_none (first_named number regions)) _) _ (λ known. refl)
+    ok-last (λ (r : Option PlacedRegion). r ≡ first_kept number regions) (refuse_if (strict && is_none (first_kept number regions)) _) _ (λ known. refl)
 
 -- the offset of a reference is all that a refinement's data is refused for
 refined-cause : (P : DecodeError → Type 0) (h : RefinementHeader) (from : PlacedRegion) → ((e : DecodeError) → BreaksOffset from h.region_info e → P e) → IfErr (refined_decoded h from) P
 refined-cause P h from why =
-    cause-next P (refined_answer h from) _
+    cause-next P (refined_result h from) _
     (cause-next P (offset from h.region_info) _ (cause-more (BreaksOffset from h.region_info) P (offset from h.region_info) (offset_causes from h.region_info) why) (λ d is. tt)) (λ g is. tt)
 
 refinement_causes : (strict is_intermediate : Bool) (page : Grid) (regions : List (Kept PlacedRegion)) (p : SegmentView) → IfErr (refinement_at strict is_intermediate page regions p) (BreaksRefinement strict is_intermediate page regions p)

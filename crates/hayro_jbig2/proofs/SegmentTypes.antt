@@ -5,7 +5,7 @@ use Rattle.jbig2_base.specs.declared.error.DecodeError.{DecodeError}
 use Rattle.jbig2_base.specs.declared.segment.SegmentType.{SegmentType}
 use Rattle.jbig2_base.specs.declared.segment.SegmentType.TheVariants as types
 use Rattle.hayro_jbig2.specs.Names.{Names, kept_by}
-use Rattle.hayro_jbig2.specs.Page.{Drawing, immediate, intermediate, keeping, segment_by}
+use Rattle.hayro_jbig2.specs.Page.{Drawing, immediate, intermediate, with_names, segment_by}
 use Rattle.hayro_jbig2.specs.declared.region.RegionKind.{RegionKind}
 use Rattle.hayro_jbig2.specs.declared.region.RegionKind.TheVariants as kinds
 
@@ -17,7 +17,7 @@ of_type kind h bytes = record { header = record h { segment_type = kind }; bytes
 pub record OfEach (P : Result Drawing DecodeError → Type 0) (strict : Bool) (globals : Names) (d : Drawing) : Type 0 where
   pub kept : (kind : RegionKind) (p : SegmentView) → P (intermediate strict globals kind p d)
   pub shown : (kind : RegionKind) (p : SegmentView) → P (immediate strict globals kind p d)
-  pub nothing : (p : SegmentView) → P (keeping d (kept_by strict globals p d.names))
+  pub nothing : (p : SegmentView) → P (with_names d (kept_by strict globals p d.names))
 
 by-type : (P : Result Drawing DecodeError → Type 0) (strict : Bool) (globals : Names) (kind : SegmentType) (h : Header) (bytes : List ℕ) (d : Drawing) → OfEach P strict globals d → P (segment_by strict globals (of_type kind h bytes) d)
 by-type P strict globals types.IntermediateTextRegion h bytes d of = of.kept kinds.Text (of_type types.IntermediateTextRegion h bytes)

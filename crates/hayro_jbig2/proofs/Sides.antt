@@ -4,7 +4,7 @@ use Rattle.std.specs.Prelude.{IfOk, IfSome, slice_get, option_map, not, ◌&&◌
 use Rattle.std.specs.List.{AllByRecursion}
 use Rattle.std.proofs.lemmas.Bool.{cond_both}
 use Rattle.std.proofs.lemmas.Bool.Decides.{nat_tests}
-use Rattle.jbig2_base.specs.Answer.{◌>>=◌, refuse_if, some_or}
+use Rattle.jbig2_base.specs.Results.{◌>>=◌, refuse_if, some_or}
 use Rattle.jbig2_base.specs.File.{file_at}
 use Rattle.jbig2_base.specs.PageInfo.{first_information, height_of, information_at, initial_page_with}
 use Rattle.jbig2_base.specs.Reading.{fault_of, is_salvaged, is_strict}
@@ -17,10 +17,10 @@ use Rattle.jbig2_base.specs.declared.page_info.InitialPage.{InitialPage}
 use Rattle.jbig2_base.specs.declared.page_info.PageInformation.{PageInformation}
 use Rattle.jbig2_base.specs.declared.reading.Reading.{Reading}
 use Rattle.jbig2_base.specs.declared.reading.Reading.TheVariants.{Lenient}
-use Rattle.hayro_jbig2.specs.Files.{PageInFile, ReadFile, associated, book_at, by_pages, ends_of, filed_before, filed_each, filed_from, left_out_of, miscounts, of_page, page_in, page_of, shared_by}
+use Rattle.hayro_jbig2.specs.Files.{PageInFile, ReadFile, associated, book_at, by_pages, ends_of, before_pages, pages_in_file, page_in_file, left_out_of, miscounts, of_page, page_in, page_of, shared_by}
 use Rattle.hayro_jbig2.specs.Image.{first_page, first_size}
 use Rattle.hayro_jbig2.specs.Names.{Shared}
-use Rattle.hayro_jbig2.specs.Page.{HasSides, IsSide, ReadPage, beginning_of, told_height}
+use Rattle.hayro_jbig2.specs.Page.{HasSides, IsSide, ReadPage, beginning_of, known_height}
 
 -- what holds of the last step's value
 last-has : {A B : Type 0} (P : B → Type 0) (r : Result A DecodeError) (next : A → Result B DecodeError) → ((x : A) → IfOk (next x) P) → IfOk (r >>= next) P
@@ -44,19 +44,19 @@ sides-with number info height =
 sides-have : (reading : Reading) (ps : List SegmentView) → IfOk (beginning_of reading ps) HasSides
 unfolding beginning_of
 sides-have reading ps =
-    last-has HasSides (first_information ps) _ (λ first. last-has HasSides (information_at first.bytes) _ (λ info. last-has HasSides (height_of info.0.height (told_height reading ps)) _ (λ height.
+    last-has HasSides (first_information ps) _ (λ first. last-has HasSides (information_at first.bytes) _ (λ info. last-has HasSides (height_of info.0.height (known_height reading ps)) _ (λ height.
     sides-with first.header.page_association info.0 height)))
 
 -- what a page begins as
-pub begun_sides : (reading : Reading) (ps : List SegmentView) (p : InitialPage) → beginning_of reading ps ≡ Ok p → HasSides p
-begun_sides reading ps p is = let P : Result InitialPage DecodeError → Type 0 = λ r. IfOk r HasSides in subst P is (sides-have reading ps)
+pub blank_sides : (reading : Reading) (ps : List SegmentView) (p : InitialPage) → beginning_of reading ps ≡ Ok p → HasSides p
+blank_sides reading ps p is = let P : Result InitialPage DecodeError → Type 0 = λ r. IfOk r HasSides in subst P is (sides-have reading ps)
 
 -- ---- the first page of a file
 abbrev FileSides : PageInFile → Type 0
 FileSides page = HasSides page.initial_page
 
-filed-sides : (reading : Reading) (own : List SegmentView) → IfOk (filed_from reading own) FileSides
-unfolding filed_from
+filed-sides : (reading : Reading) (own : List SegmentView) → IfOk (page_in_file reading own) FileSides
+unfolding page_in_file
 filed-sides reading own =
     last-has FileSides (refuse_if (is_strict reading && not (eqb (ends_of own) 1)) (Format InvalidEndOfPage)) _ (λ ended. begun (beginning_of reading own) (sides-have reading own))
   where
@@ -64,11 +64,11 @@ filed-sides reading own =
     begun (Ok p) has = has
     begun (Err e) has = tt
 
-each-sides : (reading : Reading) (all : List (List SegmentView)) → IfOk (filed_each reading all) (AllByRecursion FileSides)
+each-sides : (reading : Reading) (all : List (List SegmentView)) → IfOk (pages_in_file reading all) (AllByRecursion FileSides)
 each-sides reading [] = tt
-each-sides reading (own ∷ others) = first (filed_from reading own) (filed-sides reading own) (filed_each reading others) (each-sides reading others)
+each-sides reading (own ∷ others) = first (page_in_file reading own) (filed-sides reading own) (pages_in_file reading others) (each-sides reading others)
   where
-    first : (r : Result PageInFile DecodeError) → IfOk r FileSides → (rest : Result (List PageInFile) DecodeError) → IfOk rest (AllByRecursion FileSides) → IfOk (filed_before reading r rest) (AllByRecursion FileSides)
+    first : (r : Result PageInFile DecodeError) → IfOk r FileSides → (rest : Result (List PageInFile) DecodeError) → IfOk rest (AllByRecursion FileSides) → IfOk (before_pages reading r rest) (AllByRecursion FileSides)
     first (Ok page) has (Ok pages) others_have = (has, others_have)
     first (Ok page) has (Err e) others_have = tt
     first (Err e) has rest others_have = cond_both (is_salvaged reading e) rest (Err e) (λ (r : Result (List PageInFile) DecodeError). IfOk r (AllByRecursion FileSides)) (λ left. others_have) (λ kept. tt)
@@ -91,7 +91,7 @@ unfolding book_at
 book-sides reading bytes =
     last-has AllSides (file_at reading bytes) _ (λ file. last-has AllSides (associated (is_strict reading) file.1) _ (λ known.
     last-has AllSides (refuse_if (is_strict reading && miscounts file.0.number_of_pages (length (by_pages file.1))) (Format PageCountMismatch)) _ (λ counted.
-    filed-all reading (left_out_of reading (by_pages file.1)) (fault_of reading (file_at Lenient bytes)) (filed_each reading (by_pages file.1)) (λ pages. shared_by reading pages (of_page 0 file.1)) (each-sides reading (by_pages file.1)))))
+    filed-all reading (left_out_of reading (by_pages file.1)) (fault_of reading (file_at Lenient bytes)) (pages_in_file reading (by_pages file.1)) (λ pages. shared_by reading pages (of_page 0 file.1)) (each-sides reading (by_pages file.1)))))
 
 abbrev PageSides : ReadPage → Type 0
 PageSides page = HasSides page.initial_page

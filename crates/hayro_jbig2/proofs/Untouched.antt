@@ -1,13 +1,13 @@
 -- A page on which no region was drawn is as it began; one that is drawn keeps its size; strict reading passes over nothing.
 use Rattle.std.proofs.Common.{◌≡◌, Bool, true, false, Result, Ok, Err, refl, subst}
 use Rattle.std.specs.Prelude.{IfOk, IsTrue}
-use Rattle.jbig2_base.specs.Answer.{◌>>=◌}
+use Rattle.jbig2_base.specs.Results.{◌>>=◌}
 use Rattle.jbig2_base.specs.Grid.{Grid}
 use Rattle.jbig2_base.specs.Reading.{is_strict}
 use Rattle.jbig2_base.specs.declared.error.DecodeError.{DecodeError}
 use Rattle.jbig2_base.specs.declared.page_info.InitialPage.{InitialPage}
 use Rattle.hayro_jbig2.specs.Names.{Names, nothing_passed}
-use Rattle.hayro_jbig2.specs.Page.{PagesKeepTheirSize, StrictPassesNothing, UntouchedIsBlank, Drawing, ReadPage, drawing_of_page, grid_of_page, page_begun, segments_drawn}
+use Rattle.hayro_jbig2.specs.Page.{PagesKeepTheirSize, StrictPassesNothing, UntouchedIsBlank, Drawing, ReadPage, drawing_of_page, grid_of_page, blank_page, segments_drawn}
 use Rattle.hayro_jbig2.proofs.DrawingSteps.{StepsBy, drawn-keeps}
 
 -- ---- untouched
@@ -25,16 +25,16 @@ still-steps strict g = record {
 
 pub untouched-blank : UntouchedIsBlank
 untouched-blank reading names segments initial_page d is untouched =
-    let g : Grid = (page_begun initial_page).grid in
+    let g : Grid = (blank_page initial_page).grid in
     let P : Result Drawing DecodeError → Type 0 = λ r. IfOk r (IsStill g) in
-    subst P is (drawn-keeps reading (IsStill g) (still-steps (is_strict reading) g) names segments (page_begun initial_page) (λ begun. refl)) untouched
+    subst P is (drawn-keeps reading (IsStill g) (still-steps (is_strict reading) g) names segments (blank_page initial_page) (λ begun. refl)) untouched
 
 -- ---- a page as a whole
 -- what holds of the drawing that its segments leave, where its globals gave names
-of-page : (Q : Drawing → Type 0) (page : ReadPage) → ((names : Names) → IfOk (segments_drawn page.reading names page.segments (page_begun page.initial_page)) Q) → IfOk (drawing_of_page page) Q
+of-page : (Q : Drawing → Type 0) (page : ReadPage) → ((names : Names) → IfOk (segments_drawn page.reading names page.segments (blank_page page.initial_page)) Q) → IfOk (drawing_of_page page) Q
 of-page Q page each = by page.globals
   where
-    by : (globals : Result Names DecodeError) → IfOk (globals >>= λ names. segments_drawn page.reading names page.segments (page_begun page.initial_page)) Q
+    by : (globals : Result Names DecodeError) → IfOk (globals >>= λ names. segments_drawn page.reading names page.segments (blank_page page.initial_page)) Q
     by (Ok names) = each names
     by (Err e) = tt
 
@@ -58,7 +58,7 @@ pub pages_keep_their_size : PagesKeepTheirSize
 unfolding grid_of_page
 pages_keep_their_size page =
     let Q : Drawing → Type 0 = λ d. HasSize page.initial_page d.grid in
-    of-grid (HasSize page.initial_page) (drawing_of_page page) (of-page Q page (λ names. drawn-keeps page.reading Q (size-steps (is_strict page.reading) page.initial_page) names page.segments (page_begun page.initial_page) (refl, refl)))
+    of-grid (HasSize page.initial_page) (drawing_of_page page) (of-page Q page (λ names. drawn-keeps page.reading Q (size-steps (is_strict page.reading) page.initial_page) names page.segments (blank_page page.initial_page) (refl, refl)))
 
 -- ---- strict reading
 abbrev PassesNothing : Drawing → Type 0
@@ -73,4 +73,4 @@ strict-steps strict is = record {
 }
 
 pub strict_passes_nothing : StrictPassesNothing
-strict_passes_nothing page is = of-page PassesNothing page (λ names. drawn-keeps page.reading PassesNothing (strict-steps (is_strict page.reading) is) names page.segments (page_begun page.initial_page) refl)
+strict_passes_nothing page is = of-page PassesNothing page (λ names. drawn-keeps page.reading PassesNothing (strict-steps (is_strict page.reading) is) names page.segments (blank_page page.initial_page) refl)

@@ -1,6 +1,6 @@
 -- Worked rows, computed from the definitions alone: from bytes to calls or an error.
 use Rattle.std.proofs.Common.{◌≡◌, ℕ, Bool, true, false, List, [], ◌∷◌, ◌++◌, replicate, Result, Ok, Err, refl}
-use Rattle.jbig2_base.specs.Answer.{◌>>=◌}
+use Rattle.jbig2_base.specs.Results.{◌>>=◌}
 use Rattle.jbig2_base.specs.Grid.{table, pixel_at}
 use Rattle.jbig2_base.specs.PageInfo.{information_at}
 use Rattle.jbig2_base.specs.Segment.{type_of, count_at, referred_at, header_at, segment_at}
@@ -15,7 +15,7 @@ use Rattle.jbig2_coder.specs.Coder.{byte_at, byte_in, filled, doubled, renormed,
 use Rattle.jbig2_coder.specs.Table.{rows, row_of as state_of}
 use Rattle.jbig2_region.specs.Generic.{context_at, generic_region, generic_grid}
 use Rattle.jbig2_region.specs.{Templates.{adaptive_pixel_at}, GenericHeader.{rows_at, generic_header_at}}
-use Rattle.jbig2_region.specs.Raster.{so_far, with_next, after_pixel, row_begun, at_next, first_pixels, decoded_region}
+use Rattle.jbig2_region.specs.Raster.{so_far, with_next, after_pixel, after_ltp, at_next, first_pixels, decoded_region}
 use Rattle.jbig2_region.specs.RegionInfo.{region_info_at}
 use Rattle.jbig2_base.specs.Reading.{reading_of}
 use Rattle.hayro_jbig2.specs.Calls.{Call, Pixel, Chunk, Line, singles, whole_calls, row_of, calls_of}
@@ -115,17 +115,17 @@ abbrev pub origin : List ℕ
 origin = 0 ∷ 0 ∷ 0 ∷ 0 ∷ []
 
 row_7 : calls_at true (page 0 eight one 0 ++ dot_at origin 0) ≡ Ok (Pixel true ∷ (singles (replicate 7 false) ++ Line ∷ []))
-unfolding calls_at embedded segments_in segment_at header_at referred_at count_at type_of beginning_of information_at grid_of_page table pixel_at calls_of row_of whole_calls generic_at immediate generic_header_at region_info_at adaptive_pixel_at rows_at generic_grid generic_region decoded_region first_pixels at_next after_pixel with_next row_begun so_far context_at choice decision byte_in byte_at filled doubled renormed initial_registers likely_next unlikely_next rows state_of drawn_pixel
+unfolding calls_at embedded segments_in segment_at header_at referred_at count_at type_of beginning_of information_at grid_of_page table pixel_at calls_of row_of whole_calls generic_at immediate generic_header_at region_info_at adaptive_pixel_at rows_at generic_grid generic_region decoded_region first_pixels at_next after_pixel with_next after_ltp so_far context_at choice decision byte_in byte_at filled doubled renormed initial_registers likely_next unlikely_next rows state_of drawn_pixel
 row_7 = refl
 
 row_7-left_of_the_page : calls_at true (page 0 eight one 0 ++ dot_at unknown 0) ≡ Ok white
-unfolding calls_at embedded segments_in segment_at header_at referred_at count_at type_of beginning_of information_at grid_of_page table pixel_at calls_of row_of whole_calls generic_at immediate generic_header_at region_info_at adaptive_pixel_at rows_at generic_grid generic_region decoded_region first_pixels at_next after_pixel with_next row_begun so_far context_at choice decision byte_in byte_at filled doubled renormed initial_registers likely_next unlikely_next rows state_of drawn_pixel
+unfolding calls_at embedded segments_in segment_at header_at referred_at count_at type_of beginning_of information_at grid_of_page table pixel_at calls_of row_of whole_calls generic_at immediate generic_header_at region_info_at adaptive_pixel_at rows_at generic_grid generic_region decoded_region first_pixels at_next after_pixel with_next after_ltp so_far context_at choice decision byte_in byte_at filled doubled renormed initial_registers likely_next unlikely_next rows state_of drawn_pixel
 row_7-left_of_the_page = refl
 
 row_R2_1-xnor : calls_at true (page 0 eight one 4 ++ dot_at origin 3) ≡ Ok (Chunk true 1 ∷ Line ∷ [])
-unfolding calls_at embedded segments_in segment_at header_at referred_at count_at type_of beginning_of information_at grid_of_page table pixel_at calls_of row_of whole_calls generic_at immediate generic_header_at region_info_at adaptive_pixel_at rows_at generic_grid generic_region decoded_region first_pixels at_next after_pixel with_next row_begun so_far context_at choice decision byte_in byte_at filled doubled renormed initial_registers likely_next unlikely_next rows state_of drawn_pixel
+unfolding calls_at embedded segments_in segment_at header_at referred_at count_at type_of beginning_of information_at grid_of_page table pixel_at calls_of row_of whole_calls generic_at immediate generic_header_at region_info_at adaptive_pixel_at rows_at generic_grid generic_region decoded_region first_pixels at_next after_pixel with_next after_ltp so_far context_at choice decision byte_in byte_at filled doubled renormed initial_registers likely_next unlikely_next rows state_of drawn_pixel
 row_R2_1-xnor = refl
 
 row_R2_1-colour : calls_at false (page 0 eight one 0 ++ dot_at origin 8) ≡ Ok white
-unfolding calls_at embedded segments_in segment_at header_at referred_at count_at type_of beginning_of information_at grid_of_page table pixel_at calls_of row_of whole_calls generic_at immediate generic_header_at region_info_at adaptive_pixel_at rows_at generic_grid generic_region decoded_region first_pixels at_next after_pixel with_next row_begun so_far context_at choice decision byte_in byte_at filled doubled renormed initial_registers likely_next unlikely_next rows state_of drawn_pixel
+unfolding calls_at embedded segments_in segment_at header_at referred_at count_at type_of beginning_of information_at grid_of_page table pixel_at calls_of row_of whole_calls generic_at immediate generic_header_at region_info_at adaptive_pixel_at rows_at generic_grid generic_region decoded_region first_pixels at_next after_pixel with_next after_ltp so_far context_at choice decision byte_in byte_at filled doubled renormed initial_registers likely_next unlikely_next rows state_of drawn_pixel
 row_R2_1-colour = refl

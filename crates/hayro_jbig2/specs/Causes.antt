@@ -26,9 +26,9 @@ use Rattle.jbig2_base.specs.declared.reading.Reading.{Reading}
 use Rattle.jbig2_region.specs.Causes.{BreaksOffset, BreaksRefinementHeader}
 use Rattle.jbig2_region.specs.RegionInfo.{PlacedRegion}
 use Rattle.jbig2_region.specs.RefinementHeader.{refinement_header_at}
-use Rattle.jbig2_text.specs.Causes.{Behind}
+use Rattle.jbig2_text.specs.Causes.{After}
 use Rattle.hayro_jbig2.specs.Files.{ReadFile, book_at, by_pages, ends_of, needs_page}
-use Rattle.hayro_jbig2.specs.Names.{globals_at, Names, first_named, named}
+use Rattle.hayro_jbig2.specs.Names.{globals_at, Names, first_kept, kept_of}
 use Rattle.hayro_jbig2.specs.Page.{ReadPage, drawing_of_page, embedded}
 use Rattle.hayro_jbig2.specs.Regions.{page_area, patterns_for}
 use Rattle.hayro_jbig2.specs.declared.kept.Kept.{Kept}
@@ -55,9 +55,9 @@ BreaksFirstPage book _ = ⊥
 -- There are too many symbols together, or a number names neither a symbol dictionary nor a custom table.
 abbrev pub BreaksReferred : Bool → Names → Names → List ℕ → DecodeError → Type 0
 BreaksReferred strict own shared numbers (Overflow SymbolCount) =
-    1048576 < length (flat_map (λ n. option_map_or (λ s. s.exported) (named n own.symbols shared.symbols) []) numbers)
+    1048576 < length (flat_map (λ n. option_map_or (λ s. s.exported) (kept_of n own.symbols shared.symbols) []) numbers)
 BreaksReferred strict own shared numbers (Segment InvalidReference) =
-    IsTrue strict × Any (λ n. (named n own.symbols shared.symbols ≡ None) × (named n own.codes shared.codes ≡ None)) numbers
+    IsTrue strict × Any (λ n. (kept_of n own.symbols shared.symbols ≡ None) × (kept_of n own.codes shared.codes ≡ None)) numbers
 BreaksReferred strict own shared numbers _ = ⊥
 
 -- The patterns of a halftone region: its first number names no pattern dictionary, or it has no number.
@@ -70,10 +70,10 @@ BreaksPatternReference own shared numbers _ = ⊥
 abbrev pub BreaksRefinement : Bool → Bool → Grid → List (Kept PlacedRegion) → SegmentView → DecodeError → Type 0
 BreaksRefinement strict is_intermediate page regions p e =
     let numbers = p.header.referred_to_segments in
-    let reference = option_and_then (λ number. first_named number regions) (slice_get numbers 0) in
+    let reference = option_and_then (λ number. first_kept number regions) (slice_get numbers 0) in
     ((e ≡ Segment InvalidReference) × IsTrue strict × (reference ≡ None) × (IsTrue is_intermediate ⊎ (numbers ≢ [])))
     ⊎ BreaksRefinementHeader p.bytes e
-    ⊎ Behind (refinement_header_at p.bytes) (λ header.
+    ⊎ After (refinement_header_at p.bytes) (λ header.
     BreaksOffset (unwrap_or reference (page_area page header.0.region_info)) header.0.region_info e)
 
 -- ---- extensions (7.4.14)

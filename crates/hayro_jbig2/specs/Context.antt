@@ -3,7 +3,7 @@
 use Rattle.std.specs.Prelude.{◌≡◌, ◌-◌, ◌*◌, ◌^◌, ◌≤◌, ℕ, [], false, true, Option, Some, None, unwrap_or}
 use Rattle.jbig2_steps.specs.Work.{counted}
 use Rattle.jbig2_steps.specs.declared.work.Work.{Work}
-use Rattle.hayro_jbig2.specs.Page.{Drawing, nothing_drawn}
+use Rattle.hayro_jbig2.specs.Page.{Drawing, empty_drawing}
 
 pub record Context : Type 0 where
   pub drawing : Drawing
@@ -12,7 +12,7 @@ pub record Context : Type 0 where
   pub steps : ℕ  -- how many the last page counted
 
 abbrev pub new_context : Context
-new_context = record { drawing = nothing_drawn; work_limit = None; work_left = None; steps = 0 }
+new_context = record { drawing = empty_drawing; work_limit = None; work_left = None; steps = 0 }
 
 abbrev pub units_of : Option ℕ → ℕ  -- without a limit there are as many units as a counter can hold
 units_of limit = unwrap_or limit (2 ^ 64 - 1)

@@ -4,7 +4,7 @@ use Rattle.std.specs.Prelude.{◌≡◌, ℕ, ◌+◌, ◌==◌, Bool, true, fal
 use Rattle.std.specs.Prelude.{filter, map, slice_get, option_map, is_some, Option, Some, None, Result, Ok, Err}
 use Rattle.std.specs.Prelude.{if◌then◌else◌}
 use Rattle.std.specs.List.{flat_map, list_any}
-use Rattle.jbig2_base.specs.Answer.{◌>>=◌, refuse_if}
+use Rattle.jbig2_base.specs.Results.{◌>>=◌, refuse_if}
 use Rattle.jbig2_base.specs.File.{file_at}
 use Rattle.jbig2_base.specs.Reading.{fault_of, is_salvaged, is_strict}
 use Rattle.jbig2_base.specs.Segment.{Header, SegmentView}
@@ -17,7 +17,7 @@ use Rattle.jbig2_base.specs.declared.page_info.InitialPage.{InitialPage}
 use Rattle.jbig2_base.specs.declared.reading.Reading.{Reading}
 use Rattle.jbig2_base.specs.declared.reading.Reading.TheVariants.{Lenient}
 use Rattle.jbig2_base.specs.declared.segment.SegmentType.{SegmentType}
-use Rattle.hayro_jbig2.specs.Names.{named_from, names_of, nothing_shared, Shared}
+use Rattle.hayro_jbig2.specs.Names.{shared_from, names_of, nothing_shared, Shared}
 use Rattle.hayro_jbig2.specs.Page.{ReadPage, beginning_of, region_type}
 use Rattle.jbig2_base.specs.declared.segment.SegmentType.TheVariants as types
 
@@ -71,20 +71,20 @@ ends_of [] = 0
 ends_of (p ∷ ps) = (if is_end_of_page p.header.segment_type then 1 else 0) + ends_of ps
 
 -- The page that these segments make up. Strict reading requires exactly one end of page (7.4.9).
-unfoldable pub filed_from : Reading → List SegmentView → Result PageInFile DecodeError
-filed_from reading own = do
+unfoldable pub page_in_file : Reading → List SegmentView → Result PageInFile DecodeError
+page_in_file reading own = do
   ended ← refuse_if (is_strict reading && not (ends_of own == 1)) (Format InvalidEndOfPage)
   initial_page ← beginning_of reading own
   Ok (record { initial_page = initial_page; segments = own })
 
 -- A page before the others. Salvage leaves out one whose beginning fails.
-abbrev pub filed_before : Reading → Result PageInFile DecodeError → Result (List PageInFile) DecodeError → Result (List PageInFile) DecodeError
-filed_before reading (Ok page) others = others >>= λ pages. Ok (page ∷ pages)
-filed_before reading (Err e) others = if is_salvaged reading e then others else Err e
+abbrev pub before_pages : Reading → Result PageInFile DecodeError → Result (List PageInFile) DecodeError → Result (List PageInFile) DecodeError
+before_pages reading (Ok page) others = others >>= λ pages. Ok (page ∷ pages)
+before_pages reading (Err e) others = if is_salvaged reading e then others else Err e
 
-abbrev pub filed_each : Reading → List (List SegmentView) → Result (List PageInFile) DecodeError
-filed_each reading [] = Ok []
-filed_each reading (own ∷ others) = filed_before reading (filed_from reading own) (filed_each reading others)
+abbrev pub pages_in_file : Reading → List (List SegmentView) → Result (List PageInFile) DecodeError
+pages_in_file reading [] = Ok []
+pages_in_file reading (own ∷ others) = before_pages reading (page_in_file reading own) (pages_in_file reading others)
 
 abbrev pub error_of : {A : Type 0} → Result A DecodeError → List DecodeError
 error_of (Ok x) = []
@@ -92,7 +92,7 @@ error_of (Err e) = e ∷ []
 
 -- why pages are left out: an error for each
 abbrev pub left_out_of : Reading → List (List SegmentView) → List DecodeError
-left_out_of reading all = flat_map (λ own. error_of (filed_from reading own)) all
+left_out_of reading all = flat_map (λ own. error_of (page_in_file reading own)) all
 
 abbrev pub miscounts : Option ℕ → ℕ → Bool  -- the file's header gives another number of pages (D.4.3)
 miscounts None n = false
@@ -101,7 +101,7 @@ miscounts (Some told) n = not (told == n)
 -- What these pages share: the names that segments of no page keep. It is empty without pages, since nothing shows it.
 abbrev pub shared_by : Reading → List PageInFile → List SegmentView → Result Shared DecodeError
 shared_by reading [] shared = Ok (nothing_shared None)
-shared_by reading (page ∷ pages) shared = named_from reading shared (nothing_shared None)
+shared_by reading (page ∷ pages) shared = shared_from reading shared (nothing_shared None)
 
 -- A file's pages, and what they share.
 unfoldable pub book_at : Reading → List ℕ → Result ReadFile DecodeError
@@ -109,7 +109,7 @@ book_at reading bytes = do
   file ← file_at reading bytes
   known ← associated (is_strict reading) file.1
   counted ← refuse_if (is_strict reading && miscounts file.0.number_of_pages (length (by_pages file.1))) (Format PageCountMismatch)
-  pages ← filed_each reading (by_pages file.1)
+  pages ← pages_in_file reading (by_pages file.1)
   Ok (record { reading = reading; pages = pages; globals = shared_by reading pages (of_page 0 file.1); left_out = left_out_of reading (by_pages file.1); fault = fault_of reading (file_at Lenient bytes) })
 
 abbrev pub page_in : ReadFile → PageInFile → ReadPage
@@ -132,4 +132,4 @@ abbrev pub PagesStandAlone : Type 0
 PagesStandAlone = (reading : Reading) (bytes : List ℕ) (file : FileHeader × List SegmentView) (book : ReadFile) (index : ℕ) (page : ReadPage)
     → file_at reading bytes ≡ Ok file → book_at reading bytes ≡ Ok book → page_of book index ≡ Some page
     → let own = of_page page.initial_page.number file.1 in
-    (beginning_of reading own >>= λ begun. Ok (record { reading = reading; initial_page = begun; segments = own; globals = names_of (named_from reading (of_page 0 file.1) (nothing_shared None)); fault = fault_of reading (file_at Lenient bytes) })) ≡ Ok page
+    (beginning_of reading own >>= λ begun. Ok (record { reading = reading; initial_page = begun; segments = own; globals = names_of (shared_from reading (of_page 0 file.1) (nothing_shared None)); fault = fault_of reading (file_at Lenient bytes) })) ≡ Ok page

@@ -5,7 +5,7 @@ use Rattle.std.specs.Prelude.{Result, Ok, Err, IfSome, if◌then◌else◌}
 use Rattle.std.specs.IoError.{error_kind}
 use Rattle.std.specs.List.{range_with_len}
 use Rattle.std.specs.declared.io.ErrorKind.TheVariants.{Interrupted}
-use Rattle.jbig2_base.specs.Answer.{◌>>=◌, some_or}
+use Rattle.jbig2_base.specs.Results.{◌>>=◌, some_or}
 use Rattle.jbig2_base.specs.Bits.{bit}
 use Rattle.jbig2_base.specs.Grid.{Grid, pixel_at}
 use Rattle.jbig2_base.specs.declared.error.DecodeError.{DecodeError}

@@ -2,7 +2,7 @@
 -- salvage gives the same. And salvage refuses little.
 use Rattle.std.specs.Prelude.{◌≡◌, ◌≤◌, ℕ, Any, IsTrue, List, Some, Result, Ok, IfOk}
 use Rattle.std.specs.Result.{is_ok}
-use Rattle.jbig2_base.specs.Answer.{◌>>=◌, some_or}
+use Rattle.jbig2_base.specs.Results.{◌>>=◌, some_or}
 use Rattle.jbig2_base.specs.File.{file_at, file_header_at}
 use Rattle.jbig2_base.specs.PageInfo.{first_information, height_of, information_at}
 use Rattle.jbig2_base.specs.Segment.{SegmentView}
@@ -16,7 +16,7 @@ use Rattle.jbig2_base.specs.declared.reading.Reading.{Reading}
 use Rattle.jbig2_base.specs.declared.reading.Reading.TheVariants.{Strict, Lenient, Salvage}
 use Rattle.hayro_jbig2.specs.Files.{ReadFile, book_at, of_page, page_of}
 use Rattle.hayro_jbig2.specs.Names.{Names, globals_at}
-use Rattle.hayro_jbig2.specs.Page.{IsSide, ReadPage, drawing_of_page, embedded, told_height}
+use Rattle.hayro_jbig2.specs.Page.{IsSide, ReadPage, drawing_of_page, embedded, known_height}
 
 -- Where the one reading succeeds, the other gives the same value.
 abbrev pub IsSameUnder : {A : Type 0} → Reading → Reading → (Reading → Result A DecodeError) → Type 0
@@ -46,7 +46,7 @@ pub record HasBeginning (ps : List SegmentView) : Type 0 where
   pub height : ℕ
   pub first : first_information ps ≡ Ok information
   pub read : information_at information.bytes ≡ Ok fields
-  pub told : height_of fields.0.height (told_height Salvage ps) ≡ Ok height
+  pub told : height_of fields.0.height (known_height Salvage ps) ≡ Ok height
   pub columns : IsSide fields.0.width
   pub rows : IsSide height
 

@@ -5,7 +5,7 @@ use Rattle.std.specs.Prelude.{ℕ, ◌+◌, nat_le, nat_lt, ◌==◌, Bool, true
 use Rattle.std.specs.Prelude.{Some, None, Result, Ok, Err, if◌then◌else◌}
 use Rattle.std.specs.Int.{w32}
 use Rattle.std.specs.Option.{option_map_or, option_or}
-use Rattle.jbig2_base.specs.Answer.{◌>>=◌, refuse_if}
+use Rattle.jbig2_base.specs.Results.{◌>>=◌, refuse_if}
 use Rattle.jbig2_base.specs.Bits.{start_of}
 use Rattle.jbig2_base.specs.Fields.{number_at}
 use Rattle.jbig2_base.specs.Grid.{Grid}
@@ -19,7 +19,7 @@ use Rattle.jbig2_base.specs.declared.reading.Reading.{Reading}
 use Rattle.jbig2_base.specs.declared.reading.Reading.TheVariants.{Lenient}
 use Rattle.jbig2_base.specs.declared.segment.SegmentType.{SegmentType}
 use Rattle.jbig2_base.specs.Sequential.{sequential, sorted_segments}
-use Rattle.jbig2_coder.specs.CustomTable.{answer_of, custom_table}
+use Rattle.jbig2_coder.specs.CustomTable.{result_of, custom_table}
 use Rattle.jbig2_coder.specs.PrefixCode.{Member}
 use Rattle.jbig2_halftone.specs.PatternHeader.{pattern_header_at}
 use Rattle.jbig2_halftone.specs.Patterns.{Patterns, patterns_decoded}
@@ -33,13 +33,13 @@ use Rattle.jbig2_base.specs.declared.segment.SegmentType.TheVariants as types
 abbrev pub kept_under : {V : Type 0} → ℕ → V → List (Kept V) → List (Kept V)  -- at the end of what is kept already
 kept_under number value kept = kept ++ record { segment_number = number; value = value } ∷ []
 
-abbrev pub first_named : {V : Type 0} → ℕ → List (Kept V) → Option V
-first_named number [] = None
-first_named number (k ∷ kept) = if k.segment_number == number then Some k.value else first_named number kept
+abbrev pub first_kept : {V : Type 0} → ℕ → List (Kept V) → Option V
+first_kept number [] = None
+first_kept number (k ∷ kept) = if k.segment_number == number then Some k.value else first_kept number kept
 
 -- the page's own value, else that of the globals
-abbrev pub named : {V : Type 0} → ℕ → List (Kept V) → List (Kept V) → Option V
-named number own shared = option_or (first_named number own) (first_named number shared)
+abbrev pub kept_of : {V : Type 0} → ℕ → List (Kept V) → List (Kept V) → Option V
+kept_of number own shared = option_or (first_kept number own) (first_kept number shared)
 
 -- The symbol dictionaries, the codes of custom tables and the pattern dictionaries that are kept, in order.
 pub record Names : Type 0 where
@@ -71,8 +71,8 @@ with_table strict None r = refuse_if strict (Segment InvalidReference) >>= λ kn
 -- A number means a symbol dictionary if it names one, and else a custom table.
 abbrev pub with_number : Bool → Names → Names → ℕ → Referred → Result Referred DecodeError
 with_number strict own shared number r =
-    option_map_or (λ s. with_dictionary s r) (named number own.symbols shared.symbols)
-    (with_table strict (named number own.codes shared.codes) r)
+    option_map_or (λ s. with_dictionary s r) (kept_of number own.symbols shared.symbols)
+    (with_table strict (kept_of number own.codes shared.codes) r)
 
 abbrev pub with_numbers : Bool → Names → Names → List ℕ → Referred → Result Referred DecodeError
 with_numbers strict own shared [] r = Ok r
@@ -104,7 +104,7 @@ with_patterns strict p own =
     >>= λ patterns. Ok (record own { patterns = kept_under p.header.segment_number patterns own.patterns })
 
 abbrev pub code_at : List ℕ → Result (List Member) DecodeError  -- a custom table (7.4.13, B.2)
-code_at bytes = answer_of (custom_table (start_of bytes))
+code_at bytes = result_of (custom_table (start_of bytes))
 
 unfoldable pub with_code : SegmentView → Names → Result Names DecodeError
 with_code p own = code_at p.bytes >>= λ code. Ok (record own { codes = kept_under p.header.segment_number code own.codes })
@@ -156,12 +156,12 @@ or_shared_without reading number shared (Err e) =
 
 -- Globals: segments that several pages share, kept separately from the pages, as in PDF. Each may refer to those before
 -- it. Regions and page information among them have no effect.
-abbrev pub named_from : Reading → List SegmentView → Shared → Result Shared DecodeError
-named_from reading [] shared = Ok shared
-named_from reading (p ∷ ps) shared =
+abbrev pub shared_from : Reading → List SegmentView → Shared → Result Shared DecodeError
+shared_from reading [] shared = Ok shared
+shared_from reading (p ∷ ps) shared =
     or_shared_without reading p.header.segment_number shared (kept_by (is_strict reading) no_names p shared.names)
-    >>= λ more. named_from reading ps more
+    >>= λ more. shared_from reading ps more
 
 -- The globals in these bytes: the segments lie one after the other, and are sorted before they are decoded.
 unfoldable pub globals_at : Reading → List ℕ → Result Shared DecodeError
-globals_at reading bytes = sorted_segments reading bytes >>= λ segments. named_from reading segments (nothing_shared (fault_of reading (sequential Lenient bytes)))
+globals_at reading bytes = sorted_segments reading bytes >>= λ segments. shared_from reading segments (nothing_shared (fault_of reading (sequential Lenient bytes)))

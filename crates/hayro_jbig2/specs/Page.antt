@@ -3,7 +3,7 @@
 use Rattle.std.specs.Prelude.{◌≡◌, ◌≤◌, ℕ, ◌+◌, ◌-◌, ◌==◌, ◌||◌, nat_lt, max, min, Bool, true, false, not, List, []}
 use Rattle.std.specs.Prelude.{◌∷◌, Option, Some, None, Result, Ok, Err, IfOk, IsTrue, if◌then◌else◌}
 use Rattle.std.specs.Int.{w32, cast_signed}
-use Rattle.jbig2_base.specs.Answer.{◌>>=◌}
+use Rattle.jbig2_base.specs.Results.{◌>>=◌}
 use Rattle.jbig2_base.specs.Combination.{combined}
 use Rattle.jbig2_base.specs.Grid.{Grid, blank}
 use Rattle.jbig2_base.specs.PageInfo.{initial_page_by, stripes_height}
@@ -113,8 +113,8 @@ intermediate strict globals kind p d =
     region_at strict globals kind true p d >>= λ region. Ok (with_region p.header.segment_number d region)
 
 -- A segment that draws nothing changes only the names.
-abbrev pub keeping : Drawing → Result Names DecodeError → Result Drawing DecodeError
-keeping d kept = kept >>= λ names. Ok (record d { names = names })
+abbrev pub with_names : Drawing → Result Names DecodeError → Result Drawing DecodeError
+with_names d kept = kept >>= λ names. Ok (record d { names = names })
 
 -- One segment. These change nothing here: page information, stripes, profiles, palettes, types without a meaning, and
 -- the ends of pages and files.
@@ -124,7 +124,7 @@ segment_by strict globals p d = on (region_type p.header.segment_type)
     on : Option (RegionKind × Bool) → Result Drawing DecodeError
     on (Some (kind, true)) = intermediate strict globals kind p d
     on (Some (kind, false)) = immediate strict globals kind p d
-    on None = keeping d (kept_by strict globals p d.names)
+    on None = with_names d (kept_by strict globals p d.names)
 
 -- Salvage passes over any segment that fails. Nothing is kept under its number then.
 abbrev pub or_left_out : Reading → ℕ → Drawing → Result Drawing DecodeError → Result Drawing DecodeError
@@ -139,14 +139,14 @@ abbrev pub segments_drawn : Reading → Names → List SegmentView → Drawing �
 segments_drawn reading globals [] d = Ok d
 segments_drawn reading globals (p ∷ ps) d = if ends_page p.header.segment_type then Ok d else (segment_on reading globals p d >>= λ e. segments_drawn reading globals ps e)
 
-abbrev pub nothing_drawn : Drawing  -- a page of no pixels
-nothing_drawn = record { grid = blank 0 0 false; regions = []; names = no_names; untouched = true; passed_over = nothing_passed }
+abbrev pub empty_drawing : Drawing  -- a page of no pixels
+empty_drawing = record { grid = blank 0 0 false; regions = []; names = no_names; untouched = true; passed_over = nothing_passed }
 
-abbrev pub page_begun : InitialPage → Drawing  -- the page before its first segment, all in its default pixel
-page_begun initial_page = record { grid = blank initial_page.width initial_page.height initial_page.default_pixel; regions = []; names = no_names; untouched = true; passed_over = nothing_passed }
+abbrev pub blank_page : InitialPage → Drawing  -- the page before its first segment, all in its default pixel
+blank_page initial_page = record { grid = blank initial_page.width initial_page.height initial_page.default_pixel; regions = []; names = no_names; untouched = true; passed_over = nothing_passed }
 
 abbrev pub drawing_of_page : ReadPage → Result Drawing DecodeError
-drawing_of_page page = page.globals >>= λ globals. segments_drawn page.reading globals page.segments (page_begun page.initial_page)
+drawing_of_page page = page.globals >>= λ globals. segments_drawn page.reading globals page.segments (blank_page page.initial_page)
 
 unfoldable pub grid_of_page : ReadPage → Result Grid DecodeError
 grid_of_page page = drawing_of_page page >>= λ d. Ok d.grid
@@ -170,12 +170,12 @@ regions_height (p ∷ ps) = max (region_height p) (regions_height ps)
 
 -- The height where page information leaves it open: that of the stripes, and in salvage that of the regions where no
 -- stripe gives one (our own rule).
-abbrev pub told_height : Reading → List SegmentView → ℕ
-told_height Salvage ps = if stripes_height ps == 0 then regions_height ps else stripes_height ps
-told_height _ ps = stripes_height ps
+abbrev pub known_height : Reading → List SegmentView → ℕ
+known_height Salvage ps = if stripes_height ps == 0 then regions_height ps else stripes_height ps
+known_height _ ps = stripes_height ps
 
 unfoldable pub beginning_of : Reading → List SegmentView → Result InitialPage DecodeError
-beginning_of reading ps = initial_page_by (told_height reading ps) ps
+beginning_of reading ps = initial_page_by (known_height reading ps) ps
 
 -- An embedded page (D.3), as in PDF: its segments are read one after the other and sorted.
 unfoldable pub embedded : Reading → Names → List ℕ → Result ReadPage DecodeError
@@ -195,7 +195,7 @@ draws_over Xnor black = black
 -- A page on which no immediate region was drawn is all of the colour that it began in.
 abbrev pub UntouchedIsBlank : Type 0
 UntouchedIsBlank = (reading : Reading) (globals : Names) (segments : List SegmentView) (initial_page : InitialPage) (d : Drawing)
-    → segments_drawn reading globals segments (page_begun initial_page) ≡ Ok d → IsTrue d.untouched
+    → segments_drawn reading globals segments (blank_page initial_page) ≡ Ok d → IsTrue d.untouched
     → d.grid ≡ blank initial_page.width initial_page.height initial_page.default_pixel
 
 -- A page that is drawn has the size that it begins with.

@@ -1,7 +1,7 @@
 -- The regions of a page (T.88, 7.4.3 and 7.4.5 to 7.4.7): what each kind of region decodes to, a grid of its own at a
 -- place. `Page` says whether it is then drawn or kept.
 use Rattle.std.specs.Prelude.{ℕ, Bool, ◌&&◌, not, is_none, List, [], ◌∷◌, length, Option, None, unwrap_or, Result, Ok}
-use Rattle.jbig2_base.specs.Answer.{refuse_if, some_or, ◌>>=◌}
+use Rattle.jbig2_base.specs.Results.{refuse_if, some_or, ◌>>=◌}
 use Rattle.jbig2_base.specs.Grid.{Grid, part_of}
 use Rattle.jbig2_base.specs.Segment.{SegmentView}
 use Rattle.jbig2_base.specs.declared.error.DecodeError.{DecodeError}
@@ -18,7 +18,7 @@ use Rattle.jbig2_halftone.specs.HalftoneHeader.{halftone_header_at}
 use Rattle.jbig2_halftone.specs.Patterns.{Patterns}
 use Rattle.jbig2_text.specs.TextHeader.{text_header_at}
 use Rattle.jbig2_text.specs.TextRegion.{text_decoded}
-use Rattle.hayro_jbig2.specs.Names.{Names, first_named, named, referred_by}
+use Rattle.hayro_jbig2.specs.Names.{Names, first_kept, kept_of, referred_by}
 use Rattle.hayro_jbig2.specs.declared.kept.Kept.{Kept}
 
 -- A text region (7.4.3), after what it refers to.
@@ -31,7 +31,7 @@ text_at strict own shared p = do
 -- The pattern dictionary that the first of a halftone region's numbers names (7.4.5).
 abbrev pub patterns_for : Names → Names → List ℕ → Option Patterns
 patterns_for own shared [] = None
-patterns_for own shared (number ∷ numbers) = named number own.patterns shared.patterns
+patterns_for own shared (number ∷ numbers) = kept_of number own.patterns shared.patterns
 
 -- A halftone region (7.4.5), drawn with the patterns that it refers to.
 unfoldable pub halftone_at : Bool → Names → Names → SegmentView → Result PlacedRegion DecodeError
@@ -51,8 +51,8 @@ generic_at strict is_intermediate p = do
 abbrev pub referred_region : Bool → List ℕ → List (Kept PlacedRegion) → Result (Option PlacedRegion) DecodeError
 referred_region strict [] regions = Ok None
 referred_region strict (number ∷ others) regions = do
-  known ← refuse_if (strict && is_none (first_named number regions)) (Segment InvalidReference)
-  Ok (first_named number regions)
+  known ← refuse_if (strict && is_none (first_kept number regions)) (Segment InvalidReference)
+  Ok (first_kept number regions)
 
 -- The area of the page that a region covers, white outside the page.
 abbrev pub page_area : Grid → RegionSegmentInfo → PlacedRegion

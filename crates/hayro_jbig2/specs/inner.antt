@@ -1,9 +1,9 @@
+pub mod BufferBytes
 pub mod ByPages
 pub mod KeptViews
 pub mod PageViews
-pub mod Parsed
+pub mod ParsedRegions
 pub mod Prices
-pub mod Puts
 pub mod RunViews
 pub mod SegmentLists
-pub mod Whole
+pub mod WholePages

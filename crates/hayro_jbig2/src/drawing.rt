@@ -1,15 +1,15 @@
 //! Draws a page's segments onto the page (T.88, 8.2).
 ghost use Rattle.std.specs.Prelude.{◌≡◌, ◌+◌, ◌*◌, ◌<◌, ◌≤◌, ◌⊎◌, true, false, Err, IfErr, IfOk};
-ghost use Rattle.jbig2_base.specs.Answer.{Gives};
+ghost use Rattle.jbig2_base.specs.Results.{Gives};
 ghost use Rattle.jbig2_base.specs.inner.SegmentViews.{segment_view, segment_views};
 ghost use Rattle.hayro_jbig2.specs.Names.{nothing_passed, with_patterns, with_symbols};
 ghost use Rattle.jbig2_base.specs.Reading.{is_strict};
-ghost use Rattle.hayro_jbig2.specs.Page.{segments_drawn, ends_page, immediate, intermediate, keeping, or_left_out, or_passed_over, region_at, segment_by, segment_on, shown};
+ghost use Rattle.hayro_jbig2.specs.Page.{segments_drawn, ends_page, immediate, intermediate, with_names, or_left_out, or_passed_over, region_at, segment_by, segment_on, shown};
 ghost use Rattle.jbig2_base.specs.declared.error.DecodeError.TheVariants.{OutOfMemory};
 ghost use Rattle.jbig2_region.specs.inner.RegionViews.{region_view};
 ghost use Rattle.hayro_jbig2.specs.inner.KeptViews.{seen};
-ghost use Rattle.hayro_jbig2.specs.inner.Parsed.{drawing_of};
-ghost use Rattle.hayro_jbig2.specs.inner.Whole.{touched};
+ghost use Rattle.hayro_jbig2.specs.inner.ParsedRegions.{drawing_of};
+ghost use Rattle.hayro_jbig2.specs.inner.WholePages.{after_immediate};
 ghost use Rattle.jbig2_steps.specs.Work.{Paid, worth};
 
 pub(crate) mod canvas;
@@ -164,7 +164,7 @@ impl<'a, A: Allocator + Clone> Drawer<'a, A> {
             (segment_by (is_strict self.now.reading) self.now.globals.now
             (segment_view segment.now) canvas.old) }
         ensures err { IfErr result (λ e. (e ≡ OutOfMemory) ⊎
-            (touched canvas.new ≡ touched canvas.old)) }
+            (after_immediate canvas.new ≡ after_immediate canvas.old)) }
         ensures paid { Paid work.old work.new }
     {
         match segment.header.segment_type {
@@ -215,7 +215,7 @@ impl<'a, A: Allocator + Clone> Drawer<'a, A> {
         work: &mut Work<L>,
     ) -> Result<()>
         ensures value { Gives (λ _. canvas.new) result
-            (keeping canvas.old (with_symbols (is_strict self.now.reading) self.now.globals.now
+            (with_names canvas.old (with_symbols (is_strict self.now.reading) self.now.globals.now
             (segment_view segment.now) canvas.old.names)) }
         ensures err { IfErr result (λ e. (e ≡ OutOfMemory) ⊎ (canvas.new ≡ canvas.old)) }
         ensures paid { Paid work.old work.new }
@@ -239,7 +239,7 @@ impl<'a, A: Allocator + Clone> Drawer<'a, A> {
         work: &mut Work<L>,
     ) -> Result<()>
         ensures value { Gives (λ _. canvas.new) result
-            (keeping canvas.old (with_patterns (is_strict self.now.reading)
+            (with_names canvas.old (with_patterns (is_strict self.now.reading)
             (segment_view segment.now) canvas.old.names)) }
         ensures err { IfErr result (λ e. (e ≡ OutOfMemory) ⊎ (canvas.new ≡ canvas.old)) }
         ensures paid { Paid work.old work.new }
@@ -290,7 +290,7 @@ impl<'a, A: Allocator + Clone> Drawer<'a, A> {
             (immediate (is_strict self.now.reading) self.now.globals.now kind
             (segment_view segment.now) canvas.old) }
         ensures err { IfErr result (λ e. (e ≡ OutOfMemory) ⊎
-            (touched canvas.new ≡ touched canvas.old)) }
+            (after_immediate canvas.new ≡ after_immediate canvas.old)) }
         ensures paid { Paid work.old work.new }
     {
         match self.show_region(kind, segment, canvas, work) {
@@ -312,7 +312,7 @@ impl<'a, A: Allocator + Clone> Drawer<'a, A> {
             (shown canvas.old (region_at (is_strict self.now.reading) self.now.globals.now kind false
             (segment_view segment.now) canvas.old)) }
         ensures err { IfErr result (λ e. (e ≡ OutOfMemory) ⊎
-            (touched canvas.new ≡ touched canvas.old)) }
+            (after_immediate canvas.new ≡ after_immediate canvas.old)) }
         ensures passed { canvas.new.passed_over ≡ canvas.old.passed_over }
         ensures paid { Paid work.old work.new }
     {

@@ -1,10 +1,10 @@
 //! Files of pages (T.88, Annex D): a file's segments, sorted into its pages.
 ghost use Rattle.std.specs.Prelude.{◌≡◌, ◌++◌, ℕ, Ok, OnOk, IfErr, length, slice_get};
 ghost use Rattle.std.specs.Map.Iter.{GivesInOrder};
-ghost use Rattle.jbig2_base.specs.Answer.{Answers, Gives};
+ghost use Rattle.jbig2_base.specs.Results.{Returns, Gives};
 ghost use Rattle.jbig2_base.specs.inner.SegmentViews.{header_view, segment_views};
 ghost use Rattle.hayro_jbig2.specs.inner.ByPages.{pages_view};
-ghost use Rattle.hayro_jbig2.specs.Files.{needs_page, lacks_page, associated, is_end_of_page, ends_of, filed_from, filed_each, left_out_of, miscounts, book_at, shared_by, page_of, pages_of, PagesStandAlone};
+ghost use Rattle.hayro_jbig2.specs.Files.{needs_page, lacks_page, associated, is_end_of_page, ends_of, page_in_file, pages_in_file, left_out_of, miscounts, book_at, shared_by, page_of, pages_of, PagesStandAlone};
 ghost use Rattle.jbig2_base.specs.Reading.{is_strict, reading_of};
 ghost use Rattle.jbig2_base.specs.declared.reading.Reading.TheVariants.{Salvage};
 ghost use Rattle.hayro_jbig2.specs.Names.{names_of};
@@ -105,7 +105,7 @@ fn lacks_page<A: Allocator>(strict: bool, header: &SegmentHeader<A>) -> bool
 }
 
 fn check_associations<A: Allocator>(strict: bool, segments: &[Segment<'_, A>]) -> Result<()>
-    ensures { Answers (λ known. known) result (associated strict (segment_views segments.now)) }
+    ensures { Returns (λ known. known) result (associated strict (segment_views segments.now)) }
 {
     for segment in segments {
         if lacks_page(strict, &segment.header) {
@@ -133,12 +133,12 @@ fn count_ends<A: Allocator>(segments: &[Segment<'_, A>]) -> usize
     count
 }
 
-#[tactic(auto, unfolding(crate::specs::Files::filed_from))]
+#[tactic(auto, unfolding(crate::specs::Files::page_in_file))]
 fn read_page<'a, A: Allocator>(
     reading: Reading,
     own: Vec<Segment<'a, A>, A>,
 ) -> Result<FilePage<'a, A>>
-    ensures { Answers (λ page. page) result (filed_from reading (segment_views own.entry.items)) }
+    ensures { Returns (λ page. page) result (page_in_file reading (segment_views own.entry.items)) }
 {
     if reading.is_strict() && count_ends(&own) != 1 {
         return Err(DecodeError::Format(FormatError::InvalidEndOfPage));
@@ -158,7 +158,7 @@ fn read_pages<'a, A: Allocator>(
     left_out: &mut Vec<DecodeError, A>,
 ) -> Result<Vec<FilePage<'a, A>, A>>
     ensures value { Gives (λ v. v.items) result
-        (filed_each reading (pages_view segments.entry.items)) }
+        (pages_in_file reading (pages_view segments.entry.items)) }
     ensures left_out { OnOk result (left_out.new.items
         ≡ left_out.old.items ++ left_out_of reading (pages_view segments.entry.items)) }
 {
@@ -312,7 +312,7 @@ impl<'a, A: Allocator> File<'a, A> {
 
     /// What the segments of no page keep, or their error.
     pub fn shared(&self) -> Result<&Globals<A>>
-        ensures { Answers (λ globals. globals.now) result self.now.globals }
+        ensures { Returns (λ globals. globals.now) result self.now.globals }
     {
         match &self.globals {
             Ok(globals) => Ok(globals),

@@ -1,6 +1,6 @@
 //! The first page of a file that a reader gives.
 ghost use Rattle.std.specs.Prelude.{◌≡◌, ◌*◌, Ok, IfErr, IfOk, IfSome, OnErr, length};
-ghost use Rattle.jbig2_base.specs.Answer.{Answers, Gives, some_or};
+ghost use Rattle.jbig2_base.specs.Results.{Returns, Gives, some_or};
 ghost use Rattle.jbig2_base.specs.Causes.{HasCause};
 ghost use Rattle.hayro_jbig2.specs.Causes.{BreaksFirstPage};
 ghost use Rattle.hayro_jbig2.specs.Files.{page_of};
@@ -49,7 +49,7 @@ impl<A: Allocator> Model for Jbig2Decoder<A> {
 /// The first page of a file.
 #[tactic(auto, using(crate::proofs::Causes::first_page_cause))]
 fn first_page_of<'f, A: Allocator>(file: &'f File<'_, A>) -> jbig2_base::error::Result<Page<'f, A>>
-    ensures value { Answers (λ page. page) result
+    ensures value { Returns (λ page. page) result
         (some_or (DecodeError.Format FormatError.MissingPageInfo) (page_of file.now 0)) }
     ensures causes { HasCause result (BreaksFirstPage file.now) }
 {

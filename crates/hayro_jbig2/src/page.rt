@@ -1,6 +1,6 @@
 //! Pages: how one is read (T.88, 7.4.8 and D.3), and its number and size.
 ghost use Rattle.std.specs.Prelude.{◌≡◌, IfErr};
-ghost use Rattle.jbig2_base.specs.Answer.{Gives};
+ghost use Rattle.jbig2_base.specs.Results.{Gives};
 ghost use Rattle.hayro_jbig2.specs.Page.{HasSides, IsSide, ReadPage, embedded};
 ghost use Rattle.jbig2_base.specs.Reading.{reading_of};
 ghost use Rattle.jbig2_base.specs.declared.reading.Reading.TheVariants.{Salvage};

@@ -3,7 +3,7 @@
 ghost use Rattle.std.specs.Prelude.{IfOk};
 ghost use Rattle.jbig2_base.specs.inner.SegmentViews.{segment_view};
 ghost use Rattle.hayro_jbig2.specs.Page.{region_at};
-ghost use Rattle.hayro_jbig2.specs.inner.Parsed.{IsDecodable, Leads, drawing_of};
+ghost use Rattle.hayro_jbig2.specs.inner.ParsedRegions.{IsDecodable, DecodesTo, drawing_of};
 ghost use Rattle.jbig2_steps.specs.Work.{Paid};
 
 mod generic;
@@ -46,7 +46,7 @@ pub(crate) fn parse_region<'a, 'n, 'r, A: Allocator + Clone, L: Ledger>(
     workspace: &Workspace<A>,
     work: &mut Work<L>,
 ) -> Result<ParsedRegion<'a, 'n, 'r, A>>
-    ensures value { Leads result
+    ensures value { DecodesTo result
         (region_at references.now.names.strict references.now.names.globals.now kind is_intermediate
         (segment_view segment.now) (drawing_of references.now)) }
     ensures parsed { IfOk result (λ region. IsDecodable region) }

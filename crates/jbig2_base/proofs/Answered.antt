@@ -2,7 +2,7 @@
 use Rattle.std.proofs.Common.{ℕ, zero, suc, eqb, Bool, true, false, cond, List, [], ◌∷◌, length, Option, Some, None, Result, Ok, Err}
 use Rattle.std.specs.Prelude.{IfErr}
 use Rattle.std.specs.Int.{Width, w32}
-use Rattle.jbig2_base.specs.Answer.{◌>>=◌, refuse_if, some_or}
+use Rattle.jbig2_base.specs.Results.{◌>>=◌, refuse_if, some_or}
 use Rattle.jbig2_base.specs.Bits.{Place, bits_left, bits_next}
 use Rattle.jbig2_base.specs.Fields.{bits_at, bytes_at, number_at, signed_at}
 use Rattle.jbig2_base.specs.File.{file_at, gathered, gathered_before, header_goes_on, headers_in, segments_by, file_header_at, page_count_at}

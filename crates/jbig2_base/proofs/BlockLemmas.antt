@@ -9,7 +9,7 @@ use Rattle.jbig2_base.specs.Writes.{with_pixels}
 use Rattle.jbig2_base.specs.Blocks.{block_pixel, with_block}
 use Rattle.jbig2_base.specs.Table.{IsTable}
 use Rattle.jbig2_base.proofs.GridLemmas.{grid_of-ext, pixel_at-grid_of}
-use Rattle.jbig2_base.proofs.WriteLemmas.{in_field, before_field, behind_field, other_row}
+use Rattle.jbig2_base.proofs.WriteLemmas.{in_field, before_field, after_field, other_row}
 
 -- inside of a block, or not
 block_cases : (left right top bottom i j : ℕ) → ((left ≤ i) × (i < right) × (top ≤ j) × (j < bottom)) ⊎ (left ≤ i → i < right → top ≤ j → j < bottom → ⊥)
@@ -101,7 +101,7 @@ grown_row operator page source left start count row from from_row page_bits sour
     ∙ ap (λ (b : Bool). combined_pixel operator (pixel_at page i row) b) source_bit
     ∙ sym (block-in operator page source left (start + count) row (row + 1) from from_row i row (omega arith) new (omega arith) (omega arith)))
     (λ (out : start + count ≤ i).
-    cond-false (eqb row row && leb start i && ltb i (start + count)) fresh before (behind_field start row count i row out)
+    cond-false (eqb row row && leb start i && ltb i (start + count)) fresh before (after_field start row count i row out)
     ∙ same
     ∙ block-out operator page source left start row (row + 1) from from_row i row (λ a b c d. omega arith)
     ∙ sym (block-out operator page source left (start + count) row (row + 1) from from_row i row (λ a b c d. omega arith)))

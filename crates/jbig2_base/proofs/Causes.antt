@@ -5,7 +5,7 @@ use Rattle.std.specs.Str.{bytes_eq}
 use Rattle.std.specs.Int.{Width, w8, w32, byte_len, from_be_bytes}
 use Rattle.std.proofs.lemmas.Bool.Decides.{nat_tests}
 use Rattle.std.proofs.lemmas.Bool.{cond_both, ltb-true, ltb-false, not-true, false≢true, true≢false}
-use Rattle.jbig2_base.specs.Answer.{◌>>=◌, refuse_if}
+use Rattle.jbig2_base.specs.Results.{◌>>=◌, refuse_if}
 use Rattle.jbig2_base.specs.Fields.{bytes_at, number_at, end_of_bytes}
 use Rattle.jbig2_base.specs.File.{file_header_at, identification, page_count_at}
 use Rattle.jbig2_base.specs.Causes.{BreaksFileHeader, HasCause, number_in}

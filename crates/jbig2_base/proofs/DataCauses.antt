@@ -4,7 +4,7 @@ use Rattle.std.specs.Prelude.{◌≢◌, ◌⊎◌, ◌&&◌, ◌||◌, slice_in
 use Rattle.std.specs.Int.{w8}
 use Rattle.std.proofs.lemmas.Bool.{cond_both, and_from, and_parts, or_cases, eq-eqb, le-leb, leb-true, ltb-true, ltb-false, true≢false}
 use Rattle.std.proofs.lemmas.List.{drop-drop}
-use Rattle.jbig2_base.specs.Answer.{◌>>=◌, Gives, refuse_if}
+use Rattle.jbig2_base.specs.Results.{◌>>=◌, Gives, refuse_if}
 use Rattle.jbig2_base.specs.Causes.{HasCause, HasCauseOrNoMemory, number_in, BreaksData, BreaksSides, BreaksArea}
 use Rattle.jbig2_base.specs.Fields.{bytes_at, end_of_bytes}
 use Rattle.jbig2_base.specs.Grid.{blank_or_overflow, wide_or_overflow}
@@ -15,7 +15,7 @@ use Rattle.jbig2_base.specs.declared.error.DecodeError.TheVariants.{OutOfMemory,
 use Rattle.jbig2_base.specs.declared.error.OverflowError.TheVariants.{BitmapDimension}
 use Rattle.jbig2_base.specs.declared.error.SegmentError.TheVariants.{MissingEndMarker}
 use Rattle.jbig2_base.proofs.Causes.{cause-bytes, cause-next, cause-refused}
-use Rattle.jbig2_base.proofs.CauseSteps.{call-cause, call-cause-or-memory, Told, told-cause, told-next, next-bytes, next-number}
+use Rattle.jbig2_base.proofs.CauseSteps.{call-cause, call-cause-or-memory, IfResult, result-cause, result-next, next-bytes, next-number}
 use Rattle.jbig2_base.proofs.SearchLemmas.{place-found, place-none}
 
 -- ---- the end marker
@@ -38,12 +38,12 @@ marker-there flags (a ∷ b ∷ rest) room same =
     let mmr : Bool = eqb (flags % 2) 1 in
     and_from (leb 6 (length (a ∷ b ∷ rest))) (cond mmr (eqb a 0 && eqb b 0) (eqb a 255 && eqb b 172)) (le-leb 6 (length (a ∷ b ∷ rest)) room) (marker-by mmr a b same)
 
-marker-told : (P : DecodeError → Type 0) (flags : ℕ) (rest : List ℕ) → (((k : ℕ) → k < length rest → is_end_marker flags (drop k rest) ≡ false) → P (Segment MissingEndMarker))
-    → Told (λ (place : ℕ). place + 6 ≤ length rest) P (first_end_marker flags rest)
-marker-told P flags rest why =
+marker-result : (P : DecodeError → Type 0) (flags : ℕ) (rest : List ℕ) → (((k : ℕ) → k < length rest → is_end_marker flags (drop k rest) ≡ false) → P (Segment MissingEndMarker))
+    → IfResult (λ (place : ℕ). place + 6 ≤ length rest) P (first_end_marker flags rest)
+marker-result P flags rest why =
     let test : ℕ → Bool = λ k. is_end_marker flags (drop k rest) in
     let place : ℕ = place_from test 0 (length rest) in
-    let Q : Result ℕ DecodeError → Type 0 = λ r. Told (λ (p : ℕ). p + 6 ≤ length rest) P r in
+    let Q : Result ℕ DecodeError → Type 0 = λ r. IfResult (λ (p : ℕ). p + 6 ≤ length rest) P r in
     cond_both (ltb place (length rest)) (Ok place) (Err (Segment MissingEndMarker)) Q
     (λ inside.
     let found : test place ≡ true = place-found test (length rest) (ltb-true place (length rest) inside) in
@@ -58,9 +58,9 @@ no-marker bytes flags place none k after room = λ same.
     let behind : drop (k - place) (drop place bytes) ≡ drop k bytes = drop-drop (k - place) place bytes ∙ ap (λ (m : ℕ). drop m bytes) (omega (arith, after)) in
     true≢false (sym there ∙ ap (λ (ys : List ℕ). is_end_marker flags ys) (sym behind) ∙ none (k - place) (omega (arith, length-drop place bytes, after, room)))
 
-pub unknown-told : (P : DecodeError → Type 0) (bytes : List ℕ) → ((e : DecodeError) → BreaksData None bytes e → P e) → Told (λ (n : ℕ). n ≤ length bytes) P (unknown_length_of bytes)
+pub unknown-result : (P : DecodeError → Type 0) (bytes : List ℕ) → ((e : DecodeError) → BreaksData None bytes e → P e) → IfResult (λ (n : ℕ). n ≤ length bytes) P (unknown_length_of bytes)
 unfolding unknown_length_of
-unknown-told P bytes why =
+unknown-result P bytes why =
     let flags : ℕ = number_in w8 17 bytes in
     let place : ℕ = coded_place bytes in
     let R : ℕ → Type 0 = λ n. n ≤ length bytes in
@@ -68,26 +68,26 @@ unknown-told P bytes why =
     next-bytes R P 17 bytes 0 _ (omega arith) (λ cut. short (omega (arith, cut))) (λ at_flags.
     next-number R P w8 bytes 17 _ at_flags (λ cut. short (omega (arith, cut))) (λ at_pixels.
     next-bytes R P (adaptive_bytes flags) bytes 18 _ at_pixels short (λ at_coded.
-    told-next (λ (p : ℕ). p + 6 ≤ length (drop place bytes)) R P (first_end_marker flags (drop place bytes)) _
-    (marker-told P flags (drop place bytes) (λ none. why (Segment MissingEndMarker) (no-marker bytes flags place none))) (λ p fits.
+    result-next (λ (p : ℕ). p + 6 ≤ length (drop place bytes)) R P (first_end_marker flags (drop place bytes)) _
+    (marker-result P flags (drop place bytes) (λ none. why (Segment MissingEndMarker) (no-marker bytes flags place none))) (λ p fits.
     omega (arith, fits, at_coded, length-drop place bytes)))))
 
 pub unknown_cause : {X : Type 0} (bytes : List ℕ) (r : Result X DecodeError) → IfErr r (λ e. unknown_length_of bytes ≡ Err e) → HasCause r (BreaksData None bytes)
 unknown_cause bytes r =
     let P : DecodeError → Type 0 = BreaksData None bytes in
-    call-cause P (unknown_length_of bytes) r (told-cause (λ (n : ℕ). n ≤ length bytes) P (unknown_length_of bytes) (unknown-told P bytes (λ e why. why)))
+    call-cause P (unknown_length_of bytes) r (result-cause (λ (n : ℕ). n ≤ length bytes) P (unknown_length_of bytes) (unknown-result P bytes (λ e why. why)))
 
 -- ---- data and segments
-there-told : (P : DecodeError → Type 0) (n : ℕ) (bytes : List ℕ) → n ≤ length bytes → Told (λ (x : List ℕ × List ℕ). Unit {0}) P (bytes_at n bytes)
-there-told P n bytes fits =
-    let Q : Result (List ℕ × List ℕ) DecodeError → Type 0 = λ r. Told (λ (x : List ℕ × List ℕ). Unit {0}) P r in
+there-result : (P : DecodeError → Type 0) (n : ℕ) (bytes : List ℕ) → n ≤ length bytes → IfResult (λ (x : List ℕ × List ℕ). Unit {0}) P (bytes_at n bytes)
+there-result P n bytes fits =
+    let Q : Result (List ℕ × List ℕ) DecodeError → Type 0 = λ r. IfResult (λ (x : List ℕ × List ℕ). Unit {0}) P r in
     cond_both (ltb (length bytes) n) (Err end_of_bytes) (Ok (take n bytes, drop n bytes)) Q (λ short. absurd (omega (arith, fits, ltb-true (length bytes) n short))) (λ whole. tt)
 
 data-cause : (P : DecodeError → Type 0) (n : Option ℕ) (bytes : List ℕ) → ((e : DecodeError) → BreaksData n bytes e → P e) → IfErr (data_at n bytes) P
 data-cause P (Some n) bytes why = cause-bytes P n bytes (λ short. why end_of_bytes short)
 data-cause P None bytes why =
     let R : List ℕ × List ℕ → Type 0 = λ x. Unit {0} in
-    told-cause R P (data_at None bytes) (told-next (λ (n : ℕ). n ≤ length bytes) R P (unknown_length_of bytes) _ (unknown-told P bytes why) (λ n fits. there-told P n bytes fits))
+    result-cause R P (data_at None bytes) (result-next (λ (n : ℕ). n ≤ length bytes) R P (unknown_length_of bytes) _ (unknown-result P bytes why) (λ n fits. there-result P n bytes fits))
 
 pub data_cause : {X : Type 0} (n : Option ℕ) (bytes : List ℕ) (r : Result X DecodeError) → IfErr r (λ e. data_at n bytes ≡ Err e) → HasCause r (BreaksData n bytes)
 data_cause n bytes r = call-cause (BreaksData n bytes) (data_at n bytes) r (data-cause (BreaksData n bytes) n bytes (λ e why. why))

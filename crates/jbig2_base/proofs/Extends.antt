@@ -6,7 +6,7 @@ use Rattle.std.specs.Int.{Width, w8, w32, byte_len, from_be_bytes}
 use Rattle.std.specs.List.{list_any}
 use Rattle.std.specs.Prelude.{nat_le, ◌==◌}
 use Rattle.std.specs.Result.{is_ok}
-use Rattle.jbig2_base.specs.Answer.{◌>>=◌, refuse_if}
+use Rattle.jbig2_base.specs.Results.{◌>>=◌, refuse_if}
 use Rattle.jbig2_base.specs.Fields.{bytes_at, number_at, end_of_bytes}
 use Rattle.jbig2_base.specs.Segment.{Header, header_at, referred_at, count_at, long_count_at, length_of, type_of, is_reserved, numbers_in, number_width}
 use Rattle.jbig2_base.specs.declared.error.DecodeError.{DecodeError}

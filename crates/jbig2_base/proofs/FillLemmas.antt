@@ -8,11 +8,11 @@ use Rattle.jbig2_base.specs.Writes.{with_pixels}
 use Rattle.jbig2_base.specs.inner.Filled.{pixel_of_part, is_before, filled}
 use Rattle.jbig2_base.specs.declared.bitmap.part.Area.{Area}
 use Rattle.std.specs.Prelude.{nat_lt}
-use Rattle.jbig2_base.specs.Answer.{◌>>=◌, refuse_if}
+use Rattle.jbig2_base.specs.Results.{◌>>=◌, refuse_if}
 use Rattle.jbig2_base.specs.declared.error.DecodeError.TheVariants.{Overflow}
 use Rattle.jbig2_base.specs.declared.error.OverflowError.TheVariants.{BitmapDimension}
 use Rattle.jbig2_base.proofs.GridLemmas.{grid_of-ext, pixel_at-grid_of}
-use Rattle.jbig2_base.proofs.WriteLemmas.{in_field, before_field, behind_field, other_row}
+use Rattle.jbig2_base.proofs.WriteLemmas.{in_field, before_field, after_field, other_row}
 
 before-row : (y x i j : ℕ) → j < y → is_before y x i j ≡ true
 unfolding is_before
@@ -82,7 +82,7 @@ filled-store w h f y x count bits before after within above reads is_filled writ
         ∙ reads (i - x) (omega arith)
         ∙ ap (λ (k : ℕ). f k y) column
         ∙ ap (λ (b : Bool). b && f i y) (sym (before-column y (x + count) i y refl new)))
-        (λ (out : x + count ≤ i). old i y left above (behind_field x y count i y out) (behind-column y x i y refl (omega arith) ∙ sym (behind-column y (x + count) i y refl out)))
+        (λ (out : x + count ≤ i). old i y left above (after_field x y count i y out) (behind-column y x i y refl (omega arith) ∙ sym (behind-column y (x + count) i y refl out)))
         (cases_lt i (x + count)))
         (cases_lt i x)
 

@@ -4,8 +4,8 @@ use Rattle.std.specs.Prelude.{◌≢◌, ◌⊎◌, ◌&&◌, ◌||◌, All, Any
 use Rattle.std.specs.Int.{w32, from_be_bytes}
 use Rattle.std.proofs.lemmas.Bool.{cond_both, cond-true, eqb-true, eqb-false, eq-eqb, ne_eqb, ltb-true, ltb-false, and_from, and_parts, or_cases, not-true, not_from_false, true≢false, false≢true}
 use Rattle.std.proofs.lemmas.Result.{IfErr-weaker}
-use Rattle.jbig2_base.specs.Answer.{◌>>=◌, refuse_if}
-use Rattle.jbig2_base.specs.Causes.{HasCause, FirstInformation, LeavesHeightOpen, TellsHeight, BreaksInitialPage, BreaksInitialPageBy, number_in}
+use Rattle.jbig2_base.specs.Results.{◌>>=◌, refuse_if}
+use Rattle.jbig2_base.specs.Causes.{HasCause, FirstInformation, LeavesHeightOpen, StatesHeight, BreaksInitialPage, BreaksInitialPageBy, number_in}
 use Rattle.jbig2_base.specs.PageInfo.{first_information, height_of, information_at, initial_page_by, initial_page_of, initial_page_with, is_end_of_stripe, is_page_information, stripe_height, stripes_height}
 use Rattle.jbig2_base.specs.Segment.{SegmentView}
 use Rattle.jbig2_base.specs.declared.error.DecodeError.{DecodeError}
@@ -16,8 +16,8 @@ use Rattle.jbig2_base.specs.declared.page_info.InitialPage.{InitialPage}
 use Rattle.jbig2_base.specs.declared.page_info.PageInformation.{PageInformation}
 use Rattle.jbig2_base.specs.declared.segment.SegmentType.{SegmentType}
 use Rattle.jbig2_base.specs.declared.segment.SegmentType.TheVariants as types
-use Rattle.jbig2_base.proofs.CauseSteps.{call-cause, Told, told-cause, told-next, told-map, next-refusal}
-use Rattle.jbig2_base.proofs.PageCauses.{HasSize, information-told}
+use Rattle.jbig2_base.proofs.CauseSteps.{call-cause, IfResult, result-cause, result-next, result-map, next-refusal}
+use Rattle.jbig2_base.proofs.PageCauses.{HasSize, information-result}
 
 -- ---- the first page information
 is-information : (kind : SegmentType) → is_page_information kind ≡ true → kind ≡ types.PageInformation
@@ -39,17 +39,17 @@ first-holds P bytes (p ∷ ps) is holds =
     (λ later. inr (later.0, first-holds P bytes ps later.1 holds))
     is
 
-first-told : (P : DecodeError → Type 0) (ps : List SegmentView) → (All (λ p. p.header.segment_type ≢ types.PageInformation) ps → P (Format MissingPageInfo))
-    → Told (λ (p : SegmentView). FirstInformation (λ bs. bs ≡ p.bytes) ps) P (first_information ps)
-first-told P [] why = why (λ k d below. absurd (omega (arith, below)))
-first-told P (p ∷ ps) why =
-    let Q : Result SegmentView DecodeError → Type 0 = λ r. Told (λ (q : SegmentView). FirstInformation (λ bs. bs ≡ q.bytes) (p ∷ ps)) P r in
+first-result : (P : DecodeError → Type 0) (ps : List SegmentView) → (All (λ p. p.header.segment_type ≢ types.PageInformation) ps → P (Format MissingPageInfo))
+    → IfResult (λ (p : SegmentView). FirstInformation (λ bs. bs ≡ p.bytes) ps) P (first_information ps)
+first-result P [] why = why (λ k d below. absurd (omega (arith, below)))
+first-result P (p ∷ ps) why =
+    let Q : Result SegmentView DecodeError → Type 0 = λ r. IfResult (λ (q : SegmentView). FirstInformation (λ bs. bs ≡ q.bytes) (p ∷ ps)) P r in
     cond_both (is_page_information p.header.segment_type) (Ok p) (first_information ps) Q
     (λ is. inl (is-information p.header.segment_type is, refl))
     (λ other.
     let differs : p.header.segment_type ≢ types.PageInformation = other-information p.header.segment_type other in
-    told-map (λ (q : SegmentView). FirstInformation (λ bs. bs ≡ q.bytes) ps) (λ (q : SegmentView). FirstInformation (λ bs. bs ≡ q.bytes) (p ∷ ps)) P (first_information ps) (λ q later. inr (differs, later))
-    (first-told P ps (λ none. why (all-behind (λ q. q.header.segment_type ≢ types.PageInformation) p ps differs none))))
+    result-map (λ (q : SegmentView). FirstInformation (λ bs. bs ≡ q.bytes) ps) (λ (q : SegmentView). FirstInformation (λ bs. bs ≡ q.bytes) (p ∷ ps)) P (first_information ps) (λ q later. inr (differs, later))
+    (first-result P ps (λ none. why (all-behind (λ q. q.header.segment_type ≢ types.PageInformation) p ps differs none))))
 
 -- ---- the stripes
 is-stripe : (kind : SegmentType) → is_end_of_stripe kind ≡ true → kind ≡ types.EndOfStripe
@@ -62,14 +62,14 @@ last_row bytes = from_be_bytes w32 (take 4 bytes)
 
 -- a stripe after which a page is too high
 abbrev TellsTooMuch : SegmentView → Type 0
-TellsTooMuch p = TellsHeight p × (65535 ≤ number_in w32 0 p.bytes)
+TellsTooMuch p = StatesHeight p × (65535 ≤ number_in w32 0 p.bytes)
 
 -- the test that a stripe tells a height
 tells : SegmentView → Bool
 tells p = is_end_of_stripe p.header.segment_type && eqb (length p.bytes) 4 && not (eqb (last_row p.bytes) 4294967295)
 
-told-height : (p : SegmentView) → TellsHeight p → stripe_height p ≡ last_row p.bytes + 1
-told-height p told =
+result-height : (p : SegmentView) → StatesHeight p → stripe_height p ≡ last_row p.bytes + 1
+result-height p told =
     let row : ℕ = last_row p.bytes in
     let kind : is_end_of_stripe p.header.segment_type ≡ true = ap is_end_of_stripe told.0 in
     let known : not (eqb row 4294967295) ≡ true = not_from_false (eqb row 4294967295) (ne_eqb row 4294967295 told.2) in
@@ -77,10 +77,10 @@ told-height p told =
     (and_from (is_end_of_stripe p.header.segment_type && eqb (length p.bytes) 4) (not (eqb row 4294967295))
     (and_from (is_end_of_stripe p.header.segment_type) (eqb (length p.bytes) 4) kind (eq-eqb (length p.bytes) 4 told.1)) known)
 
-none-tells : (ps : List SegmentView) → stripes_height ps ≡ 0 → All (λ p. TellsHeight p → ⊥) ps
+none-tells : (ps : List SegmentView) → stripes_height ps ≡ 0 → All (λ p. StatesHeight p → ⊥) ps
 none-tells [] none = λ k d below. absurd (omega (arith, below))
 none-tells (p ∷ ps) none =
-    all-behind (λ q. TellsHeight q → ⊥) p ps (λ told. omega (arith, told-height p told, none)) (none-tells ps (omega (arith, none)))
+    all-behind (λ q. StatesHeight q → ⊥) p ps (λ told. omega (arith, result-height p told, none)) (none-tells ps (omega (arith, none)))
 
 too-much : (p : SegmentView) → 65535 < stripe_height p → TellsTooMuch p
 too-much p =
@@ -109,19 +109,19 @@ any-too-much (p ∷ ps) much =
 abbrev IsHeight : ℕ → ℕ → ℕ → Type 0
 IsHeight stated stripes height = ((stated ≢ 4294967295) × (height ≡ stated)) ⊎ ((stated ≡ 4294967295) × (stripes ≢ 0) × (height ≡ stripes))
 
-height-told : (P : DecodeError → Type 0) (stated stripes : ℕ) → (stated ≡ 4294967295 → stripes ≡ 0 → P (Format UnknownPageHeight)) → Told (IsHeight stated stripes) P (height_of stated stripes)
-height-told P stated stripes why =
+height-result : (P : DecodeError → Type 0) (stated stripes : ℕ) → (stated ≡ 4294967295 → stripes ≡ 0 → P (Format UnknownPageHeight)) → IfResult (IsHeight stated stripes) P (height_of stated stripes)
+height-result P stated stripes why =
     let Q : ℕ → Type 0 = IsHeight stated stripes in
-    cond_both (eqb stated 4294967295) (refuse_if (eqb stripes 0) (Format UnknownPageHeight) >>= λ told. Ok stripes) (Ok stated) (λ (r : Result ℕ DecodeError). Told Q P r)
+    cond_both (eqb stated 4294967295) (refuse_if (eqb stripes 0) (Format UnknownPageHeight) >>= λ told. Ok stripes) (Ok stated) (λ (r : Result ℕ DecodeError). IfResult Q P r)
     (λ unknown.
     next-refusal Q P (eqb stripes 0) (Format UnknownPageHeight) (λ told. Ok stripes) (λ none. why (eqb-true stated 4294967295 unknown) (eqb-true stripes 0 none))
     (λ some. inr (eqb-true stated 4294967295 unknown, eqb-false stripes 0 some, refl)))
     (λ known. inl (eqb-false stated 4294967295 known, refl))
 
-sides-told : (P : DecodeError → Type 0) (number : ℕ) (info : PageInformation) (height : ℕ)
+sides-result : (P : DecodeError → Type 0) (number : ℕ) (info : PageInformation) (height : ℕ)
     → ((info.width ≡ 0) ⊎ (height ≡ 0) → P (Format EmptyPage)) → ((65535 < info.width) ⊎ (65535 < height) → P (Overflow BitmapDimension))
-    → Told (λ (page : InitialPage). Unit {0}) P (initial_page_with number info height)
-sides-told P number info height empty large =
+    → IfResult (λ (page : InitialPage). Unit {0}) P (initial_page_with number info height)
+sides-result P number info height empty large =
     let Q : InitialPage → Type 0 = λ page. Unit {0} in
     let either = ⊎_elim {C = (info.width ≡ 0) ⊎ (height ≡ 0)} (λ is. inl (eqb-true info.width 0 is)) (λ is. inr (eqb-true height 0 is)) in
     let longer = ⊎_elim {C = (65535 < info.width) ⊎ (65535 < height)} (λ is. inl (ltb-true 65535 info.width is)) (λ is. inr (ltb-true 65535 height is)) in
@@ -164,12 +164,12 @@ pub initial_page_by_causes : (told : ℕ) (ps : List SegmentView) → IfErr (ini
 initial_page_by_causes told ps =
     let P : DecodeError → Type 0 = BreaksInitialPageBy told ps in
     let R : InitialPage → Type 0 = λ page. Unit {0} in
-    told-cause R P (initial_page_by told ps)
-    (told-next (λ (p : SegmentView). FirstInformation (λ bs. bs ≡ p.bytes) ps) R P (first_information ps) _ (first-told P ps (λ none. none)) (λ first is.
-    told-next (HasSize first.bytes) R P (information_at first.bytes) _ (information-told P first.bytes (λ short. first-holds (λ bs. length bs < 19) first.bytes ps is short)) (λ info size.
-    told-next (IsHeight info.0.height told) R P (height_of info.0.height told) _
-    (height-told P info.0.height told (λ ones none. (leaves-open ps first.bytes info is size ones, none)))
-    (λ height known. sides-told P first.header.page_association info.0 height (no-side told ps first.bytes info height is size known) (large-side told ps first.bytes info height is size known)))))
+    result-cause R P (initial_page_by told ps)
+    (result-next (λ (p : SegmentView). FirstInformation (λ bs. bs ≡ p.bytes) ps) R P (first_information ps) _ (first-result P ps (λ none. none)) (λ first is.
+    result-next (HasSize first.bytes) R P (information_at first.bytes) _ (information-result P first.bytes (λ short. first-holds (λ bs. length bs < 19) first.bytes ps is short)) (λ info size.
+    result-next (IsHeight info.0.height told) R P (height_of info.0.height told) _
+    (height-result P info.0.height told (λ ones none. (leaves-open ps first.bytes info is size ones, none)))
+    (λ height known. sides-result P first.header.page_association info.0 height (no-side told ps first.bytes info height is size known) (large-side told ps first.bytes info height is size known)))))
 
 pub initial_page_by_cause : {X : Type 0} (told : ℕ) (ps : List SegmentView) (r : Result X DecodeError) → IfErr r (λ e. initial_page_by told ps ≡ Err e) → HasCause r (BreaksInitialPageBy told ps)
 initial_page_by_cause told ps r = call-cause (BreaksInitialPageBy told ps) (initial_page_by told ps) r (initial_page_by_causes told ps)

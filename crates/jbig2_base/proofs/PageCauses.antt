@@ -10,15 +10,15 @@ use Rattle.jbig2_base.specs.PageInfo.{information_at}
 use Rattle.jbig2_base.specs.declared.bitmap.operator.CombinationOperator.{CombinationOperator}
 use Rattle.jbig2_base.specs.declared.error.DecodeError.{DecodeError}
 use Rattle.jbig2_base.specs.declared.page_info.PageInformation.{PageInformation}
-use Rattle.jbig2_base.proofs.CauseSteps.{call-cause, Told, told-cause, next-number}
+use Rattle.jbig2_base.proofs.CauseSteps.{call-cause, IfResult, result-cause, next-number}
 
 -- page information states its size in its first eight bytes
 abbrev pub HasSize : List ℕ → PageInformation × List ℕ → Type 0
 HasSize bytes x = (19 ≤ length bytes) × (x.0.width ≡ number_in w32 0 bytes) × (x.0.height ≡ number_in w32 4 bytes)
 
-pub information-told : (P : DecodeError → Type 0) (bytes : List ℕ) → (length bytes < 19 → P end_of_bytes) → Told (HasSize bytes) P (information_at bytes)
+pub information-result : (P : DecodeError → Type 0) (bytes : List ℕ) → (length bytes < 19 → P end_of_bytes) → IfResult (HasSize bytes) P (information_at bytes)
 unfolding information_at
-information-told P bytes why =
+information-result P bytes why =
     let Q : PageInformation × List ℕ → Type 0 = HasSize bytes in
     next-number Q P w32 bytes 0 _ (omega arith) (λ cut. why (omega (arith, cut))) (λ at_4.
     next-number Q P w32 bytes 4 _ at_4 (λ cut. why (omega (arith, cut))) (λ at_8.
@@ -30,7 +30,7 @@ information-told P bytes why =
 pub information_cause : {X : Type 0} (bytes : List ℕ) (r : Result X DecodeError) → IfErr r (λ e. information_at bytes ≡ Err e) → HasCause r (BreaksInformation bytes)
 information_cause bytes r =
     let P : DecodeError → Type 0 = BreaksInformation bytes in
-    call-cause P (information_at bytes) r (told-cause (HasSize bytes) P (information_at bytes) (information-told P bytes (λ short. short)))
+    call-cause P (information_at bytes) r (result-cause (HasSize bytes) P (information_at bytes) (information-result P bytes (λ short. short)))
 
 operator_causes : (n : ℕ) → IfErr (operator_of n) (BreaksOperator n)
 operator_causes n =

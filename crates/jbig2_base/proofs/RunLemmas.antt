@@ -11,7 +11,7 @@ use Rattle.jbig2_base.proofs.BitLemmas.{bit-shr, bit-shl_high, mask-inside, mask
 use Rattle.jbig2_base.proofs.BlockLemmas.{block-in, block-out, page-more}
 use Rattle.jbig2_base.proofs.GridLemmas.{grid_of-ext, pixel_at-grid_of}
 use Rattle.jbig2_base.proofs.PackedLemmas.{word-pixel, written-grid, written-packed}
-use Rattle.jbig2_base.proofs.WriteLemmas.{in_field, before_field, behind_field, other_row}
+use Rattle.jbig2_base.proofs.WriteLemmas.{in_field, before_field, after_field, other_row}
 
 -- inside of a run, or not
 pub run-in : (operator : CombinationOperator) (page : Grid) (x y count : ℕ) (row : ℕ → Bool) (i j : ℕ) → j ≡ y → x ≤ i → i < x + count → i < page.width → j < page.height → pixel_at (with_run operator page x y count row) i j ≡ combined_pixel operator (pixel_at page i j) (row i)
@@ -31,7 +31,7 @@ run-out operator page x y count row i j out right below =
         ⊎_elim
         (λ (before : i < x). before_field x y count i j before)
         (λ (low : x ≤ i).
-        ⊎_elim (λ (high : i < x + count). absurd (out here low high)) (λ (behind : x + count ≤ i). behind_field x y count i j behind) (cases_lt i (x + count)))
+        ⊎_elim (λ (high : i < x + count). absurd (out here low high)) (λ (behind : x + count ≤ i). after_field x y count i j behind) (cases_lt i (x + count)))
         (cases_lt i x))
         (λ (other : j ≡ y → ⊥). other_row x y count i j other)
         (cases_eq j y)
@@ -51,7 +51,7 @@ run-is operator page x y count row f inside outside =
     (λ (high : i < x + count).
     inside i j right below here low high ∙ sym (cond-true (eqb j y && leb x i && ltb i (x + count)) (combined_pixel operator (pixel_at page i j) (row i)) (pixel_at page i j) (in_field x y count i j here low high)))
     (λ (behind : x + count ≤ i).
-    outside i j right below (λ a b c. absurd (omega arith)) ∙ sym (cond-false (eqb j y && leb x i && ltb i (x + count)) (combined_pixel operator (pixel_at page i j) (row i)) (pixel_at page i j) (behind_field x y count i j behind)))
+    outside i j right below (λ a b c. absurd (omega arith)) ∙ sym (cond-false (eqb j y && leb x i && ltb i (x + count)) (combined_pixel operator (pixel_at page i j) (row i)) (pixel_at page i j) (after_field x y count i j behind)))
     (cases_lt i (x + count)))
     (cases_lt i x))
     (λ (other : j ≡ y → ⊥).
@@ -141,7 +141,7 @@ run_pixel operator stride words word offset y count bits v i one each same =
     ∙ sym (cond-true test (combined_pixel operator (packed_pixel stride words i y) (bit bits b)) (packed_pixel stride words i y) (in_field x y count i y refl low high)))
     (λ (behind : x + count ≤ i).
     cond-false (bit mask b) (combined_pixel operator (packed_pixel stride words i y) (bit bits b)) (packed_pixel stride words i y) (mask-below offset count b one (omega arith))
-    ∙ sym (cond-false test (combined_pixel operator (packed_pixel stride words i y) (bit bits b)) (packed_pixel stride words i y) (behind_field x y count i y behind)))
+    ∙ sym (cond-false test (combined_pixel operator (packed_pixel stride words i y) (bit bits b)) (packed_pixel stride words i y) (after_field x y count i y behind)))
     (cases_lt i (x + count)))
     (cases_lt i x)
 
@@ -168,7 +168,7 @@ run-packed operator w h stride words word offset y count bits v packed some one 
     (written-packed w h stride words x y v packed (omega arith) above
     (λ i same past.
     run_pixel operator stride words word offset y count bits v i one each (same ∙ column)
-    ∙ cond-false (eqb y y && leb x i && ltb i (x + count)) (combined_pixel operator (packed_pixel stride words i y) (bit bits (63 - i % 64))) (packed_pixel stride words i y) (behind_field x y count i y (omega arith))
+    ∙ cond-false (eqb y y && leb x i && ltb i (x + count)) (combined_pixel operator (packed_pixel stride words i y) (bit bits (63 - i % 64))) (packed_pixel stride words i y) (after_field x y count i y (omega arith))
     ∙ packed.padded i y past (omega arith) above))
 
 -- ---- the source

@@ -5,7 +5,7 @@ use Rattle.std.specs.Int.{Width, w8, w32, byte_len, from_be_bytes}
 use Rattle.std.specs.List.{list_any, list_all}
 use Rattle.std.proofs.lemmas.Bool.{eqb-true, leb-true, and_parts, or_cases, not-true, true≢false, false≢true}
 use Rattle.std.proofs.lemmas.List.{drop-drop, drop-take, take-take}
-use Rattle.jbig2_base.specs.Answer.{◌>>=◌, refuse_if}
+use Rattle.jbig2_base.specs.Results.{◌>>=◌, refuse_if}
 use Rattle.jbig2_base.specs.Causes.{HasCauseOrNoMemory, listed_types, referred_count, referred_place, page_place, length_place, BreaksHeader, number_in}
 use Rattle.jbig2_base.specs.Fields.{bytes_at, number_at, end_of_bytes}
 use Rattle.jbig2_base.specs.Segment.{Header, type_of, is_reserved, is_immediate_generic, long_count_at, count_at, number_width, numbers_in, referred_at, length_of, header_at}
@@ -13,7 +13,7 @@ use Rattle.jbig2_base.specs.declared.error.DecodeError.{DecodeError}
 use Rattle.jbig2_base.specs.declared.error.DecodeError.TheVariants.{OutOfMemory, Segment}
 use Rattle.jbig2_base.specs.declared.error.SegmentError.TheVariants.{UnknownType, InvalidReferredCount, InvalidReference, InvalidUnknownLength}
 use Rattle.jbig2_base.specs.declared.segment.SegmentType.{SegmentType}
-use Rattle.jbig2_base.proofs.CauseSteps.{call-cause-or-memory, Told, Steps, told-cause, told-next, next-steps, told-map, next-refusal, next-bytes, next-number, last-number}
+use Rattle.jbig2_base.proofs.CauseSteps.{call-cause-or-memory, IfResult, Steps, result-cause, result-next, next-steps, result-map, next-refusal, next-bytes, next-number, last-number}
 
 -- ---- the type
 first-or-later : (n t : ℕ) (ts : List ℕ) → n ≢ t → All (λ u. n ≢ u) ts → All (λ u. n ≢ u) (t ∷ ts)
@@ -50,11 +50,11 @@ count-spelled (a ∷ b ∷ []) some top = absurd (omega (arith, some))
 count-spelled (a ∷ b ∷ c ∷ []) some top = absurd (omega (arith, some))
 count-spelled (a ∷ b ∷ c ∷ d ∷ rest) some top = omega (arith, top)
 
-long-told : (P : DecodeError → Type 0) (bytes : List ℕ) (long : Bool) → (long ≡ true → number_in w8 5 bytes / 32 ≡ 7) → 6 ≤ length bytes → (length bytes < place_by long bytes → P end_of_bytes)
+long-result : (P : DecodeError → Type 0) (bytes : List ℕ) (long : Bool) → (long ≡ true → number_in w8 5 bytes / 32 ≡ 7) → 6 ≤ length bytes → (length bytes < place_by long bytes → P end_of_bytes)
     → Steps (count_by long bytes, drop (place_by long bytes) bytes) (place_by long bytes ≤ length bytes) P (cond long (long_count_at (number_in w8 5 bytes % 32) (drop 6 bytes)) (Ok (number_in w8 5 bytes / 32, drop 6 bytes)))
 unfolding long_count_at
-long-told P bytes false top six short = (refl, six)
-long-told P bytes true top six short =
+long-result P bytes false top six short = (refl, six)
+long-result P bytes true top six short =
     let n : ℕ = count_by true bytes in
     let R : ℕ × List ℕ → Type 0 = λ x. (x ≡ (n, drop (place_by true bytes) bytes)) × (place_by true bytes ≤ length bytes) in
     next-bytes R P 3 bytes 6 _ six (λ cut. short (omega (arith, cut))) (λ nine.
@@ -62,24 +62,24 @@ long-told P bytes true top six short =
     let same : from_be_bytes w32 (number_in w8 5 bytes % 32 ∷ take 3 (drop 6 bytes)) ≡ n =
     ap (λ (ys : List ℕ). from_be_bytes w32 (number_in w8 5 bytes % 32 ∷ take 3 ys)) (sym (drop-drop 1 5 bytes))
     ∙ count-spelled (drop 5 bytes) (omega (arith, left, nine)) (top refl) in
-    subst (λ (m : ℕ). Told R P (bytes_at ((m + 8) / 8) (drop 9 bytes) >>= λ retention. Ok (m, retention.1))) (sym same)
+    subst (λ (m : ℕ). IfResult R P (bytes_at ((m + 8) / 8) (drop 9 bytes) >>= λ retention. Ok (m, retention.1))) (sym same)
     (next-bytes R P ((n + 8) / 8) bytes 9 _ nine short (λ there. (refl, there))))
 
 place-least : (long : Bool) (bytes : List ℕ) → 6 ≤ place_by long bytes
 place-least true bytes = omega arith
 place-least false bytes = omega arith
 
-count-told : (P : DecodeError → Type 0) (bytes : List ℕ) → 5 ≤ length bytes → (length bytes < referred_place bytes → P end_of_bytes)
+count-result : (P : DecodeError → Type 0) (bytes : List ℕ) → 5 ≤ length bytes → (length bytes < referred_place bytes → P end_of_bytes)
     → ((6 ≤ length bytes) × ((number_in w8 5 bytes / 32 ≡ 5) ⊎ (number_in w8 5 bytes / 32 ≡ 6)) → P (Segment InvalidReferredCount))
     → Steps (referred_count bytes, drop (referred_place bytes) bytes) (referred_place bytes ≤ length bytes) P (count_at (drop 5 bytes))
 unfolding count_at
-count-told P bytes five short bad =
+count-result P bytes five short bad =
     let top : ℕ = number_in w8 5 bytes / 32 in
     let R : ℕ × List ℕ → Type 0 = λ x. (x ≡ (referred_count bytes, drop (referred_place bytes) bytes)) × (referred_place bytes ≤ length bytes) in
     next-number R P w8 bytes 5 _ five (λ cut. short (omega (arith, cut, place-least (eqb top 7) bytes))) (λ six.
     next-refusal R P (eqb top 5 || eqb top 6) _ _
     (λ is. bad (six, ⊎_elim {C = (top ≡ 5) ⊎ (top ≡ 6)} (λ l. inl (eqb-true top 5 l)) (λ r. inr (eqb-true top 6 r)) (or_cases (eqb top 5) (eqb top 6) is)))
-    (λ fine. long-told P bytes (eqb top 7) (λ is. eqb-true top 7 is) six short))
+    (λ fine. long-result P bytes (eqb top 7) (λ is. eqb-true top 7 is) six short))
 
 -- ---- the referred numbers
 numbers-within : (w : Width) (count : ℕ) (bytes : List ℕ) → numbers_in w count (take (count * byte_len w) bytes) ≡ numbers_in w count bytes
@@ -108,46 +108,46 @@ later-number w own (suc count) place bytes some =
     (suc later.0, omega (arith, later.1), subst (λ (k : ℕ). own ≤ number_in w k bytes) (omega arith) later.2))
     (or_cases (leb own (number_in w place bytes)) (list_any (λ n. leb own n) (numbers_in w count (drop size (drop place bytes)))) some)
 
-referred-told : (P : DecodeError → Type 0) (bytes : List ℕ) → 5 ≤ length bytes → (length bytes < page_place bytes → P end_of_bytes)
+referred-result : (P : DecodeError → Type 0) (bytes : List ℕ) → 5 ≤ length bytes → (length bytes < page_place bytes → P end_of_bytes)
     → ((6 ≤ length bytes) × ((number_in w8 5 bytes / 32 ≡ 5) ⊎ (number_in w8 5 bytes / 32 ≡ 6)) → P (Segment InvalidReferredCount))
     → ((page_place bytes ≤ length bytes) × IsLater (number_width (number_in w32 0 bytes)) (number_in w32 0 bytes) (referred_count bytes) bytes (referred_place bytes) → P (Segment InvalidReference))
-    → Told (λ (x : List ℕ × List ℕ). (x.1 ≡ drop (page_place bytes) bytes) × (page_place bytes ≤ length bytes)) P (referred_at (number_in w32 0 bytes) (drop 5 bytes))
+    → IfResult (λ (x : List ℕ × List ℕ). (x.1 ≡ drop (page_place bytes) bytes) × (page_place bytes ≤ length bytes)) P (referred_at (number_in w32 0 bytes) (drop 5 bytes))
 unfolding referred_at
-referred-told P bytes five short bad wrong =
+referred-result P bytes five short bad wrong =
     let own : ℕ = number_in w32 0 bytes in
     let w : Width = number_width own in
     let count : ℕ = referred_count bytes in
     let place : ℕ = referred_place bytes in
     let R : List ℕ × List ℕ → Type 0 = λ x. (x.1 ≡ drop (page_place bytes) bytes) × (page_place bytes ≤ length bytes) in
-    next-steps (count, drop place bytes) (place ≤ length bytes) R P (count_at (drop 5 bytes)) _ (count-told P bytes five (λ cut. short (omega (arith, cut))) bad) (λ at_numbers.
+    next-steps (count, drop place bytes) (place ≤ length bytes) R P (count_at (drop 5 bytes)) _ (count-result P bytes five (λ cut. short (omega (arith, cut))) bad) (λ at_numbers.
     next-bytes R P (count * byte_len w) bytes place _ at_numbers short (λ there.
     next-refusal R P (list_any (λ n. leb own n) (numbers_in w count (take (count * byte_len w) (drop place bytes)))) _ _
     (λ some. wrong (there, later-number w own count place bytes (ap (λ (ns : List ℕ). list_any (λ n. leb own n) ns) (sym (numbers-within w count (drop place bytes))) ∙ some)))
     (λ none. (refl, there))))
 
 -- ---- the page association and the data length
-number-told : (P : DecodeError → Type 0) (w : Width) (bytes rest : List ℕ) (k : ℕ) → rest ≡ drop k bytes → k ≤ length bytes → (length bytes < k + byte_len w → P end_of_bytes)
+number-result : (P : DecodeError → Type 0) (w : Width) (bytes rest : List ℕ) (k : ℕ) → rest ≡ drop k bytes → k ≤ length bytes → (length bytes < k + byte_len w → P end_of_bytes)
     → Steps (number_in w k bytes, drop (k + byte_len w) bytes) (k + byte_len w ≤ length bytes) P (number_at w rest)
-number-told P w bytes rest k is within short =
+number-result P w bytes rest k is within short =
     let R : ℕ × List ℕ → Type 0 = λ x. (x ≡ (number_in w k bytes, drop (k + byte_len w) bytes)) × (k + byte_len w ≤ length bytes) in
-    subst (λ (ys : List ℕ). Told R P (number_at w ys)) (sym is) (last-number R P w bytes k within short (λ there. (refl, there)))
+    subst (λ (ys : List ℕ). IfResult R P (number_at w ys)) (sym is) (last-number R P w bytes k within short (λ there. (refl, there)))
 
-page-told : (P : DecodeError → Type 0) (wide : Bool) (bytes rest : List ℕ) (k : ℕ) → rest ≡ drop k bytes → k ≤ length bytes → (length bytes < k + cond wide 4 1 → P end_of_bytes)
-    → Told (λ (x : ℕ × List ℕ). (x.1 ≡ drop (k + cond wide 4 1) bytes) × (k + cond wide 4 1 ≤ length bytes)) P (number_at (cond wide w32 w8) rest)
-page-told P true bytes rest k is within short =
-    told-map _ (λ (x : ℕ × List ℕ). (x.1 ≡ drop (k + 4) bytes) × (k + 4 ≤ length bytes)) P (number_at w32 rest) (λ x known. (ap (λ (y : ℕ × List ℕ). y.1) known.0, known.1)) (number-told P w32 bytes rest k is within short)
-page-told P false bytes rest k is within short =
-    told-map _ (λ (x : ℕ × List ℕ). (x.1 ≡ drop (k + 1) bytes) × (k + 1 ≤ length bytes)) P (number_at w8 rest) (λ x known. (ap (λ (y : ℕ × List ℕ). y.1) known.0, known.1)) (number-told P w8 bytes rest k is within short)
+page-result : (P : DecodeError → Type 0) (wide : Bool) (bytes rest : List ℕ) (k : ℕ) → rest ≡ drop k bytes → k ≤ length bytes → (length bytes < k + cond wide 4 1 → P end_of_bytes)
+    → IfResult (λ (x : ℕ × List ℕ). (x.1 ≡ drop (k + cond wide 4 1) bytes) × (k + cond wide 4 1 ≤ length bytes)) P (number_at (cond wide w32 w8) rest)
+page-result P true bytes rest k is within short =
+    result-map _ (λ (x : ℕ × List ℕ). (x.1 ≡ drop (k + 4) bytes) × (k + 4 ≤ length bytes)) P (number_at w32 rest) (λ x known. (ap (λ (y : ℕ × List ℕ). y.1) known.0, known.1)) (number-result P w32 bytes rest k is within short)
+page-result P false bytes rest k is within short =
+    result-map _ (λ (x : ℕ × List ℕ). (x.1 ≡ drop (k + 1) bytes) × (k + 1 ≤ length bytes)) P (number_at w8 rest) (λ x known. (ap (λ (y : ℕ × List ℕ). y.1) known.0, known.1)) (number-result P w8 bytes rest k is within short)
 
 by-ones : (P : DecodeError → Type 0) (ones refused : Bool) (n : ℕ) → (ones ≡ true → refused ≡ true → P (Segment InvalidUnknownLength))
-    → Told (λ (len : Option ℕ). len ≡ cond ones None (Some n)) P (cond ones (refuse_if refused (Segment InvalidUnknownLength) >>= λ known. Ok None) (Ok (Some n)))
+    → IfResult (λ (len : Option ℕ). len ≡ cond ones None (Some n)) P (cond ones (refuse_if refused (Segment InvalidUnknownLength) >>= λ known. Ok None) (Ok (Some n)))
 by-ones P false refused n bad = refl
 by-ones P true true n bad = bad refl refl
 by-ones P true false n bad = refl
 
-length-told : (P : DecodeError → Type 0) (strict : Bool) (kind : SegmentType) (n : ℕ) → (strict ≡ true → n ≡ 4294967295 → is_immediate_generic kind ≡ false → P (Segment InvalidUnknownLength))
-    → Told (λ (len : Option ℕ). len ≡ cond (eqb n 4294967295) None (Some n)) P (length_of strict kind n)
-length-told P strict kind n bad =
+length-result : (P : DecodeError → Type 0) (strict : Bool) (kind : SegmentType) (n : ℕ) → (strict ≡ true → n ≡ 4294967295 → is_immediate_generic kind ≡ false → P (Segment InvalidUnknownLength))
+    → IfResult (λ (len : Option ℕ). len ≡ cond (eqb n 4294967295) None (Some n)) P (length_of strict kind n)
+length-result P strict kind n bad =
     by-ones P (eqb n 4294967295) (strict && not (is_immediate_generic kind)) n (λ ones refused.
     let parts = and_parts strict (not (is_immediate_generic kind)) refused in
     bad parts.0 (eqb-true n 4294967295 ones) (not-true (is_immediate_generic kind) parts.1))
@@ -168,9 +168,9 @@ stated_length bytes = cond (eqb (number_in w32 (length_place bytes) bytes) 42949
 abbrev pub HasHeader : List ℕ → Header × List ℕ → Type 0
 HasHeader bytes x = (header_size bytes ≤ length bytes) × (x.1 ≡ drop (header_size bytes) bytes) × (x.0.data_length ≡ stated_length bytes)
 
-pub header-told : (P : DecodeError → Type 0) (strict : Bool) (bytes : List ℕ) → ((e : DecodeError) → BreaksHeader strict bytes e → P e) → Told (HasHeader bytes) P (header_at strict bytes)
+pub header-result : (P : DecodeError → Type 0) (strict : Bool) (bytes : List ℕ) → ((e : DecodeError) → BreaksHeader strict bytes e → P e) → IfResult (HasHeader bytes) P (header_at strict bytes)
 unfolding header_at
-header-told P strict bytes why =
+header-result P strict bytes why =
     let R : Header × List ℕ → Type 0 = HasHeader bytes in
     let kind : ℕ = number_in w8 4 bytes % 64 in
     let wide : Bool = eqb (number_in w8 4 bytes / 64 % 2) 1 in
@@ -181,21 +181,21 @@ header-told P strict bytes why =
     next-number R P w8 bytes 4 _ four (λ cut. short (omega (arith, cut, least))) (λ five.
     next-refusal R P (strict && is_reserved (type_of kind)) _ _
     (λ unknown. why (Segment UnknownType) ((and_parts strict (is_reserved (type_of kind)) unknown).0, five, unlisted kind (and_parts strict (is_reserved (type_of kind)) unknown).1)) (λ known.
-    told-next (λ (x : List ℕ × List ℕ). (x.1 ≡ drop (page_place bytes) bytes) × (page_place bytes ≤ length bytes)) R P (referred_at (number_in w32 0 bytes) (drop 5 bytes)) _
-    (referred-told P bytes five (λ cut. short (omega (arith, cut))) (λ bad. why (Segment InvalidReferredCount) bad) (λ wrong. why (Segment InvalidReference) wrong)) (λ referred at_page.
-    told-next (λ (x : ℕ × List ℕ). (x.1 ≡ drop (length_place bytes) bytes) × (length_place bytes ≤ length bytes)) R P (number_at (cond wide w32 w8) referred.1) _
-    (page-told P wide bytes referred.1 (page_place bytes) at_page.0 at_page.1 (λ cut. short (omega (arith, cut)))) (λ page at_length.
-    told-next (λ (x : ℕ × List ℕ). (x ≡ (number_in w32 (length_place bytes) bytes, drop (header_size bytes) bytes)) × (header_size bytes ≤ length bytes)) R P (number_at w32 page.1) _
-    (number-told P w32 bytes page.1 (length_place bytes) at_length.0 at_length.1 short) (λ n at_end.
+    result-next (λ (x : List ℕ × List ℕ). (x.1 ≡ drop (page_place bytes) bytes) × (page_place bytes ≤ length bytes)) R P (referred_at (number_in w32 0 bytes) (drop 5 bytes)) _
+    (referred-result P bytes five (λ cut. short (omega (arith, cut))) (λ bad. why (Segment InvalidReferredCount) bad) (λ wrong. why (Segment InvalidReference) wrong)) (λ referred at_page.
+    result-next (λ (x : ℕ × List ℕ). (x.1 ≡ drop (length_place bytes) bytes) × (length_place bytes ≤ length bytes)) R P (number_at (cond wide w32 w8) referred.1) _
+    (page-result P wide bytes referred.1 (page_place bytes) at_page.0 at_page.1 (λ cut. short (omega (arith, cut)))) (λ page at_length.
+    result-next (λ (x : ℕ × List ℕ). (x ≡ (number_in w32 (length_place bytes) bytes, drop (header_size bytes) bytes)) × (header_size bytes ≤ length bytes)) R P (number_at w32 page.1) _
+    (number-result P w32 bytes page.1 (length_place bytes) at_length.0 at_length.1 short) (λ n at_end.
     let value : n.0 ≡ number_in w32 (length_place bytes) bytes = ap (λ (x : ℕ × List ℕ). x.0) at_end.0 in
-    told-next (λ (len : Option ℕ). len ≡ cond (eqb n.0 4294967295) None (Some n.0)) R P (length_of strict (type_of kind) n.0) _
-    (length-told P strict (type_of kind) n.0 (λ is ones other. why (Segment InvalidUnknownLength) (is, at_end.1, sym value ∙ ones, other-type kind other))) (λ len states.
+    result-next (λ (len : Option ℕ). len ≡ cond (eqb n.0 4294967295) None (Some n.0)) R P (length_of strict (type_of kind) n.0) _
+    (length-result P strict (type_of kind) n.0 (λ is ones other. why (Segment InvalidUnknownLength) (is, at_end.1, sym value ∙ ones, other-type kind other))) (λ len states.
     (at_end.1, ap (λ (x : ℕ × List ℕ). x.1) at_end.0, states ∙ ap (λ (m : ℕ). cond (eqb m 4294967295) None (Some m)) value))))))))
 
 header_causes : (strict : Bool) (bytes : List ℕ) → IfErr (header_at strict bytes) (BreaksHeader strict bytes)
 header_causes strict bytes =
     let P : DecodeError → Type 0 = BreaksHeader strict bytes in
-    told-cause (HasHeader bytes) P (header_at strict bytes) (header-told P strict bytes (λ e why. why))
+    result-cause (HasHeader bytes) P (header_at strict bytes) (header-result P strict bytes (λ e why. why))
 
 pub header_cause : {X : Type 0} (strict : Bool) (bytes : List ℕ) (r : Result X DecodeError) → IfErr r (λ e. (e ≡ OutOfMemory) ⊎ (header_at strict bytes ≡ Err e))
     → HasCauseOrNoMemory r (BreaksHeader strict bytes)

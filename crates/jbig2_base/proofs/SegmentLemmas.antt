@@ -4,7 +4,7 @@ use Rattle.std.proofs.lemmas.List.{append_assoc, drop-drop}
 use Rattle.std.specs.Int.{Width, w8, byte_len, from_be_bytes}
 use Rattle.std.specs.List.{list_any}
 use Rattle.std.specs.Prelude.{nat_le}
-use Rattle.jbig2_base.specs.Answer.{◌>>=◌, refuse_if}
+use Rattle.jbig2_base.specs.Results.{◌>>=◌, refuse_if}
 use Rattle.jbig2_base.specs.Fields.{bytes_at, number_at}
 use Rattle.jbig2_base.specs.Segment.{adaptive_bytes, count_at, first_end_marker, number_width, numbers_in, referred_at, unknown_length_of}
 use Rattle.jbig2_base.specs.inner.Fronts.{coded_front_at}
@@ -55,14 +55,14 @@ step_3 : {A B C D F E : Type 0} (r : Result A E) (s : A → Result B E) (t : B �
 step_3 (Ok a) s t u k = step_2 (s a) t u k
 step_3 (Err e) s t u k = refl
 
-abbrev unknown_behind : ℕ × List ℕ → Result ℕ DecodeError
-unknown_behind front = first_end_marker front.0 front.1 >>= λ place. Ok (18 + adaptive_bytes front.0 + place + 6)
+abbrev unknown_after : ℕ × List ℕ → Result ℕ DecodeError
+unknown_after front = first_end_marker front.0 front.1 >>= λ place. Ok (18 + adaptive_bytes front.0 + place + 6)
 
 pub unknown_by : (bytes : List ℕ) (r : Result (ℕ × List ℕ) DecodeError) → coded_front_at bytes ≡ r → unknown_length_of bytes ≡ (r >>= λ front. first_end_marker front.0 front.1 >>= λ place. Ok (18 + adaptive_bytes front.0 + place + 6))
 unfolding unknown_length_of coded_front_at
 unknown_by bytes r is =
-    sym (step_3 (bytes_at 17 bytes) (λ i. number_at w8 i.1) (λ f. bytes_at (adaptive_bytes f.0) f.1) (λ f p. (f.0, p.1)) unknown_behind)
-    ∙ ap (λ (x : Result (ℕ × List ℕ) DecodeError). x >>= unknown_behind) is
+    sym (step_3 (bytes_at 17 bytes) (λ i. number_at w8 i.1) (λ f. bytes_at (adaptive_bytes f.0) f.1) (λ f p. (f.0, p.1)) unknown_after)
+    ∙ ap (λ (x : Result (ℕ × List ℕ) DecodeError). x >>= unknown_after) is
 
 pub unknown_refused : (bytes start : List ℕ) (e : DecodeError) → start ≡ bytes → coded_front_at start ≡ Err e → unknown_length_of bytes ≡ Err e
 unknown_refused bytes start e same is = unknown_by bytes (Err e) (ap coded_front_at (sym same) ∙ is)

@@ -111,8 +111,8 @@ in_field x y count i j row low high = and_from _ _ (and_from _ _ (eq-eqb j y row
 pub before_field : (x y count i j : ℕ) → i < x → (eqb j y && leb x i && ltb i (x + count)) ≡ false
 before_field x y count i j low = and_left _ _ (and_right (eqb j y) (leb x i) (lt-leb x i low))
 
-pub behind_field : (x y count i j : ℕ) → x + count ≤ i → (eqb j y && leb x i && ltb i (x + count)) ≡ false
-behind_field x y count i j high = and_right _ _ (le-ltb i (x + count) high)
+pub after_field : (x y count i j : ℕ) → x + count ≤ i → (eqb j y && leb x i && ltb i (x + count)) ≡ false
+after_field x y count i j high = and_right _ _ (le-ltb i (x + count) high)
 
 pub other_row : (x y count i j : ℕ) → (j ≡ y → ⊥) → (eqb j y && leb x i && ltb i (x + count)) ≡ false
 other_row x y count i j ne = and_left _ _ (and_left (eqb j y) (leb x i) (ne_eqb j y ne))
@@ -131,7 +131,7 @@ stored stride words x y count bits word v i read some one each same =
     (λ (high : i < x + count).
     let place : 63 - i % 64 - shift ≡ x + count - 1 - i = omega arith in
     now ∙ field-inside word shift count bits (63 - i % 64) (omega arith) (omega arith) ∙ ap (λ (b : ℕ). bit bits b) place ∙ sym (cond-true _ (bit bits (x + count - 1 - i)) (packed_pixel stride words i y) (in_field x y count i y refl low high)))
-    (λ (behind : x + count ≤ i). now ∙ field-below word shift count bits (63 - i % 64) (omega arith) ∙ old ∙ sym (cond-false _ (bit bits (x + count - 1 - i)) (packed_pixel stride words i y) (behind_field x y count i y behind)))
+    (λ (behind : x + count ≤ i). now ∙ field-below word shift count bits (63 - i % 64) (omega arith) ∙ old ∙ sym (cond-false _ (bit bits (x + count - 1 - i)) (packed_pixel stride words i y) (after_field x y count i y behind)))
     (cases_lt i (x + count)))
     (cases_lt i x)
 
@@ -147,7 +147,7 @@ stored-grid w h stride words x y count bits word v packed read some columns abov
     (λ (row : j ≡ y).
     ⊎_elim
     (λ (before : i < x). before_field x y count i j before)
-    (λ (low : x ≤ i). behind_field x y count i j (⊎_elim (λ (high : i < x + count). absurd (ne row (omega arith))) (λ (behind : x + count ≤ i). behind) (cases_lt i (x + count))))
+    (λ (low : x ≤ i). after_field x y count i j (⊎_elim (λ (high : i < x + count). absurd (ne row (omega arith))) (λ (behind : x + count ≤ i). behind) (cases_lt i (x + count))))
     (cases_lt i x))
     (λ (other : j ≡ y → ⊥). other_row x y count i j other)
     (cases_eq j y))))
@@ -158,5 +158,5 @@ stored-packed w h stride words x y count bits word v packed read some columns ab
     written-packed w h stride words x y v packed (omega arith) above
     (λ i same past.
     stored stride words x y count bits word v i read some one each same
-    ∙ cond-false (eqb y y && leb x i && ltb i (x + count)) (bit bits (x + count - 1 - i)) (packed_pixel stride words i y) (behind_field x y count i y (omega arith))
+    ∙ cond-false (eqb y y && leb x i && ltb i (x + count)) (bit bits (x + count - 1 - i)) (packed_pixel stride words i y) (after_field x y count i y (omega arith))
     ∙ packed.padded i y past (omega arith) above)

@@ -58,8 +58,8 @@ FirstInformation P (p ∷ ps) =
     ⊎ ((p.header.segment_type ≢ types.PageInformation) × FirstInformation P ps)
 
 -- an end of stripe that states a height: four bytes, not all ones (7.4.10)
-abbrev pub TellsHeight : SegmentView → Type 0
-TellsHeight p =
+abbrev pub StatesHeight : SegmentView → Type 0
+StatesHeight p =
     (p.header.segment_type ≡ types.EndOfStripe) × (length p.bytes ≡ 4) × (number_in w32 0 p.bytes ≢ 4294967295)
 
 -- Page information: the width is in its first four bytes, the height in the next four. All ones leave the height open.
@@ -75,18 +75,18 @@ StatesLongSide ps =
 abbrev pub BreaksInitialPage : List SegmentView → DecodeError → Type 0
 BreaksInitialPage ps (Format MissingPageInfo) = All (λ p. p.header.segment_type ≢ types.PageInformation) ps
 BreaksInitialPage ps (Parse UnexpectedEof) = FirstInformation (λ bytes. length bytes < 19) ps
-BreaksInitialPage ps (Format UnknownPageHeight) = LeavesHeightOpen ps × All (λ p. TellsHeight p → ⊥) ps
+BreaksInitialPage ps (Format UnknownPageHeight) = LeavesHeightOpen ps × All (λ p. StatesHeight p → ⊥) ps
 BreaksInitialPage ps (Format EmptyPage) =
     FirstInformation (λ bytes. (19 ≤ length bytes) × ((number_in w32 0 bytes ≡ 0) ⊎ (number_in w32 4 bytes ≡ 0))) ps
 BreaksInitialPage ps (Overflow BitmapDimension) =
-    StatesLongSide ps ⊎ (LeavesHeightOpen ps × Any (λ p. TellsHeight p × (65535 ≤ number_in w32 0 p.bytes)) ps)
+    StatesLongSide ps ⊎ (LeavesHeightOpen ps × Any (λ p. StatesHeight p × (65535 ≤ number_in w32 0 p.bytes)) ps)
 BreaksInitialPage ps _ = ⊥
 
 -- An open height is this number, which is 0 if nothing states it.
 abbrev pub BreaksInitialPageBy : ℕ → List SegmentView → DecodeError → Type 0
-BreaksInitialPageBy told_height ps (Format UnknownPageHeight) = LeavesHeightOpen ps × (told_height ≡ 0)
-BreaksInitialPageBy told_height ps (Overflow BitmapDimension) = StatesLongSide ps ⊎ (LeavesHeightOpen ps × (65535 < told_height))
-BreaksInitialPageBy told_height ps e = BreaksInitialPage ps e
+BreaksInitialPageBy known_height ps (Format UnknownPageHeight) = LeavesHeightOpen ps × (known_height ≡ 0)
+BreaksInitialPageBy known_height ps (Overflow BitmapDimension) = StatesLongSide ps ⊎ (LeavesHeightOpen ps × (65535 < known_height))
+BreaksInitialPageBy known_height ps e = BreaksInitialPage ps e
 
 abbrev pub BreaksOperator : ℕ → DecodeError → Type 0  -- a combination operator (7.4.1.5)
 BreaksOperator n (Region InvalidCombinationOperator) = 5 ≤ n

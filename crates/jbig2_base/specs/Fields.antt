@@ -4,7 +4,7 @@
 use Rattle.std.specs.Prelude.{ℕ, nat_lt, List, length, take, drop, Result, Ok, Err, ℤ, if◌then◌else◌, ◌≡◌, ◌≤◌, OnOk}
 use Rattle.std.specs.Prelude.{OnErr, pos, negsuc}
 use Rattle.std.specs.Int.{Width, byte_len, from_be_bytes, cast_signed}
-use Rattle.jbig2_base.specs.Answer.{◌>>=◌, some_or, Answers, Gives}
+use Rattle.jbig2_base.specs.Results.{◌>>=◌, some_or, Returns, Gives}
 use Rattle.jbig2_base.specs.Bits.{Place, bits_left, bits_next, bits_on, IsAligned}
 use Rattle.jbig2_base.specs.declared.error.DecodeError.{DecodeError}
 use Rattle.jbig2_base.specs.declared.error.DecodeError.TheVariants.{Parse}
@@ -35,7 +35,7 @@ word_or e (negsuc n) = if nat_lt n 2147483648 then Ok (negsuc n) else Err e
 
 -- The reader is after what it took, at the beginning of a byte. A call that refuses leaves it where it was.
 pub record Parses {X Y : Type 0} (old new : Place) (result : Result X DecodeError) (view : X → Y) (meant : Result (Y × List ℕ) DecodeError) : Type 0 where
-  pub value : Answers (λ x. (view x, new.bytes)) result meant
+  pub value : Returns (λ x. (view x, new.bytes)) result meant
   pub aligned : IsAligned new
   pub stays : OnErr result (new ≡ old)
   pub shorter : OnOk result (length new.bytes ≤ length old.bytes)

@@ -5,7 +5,7 @@ use Rattle.std.specs.Prelude.{Err, if◌then◌else◌, ◌/◌, ◌%◌, not, O
 use Rattle.std.specs.List.{flat_map}
 use Rattle.std.specs.Int.{w8, w32}
 use Rattle.std.specs.Str.{bytes_eq}
-use Rattle.jbig2_base.specs.Answer.{◌>>=◌, refuse_if}
+use Rattle.jbig2_base.specs.Results.{◌>>=◌, refuse_if}
 use Rattle.jbig2_base.specs.Reading.{is_strict, is_salvaged}
 use Rattle.jbig2_base.specs.Segment.{Header, SegmentView, header_at, segment_data_at}
 use Rattle.jbig2_base.specs.Sequential.{by_number, is_end_of_file, sequential}

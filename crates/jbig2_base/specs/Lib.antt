@@ -1,4 +1,3 @@
-pub mod Answer
 pub mod Bits
 pub mod Blocks
 pub mod Causes
@@ -11,6 +10,7 @@ pub mod File
 pub mod Grid
 pub mod PageInfo
 pub mod Reading
+pub mod Results
 pub mod Search
 pub mod Segment
 pub mod Sequential

@@ -4,7 +4,7 @@
 use Rattle.std.specs.Prelude.{ℕ, ◌+◌, ◌/◌, ◌%◌, ◌==◌, max, nat_lt, Bool, true, false, not, ◌&&◌, ◌||◌, List, [], ◌∷◌}
 use Rattle.std.specs.Prelude.{length, take, Result, Ok, Err, if◌then◌else◌}
 use Rattle.std.specs.Int.{w8, w16, w32, from_be_bytes}
-use Rattle.jbig2_base.specs.Answer.{◌>>=◌, refuse_if}
+use Rattle.jbig2_base.specs.Results.{◌>>=◌, refuse_if}
 use Rattle.jbig2_base.specs.Bits.{nonzero}
 use Rattle.jbig2_base.specs.Fields.{number_at}
 use Rattle.jbig2_base.specs.Segment.{SegmentView}
@@ -80,10 +80,10 @@ abbrev pub stripes_height : List SegmentView → ℕ
 stripes_height [] = 0
 stripes_height (p ∷ ps) = max (stripe_height p) (stripes_height ps)
 
--- A height of all ones is unknown (7.4.8.2). Then it is `told_height`, which is 0 if nothing states it.
+-- A height of all ones is unknown (7.4.8.2). Then it is `known_height`, which is 0 if nothing states it.
 abbrev pub height_of : ℕ → ℕ → Result ℕ DecodeError
-height_of stated told_height =
-    if stated == 4294967295 then (refuse_if (told_height == 0) (Format UnknownPageHeight) >>= λ known. Ok told_height)
+height_of stated known_height =
+    if stated == 4294967295 then (refuse_if (known_height == 0) (Format UnknownPageHeight) >>= λ known. Ok known_height)
     else Ok stated
 
 -- a page of this size has pixels, and no side is longer than a bitmap's may be
@@ -93,12 +93,12 @@ initial_page_with number info height = do
   fits ← refuse_if (nat_lt 65535 info.width || nat_lt 65535 height) (Overflow BitmapDimension)
   Ok (record { number = number; width = info.width; height = height; default_pixel = info.flags.default_pixel })
 
--- how a page with these segments begins; `told_height` is its height if page information leaves it open
+-- how a page with these segments begins; `known_height` is its height if page information leaves it open
 abbrev pub initial_page_by : ℕ → List SegmentView → Result InitialPage DecodeError
-initial_page_by told_height ps = do
+initial_page_by known_height ps = do
   first ← first_information ps
   info ← information_at first.bytes
-  height ← height_of info.0.height told_height
+  height ← height_of info.0.height known_height
   initial_page_with first.header.page_association info.0 height
 
 -- the same, where the stripes state an open height

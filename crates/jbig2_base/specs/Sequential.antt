@@ -2,7 +2,7 @@
 -- and the embedded one (D.3), in which PDF keeps pages and globals. Pages take them sorted.
 use Rattle.std.specs.Prelude.{ℕ, suc, zero, nat_lt, Bool, true, false, ◌==◌, List, [], ◌∷◌, length, Result, Ok, Err}
 use Rattle.std.specs.Prelude.{if◌then◌else◌}
-use Rattle.jbig2_base.specs.Answer.{◌>>=◌}
+use Rattle.jbig2_base.specs.Results.{◌>>=◌}
 use Rattle.jbig2_base.specs.Reading.{is_strict, is_salvaged}
 use Rattle.jbig2_base.specs.Segment.{SegmentView, segment_at}
 use Rattle.jbig2_base.specs.declared.error.DecodeError.{DecodeError}

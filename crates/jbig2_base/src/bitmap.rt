@@ -1,6 +1,6 @@
 //! Packed bitmaps (T.88, 6): rows of pixels, which a few calls read and write.
 ghost use Rattle.std.specs.Prelude.{◌≡◌, ℕ, ◌+◌, ◌-◌, ◌*◌, ◌/◌, ◌^◌, ◌<◌, ◌≤◌, OnErr, Ok, false, length, slice_index};
-ghost use Rattle.jbig2_base.specs.Answer.{Gives};
+ghost use Rattle.jbig2_base.specs.Results.{Gives};
 ghost use Rattle.jbig2_base.specs.Counts.{words_copied};
 ghost use Rattle.jbig2_base.specs.{Grid.{Grid, blank, pixel_at, bit_number, part_or_overflow, blank_or_overflow, wide_or_overflow}, Counts.{words_of}};
 ghost use Rattle.jbig2_base.specs.Causes.{HasCauseOrNoMemory, BreaksSides, BreaksArea};

@@ -1,7 +1,7 @@
 //! Reads fields at a reader's place, and returns an error if the bytes end too early (T.88, 7.1).
 ghost use Rattle.std.specs.Prelude.{◌≡◌, ◌+◌, ◌^◌, ◌<◌, ◌≤◌, drop, length, IfOk, OnOk};
 ghost use Rattle.std.specs.Int.{w8, w16, w32};
-ghost use Rattle.jbig2_base.specs.Answer.{Answers, some_or};
+ghost use Rattle.jbig2_base.specs.Results.{Returns, some_or};
 ghost use Rattle.jbig2_base.specs.Bits.{IsAligned, bits_left, bits_next, bits_on};
 ghost use Rattle.jbig2_base.specs.Fields.{Parses, bits_at, bytes_at, number_at, signed_at};
 
@@ -76,8 +76,8 @@ pub fn bytes_field<'a>(reader: &mut Reader<'a>, count: usize) -> Result<&'a [u8]
 /// The next `count` bits as a number, high bit first, or `error`.
 pub fn bits_field(reader: &mut Reader<'_>, count: u8, error: DecodeError) -> Result<u32>
     requires { count ≤ 32 }
-    ensures value { Answers (λ n. (n, reader.new)) result (bits_at error count reader.old) }
-    ensures answer { result ≡ some_or error (bits_next count (bits_left reader.old)) }
+    ensures value { Returns (λ n. (n, reader.new)) result (bits_at error count reader.old) }
+    ensures number { result ≡ some_or error (bits_next count (bits_left reader.old)) }
     ensures place { reader.new ≡ bits_on count reader.old }
     ensures rest { bits_left reader.new ≡ drop count (bits_left reader.old) }
     ensures small { IfOk result (λ n. n < 2 ^ count) }

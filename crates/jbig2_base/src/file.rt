@@ -1,6 +1,6 @@
 //! Reads files and lists of segments (T.88, Annex D).
 ghost use Rattle.std.specs.Prelude.{◌≡◌, List, length, map, Ok};
-ghost use Rattle.jbig2_base.specs.Answer.{Gives};
+ghost use Rattle.jbig2_base.specs.Results.{Gives};
 ghost use Rattle.jbig2_base.specs.Bits.{IsAligned};
 ghost use Rattle.jbig2_base.specs.File.{headers_in, gathered, segments_by, file_at, Spelled, SpellsFile};
 ghost use Rattle.jbig2_base.specs.Reading.{fault_of};

@@ -1,7 +1,7 @@
 //! Reads the header of a file (T.88, D.4).
 ghost use Rattle.std.specs.Prelude.{◌≡◌, ◌+◌, ◌%◌, ◌==◌, if◌then◌else◌, length, OnOk, ◌≤◌};
 ghost use Rattle.std.specs.Str.{bytes_eq};
-ghost use Rattle.jbig2_base.specs.Answer.{Answers};
+ghost use Rattle.jbig2_base.specs.Results.{Returns};
 ghost use Rattle.jbig2_base.specs.Bits.{IsAligned};
 ghost use Rattle.jbig2_base.specs.Causes.{HasCause, BreaksFileHeader};
 ghost use Rattle.jbig2_base.specs.File.{identification, page_count_at, file_header_at};
@@ -49,7 +49,7 @@ fn organization(flags: u8) -> FileOrganization
 
 fn page_count(reader: &mut Reader<'_>, unknown: bool) -> Result<Option<u32>>
     requires { IsAligned reader.old }
-    ensures value { Answers (λ x. (x, reader.new.bytes)) result
+    ensures value { Returns (λ x. (x, reader.new.bytes)) result
         (page_count_at unknown reader.old.bytes) }
     ensures aligned { IsAligned reader.new }
 {
@@ -67,7 +67,7 @@ fn page_count(reader: &mut Reader<'_>, unknown: bool) -> Result<Option<u32>>
 #[tactic(auto, using(crate::proofs::Causes::file_header_cause), unfolding(crate::specs::File::file_header_at))]
 pub(crate) fn parse_file_header(reader: &mut Reader<'_>) -> Result<FileHeader>
     requires { IsAligned reader.old }
-    ensures value { Answers (λ h. (h, reader.new.bytes)) result (file_header_at reader.old.bytes) }
+    ensures value { Returns (λ h. (h, reader.new.bytes)) result (file_header_at reader.old.bytes) }
     ensures aligned { IsAligned reader.new }
     ensures causes { HasCause result (BreaksFileHeader reader.old.bytes) }
 {

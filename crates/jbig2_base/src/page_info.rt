@@ -1,6 +1,6 @@
 //! Reads page information segments, and finds the size of a page (T.88, 7.4.8 and 7.4.10).
 ghost use Rattle.std.specs.Prelude.{◌≡◌, ◌+◌, ◌/◌, ◌%◌, ◌==◌, ◌<◌, ◌≤◌, Ok, IfOk, None, OnErr, OnOk, Option, false, length};
-ghost use Rattle.jbig2_base.specs.Answer.{Answers};
+ghost use Rattle.jbig2_base.specs.Results.{Returns};
 ghost use Rattle.jbig2_base.specs.Bits.{IsAligned, nonzero};
 ghost use Rattle.jbig2_base.specs.Causes.{HasCause, BreaksInformation, BreaksInitialPage, BreaksInitialPageBy};
 ghost use Rattle.jbig2_base.specs.PageInfo.{default_operator_of, flags_of, information_at, is_page_information, is_end_of_stripe, first_information, stripe_height, stripes_height, height_of, initial_page_with, initial_page_by, initial_page_of};
@@ -195,7 +195,7 @@ fn is_end_of_stripe(kind: SegmentType) -> bool
 fn first_information<'s, 'a, A: Allocator>(
     segments: &'s [Segment<'a, A>],
 ) -> Result<&'s Segment<'a, A>>
-    ensures { Answers (λ s. segment_view s.now) result
+    ensures { Returns (λ s. segment_view s.now) result
         (first_information (segment_views segments.now)) }
 {
     for segment in segments {
@@ -231,20 +231,20 @@ pub fn stripes_height<A: Allocator>(segments: &[Segment<'_, A>]) -> u32
     height
 }
 
-fn page_height(stated: u32, told_height: u32) -> Result<u32>
-    ensures { Answers (λ height. height) result (height_of stated told_height) }
+fn page_height(stated: u32, known_height: u32) -> Result<u32>
+    ensures { Returns (λ height. height) result (height_of stated known_height) }
 {
     if stated != u32::MAX {
         return Ok(stated);
     }
-    if told_height == 0 {
+    if known_height == 0 {
         return Err(DecodeError::Format(FormatError::UnknownPageHeight));
     }
-    Ok(told_height)
+    Ok(known_height)
 }
 
 fn initial_page_with(number: u32, information: &PageInformation, height: u32) -> Result<InitialPage>
-    ensures value { Answers (λ initial_page. initial_page) result
+    ensures value { Returns (λ initial_page. initial_page) result
         (initial_page_with number information.now height) }
     ensures fits { IfOk result
         (λ initial_page. (initial_page.width ≤ 65535) × (initial_page.height ≤ 65535)) }
@@ -274,7 +274,7 @@ impl InitialPage {
     #[tactic(auto, using(crate::proofs::InitialCauses::initial_page_cause), unfolding(crate::specs::PageInfo::initial_page_of))]
     pub fn of_segments<A: Allocator>(segments: &[Segment<'_, A>]) -> Result<InitialPage>
         ensures causes { HasCause result (BreaksInitialPage (segment_views segments.now)) }
-        ensures value { Answers (λ initial_page. initial_page) result
+        ensures value { Returns (λ initial_page. initial_page) result
             (initial_page_of (segment_views segments.now)) }
         ensures fits { IfOk result
             (λ initial_page. (initial_page.width ≤ 65535) × (initial_page.height ≤ 65535)) }
@@ -282,22 +282,22 @@ impl InitialPage {
         InitialPage::with_height(segments, stripes_height(segments))
     }
 
-    /// The same, with `told_height` as a height that page information leaves open; 0 if nothing states it.
+    /// The same, with `known_height` as a height that page information leaves open; 0 if nothing states it.
     #[tactic(auto, using(crate::proofs::InitialCauses::initial_page_by_cause))]
     pub fn with_height<A: Allocator>(
         segments: &[Segment<'_, A>],
-        told_height: u32,
+        known_height: u32,
     ) -> Result<InitialPage>
-        ensures causes { HasCause result (BreaksInitialPageBy told_height (segment_views segments.now)) }
-        ensures value { Answers (λ initial_page. initial_page) result
-            (initial_page_by told_height (segment_views segments.now)) }
+        ensures causes { HasCause result (BreaksInitialPageBy known_height (segment_views segments.now)) }
+        ensures value { Returns (λ initial_page. initial_page) result
+            (initial_page_by known_height (segment_views segments.now)) }
         ensures fits { IfOk result
             (λ initial_page. (initial_page.width ≤ 65535) × (initial_page.height ≤ 65535)) }
     {
         let first = first_information(segments)?;
         let mut reader = Reader::new(first.bytes);
         let information = parse_page_information(&mut reader)?;
-        let height = page_height(information.height, told_height)?;
+        let height = page_height(information.height, known_height)?;
         initial_page_with(first.header.page_association, &information, height)
     }
 }

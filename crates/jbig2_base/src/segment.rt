@@ -4,7 +4,7 @@ ghost use Rattle.std.specs.Int.{w8, w32, byte_len, from_be_bytes};
 ghost use Rattle.std.specs.List.{list_any};
 ghost use Rattle.std.specs.Option.{ForSome};
 ghost use Rattle.std.specs.Bool.{OnTrue};
-ghost use Rattle.jbig2_base.specs.Answer.{Answers, Gives};
+ghost use Rattle.jbig2_base.specs.Results.{Returns, Gives};
 ghost use Rattle.jbig2_base.specs.Bits.{IsAligned};
 ghost use Rattle.jbig2_base.specs.Causes.{HasCause, HasCauseOrNoMemory, BreaksHeader, BreaksData};
 ghost use Rattle.jbig2_base.specs.Fields.{number_at, Parses, Takes};
@@ -119,7 +119,7 @@ pub struct Segment<'a, A: Allocator> {
 fn long_count(reader: &mut Reader<'_>, high: u8) -> Result<u32>
     requires aligned { IsAligned reader.old }
     requires small { high < 32 }
-    ensures value { Answers (λ x. (x, reader.new.bytes)) result
+    ensures value { Returns (λ x. (x, reader.new.bytes)) result
         (long_count_at high reader.old.bytes) }
     ensures aligned { IsAligned reader.new }
     ensures bound { IfOk result (λ n. n < 2 ^ 29) }
@@ -133,7 +133,7 @@ fn long_count(reader: &mut Reader<'_>, high: u8) -> Result<u32>
 
 fn short_or_long_count(reader: &mut Reader<'_>, first: u8) -> Result<u32>
     requires { IsAligned reader.old }
-    ensures value { Answers (λ x. (x, reader.new.bytes)) result
+    ensures value { Returns (λ x. (x, reader.new.bytes)) result
         (if first / 32 == 7 then long_count_at (first % 32) reader.old.bytes
         else Ok (first / 32, reader.old.bytes)) }
     ensures aligned { IsAligned reader.new }
@@ -150,7 +150,7 @@ fn short_or_long_count(reader: &mut Reader<'_>, first: u8) -> Result<u32>
 #[tactic(auto, unfolding(crate::specs::Segment::count_at))]
 fn referred_count(reader: &mut Reader<'_>) -> Result<u32>
     requires { IsAligned reader.old }
-    ensures value { Answers (λ x. (x, reader.new.bytes)) result (count_at reader.old.bytes) }
+    ensures value { Returns (λ x. (x, reader.new.bytes)) result (count_at reader.old.bytes) }
     ensures aligned { IsAligned reader.new }
     ensures bound { IfOk result (λ n. n < 2 ^ 29) }
     ensures shorter { OnOk result (length reader.new.bytes ≤ length reader.old.bytes) }
@@ -232,7 +232,7 @@ fn referred_numbers<A: Allocator>(
 /// The page association, in one byte or four (T.88, 7.2.6).
 fn page_association(reader: &mut Reader<'_>, long: bool) -> Result<u32>
     requires { IsAligned reader.old }
-    ensures value { Answers (λ x. (x, reader.new.bytes)) result
+    ensures value { Returns (λ x. (x, reader.new.bytes)) result
         (number_at (if long then w32 else w8) reader.old.bytes) }
     ensures aligned { IsAligned reader.new }
     ensures shorter { OnOk result (length reader.new.bytes ≤ length reader.old.bytes) }
@@ -245,7 +245,7 @@ fn page_association(reader: &mut Reader<'_>, long: bool) -> Result<u32>
 }
 
 fn data_length(strict: bool, kind: SegmentType, number: u32) -> Result<Option<u32>>
-    ensures { Answers (λ length. length) result (length_of strict kind number) }
+    ensures { Returns (λ length. length) result (length_of strict kind number) }
 {
     if number != u32::MAX {
         return Ok(Some(number));

@@ -1,6 +1,6 @@
 //! Sorts segments by their numbers.
 ghost use Rattle.std.specs.Prelude.{◌≡◌, OnErr, Ok};
-ghost use Rattle.jbig2_base.specs.Answer.{Gives};
+ghost use Rattle.jbig2_base.specs.Results.{Gives};
 ghost use Rattle.jbig2_base.specs.inner.SegmentViews.{segment_views};
 ghost use Rattle.jbig2_base.specs.Sequential.{by_number};
 

@@ -1,5 +1,5 @@
 //! How a viewer calls the library.
-ghost use Rattle.jbig2_base.specs.Answer.{Gives};
+ghost use Rattle.jbig2_base.specs.Results.{Gives};
 ghost use Rattle.hayro_jbig2.specs.Image.{image_of_page};
 ghost use Rattle.jbig2_callers.specs.Callers.{image_at};
 

@@ -1,7 +1,7 @@
 -- Law: no definition of prefix codes and tables returns an error that bytes cannot bring about.
 use Rattle.std.proofs.Common.{ℕ, zero, suc, ◌+◌, ltb, length, Bool, true, false, cond, List, [], ◌∷◌, Option, Some, None, Result, Ok, Err, ℤ, pos, negsuc}
 use Rattle.std.specs.Prelude.{IfErr}
-use Rattle.jbig2_base.specs.Answer.{◌>>=◌, some_or}
+use Rattle.jbig2_base.specs.Results.{◌>>=◌, some_or}
 use Rattle.jbig2_base.specs.Bits.{Place, bits_left, bits_next, bits_on}
 use Rattle.jbig2_base.specs.Search.{place_from}
 use Rattle.jbig2_base.specs.declared.error.DecodeError.{DecodeError}
@@ -9,7 +9,7 @@ use Rattle.jbig2_base.specs.declared.error.DecodeError.TheVariants.{Huffman}
 use Rattle.jbig2_base.specs.declared.error.HuffmanError.TheVariants.{InvalidCode}
 use Rattle.jbig2_base.proofs.Answered.{Answered, IsAnswered, answered-if, answered-some}
 use Rattle.jbig2_base.proofs.Causes.{cause-next}
-use Rattle.jbig2_coder.specs.CustomTable.{Step, answer_of, custom_header, custom_line, custom_lines, custom_table, end_lines, field, left_at, next_low, range_lines, range_lines_in}
+use Rattle.jbig2_coder.specs.CustomTable.{Step, result_of, custom_header, custom_line, custom_lines, custom_table, end_lines, field, left_at, next_low, range_lines, range_lines_in}
 use Rattle.jbig2_coder.specs.inner.CodeParts.{ended, is_decided, last_line, found_or, refused, some_value, value_after, valued}
 use Rattle.jbig2_coder.specs.PrefixCode.{CodeReading, Member, decoded_value, front_number, in_word, line_of, no_oob, read_code, table_of, value_by}
 use Rattle.jbig2_coder.specs.Tables.{next_custom}
@@ -24,15 +24,15 @@ pub answered-word : (n : ℤ) → Answered (in_word n)
 answered-word (pos n) = search answered-if
 answered-word (negsuc n) = search answered-if
 
-answered-found : (line : Option TableLine) (k : ℕ) → Answered (found_or line k (refused k)).answer
+answered-found : (line : Option TableLine) (k : ℕ) → Answered (found_or line k (refused k)).result
 answered-found (Some line) k = tt
 answered-found None k = tt
 
-answered-either : {A : Type 0} (b : Bool) (r s : CodeReading A) → Answered r.answer → Answered s.answer → Answered (cond b r s).answer
+answered-either : {A : Type 0} (b : Bool) (r s : CodeReading A) → Answered r.result → Answered s.result → Answered (cond b r s).result
 answered-either true r s at_true at_false = at_true
 answered-either false r s at_true at_false = at_false
 
-answered-read_code : (ms : List Member) (bits : List ℕ) → Answered (read_code ms bits).answer
+answered-read_code : (ms : List Member) (bits : List ℕ) → Answered (read_code ms bits).result
 unfolding read_code
 answered-read_code ms bits =
     let k = place_from (is_decided ms bits) 1 (length bits + 1) in
@@ -50,13 +50,13 @@ answered-value_by line (Some offset) = search (answered-some_value, answered-wor
 answered-value : (line : TableLine) (bits : List ℕ) → Answered (value_after line bits)
 answered-value line bits = search (answered-if, answered-value_by)
 
-answered-valued : (answer : Result TableLine DecodeError) (taken : ℕ) (bits : List ℕ) → Answered answer → Answered (valued (record { answer = answer; taken = taken }) bits).answer
+answered-valued : (result : Result TableLine DecodeError) (taken : ℕ) (bits : List ℕ) → Answered result → Answered (valued (record { result = result; taken = taken }) bits).result
 answered-valued (Ok line) taken bits is = answered-value line _
 answered-valued (Err e) taken bits is = is
 
-pub answered-decoded : (ms : List Member) (bits : List ℕ) → Answered (decoded_value ms bits).answer
+pub answered-decoded : (ms : List Member) (bits : List ℕ) → Answered (decoded_value ms bits).result
 unfolding decoded_value
-answered-decoded ms bits = answered-valued (read_code ms bits).answer (read_code ms bits).taken bits (answered-read_code ms bits)
+answered-decoded ms bits = answered-valued (read_code ms bits).result (read_code ms bits).taken bits (answered-read_code ms bits)
 
 pub answered-no_oob : (r : Result (Option ℤ) DecodeError) → Answered r → Answered (no_oob r)
 answered-no_oob (Ok (Some n)) is = tt
@@ -115,12 +115,12 @@ answered-custom_lines : (p : Place) → AnsweredAt (custom_lines p)
 unfolding custom_lines range_lines
 answered-custom_lines p = search (answered-on, answered-custom_header, answered-lines, answered-end) depth 8
 
-answered-answer : {A : Type 0} (s : Step A) → AnsweredAt s → Answered (answer_of s)
-answered-answer (Ok x) is = tt
-answered-answer (Err e) is = is
+answered-result : {A : Type 0} (s : Step A) → AnsweredAt s → Answered (result_of s)
+answered-result (Ok x) is = tt
+answered-result (Err e) is = is
 
-pub answered-custom : (p : Place) → Answered (answer_of (custom_table p))
+pub answered-custom : (p : Place) → Answered (result_of (custom_table p))
 unfolding custom_table
 answered-custom p =
     let all : AnsweredAt (custom_table p) = search (answered-on, answered-left, answered-custom_lines, answered-table_of) in
-    answered-answer (custom_table p) all
+    answered-result (custom_table p) all

@@ -185,11 +185,11 @@ refused-cause ms bits k are low high still none ends =
           ),
     )
 
-found-cause : (P : DecodeError → Type 0) (o : Option TableLine) (k : ℕ) → (o ≡ None → P (Huffman InvalidCode)) → IfErr (found_or o k (refused k)).answer P
+found-cause : (P : DecodeError → Type 0) (o : Option TableLine) (k : ℕ) → (o ≡ None → P (Huffman InvalidCode)) → IfErr (found_or o k (refused k)).result P
 found-cause P (Some line) k why = tt
 found-cause P None k why = why refl
 
-code-of : (P : DecodeError → Type 0) (ms : List Member) (bits : List ℕ) → AreBits bits → (BreaksCode ms bits (Parse UnexpectedEof) → P (Parse UnexpectedEof)) → (BreaksCode ms bits (Huffman InvalidCode) → P (Huffman InvalidCode)) → IfErr (read_code ms bits).answer P
+code-of : (P : DecodeError → Type 0) (ms : List Member) (bits : List ℕ) → AreBits bits → (BreaksCode ms bits (Parse UnexpectedEof) → P (Parse UnexpectedEof)) → (BreaksCode ms bits (Huffman InvalidCode) → P (Huffman InvalidCode)) → IfErr (read_code ms bits).result P
 unfolding read_code
 code-of P ms bits are at_end at_code =
     let test : ℕ → Bool = is_decided ms bits in
@@ -198,21 +198,21 @@ code-of P ms bits are at_end at_code =
     let at = least-within n test (length bits + 1) in
     let still : (i : ℕ) → 1 ≤ i → i < k → Undecided ms bits i = λ i low high. undecided ms bits i (before-least n test (length bits + 1) i (omega arith) (omega arith) high) in
     let o : Option TableLine = line_of ms k (front_number k bits) in
-    let Q : CodeReading TableLine → Type 0 = λ r. IfErr r.answer P in
+    let Q : CodeReading TableLine → Type 0 = λ r. IfErr r.result P in
     cond_both (ltb (length bits) k) (ended k) (found_or o k (refused k)) Q
     (λ short. at_end (ended-cause ms bits (λ i low high. still i low (omega (arith, ltb-true (length bits) k short)))))
     (λ there. let enough = ltb-false (length bits) k there in
     found-cause P o k (λ none. at_code (refused-cause ms bits k are (omega (arith, at.0)) enough still none (decided-none ms bits k (at-least n test (length bits + 1) (omega (arith, enough))) none))))
 
 -- the code whose line is read
-found-is : (ms : List Member) (bits : List ℕ) (k : ℕ) (o : Option TableLine) (line : TableLine) → 1 ≤ k → k ≤ length bits → line_of ms k (front_number k bits) ≡ o → (found_or o k (refused k)).answer ≡ Ok line → Any (λ m. Begins bits m × (m.bits ≡ (found_or o k (refused k)).taken) × (m.line ≡ line)) ms
+found-is : (ms : List Member) (bits : List ℕ) (k : ℕ) (o : Option TableLine) (line : TableLine) → 1 ≤ k → k ≤ length bits → line_of ms k (front_number k bits) ≡ o → (found_or o k (refused k)).result ≡ Ok line → Any (λ m. Begins bits m × (m.bits ≡ (found_or o k (refused k)).taken) × (m.line ≡ line)) ms
 found-is ms bits k None line low high is same = absurd (let never : ◌≡◌ {A = Result TableLine DecodeError} (Err (Huffman InvalidCode)) (Ok line) = same in cc)
 found-is ms bits k (Some x) line low high is same =
     let this : x ≡ line = let e : ◌≡◌ {A = Result TableLine DecodeError} (Ok x) (Ok line) = same in cc in
     let any = found-some ms k (front_number k bits) x is in
     (any.0, any.1, any.2, any.3, ((omega (arith, any.4.0), omega (arith, any.4.0), any.4.1 ∙ ap (λ (i : ℕ). front_number i bits) (sym any.4.0)), any.4.0, any.4.2 ∙ this))
 
-code-found : (ms : List Member) (bits : List ℕ) (line : TableLine) → (read_code ms bits).answer ≡ Ok line → Any (λ m. Begins bits m × (m.bits ≡ (read_code ms bits).taken) × (m.line ≡ line)) ms
+code-found : (ms : List Member) (bits : List ℕ) (line : TableLine) → (read_code ms bits).result ≡ Ok line → Any (λ m. Begins bits m × (m.bits ≡ (read_code ms bits).taken) × (m.line ≡ line)) ms
 unfolding read_code
 code-found ms bits line =
     let test : ℕ → Bool = is_decided ms bits in
@@ -220,7 +220,7 @@ code-found ms bits line =
     let k = least test n (length bits + 1) in
     let at = least-within n test (length bits + 1) in
     let o : Option TableLine = line_of ms k (front_number k bits) in
-    let Q : CodeReading TableLine → Type 0 = λ r. r.answer ≡ Ok line → Any (λ m. Begins bits m × (m.bits ≡ r.taken) × (m.line ≡ line)) ms in
+    let Q : CodeReading TableLine → Type 0 = λ r. r.result ≡ Ok line → Any (λ m. Begins bits m × (m.bits ≡ r.taken) × (m.line ≡ line)) ms in
     cond_both (ltb (length bits) k) (ended k) (found_or o k (refused k)) Q
     (λ short same. absurd (let never : ◌≡◌ {A = Result TableLine DecodeError} (Err (Parse UnexpectedEof)) (Ok line) = same in cc))
     (λ there. found-is ms bits k o line (omega (arith, at.0)) (ltb-false (length bits) k there) refl)
@@ -229,10 +229,10 @@ left-are : (p : Place) → AreBits (bits_left p)
 unfolding bits_left
 left-are p = bits-drop p.bit (flat_map byte_bits p.bytes) (byte-bits p.bytes)
 
-pub code_cause : {X : Type 0} (ms : List Member) (p : Place) (r : Result X DecodeError) → IfErr r (λ e. (read_code ms (bits_left p)).answer ≡ Err e) → HasCause r (BreaksCode ms (bits_left p))
+pub code_cause : {X : Type 0} (ms : List Member) (p : Place) (r : Result X DecodeError) → IfErr r (λ e. (read_code ms (bits_left p)).result ≡ Err e) → HasCause r (BreaksCode ms (bits_left p))
 code_cause ms p r =
     let P : DecodeError → Type 0 = BreaksCode ms (bits_left p) in
-    call-cause P (read_code ms (bits_left p)).answer r (code-of P ms (bits_left p) (left-are p) (λ why. why) (λ why. why))
+    call-cause P (read_code ms (bits_left p)).result r (code-of P ms (bits_left p) (left-are p) (λ why. why) (λ why. why))
 
 -- ---- a value
 pub word-cause : (P : DecodeError → Type 0) (n : ℤ) → (LeavesWord n → P (Huffman InvalidCode)) → IfErr (in_word n) P
@@ -260,16 +260,16 @@ range-cause P line bits why =
     let Q : Result (Option ℤ) DecodeError → Type 0 = λ r. IfErr r P in
     cond_both line.is_out_of_band (Ok None) (value_by line (bits_next line.range_length bits)) Q (λ out. tt) (λ numbered. read-range P line bits (λ breaks. why (numbered, breaks)))
 
-valued-cause : (P : DecodeError → Type 0) (answer : Result TableLine DecodeError) (taken : ℕ) (bits : List ℕ) → IfErr answer P → ((line : TableLine) → answer ≡ Ok line → BreaksNumbered line (drop taken bits) → P (Huffman InvalidCode)) → IfErr (valued (record { answer = answer; taken = taken }) bits).answer P
+valued-cause : (P : DecodeError → Type 0) (result : Result TableLine DecodeError) (taken : ℕ) (bits : List ℕ) → IfErr result P → ((line : TableLine) → result ≡ Ok line → BreaksNumbered line (drop taken bits) → P (Huffman InvalidCode)) → IfErr (valued (record { result = result; taken = taken }) bits).result P
 valued-cause P (Ok line) taken bits first why = range-cause P line (drop taken bits) (why line refl)
 valued-cause P (Err e) taken bits first why = first
 
 -- the code and the range of a value
-value-of : (P : DecodeError → Type 0) (ms : List Member) (bits : List ℕ) → AreBits bits → (BreaksValue ms bits (Parse UnexpectedEof) → P (Parse UnexpectedEof)) → (BreaksValue ms bits (Huffman InvalidCode) → P (Huffman InvalidCode)) → IfErr (decoded_value ms bits).answer P
+value-of : (P : DecodeError → Type 0) (ms : List Member) (bits : List ℕ) → AreBits bits → (BreaksValue ms bits (Parse UnexpectedEof) → P (Parse UnexpectedEof)) → (BreaksValue ms bits (Huffman InvalidCode) → P (Huffman InvalidCode)) → IfErr (decoded_value ms bits).result P
 unfolding decoded_value
 value-of P ms bits are at_end at_code =
     let r = read_code ms bits in
-    valued-cause P r.answer r.taken bits (code-of P ms bits are at_end (λ why. at_code (inl why)))
+    valued-cause P r.result r.taken bits (code-of P ms bits are at_end (λ why. at_code (inl why)))
     (λ line is breaks.
     let any = code-found ms bits line is in
     let R : TableLine → Type 0 = λ x. BreaksNumbered x (drop any.1.bits bits) in
@@ -294,15 +294,15 @@ no-value line bits same =
     some-line line None same = let never : ◌≡◌ {A = Result (Option ℤ) DecodeError} (Err (Huffman InvalidCode)) (Ok None) = same in cc
     some-line line (Some n) same = some-number (in_word (moved line n)) same
 
-none-valued : (answer : Result TableLine DecodeError) (taken : ℕ) (bits : List ℕ) → (valued (record { answer = answer; taken = taken }) bits).answer ≡ Ok None → (line : TableLine) × (answer ≡ Ok line) × (line.is_out_of_band ≡ true)
+none-valued : (result : Result TableLine DecodeError) (taken : ℕ) (bits : List ℕ) → (valued (record { result = result; taken = taken }) bits).result ≡ Ok None → (line : TableLine) × (result ≡ Ok line) × (line.is_out_of_band ≡ true)
 none-valued (Ok line) taken bits same = (line, refl, no-value line (drop taken bits) same)
 none-valued (Err e) taken bits same = absurd (let never : ◌≡◌ {A = Result (Option ℤ) DecodeError} (Err e) (Ok None) = same in cc)
 
-none-read : (ms : List Member) (bits : List ℕ) → (decoded_value ms bits).answer ≡ Ok None → Any (λ m. Begins bits m × (m.line.is_out_of_band ≡ true)) ms
+none-read : (ms : List Member) (bits : List ℕ) → (decoded_value ms bits).result ≡ Ok None → Any (λ m. Begins bits m × (m.line.is_out_of_band ≡ true)) ms
 unfolding decoded_value
 none-read ms bits same =
     let r = read_code ms bits in
-    let at = none-valued r.answer r.taken bits same in
+    let at = none-valued r.result r.taken bits same in
     let any = code-found ms bits at.0 at.1 in
     (any.0, any.1, any.2, any.3, (any.4.0, ap (λ (x : TableLine). x.is_out_of_band) any.4.2 ∙ at.2))
 
@@ -311,12 +311,12 @@ oob-cause P (Ok (Some n)) first why = tt
 oob-cause P (Ok None) first why = why refl
 oob-cause P (Err e) first why = first
 
-pub number_cause : {X : Type 0} (ms : List Member) (p : Place) (r : Result X DecodeError) → IfErr r (λ e. (without_oob (decoded_value ms (bits_left p))).answer ≡ Err e) → HasCause r (BreaksNumber ms (bits_left p))
+pub number_cause : {X : Type 0} (ms : List Member) (p : Place) (r : Result X DecodeError) → IfErr r (λ e. (without_oob (decoded_value ms (bits_left p))).result ≡ Err e) → HasCause r (BreaksNumber ms (bits_left p))
 number_cause ms p r =
     let bits = bits_left p in
     let P : DecodeError → Type 0 = BreaksNumber ms bits in
-    call-cause P (without_oob (decoded_value ms bits)).answer r
-    (oob-cause P (decoded_value ms bits).answer (value-of P ms bits (left-are p) (λ why. why) (λ why. why)) (none-read ms bits))
+    call-cause P (without_oob (decoded_value ms bits)).result r
+    (oob-cause P (decoded_value ms bits).result (value-of P ms bits (left-are p) (λ why. why) (λ why. why)) (none-read ms bits))
 
 -- ---- the codes of lengths
 pub table-cause : (P : DecodeError → Type 0) (lines : List TableLine) → (AreCrowded lines → P (Huffman InvalidCode)) → IfErr (table_of lines) P

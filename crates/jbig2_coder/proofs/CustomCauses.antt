@@ -3,7 +3,7 @@ use Rattle.std.proofs.Common.{◌≡◌, ℕ, zero, suc, ◌+◌, ◌-◌, ◌*�
 use Rattle.std.specs.Prelude.{IfErr, int_lt, ◌⊎◌}
 use Rattle.std.specs.List.{flat_map}
 use Rattle.std.proofs.lemmas.Bool.{cond_both, false≢true}
-use Rattle.jbig2_base.specs.Answer.{◌>>=◌, some_or}
+use Rattle.jbig2_base.specs.Results.{◌>>=◌, some_or}
 use Rattle.jbig2_base.specs.Bits.{Place, bits_left, bits_next, bits_on, byte_bits}
 use Rattle.jbig2_base.specs.declared.error.DecodeError.{DecodeError}
 use Rattle.jbig2_base.specs.declared.error.DecodeError.TheVariants.{OutOfMemory, Parse, Huffman}
@@ -13,7 +13,7 @@ use Rattle.jbig2_base.specs.Causes.{HasCauseOrNoMemory}
 use Rattle.jbig2_base.proofs.Causes.{cause-next, same-ok, went}
 use Rattle.jbig2_base.proofs.ReaderLemmas.{bits_on-enough}
 use Rattle.jbig2_coder.specs.Causes.{BreaksCustom, BreaksLines, BreaksSomeLine, LeavesWord}
-use Rattle.jbig2_coder.specs.CustomTable.{GivesAt, Step, behind, custom_header, custom_line, custom_lines, custom_table, end_lines, field, left_at, next_low, range_lines, range_lines_in}
+use Rattle.jbig2_coder.specs.CustomTable.{GivesAt, Step, concat, custom_header, custom_line, custom_lines, custom_table, end_lines, field, left_at, next_low, range_lines, range_lines_in}
 use Rattle.jbig2_coder.specs.inner.CodeParts.{last_line}
 use Rattle.jbig2_coder.specs.PrefixCode.{Member, front_number, in_word, table_of}
 use Rattle.jbig2_coder.specs.Tables.{lower, out_of_band, upper}
@@ -27,13 +27,13 @@ abbrev range_at : Header → Place → ℕ
 range_at h p = front_number h.range_bits (bits_left (bits_on h.prefix_bits p))
 
 -- the low value of the line after it
-abbrev low_behind : Header → ℤ → Place → ℤ
-low_behind h low p = low +ℤ pos (2 ^ range_at h p)
+abbrev low_after : Header → ℤ → Place → ℤ
+low_after h low p = low +ℤ pos (2 ^ range_at h p)
 
 -- A line: its two lengths are not there, or its range is above 31 bits, or leads out of signed 32 bits.
 abbrev BreaksLine : Header → ℤ → Place → Type 0
 BreaksLine h low p =
-    (length (bits_left p) < h.prefix_bits + h.range_bits) ⊎ ((32 ≤ range_at h p) ⊎ LeavesWord (low_behind h low p))
+    (length (bits_left p) < h.prefix_bits + h.range_bits) ⊎ ((32 ≤ range_at h p) ⊎ LeavesWord (low_after h low p))
 
 -- The lengths of the lower, the upper and the out-of-band line are not all there.
 abbrev BreaksEndLines : Header → Place → Type 0
@@ -139,7 +139,7 @@ cause-line P h low p why =
     (λ next next_is. tt)))
 
 -- the low value and the place after a line that is there
-line-there : (h : Header) (low : ℤ) (p : Place) (x : (TableLine × ℤ) × Place) → custom_line h low p ≡ Ok x → (low_behind h low p ≡ x.0.1) × (bits_on h.range_bits (bits_on h.prefix_bits p) ≡ x.1)
+line-there : (h : Header) (low : ℤ) (p : Place) (x : (TableLine × ℤ) × Place) → custom_line h low p ≡ Ok x → (low_after h low p ≡ x.0.1) × (bits_on h.range_bits (bits_on h.prefix_bits p) ≡ x.1)
 line-there h low p x is =
     let len = went (field (Huffman InvalidCode) h.prefix_bits p) _ x is in
     let range = went (field (Huffman InvalidCode) h.range_bits len.0.1) _ x len.2 in
@@ -158,14 +158,14 @@ line-there h low p x is =
     )
 
 -- ---- lines
-cause-behind : (P : DecodeError → Type 0) (before : List TableLine) (s : Step (List TableLine)) → CauseAt P s → CauseAt P (behind before s)
+cause-behind : (P : DecodeError → Type 0) (before : List TableLine) (s : Step (List TableLine)) → CauseAt P s → CauseAt P (concat before s)
 cause-behind P before s why = cause-on P s _ why (λ lines is. tt)
 
 cause-lines : (P : DecodeError → Type 0) (n : ℕ) (h : Header) (low : ℤ) (p : Place) → (BreaksSomeLine n h low p → P (Huffman InvalidCode)) → CauseAt P (range_lines_in n h low p)
 cause-lines P zero h low p why = tt
 cause-lines P (suc n) h low p why =
     let Q : Step (List TableLine) → Type 0 = λ s. CauseAt P s in
-    let next : (TableLine × ℤ) × Place → Step (List TableLine) = λ x. behind (x.0.0 ∷ []) (range_lines_in n h x.0.1 x.1) in
+    let next : (TableLine × ℤ) × Place → Step (List TableLine) = λ x. concat (x.0.0 ∷ []) (range_lines_in n h x.0.1 x.1) in
     cond_both (int_lt low h.maximum) (custom_line h low p >>= next) (Ok ([], p)) Q
     (λ more. cause-on P (custom_line h low p) next (cause-line P h low p (λ breaks. why (more, inl breaks)))
     (λ x is.

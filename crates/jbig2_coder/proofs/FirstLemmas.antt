@@ -109,7 +109,7 @@ opened lines levels i code codes d v more at shallow inside small from fewer =
     ∙ ap (λ (vs : List Level). walk (groups_of lines vs) i (m / 2 - code) (drop i (byte_bits v) ++ more)) (drop_more levels i d inside)
     ∙ ap (λ (bs : List ℕ). walk (groups_of lines (get_or levels i d ∷ drop (i + 1) levels)) i (m / 2 - code) bs) (next-bit v i more shallow)
 
-depth-found : (lines : List TableLine) (levels : List Level) (i code : ℕ) (codes : List FirstCode) (d : Level) (v : ℕ) (more : List ℕ) (x : TableLine) → AtDepth lines levels i code codes → i < 8 → i < length levels → v < 256 → 2 * code ≤ v / 2 ^ (8 - (i + 1)) → v / 2 ^ (8 - (i + 1)) < 2 * code + (get_or levels i d).count → walk_of lines levels 0 (byte_bits v ++ more) ≡ record { answer = Ok (get_or lines ((get_or levels i d).first + (v / 2 ^ (8 - (i + 1)) - 2 * code)) x); taken = i + 1 }
+depth-found : (lines : List TableLine) (levels : List Level) (i code : ℕ) (codes : List FirstCode) (d : Level) (v : ℕ) (more : List ℕ) (x : TableLine) → AtDepth lines levels i code codes → i < 8 → i < length levels → v < 256 → 2 * code ≤ v / 2 ^ (8 - (i + 1)) → v / 2 ^ (8 - (i + 1)) < 2 * code + (get_or levels i d).count → walk_of lines levels 0 (byte_bits v ++ more) ≡ record { result = Ok (get_or lines ((get_or levels i d).first + (v / 2 ^ (8 - (i + 1)) - 2 * code)) x); taken = i + 1 }
 depth-found lines levels i code codes d v more x at shallow inside small from below =
     let lv = get_or levels i d in
     let m : ℕ = v / 2 ^ (8 - (i + 1)) in
@@ -120,7 +120,7 @@ depth-found lines levels i code codes d v more x at shallow inside small from be
     let within : 2 * n + b < length (drop lv.first lines) = omega (arith, are.0, length-drop lv.first lines) in
     opened lines levels i code codes d v more at shallow inside small from (omega arith)
     ∙ ap (λ (o : Option TableLine). found_or o (i + 1) (turned lines levels i n b (drop (i + 1) (byte_bits v) ++ more) d)) (get-take lv.count (2 * n + b) (drop lv.first lines) x (omega arith) within ∙ ap (λ (y : TableLine). Some y) (get_or-drop lv.first lines (2 * n + b) x))
-    ∙ ap (λ (e : ℕ). record { answer = Ok (get_or lines (lv.first + e) x); taken = i + 1 }) child
+    ∙ ap (λ (e : ℕ). record { result = Ok (get_or lines (lv.first + e) x); taken = i + 1 }) child
 
 depth-on : (lines : List TableLine) (levels : List Level) (i code : ℕ) (codes : List FirstCode) (d : Level) (v : ℕ) (more : List ℕ) → AtDepth lines levels i code codes → i < 8 → i < length levels → v < 256 → 2 * code + (get_or levels i d).count ≤ v / 2 ^ (8 - (i + 1)) → v / 2 ^ (8 - (i + 1)) - (2 * code + (get_or levels i d).count) < nodes (groups_of lines (drop (i + 1) levels)) → walk_of lines levels 0 (byte_bits v ++ more) ≡ walk (groups_of lines (drop (i + 1) levels)) (i + 1) (v / 2 ^ (8 - (i + 1)) - (2 * code + (get_or levels i d).count)) (drop (i + 1) (byte_bits v) ++ more)
 depth-on lines levels i code codes d v more at shallow inside small past fewer =
@@ -226,17 +226,17 @@ next-byte v p e =
 
 pub first-found : (lines : List TableLine) (levels : List Level) (v : ℕ) (code : FirstCode) (x : TableLine) (p q : Place) → Some v ≡ bits_next 8 (bits_left p) → Begins lines levels v code → q ≡ bits_on code.length p → bits_left q ≡ drop code.length (bits_left p) → Reads p q (Ok (get_or lines code.line x)) (walk_of lines levels 0 (bits_left p))
 first-found lines levels v code x p q peek begins place rest =
-    let whole : walk_of lines levels 0 (bits_left p) ≡ record { answer = Ok (get_or lines code.line x); taken = code.length } =
+    let whole : walk_of lines levels 0 (bits_left p) ≡ record { result = Ok (get_or lines code.line x); taken = code.length } =
     ap (λ (bs : List ℕ). walk_of lines levels 0 bs) (next-byte v p peek) ∙ begins.walks (drop 8 (bits_left p)) x in
     record {
-      value = sym (ap (λ (r : CodeReading TableLine). r.answer) whole);
+      value = sym (ap (λ (r : CodeReading TableLine). r.result) whole);
       place = place ∙ ap (λ (r : CodeReading TableLine). bits_on r.taken p) (sym whole);
       rest = rest ∙ ap (λ (r : CodeReading TableLine). drop r.taken (bits_left p)) (sym whole);
     }
 
 -- k bits more
 abbrev deeper : ℕ → CodeReading TableLine → CodeReading TableLine
-deeper k reading = record { answer = reading.answer; taken = k + reading.taken }
+deeper k reading = record { result = reading.result; taken = k + reading.taken }
 
 walk-deeper : (gs : List (List TableLine)) (k i d : ℕ) (bits : List ℕ) → walk gs (k + i) d bits ≡ deeper k (walk gs i d bits)
 walk-deeper [] k i d [] = let e : k + i + 1 ≡ k + (i + 1) = omega arith in ap (λ (n : ℕ). ended n) e
@@ -268,7 +268,7 @@ first-longer lines levels v from a p q r peek small goes low high place rest rea
     ∙ ap (λ (bs : List ℕ). walk gs 8 (v - from) bs) (sym rest)
     ∙ walk-deeper gs 8 0 (v - from) (bits_left q) in
     record {
-      value = read.value ∙ sym (ap (λ (s : CodeReading TableLine). s.answer) whole);
+      value = read.value ∙ sym (ap (λ (s : CodeReading TableLine). s.result) whole);
       place = read.place ∙ bits_on-add 8 w.taken p q place rest ∙ ap (λ (s : CodeReading TableLine). bits_on s.taken p) (sym whole);
       rest = read.rest ∙ ap (λ (bs : List ℕ). drop w.taken bs) rest ∙ drop-drop w.taken 8 (bits_left p) ∙ ap (λ (s : CodeReading TableLine). drop s.taken (bits_left p)) (sym whole);
     }

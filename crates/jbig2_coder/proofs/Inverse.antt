@@ -10,7 +10,7 @@ use Rattle.jbig2_coder.proofs.InverseFlush.{Flush}
 use Rattle.jbig2_coder.proofs.InverseEncode.{Begun, opened-begun, Resting-begun, Entry, entry, narrowing_of, encode_from-entry, encode-back}
 use Rattle.jbig2_coder.proofs.InverseRead.{Closing}
 use Rattle.jbig2_coder.proofs.InverseDraw.{Together}
-use Rattle.jbig2_coder.proofs.InverseDecide.{Told, tell}
+use Rattle.jbig2_coder.proofs.InverseDecide.{IfResult, tell}
 use Rattle.jbig2_coder.proofs.InverseClosed.{first-closed, Closing-closed, start}
 
 -- The bytes of what is still to come of a list, and that the encoder ended with the first m.
@@ -54,7 +54,7 @@ decodes-from bytes m closing (e ∷ es) s contexts r b t h =
     let z : Decision = decision bytes r x in
     let n : Narrowing x e.1 s.range s.writer.register = narrowing_of x e.1 s b in
     let i : Entry x e.1 s n c.coding = entry x e.1 s n b in
-    let told : Told bytes m e.1 c z = tell bytes m x e.1 s r closing b t (ends-next (byte_at bytes) m s contexts e es b h) in
+    let told : IfResult bytes m e.1 c z = tell bytes m x e.1 s r closing b t (ends-next (byte_at bytes) m s contexts e es b h) in
     let g : Ends (byte_at bytes) m (encode_from c.coding (with_context contexts e.0 c.context) es) =
     rw (encode_from-entry s contexts e es) at h in
     let ih : decoded_from bytes z.registers (with_context contexts e.0 c.context) (map (λ e. e.0) es) ≡ map (λ e. e.1) es =

@@ -93,31 +93,31 @@ unfolding decision
 decision-renorm_is bytes r x y d a c e = rw e refl
 
 -- What the decoder returns in the encoder's context, and where both stand afterwards.
-pub record Told (bytes : List ℕ) (m : ℕ) (d : Bool) (e : Encoding) (z : Decision) : Type 0 where
+pub record IfResult (bytes : List ℕ) (m : ℕ) (d : Bool) (e : Encoding) (z : Decision) : Type 0 where
   pub symbol : z.symbol ≡ d
   pub context : z.context ≡ e.context
   pub follows : Together (byte_at bytes) m e.coding z.registers
 
 tell-quiet : (bytes : List ℕ) (m : ℕ) (x : Context) (d : Bool) (s : Coding) (n : Narrowing x d s.range s.writer.register) (r : Registers) (v : ℕ)
-    → r.a ≡ s.range → n.renorm ≡ false → Picked (byte_at bytes) m x d s n r.code v → Told bytes m d (encoding x d s) (decision bytes r x)
+    → r.a ≡ s.range → n.renorm ≡ false → Picked (byte_at bytes) m x d s n r.code v → IfResult bytes m d (encoding x d s) (decision bytes r x)
 tell-quiet bytes m x d s n r v same e p =
     let chosen : choice x r.a r.code.c ≡ record { symbol = d; a = n.range; c = p.c; context = n.next; renorm = false } =
     ap (λ a. choice x a r.code.c) same ∙ p.chosen ∙ (λ i. record { symbol = d; a = n.range; c = p.c; context = n.next; renorm = e i }) in
-    subst (λ (t : Encoding). Told bytes m d t (decision bytes r x)) (sym (encoding-quiet_is x d s n e))
-    (subst (Told bytes m d (record { coding = record { range = n.range; writer = at_part x d s n }; context = n.next })) (sym (decision-quiet_is bytes r x n.next d n.range p.c chosen))
+    subst (λ (t : Encoding). IfResult bytes m d t (decision bytes r x)) (sym (encoding-quiet_is x d s n e))
+    (subst (IfResult bytes m d (record { coding = record { range = n.range; writer = at_part x d s n }; context = n.next })) (sym (decision-quiet_is bytes r x n.next d n.range p.c chosen))
     (record { symbol = refl; context = refl; follows = record { number = v; same = refl; follows = p.follows } }))
 
 tell-renorm : (bytes : List ℕ) (m : ℕ) (x : Context) (d : Bool) (s : Coding) (n : Narrowing x d s.range s.writer.register) (r : Registers) (v : ℕ)
     → Closing (byte_at bytes) m → Begun s → r.a ≡ s.range → n.renorm ≡ true → Picked (byte_at bytes) m x d s n r.code v
-    → KnowsAt (byte_at bytes) m (encoding x d s).coding.range (encoding x d s).coding.writer → Told bytes m d (encoding x d s) (decision bytes r x)
+    → KnowsAt (byte_at bytes) m (encoding x d s).coding.range (encoding x d s).coding.writer → IfResult bytes m d (encoding x d s) (decision bytes r x)
 tell-renorm bytes m x d s n r v closing b same e p know =
     let w : Writer = at_part x d s n in
     let chosen : choice x r.a r.code.c ≡ record { symbol = d; a = n.range; c = p.c; context = n.next; renorm = true } =
     ap (λ a. choice x a r.code.c) same ∙ p.chosen ∙ (λ i. record { symbol = d; a = n.range; c = p.c; context = n.next; renorm = e i }) in
     let later : KnowsAt (byte_at bytes) m (encoder_renormed 15 n.range w).range (encoder_renormed 15 n.range w).writer =
     subst (λ (t : Encoding). KnowsAt (byte_at bytes) m t.coding.range t.coding.writer) (encoding-renorm_is x d s n e) know in
-    subst (λ (t : Encoding). Told bytes m d t (decision bytes r x)) (sym (encoding-renorm_is x d s n e))
-    (subst (Told bytes m d (record { coding = encoder_renormed 15 n.range w; context = n.next })) (sym (decision-renorm_is bytes r x n.next d n.range p.c chosen))
+    subst (λ (t : Encoding). IfResult bytes m d t (decision bytes r x)) (sym (encoding-renorm_is x d s n e))
+    (subst (IfResult bytes m d (record { coding = encoder_renormed 15 n.range w; context = n.next })) (sym (decision-renorm_is bytes r x n.next d n.range p.c chosen))
     (record {
       symbol = refl;
       context = refl;
@@ -126,7 +126,7 @@ tell-renorm bytes m x d s n r v closing b same e p know =
 
 pub tell : (bytes : List ℕ) (m : ℕ) (x : Context) (d : Bool) (s : Coding) (r : Registers) → Closing (byte_at bytes) m → Begun s
     → Together (byte_at bytes) m s r
-    → KnowsAt (byte_at bytes) m (encoding x d s).coding.range (encoding x d s).coding.writer → Told bytes m d (encoding x d s) (decision bytes r x)
+    → KnowsAt (byte_at bytes) m (encoding x d s).coding.range (encoding x d s).coding.writer → IfResult bytes m d (encoding x d s) (decision bytes r x)
 tell bytes m x d s r closing b t know =
     let f : ℕ → ℕ = byte_at bytes in
     let n : Narrowing x d s.range s.writer.register = narrowing_of x d s b in

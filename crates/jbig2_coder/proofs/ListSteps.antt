@@ -4,7 +4,7 @@ use Rattle.std.proofs.Math.Seq.{drop-cons}
 use Rattle.std.proofs.lemmas.Bool.{cases_lt, cases_eq, cond-true, cond-false, eq-eqb, ne_eqb}
 use Rattle.std.proofs.lemmas.List.{get_or_past, get_or_default, drop_all, append-nil}
 use Rattle.jbig2_base.specs.declared.error.DecodeError.{DecodeError}
-use Rattle.jbig2_base.specs.Answer.{Gives}
+use Rattle.jbig2_base.specs.Results.{Gives}
 use Rattle.jbig2_base.specs.Grid.{bit_number}
 use Rattle.jbig2_coder.specs.Coder.{Coder, Context, Decision, Registers, fresh, decision, initial_registers}
 use Rattle.jbig2_coder.specs.Encoder.{Coding, opened, encoding, flushed, closed, with_context, encode_from, encoded, decoded_from, read_back}

@@ -23,15 +23,15 @@ read-line gs ms a p q view read =
     let P : CodeReading TableLine → Type 0 = λ r. Reads p q a r in
     subst P same read
 
-valued-err : (r : CodeReading TableLine) (bits : List ℕ) (e : DecodeError) → Err e ≡ r.answer → valued r bits ≡ record { answer = Err e; taken = r.taken }
-valued-err r bits e h = ap (λ (a : Result TableLine DecodeError). valued (record { answer = a; taken = r.taken }) bits) (sym h)
+valued-err : (r : CodeReading TableLine) (bits : List ℕ) (e : DecodeError) → Err e ≡ r.result → valued r bits ≡ record { result = Err e; taken = r.taken }
+valued-err r bits e h = ap (λ (a : Result TableLine DecodeError). valued (record { result = a; taken = r.taken }) bits) (sym h)
 
-valued-ok : (r : CodeReading TableLine) (bits : List ℕ) (x : TableLine) → Ok x ≡ r.answer → valued r bits ≡ record { answer = value_after x (drop r.taken bits); taken = r.taken + range_bits x }
-valued-ok r bits x h = ap (λ (a : Result TableLine DecodeError). valued (record { answer = a; taken = r.taken }) bits) (sym h)
+valued-ok : (r : CodeReading TableLine) (bits : List ℕ) (x : TableLine) → Ok x ≡ r.result → valued r bits ≡ record { result = value_after x (drop r.taken bits); taken = r.taken + range_bits x }
+valued-ok r bits x h = ap (λ (a : Result TableLine DecodeError). valued (record { result = a; taken = r.taken }) bits) (sym h)
 
-decodes : (ms : List Member) (a : Result (Option ℤ) DecodeError) (n : ℕ) (p q : Place) → decoded_value ms (bits_left p) ≡ record { answer = a; taken = n } → q ≡ bits_on n p → bits_left q ≡ drop n (bits_left p) → Reads p q a (decoded_value ms (bits_left p))
+decodes : (ms : List Member) (a : Result (Option ℤ) DecodeError) (n : ℕ) (p q : Place) → decoded_value ms (bits_left p) ≡ record { result = a; taken = n } → q ≡ bits_on n p → bits_left q ≡ drop n (bits_left p) → Reads p q a (decoded_value ms (bits_left p))
 decodes ms a n p q e place rest = record {
-  value = sym (ap (λ (r : CodeReading (Option ℤ)). r.answer) e);
+  value = sym (ap (λ (r : CodeReading (Option ℤ)). r.result) e);
   place = place ∙ ap (λ (r : CodeReading (Option ℤ)). bits_on r.taken p) (sym e);
   rest = rest ∙ ap (λ (r : CodeReading (Option ℤ)). drop r.taken (bits_left p)) (sym e);
 }
@@ -47,8 +47,8 @@ decodes-oob ms x p q read oob =
     let taken : w.taken + range_bits x ≡ w.taken = ap (λ (n : ℕ). w.taken + n) (cond-true x.is_out_of_band 0 x.range_length oob) ∙ (let e : w.taken + 0 ≡ w.taken = omega arith in e) in
     decodes ms (Ok None) w.taken p q
     (decoded-is ms (bits_left p) ∙ valued-ok w (bits_left p) x read.value
-    ∙ ap (λ (a : Result (Option ℤ) DecodeError). record { answer = a; taken = w.taken + range_bits x }) none
-    ∙ ap (λ (n : ℕ). record { answer = Ok None; taken = n }) taken)
+    ∙ ap (λ (a : Result (Option ℤ) DecodeError). record { result = a; taken = w.taken + range_bits x }) none
+    ∙ ap (λ (n : ℕ). record { result = Ok None; taken = n }) taken)
     read.place read.rest
 
 pub decodes-value : (ms : List Member) (x : TableLine) (a : Result (Option ℤ) DecodeError) (p q r : Place) → Reads p q (Ok x) (read_code ms (bits_left p)) → x.is_out_of_band ≡ false → a ≡ value_by x (bits_next x.range_length (bits_left q)) → r ≡ bits_on x.range_length q → bits_left r ≡ drop x.range_length (bits_left q) → Reads p r a (decoded_value ms (bits_left p))
@@ -60,8 +60,8 @@ decodes-value ms x a p q r read oob value place rest =
     let taken : w.taken + range_bits x ≡ w.taken + x.range_length = ap (λ (n : ℕ). w.taken + n) (cond-false x.is_out_of_band 0 x.range_length oob) in
     decodes ms a (w.taken + x.range_length) p r
     (decoded-is ms (bits_left p) ∙ valued-ok w (bits_left p) x read.value
-    ∙ ap (λ (b : Result (Option ℤ) DecodeError). record { answer = b; taken = w.taken + range_bits x }) some
-    ∙ ap (λ (n : ℕ). record { answer = a; taken = n }) taken)
+    ∙ ap (λ (b : Result (Option ℤ) DecodeError). record { result = b; taken = w.taken + range_bits x }) some
+    ∙ ap (λ (n : ℕ). record { result = a; taken = n }) taken)
     (place ∙ bits_on-add w.taken x.range_length p q read.place read.rest)
     (rest ∙ ap (λ (bs : List ℕ). drop x.range_length bs) read.rest ∙ drop-drop x.range_length w.taken (bits_left p))
 

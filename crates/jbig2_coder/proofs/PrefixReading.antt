@@ -53,12 +53,12 @@ at-root lines levels root p are few = record {
 }
 
 -- where a read ends with this answer, one bit on
-leaves : (lines : List TableLine) (levels : List Level) (root i node : ℕ) (p q r : Place) (a : Result TableLine DecodeError) → AtLevel lines levels root i node p q → r ≡ bits_on 1 q → bits_left r ≡ drop 1 (bits_left q) → walk (groups_of lines (drop i levels)) i node (bits_left q) ≡ record { answer = a; taken = i + 1 } → Reads p r a (walk_of lines levels root (bits_left p))
+leaves : (lines : List TableLine) (levels : List Level) (root i node : ℕ) (p q r : Place) (a : Result TableLine DecodeError) → AtLevel lines levels root i node p q → r ≡ bits_on 1 q → bits_left r ≡ drop 1 (bits_left q) → walk (groups_of lines (drop i levels)) i node (bits_left q) ≡ record { result = a; taken = i + 1 } → Reads p r a (walk_of lines levels root (bits_left p))
 leaves lines levels root i node p q r a at place rest ends =
-    let whole : walk_of lines levels root (bits_left p) ≡ record { answer = a; taken = i + 1 } = sym at.walks ∙ ends in
+    let whole : walk_of lines levels root (bits_left p) ≡ record { result = a; taken = i + 1 } = sym at.walks ∙ ends in
     let taken : (walk_of lines levels root (bits_left p)).taken ≡ i + 1 = ap (λ (w : CodeReading TableLine). w.taken) whole in
     record {
-      value = sym (ap (λ (w : CodeReading TableLine). w.answer) whole);
+      value = sym (ap (λ (w : CodeReading TableLine). w.result) whole);
       place = place ∙ at.place 1 ∙ ap (λ (k : ℕ). bits_on k p) (sym taken);
       rest = rest ∙ ap (λ (bs : List ℕ). drop 1 bs) at.rest ∙ drop-drop 1 i (bits_left p) ∙ ap (λ (k : ℕ). drop k (bits_left p)) (sym taken);
     }
@@ -85,15 +85,15 @@ walk-ends gs i node bits none = ap (λ (bs : List ℕ). walk gs i node bs) (no_b
     at_end (g ∷ gs) = refl
 
 -- no bit is left
-pub leaves-ended : (lines : List TableLine) (levels : List Level) (root i node : ℕ) (p q r : Place) → AtLevel lines levels root i node p q → r ≡ bits_on 1 q → bits_left r ≡ drop 1 (bits_left q) → ◌≡◌ {A = Option ℕ} None (bits_next 1 (bits_left q)) → Reads p r ((ended {A = TableLine} 0).answer) (walk_of lines levels root (bits_left p))
+pub leaves-ended : (lines : List TableLine) (levels : List Level) (root i node : ℕ) (p q r : Place) → AtLevel lines levels root i node p q → r ≡ bits_on 1 q → bits_left r ≡ drop 1 (bits_left q) → ◌≡◌ {A = Option ℕ} None (bits_next 1 (bits_left q)) → Reads p r ((ended {A = TableLine} 0).result) (walk_of lines levels root (bits_left p))
 leaves-ended lines levels root i node p q r at place rest none =
-    leaves lines levels root i node p q r ((ended {A = TableLine} 0).answer) at place rest (walk-ends (groups_of lines (drop i levels)) i node (bits_left q) none)
+    leaves lines levels root i node p q r ((ended {A = TableLine} 0).result) at place rest (walk-ends (groups_of lines (drop i levels)) i node (bits_left q) none)
 
 -- a bit after the last level
-pub leaves-past : (lines : List TableLine) (levels : List Level) (root i node b : ℕ) (p q r : Place) → AtLevel lines levels root i node p q → r ≡ bits_on 1 q → bits_left r ≡ drop 1 (bits_left q) → Some b ≡ bits_next 1 (bits_left q) → length levels ≤ i → Reads p r ((refused {A = TableLine} 0).answer) (walk_of lines levels root (bits_left p))
+pub leaves-past : (lines : List TableLine) (levels : List Level) (root i node b : ℕ) (p q r : Place) → AtLevel lines levels root i node p q → r ≡ bits_on 1 q → bits_left r ≡ drop 1 (bits_left q) → Some b ≡ bits_next 1 (bits_left q) → length levels ≤ i → Reads p r ((refused {A = TableLine} 0).result) (walk_of lines levels root (bits_left p))
 leaves-past lines levels root i node b p q r at place rest some past =
     let none : drop i levels ≡ [] = drop_all i levels past in
-    leaves lines levels root i node p q r ((refused {A = TableLine} 0).answer) at place rest
+    leaves lines levels root i node p q r ((refused {A = TableLine} 0).result) at place rest
     (ap (λ (vs : List Level). walk (groups_of lines vs) i node (bits_left q)) none ∙ ap (λ (bs : List ℕ). walk [] i node bs) (first_bit b (bits_left q) some))
 
 pub get-take : (n e : ℕ) (xs : List TableLine) (d : TableLine) → e < n → e < length xs → slice_get (take n xs) e ≡ Some (get_or xs e d)
@@ -146,10 +146,10 @@ leaves-found lines levels root i node b p q r d x at place rest some inside foun
     ∙ ap (λ (o : Option TableLine). found_or o (i + 1) (turned lines levels i node b (drop 1 (bits_left q)) d)) (get-take v.count e (drop v.first lines) x found within ∙ ap (λ (y : TableLine). Some y) (get_or-drop v.first lines e x)))
 
 -- the child begins no code
-pub leaves-refused : (lines : List TableLine) (levels : List Level) (root i node b : ℕ) (p q r : Place) (d : Level) → AtLevel lines levels root i node p q → r ≡ bits_on 1 q → bits_left r ≡ drop 1 (bits_left q) → Some b ≡ bits_next 1 (bits_left q) → i < length levels → (get_or levels i d).count ≤ 2 * node + b → (get_or levels i d).nodes ≤ 2 * node + b - (get_or levels i d).count → Reads p r ((refused {A = TableLine} 0).answer) (walk_of lines levels root (bits_left p))
+pub leaves-refused : (lines : List TableLine) (levels : List Level) (root i node b : ℕ) (p q r : Place) (d : Level) → AtLevel lines levels root i node p q → r ≡ bits_on 1 q → bits_left r ≡ drop 1 (bits_left q) → Some b ≡ bits_next 1 (bits_left q) → i < length levels → (get_or levels i d).count ≤ 2 * node + b → (get_or levels i d).nodes ≤ 2 * node + b - (get_or levels i d).count → Reads p r ((refused {A = TableLine} 0).result) (walk_of lines levels root (bits_left p))
 leaves-refused lines levels root i node b p q r d at place rest some inside past none =
     let are = level-next lines levels i d inside at.are in
-    leaves lines levels root i node p q r ((refused {A = TableLine} 0).answer) at place rest
+    leaves lines levels root i node p q r ((refused {A = TableLine} 0).result) at place rest
     (walk-next lines levels i node b (bits_left q) d inside some
     ∙ not_found lines levels i node b (drop 1 (bits_left q)) d are past
     ∙ cond-false (ltb (child-of levels i node b d) (get_or levels i d).nodes) (walk (groups_of lines (drop (i + 1) levels)) (i + 1) (child-of levels i node b d) (drop 1 (bits_left q))) (refused (i + 1)) (le-ltb (child-of levels i node b d) (get_or levels i d).nodes none))

@@ -60,14 +60,14 @@ codes-all i items h same = same ∙ ap (λ (xs : List (List TableLine)). map pre
 
 -- only memory refuses a standard table
 pub memory_only : (i : ℕ) (lines : List TableLine) (e : DecodeError) → i < 15 → lines ≡ get_or standard_tables i [] → (e ≡ OutOfMemory) ⊎ (table_of lines ≡ Err e) → e ≡ OutOfMemory
-memory_only i lines e h same answer =
+memory_only i lines e h same result =
     let ok : table_of lines ≡ Ok (prefix_code (get_or standard_tables i [])) = ap (λ (xs : List TableLine). table_of xs) same ∙ table-at i h [] in
-    ⊎_elim (λ (m : e ≡ OutOfMemory). m) (λ (r : table_of lines ≡ Err e). absurd (let never : Ok (prefix_code (get_or standard_tables i [])) ≡ Err e = sym ok ∙ r in cc)) answer
+    ⊎_elim (λ (m : e ≡ OutOfMemory). m) (λ (r : table_of lines ≡ Err e). absurd (let never : Ok (prefix_code (get_or standard_tables i [])) ≡ Err e = sym ok ∙ r in cc)) result
 
 pub code-is : (i : ℕ) (lines : List TableLine) (ms : List Member) → i < 15 → lines ≡ get_or standard_tables i [] → table_of lines ≡ Ok ms → ms ≡ prefix_code (get_or standard_tables i [])
-code-is i lines ms h same answer =
+code-is i lines ms h same result =
     let ok : table_of lines ≡ Ok (prefix_code (get_or standard_tables i [])) = ap (λ (xs : List TableLine). table_of xs) same ∙ table-at i h [] in
-    let equal : Ok ms ≡ Ok (prefix_code (get_or standard_tables i [])) = sym answer ∙ ok in
+    let equal : Ok ms ≡ Ok (prefix_code (get_or standard_tables i [])) = sym result ∙ ok in
     same_ok ms (prefix_code (get_or standard_tables i [])) equal
   where
     same_ok : (a b : List Member) → ◌≡◌ {A = Result (List Member) DecodeError} (Ok a) (Ok b) → a ≡ b

@@ -11,11 +11,11 @@ use Rattle.jbig2_coder.specs.inner.CodeParts.{refused, ended}
 use Rattle.jbig2_coder.specs.Tables.{lines_a, line, lower, upper}
 
 -- row 15
-five : decoded_value (prefix_code lines_a) (0 ∷ 0 ∷ 1 ∷ 0 ∷ 1 ∷ []) ≡ record { answer = Ok (Some (pos 5)); taken = 5 }
+five : decoded_value (prefix_code lines_a) (0 ∷ 0 ∷ 1 ∷ 0 ∷ 1 ∷ []) ≡ record { result = Ok (Some (pos 5)); taken = 5 }
 unfolding decoded_value read_code least prefix_code shorter lines_a
 five = refl
 
-nineteen : decoded_value (prefix_code lines_a) (1 ∷ 0 ∷ 0 ∷ 0 ∷ 0 ∷ 0 ∷ 0 ∷ 0 ∷ 1 ∷ 1 ∷ []) ≡ record { answer = Ok (Some (pos 19)); taken = 10 }
+nineteen : decoded_value (prefix_code lines_a) (1 ∷ 0 ∷ 0 ∷ 0 ∷ 0 ∷ 0 ∷ 0 ∷ 0 ∷ 1 ∷ 1 ∷ []) ≡ record { result = Ok (Some (pos 19)); taken = 10 }
 unfolding decoded_value read_code least prefix_code shorter lines_a
 nineteen = refl
 
@@ -24,7 +24,7 @@ three_of_one_bit : table_of (line 1 0 (pos 0) ∷ line 1 0 (pos 1) ∷ line 1 0 
 unfolding is_crowded weight
 three_of_one_bit = refl
 
-second_of_one_bit : decoded_value (prefix_code (line 1 0 (pos 0) ∷ line 1 0 (pos 1) ∷ [])) (1 ∷ []) ≡ record { answer = Ok (Some (pos 1)); taken = 1 }
+second_of_one_bit : decoded_value (prefix_code (line 1 0 (pos 0) ∷ line 1 0 (pos 1) ∷ [])) (1 ∷ []) ≡ record { result = Ok (Some (pos 1)); taken = 1 }
 unfolding decoded_value read_code least prefix_code shorter
 second_of_one_bit = refl
 
@@ -37,7 +37,7 @@ unfolding decoded_value read_code least prefix_code shorter
 no_bits = refl
 
 -- row R5.2
-lower_down : decoded_value (prefix_code (lower 1 (negsuc 0) ∷ upper 1 (pos 0) ∷ [])) (0 ∷ replicate 32 0) ≡ record { answer = Ok (Some (negsuc 0)); taken = 33 }
+lower_down : decoded_value (prefix_code (lower 1 (negsuc 0) ∷ upper 1 (pos 0) ∷ [])) (0 ∷ replicate 32 0) ≡ record { result = Ok (Some (negsuc 0)); taken = 33 }
 unfolding decoded_value read_code least prefix_code shorter
 lower_down = refl
 

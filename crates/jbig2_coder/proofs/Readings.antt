@@ -14,7 +14,7 @@ use Rattle.jbig2_base.specs.Grid.{bit_number}
 use Rattle.jbig2_coder.specs.Coder.{Coder, Context, Decision, Registers, decision, fresh}
 use Rattle.jbig2_coder.specs.Integers.{Reading, Range, value_of_bits, next, read, read_more, prev_of, range, ranges, are_next, next_range, signed, value_of, integer, Ids, id}
 use Rattle.jbig2_coder.specs.inner.Prefixes.{Prefix, prefix, range_of, place_of}
-use Rattle.jbig2_coder.specs.inner.Stands.{Stands, prev_next}
+use Rattle.jbig2_coder.specs.inner.IntegerStates.{HasRead, prev_next}
 
 pub bit_number-same : (a b : Bool) → bit_number a ≡ bit_number b → a ≡ b
 bit_number-same true true h = refl
@@ -147,11 +147,11 @@ read_more-number name n bytes r =
     rw (drop-append-le (length r.bits) s.bits ((next name bytes s).symbol ∷ []) within) (number-push (drop (length r.bits) s.bits) (next name bytes s).symbol)
 
 -- The code's decision is the reading's next one, for the context that the code takes from its place.
-pub Stands-decision : (name : List Bool → ℕ) (start : Counts) (r : Reading) (place : ℕ) (coder : Coder) (contexts : List Context) (steps : Counts) (x : Context)
-    → Stands name start r place coder contexts steps → place < length contexts
+pub HasRead-decision : (name : List Bool → ℕ) (start : Counts) (r : Reading) (place : ℕ) (coder : Coder) (contexts : List Context) (steps : Counts) (x : Context)
+    → HasRead name start r place coder contexts steps → place < length contexts
     → decision coder.bytes coder.registers (get_or contexts place x) ≡ next name coder.bytes r
 unfolding next
-Stands-decision name start r place coder contexts steps x s l =
+HasRead-decision name start r place coder contexts steps x s l =
     let f : get_or contexts place x ≡ get_or r.contexts (name r.bits) fresh =
     get_or_default contexts place x fresh l ∙ (λ i. get_or (s.learned i) (s.named i) fresh) in
     λ i. decision coder.bytes (s.registers i) (f i)
@@ -159,14 +159,14 @@ Stands-decision name start r place coder contexts steps x s l =
 one_more : (n : ℕ) (bits : List Bool) (b : Bool) → n + length bits + 1 ≡ n + length (bits ++ b ∷ [])
 one_more n bits b = omega (arith, length-append bits (b ∷ []))
 
-pub Stands-read : (name : List Bool → ℕ) (start : Counts) (r : Reading) (place : ℕ) (coder : Coder) (contexts : List Context) (steps : Counts)
-    → Stands name start r place coder contexts steps
+pub HasRead-read : (name : List Bool → ℕ) (start : Counts) (r : Reading) (place : ℕ) (coder : Coder) (contexts : List Context) (steps : Counts)
+    → HasRead name start r place coder contexts steps
     → (place' : ℕ) (coder' : Coder) (contexts' : List Context) (steps' : Counts) (d : Decision) → d ≡ next name coder.bytes r
     → place' ≡ name (r.bits ++ d.symbol ∷ []) → coder'.registers ≡ d.registers → contexts' ≡ set contexts place d.context
     → steps' ≡ record steps { decisions = steps.decisions + 1 }
-    → Stands name start (read name coder.bytes r) place' coder' contexts' steps'
+    → HasRead name start (read name coder.bytes r) place' coder' contexts' steps'
 unfolding read
-Stands-read name start r place coder contexts steps s place' coder' contexts' steps' d e named registers learned counted = record {
+HasRead-read name start r place coder contexts steps s place' coder' contexts' steps' d e named registers learned counted = record {
   named = named ∙ ap (λ (v : Decision). name (r.bits ++ v.symbol ∷ [])) e;
   registers = registers ∙ ap (λ (v : Decision). v.registers) e;
   learned = learned ∙ (λ i. set (s.learned i) (s.named i) ((e i).context));
@@ -176,9 +176,9 @@ Stands-read name start r place coder contexts steps s place' coder' contexts' st
       ∙ ap (λ (n : ℕ). let w : Counts = record start { decisions = n } in w) (one_more start.decisions r.bits (next name coder.bytes r).symbol);
 }
 
-pub Stands-bytes : (name : List Bool → ℕ) (start : Counts) (b b' : List ℕ) (r : Reading) (place : ℕ) (coder : Coder) (contexts : List Context) (steps : Counts)
-    → b ≡ b' → Stands name start (read name b r) place coder contexts steps → Stands name start (read name b' r) place coder contexts steps
-Stands-bytes name start b b' r place coder contexts steps e s = subst (λ (v : List ℕ). Stands name start (read name v r) place coder contexts steps) e s
+pub HasRead-bytes : (name : List Bool → ℕ) (start : Counts) (b b' : List ℕ) (r : Reading) (place : ℕ) (coder : Coder) (contexts : List Context) (steps : Counts)
+    → b ≡ b' → HasRead name start (read name b r) place coder contexts steps → HasRead name start (read name b' r) place coder contexts steps
+HasRead-bytes name start b b' r place coder contexts steps e s = subst (λ (v : List ℕ). HasRead name start (read name v r) place coder contexts steps) e s
 
 pub read_more-next : (name : List Bool → ℕ) (n : ℕ) (bytes : List ℕ) (r : Reading) → read name bytes (read_more name n bytes r) ≡ read_more name (n + 1) bytes r
 unfolding read_more
@@ -248,10 +248,10 @@ pub start_of : Registers → List Context → Reading
 start_of registers contexts = record { bits = []; registers = registers; contexts = contexts }
 
 -- before the first bit
-pub Stands-start : (name : List Bool → ℕ) (coder : Coder) (contexts : List Context) (steps : Counts)
-    → Stands name steps (start_of coder.registers contexts) (name []) coder contexts steps
+pub HasRead-start : (name : List Bool → ℕ) (coder : Coder) (contexts : List Context) (steps : Counts)
+    → HasRead name steps (start_of coder.registers contexts) (name []) coder contexts steps
 unfolding start_of
-Stands-start name coder contexts steps = record {
+HasRead-start name coder contexts steps = record {
   named = refl;
   registers = refl;
   learned = refl;
@@ -290,14 +290,14 @@ by_ones r1 r2 r3 r4 r5 true true true true true = refl
 abbrev behind : ℕ → List ℕ → Reading → Reading
 behind n b r = read_more prev_of n b r
 
-behind_ones : (b : List ℕ) (r : Reading) (d0 d1 d2 d3 d4 : Bool)
+after_ones : (b : List ℕ) (r : Reading) (d0 d1 d2 d3 d4 : Bool)
     → read_more prev_of (length (row_by d0 d1 d2 d3 d4).prefix) b r ≡ (prefix_by (behind 1 b r) (behind 2 b r) (behind 3 b r) (behind 4 b r) (behind 5 b r) d0 d1 d2 d3 d4).reading
-behind_ones b r false d1 d2 d3 d4 = refl
-behind_ones b r true false d2 d3 d4 = refl
-behind_ones b r true true false d3 d4 = refl
-behind_ones b r true true true false d4 = refl
-behind_ones b r true true true true false = refl
-behind_ones b r true true true true true = refl
+after_ones b r false d1 d2 d3 d4 = refl
+after_ones b r true false d2 d3 d4 = refl
+after_ones b r true true false d3 d4 = refl
+after_ones b r true true true false d4 = refl
+after_ones b r true true true true false = refl
+after_ones b r true true true true true = refl
 
 -- the first row whose prefix comes next is the one with this many ones
 pub next_range-prefix : (b : List ℕ) (r : Reading) → next_range ranges b r ≡ range_of (prefix 5 0 b r).ones
@@ -317,7 +317,7 @@ next_range-read b r =
     let r2 = read prev_of b r1 in
     let r3 = read prev_of b r2 in
     let r4 = read prev_of b r3 in
-    behind_ones b r (next prev_of b r).symbol (next prev_of b r1).symbol (next prev_of b r2).symbol (next prev_of b r3).symbol (next prev_of b r4).symbol
+    after_ones b r (next prev_of b r).symbol (next prev_of b r1).symbol (next prev_of b r2).symbol (next prev_of b r3).symbol (next prev_of b r4).symbol
 
 pub integer-reading : (b b1 b2 : List ℕ) (registers : Registers) (contexts : List Context) (count ones : ℕ) → b1 ≡ b → b2 ≡ b
     → ones ≡ (prefix 5 0 b1 (read prev_of b (start_of registers contexts))).ones → count ≡ (range_of ones).bits
@@ -351,12 +351,12 @@ pub place_of-is : (bits : List Bool) → place_of bits ≡ 2 ^ length bits + val
 unfolding value_of_bits
 place_of-is bits = omega arith
 
-pub Stands-id : (n : ℕ) (ids : Ids) (coder : Coder) (steps : Counts) (prev : ℕ) (coder' : Coder) (contexts' : List Context) (steps' : Counts) → n ≡ ids.code_len
-    → Stands place_of steps (read_more place_of n coder.bytes (start_of coder.registers ids.contexts)) prev coder' contexts' steps'
-    → Stands place_of steps (id coder.bytes coder.registers ids) prev coder' contexts' steps'
+pub HasRead-id : (n : ℕ) (ids : Ids) (coder : Coder) (steps : Counts) (prev : ℕ) (coder' : Coder) (contexts' : List Context) (steps' : Counts) → n ≡ ids.code_len
+    → HasRead place_of steps (read_more place_of n coder.bytes (start_of coder.registers ids.contexts)) prev coder' contexts' steps'
+    → HasRead place_of steps (id coder.bytes coder.registers ids) prev coder' contexts' steps'
 unfolding id start_of
-Stands-id n ids coder steps prev coder' contexts' steps' e s =
-    subst (λ m. Stands place_of steps (read_more place_of m coder.bytes (start_of coder.registers ids.contexts)) prev coder' contexts' steps') e s
+HasRead-id n ids coder steps prev coder' contexts' steps' e s =
+    subst (λ m. HasRead place_of steps (read_more place_of m coder.bytes (start_of coder.registers ids.contexts)) prev coder' contexts' steps') e s
 
 pub id-length : (bytes : List ℕ) (registers : Registers) (ids : Ids) → length (id bytes registers ids).bits ≡ ids.code_len
 unfolding id

@@ -25,10 +25,10 @@ byte_at bytes place = slice_index_or bytes place 0xFF
 unfoldable pub byte_in : List ℕ → ℕ → ℕ → CodeRegister
 byte_in bytes c place =
     let next = byte_at bytes (place + 1) in
-    let behind_ff : CodeRegister =
+    let after_ff : CodeRegister =
     if nat_lt 0x8F next then record { c = c; ct = 8; place = place }
     else record { c = (c + (2 ^ 32 + 0xFE00 - next * 2 ^ 9)) % 2 ^ 32; ct = 7; place = place + 1 } in
-    if byte_at bytes place == 0xFF then behind_ff
+    if byte_at bytes place == 0xFF then after_ff
     else record { c = (c + (0xFF00 - next * 2 ^ 8)) % 2 ^ 32; ct = 8; place = place + 1 }
 
 unfoldable pub filled : List ℕ → CodeRegister → CodeRegister  -- BYTEIN, but only if no bit is left

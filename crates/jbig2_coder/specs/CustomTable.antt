@@ -3,7 +3,7 @@
 use Rattle.std.specs.Prelude.{◌≡◌, ◌⊎◌, ℕ, zero, suc, ◌+◌, ◌/◌, ◌%◌, ◌^◌, nat_lt, ◌==◌, List, [], ◌∷◌, ◌++◌, length}
 use Rattle.std.specs.Prelude.{All, IfOk, Result, Ok, Err, if◌then◌else◌, ℤ, pos, ◌+ℤ◌, ◌-ℤ◌, int_lt}
 use Rattle.std.specs.Int.{w32, cast_signed}
-use Rattle.jbig2_base.specs.Answer.{◌>>=◌, some_or}
+use Rattle.jbig2_base.specs.Results.{◌>>=◌, some_or}
 use Rattle.jbig2_base.specs.Bits.{Place, bits_left, bits_next, bits_on}
 use Rattle.jbig2_base.specs.declared.error.DecodeError.{DecodeError}
 use Rattle.jbig2_base.specs.declared.error.DecodeError.TheVariants.{Parse, Huffman, OutOfMemory}
@@ -21,9 +21,9 @@ abbrev pub left_at : {A : Type 0} → Place → Result A DecodeError → Step A 
 left_at p (Ok x) = Ok (x, p)
 left_at p (Err e) = Err (e, p)
 
-abbrev pub answer_of : {A : Type 0} → Step A → Result A DecodeError  -- only the result
-answer_of (Ok x) = Ok x.0
-answer_of (Err e) = Err e.0
+abbrev pub result_of : {A : Type 0} → Step A → Result A DecodeError  -- only the result
+result_of (Ok x) = Ok x.0
+result_of (Err e) = Err e.0
 
 abbrev pub field : DecodeError → ℕ → Place → Step ℕ  -- the next count bits as a number, or the error
 field e count p = left_at (bits_on count p) (some_or e (bits_next count (bits_left p)))
@@ -52,14 +52,14 @@ custom_line h low p = do
   next ← left_at range.1 (next_low low range.0)
   Ok ((line len.0 range.0 low, next.0), next.1)
 
-abbrev pub behind : List TableLine → Step (List TableLine) → Step (List TableLine)  -- these lines, then those of a step
-behind before s = s >>= λ lines. Ok (before ++ lines.0, lines.1)
+abbrev pub concat : List TableLine → Step (List TableLine) → Step (List TableLine)  -- these lines, then those of a step
+concat before s = s >>= λ lines. Ok (before ++ lines.0, lines.1)
 
 -- The lines while the low value is below the maximum. Each takes at least two bits: no more come than bits are left.
 abbrev pub range_lines_in : ℕ → Header → ℤ → Place → Step (List TableLine)
 range_lines_in zero h low p = Ok ([], p)
 range_lines_in (suc n) h low p =
-    if int_lt low h.maximum then (custom_line h low p >>= λ x. behind (x.0.0 ∷ []) (range_lines_in n h x.0.1 x.1))
+    if int_lt low h.maximum then (custom_line h low p >>= λ x. concat (x.0.0 ∷ []) (range_lines_in n h x.0.1 x.1))
     else Ok ([], p)
 
 unfoldable pub range_lines : Header → Place → Step (List TableLine)
@@ -69,7 +69,7 @@ abbrev pub end_lines : Header → Place → Step (List TableLine)  -- the lower,
 end_lines h p = do
   below ← field (Huffman InvalidCode) h.prefix_bits p
   above ← field (Huffman InvalidCode) h.prefix_bits below.1
-  behind (lower below.0 (h.minimum -ℤ pos 1) ∷ upper above.0 h.maximum ∷ []) (if h.has_out_of_band
+  concat (lower below.0 (h.minimum -ℤ pos 1) ∷ upper above.0 h.maximum ∷ []) (if h.has_out_of_band
       then (field (Huffman InvalidCode) h.prefix_bits above.1 >>= λ len. Ok (out_of_band len.0 ∷ [], len.1))
       else Ok ([], above.1))
 
@@ -77,7 +77,7 @@ unfoldable pub custom_lines : Place → Step (List TableLine)
 custom_lines p = do
   header ← custom_header p
   ranges ← range_lines header.0 header.1
-  behind ranges.0 (end_lines header.0 ranges.1)
+  concat ranges.0 (end_lines header.0 ranges.1)
 
 unfoldable pub custom_table : Place → Step (List Member)  -- a custom table, from its bits
 custom_table p = do

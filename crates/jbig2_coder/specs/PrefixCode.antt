@@ -5,7 +5,7 @@ use Rattle.std.specs.Prelude.{not, ◌&&◌, ◌||◌, List, [], ◌∷◌, ◌+
 use Rattle.std.specs.Prelude.{None, is_some, Result, Ok, Err, if◌then◌else◌, ℤ, pos, ◌+ℤ◌, ◌-ℤ◌}
 use Rattle.jbig2_base.specs.Bits.{Place, bits_left, bits_next, bits_on, number_after}
 use Rattle.jbig2_base.specs.Search.{place_from}
-use Rattle.jbig2_base.specs.Answer.{◌>>=◌}
+use Rattle.jbig2_base.specs.Results.{◌>>=◌}
 use Rattle.jbig2_base.specs.declared.error.DecodeError.{DecodeError}
 use Rattle.jbig2_base.specs.declared.error.DecodeError.TheVariants.{Parse, Huffman}
 use Rattle.jbig2_base.specs.declared.error.ParseError.TheVariants.{UnexpectedEof}
@@ -19,11 +19,11 @@ Member = record { bits : ℕ; number : ℕ; line : TableLine }
 
 -- The result of a read, and how many bits it takes. If the bits end too early, that is one more than there are.
 abbrev pub CodeReading : Type 0 → Type 0
-CodeReading A = record { answer : Result A DecodeError; taken : ℕ }
+CodeReading A = record { result : Result A DecodeError; taken : ℕ }
 
 -- A call that returns the result of a reading, and leaves the place after the bits that the reading takes.
 pub record Reads {A : Type 0} (old new : Place) (result : Result A DecodeError) (reading : CodeReading A) : Type 0 where
-  pub value : result ≡ reading.answer
+  pub value : result ≡ reading.result
   pub place : new ≡ bits_on reading.taken old
   pub rest : bits_left new ≡ drop reading.taken (bits_left old)
 
@@ -84,9 +84,9 @@ read_code ms bits =
     let found : ℕ → Option TableLine = λ k. line_of ms k (front_number k bits) in
     let is_decided : ℕ → Bool = λ k. is_some (found k) || not (begins_longer ms k (front_number k bits)) in
     let k = place_from is_decided 1 (length bits + 1) in
-    if nat_lt (length bits) k then record { answer = Err (Parse UnexpectedEof); taken = k } else elim (found k) [
-      | Some line ↦ record { answer = Ok line; taken = k }
-      | None ↦ record { answer = Err (Huffman InvalidCode); taken = k }
+    if nat_lt (length bits) k then record { result = Err (Parse UnexpectedEof); taken = k } else elim (found k) [
+      | Some line ↦ record { result = Ok line; taken = k }
+      | None ↦ record { result = Err (Huffman InvalidCode); taken = k }
     ]
 
 abbrev pub in_word : ℤ → Result ℤ DecodeError  -- a number that fits signed 32 bits
@@ -103,11 +103,11 @@ value_by line (Some offset) = in_word (moved line offset) >>= λ n. Ok (Some n)
 unfoldable pub decoded_value : List Member → List ℕ → CodeReading (Option ℤ)
 decoded_value ms bits =
     let code = read_code ms bits in
-    elim code.answer [
+    elim code.result [
       | Ok line ↦ let value = value_by line (bits_next line.range_length (drop code.taken bits)) in
           let behind = if line.is_out_of_band then 0 else line.range_length in
-          record { answer = (if line.is_out_of_band then Ok None else value); taken = code.taken + behind }
-      | Err e ↦ record { answer = Err e; taken = code.taken }
+          record { result = (if line.is_out_of_band then Ok None else value); taken = code.taken + behind }
+      | Err e ↦ record { result = Err e; taken = code.taken }
     ]
 
 abbrev pub no_oob : Result (Option ℤ) DecodeError → Result ℤ DecodeError  -- a value, where none may be out of band
@@ -116,7 +116,7 @@ no_oob (Ok None) = Err (Huffman UnexpectedOob)
 no_oob (Err e) = Err e
 
 abbrev pub without_oob : CodeReading (Option ℤ) → CodeReading ℤ
-without_oob reading = record { answer = no_oob reading.answer; taken = reading.taken }
+without_oob reading = record { result = no_oob reading.result; taken = reading.taken }
 
 abbrev pub AreShort : List TableLine → Type 0  -- one read of bits can take each range length
 AreShort lines = All (λ x. x.range_length ≤ 32) lines

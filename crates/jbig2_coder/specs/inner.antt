@@ -2,8 +2,8 @@ pub mod Ahead
 pub mod CodeParts
 pub mod EncoderViews
 pub mod FirstCodes
+pub mod IntegerStates
 pub mod PrefixLevels
 pub mod Prefixes
-pub mod Stands
 pub mod States
 pub mod TableViews

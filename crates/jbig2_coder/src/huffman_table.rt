@@ -1,6 +1,6 @@
 //! Builds tables of prefix codes, and reads values by them (T.88, Annex B).
 ghost use Rattle.std.specs.Prelude.{◌≡◌, ◌≤◌, ◌^◌, drop, IfOk, Ok};
-ghost use Rattle.jbig2_base.specs.Answer.{Gives};
+ghost use Rattle.jbig2_base.specs.Results.{Gives};
 ghost use Rattle.jbig2_base.specs.Bits.{bits_left};
 ghost use Rattle.jbig2_coder.specs.PrefixCode.{table_of, read_code, decoded_value, without_oob, AreShort, IsFree, Reads};
 ghost use Rattle.jbig2_coder.specs.Tables.{uniform};

@@ -1,12 +1,12 @@
 //! Reads integers that are coded with the arithmetic coder (T.88, A.2).
 
 ghost use Rattle.std.specs.Prelude.{◌≡◌, ◌+◌, ◌*◌, ◌^◌, ◌<◌, ◌≤◌, Bool, length, drop, replicate, Ok};
-ghost use Rattle.jbig2_base.specs.Answer.{Gives};
+ghost use Rattle.jbig2_base.specs.Results.{Gives};
 ghost use Rattle.jbig2_base.specs.Grid.{bit_number};
 ghost use Rattle.jbig2_coder.specs.Coder.{fresh};
 ghost use Rattle.jbig2_coder.specs.Integers.{value_of_bits, next, read, read_more, prev_of, value_of, integer};
 ghost use Rattle.jbig2_coder.specs.inner.Prefixes.{prefix, range_of};
-ghost use Rattle.jbig2_coder.specs.inner.Stands.{GoesOn, Tells, prev_next};
+ghost use Rattle.jbig2_coder.specs.inner.IntegerStates.{GoesOn, IfRead, prev_next};
 
 use crate::arithmetic_decoder::{ArithmeticDecoder, ArithmeticDecoderContext};
 use jbig2_base::bitmap::steps::Steps;
@@ -125,7 +125,7 @@ fn read_bit<L: Ledger>(
     ensures below { prev.new < 512 }
     ensures bytes { decoder.new.bytes ≡ decoder.old.bytes }
     ensures digit { result < 2 }
-    ensures bit { Tells (λ r. result ≡ bit_number (next prev_of decoder.old.bytes r).symbol)
+    ensures bit { IfRead (λ r. result ≡ bit_number (next prev_of decoder.old.bytes r).symbol)
         prev.old decoder.old contexts.old steps.old }
     ensures reads { GoesOn (λ r. read prev_of decoder.old.bytes r)
         prev.old decoder.old contexts.old steps.old
@@ -147,7 +147,7 @@ fn read_prefix<L: Ledger>(
     requires below { prev.old < 512 }
     ensures below { prev.new < 512 }
     ensures bytes { decoder.new.bytes ≡ decoder.old.bytes }
-    ensures ones { Tells (λ r. result ≡ (prefix 5 0 decoder.old.bytes r).ones)
+    ensures ones { IfRead (λ r. result ≡ (prefix 5 0 decoder.old.bytes r).ones)
         prev.old decoder.old contexts.old steps.old }
     ensures reads { GoesOn (λ r. (prefix 5 0 decoder.old.bytes r).reading)
         prev.old decoder.old contexts.old steps.old
@@ -173,7 +173,7 @@ fn read_bits<L: Ledger>(
     requires size { length contexts.old ≡ 512 }
     requires below { prev.old < 512 }
     ensures bytes { decoder.new.bytes ≡ decoder.old.bytes }
-    ensures value { Tells (λ r. result
+    ensures value { IfRead (λ r. result
         ≡ value_of_bits (drop (length r.bits) (read_more prev_of count decoder.old.bytes r).bits))
         prev.old decoder.old contexts.old steps.old }
     ensures reads { GoesOn (λ r. read_more prev_of count decoder.old.bytes r)

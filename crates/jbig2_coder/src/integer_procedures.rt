@@ -1,7 +1,7 @@
 //! The integer procedures of text regions and symbol dictionaries, which share a coder (T.88, A.2).
 
 ghost use Rattle.std.specs.Prelude.{◌≡◌, ◌+◌, ◌<◌, length, Ok};
-ghost use Rattle.jbig2_base.specs.Answer.{Gives};
+ghost use Rattle.jbig2_base.specs.Results.{Gives};
 ghost use Rattle.jbig2_coder.specs.Integers.{asked, asked_integer, fresh_procedures, index_of};
 
 use crate::arithmetic_decoder::ArithmeticDecoder;

@@ -1,7 +1,7 @@
 //! Writes and reads whole lists of decisions by the arithmetic coder (T.88, Annexes E and G).
 
 ghost use Rattle.std.specs.Prelude.{◌≡◌, ◌+◌, length, vec_len, IfOk, IfErr, OnOk, Ok};
-ghost use Rattle.jbig2_base.specs.Answer.{Gives};
+ghost use Rattle.jbig2_base.specs.Results.{Gives};
 ghost use Rattle.jbig2_base.specs.declared.error.DecodeError.TheVariants.{OutOfMemory};
 ghost use Rattle.jbig2_coder.specs.Encoder.{encoded, read_back, DecodesBack};
 ghost use Rattle.jbig2_coder.specs.inner.EncoderViews.{contexts_of, all_fresh};

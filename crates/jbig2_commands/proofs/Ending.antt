@@ -4,14 +4,14 @@ use Rattle.std.proofs.KnownBytes.{Appends-kept, Appends-trans, Keeps-refl}
 use Rattle.std.specs.Io.KnownBytes.{Appends, Keeps}
 use Rattle.std.specs.List.{flat_map}
 use Rattle.std.specs.Prelude.{IfErr, IsTrue}
-use Rattle.jbig2_base.specs.Answer.{◌>>=◌}
+use Rattle.jbig2_base.specs.Results.{◌>>=◌}
 use Rattle.jbig2_base.specs.Reading.{reading_of}
 use Rattle.jbig2_base.specs.declared.error.DecodeError.{DecodeError}
 use Rattle.jbig2_base.specs.declared.error.DecodeError.TheVariants.{OutOfMemory}
 use Rattle.hayro_jbig2.specs.Files.{ReadFile, book_at, pages_of}
 use Rattle.hayro_jbig2.specs.Image.{packed_of_page}
 use Rattle.hayro_jbig2.specs.Page.{ReadPage, grid_of_page}
-use Rattle.jbig2_commands.specs.Printed.{bitmap_head, bitmap_text, calls_text, of_file, or_fault, page_line, page_named, printed, Ends, Prints}
+use Rattle.jbig2_commands.specs.Printed.{bitmap_head, bitmap_text, calls_text, of_file, or_fault, page_line, page_at_index, printed, Ends, Prints}
 use Rattle.jbig2_commands.specs.Words.{Task, Pages, Calls, Pbm}
 use Rattle.jbig2_commands.specs.declared.fault.Fault.{Fault}
 use Rattle.jbig2_commands.specs.declared.fault.Fault.TheVariants.{Decode, Unreadable, Unwritable}
@@ -53,10 +53,10 @@ drawn_whole page head rows b r k k1 k2 k3 is head_is first more b_is kept fault 
 abbrev Text : Type 0
 Text = ReadPage → Result (List ℕ) DecodeError
 
-text_of : (text : Text) (index : List ℕ) (meant : Result ReadFile DecodeError) (book : ReadFile) (page : ReadPage) → meant ≡ Ok book → page_named index book ≡ Ok page → of_file text index meant ≡ or_fault (text page)
+text_of : (text : Text) (index : List ℕ) (meant : Result ReadFile DecodeError) (book : ReadFile) (page : ReadPage) → meant ≡ Ok book → page_at_index index book ≡ Ok page → of_file text index meant ≡ or_fault (text page)
 text_of text index meant book page is named = ap (λ (m : Result ReadFile DecodeError). of_file text index m) is ∙ ap (λ (m : Result ReadPage Fault). m >>= λ found. or_fault (text found)) named
 
-no_text : (text : Text) (index : List ℕ) (meant : Result ReadFile DecodeError) (book : ReadFile) (fault : Fault) → meant ≡ Ok book → page_named index book ≡ Err fault → of_file text index meant ≡ Err fault
+no_text : (text : Text) (index : List ℕ) (meant : Result ReadFile DecodeError) (book : ReadFile) (fault : Fault) → meant ≡ Ok book → page_at_index index book ≡ Err fault → of_file text index meant ≡ Err fault
 no_text text index meant book fault is named = ap (λ (m : Result ReadFile DecodeError). of_file text index m) is ∙ ap (λ (m : Result ReadPage Fault). m >>= λ found. or_fault (text found)) named
 
 module _ (strict : Bool) (task : Task) (index bytes : List ℕ) (book : ReadFile) (r : Result (Unit {0}) Fault) (k k' : Option (List ℕ)) where
@@ -65,19 +65,19 @@ module _ (strict : Bool) (task : Task) (index bytes : List ℕ) (book : ReadFile
       (sym (ap (λ (u : Task). printed strict u bytes) t ∙ ap (λ (m : Result ReadFile DecodeError). or_fault (m >>= λ b. Ok (flat_map page_line (pages_of b)))) is))
       shown
 
-  pub calls_printed : (page : ReadPage) → task ≡ Calls index → book_at (reading_of strict) bytes ≡ Ok book → page_named index book ≡ Ok page → Prints (or_fault (calls_text (grid_of_page page))) r k k' → Prints (printed strict task bytes) r k k'
+  pub calls_printed : (page : ReadPage) → task ≡ Calls index → book_at (reading_of strict) bytes ≡ Ok book → page_at_index index book ≡ Ok page → Prints (or_fault (calls_text (grid_of_page page))) r k k' → Prints (printed strict task bytes) r k k'
   calls_printed page t is named shown =
       subst (λ (m : Result (List ℕ) Fault). Prints m r k k') (sym (ap (λ (u : Task). printed strict u bytes) t ∙ text_of (λ p. calls_text (grid_of_page p)) index (book_at (reading_of strict) bytes) book page is named)) shown
 
-  pub bitmap_printed : (page : ReadPage) → task ≡ Pbm index → book_at (reading_of strict) bytes ≡ Ok book → page_named index book ≡ Ok page → Prints (or_fault (bitmap_text page)) r k k' → Prints (printed strict task bytes) r k k'
+  pub bitmap_printed : (page : ReadPage) → task ≡ Pbm index → book_at (reading_of strict) bytes ≡ Ok book → page_at_index index book ≡ Ok page → Prints (or_fault (bitmap_text page)) r k k' → Prints (printed strict task bytes) r k k'
   bitmap_printed page t is named shown =
       subst (λ (m : Result (List ℕ) Fault). Prints m r k k') (sym (ap (λ (u : Task). printed strict u bytes) t ∙ text_of (λ p. bitmap_text p) index (book_at (reading_of strict) bytes) book page is named)) shown
 
 module _ (strict : Bool) (task : Task) (index bytes : List ℕ) (book : ReadFile) (fault : Fault) (k : Option (List ℕ)) where
-  pub calls_unnamed : task ≡ Calls index → book_at (reading_of strict) bytes ≡ Ok book → page_named index book ≡ Err fault → Prints (printed strict task bytes) (Err fault) k k
+  pub calls_unnamed : task ≡ Calls index → book_at (reading_of strict) bytes ≡ Ok book → page_at_index index book ≡ Err fault → Prints (printed strict task bytes) (Err fault) k k
   calls_unnamed t is named =
       unprinted (printed strict task bytes) fault k (inr (ap (λ (u : Task). printed strict u bytes) t ∙ no_text (λ p. calls_text (grid_of_page p)) index (book_at (reading_of strict) bytes) book fault is named))
 
-  pub bitmap_unnamed : task ≡ Pbm index → book_at (reading_of strict) bytes ≡ Ok book → page_named index book ≡ Err fault → Prints (printed strict task bytes) (Err fault) k k
+  pub bitmap_unnamed : task ≡ Pbm index → book_at (reading_of strict) bytes ≡ Ok book → page_at_index index book ≡ Err fault → Prints (printed strict task bytes) (Err fault) k k
   bitmap_unnamed t is named =
       unprinted (printed strict task bytes) fault k (inr (ap (λ (u : Task). printed strict u bytes) t ∙ no_text (λ p. bitmap_text p) index (book_at (reading_of strict) bytes) book fault is named))

@@ -7,7 +7,7 @@ use Rattle.std.specs.Result.{OkIff}
 use Rattle.std.specs.Str.Parse.{AllDigits, IsNumeral, ParsesUnsigned, digits_value}
 use Rattle.hayro_jbig2.specs.Files.{PageInFile, ReadFile, page_in, page_of}
 use Rattle.hayro_jbig2.specs.Page.{ReadPage}
-use Rattle.jbig2_commands.specs.Printed.{page_named}
+use Rattle.jbig2_commands.specs.Printed.{page_at_index}
 use Rattle.jbig2_commands.specs.declared.fault.Fault.TheVariants.{NoSuchPage}
 
 own : IsNumeralModel (AllDigits 10) (digits_value 10)
@@ -34,8 +34,8 @@ unparsed index book r e n named h is count fits =
     let beyond : length book.pages ≤ digits_value 10 index = omega (arith, count, fits, large) in
     ap (λ (o : Option PageInFile). option_map (page_in book) o) (slice_get_past book.pages n past ∙ sym (slice_get_past book.pages (digits_value 10 index) beyond))
 
-pub names_page : (index : List ℕ) (book : ReadFile) (n : ℕ) (page : ReadPage) → page_of book n ≡ page_of book (digits_value 10 index) → Some page ≡ page_of book n → page_named index book ≡ Ok page
+pub names_page : (index : List ℕ) (book : ReadFile) (n : ℕ) (page : ReadPage) → page_of book n ≡ page_of book (digits_value 10 index) → Some page ≡ page_of book n → page_at_index index book ≡ Ok page
 names_page index book n page same is = ap (λ (o : Option ReadPage). ok_or o NoSuchPage) (sym (is ∙ same))
 
-pub names_none : (index : List ℕ) (book : ReadFile) (n : ℕ) → page_of book n ≡ page_of book (digits_value 10 index) → None ≡ page_of book n → page_named index book ≡ Err NoSuchPage
+pub names_none : (index : List ℕ) (book : ReadFile) (n : ℕ) → page_of book n ≡ page_of book (digits_value 10 index) → None ≡ page_of book n → page_at_index index book ≡ Err NoSuchPage
 names_none index book n same is = ap (λ (o : Option ReadPage). ok_or o NoSuchPage) (sym (is ∙ same))

@@ -52,8 +52,8 @@ page_cases true false true index t n e = subst HasIndex (some_task (Pbm index) t
 page_cases true false false index t n e = absurd (no_task t e)
 page_cases false c p index t n e = absurd (no_task t e)
 
-page_named : (command index : List ℕ) (t : Task) → page_task command index ≡ Some t → HasIndex t
-page_named command index t e = page_cases (is_index index) (is_calls command) (is_pbm command) index t (numeral index) e
+page_at_index : (command index : List ℕ) (t : Task) → page_task command index ≡ Some t → HasIndex t
+page_at_index command index t e = page_cases (is_index index) (is_calls command) (is_pbm command) index t (numeral index) e
 
 -- the task beside a file
 beside : (o : Option Task) (file : List ℕ) (t : Task × List ℕ) → ((u : Task) → o ≡ Some u → HasIndex u) → option_map (λ task. (task, file)) o ≡ Some t → HasIndex t.0
@@ -64,7 +64,7 @@ task_named : (words : List (List ℕ)) (t : Task × List ℕ) → task_of words 
 task_named [] t e = absurd (let never : (let o : Option (Task × List ℕ) = None in o) ≡ Some t = e in cc)
 task_named (command ∷ []) t e = absurd (let never : (let o : Option (Task × List ℕ) = None in o) ≡ Some t = e in cc)
 task_named (command ∷ file ∷ []) t e = beside (whole_task command) file t (whole_named command) e
-task_named (command ∷ file ∷ index ∷ []) t e = beside (page_task command index) file t (page_named command index) e
+task_named (command ∷ file ∷ index ∷ []) t e = beside (page_task command index) file t (page_at_index command index) e
 task_named (command ∷ file ∷ index ∷ more ∷ others) t e = absurd (let never : (let o : Option (Task × List ℕ) = None in o) ≡ Some t = e in cc)
 
 with_mode : (strict : Bool) (o : Option (Task × List ℕ)) (r : Bool × Task × List ℕ) → ((t : Task × List ℕ) → o ≡ Some t → HasIndex t.0) → option_map (λ (t : Task × List ℕ). (strict, t.0, t.1)) o ≡ Some r → HasIndex r.1

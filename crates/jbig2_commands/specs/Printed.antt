@@ -6,7 +6,7 @@ use Rattle.std.specs.Fmt.{decimal}
 use Rattle.std.specs.Io.KnownBytes.{Appends, Keeps}
 use Rattle.std.specs.List.{flat_map}
 use Rattle.std.specs.Str.Parse.{digits_value}
-use Rattle.jbig2_base.specs.Answer.{◌>>=◌}
+use Rattle.jbig2_base.specs.Results.{◌>>=◌}
 use Rattle.jbig2_base.specs.ErrorTexts.{error_text}
 use Rattle.jbig2_base.specs.Grid.{Grid}
 use Rattle.jbig2_base.specs.Reading.{reading_of}
@@ -47,12 +47,12 @@ abbrev pub or_fault : {A : Type 0} → Result A DecodeError → Result A Fault
 or_fault (Ok x) = Ok x
 or_fault (Err e) = Err (Decode e)
 
-abbrev pub page_named : List ℕ → ReadFile → Result ReadPage Fault  -- the page that decimal digits name
-page_named index book = ok_or (page_of book (digits_value 10 index)) NoSuchPage
+abbrev pub page_at_index : List ℕ → ReadFile → Result ReadPage Fault  -- the page that decimal digits name
+page_at_index index book = ok_or (page_of book (digits_value 10 index)) NoSuchPage
 
 -- what is printed for the page at this index
 abbrev pub of_file : (ReadPage → Result (List ℕ) DecodeError) → List ℕ → Result ReadFile DecodeError → Result (List ℕ) Fault
-of_file text index file = or_fault file >>= λ book. page_named index book >>= λ page. or_fault (text page)
+of_file text index file = or_fault file >>= λ book. page_at_index index book >>= λ page. or_fault (text page)
 
 -- What is printed for a file's bytes, or why nothing is.
 abbrev pub printed : Bool → Task → List ℕ → Result (List ℕ) Fault
@@ -88,22 +88,22 @@ usage_line = codes "usage: jbig2-decode [--strict] pages|embedded FILE | calls|p
 abbrev pub fault_line : Fault → List ℕ
 fault_line fault = codes "error: " ++ fault_text fault ++ codes "\n"
 
-abbrev pub told_line : Result (Unit {0}) Fault → List ℕ  -- nothing after success, and nothing after a failing output
-told_line (Ok u) = []
-told_line (Err Unwritable) = []
-told_line (Err fault) = fault_line fault
+abbrev pub error_line : Result (Unit {0}) Fault → List ℕ  -- nothing after success, and nothing after a failing output
+error_line (Ok u) = []
+error_line (Err Unwritable) = []
+error_line (Err fault) = fault_line fault
 
 abbrev pub status_of : Result (Unit {0}) Fault → ℕ
 status_of (Ok u) = 0
 status_of (Err fault) = 1
 
 -- The line was added to standard error, unless that failed. An empty line adds nothing.
-abbrev pub Told : Bool → List ℕ → Option (List ℕ) → Option (List ℕ) → Type 0
-Told told [] old new = (told ≡ true) × Keeps old new
-Told told line old new = IsTrue told → Appends old new line
+abbrev pub WritesLine : Bool → List ℕ → Option (List ℕ) → Option (List ℕ) → Type 0
+WritesLine told [] old new = (told ≡ true) × Keeps old new
+WritesLine told line old new = IsTrue told → Appends old new line
 
 -- A whole run: its status, what is added to the output, and what is written to standard error.
 abbrev pub RunEnds : Option (Bool × Task × List ℕ) → Option (Option (List ℕ)) → ℕ → Bool → Option (List ℕ) → Option (List ℕ) → Option (List ℕ) → Option (List ℕ) → Type 0
-RunEnds None file status told out out' err err' = (status ≡ 2) × Told told usage_line err err' × Keeps out out'
+RunEnds None file status told out out' err err' = (status ≡ 2) × WritesLine told usage_line err err' × Keeps out out'
 RunEnds (Some request) file status told out out' err err' =
-    (result : Result (Unit {0}) Fault) × Ends request.0 request.1 file result out out' × (status ≡ status_of result) × Told told (told_line result) err err'
+    (result : Result (Unit {0}) Fault) × Ends request.0 request.1 file result out out' × (status ≡ status_of result) × WritesLine told (error_line result) err err'

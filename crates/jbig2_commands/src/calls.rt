@@ -1,7 +1,7 @@
 //! Prints the calls of a page.
 ghost use Rattle.std.specs.Prelude.{◌≡◌, is_some, IfSome};
 ghost use Rattle.hayro_jbig2.specs.Page.{grid_of_page};
-ghost use Rattle.jbig2_commands.specs.inner.Printing.{told, whose, Tells};
+ghost use Rattle.jbig2_commands.specs.inner.Printing.{data_of, output_id, Adds};
 ghost use Rattle.jbig2_commands.specs.Printed.{calls_text, or_fault, Prints};
 
 use crate::fault::Fault;
@@ -48,10 +48,10 @@ fn decode_to<'o, A: Allocator + Clone, O: Write, K: Telling>(
     output: Output<'o, O, A>,
     line: Vec<u8, A>,
 ) -> (Output<'o, O, A>, Option<Result<(), DecodeError>>)
-    requires { K.is_told ≡ is_some (told O.contents output) }
-    ensures same { whose result.0 ≡ whose output.entry }
-    ensures lines { IfSome result.1 (λ decoded. Tells (calls_text (grid_of_page page.now)) decoded
-        (told O.contents output.entry) (told O.contents result.0)) }
+    requires { K.is_told ≡ is_some (data_of O.contents output) }
+    ensures same { output_id result.0 ≡ output_id output.entry }
+    ensures lines { IfSome result.1 (λ decoded. Adds (calls_text (grid_of_page page.now)) decoded
+        (data_of O.contents output.entry) (data_of O.contents result.0)) }
 {
     let mut printer = Printer::<O, A, K>::new(output, line);
     let decoded = page.decode(&mut printer);

@@ -1,7 +1,7 @@
 //! How runs end: their status, and what is written to standard error.
 ghost use Rattle.std.specs.Prelude.{◌≡◌, Ok, Err, if◌then◌else◌};
 ghost use Rattle.jbig2_base.specs.declared.error.DecodeError.TheVariants.{OutOfMemory};
-ghost use Rattle.jbig2_commands.specs.Printed.{Told, fault_line, status_of, told_line, usage_line};
+ghost use Rattle.jbig2_commands.specs.Printed.{WritesLine, fault_line, status_of, error_line, usage_line};
 ghost use Rattle.jbig2_commands.specs.declared.fault.Fault.TheVariants.{Decode};
 
 use crate::fault::Fault;
@@ -23,7 +23,7 @@ impl Ended {
     /// The end where the words are not those of a run: writes the usage to standard error.
     pub fn refused<E: Write>(err: &mut E) -> Ended
         ensures status { result.status ≡ 2 }
-        ensures told { Told result.told usage_line (E.contents err.old) (E.contents err.new) }
+        ensures told { WritesLine result.told usage_line (E.contents err.old) (E.contents err.new) }
     {
         let told = writeln!(err, "{USAGE}").is_ok();
         Ended { status: 2, told }
@@ -32,7 +32,7 @@ impl Ended {
     /// The end of a run that could not get its words: memory ran out, or they are no text.
     pub fn unstarted<E: Write>(refused: bool, err: &mut E) -> Ended
         ensures status { result.status ≡ if refused then 1 else 2 }
-        ensures told { Told result.told
+        ensures told { WritesLine result.told
             (if refused then fault_line (Decode OutOfMemory) else usage_line)
             (E.contents err.old) (E.contents err.new) }
     {
@@ -45,7 +45,7 @@ impl Ended {
     /// The end of a run with this result: writes its fault to standard error.
     pub fn of<E: Write>(ended: Result<(), Fault>, err: &mut E) -> Ended
         ensures status { result.status ≡ status_of ended }
-        ensures told { Told result.told (told_line ended) (E.contents err.old) (E.contents err.new) }
+        ensures told { WritesLine result.told (error_line ended) (E.contents err.old) (E.contents err.new) }
     {
         match ended {
             Ok(()) => Ended {

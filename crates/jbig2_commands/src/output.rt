@@ -1,7 +1,7 @@
 //! An output with a buffer.
 ghost use Rattle.std.specs.Prelude.{◌≡◌, ◌≤◌, [], IsTrue, IfErr, length, take};
 ghost use Rattle.std.specs.Io.KnownBytes.{Appends, Keeps};
-ghost use Rattle.jbig2_commands.specs.inner.Printing.{told, whose, Pushes};
+ghost use Rattle.jbig2_commands.specs.inner.Printing.{data_of, output_id, Pushes};
 
 use crate::fault::Fault;
 use std::alloc::Allocator;
@@ -43,7 +43,7 @@ fn send<O: Write>(out: &mut O, bytes: &[u8]) -> usize
 
 impl<'o, O: Write, A: Allocator> Output<'o, O, A> {
     pub fn new(held: Vec<u8, A>, out: &'o mut O) -> Output<'o, O, A>
-        ensures same { whose result ≡ out.entry.ghost_name }
+        ensures same { output_id result ≡ out.entry.ghost_name }
         ensures now { result.out.now ≡ out.entry.now }
         ensures held { result.held.items ≡ held.items }
     {
@@ -52,7 +52,7 @@ impl<'o, O: Write, A: Allocator> Output<'o, O, A> {
 
     /// The output. Bytes that are not yet written are dropped.
     pub fn into_inner(self) -> &'o mut O
-        ensures same { result.ghost_name ≡ whose self.entry }
+        ensures same { result.ghost_name ≡ output_id self.entry }
         ensures now { result.now ≡ self.entry.out.now }
     {
         let Output { out, held: _ } = self;
@@ -61,8 +61,8 @@ impl<'o, O: Write, A: Allocator> Output<'o, O, A> {
 
     /// Writes the bytes that are held. Returns whether all could be written; the rest stays.
     pub fn write_held(&mut self) -> bool
-        ensures same { whose self.new ≡ whose self.old }
-        ensures bytes { Keeps (told O.contents self.old) (told O.contents self.new) }
+        ensures same { output_id self.new ≡ output_id self.old }
+        ensures bytes { Keeps (data_of O.contents self.old) (data_of O.contents self.new) }
         ensures empty { IsTrue result → self.new.held.items ≡ [] }
     {
         let sent = send(self.out, &self.held);
@@ -74,8 +74,8 @@ impl<'o, O: Write, A: Allocator> Output<'o, O, A> {
 
     /// Adds bytes. Returns whether it did; else nothing changes.
     pub fn push(&mut self, bytes: &[u8]) -> bool
-        ensures same { whose self.new ≡ whose self.old }
-        ensures taken { Pushes result (told O.contents self.old) (told O.contents self.new)
+        ensures same { output_id self.new ≡ output_id self.old }
+        ensures taken { Pushes result (data_of O.contents self.old) (data_of O.contents self.new)
             bytes.now }
     {
         if self.held.len() >= GATHERED && !self.write_held() {

@@ -4,7 +4,7 @@ ghost use Rattle.std.specs.Borrow.{GName};
 ghost use Rattle.std.specs.Io.KnownBytes.{append_known};
 ghost use Rattle.jbig2_base.specs.declared.error.DecodeError.TheVariants.{Unsupported};
 ghost use Rattle.hayro_jbig2.specs.Calls.{Pixel, Chunk, Line};
-ghost use Rattle.jbig2_commands.specs.inner.Printing.{told, whose, Pushes, known_if, refusals_if};
+ghost use Rattle.jbig2_commands.specs.inner.Printing.{data_of, output_id, Pushes, known_if, refusals_if};
 ghost use Rattle.jbig2_commands.specs.Printed.{call_line};
 
 use crate::output::Output;
@@ -77,10 +77,10 @@ impl<'o, O: Write, A: Allocator, K: Telling> Printer<'o, O, A, K> {
     }
 
     fn push_chunk_line(&mut self, black: bool, chunk_count: u32) -> bool
-        ensures same { whose self.new.output ≡ whose self.old.output }
+        ensures same { output_id self.new.output ≡ output_id self.old.output }
         ensures refusals { self.new.refusals ≡ self.old.refusals }
-        ensures taken { Pushes result (told O.contents self.old.output)
-            (told O.contents self.new.output) (call_line (Chunk black chunk_count)) }
+        ensures taken { Pushes result (data_of O.contents self.old.output)
+            (data_of O.contents self.new.output) (call_line (Chunk black chunk_count)) }
     {
         self.line.clear();
         let is_made = writeln!(self.line, "push_pixel_chunk {black} {chunk_count}").is_ok();
@@ -91,10 +91,10 @@ impl<'o, O: Write, A: Allocator, K: Telling> Printer<'o, O, A, K> {
 impl<O: Write, A: Allocator, K: Telling> Decoder for Printer<'_, O, A, K> {
     ghost conduct = { record {
       Picture = GName × Option (List ℕ);
-      picture = λ p. (whose p.output, known_if K.is_told (told O.contents p.output));
+      picture = λ p. (output_id p.output, known_if K.is_told (data_of O.contents p.output));
       step = λ p call. (p.0, append_known p.1 (call_line call));
       refuses = λ _ _ error. error ≡ Unsupported;
-      refusals = λ p. refusals_if K.is_told (told O.contents p.output) p.refusals.count;
+      refusals = λ p. refusals_if K.is_told (data_of O.contents p.output) p.refusals.count;
     } };
 
     fn push_pixel(&mut self, black: bool) -> Result<()> {

@@ -1,7 +1,7 @@
 //! The runs of the program.
 ghost use Rattle.std.specs.Prelude.{◌≡◌, ◌↔◌, ◌⊎◌, Bool, map, option_map, IsNone, IfSome, Ok, Err, IfOk, IfErr, OnOk};
 ghost use Rattle.std.specs.Str.Parse.{IsNumeral};
-ghost use Rattle.jbig2_commands.specs.Printed.{page_named, printed, Ends, Prints, RunEnds};
+ghost use Rattle.jbig2_commands.specs.Printed.{page_at_index, printed, Ends, Prints, RunEnds};
 ghost use Rattle.jbig2_commands.specs.inner.RequestViews.{HasIndex, task_view};
 ghost use Rattle.jbig2_commands.specs.Words.{request_of};
 
@@ -53,11 +53,11 @@ pub fn run_reported<A: Allocator + Clone, R: Read, O: Write, E: Write>(
     let Some(request) = Request::of_words(words) else {
         return Ended::refused(err);
     };
-    let ended = answer(alloc, request, file, out);
+    let ended = run_task(alloc, request, file, out);
     Ended::of(ended, err)
 }
 
-fn answer<A: Allocator + Clone, R: Read, O: Write>(
+fn run_task<A: Allocator + Clone, R: Read, O: Write>(
     alloc: A,
     request: Request<'_>,
     file: Option<&mut R>,
@@ -78,7 +78,7 @@ fn answer<A: Allocator + Clone, R: Read, O: Write>(
         Ok(bytes) => bytes,
         Err(fault) => return Err(fault),
     };
-    answer_bytes(alloc, &bytes, request, out)
+    print_task(alloc, &bytes, request, out)
 }
 
 /// All bytes of a reader.
@@ -95,7 +95,7 @@ fn bytes_of<A: Allocator, R: Read>(alloc: A, reader: &mut R) -> Result<Vec<u8, A
     }
 }
 
-fn answer_bytes<A: Allocator + Clone, O: Write>(
+fn print_task<A: Allocator + Clone, O: Write>(
     alloc: A,
     bytes: &[u8],
     request: Request<'_>,
@@ -131,8 +131,8 @@ fn answer_bytes<A: Allocator + Clone, O: Write>(
 /// The page that decimal digits name.
 fn page_at<'f, A: Allocator>(file: &'f File<'_, A>, index: &str) -> Result<Page<'f, A>, Fault>
     requires { IsNumeral 10 index.now }
-    ensures page { IfOk result (λ page. page_named index.now file.now ≡ Ok page) }
-    ensures fault { IfErr result (λ fault. page_named index.now file.now ≡ Err fault) }
+    ensures page { IfOk result (λ page. page_at_index index.now file.now ≡ Ok page) }
+    ensures fault { IfErr result (λ fault. page_at_index index.now file.now ≡ Err fault) }
 {
     let index = match index.parse::<usize>() {
         Ok(index) => index,

@@ -5,7 +5,7 @@ use Rattle.jbig2_base.proofs.Answered.{Answered, answered-if, answered-next, ans
 use Rattle.jbig2_mmr.proofs.Answered.{answered-mmr}
 use Rattle.jbig2_region.proofs.Answered.{answered-region_info}
 use Rattle.jbig2_halftone.specs.GrayScale.{GrayScale, gray_scale_image, mmr_plane, mmr_planes}
-use Rattle.jbig2_halftone.specs.Halftone.{cells_drawn, halftone_answer, halftone_decoded, pattern_for}
+use Rattle.jbig2_halftone.specs.Halftone.{cells_drawn, halftone_result, halftone_decoded, pattern_for}
 use Rattle.jbig2_halftone.specs.HalftoneHeader.{HalftoneHeader, halftone_flags_at, halftone_grid_at, halftone_header_at}
 use Rattle.jbig2_halftone.specs.PatternHeader.{PatternHeader, pattern_header_at, side_at}
 use Rattle.jbig2_halftone.specs.Patterns.{Patterns, patterns_decoded}
@@ -61,8 +61,8 @@ answered-cells h d k (value ∷ values) region =
     let others : (g : Grid) → Answered (cells_drawn h d (k + 1) values g) = λ g. answered-cells h d (k + 1) values g in
     search (answered-next, answered-pattern, others)
 
-answered-halftone_grid : (h : HalftoneHeader) (d : Patterns) → Answered (halftone_answer h d)
-unfolding halftone_answer
+answered-halftone_grid : (h : HalftoneHeader) (d : Patterns) → Answered (halftone_result h d)
+unfolding halftone_result
 answered-halftone_grid h d = search (answered-next, answered-image, answered-cells)
 
 pub answered-halftone : (h : HalftoneHeader) (d : Patterns) → Answered (halftone_decoded h d)

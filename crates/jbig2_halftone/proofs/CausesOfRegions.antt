@@ -4,7 +4,7 @@ use Rattle.std.specs.Prelude.{IfErr}
 use Rattle.std.specs.List.{range_with_len}
 use Rattle.std.proofs.lemmas.Bool.{and_parts, ltb-true, ltb-false, not-true, or_cases}
 use Rattle.std.proofs.lemmas.Nat.{mod_below, row-Below}
-use Rattle.jbig2_base.specs.Answer.{refuse_if}
+use Rattle.jbig2_base.specs.Results.{refuse_if}
 use Rattle.jbig2_base.specs.Grid.{Grid}
 use Rattle.jbig2_base.specs.declared.error.DecodeError.{DecodeError}
 use Rattle.jbig2_base.specs.declared.error.DecodeError.TheVariants.{OutOfMemory, Overflow, Region}
@@ -12,14 +12,14 @@ use Rattle.jbig2_base.specs.declared.error.OverflowError.TheVariants.{BitmapDime
 use Rattle.jbig2_base.specs.declared.error.RegionError.TheVariants.{GrayScaleOutOfRange, InvalidMmrData}
 use Rattle.jbig2_base.proofs.Causes.{cause-next}
 use Rattle.jbig2_mmr.specs.T6.{Decoded, mmr_rows, rows_of}
-use Rattle.jbig2_region.specs.Generic.{generic_answer}
+use Rattle.jbig2_region.specs.Generic.{generic_result}
 use Rattle.jbig2_halftone.specs.Causes.{BreaksGrayScale, BreaksHalftone, BreaksPatterns, plane_start}
 use Rattle.jbig2_halftone.specs.GrayScale.{GrayScale, gray_scale_image, gray_value, gray_values, image_is_too_large, mmr_plane, mmr_planes, planes_of}
-use Rattle.jbig2_halftone.specs.Halftone.{cells_drawn, gray_params, halftone_answer, pattern_for, with_cell}
+use Rattle.jbig2_halftone.specs.Halftone.{cells_drawn, gray_params, halftone_result, pattern_for, with_cell}
 use Rattle.jbig2_halftone.specs.HalftoneHeader.{HalftoneHeader}
 use Rattle.jbig2_halftone.specs.Patterns.{Patterns, collective_header, collective_width, patterns_decoded}
-use Rattle.jbig2_halftone.specs.inner.Stages.{planes_by_coder, planes_by_mmr}
-use Rattle.jbig2_region.proofs.Told.{Told, cause-if, cause-last, cause-of, told, told-if, told-next, told-refused}
+use Rattle.jbig2_halftone.specs.inner.FunctionResults.{planes_by_coder, planes_by_mmr}
+use Rattle.jbig2_region.proofs.ResultCauses.{IfResult, cause-if, cause-last, cause-of, result-of, result-if, result-next, result-refused}
 use Rattle.jbig2_base.specs.Causes.{HasCauseOrNoMemory}
 use Rattle.jbig2_base.proofs.CauseSteps.{call-cause-or-memory}
 use Rattle.jbig2_mmr.specs.Causes.{BreaksMmr}
@@ -38,11 +38,11 @@ APlaneLacksRows p bytes = (k : ℕ) × (k < p.bits_per_pixel) × LacksRows p.str
 used : ℕ → ℕ → List ℕ → ℕ
 used w h bytes = length bytes - length (rows_of w h bytes).left / 8
 
-told-mmr : (P : DecodeError → Type 0) (strict : Bool) (w h : ℕ) (bytes : List ℕ) → (LacksRows strict w h bytes → P (Region InvalidMmrData))
-    → Told (mmr_rows strict w h bytes) P (λ (d : Decoded). used w h bytes ≡ d.used)
+result-mmr : (P : DecodeError → Type 0) (strict : Bool) (w h : ℕ) (bytes : List ℕ) → (LacksRows strict w h bytes → P (Region InvalidMmrData))
+    → IfResult (mmr_rows strict w h bytes) P (λ (d : Decoded). used w h bytes ≡ d.used)
 unfolding mmr_rows used
-told-mmr P strict w h bytes why =
-    told-if P _ (strict && not (rows_of w h bytes).whole) _ _
+result-mmr P strict w h bytes why =
+    result-if P _ (strict && not (rows_of w h bytes).whole) _ _
     (λ is.
     let parts = and_parts strict (not (rows_of w h bytes).whole) is in
     let fault = all-fault w h bytes (not-true (rows_of w h bytes).whole parts.1) in
@@ -54,9 +54,9 @@ pattern_causes : (h : PatternHeader) → IfErr (patterns_decoded h) (BreaksPatte
 unfolding patterns_decoded
 pattern_causes h =
     let P : DecodeError → Type 0 = BreaksPatterns h in
-    cause-last P _ (refuse_if (ltb 65535 (collective_width h)) (Overflow BitmapDimension)) _ (told-refused P (ltb 65535 (collective_width h)) (Overflow BitmapDimension) (λ wide. ltb-true 65535 _ wide)) (λ fits is.
-    cause-last P (λ g. Unit {0}) (generic_answer (collective_header h)) _
-    (told-if P (λ g. Unit {0}) h.mmr _ _ (λ mmr. told-next P _ (λ g. Unit {0}) (mmr_rows h.strict _ _ h.bytes) _ (told-mmr P h.strict _ _ h.bytes (λ lacks. (mmr, lacks))) (λ rows r. tt)) (λ coded. tt)) (λ g r. tt))
+    cause-last P _ (refuse_if (ltb 65535 (collective_width h)) (Overflow BitmapDimension)) _ (result-refused P (ltb 65535 (collective_width h)) (Overflow BitmapDimension) (λ wide. ltb-true 65535 _ wide)) (λ fits is.
+    cause-last P (λ g. Unit {0}) (generic_result (collective_header h)) _
+    (result-if P (λ g. Unit {0}) h.mmr _ _ (λ mmr. result-next P _ (λ g. Unit {0}) (mmr_rows h.strict _ _ h.bytes) _ (result-mmr P h.strict _ _ h.bytes (λ lacks. (mmr, lacks))) (λ rows r. tt)) (λ coded. tt)) (λ g r. tt))
 
 pub pattern_cause : {X : Type 0} (h : PatternHeader) (r : Result X DecodeError) → IfErr r (λ e. (e ≡ OutOfMemory) ⊎ (patterns_decoded h ≡ Err e)) → HasCauseOrNoMemory r (BreaksPatterns h)
 pattern_cause h r = call-cause-or-memory (BreaksPatterns h) (patterns_decoded h) r (pattern_causes h)
@@ -71,7 +71,7 @@ cause-planes P p bytes k rest (suc count) at why =
     let Q : Grid × List ℕ → Type 0 = λ x. plane_start p bytes (suc k) ≡ x.1 in
     let lacks : LacksRows p.strict p.width p.height rest → LacksRows p.strict p.width p.height (plane_start p bytes k) = λ is. subst (λ (l : List ℕ). LacksRows p.strict p.width p.height l) (sym at) is in
     cause-last P Q (mmr_plane p rest) _
-    (told-next P _ Q (mmr_rows p.strict p.width p.height rest) _ (told-mmr P p.strict p.width p.height rest (λ is. why k (omega arith) (lacks is)))
+    (result-next P _ Q (mmr_rows p.strict p.width p.height rest) _ (result-mmr P p.strict p.width p.height rest (λ is. why k (omega arith) (lacks is)))
     (λ rows taken. ap (λ (l : List ℕ). drop (used p.width p.height l) l) at ∙ ap (λ (n : ℕ). drop n rest) taken)) (λ plane next.
     cause-next P (mmr_planes p plane.1 count) _ (cause-planes P p bytes (suc k) plane.1 count next (λ j below. why j (omega (arith, below)))) (λ others is. tt))
 
@@ -88,20 +88,20 @@ cause-coded P p bytes why =
     (λ mmr. cause-planes P p bytes 0 bytes p.bits_per_pixel refl (λ j below lacks. why mmr (j, omega (arith, below), lacks))) (λ coded. tt)
 
 -- the image's values, which planes give, or why there is none
-told-image : (P : DecodeError → Type 0) (p : GrayScale) (bytes : List ℕ) → ((0 < p.bits_per_pixel) × ((65535 < p.width) ⊎ (65535 < p.height)) → P (Overflow BitmapDimension))
+result-image : (P : DecodeError → Type 0) (p : GrayScale) (bytes : List ℕ) → ((0 < p.bits_per_pixel) × ((65535 < p.width) ⊎ (65535 < p.height)) → P (Overflow BitmapDimension))
     → (p.use_mmr ≡ true → APlaneLacksRows p bytes → P (Region InvalidMmrData))
-    → Told (gray_scale_image p bytes) P (λ values. (planes : List Grid) × (planes_of p bytes ≡ Ok planes) × (gray_values p.width p.height planes ≡ values))
+    → IfResult (gray_scale_image p bytes) P (λ values. (planes : List Grid) × (planes_of p bytes ≡ Ok planes) × (gray_values p.width p.height planes ≡ values))
 unfolding gray_scale_image
-told-image P p bytes large lacks =
+result-image P p bytes large lacks =
     let Q : List ℕ → Type 0 = λ values. (planes : List Grid) × (planes_of p bytes ≡ Ok planes) × (gray_values p.width p.height planes ≡ values) in
     let R : List Grid → Type 0 = λ planes. planes_of p bytes ≡ Ok planes in
-    told-next P _ Q (refuse_if (image_is_too_large p) (Overflow BitmapDimension)) _ (told-refused P (image_is_too_large p) (Overflow BitmapDimension) (λ is. large (too-large p is))) (λ fits is.
-    told-next P R Q (planes_of p bytes) _ (told P R (planes_of p bytes) (cause-coded P p bytes lacks) (λ planes r. r)) (λ planes r. (planes, r, refl)))
+    result-next P _ Q (refuse_if (image_is_too_large p) (Overflow BitmapDimension)) _ (result-refused P (image_is_too_large p) (Overflow BitmapDimension) (λ is. large (too-large p is))) (λ fits is.
+    result-next P R Q (planes_of p bytes) _ (result-of P R (planes_of p bytes) (cause-coded P p bytes lacks) (λ planes r. r)) (λ planes r. (planes, r, refl)))
 
 pub gray_scale_cause : {X : Type 0} (p : GrayScale) (bytes : List ℕ) (r : Result X DecodeError) → IfErr r (λ e. (e ≡ OutOfMemory) ⊎ (gray_scale_image p bytes ≡ Err e)) → HasCauseOrNoMemory r (BreaksGrayScale p bytes)
 gray_scale_cause p bytes r =
     let P : DecodeError → Type 0 = BreaksGrayScale p bytes in
-    call-cause-or-memory P (gray_scale_image p bytes) r (cause-of P _ (gray_scale_image p bytes) (told-image P p bytes (λ large. large) (λ mmr lacks. (mmr, lacks))))
+    call-cause-or-memory P (gray_scale_image p bytes) r (cause-of P _ (gray_scale_image p bytes) (result-image P p bytes (λ large. large) (λ mmr lacks. (mmr, lacks))))
 
 -- ---- cells
 no-pattern : (P : DecodeError → Type 0) (strict : Bool) (grids : List Grid) (value : ℕ) → (strict ≡ true → length grids ≤ value → P (Region GrayScaleOutOfRange))
@@ -135,12 +135,12 @@ cause-values h d region values planes read are =
     (cause-image (BreaksHalftone h d) h d h.grid_position_and_size.width h.grid_position_and_size.height planes region
     (λ x y column row strict none. (strict, (planes, x, y, read, column, row, none))))
 
-cause-answer : (h : HalftoneHeader) (d : Patterns) → IfErr (halftone_answer h d) (BreaksHalftone h d)
-unfolding halftone_answer
-cause-answer h d =
+cause-result : (h : HalftoneHeader) (d : Patterns) → IfErr (halftone_result h d) (BreaksHalftone h d)
+unfolding halftone_result
+cause-result h d =
     let P : DecodeError → Type 0 = BreaksHalftone h d in
-    cause-last P _ (gray_scale_image (gray_params h d) h.bytes) _ (told-image P (gray_params h d) h.bytes (λ large. large) (λ mmr lacks. (mmr, lacks))) (λ values read.
+    cause-last P _ (gray_scale_image (gray_params h d) h.bytes) _ (result-image P (gray_params h d) h.bytes (λ large. large) (λ mmr lacks. (mmr, lacks))) (λ values read.
     cause-values h d _ values read.0 read.1 read.2)
 
-pub halftone_cause : {X : Type 0} (h : HalftoneHeader) (d : Patterns) (r : Result X DecodeError) → IfErr r (λ e. (e ≡ OutOfMemory) ⊎ (halftone_answer h d ≡ Err e)) → HasCauseOrNoMemory r (BreaksHalftone h d)
-halftone_cause h d r = call-cause-or-memory (BreaksHalftone h d) (halftone_answer h d) r (cause-answer h d)
+pub halftone_cause : {X : Type 0} (h : HalftoneHeader) (d : Patterns) (r : Result X DecodeError) → IfErr r (λ e. (e ≡ OutOfMemory) ⊎ (halftone_result h d ≡ Err e)) → HasCauseOrNoMemory r (BreaksHalftone h d)
+halftone_cause h d r = call-cause-or-memory (BreaksHalftone h d) (halftone_result h d) r (cause-result h d)

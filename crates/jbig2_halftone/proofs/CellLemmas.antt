@@ -18,14 +18,14 @@ use Rattle.jbig2_base.proofs.GridLemmas.{grid_of-ext}
 use Rattle.jbig2_region.specs.Raster.{so_far}
 use Rattle.jbig2_region.proofs.RasterLemmas.{so_far-push, blank-so_far}
 use Rattle.jbig2_halftone.specs.GrayScale.{gray_values}
-use Rattle.jbig2_halftone.specs.Halftone.{column_of, row_of, is_apart, pattern_for, with_cell, cells_drawn}
+use Rattle.jbig2_halftone.specs.Halftone.{column_of, row_of, is_beyond, pattern_for, with_cell, cells_drawn}
 use Rattle.jbig2_halftone.specs.HalftoneHeader.{HalftoneHeader}
 use Rattle.jbig2_halftone.specs.Patterns.{Patterns}
 use Rattle.jbig2_halftone.specs.inner.CellPlaces.{x_of, y_of}
 use Rattle.jbig2_halftone.specs.inner.NextValues.{row_values}
-use Rattle.jbig2_halftone.specs.inner.Stages.{lies_outside, skip_grid}
+use Rattle.jbig2_halftone.specs.inner.FunctionResults.{lies_outside, skip_grid}
 use Rattle.jbig2_halftone.proofs.RowLemmas.{values-length, rows-next, first-rows}
-use Rattle.jbig2_base.specs.Answer.{◌>>=◌}
+use Rattle.jbig2_base.specs.Results.{◌>>=◌}
 use Rattle.std.specs.Prelude.{Result, int_le}
 use Rattle.jbig2_base.specs.declared.bitmap.operator.CombinationOperator.{CombinationOperator}
 use Rattle.jbig2_base.specs.Table.{IsTable}
@@ -119,7 +119,7 @@ below-y o y new m v u e step =
 
 -- ---- cells that lie outside
 -- no pixel of a region lies on a source that is apart from it
-apart-below : (x z : ℤ) (s p i : ℕ) → z ≡ pos i -ℤ x → is_apart x s p ≡ true → i < p → is_below s z ≡ false
+apart-below : (x z : ℤ) (s p i : ℕ) → z ≡ pos i -ℤ x → is_beyond x s p ≡ true → i < p → is_below s z ≡ false
 apart-below x (negsuc n) s p i e apart inside = refl
 apart-below x (pos n) s p i e apart inside =
     le-ltb n s
@@ -128,22 +128,22 @@ apart-below x (pos n) s p i e apart inside =
     (λ (behind : int_le (pos p) x ≡ true). grind (arith, ints))
     (or_cases (int_le (x +ℤ pos s) (pos 0)) (int_le (pos p) x) apart))
 
-outside-pixel : (operator : CombinationOperator) (page source : Grid) (x y : ℤ) (i j : ℕ) → (is_apart x source.width page.width || is_apart y source.height page.height) ≡ true → i < page.width → j < page.height → drawn_pixel operator page source x y i j ≡ pixel_at page i j
+outside-pixel : (operator : CombinationOperator) (page source : Grid) (x y : ℤ) (i j : ℕ) → (is_beyond x source.width page.width || is_beyond y source.height page.height) ≡ true → i < page.width → j < page.height → drawn_pixel operator page source x y i j ≡ pixel_at page i j
 unfolding drawn_pixel
 outside-pixel operator page source x y i j outside inside below =
     cond-false (is_below source.width (pos i -ℤ x) && is_below source.height (pos j -ℤ y)) (combined_pixel operator (pixel_at page i j) (pixel source (pos i -ℤ x) (pos j -ℤ y))) (pixel_at page i j)
     (⊎_elim
-    (λ (apart : is_apart x source.width page.width ≡ true). and_left _ _ (apart-below x (pos i -ℤ x) source.width page.width i refl apart inside))
-    (λ (apart : is_apart y source.height page.height ≡ true). and_right (is_below source.width (pos i -ℤ x)) _ (apart-below y (pos j -ℤ y) source.height page.height j refl apart below))
-    (or_cases (is_apart x source.width page.width) (is_apart y source.height page.height) outside))
+    (λ (apart : is_beyond x source.width page.width ≡ true). and_left _ _ (apart-below x (pos i -ℤ x) source.width page.width i refl apart inside))
+    (λ (apart : is_beyond y source.height page.height ≡ true). and_right (is_below source.width (pos i -ℤ x)) _ (apart-below y (pos j -ℤ y) source.height page.height j refl apart below))
+    (or_cases (is_beyond x source.width page.width) (is_beyond y source.height page.height) outside))
 
 -- so drawing it changes nothing
-outside-combined : (operator : CombinationOperator) (page source : Grid) (x y : ℤ) → IsTable page → (is_apart x source.width page.width || is_apart y source.height page.height) ≡ true → page ≡ combined operator page source x y
+outside-combined : (operator : CombinationOperator) (page source : Grid) (x y : ℤ) → IsTable page → (is_beyond x source.width page.width || is_beyond y source.height page.height) ≡ true → page ≡ combined operator page source x y
 outside-combined operator page source x y known outside =
     known ∙ grid_of-ext page.width page.height (pixel_at page) (drawn_pixel operator page source x y) (λ i j inside below. sym (outside-pixel operator page source x y i j outside inside below))
 
 pub outside-at : (operator : CombinationOperator) (page source : Grid) (x y : ℤ) (width height columns rows : ℕ) (outside : Bool) → IsTable page → width ≡ source.width → height ≡ source.height → columns ≡ page.width → rows ≡ page.height
-    → outside ≡ (is_apart x width columns || is_apart y height rows) → outside ≡ true → page ≡ combined operator page source x y
+    → outside ≡ (is_beyond x width columns || is_beyond y height rows) → outside ≡ true → page ≡ combined operator page source x y
 outside-at operator page source x y width height columns rows outside known wide high right bottom e off =
     outside-combined operator page source x y known (rw (sym wide, sym high, sym right, sym bottom) (sym e ∙ off))
 
@@ -215,11 +215,11 @@ cell-made h m n region pattern new x y inside column row drawn =
     ∙ ap (λ (z : ℤ). combined h.flags.combination_operator region pattern (column_of h (k / w) (k % w)) z) (ap (λ (z : ℤ). int_shr z 8) row ∙ above)
 
 -- a cell that is skipped
-pub outside-known : (h : HalftoneHeader) (d : Patterns) (m n : ℕ) (x y : ℤ) (outside : Bool) → x ≡ x_of h m n → y ≡ y_of h m n → outside ≡ (is_apart (int_shr x 8) d.width h.region_info.width || is_apart (int_shr y 8) d.height h.region_info.height) → outside ≡ lies_outside h d m n
+pub outside-known : (h : HalftoneHeader) (d : Patterns) (m n : ℕ) (x y : ℤ) (outside : Bool) → x ≡ x_of h m n → y ≡ y_of h m n → outside ≡ (is_beyond (int_shr x 8) d.width h.region_info.width || is_beyond (int_shr y 8) d.height h.region_info.height) → outside ≡ lies_outside h d m n
 outside-known h d m n x y outside column row e =
     e
-    ∙ ap (λ (z : ℤ). is_apart (int_shr z 8) d.width h.region_info.width || is_apart (int_shr y 8) d.height h.region_info.height) column
-    ∙ ap (λ (z : ℤ). is_apart (column_of h m n) d.width h.region_info.width || is_apart (int_shr z 8) d.height h.region_info.height) row
+    ∙ ap (λ (z : ℤ). is_beyond (int_shr z 8) d.width h.region_info.width || is_beyond (int_shr y 8) d.height h.region_info.height) column
+    ∙ ap (λ (z : ℤ). is_beyond (column_of h m n) d.width h.region_info.width || is_beyond (int_shr z 8) d.height h.region_info.height) row
 
 -- cells, and those after them
 pub cells-append : (h : HalftoneHeader) (d : Patterns) (k : ℕ) (values others : List ℕ) (region : Grid) → cells_drawn h d k (values ++ others) region ≡ (cells_drawn h d k values region >>= λ drawn. cells_drawn h d (k + length values) others drawn)

@@ -9,7 +9,7 @@ use Rattle.jbig2_halftone.specs.HalftoneHeader.{HalftoneHeader}
 use Rattle.jbig2_halftone.specs.PatternHeader.{HasSize}
 use Rattle.jbig2_halftone.specs.Patterns.{Patterns}
 use Rattle.jbig2_halftone.specs.Steps.{CountsRead, CountsHalftone, StopsHalftone, after_mask, cell_words, words_of_cells}
-use Rattle.jbig2_halftone.specs.inner.Stages.{StopsCells, StopsRows, after_lane_rows}
+use Rattle.jbig2_halftone.specs.inner.FunctionResults.{StopsCells, StopsRows, after_lane_rows}
 use Rattle.jbig2_halftone.proofs.RowLemmas.{no-counts}
 use Rattle.std.proofs.Math.Nat.{mul-le-mul_left}
 

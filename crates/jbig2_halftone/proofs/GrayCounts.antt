@@ -20,8 +20,8 @@ use Rattle.jbig2_region.specs.declared.template.Template.{Template}
 use Rattle.jbig2_region.specs.declared.template.Template.TheVariants.{Template0, Template1, Template2, Template3}
 use Rattle.jbig2_halftone.specs.GrayScale.{GrayScale, nominal_pixels, after_planes}
 use Rattle.jbig2_halftone.specs.Steps.{CountsImage, CountsLanes, CountsMasked, CountsPlanes, CountsRead, StopsImage, plane_runs, words_of_plane}
-use Rattle.jbig2_halftone.specs.inner.Stages.{CountsCoded, CountsMmr, CountsOne, CountsPlane, StopsCoded, plain_coding, plane_pixels, plane_start, after_lane_rows}
-use Rattle.jbig2_halftone.proofs.PlaneLemmas.{BehindPlanes, no-mask}
+use Rattle.jbig2_halftone.specs.inner.FunctionResults.{CountsCoded, CountsMmr, CountsOne, CountsPlane, StopsCoded, plain_coding, plane_pixels, plane_start, after_lane_rows}
+use Rattle.jbig2_halftone.proofs.PlaneLemmas.{AfterPlanes, no-mask}
 use Rattle.jbig2_region.proofs.PlaceCounts.{how_many-all}
 use Rattle.jbig2_region.proofs.PlaceLemmas.{at_pixel-plain}
 
@@ -79,7 +79,7 @@ planes-more p bytes i old mid new before one =
       lanes = lanes-then old mid new before.lanes one.lanes;
     }
 
-planes-next : (p : GrayScale) (bytes : List ℕ) (i : ℕ) (plane : Grid) (coder : Coder) (states : List Context) (old mid new : Counts) (planes : List Grid) → plane ≡ blank p.width p.height false → BehindPlanes p bytes i planes coder states
+planes-next : (p : GrayScale) (bytes : List ℕ) (i : ℕ) (plane : Grid) (coder : Coder) (states : List Context) (old mid new : Counts) (planes : List Grid) → plane ≡ blank p.width p.height false → AfterPlanes p bytes i planes coder states
     → CountsPlanes p bytes i old mid → CountsPlane p plane.width plane.height coder.bytes (no_pixels coder.registers states) mid new → CountsPlanes p bytes (i + 1) old new
 planes-next p bytes i plane coder states old mid new planes white behind before one =
     let two = subst (λ (b : List ℕ). CountsPlane p plane.width plane.height b (no_pixels coder.registers states) mid new) behind.bytes one in
@@ -103,7 +103,7 @@ masked-more p i old mid new before one = record {
 pub counts-begin : (p : GrayScale) (bytes : List ℕ) (steps : Counts) → CountsCoded p bytes 0 steps steps
 counts-begin p bytes steps = record { plain = λ _. planes-begin p bytes steps; masked = λ _. masked-begin p steps }
 
-pub counts-more : (p : GrayScale) (bytes : List ℕ) (i : ℕ) (plane : Grid) (coder : Coder) (states : List Context) (old mid new : Counts) (planes : List Grid) → plane ≡ blank p.width p.height false → BehindPlanes p bytes i planes coder states
+pub counts-more : (p : GrayScale) (bytes : List ℕ) (i : ℕ) (plane : Grid) (coder : Coder) (states : List Context) (old mid new : Counts) (planes : List Grid) → plane ≡ blank p.width p.height false → AfterPlanes p bytes i planes coder states
     → CountsCoded p bytes i old mid → CountsOne p plane.width plane.height coder.bytes (no_pixels coder.registers states) mid new → CountsCoded p bytes (i + 1) old new
 counts-more p bytes i plane coder states old mid new planes white behind before one = record {
   plain = λ none. planes-next p bytes i plane coder states old mid new planes white behind (before.plain none) (one.plain none);

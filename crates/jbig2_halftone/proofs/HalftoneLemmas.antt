@@ -2,7 +2,7 @@
 use Rattle.std.proofs.Common.{◌≡◌, ℕ, zero, suc, ◌+◌, ◌≤◌, Bool, true, false, ltb, List, [], ◌∷◌, length, drop, get_or, ◌-◌, Result, Ok, Err, refl, sym, ap, subst, ◌∙◌, ◌⊎◌, inl, inr, ⊎_elim, arith}
 use Rattle.std.specs.Prelude.{if◌then◌else◌, IfErr}
 use Rattle.std.proofs.lemmas.Bool.{le-ltb, and_right}
-use Rattle.jbig2_base.specs.Answer.{◌>>=◌, Answers, Gives, Leaves}
+use Rattle.jbig2_base.specs.Results.{◌>>=◌, Returns, Gives, Leaves}
 use Rattle.jbig2_base.specs.Grid.{Grid, blank}
 use Rattle.jbig2_base.specs.declared.error.DecodeError.{DecodeError}
 use Rattle.jbig2_base.specs.declared.error.DecodeError.TheVariants.{OutOfMemory, Region}
@@ -11,30 +11,30 @@ use Rattle.jbig2_coder.specs.Coder.{Context}
 use Rattle.jbig2_base.specs.Search.{code_length}
 use Rattle.jbig2_mmr.specs.T6.{mmr_rows}
 use Rattle.jbig2_halftone.specs.GrayScale.{GrayScale, mmr_plane, mmr_planes, planes_of, gray_values, image_is_too_large, gray_scale_image}
-use Rattle.jbig2_halftone.specs.Halftone.{gray_params, pattern_for, with_cell, cells_drawn, halftone_answer, halftone_contexts}
+use Rattle.jbig2_halftone.specs.Halftone.{gray_params, pattern_for, with_cell, cells_drawn, halftone_result, halftone_contexts}
 use Rattle.jbig2_halftone.specs.HalftoneHeader.{HalftoneHeader}
 use Rattle.jbig2_halftone.specs.Patterns.{Patterns}
-use Rattle.jbig2_halftone.specs.inner.Stages.{planes_by_coder, planes_by_mmr, planes_contexts}
+use Rattle.jbig2_halftone.specs.inner.FunctionResults.{planes_by_coder, planes_by_mmr, planes_contexts}
 
 -- an image whose sides fit
 pub image-fits : (p : GrayScale) → p.width ≤ 65535 → p.height ≤ 65535 → image_is_too_large p ≡ false
 image-fits p columns rows = rw (le-ltb 65535 p.width columns, le-ltb 65535 p.height rows, and_right (ltb 0 p.bits_per_pixel) false refl) refl
 
 -- what a region is, from its planes
-pub answer-of-planes : (h : HalftoneHeader) (d : Patterns) (planes : List Grid) → image_is_too_large (gray_params h d) ≡ false → planes_of (gray_params h d) h.bytes ≡ Ok planes
-    → halftone_answer h d ≡ cells_drawn h d 0 (gray_values h.grid_position_and_size.width h.grid_position_and_size.height planes) (blank h.region_info.width h.region_info.height h.flags.initial_pixel_color)
-unfolding halftone_answer gray_scale_image
-answer-of-planes h d planes fits read = rw (fits, read) refl
+pub result-of-planes : (h : HalftoneHeader) (d : Patterns) (planes : List Grid) → image_is_too_large (gray_params h d) ≡ false → planes_of (gray_params h d) h.bytes ≡ Ok planes
+    → halftone_result h d ≡ cells_drawn h d 0 (gray_values h.grid_position_and_size.width h.grid_position_and_size.height planes) (blank h.region_info.width h.region_info.height h.flags.initial_pixel_color)
+unfolding halftone_result gray_scale_image
+result-of-planes h d planes fits read = rw (fits, read) refl
 
-pub answer-of-fault : (h : HalftoneHeader) (d : Patterns) (e : DecodeError) → image_is_too_large (gray_params h d) ≡ false → planes_of (gray_params h d) h.bytes ≡ Err e → halftone_answer h d ≡ Err e
-unfolding halftone_answer gray_scale_image
-answer-of-fault h d e fits read = rw (fits, read) refl
+pub result-of-fault : (h : HalftoneHeader) (d : Patterns) (e : DecodeError) → image_is_too_large (gray_params h d) ≡ false → planes_of (gray_params h d) h.bytes ≡ Err e → halftone_result h d ≡ Err e
+unfolding halftone_result gray_scale_image
+result-of-fault h d e fits read = rw (fits, read) refl
 
 pub contexts-of-planes : (h : HalftoneHeader) (d : Patterns) (old new : List Context) → image_is_too_large (gray_params h d) ≡ false → new ≡ planes_contexts (gray_params h d) h.bytes old → new ≡ halftone_contexts h d old
 contexts-of-planes h d old new fits left = rw fits left
 
 -- an exact answer is one
-pub answers-gives : {X Y : Type 0} (view : X → Y) (result : Result X DecodeError) (drawn meant : Result Y DecodeError) → meant ≡ drawn → Answers view result drawn → Gives view result meant
+pub answers-gives : {X Y : Type 0} (view : X → Y) (result : Result X DecodeError) (drawn meant : Result Y DecodeError) → meant ≡ drawn → Returns view result drawn → Gives view result meant
 answers-gives view (Ok x) drawn meant same answers = same ∙ answers
 answers-gives view (Err e) drawn meant same answers = inr (same ∙ answers)
 
@@ -102,8 +102,8 @@ cells-lenient h d k (value ∷ values) region lenient =
     (λ pattern. cells-lenient h d (k + 1) values (with_cell h k pattern region) lenient)
 
 -- no refusal
-halftone-lenient : (h : HalftoneHeader) (d : Patterns) → h.grid_position_and_size.width ≤ 65535 → h.grid_position_and_size.height ≤ 65535 → h.strict ≡ false → Answered (halftone_answer h d)
-unfolding halftone_answer
+halftone-lenient : (h : HalftoneHeader) (d : Patterns) → h.grid_position_and_size.width ≤ 65535 → h.grid_position_and_size.height ≤ 65535 → h.strict ≡ false → Answered (halftone_result h d)
+unfolding halftone_result
 halftone-lenient h d columns rows lenient =
     then-answered (gray_scale_image (gray_params h d) h.bytes) (λ values. cells_drawn h d 0 values (blank h.region_info.width h.region_info.height h.flags.initial_pixel_color))
     (image-lenient (gray_params h d) h.bytes columns rows lenient)
@@ -121,5 +121,5 @@ refused-lenient view (Err e) meant answered gives =
     apart : (e : DecodeError) (g : Grid) → ◌≡◌ {A = Result Grid DecodeError} (Ok g) (Err e) → ⊥
     apart e g made = cc
 
-pub memory-alone : {X : Type 0} (view : X → Grid) (result : Result X DecodeError) (h : HalftoneHeader) (d : Patterns) → h.grid_position_and_size.width ≤ 65535 → h.grid_position_and_size.height ≤ 65535 → h.strict ≡ false → Gives view result (halftone_answer h d) → IfErr result (λ e. e ≡ OutOfMemory)
-memory-alone view result h d columns rows lenient gives = refused-lenient view result (halftone_answer h d) (halftone-lenient h d columns rows lenient) gives
+pub memory-alone : {X : Type 0} (view : X → Grid) (result : Result X DecodeError) (h : HalftoneHeader) (d : Patterns) → h.grid_position_and_size.width ≤ 65535 → h.grid_position_and_size.height ≤ 65535 → h.strict ≡ false → Gives view result (halftone_result h d) → IfErr result (λ e. e ≡ OutOfMemory)
+memory-alone view result h d columns rows lenient gives = refused-lenient view result (halftone_result h d) (halftone-lenient h d columns rows lenient) gives

@@ -18,7 +18,7 @@ use Rattle.jbig2_region.specs.declared.template.Template.TheVariants.{Template0,
 use Rattle.jbig2_halftone.specs.PatternHeader.{HasSize, PatternHeader}
 use Rattle.jbig2_halftone.specs.Patterns.{collective_header, collective_pixels, patterns_of}
 use Rattle.jbig2_halftone.specs.Steps.{StopsDictionary, after_patterns}
-use Rattle.jbig2_halftone.specs.inner.Stages.{StopsCut, pattern_of}
+use Rattle.jbig2_halftone.specs.inner.FunctionResults.{StopsCut, pattern_of}
 
 -- the adaptive pixels of the collective bitmap, taken of an array of four
 pub collective_view : (mmr : Bool) (template : Template) (width : ℕ) → pixels_view mmr template (Regular (left width 0 ∷ left 3 1 ∷ right 2 2 ∷ left 2 2 ∷ [])) ≡ collective_pixels mmr template width

@@ -6,19 +6,19 @@ use Rattle.std.specs.Borrow.{Bor}
 use Rattle.std.proofs.lemmas.Bool.{lt-ltb, ltb-false}
 use Rattle.std.proofs.lemmas.List.{append_assoc, append-nil, length-drop, take_all}
 use Rattle.std.proofs.lemmas.List.FromFn.{get_or-map-range_with_len, length-map-range_with_len, map-range_with_len_more}
-use Rattle.jbig2_base.specs.Answer.{◌>>=◌}
+use Rattle.jbig2_base.specs.Results.{◌>>=◌}
 use Rattle.jbig2_base.specs.Grid.{Grid, blank}
 use Rattle.jbig2_base.specs.declared.error.DecodeError.{DecodeError}
 use Rattle.jbig2_coder.specs.Coder.{Coder, Context, Registers, initial_registers}
 use Rattle.jbig2_region.specs.Generic.{coding_of}
-use Rattle.jbig2_region.specs.inner.Holds.{DecodesRegion, Holds}
+use Rattle.jbig2_region.specs.inner.RegionStates.{DecodesRegion, HasDecoded}
 use Rattle.jbig2_region.specs.Raster.{so_far, decoded_region, no_pixels, fresh_contexts}
 use Rattle.jbig2_region.specs.{Generic.{skipping_coding}, inner.RegionViews.{skip_of}}
 use Rattle.jbig2_mmr.specs.T6.{Decoded, Rows, mmr_rows, grid_of_rows, rows_of}
 use Rattle.jbig2_region.specs.Templates.{context_bits, template_pixels}
 use Rattle.jbig2_region.specs.declared.template.AdaptiveTemplatePixel.{AdaptiveTemplatePixel}
 use Rattle.jbig2_halftone.specs.GrayScale.{GrayScale, nominal_pixels, after_planes, mmr_plane, mmr_planes, planes_of, image_is_too_large}
-use Rattle.jbig2_halftone.specs.inner.Stages.{coded_plane, plane_coding, coded_planes, planes_by_coder, planes_by_mmr}
+use Rattle.jbig2_halftone.specs.inner.FunctionResults.{coded_plane, plane_coding, coded_planes, planes_by_coder, planes_by_mmr}
 
 -- neither side of an image that has a plane is too long
 pub image-sides : (p : GrayScale) (i : ℕ) → image_is_too_large p ≡ false → i < p.bits_per_pixel → (p.width ≤ 65535) × (p.height ≤ 65535)
@@ -47,8 +47,8 @@ pub unskipped : (p : GrayScale) (adaptive : List AdaptiveTemplatePixel) (old : G
     → DecodesRegion (coding_of false p.template (template_pixels false p.template adaptive)) old coder states grid next after → DecodesRegion (plane_coding p) old coder states grid next after
 unskipped p adaptive old coder states grid next after none nominal holds =
     let pixels : List AdaptiveTemplatePixel = template_pixels false p.template adaptive in
-    let masked = subst (λ (m : Option Grid). Holds old.width old.height coder.bytes (decoded_region (skipping_coding pixels m) old.width old.height coder.bytes (no_pixels coder.registers states)) grid next after) (sym none) holds in
-    subst (λ (a : List AdaptiveTemplatePixel). Holds old.width old.height coder.bytes (decoded_region (skipping_coding (template_pixels false p.template a) p.skip_mask) old.width old.height coder.bytes (no_pixels coder.registers states)) grid next after) nominal masked
+    let masked = subst (λ (m : Option Grid). HasDecoded old.width old.height coder.bytes (decoded_region (skipping_coding pixels m) old.width old.height coder.bytes (no_pixels coder.registers states)) grid next after) (sym none) holds in
+    subst (λ (a : List AdaptiveTemplatePixel). HasDecoded old.width old.height coder.bytes (decoded_region (skipping_coding (template_pixels false p.template a) p.skip_mask) old.width old.height coder.bytes (no_pixels coder.registers states)) grid next after) nominal masked
 
 -- what a mask is that isn't there
 pub no-mask : (mask : Option (Bor Grid)) → is_some mask ≡ false → skip_of mask ≡ None
@@ -57,30 +57,30 @@ no-mask (Some m) e = absurd (cc)
 
 -- ---- planes by the coder
 -- what is held after the i highest planes
-pub record BehindPlanes (p : GrayScale) (input : List ℕ) (i : ℕ) (planes : List Grid) (coder : Coder) (states : List Context) : Type 0 where
+pub record AfterPlanes (p : GrayScale) (input : List ℕ) (i : ℕ) (planes : List Grid) (coder : Coder) (states : List Context) : Type 0 where
   pub done : planes ≡ coded_planes p input i
   pub bytes : coder.bytes ≡ input
   pub registers : coder.registers ≡ (after_planes p input i).registers
   pub contexts : states ≡ (after_planes p input i).contexts
 
-pub behind-none : (p : GrayScale) (input : List ℕ) (planes : List Grid) (coder : Coder) (states : List Context) → planes ≡ [] → coder.bytes ≡ input → coder.registers ≡ initial_registers input → states ≡ fresh_contexts (context_bits p.template) → BehindPlanes p input 0 planes coder states
+pub behind-none : (p : GrayScale) (input : List ℕ) (planes : List Grid) (coder : Coder) (states : List Context) → planes ≡ [] → coder.bytes ≡ input → coder.registers ≡ initial_registers input → states ≡ fresh_contexts (context_bits p.template) → AfterPlanes p input 0 planes coder states
 unfolding after_planes
 behind-none p input planes coder states none bytes registers contexts = record { done = none; bytes = bytes; registers = registers; contexts = contexts }
 
 pub coded-holds : (p : GrayScale) (input : List ℕ) (i : ℕ) (planes : List Grid) (before grid : Grid) (coder next : Coder) (states after : List Context) → before ≡ blank p.width p.height false
-    → Holds before.width before.height coder.bytes (decoded_region (plane_coding p) before.width before.height coder.bytes (no_pixels coder.registers states)) grid next after
-    → BehindPlanes p input i planes coder states
-    → Holds p.width p.height input (after_planes p input (i + 1)) grid next after
+    → HasDecoded before.width before.height coder.bytes (decoded_region (plane_coding p) before.width before.height coder.bytes (no_pixels coder.registers states)) grid next after
+    → AfterPlanes p input i planes coder states
+    → HasDecoded p.width p.height input (after_planes p input (i + 1)) grid next after
 unfolding after_planes
 coded-holds p input i planes before grid coder next states after white holds behind =
-    let two = subst (λ (b : List ℕ). Holds before.width before.height b (decoded_region (plane_coding p) before.width before.height b (no_pixels coder.registers states)) grid next after) behind.bytes holds in
-    let three = subst (λ (g : Grid). Holds g.width g.height input (decoded_region (plane_coding p) g.width g.height input (no_pixels coder.registers states)) grid next after) white two in
-    let four = subst (λ (r : Registers). Holds p.width p.height input (decoded_region (plane_coding p) p.width p.height input (no_pixels r states)) grid next after) behind.registers three in
-    let five = subst (λ (s : List Context). Holds p.width p.height input (decoded_region (plane_coding p) p.width p.height input (no_pixels (after_planes p input i).registers s)) grid next after) behind.contexts four in
+    let two = subst (λ (b : List ℕ). HasDecoded before.width before.height b (decoded_region (plane_coding p) before.width before.height b (no_pixels coder.registers states)) grid next after) behind.bytes holds in
+    let three = subst (λ (g : Grid). HasDecoded g.width g.height input (decoded_region (plane_coding p) g.width g.height input (no_pixels coder.registers states)) grid next after) white two in
+    let four = subst (λ (r : Registers). HasDecoded p.width p.height input (decoded_region (plane_coding p) p.width p.height input (no_pixels r states)) grid next after) behind.registers three in
+    let five = subst (λ (s : List Context). HasDecoded p.width p.height input (decoded_region (plane_coding p) p.width p.height input (no_pixels (after_planes p input i).registers s)) grid next after) behind.contexts four in
     rw add-one five
 
-pub coded-next : (p : GrayScale) (input : List ℕ) (i : ℕ) (old new : List Grid) (grid : Grid) (coder next : Coder) (states after : List Context) → Holds p.width p.height input (after_planes p input (i + 1)) grid next after
-    → new ≡ old ++ grid ∷ [] → BehindPlanes p input i old coder states → BehindPlanes p input (i + 1) new next after
+pub coded-next : (p : GrayScale) (input : List ℕ) (i : ℕ) (old new : List Grid) (grid : Grid) (coder next : Coder) (states after : List Context) → HasDecoded p.width p.height input (after_planes p input (i + 1)) grid next after
+    → new ≡ old ++ grid ∷ [] → AfterPlanes p input i old coder states → AfterPlanes p input (i + 1) new next after
 coded-next p input i old new grid coder next states after holds pushed behind = record {
   done =
       pushed ∙ ap (λ (ps : List Grid). ps ++ grid ∷ []) behind.done
@@ -91,11 +91,11 @@ coded-next p input i old new grid coder next states after holds pushed behind = 
 }
 
 -- all planes are read
-pub coded-all : (p : GrayScale) (input : List ℕ) (i : ℕ) (planes : List Grid) (coder : Coder) (states : List Context) → i ≡ p.bits_per_pixel → BehindPlanes p input i planes coder states → planes_by_coder p input ≡ Ok planes
+pub coded-all : (p : GrayScale) (input : List ℕ) (i : ℕ) (planes : List Grid) (coder : Coder) (states : List Context) → i ≡ p.bits_per_pixel → AfterPlanes p input i planes coder states → planes_by_coder p input ≡ Ok planes
 coded-all p input i planes coder states all behind =
     sym (ap (λ (ps : List Grid). Ok ps) (behind.done ∙ ap (λ (n : ℕ). coded_planes p input n) all))
 
-pub coded-contexts : (p : GrayScale) (input : List ℕ) (i : ℕ) (planes : List Grid) (coder : Coder) (states : List Context) → i ≡ p.bits_per_pixel → BehindPlanes p input i planes coder states → states ≡ (after_planes p input p.bits_per_pixel).contexts
+pub coded-contexts : (p : GrayScale) (input : List ℕ) (i : ℕ) (planes : List Grid) (coder : Coder) (states : List Context) → i ≡ p.bits_per_pixel → AfterPlanes p input i planes coder states → states ≡ (after_planes p input p.bits_per_pixel).contexts
 coded-contexts p input i planes coder states all behind = behind.contexts ∙ ap (λ (n : ℕ). (after_planes p input n).contexts) all
 
 -- ---- planes by MMR
@@ -151,8 +151,8 @@ mmr-fault p input i planes left error more e reads =
     sym made
 
 -- one plane
-mmr-sized : (p : GrayScale) (before : Grid) (left : List ℕ) (answer : Result Decoded DecodeError) → before ≡ blank p.width p.height false → mmr_rows p.strict before.width before.height left ≡ answer → mmr_rows p.strict p.width p.height left ≡ answer
-mmr-sized p before left answer white e = subst (λ (g : Grid). mmr_rows p.strict g.width g.height left ≡ answer) white e
+mmr-sized : (p : GrayScale) (before : Grid) (left : List ℕ) (result : Result Decoded DecodeError) → before ≡ blank p.width p.height false → mmr_rows p.strict before.width before.height left ≡ result → mmr_rows p.strict p.width p.height left ≡ result
+mmr-sized p before left result white e = subst (λ (g : Grid). mmr_rows p.strict g.width g.height left ≡ result) white e
 
 pub plane-made : (p : GrayScale) (before grid : Grid) (left : List ℕ) (used : ℕ) (rest : List ℕ) → before ≡ blank p.width p.height false → mmr_rows p.strict before.width before.height left ≡ Ok (record { grid = grid; used = used }) → rest ≡ drop used left → mmr_plane p left ≡ Ok (grid, rest)
 unfolding mmr_plane

@@ -15,7 +15,7 @@ use Rattle.jbig2_halftone.specs.HalftoneHeader.{HalftoneHeader}
 use Rattle.jbig2_halftone.specs.PatternHeader.{PatternHeader}
 use Rattle.jbig2_halftone.specs.Patterns.{Patterns, collective_header}
 use Rattle.jbig2_halftone.specs.Steps.{CountsDrawn, CountsHalftone, CountsImage, CountsMasked, CountsPlanes, CountsRead, CountsRows, StopsHalftone, StopsImage, after_mask, cell_words, price_of_halftone, price_of_image, price_of_patterns, words_of_cells}
-use Rattle.jbig2_halftone.specs.inner.Stages.{StopsCut, after_lane_rows}
+use Rattle.jbig2_halftone.specs.inner.FunctionResults.{StopsCut, after_lane_rows}
 
 -- ---- planes, each of h rows of m words
 -- what a row counts, of which no pixel is skipped

@@ -12,7 +12,7 @@ use Rattle.jbig2_base.specs.Counts.{Counts}
 use Rattle.jbig2_base.specs.Grid.{Grid, pixel_at}
 use Rattle.jbig2_halftone.specs.GrayScale.{gray_value, gray_values}
 use Rattle.jbig2_halftone.specs.inner.NextValues.{next_value, TakesPlane, row_values}
-use Rattle.jbig2_halftone.specs.inner.Stages.{after_lanes, after_lane_rows}
+use Rattle.jbig2_halftone.specs.inner.FunctionResults.{after_lanes, after_lane_rows}
 use Rattle.jbig2_halftone.proofs.GrayLemmas.{gray-last, gray_value-lt}
 
 pub row-length : (w : ℕ) (planes : List Grid) (y : ℕ) → length (row_values w planes y) ≡ w

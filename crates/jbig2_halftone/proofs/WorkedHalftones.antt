@@ -1,6 +1,6 @@
 -- Patterns, gray values and halftone regions of the worked rows, computed from the definitions alone.
 use Rattle.std.proofs.Common.{◌≡◌, ℕ, true, false, List, [], ◌∷◌, ◌++◌, replicate, Result, Ok, Err, refl}
-use Rattle.jbig2_base.specs.Answer.{◌>>=◌}
+use Rattle.jbig2_base.specs.Results.{◌>>=◌}
 use Rattle.jbig2_base.specs.Combination.{drawn_pixel}
 use Rattle.jbig2_base.specs.Grid.{Grid, table, pixel_at}
 use Rattle.jbig2_base.specs.declared.bitmap.operator.CombinationOperator.TheVariants.{Or}
@@ -13,7 +13,7 @@ use Rattle.jbig2_mmr.specs.T6Codes.{modes, longer_runs, white_runs, black_runs}
 use Rattle.jbig2_base.specs.Search.{least, code_length}
 use Rattle.jbig2_mmr.specs.T6.{read_code, run_from, is_change, is_change_from, b1_of, b2_of, after_pass, after_runs, after_vertical, next_step, row_from, black_at, ends_block, rows_from, rows_of, mmr_rows}
 use Rattle.jbig2_halftone.specs.GrayScale.{mmr_planes, gray_value, gray_values, gray_scale_image}
-use Rattle.jbig2_halftone.specs.Halftone.{cells_drawn, halftone_answer, halftone_decoded}
+use Rattle.jbig2_halftone.specs.Halftone.{cells_drawn, halftone_result, halftone_decoded}
 use Rattle.jbig2_halftone.specs.HalftoneHeader.{halftone_flags_at, halftone_grid_at, halftone_header_at}
 use Rattle.jbig2_halftone.specs.PatternHeader.{pattern_header_at}
 use Rattle.jbig2_halftone.specs.Patterns.{Patterns, patterns_of, patterns_decoded}
@@ -48,11 +48,11 @@ abbrev one_cell : List ℕ → List ℕ
 one_cell column = 0 ∷ 0 ∷ 0 ∷ 8 ∷ 0 ∷ 0 ∷ 0 ∷ 1 ∷ (replicate 9 0 ++ 1 ∷ 0 ∷ 0 ∷ 0 ∷ 1 ∷ 0 ∷ 0 ∷ 0 ∷ 1 ∷ (column ++ replicate 8 0))
 
 row_13-region : region (one_cell (0 ∷ 0 ∷ 0 ∷ 0 ∷ [])) ≡ Ok (record { grid = black; x_location = 0; y_location = 0; combination_operator = Or })
-unfolding region halftone_header_at region_info_at halftone_flags_at halftone_grid_at halftone_decoded halftone_answer gray_scale_image mmr_planes gray_values gray_value cells_drawn drawn_pixel table pixel_at least
+unfolding region halftone_header_at region_info_at halftone_flags_at halftone_grid_at halftone_decoded halftone_result gray_scale_image mmr_planes gray_values gray_value cells_drawn drawn_pixel table pixel_at least
 row_13-region = refl
 
 row_R7_3-region : region (one_cell (0 ∷ 0 ∷ 8 ∷ 0 ∷ [])) ≡ Ok (record { grid = record { width = 8; height = 1; pixels = replicate 8 false }; x_location = 0; y_location = 0; combination_operator = Or })
-unfolding region halftone_header_at region_info_at halftone_flags_at halftone_grid_at halftone_decoded halftone_answer gray_scale_image mmr_planes gray_values gray_value cells_drawn drawn_pixel table pixel_at least
+unfolding region halftone_header_at region_info_at halftone_flags_at halftone_grid_at halftone_decoded halftone_result gray_scale_image mmr_planes gray_values gray_value cells_drawn drawn_pixel table pixel_at least
 row_R7_3-region = refl
 
 -- planes of one pixel

@@ -4,7 +4,7 @@ use Rattle.std.specs.Prelude.{ℕ, ◌+◌, ◌-◌, ◌*◌, ◌/◌, ◌%◌, 
 use Rattle.std.specs.Prelude.{◌+ℤ◌, ◌-ℤ◌, int_le, List, [], ◌∷◌, length, slice_index_or, Option, Some, None, Result, Ok}
 use Rattle.std.specs.Prelude.{Err}
 use Rattle.std.specs.Int.{int_shr}
-use Rattle.jbig2_base.specs.Answer.{◌>>=◌, refuse_if}
+use Rattle.jbig2_base.specs.Results.{◌>>=◌, refuse_if}
 use Rattle.jbig2_base.specs.Combination.{combined}
 use Rattle.jbig2_base.specs.Grid.{Grid, grid_of, blank}
 use Rattle.jbig2_base.specs.declared.error.DecodeError.{DecodeError}
@@ -26,8 +26,8 @@ abbrev pub row_of : HalftoneHeader → ℕ → ℕ → ℤ
 row_of h m n = int_shr (h.grid_position_and_size.vertical_offset +ℤ pos (m * h.grid_vector.x_vector) -ℤ pos (n * h.grid_vector.y_vector)) 8
 
 -- along one axis: a pattern of this size at this place has no pixel in a region of `room` pixels
-abbrev pub is_apart : ℤ → ℕ → ℕ → Bool
-is_apart place size room = int_le (place +ℤ pos size) (pos 0) || int_le (pos room) place
+abbrev pub is_beyond : ℤ → ℕ → ℕ → Bool
+is_beyond place size room = int_le (place +ℤ pos size) (pos 0) || int_le (pos room) place
 
 -- black where a cell is skipped: its pattern would lie wholly outside the region (HSKIP, 6.6.5.1); MMR skips none
 abbrev pub skip_mask : HalftoneHeader → Patterns → Option Grid
@@ -35,7 +35,7 @@ skip_mask h d =
     let grid = h.grid_position_and_size in
     let room = h.region_info in
     let lies_outside : ℕ → ℕ → Bool =
-    λ n m. is_apart (column_of h m n) d.width room.width || is_apart (row_of h m n) d.height room.height in
+    λ n m. is_beyond (column_of h m n) d.width room.width || is_beyond (row_of h m n) d.height room.height in
     if h.flags.enable_skip && not h.flags.mmr then Some (grid_of grid.width grid.height lies_outside) else None
 
 -- a value for each cell, row by row, with as many bits as the number of the last pattern needs (Table 23)
@@ -69,8 +69,8 @@ cells_drawn h d k [] region = Ok region
 cells_drawn h d k (value ∷ values) region = pattern_for h.strict d.grids value >>= λ pattern. cells_drawn h d (k + 1) values (with_cell h k pattern region)
 
 -- The region, which begins in its initial colour.
-unfoldable pub halftone_answer : HalftoneHeader → Patterns → Result Grid DecodeError
-halftone_answer h d = do
+unfoldable pub halftone_result : HalftoneHeader → Patterns → Result Grid DecodeError
+halftone_result h d = do
   values ← gray_scale_image (gray_params h d) h.bytes
   cells_drawn h d 0 values (blank h.region_info.width h.region_info.height h.flags.initial_pixel_color)
 
@@ -82,7 +82,7 @@ halftone_contexts h d contexts = gray_contexts (gray_params h d) h.bytes context
 unfoldable pub halftone_decoded : HalftoneHeader → Patterns → Result PlacedRegion DecodeError
 halftone_decoded h d = do
   fits ← refuse_if (nat_lt 65535 h.region_info.width || nat_lt 65535 h.region_info.height) (Overflow BitmapDimension)
-  grid ← halftone_answer h d
+  grid ← halftone_result h d
   Ok (placed h.region_info grid)
 
 -- The contexts after that. Where a side is refused, they are as they were.

@@ -2,7 +2,7 @@
 -- size, place and vector. The bytes give the header, and the coded bytes after it.
 use Rattle.std.specs.Prelude.{ℕ, ◌/◌, ◌%◌, ◌==◌, nat_lt, Bool, ◌||◌, List, Result, Ok}
 use Rattle.std.specs.Int.{w8, w16, w32}
-use Rattle.jbig2_base.specs.Answer.{refuse_if, ◌>>=◌}
+use Rattle.jbig2_base.specs.Results.{refuse_if, ◌>>=◌}
 use Rattle.jbig2_base.specs.Fields.{number_at, signed_at}
 use Rattle.jbig2_base.specs.Combination.{operator_of}
 use Rattle.jbig2_base.specs.declared.error.DecodeError.{DecodeError}

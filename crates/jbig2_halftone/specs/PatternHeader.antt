@@ -2,7 +2,7 @@
 -- The bytes give the header, and the coded bytes after it.
 use Rattle.std.specs.Prelude.{ℕ, ◌≡◌, ◌/◌, ◌%◌, ◌==◌, Bool, List, Result, Ok}
 use Rattle.std.specs.Int.{w8, w32}
-use Rattle.jbig2_base.specs.Answer.{◌>>=◌, refuse_if}
+use Rattle.jbig2_base.specs.Results.{◌>>=◌, refuse_if}
 use Rattle.jbig2_base.specs.Grid.{Grid}
 use Rattle.jbig2_base.specs.Fields.{number_at, end_of_bytes}
 use Rattle.jbig2_base.specs.declared.error.DecodeError.{DecodeError}

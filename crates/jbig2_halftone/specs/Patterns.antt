@@ -2,14 +2,14 @@
 -- header with the coded bytes gives the list of the patterns' grids, one for each gray value.
 use Rattle.std.specs.Prelude.{ℕ, ◌+◌, ◌*◌, nat_lt, Bool, true, false, if◌then◌else◌, List, [], ◌∷◌, map, Result, Ok}
 use Rattle.std.specs.List.{range_with_len}
-use Rattle.jbig2_base.specs.Answer.{refuse_if, ◌>>=◌}
+use Rattle.jbig2_base.specs.Results.{refuse_if, ◌>>=◌}
 use Rattle.jbig2_base.specs.Grid.{Grid, part_of}
 use Rattle.jbig2_base.specs.declared.bitmap.operator.CombinationOperator.TheVariants.{Or}
 use Rattle.jbig2_base.specs.declared.error.DecodeError.{DecodeError}
 use Rattle.jbig2_base.specs.declared.error.DecodeError.TheVariants.{Overflow}
 use Rattle.jbig2_base.specs.declared.error.OverflowError.TheVariants.{BitmapDimension}
 use Rattle.jbig2_coder.specs.Coder.{Context}
-use Rattle.jbig2_region.specs.Generic.{generic_answer, contexts_after}
+use Rattle.jbig2_region.specs.Generic.{generic_result, contexts_after}
 use Rattle.jbig2_region.specs.GenericHeader.{GenericHeader}
 use Rattle.jbig2_region.specs.Templates.{left, right}
 use Rattle.jbig2_region.specs.declared.template.AdaptiveTemplatePixel.{AdaptiveTemplatePixel}
@@ -53,7 +53,7 @@ patterns_of collective width height count =
 unfoldable pub patterns_decoded : PatternHeader → Result Patterns DecodeError
 patterns_decoded h = do
   fits ← refuse_if (nat_lt 65535 (collective_width h)) (Overflow BitmapDimension)
-  collective ← generic_answer (collective_header h)
+  collective ← generic_result (collective_header h)
   Ok (record { grids = patterns_of collective h.pattern_width h.pattern_height (h.gray_max + 1); width = h.pattern_width; height = h.pattern_height })
 
 -- The contexts after the collective bitmap. One that is too wide leaves them as they were.

@@ -1,7 +1,7 @@
 //! Gray-scale images (T.88, Annex C).
 ghost use Rattle.std.specs.Prelude.{◌≡◌, ◌≤◌, [], Ok, OnOk, OnErr};
 ghost use Rattle.jbig2_steps.specs.Work.{CountsWithin};
-ghost use Rattle.jbig2_base.specs.Answer.{Gives, Leaves};
+ghost use Rattle.jbig2_base.specs.Results.{Gives, Leaves};
 ghost use Rattle.jbig2_base.specs.Counts.{KeepsLanes};
 ghost use Rattle.jbig2_halftone.specs.GrayScale.{gray_values, gray_scale_image, gray_contexts, GrayScale};
 ghost use Rattle.jbig2_halftone.specs.Steps.{CountsImage, CountsLanes, StopsImage, price_of_image};

@@ -2,21 +2,21 @@
 ghost use Rattle.std.specs.Prelude.{◌≡◌, ◌+◌, ◌*◌, ◌<◌, ◌≤◌, length, false, ◌⊎◌, IfErr, IfOk, OnErr, OnOk, FitsSigned, Ok};
 ghost use Rattle.std.specs.Int.{w32, int_shr};
 ghost use Rattle.jbig2_steps.specs.Work.{CountsWithin};
-ghost use Rattle.jbig2_base.specs.Answer.{Answers, Gives, Leaves};
+ghost use Rattle.jbig2_base.specs.Results.{Returns, Gives, Leaves};
 ghost use Rattle.std.specs.List.{All};
 ghost use Rattle.jbig2_base.specs.{Counts.{WritesWithin, most_words, overlap}, Combination.{combined}};
 ghost use Rattle.jbig2_base.specs.Grid.{blank};
 ghost use Rattle.jbig2_base.specs.Search.{code_length};
 ghost use Rattle.jbig2_region.specs.inner.RegionViews.{region_view};
 ghost use Rattle.jbig2_halftone.specs.GrayScale.{planes_of, gray_values};
-ghost use Rattle.jbig2_halftone.specs.Halftone.{gray_params, skip_mask, pattern_for, cells_drawn, halftone_answer, halftone_contexts, halftone_decoded, decoded_contexts};
+ghost use Rattle.jbig2_halftone.specs.Halftone.{gray_params, skip_mask, pattern_for, cells_drawn, halftone_result, halftone_contexts, halftone_decoded, decoded_contexts};
 ghost use Rattle.jbig2_halftone.specs.HalftoneHeader.{HalftoneHeader};
 ghost use Rattle.jbig2_halftone.specs.inner.HalftoneHeaderViews.{header_view};
 ghost use Rattle.jbig2_halftone.specs.PatternHeader.{HasSize};
 ghost use Rattle.jbig2_halftone.specs.inner.DictionaryViews.{dictionary_view};
 ghost use Rattle.jbig2_halftone.specs.Steps.{CountsRead, CountsHalftone, StopsHalftone, after_mask, words_of_cells, price_of_halftone};
 ghost use Rattle.jbig2_halftone.specs.inner.CellPlaces.{x_of, y_of};
-ghost use Rattle.jbig2_halftone.specs.inner.Stages.{planes_contexts, skip_grid, after_lane_rows, StopsCells, StopsRows};
+ghost use Rattle.jbig2_halftone.specs.inner.FunctionResults.{planes_contexts, skip_grid, after_lane_rows, StopsCells, StopsRows};
 ghost use Rattle.jbig2_base.specs.Causes.{HasCauseOrNoMemory};
 ghost use Rattle.jbig2_halftone.specs.Causes.{BreaksHalftone};
 
@@ -83,7 +83,7 @@ fn pattern_for<A: Allocator>(
     dictionary: &PatternDictionary<A>,
     value: u32,
 ) -> Result<&Bitmap<A>>
-    ensures value { Answers (λ pattern. pattern.now) result
+    ensures value { Returns (λ pattern. pattern.now) result
         (pattern_for strict dictionary.now.patterns.items value) }
     ensures refused { IfErr result (λ e. e ≡ DecodeError.Region RegionError.GrayScaleOutOfRange) }
     ensures sized { IfOk result (λ pattern. HasSize dictionary.now.pattern_width
@@ -146,7 +146,7 @@ fn draw_row<D: Allocator, A: Allocator, L: Ledger>(
     requires sized { length values.now ≡ header.now.grid_position_and_size.width }
     requires region { HasSize header.now.region_info.width header.now.region_info.height
         bitmap.old }
-    ensures value { Answers (λ _. bitmap.new) result
+    ensures value { Returns (λ _. bitmap.new) result
         (cells_drawn (header_view header.now) (dictionary_view dictionary.now)
         (m * header.now.grid_position_and_size.width) values.now bitmap.old) }
     ensures refused { IfErr result (λ e. e ≡ DecodeError.Region RegionError.GrayScaleOutOfRange) }
@@ -188,7 +188,7 @@ fn draw_rows<D: Allocator, P: Allocator, A: Allocator, L: Ledger>(
     requires row { length values.old ≡ header.now.grid_position_and_size.width }
     requires region { HasSize header.now.region_info.width header.now.region_info.height
         bitmap.old }
-    ensures value { Answers (λ _. bitmap.new) result
+    ensures value { Returns (λ _. bitmap.new) result
         (cells_drawn (header_view header.now) (dictionary_view dictionary.now) 0
         (gray_values header.now.grid_position_and_size.width
         header.now.grid_position_and_size.height planes.now) bitmap.old) }
@@ -307,7 +307,7 @@ pub fn decode_into<D: Allocator, M: Allocator, A: Allocator + Clone, B: Allocato
     requires coloured { bitmap.old ≡ blank header.now.region_info.width
         header.now.region_info.height header.now.flags.initial_pixel_color }
     ensures value { Gives (λ _. bitmap.new) result
-        (halftone_answer (header_view header.now) (dictionary_view dictionary.now)) }
+        (halftone_result (header_view header.now) (dictionary_view dictionary.now)) }
     ensures bitmap { IfErr result (λ e. (e ≡ DecodeError.Region RegionError.GrayScaleOutOfRange) ⊎
         (bitmap.new ≡ bitmap.old)) }
     ensures contexts { Leaves result contexts.new.items

@@ -1,10 +1,10 @@
 //! Pattern dictionaries (T.88, 6.7 and 7.4.4): cuts the patterns out of one collective bitmap.
 ghost use Rattle.std.specs.Prelude.{◌≡◌, ◌+◌, ◌*◌, ◌/◌, ◌≤◌, [], ◌∷◌, length, IfOk, OnErr, OnOk, Ok, Bool, true, false};
 ghost use Rattle.jbig2_steps.specs.Work.{CountsWithin};
-ghost use Rattle.jbig2_base.specs.Answer.{Answers, Gives, Leaves};
+ghost use Rattle.jbig2_base.specs.Results.{Returns, Gives, Leaves};
 ghost use Rattle.jbig2_base.specs.Bits.{IsAligned};
 ghost use Rattle.jbig2_base.specs.Counts.{KeepsLanes, words_copied};
-ghost use Rattle.jbig2_region.specs.Generic.{generic_answer, contexts_after};
+ghost use Rattle.jbig2_region.specs.Generic.{generic_result, contexts_after};
 ghost use Rattle.jbig2_region.specs.GenericSteps.{CountsGeneric, price_of_region};
 ghost use Rattle.jbig2_region.specs.Templates.{left, right};
 ghost use Rattle.jbig2_region.specs.declared.template.GenericTemplatePixels.TheVariants.{Regular};
@@ -12,7 +12,7 @@ ghost use Rattle.jbig2_halftone.specs.PatternHeader.{side_at, pattern_header_at}
 ghost use Rattle.jbig2_halftone.specs.Patterns.{collective_width, collective_header, patterns_of, patterns_decoded, dictionary_contexts};
 ghost use Rattle.jbig2_halftone.specs.inner.DictionaryViews.{dictionary_view};
 ghost use Rattle.jbig2_halftone.specs.inner.PatternViews.{header_view};
-ghost use Rattle.jbig2_halftone.specs.inner.Stages.{pattern_of, StopsCut};
+ghost use Rattle.jbig2_halftone.specs.inner.FunctionResults.{pattern_of, StopsCut};
 ghost use Rattle.jbig2_halftone.specs.Steps.{CountsDictionary, StopsDictionary, price_of_patterns};
 ghost use Rattle.jbig2_base.specs.Causes.{HasCause, HasCauseOrNoMemory};
 ghost use Rattle.jbig2_halftone.specs.Causes.{BreaksPatternHeader, BreaksPatterns};
@@ -58,7 +58,7 @@ pub struct PatternDictionaryHeader<'a> {
 /// Reads a side of a pattern, which must not be 0.
 fn side_field(reader: &mut Reader<'_>) -> Result<u8>
     requires { IsAligned reader.old }
-    ensures value { Answers (λ x. (x, reader.new.bytes)) result (side_at reader.old.bytes) }
+    ensures value { Returns (λ x. (x, reader.new.bytes)) result (side_at reader.old.bytes) }
     ensures aligned { IsAligned reader.new }
     ensures some { IfOk result (λ x. 1 ≤ x) }
 {
@@ -77,7 +77,7 @@ fn side_field(reader: &mut Reader<'_>) -> Result<u8>
 #[tactic(auto, unfolding(crate::specs::PatternHeader::pattern_header_at))]
 pub fn parse<'a>(reader: &mut Reader<'a>, strict: bool) -> Result<PatternDictionaryHeader<'a>>
     requires { IsAligned reader.old }
-    ensures value { Answers (λ h. (header_view h, reader.new.bytes)) result
+    ensures value { Returns (λ h. (header_view h, reader.new.bytes)) result
         (pattern_header_at strict reader.old.bytes) }
     ensures aligned { IsAligned reader.new }
     ensures width { IfOk result (λ h. 1 ≤ h.pattern_width) }
@@ -183,7 +183,7 @@ fn decode_collective<A: Allocator, B: Allocator, L: Ledger>(
     requires width { width ≡ collective_width (header_view header.now) }
     requires columns { width ≤ 65535 }
     ensures value { Gives (λ collective. collective) result
-        (generic_answer (collective_header (header_view header.now))) }
+        (generic_result (collective_header (header_view header.now))) }
     ensures contexts { Leaves result contexts.new.items
         (contexts_after (collective_header (header_view header.now)) contexts.old.items) }
     ensures steps { OnOk result

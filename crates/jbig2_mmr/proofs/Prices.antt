@@ -2,7 +2,7 @@
 use Rattle.std.specs.Prelude.{if◌then◌else◌}
 use Rattle.std.proofs.Common.{◌≡◌, ℕ, ◌+◌, ◌*◌, ◌≤◌, Bool, true, false, not, ◌&&◌, List, length, Result, Ok, Err, subst, arith}
 use Rattle.std.proofs.Math.Nat.{mul-le-mul_right}
-use Rattle.jbig2_base.specs.Answer.{Answers}
+use Rattle.jbig2_base.specs.Results.{Returns}
 use Rattle.jbig2_base.specs.Counts.{Counts, KeepsLanes, words_of}
 use Rattle.jbig2_base.specs.Grid.{Grid}
 use Rattle.jbig2_base.specs.declared.error.DecodeError.{DecodeError}
@@ -19,7 +19,7 @@ used-within strict w h bytes d is = either (strict && not (rows_of w h bytes).wh
     either true e x few same = absurd (cc)
     either false e x few same = let one : x ≡ d = cc in subst (λ (y : Decoded). y.used ≤ length bytes) one few
 
-taken-within : (result : Result ℕ DecodeError) (grid : Grid) (strict : Bool) (w h : ℕ) (bytes : List ℕ) → Answers (λ used. record { grid = grid; used = used }) result (mmr_rows strict w h bytes) → bytes_taken result (length bytes) ≤ length bytes
+taken-within : (result : Result ℕ DecodeError) (grid : Grid) (strict : Bool) (w h : ℕ) (bytes : List ℕ) → Returns (λ used. record { grid = grid; used = used }) result (mmr_rows strict w h bytes) → bytes_taken result (length bytes) ≤ length bytes
 taken-within (Ok used) grid strict w h bytes is = used-within strict w h bytes _ is
 taken-within (Err e) grid strict w h bytes is = omega arith
 
@@ -32,7 +32,7 @@ mmr-paid g bytes taken old new within lanes moves =
     let paid : 3 * words_of g ≤ 32 * price_of_bitmap g.width g.height = row-paid g.width g.height (3 * words_of g) (thrice (words_of g) (words_of_row g.width) g.height few) in
     omega (arith, paid, moves.moves, moves.decisions, moves.run_tests, lanes.groups, lanes.pixels)
 
-pub decode-paid : (result : Result ℕ DecodeError) (old new : Grid) (strict : Bool) (bytes : List ℕ) (before after : Counts) → Answers (λ used. record { grid = new; used = used }) result (mmr_rows strict old.width old.height bytes) → KeepsLanes before after → MovesWithin (3 * (words_of old + 8 * bytes_taken result (length bytes))) before after → CountsWithin (price_of_bitmap old.width old.height + length bytes) before after
+pub decode-paid : (result : Result ℕ DecodeError) (old new : Grid) (strict : Bool) (bytes : List ℕ) (before after : Counts) → Returns (λ used. record { grid = new; used = used }) result (mmr_rows strict old.width old.height bytes) → KeepsLanes before after → MovesWithin (3 * (words_of old + 8 * bytes_taken result (length bytes))) before after → CountsWithin (price_of_bitmap old.width old.height + length bytes) before after
 decode-paid result old new strict bytes before after value lanes moves =
     let paid = mmr-paid old bytes (bytes_taken result (length bytes)) before after (taken-within result new strict old.width old.height bytes value) lanes moves in
     omega (arith, paid)

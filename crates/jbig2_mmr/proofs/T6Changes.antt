@@ -87,7 +87,7 @@ bits-are row black x pixels left changes k read others is inside first =
 
 -- a whole word, after another one
 pub changes-are : (row : ℕ → Bool) (black : Bool) (from x pixels before left changes : ℕ) → from ≤ x → changes < 2 ^ 64 → ((k : ℕ) → k < 64 → bit pixels (64 - 1 - k) ≡ row (x + k)) → bit before 0 ≡ left_of row x → bit left 63 ≡ bit before 0 → ((k : ℕ) → k < 63 → bit left k ≡ bit pixels (k + 1)) → ((k : ℕ) → bit changes k ≡ (differ (bit pixels k) (bit left k) && differ (bit pixels k) black)) → IsChanges row black from x changes
-changes-are row black from x pixels before left changes begun small read known first others is = record {
+changes-are row black from x pixels before left changes past_start small read known first others is = record {
   small = small;
   outside = λ k inside out. absurd (omega arith);
   value = λ k inside after. bits-are row black x pixels left changes k read others is inside (λ e. first ∙ known);

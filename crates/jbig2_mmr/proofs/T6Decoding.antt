@@ -3,7 +3,7 @@ use Rattle.std.proofs.Common.{◌≡◌, ℕ, zero, suc, ◌+◌, ◌-◌, ◌/�
 use Rattle.std.specs.Prelude.{◌||◌}
 use Rattle.std.proofs.lemmas.List.{get_or_append_left, get_or_push, get_or_past, length_push}
 use Rattle.std.proofs.lemmas.Bool.{cases_eq, cases_lt, cond-true, cond-false, lt-ltb, le-ltb, ne_eqb, or_from}
-use Rattle.jbig2_base.specs.Answer.{Answers}
+use Rattle.jbig2_base.specs.Results.{Returns}
 use Rattle.jbig2_base.specs.Grid.{Grid, grid_of, blank, pixel_at}
 use Rattle.jbig2_base.specs.Table.{IsTable}
 use Rattle.jbig2_base.specs.declared.error.DecodeError.{DecodeError}
@@ -171,28 +171,28 @@ pub drawn-rows : (w h : ℕ) (bytes : List ℕ) (done : List (List ℕ)) (whole 
 drawn-rows w h bytes done whole left new e drawn = drawn ∙ ap (λ (r : Rows). grid_of_rows w h r.rows) (sym e)
 
 -- ---- returns
-answer_of : Bool → ℕ → ℕ → List ℕ → Rows → Result Decoded DecodeError
-answer_of strict w h bytes r = cond (strict && not r.whole) (Err (Region InvalidMmrData)) (Ok (record { grid = grid_of_rows w h r.rows; used = length bytes - length r.left / 8 }))
+result_of : Bool → ℕ → ℕ → List ℕ → Rows → Result Decoded DecodeError
+result_of strict w h bytes r = cond (strict && not r.whole) (Err (Region InvalidMmrData)) (Ok (record { grid = grid_of_rows w h r.rows; used = length bytes - length r.left / 8 }))
 
-answer-by : (strict : Bool) (w h : ℕ) (bytes : List ℕ) (r : Rows) → rows_of w h bytes ≡ r → mmr_rows strict w h bytes ≡ answer_of strict w h bytes r
-unfolding mmr_rows answer_of
-answer-by strict w h bytes r e = ap (λ (r : Rows). cond (strict && not r.whole) (Err (Region InvalidMmrData)) (Ok (record { grid = grid_of_rows w h r.rows; used = length bytes - length r.left / 8 }))) e
+result-by : (strict : Bool) (w h : ℕ) (bytes : List ℕ) (r : Rows) → rows_of w h bytes ≡ r → mmr_rows strict w h bytes ≡ result_of strict w h bytes r
+unfolding mmr_rows result_of
+result-by strict w h bytes r e = ap (λ (r : Rows). cond (strict && not r.whole) (Err (Region InvalidMmrData)) (Ok (record { grid = grid_of_rows w h r.rows; used = length bytes - length r.left / 8 }))) e
 
 used-grid : (new g : Grid) (used n : ℕ) → new ≡ g → used ≡ n → ◌≡◌ {A = Result Decoded DecodeError} (Ok (record { grid = g; used = n })) (Ok (record { grid = new; used = used }))
 used-grid new g used n e f =
     ap (λ (m : Grid). let d : Decoded = record { grid = m; used = n } in Ok d) (sym e) ∙ ap (λ (k : ℕ). let d : Decoded = record { grid = new; used = k } in Ok d) (sym f)
 
-pub answer-whole : (strict : Bool) (w h : ℕ) (bytes : List ℕ) (done : List (List ℕ)) (left : List ℕ) (new : Grid) (used : ℕ) → rows_of w h bytes ≡ record { rows = done; whole = true; left = left } → new ≡ grid_of_rows w h done → used ≡ length bytes - length left / 8 → mmr_rows strict w h bytes ≡ Ok (record { grid = new; used = used })
-unfolding answer_of
-answer-whole true w h bytes done left new used e g f = answer-by true w h bytes (record { rows = done; whole = true; left = left }) e ∙ used-grid new (grid_of_rows w h done) used (length bytes - length left / 8) g f
-answer-whole false w h bytes done left new used e g f = answer-by false w h bytes (record { rows = done; whole = true; left = left }) e ∙ used-grid new (grid_of_rows w h done) used (length bytes - length left / 8) g f
+pub result-whole : (strict : Bool) (w h : ℕ) (bytes : List ℕ) (done : List (List ℕ)) (left : List ℕ) (new : Grid) (used : ℕ) → rows_of w h bytes ≡ record { rows = done; whole = true; left = left } → new ≡ grid_of_rows w h done → used ≡ length bytes - length left / 8 → mmr_rows strict w h bytes ≡ Ok (record { grid = new; used = used })
+unfolding result_of
+result-whole true w h bytes done left new used e g f = result-by true w h bytes (record { rows = done; whole = true; left = left }) e ∙ used-grid new (grid_of_rows w h done) used (length bytes - length left / 8) g f
+result-whole false w h bytes done left new used e g f = result-by false w h bytes (record { rows = done; whole = true; left = left }) e ∙ used-grid new (grid_of_rows w h done) used (length bytes - length left / 8) g f
 
-pub answer-missing : (strict : Bool) (w h : ℕ) (bytes : List ℕ) (done : List (List ℕ)) (left : List ℕ) (new : Grid) (used : ℕ) (result : Result ℕ DecodeError) → rows_of w h bytes ≡ record { rows = done; whole = false; left = left } → new ≡ grid_of_rows w h done → used ≡ length bytes - length left / 8 → result ≡ cond strict (Err (Region InvalidMmrData)) (Ok used) → Answers (λ (n : ℕ). let d : Decoded = record { grid = new; used = n } in d) result (mmr_rows strict w h bytes)
-unfolding answer_of
-answer-missing true w h bytes done left new used result e g f is =
-    subst (λ (r : Result ℕ DecodeError). Answers (λ (n : ℕ). let d : Decoded = record { grid = new; used = n } in d) r (mmr_rows true w h bytes)) (sym is) (answer-by true w h bytes (record { rows = done; whole = false; left = left }) e)
-answer-missing false w h bytes done left new used result e g f is =
-    subst (λ (r : Result ℕ DecodeError). Answers (λ (n : ℕ). let d : Decoded = record { grid = new; used = n } in d) r (mmr_rows false w h bytes)) (sym is) (answer-by false w h bytes (record { rows = done; whole = false; left = left }) e ∙ used-grid new (grid_of_rows w h done) used (length bytes - length left / 8) g f)
+pub result-missing : (strict : Bool) (w h : ℕ) (bytes : List ℕ) (done : List (List ℕ)) (left : List ℕ) (new : Grid) (used : ℕ) (result : Result ℕ DecodeError) → rows_of w h bytes ≡ record { rows = done; whole = false; left = left } → new ≡ grid_of_rows w h done → used ≡ length bytes - length left / 8 → result ≡ cond strict (Err (Region InvalidMmrData)) (Ok used) → Returns (λ (n : ℕ). let d : Decoded = record { grid = new; used = n } in d) result (mmr_rows strict w h bytes)
+unfolding result_of
+result-missing true w h bytes done left new used result e g f is =
+    subst (λ (r : Result ℕ DecodeError). Returns (λ (n : ℕ). let d : Decoded = record { grid = new; used = n } in d) r (mmr_rows true w h bytes)) (sym is) (result-by true w h bytes (record { rows = done; whole = false; left = left }) e)
+result-missing false w h bytes done left new used result e g f is =
+    subst (λ (r : Result ℕ DecodeError). Returns (λ (n : ℕ). let d : Decoded = record { grid = new; used = n } in d) r (mmr_rows false w h bytes)) (sym is) (result-by false w h bytes (record { rows = done; whole = false; left = left }) e ∙ used-grid new (grid_of_rows w h done) used (length bytes - length left / 8) g f)
 
 -- without columns or rows
 no-rows : (w h : ℕ) (bytes : List ℕ) → (eqb w 0 || eqb h 0) ≡ true → rows_of w h bytes ≡ record { rows = []; whole = true; left = bits_of bytes }
@@ -203,10 +203,10 @@ white-grid : (g : Grid) → g ≡ blank g.width g.height false → g ≡ grid_of
 white-grid g white =
     white ∙ grid_of-ext g.width g.height (λ _ _. false) (λ x j. black_at (get_or [] j []) x) (λ x j a b. sym (ap (λ (cs : List ℕ). black_at cs x) (get_or_past [] j [] (omega arith)) ∙ change-none x))
 
-pub answer-none : (strict : Bool) (g : Grid) (bytes : List ℕ) → g ≡ blank g.width g.height false → (eqb g.width 0 || eqb g.height 0) ≡ true → mmr_rows strict g.width g.height bytes ≡ Ok (record { grid = g; used = 0 })
-answer-none strict g bytes white none =
+pub result-none : (strict : Bool) (g : Grid) (bytes : List ℕ) → g ≡ blank g.width g.height false → (eqb g.width 0 || eqb g.height 0) ≡ true → mmr_rows strict g.width g.height bytes ≡ Ok (record { grid = g; used = 0 })
+result-none strict g bytes white none =
     let size = length-bits bytes in
-    answer-whole strict g.width g.height bytes [] (bits_of bytes) g 0 (no-rows g.width g.height bytes none) (white-grid g white) (omega arith)
+    result-whole strict g.width g.height bytes [] (bits_of bytes) g 0 (no-rows g.width g.height bytes none) (white-grid g white) (omega arith)
 
 pub drawn-none : (g : Grid) (bytes : List ℕ) → g ≡ blank g.width g.height false → (eqb g.width 0 || eqb g.height 0) ≡ true → g ≡ grid_of_rows g.width g.height (rows_of g.width g.height bytes).rows
 drawn-none g bytes white none = drawn-rows g.width g.height bytes [] true (bits_of bytes) g (no-rows g.width g.height bytes none) (white-grid g white)

@@ -105,9 +105,9 @@ differ-right_true : (b : Bool) → differ b true ≡ not b
 differ-right_true true = refl
 differ-right_true false = refl
 
-pub pass-turn : (w : ℕ) (h : Head) (b2 : ℕ) → h.a0 ≤ b2 → b2 ≤ w → IsTurn w h [] b2 (record { a0 = b2; begun = true; black = h.black })
+pub pass-turn : (w : ℕ) (h : Head) (b2 : ℕ) → h.a0 ≤ b2 → b2 ≤ w → IsTurn w h [] b2 (record { a0 = b2; past_start = true; black = h.black })
 pass-turn w h b2 forward within = record {
-  begun = refl;
+  past_start = refl;
   forward = forward;
   ordered = omega arith;
   inside = within;
@@ -116,9 +116,9 @@ pass-turn w h b2 forward within = record {
   behind = λ x a. ap (λ (t : Bool). differ h.black t) (change-none x) ∙ differ-right_false h.black;
 }
 
-pub vertical-turn : (w : ℕ) (h : Head) (a1 : ℕ) → h.a0 ≤ a1 → a1 ≤ w → IsTurn w h (a1 ∷ []) a1 (record { a0 = a1; begun = true; black = not h.black })
+pub vertical-turn : (w : ℕ) (h : Head) (a1 : ℕ) → h.a0 ≤ a1 → a1 ≤ w → IsTurn w h (a1 ∷ []) a1 (record { a0 = a1; past_start = true; black = not h.black })
 vertical-turn w h a1 forward within = record {
-  begun = refl;
+  past_start = refl;
   forward = forward;
   ordered = omega arith;
   inside = within;
@@ -127,12 +127,12 @@ vertical-turn w h a1 forward within = record {
   behind = λ x a. ap (λ (t : Bool). differ h.black t) (turn-le a1 x a) ∙ differ-right_true h.black;
 }
 
-pub runs-turn : (w : ℕ) (h : Head) (r s : ℕ) → h.a0 + r + s ≤ w → IsTurn w h ((h.a0 + r) ∷ (h.a0 + r + s) ∷ []) (h.a0 + r) (record { a0 = h.a0 + r + s; begun = true; black = h.black })
+pub runs-turn : (w : ℕ) (h : Head) (r s : ℕ) → h.a0 + r + s ≤ w → IsTurn w h ((h.a0 + r) ∷ (h.a0 + r + s) ∷ []) (h.a0 + r) (record { a0 = h.a0 + r + s; past_start = true; black = h.black })
 runs-turn w h r s within =
     let c : ℕ = h.a0 + r in
     let d : ℕ = h.a0 + r + s in
     record {
-      begun = refl;
+      past_start = refl;
       forward = omega arith;
       ordered = omega arith;
       inside = within;
@@ -145,20 +145,20 @@ runs-turn w h r s within =
 pub above-none : (g : Grid) (height : ℕ) (x : ℕ) → height ≡ g.height → pixel_at g x height ≡ false
 above-none g height x e = pixel_at-below g x height (omega arith)
 
-pub pass-read : (w : ℕ) (above : ℕ → Bool) (h : Head) (b1 b2 : ℕ) (t : Turn) (bits : List ℕ) → b1 ≡ b1_of w above h → b1 ≤ w → (b1 < w → above b1 ≡ not h.black) → h.a0 ≤ b1 → IsFirst above h.black b1 w b2 → t.turn ≡ b2 → head_of t.next ≡ record { a0 = b2; begun = true; black = h.black } → ReadStep w h (after_pass w above h bits) (Some t) bits
+pub pass-read : (w : ℕ) (above : ℕ → Bool) (h : Head) (b1 b2 : ℕ) (t : Turn) (bits : List ℕ) → b1 ≡ b1_of w above h → b1 ≤ w → (b1 < w → above b1 ≡ not h.black) → h.a0 ≤ b1 → IsFirst above h.black b1 w b2 → t.turn ≡ b2 → head_of t.next ≡ record { a0 = b2; past_start = true; black = h.black } → ReadStep w h (after_pass w above h bits) (Some t) bits
 unfolding after_pass b2_of
 pass-read w above h b1 b2 t bits e within other forward first turn next =
     let place : place_from (is_change above) (b1_of w above h + 1) w ≡ b2 = ap (λ (b : ℕ). place_from (is_change above) (b + 1) w) (sym e) ∙ b2-is above h.black b1 w b2 within other first in (
-      ap (λ (a : ℕ). let made : Head = record { a0 = a; begun = true; black = h.black } in made) place ∙ sym next,
+      ap (λ (a : ℕ). let made : Head = record { a0 = a; past_start = true; black = h.black } in made) place ∙ sym next,
       refl,
-      subst (λ (m : Head). IsTurn w h [] t.turn m) (sym next) (subst (λ (n : ℕ). IsTurn w h [] n (record { a0 = b2; begun = true; black = h.black })) (sym turn) (pass-turn w h b2 (omega (arith, first.after)) first.within)),
+      subst (λ (m : Head). IsTurn w h [] t.turn m) (sym next) (subst (λ (n : ℕ). IsTurn w h [] n (record { a0 = b2; past_start = true; black = h.black })) (sym turn) (pass-turn w h b2 (omega (arith, first.after)) first.within)),
     )
 
 -- ---- vertical modes
 abbrev vertical_made : Head → ℕ → List ℕ → Step
-vertical_made h a1 bits = record { head = record { a0 = a1; begun = true; black = not h.black }; added = a1 ∷ []; left = bits }
+vertical_made h a1 bits = record { head = record { a0 = a1; past_start = true; black = not h.black }; added = a1 ∷ []; left = bits }
 
-pub vertical-read : (w : ℕ) (above : ℕ → Bool) (h : Head) (b1 a1 : ℕ) (distance : ℤ) (t : Turn) (bits : List ℕ) → b1 ≡ b1_of w above h → pos b1 +ℤ distance ≡ pos a1 → h.a0 ≤ a1 → a1 ≤ w → t.turn ≡ a1 → head_of t.next ≡ record { a0 = a1; begun = true; black = not h.black } → ReadStep w h (after_vertical w above h distance bits) (Some t) bits
+pub vertical-read : (w : ℕ) (above : ℕ → Bool) (h : Head) (b1 a1 : ℕ) (distance : ℤ) (t : Turn) (bits : List ℕ) → b1 ≡ b1_of w above h → pos b1 +ℤ distance ≡ pos a1 → h.a0 ≤ a1 → a1 ≤ w → t.turn ≡ a1 → head_of t.next ≡ record { a0 = a1; past_start = true; black = not h.black } → ReadStep w h (after_vertical w above h distance bits) (Some t) bits
 unfolding after_vertical
 vertical-read w above h b1 a1 distance t bits e sum forward within turn next =
     let place : place_in h.a0 w (pos (b1_of w above h) +ℤ distance) ≡ Some a1 =
@@ -168,7 +168,7 @@ vertical-read w above h b1 a1 distance t bits e sum forward within turn next =
     subst (λ (o : Option Step). ReadStep w h o (Some t) bits) (sym is) (
       sym next,
       refl,
-      subst (λ (m : Head). IsTurn w h (a1 ∷ []) t.turn m) (sym next) (subst (λ (n : ℕ). IsTurn w h (a1 ∷ []) n (record { a0 = a1; begun = true; black = not h.black })) (sym turn) (vertical-turn w h a1 forward within)),
+      subst (λ (m : Head). IsTurn w h (a1 ∷ []) t.turn m) (sym next) (subst (λ (n : ℕ). IsTurn w h (a1 ∷ []) n (record { a0 = a1; past_start = true; black = not h.black })) (sym turn) (vertical-turn w h a1 forward within)),
     )
 
 -- a1 is no place of the row
@@ -194,7 +194,7 @@ vertical-fault w above h b1 distance bits e fault =
 
 -- ---- two runs
 abbrev runs_made : Head → ℕ → ℕ → List ℕ → Step
-runs_made h a1 a2 bits = record { head = record { a0 = a2; begun = true; black = h.black }; added = a1 ∷ a2 ∷ []; left = bits }
+runs_made h a1 a2 bits = record { head = record { a0 = a2; past_start = true; black = h.black }; added = a1 ∷ a2 ∷ []; left = bits }
 
 abbrev second_run : ℕ → Head → ℕ → Option (ℕ × List ℕ) → Option Step
 second_run w h first o = o >>= (λ q. cond (leb (h.a0 + first + q.0) w) (Some (runs_made h (h.a0 + first) (h.a0 + first + q.0) q.1)) None)
@@ -222,7 +222,7 @@ second-fault w h first (Some q) left inside read = cond-false (leb (h.a0 + first
 pub run-within : (o : Option (ℕ × List ℕ)) (room n : ℕ) (left : List ℕ) → ReadRun o room (Some n) left → n ≤ room
 run-within o room n left read = (run-is o room n left read).1
 
-pub runs-read : (w : ℕ) (h : Head) (r s : ℕ) (bits middle left : List ℕ) (t : Turn) → h.a0 ≤ w → ReadRun (run h.black bits) (w - h.a0) (Some r) middle → ReadRun (run (not h.black) middle) (w - (h.a0 + r)) (Some s) left → t.turn ≡ h.a0 + r → head_of t.next ≡ record { a0 = h.a0 + r + s; begun = true; black = h.black } → ReadStep w h (after_runs w h bits) (Some t) left
+pub runs-read : (w : ℕ) (h : Head) (r s : ℕ) (bits middle left : List ℕ) (t : Turn) → h.a0 ≤ w → ReadRun (run h.black bits) (w - h.a0) (Some r) middle → ReadRun (run (not h.black) middle) (w - (h.a0 + r)) (Some s) left → t.turn ≡ h.a0 + r → head_of t.next ≡ record { a0 = h.a0 + r + s; past_start = true; black = h.black } → ReadStep w h (after_runs w h bits) (Some t) left
 unfolding after_runs
 runs-read w h r s bits middle left t inside first second turn next =
     let one = run-is (run h.black bits) (w - h.a0) r middle first in
@@ -234,7 +234,7 @@ runs-read w h r s bits middle left t inside first second turn next =
     subst (λ (o : Option Step). ReadStep w h o (Some t) left) (sym is) (
       sym next,
       refl,
-      subst (λ (m : Head). IsTurn w h ((h.a0 + r) ∷ (h.a0 + r + s) ∷ []) t.turn m) (sym next) (subst (λ (n : ℕ). IsTurn w h ((h.a0 + r) ∷ (h.a0 + r + s) ∷ []) n (record { a0 = h.a0 + r + s; begun = true; black = h.black })) (sym turn) (runs-turn w h r s within)),
+      subst (λ (m : Head). IsTurn w h ((h.a0 + r) ∷ (h.a0 + r + s) ∷ []) t.turn m) (sym next) (subst (λ (n : ℕ). IsTurn w h ((h.a0 + r) ∷ (h.a0 + r + s) ∷ []) n (record { a0 = h.a0 + r + s; past_start = true; black = h.black })) (sym turn) (runs-turn w h r s within)),
     )
 
 pub runs-fault-first : (w : ℕ) (h : Head) (bits left : List ℕ) → h.a0 ≤ w → ReadRun (run h.black bits) (w - h.a0) None left → ReadStep w h (after_runs w h bits) None left
@@ -274,7 +274,7 @@ pub record RowReading (g new : Grid) (y : ℕ) (h : Head) (bits : List ℕ) (mea
   pub other : (x j : ℕ) → (j ≡ y → ⊥) → pixel_at new x j ≡ pixel_at g x j
   pub ahead : (x : ℕ) → h.a0 ≤ x → black_at changes x ≡ h.black
   pub inside : h.a0 ≤ g.width
-  pub first : h.begun ≡ false → h.a0 ≡ 0
+  pub first : h.past_start ≡ false → h.a0 ≡ 0
 
 pub row-start : (g : Grid) (y : ℕ) (bits : List ℕ) → IsTable g → ((x : ℕ) → pixel_at g x y ≡ false) → RowReading g g y row_start bits (row_from (length bits) g.width (row_above g y) row_start [] bits)
 row-start g y bits known white = record {
@@ -334,7 +334,7 @@ next-by g new one two y h bits left meant t s reading inside shorter e read firs
       other = λ x j o. second.other x j o ∙ first.other x j o ∙ reading.other x j o;
       ahead = λ x a. at x ∙ ap (λ (b : Bool). differ b (black_at s.added x)) (reading.ahead x (omega (arith, turn.forward, turn.ordered))) ∙ turn.behind x a;
       inside = turn.inside;
-      first = λ e. absurd (true≢false (sym turn.begun ∙ e));
+      first = λ e. absurd (true≢false (sym turn.past_start ∙ e));
     }
 
 next-of : (g new one two : Grid) (y : ℕ) (h : Head) (bits left : List ℕ) (meant : Option (List ℕ × List ℕ)) (t : Turn) (o : Option Step) → RowReading g new y h bits meant → h.a0 < g.width → length left < length bits → next_step g.width (row_above g y) h bits ≡ o → ReadStep g.width h o (Some t) left → IsSpan new one y h.a0 t.turn h.black → IsSpan one two y t.turn t.next.a0 (not h.black) → RowReading g two y (head_of t.next) left meant
@@ -360,11 +360,11 @@ row-next g new one two y above h bits left meant t reading inside shorter same r
     next-of g new one two y h bits left meant t (next_step g.width (row_above g y) h bits) reading inside shorter refl at first second
 
 -- where the mode stays within the row
-turn-of : (w : ℕ) (h : Head) (t : Turn) (left : List ℕ) (o : Option Step) → ReadStep w h o (Some t) left → (h.a0 ≤ t.turn) × (t.turn ≤ t.next.a0) × (t.next.a0 ≤ w) × (t.next.begun ≡ true)
+turn-of : (w : ℕ) (h : Head) (t : Turn) (left : List ℕ) (o : Option Step) → ReadStep w h o (Some t) left → (h.a0 ≤ t.turn) × (t.turn ≤ t.next.a0) × (t.next.a0 ≤ w) × (t.next.past_start ≡ true)
 turn-of w h t left None read = absurd read
-turn-of w h t left (Some s) read = (read.2.forward, read.2.ordered, read.2.inside, read.2.begun)
+turn-of w h t left (Some s) read = (read.2.forward, read.2.ordered, read.2.inside, read.2.past_start)
 
-pub turn-within : (w : ℕ) (above : ℕ → Bool) (h : Head) (bits : List ℕ) (t : Turn) (left : List ℕ) → ReadStep w h (next_step w above h bits) (Some t) left → (h.a0 ≤ t.turn) × (t.turn ≤ t.next.a0) × (t.next.a0 ≤ w) × (t.next.begun ≡ true)
+pub turn-within : (w : ℕ) (above : ℕ → Bool) (h : Head) (bits : List ℕ) (t : Turn) (left : List ℕ) → ReadStep w h (next_step w above h bits) (Some t) left → (h.a0 ≤ t.turn) × (t.turn ≤ t.next.a0) × (t.next.a0 ≤ w) × (t.next.past_start ≡ true)
 turn-within w above h bits t left read = turn-of w h t left (next_step w above h bits) read
 
 -- a fault

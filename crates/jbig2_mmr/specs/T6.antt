@@ -64,7 +64,7 @@ is_change_from row black x = is_change row x && differ (row x) black
 -- the state of a row: its place a0, which is 0 before the first mode; whether a mode was read; the colour from a0 on
 pub record Head : Type 0 where
   pub a0 : ℕ
-  pub begun : Bool
+  pub past_start : Bool
   pub black : Bool
 
 -- the result of a mode: the state of the row, the changing elements that it adds, and the bits after it
@@ -75,14 +75,14 @@ pub record Step : Type 0 where
 
 -- b1: the first changing element of the reference row right of a0 whose colour is not that of a0 (2.2.1)
 unfoldable pub b1_of : ℕ → (ℕ → Bool) → Head → ℕ
-b1_of w above h = place_from (is_change_from above h.black) (if h.begun then h.a0 + 1 else 0) w
+b1_of w above h = place_from (is_change_from above h.black) (if h.past_start then h.a0 + 1 else 0) w
 
 unfoldable pub b2_of : ℕ → (ℕ → Bool) → Head → ℕ  -- b2: the next changing element right of b1 (2.2.1)
 b2_of w above h = place_from (is_change above) (b1_of w above h + 1) w
 
 -- Pass: a0 moves to the place below b2, and the colour stays.
 unfoldable pub after_pass : ℕ → (ℕ → Bool) → Head → List ℕ → Option Step
-after_pass w above h bits = Some (record { head = record { a0 = b2_of w above h; begun = true; black = h.black }; added = []; left = bits })
+after_pass w above h bits = Some (record { head = record { a0 = b2_of w above h; past_start = true; black = h.black }; added = []; left = bits })
 
 -- Horizontal: a run of the colour up to a1, then a run of the other up to a2, within the row. a0 moves to a2.
 unfoldable pub after_runs : ℕ → Head → List ℕ → Option Step
@@ -91,7 +91,7 @@ after_runs w h bits = do
   second ← run (not h.black) first.1
   let a1 = h.a0 + first.0 in
       let a2 = a1 + second.0 in
-      if nat_le a2 w then Some (record { head = record { a0 = a2; begun = true; black = h.black }; added = a1 ∷ a2 ∷ []; left = second.1 }) else None
+      if nat_le a2 w then Some (record { head = record { a0 = a2; past_start = true; black = h.black }; added = a1 ∷ a2 ∷ []; left = second.1 }) else None
 
 abbrev pub place_in : ℕ → ℕ → ℤ → Option ℕ  -- a place in the row that is not left of a0
 place_in a0 w (pos x) = if nat_le a0 x && nat_le x w then Some x else None
@@ -101,7 +101,7 @@ place_in a0 w (negsuc x) = None
 unfoldable pub after_vertical : ℕ → (ℕ → Bool) → Head → ℤ → List ℕ → Option Step
 after_vertical w above h distance bits = do
   a1 ← place_in h.a0 w (pos (b1_of w above h) +ℤ distance)
-  Some (record { head = record { a0 = a1; begun = true; black = not h.black }; added = a1 ∷ []; left = bits })
+  Some (record { head = record { a0 = a1; past_start = true; black = not h.black }; added = a1 ∷ []; left = bits })
 
 abbrev pub after_mode : ℕ → (ℕ → Bool) → Head → Mode → List ℕ → Option Step
 after_mode w above h Pass bits = after_pass w above h bits
@@ -122,7 +122,7 @@ row_from (suc most) w above h changes bits =
     else (next_step w above h bits >>= λ s. row_from most w above s.head (changes ++ s.added) s.left)
 
 abbrev pub row_start : Head  -- a row begins white, left of its first pixel (2.2.1)
-row_start = record { a0 = 0; begun = false; black = false }
+row_start = record { a0 = 0; past_start = false; black = false }
 
 abbrev pub row : ℕ → (ℕ → Bool) → List ℕ → Option (List ℕ × List ℕ)
 row w above bits = row_from (length bits) w above row_start [] bits

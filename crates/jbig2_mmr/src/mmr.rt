@@ -1,6 +1,6 @@
 //! Decodes bitmaps that are coded in two dimensions by T.6 (MMR; T.88, 6.2.6).
 ghost use Rattle.std.specs.Prelude.{◌≡◌, if◌then◌else◌, false, Ok, Err, Bool, ℕ, ◌+◌, ◌*◌, length};
-ghost use Rattle.jbig2_base.specs.Answer.{Answers};
+ghost use Rattle.jbig2_base.specs.Results.{Returns};
 ghost use Rattle.jbig2_base.specs.Counts.{KeepsLanes, words_of};
 ghost use Rattle.jbig2_base.specs.Grid.{blank};
 ghost use Rattle.jbig2_mmr.specs.T6.{mmr_rows, grid_of_rows, rows_of};
@@ -36,7 +36,7 @@ pub fn decode<A: Allocator, L: Ledger>(
     steps: &mut Steps<L>,
 ) -> Result<usize>
     requires { bitmap.old ≡ blank bitmap.old.width bitmap.old.height false }
-    ensures value { Answers (λ used. record { grid = bitmap.new; used = used }) result
+    ensures value { Returns (λ used. record { grid = bitmap.new; used = used }) result
         (mmr_rows strict bitmap.old.width bitmap.old.height bytes.now) }
     ensures grid { bitmap.new ≡ grid_of_rows bitmap.old.width bitmap.old.height
         (rows_of bitmap.old.width bitmap.old.height bytes.now).rows }

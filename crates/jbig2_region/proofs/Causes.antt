@@ -4,7 +4,7 @@ use Rattle.std.specs.Prelude.{IfErr}
 use Rattle.std.specs.Int.{Width, w8, w32, byte_len, from_be_bytes}
 use Rattle.std.proofs.lemmas.Bool.{cond_both, eqb-true, eqb-false}
 use Rattle.std.proofs.lemmas.List.{drop-drop}
-use Rattle.jbig2_base.specs.Answer.{refuse_if}
+use Rattle.jbig2_base.specs.Results.{refuse_if}
 use Rattle.jbig2_base.specs.Causes.{number_in, HasCause}
 use Rattle.jbig2_base.specs.Fields.{end_of_bytes, number_at}
 use Rattle.jbig2_base.specs.Combination.{operator_of}

@@ -2,14 +2,14 @@
 use Rattle.std.proofs.Common.{take, ◌++◌, ◌≡◌, ℕ, Bool, false, List, length, Ok, sym, ap, ◌∙◌, subst}
 use Rattle.std.proofs.Math.Seq.{take-append_seam}
 use Rattle.std.proofs.lemmas.Bool.{cond-false}
-use Rattle.jbig2_base.specs.Answer.{◌>>=◌}
+use Rattle.jbig2_base.specs.Results.{◌>>=◌}
 use Rattle.jbig2_base.specs.Grid.{Grid, blank}
 use Rattle.jbig2_coder.specs.Coder.{Coder, Context, initial_registers}
-use Rattle.jbig2_region.specs.Generic.{generic_coding, generic_region, generic_grid, generic_answer, contexts_after}
+use Rattle.jbig2_region.specs.Generic.{generic_coding, generic_region, generic_grid, generic_result, contexts_after}
 use Rattle.jbig2_region.specs.GenericHeader.{GenericHeader}
 use Rattle.jbig2_region.specs.inner.GenericViews.{header_view}
 use Rattle.jbig2_base.specs.Counts.{Counts}
-use Rattle.jbig2_region.specs.inner.Holds.{Holds}
+use Rattle.jbig2_region.specs.inner.RegionStates.{HasDecoded}
 use Rattle.jbig2_region.specs.GenericSteps.{CountsCoded, CountsGeneric}
 use Rattle.jbig2_region.specs.Raster.{Coding, decoded_region, no_pixels, fresh_contexts}
 use Rattle.jbig2_mmr.specs.T6.{mmr_rows}
@@ -20,13 +20,13 @@ use Rattle.jbig2_region.specs.declared.template.AdaptiveTemplatePixel.{AdaptiveT
 
 -- a region that a coder and contexts that stand at the start decode
 pub fresh-decoded : (coding : Coding) (w h bits : ℕ) (input : List ℕ) (before grid : Grid) (first coder : Coder) (fresh states : List Context) → before ≡ blank w h false → first.bytes ≡ input → first.registers ≡ initial_registers input → fresh ≡ fresh_contexts bits
-    → Holds before.width before.height first.bytes (decoded_region coding before.width before.height first.bytes (no_pixels first.registers fresh)) grid coder states
-    → Holds w h input (decoded_region coding w h input (no_pixels (initial_registers input) (fresh_contexts bits))) grid coder states
+    → HasDecoded before.width before.height first.bytes (decoded_region coding before.width before.height first.bytes (no_pixels first.registers fresh)) grid coder states
+    → HasDecoded w h input (decoded_region coding w h input (no_pixels (initial_registers input) (fresh_contexts bits))) grid coder states
 fresh-decoded coding w h bits input before grid first coder fresh states white bytes registers contexts holds =
-    let one = subst (λ (s : List Context). Holds before.width before.height first.bytes (decoded_region coding before.width before.height first.bytes (no_pixels first.registers s)) grid coder states) contexts holds in
-    let two = subst (λ r. Holds before.width before.height first.bytes (decoded_region coding before.width before.height first.bytes (no_pixels r (fresh_contexts bits))) grid coder states) registers one in
-    let three = subst (λ (b : List ℕ). Holds before.width before.height b (decoded_region coding before.width before.height b (no_pixels (initial_registers input) (fresh_contexts bits))) grid coder states) bytes two in
-    subst (λ (g : Grid). Holds g.width g.height input (decoded_region coding g.width g.height input (no_pixels (initial_registers input) (fresh_contexts bits))) grid coder states) white three
+    let one = subst (λ (s : List Context). HasDecoded before.width before.height first.bytes (decoded_region coding before.width before.height first.bytes (no_pixels first.registers s)) grid coder states) contexts holds in
+    let two = subst (λ r. HasDecoded before.width before.height first.bytes (decoded_region coding before.width before.height first.bytes (no_pixels r (fresh_contexts bits))) grid coder states) registers one in
+    let three = subst (λ (b : List ℕ). HasDecoded before.width before.height b (decoded_region coding before.width before.height b (no_pixels (initial_registers input) (fresh_contexts bits))) grid coder states) bytes two in
+    subst (λ (g : Grid). HasDecoded g.width g.height input (decoded_region coding g.width g.height input (no_pixels (initial_registers input) (fresh_contexts bits))) grid coder states) white three
 
 -- a header without MMR has the adaptive pixels that the arithmetic coder's template takes
 pub as-coded : (h : GenericRegionHeader) (P : List AdaptiveTemplatePixel → Type 0) → h.mmr ≡ false → P (pixels_view false h.template h.adaptive_template_pixels) → P (header_view h).adaptive_template_pixels
@@ -34,15 +34,15 @@ as-coded h P coded p = subst (λ (mmr : Bool). P (pixels_view mmr h.template h.a
 
 -- the same for a generic region
 pub region-decoded : (h : GenericHeader) (before : Grid) (grid : Grid) (first coder : Coder) (fresh states : List Context) → before ≡ blank h.region_info.width h.region_info.height false → first.bytes ≡ h.bytes → first.registers ≡ initial_registers h.bytes → fresh ≡ fresh_contexts (context_bits h.template)
-    → Holds before.width before.height first.bytes (decoded_region (generic_coding h) before.width before.height first.bytes (no_pixels first.registers fresh)) grid coder states
-    → Holds h.region_info.width h.region_info.height h.bytes (generic_region h) grid coder states
+    → HasDecoded before.width before.height first.bytes (decoded_region (generic_coding h) before.width before.height first.bytes (no_pixels first.registers fresh)) grid coder states
+    → HasDecoded h.region_info.width h.region_info.height h.bytes (generic_region h) grid coder states
 unfolding generic_region
 region-decoded h before grid first coder fresh states white bytes registers contexts holds =
     fresh-decoded (generic_coding h) h.region_info.width h.region_info.height (context_bits h.template) h.bytes before grid first coder fresh states white bytes registers contexts holds
 
-pub answer-decoded : (h : GenericHeader) (grid : Grid) (coder : Coder) (states : List Context) → h.mmr ≡ false → Holds h.region_info.width h.region_info.height h.bytes (generic_region h) grid coder states → generic_answer h ≡ Ok grid
+pub result-decoded : (h : GenericHeader) (grid : Grid) (coder : Coder) (states : List Context) → h.mmr ≡ false → HasDecoded h.region_info.width h.region_info.height h.bytes (generic_region h) grid coder states → generic_result h ≡ Ok grid
 unfolding generic_grid
-answer-decoded h grid coder states coded holds =
+result-decoded h grid coder states coded holds =
     cond-false h.mmr (mmr_rows h.strict h.region_info.width h.region_info.height h.bytes >>= λ rows. Ok rows.grid) (Ok (generic_grid h)) coded
     ∙ ap (λ (g : Grid). Ok g) (sym holds.pixels)
 

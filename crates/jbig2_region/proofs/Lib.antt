@@ -1,11 +1,11 @@
 pub mod Answered
 pub mod CarriedLemmas
 pub mod Causes
-pub mod CodesLemmas
 pub mod ContextBits
 pub mod ContextLemmas
 pub mod CountLemmas
 pub mod DecisionLemmas
+pub mod DecodedPixelLemmas
 pub mod GatherLemmas
 pub mod GenericLemmas
 pub mod GenericPrices
@@ -26,13 +26,13 @@ pub mod RefinementPushLemmas
 pub mod RefinementWindowLemmas
 pub mod RegionLemmas
 pub mod RegisterLemmas
+pub mod ResultCauses
 pub mod RunLemmas
 pub mod RunSteps
 pub mod SkippingLemmas
 pub mod StepLemmas
 pub mod StoreLemmas
 pub mod StretchLemmas
-pub mod Told
 pub mod UniformLemmas
 pub mod UnlikeLemmas
 pub mod UsedPixels

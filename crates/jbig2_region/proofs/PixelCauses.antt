@@ -4,7 +4,7 @@ use Rattle.std.specs.Prelude.{IfErr, int_le, int_lt}
 use Rattle.std.specs.Int.{Width, w8, byte_len, cast_signed}
 use Rattle.std.proofs.lemmas.Bool.{false≢true, not-true}
 use Rattle.std.proofs.lemmas.Int.{ints}
-use Rattle.jbig2_base.specs.Answer.{◌>>=◌, refuse_if}
+use Rattle.jbig2_base.specs.Results.{◌>>=◌, refuse_if}
 use Rattle.jbig2_base.specs.Causes.{number_in, HasCause}
 use Rattle.jbig2_base.specs.Fields.{end_of_bytes, number_at, signed_at}
 use Rattle.jbig2_base.specs.declared.error.DecodeError.{DecodeError}

@@ -3,7 +3,7 @@ use Rattle.std.proofs.Common.{◌≡◌, ℕ, zero, suc, ◌+◌, ◌*◌, ◌<�
 use Rattle.jbig2_base.specs.Grid.{bit_number}
 use Rattle.jbig2_region.specs.Steps.{how_many, pixel_decisions, takes_decision}
 use Rattle.jbig2_region.specs.Generic.{context_at, known_colour}
-use Rattle.jbig2_region.specs.Raster.{Coding, Region, after_pixel, at_pixel, row_begun}
+use Rattle.jbig2_region.specs.Raster.{Coding, Region, after_pixel, at_pixel, after_ltp}
 use Rattle.jbig2_region.specs.Steps.{coded_pixels, coded_runs, is_run_byte}
 use Rattle.jbig2_region.specs.inner.Neighbours.{row_coding}
 use Rattle.jbig2_region.specs.inner.RowCounts.{coded_rows, decided_pixels, decided_rows, rows_runs, run_bytes}
@@ -72,7 +72,7 @@ pub decided-places : (coding : Coding) (w h : ℕ) (input : List ℕ) (start : R
 unfolding decided_rows
 decided-places coding w h input start zero none = no-places (λ n. takes_decision coding w h (at_pixel coding w h input start n)) w
 decided-places coding w h input start (suc y) none =
-    let begun : Region = row_begun coding.row_context input (after_rows coding w h input y start) in
+    let begun : Region = after_ltp coding.row_context input (after_rows coding w h input y start) in
     more-places (λ n. takes_decision coding w h (at_pixel coding w h input start n)) (λ x. takes_decision coding w h (after_pixels coding w h input x begun)) w y _ _
     (decided-places coding w h input start y none)
     (λ x inside. ap (λ (r : Region). takes_decision coding w h r) (place-in-rows coding w h input start y x none inside))
@@ -97,7 +97,7 @@ coded-places : (coding : Coding) (w h : ℕ) (input : List ℕ) (start : Region)
 unfolding coded_rows
 coded-places coding w h input start zero none = no-places (λ n. not (at_pixel coding w h input start n).predicted) w ∙ omega arith
 coded-places coding w h input start (suc y) none =
-    let begun : Region = row_begun coding.row_context input (after_rows coding w h input y start) in
+    let begun : Region = after_ltp coding.row_context input (after_rows coding w h input y start) in
     more-places (λ n. not (at_pixel coding w h input start n).predicted) (λ x. not (after_pixels coding w h input x begun).predicted) w y _ _
     (coded-places coding w h input start y none)
     (λ x inside. ap (λ (r : Region). not r.predicted) (place-in-rows coding w h input start y x none inside))
@@ -140,7 +140,7 @@ unfolding rows_runs
 runs-places template row_context w h input start zero none = no-places (λ n. is_coded_run template w h input (at_pixel (coding_with template row_context) w h input start n)) w
 runs-places template row_context w h input start (suc y) none =
     let coding : Coding = coding_with template row_context in
-    let begun : Region = row_begun row_context input (after_rows coding w h input y start) in
+    let begun : Region = after_ltp row_context input (after_rows coding w h input y start) in
     more-places (λ n. is_coded_run template w h input (at_pixel coding w h input start n)) (λ x. is_coded_run template w h input (after_pixels coding w h input x begun)) w y _ _
     (runs-places template row_context w h input start y none)
     (λ x inside. ap (λ (r : Region). is_coded_run template w h input r) (place-in-rows coding w h input start y x none inside))
@@ -151,7 +151,7 @@ no-runs : (template : List AdaptiveTemplatePixel) (coding : Coding) (w h : ℕ) 
 unfolding rows_runs
 no-runs template coding w h input start zero = refl
 no-runs template coding w h input start (suc y) =
-    rw (no-runs template coding w h input start y) (either (row_begun coding.row_context input (after_rows coding w h input y start)).predicted)
+    rw (no-runs template coding w h input start y) (either (after_ltp coding.row_context input (after_rows coding w h input y start)).predicted)
   where
     either : (p : Bool) → 0 + cond p 0 0 ≡ 0
     either true = refl

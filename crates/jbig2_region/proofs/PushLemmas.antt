@@ -9,11 +9,11 @@ use Rattle.jbig2_base.specs.Bits.{bit}
 use Rattle.jbig2_base.specs.Writes.{with_pixels}
 use Rattle.jbig2_base.proofs.BitLemmas.{bit-shl_high, bit-shl_low}
 use Rattle.jbig2_base.proofs.GridLemmas.{grid_of-ext, pixel_at-right}
-use Rattle.jbig2_base.proofs.WriteLemmas.{in_field, before_field, behind_field, other_row}
+use Rattle.jbig2_base.proofs.WriteLemmas.{in_field, before_field, after_field, other_row}
 use Rattle.jbig2_coder.specs.Coder.{Coder, Context}
-use Rattle.jbig2_region.specs.Raster.{Region, row_begun}
-use Rattle.jbig2_region.specs.inner.Holds.{BeginsRow, Holds}
-use Rattle.jbig2_region.specs.inner.PushedPixels.{Stands, StandsRow}
+use Rattle.jbig2_region.specs.Raster.{Region, after_ltp}
+use Rattle.jbig2_region.specs.inner.RegionStates.{BeginsRow, HasDecoded}
+use Rattle.jbig2_region.specs.inner.PushedPixels.{IsAtPixels, IsAtRow}
 use Rattle.jbig2_region.specs.inner.Neighbours.{IsLeft, SameAbove, Shows, ShowsRun}
 use Rattle.jbig2_region.specs.declared.generic_kernel.windows.Windows.{Windows}
 use Rattle.jbig2_region.proofs.RegisterLemmas.{bit-low, bit-placed, left-few}
@@ -49,8 +49,8 @@ stored-then g x y n m a b small wide above =
     ∙ sym (cond-true _ (bit (a * 2 ^ m + b) (x + (n + m) - 1 - i)) (pixel_at g i y) (in_field x y (n + m) i y refl (omega arith) (omega arith))
     ∙ ap (λ (k : ℕ). bit (a * 2 ^ m + b) k) place ∙ ap (λ (k : ℕ). bit k (x + n + m - 1 - i)) order ∙ bit-low b a m (x + n + m - 1 - i) (omega arith)))
     (λ (past : x + n + m ≤ i).
-    cond-false _ (bit b (x + n + m - 1 - i)) (pixel_at old i y) (behind_field (x + n) y m i y past) ∙ stored-outside g x y n a i y (behind_field x y n i y (omega arith))
-    ∙ sym (cond-false _ (bit (a * 2 ^ m + b) (x + (n + m) - 1 - i)) (pixel_at g i y) (behind_field x y (n + m) i y (omega arith))))
+    cond-false _ (bit b (x + n + m - 1 - i)) (pixel_at old i y) (after_field (x + n) y m i y past) ∙ stored-outside g x y n a i y (after_field x y n i y (omega arith))
+    ∙ sym (cond-false _ (bit (a * 2 ^ m + b) (x + (n + m) - 1 - i)) (pixel_at g i y) (after_field x y (n + m) i y (omega arith))))
     (cases_lt i (x + n + m)))
     (cases_lt i (x + n))
     ))
@@ -132,8 +132,8 @@ left-bytes g y done b small wide above =
     (left-after g 0 y (8 * done) 0 b small (omega arith) above (left-none g y)))
 
 -- where a row stands, its next byte does
-pub stands-next : (g : Grid) (y width done count b : ℕ) (w v : Windows) → StandsRow g y width w → b < 2 ^ (8 * done) → 8 * done + count ≤ width → done ≤ 5
-    → Shows g (8 * done) y (64 - 8 * done) v → Stands (with_pixels g 0 y (8 * done) b) (8 * done) y count (b % 16) v
+pub stands-next : (g : Grid) (y width done count b : ℕ) (w v : Windows) → IsAtRow g y width w → b < 2 ^ (8 * done) → 8 * done + count ≤ width → done ≤ 5
+    → Shows g (8 * done) y (64 - 8 * done) v → IsAtPixels (with_pixels g 0 y (8 * done) b) (8 * done) y count (b % 16) v
 stands-next g y width done count b w v row small within few shows = record {
   columns = omega (arith, row.wide);
   row = row.row;
@@ -190,6 +190,6 @@ no-run d d' n qe none is =
     is ∙ ap (λ (a : ℕ). let made : Coder = record d { registers = record d.registers { a = a } } in made) same
 
 -- a row that no decision begins
-pub begins-plain : (w h : ℕ) (g : Grid) (r : Region) (c : Coder) (s : List Context) → r.predicted ≡ false → Holds w h c.bytes r g c s → BeginsRow w h None r false g c c s
-unfolding row_begun
+pub begins-plain : (w h : ℕ) (g : Grid) (r : Region) (c : Coder) (s : List Context) → r.predicted ≡ false → HasDecoded w h c.bytes r g c s → BeginsRow w h None r false g c c s
+unfolding after_ltp
 begins-plain w h g r c s is holds = record { holds = holds; predicted = is }

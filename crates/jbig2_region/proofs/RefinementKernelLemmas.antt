@@ -5,14 +5,14 @@ use Rattle.jbig2_base.specs.Grid.{Grid, bit_number}
 use Rattle.jbig2_base.specs.Writes.{with_pixels}
 use Rattle.jbig2_coder.specs.Coder.{Coder, Context}
 use Rattle.jbig2_region.specs.Refinement.{Reference, refinement_coding}
-use Rattle.jbig2_region.specs.inner.Codes.{Codes, CountsCodes, Takes}
+use Rattle.jbig2_region.specs.inner.DecodedPixels.{DecodesPart, CountsPart, Takes}
 use Rattle.jbig2_region.specs.inner.Neighbours.{IsLeft}
 use Rattle.jbig2_region.specs.inner.RefinementBlocks.{Block}
 use Rattle.jbig2_region.specs.inner.RefinementWindows.{SeesRows, context_of, corners, four_of, known_of, nine_of}
 use Rattle.jbig2_region.specs.Raster.{Coding}
 use Rattle.jbig2_region.specs.declared.refinement_kernel.windows.RefinementWindows.{RefinementWindows}
 use Rattle.jbig2_region.specs.declared.template.RefinementTemplate.{RefinementTemplate}
-use Rattle.jbig2_region.proofs.CodesLemmas.{codes-next, codes-start, counts-next, counts-none, taken-bytes, taken-decisions, taken-digit, taken-others}
+use Rattle.jbig2_region.proofs.DecodedPixelLemmas.{codes-next, codes-start, counts-next, counts-none, taken-bytes, taken-decisions, taken-digit, taken-others}
 use Rattle.jbig2_region.proofs.RefinementWindowLemmas.{windows-colour, windows-context}
 use Rattle.jbig2_region.proofs.RegisterLemmas.{left-few, left-whole}
 use Rattle.jbig2_region.proofs.StoreLemmas.{left-bit, left-start, stored-above, stored-push}
@@ -64,8 +64,8 @@ block-none coding p x y left pixels g d s t before small is = record {
 -- what a stored block leaves
 pub record Stored (coding : Coding) (p : Bool) (x y n : ℕ) (g : Grid) (d0 : Coder) (s0 : List Context) (count : ℕ) (pixels : ℕ) (g' : Grid) (d : Coder) (s : List Context) (count' : ℕ) : Type 0 where
   pub left : IsLeft g' (x + n) y (pixels % 16)
-  pub holds : Codes coding p x y n g d0 s0 g' d s
-  pub decisions : CountsCodes coding p x y n g d0 s0 count count'
+  pub holds : DecodesPart coding p x y n g d0 s0 g' d s
+  pub decisions : CountsPart coding p x y n g d0 s0 count count'
 
 pub block-whole : (coding : Coding) (p : Bool) (x y k n : ℕ) (g g' : Grid) (d0 d : Coder) (s0 s : List Context) (t0 t : Counts) (pixels : ℕ) → Block coding p x y k g d0 s0 t0 pixels d s t → k ≡ n → g' ≡ with_pixels g x y n pixels
     → Stored coding p x y n g d0 s0 t0.decisions pixels g' d s t.decisions
@@ -73,6 +73,6 @@ block-whole coding p x y k n g g' d0 d s0 s t0 t pixels block all stored =
     let same : with_pixels g x y k pixels ≡ g' = ap (λ (m : ℕ). with_pixels g x y m pixels) all ∙ sym stored in
     record {
       left = left-few g' (x + n) y pixels (subst (λ (q : Grid). IsLeft q (x + n) y pixels) same (subst (λ (m : ℕ). IsLeft (with_pixels g x y k pixels) (x + m) y pixels) all block.left));
-      holds = subst (λ (q : Grid). Codes coding p x y n g d0 s0 q d s) same (subst (λ (m : ℕ). Codes coding p x y m g d0 s0 (with_pixels g x y k pixels) d s) all block.holds);
-      decisions = subst (λ (m : ℕ). CountsCodes coding p x y m g d0 s0 t0.decisions t.decisions) all block.decisions;
+      holds = subst (λ (q : Grid). DecodesPart coding p x y n g d0 s0 q d s) same (subst (λ (m : ℕ). DecodesPart coding p x y m g d0 s0 (with_pixels g x y k pixels) d s) all block.holds);
+      decisions = subst (λ (m : ℕ). CountsPart coding p x y m g d0 s0 t0.decisions t.decisions) all block.decisions;
     }

@@ -11,7 +11,7 @@ use Rattle.jbig2_base.specs.Bits.{bit}
 use Rattle.jbig2_base.proofs.BitLemmas.{bit-and, bit-not, bit-or, bit-shl_high, bit-shr, bit-zero, bit_number-bit}
 use Rattle.jbig2_base.proofs.ColourLemmas.{leading-is}
 use Rattle.jbig2_region.specs.inner.RefinementBlocks.{IsUnknown}
-use Rattle.jbig2_region.specs.inner.RefinementWindows.{colour_of, known_of, nine_of, three_of, told_by}
+use Rattle.jbig2_region.specs.inner.RefinementWindows.{colour_of, known_of, nine_of, three_of, known_at}
 use Rattle.jbig2_region.specs.declared.refinement_kernel.windows.RefinementWindows.{RefinementWindows}
 use Rattle.jbig2_region.proofs.GatherLemmas.{even}
 use Rattle.jbig2_region.proofs.RefinementWindowLemmas.{three-bits}
@@ -60,15 +60,15 @@ none-here : (a h b p q : Bool) → ((((a || h) || b) || p) || q) ≡ false → h
 none-here a h b p q e = grind (arith, e)
 
 -- what the nine tell, and what a mask of black columns and one of mixed ones do
-told-alike : (black mixed here : Bool) → (black ≡ true → here ≡ true) → (mixed ≡ false → here ≡ false)
+result-alike : (black mixed here : Bool) → (black ≡ true → here ≡ true) → (mixed ≡ false → here ≡ false)
     → cond black (Some true) (cond (not mixed) (Some false) None) ≡ cond (black || not mixed) (Some here) None
-told-alike true mixed here full none = ap (λ (c : Bool). let told : Option Bool = Some c in told) (sym (full refl))
-told-alike false true here full none = refl
-told-alike false false here full none = ap (λ (c : Bool). let told : Option Bool = Some c in told) (sym (none refl))
+result-alike true mixed here full none = ap (λ (c : Bool). let told : Option Bool = Some c in told) (sym (full refl))
+result-alike false true here full none = refl
+result-alike false false here full none = ap (λ (c : Bool). let told : Option Bool = Some c in told) (sym (none refl))
 
-told-rows : (b h a : ℕ) (black mixed : Bool) → b < 8 → h < 8 → a < 8 → (eqb a 7 && eqb h 7 && eqb b 7) ≡ black → (eqb a 0 && eqb h 0 && eqb b 0) ≡ not mixed
+result-rows : (b h a : ℕ) (black mixed : Bool) → b < 8 → h < 8 → a < 8 → (eqb a 7 && eqb h 7 && eqb b 7) ≡ black → (eqb a 0 && eqb h 0 && eqb b 0) ≡ not mixed
     → colour_of (b + h * 8 + a * 64) ≡ cond black (Some true) (cond (not mixed) (Some false) None)
-told-rows b h a black mixed i j k full none =
+result-rows b h a black mixed i j k full none =
     ap (λ (t : Bool). cond t (Some true) (cond (eqb (b + h * 8 + a * 64) 0) (Some false) None)) (nine-black b h a i j k ∙ full)
     ∙ ap (λ (t : Bool). cond black (Some true) (cond t (Some false) None)) (nine-none b h a i j k ∙ none)
 
@@ -138,10 +138,10 @@ three-full word k few = ap (λ (n : ℕ). eqb n 7) (three-at word k few) ∙ thr
 three-white : (word k : ℕ) → k < 32 → eqb (three_of word k) 0 ≡ not ((bit word (63 - k) || bit word (62 - k)) || bit word (61 - k))
 three-white word k few = ap (λ (n : ℕ). eqb n 0) (three-at word k few) ∙ three-none (bit word (63 - k)) (bit word (62 - k)) (bit word (61 - k))
 
-pub known-told : (w : RefinementWindows) (k : ℕ) → k < 32 → w.above < 2 ^ 64 → w.here < 2 ^ 64 → w.below < 2 ^ 64
+pub known-result : (w : RefinementWindows) (k : ℕ) → k < 32 → w.above < 2 ^ 64 → w.here < 2 ^ 64 → w.below < 2 ^ 64
     → colour_of (nine_of w k)
-    ≡ told_by (bit_or (bit_and (bit_and (all_of w) (all_of w * 2 ^ 1 % 2 ^ 64)) (all_of w / 2 ^ 1)) (2 ^ 64 - 1 - bit_or (bit_or (any_of w) (any_of w * 2 ^ 1 % 2 ^ 64)) (any_of w / 2 ^ 1))) w.here (62 - k)
-known-told w k few is_above is_here is_below =
+    ≡ known_at (bit_or (bit_and (bit_and (all_of w) (all_of w * 2 ^ 1 % 2 ^ 64)) (all_of w / 2 ^ 1)) (2 ^ 64 - 1 - bit_or (bit_or (any_of w) (any_of w * 2 ^ 1 % 2 ^ 64)) (any_of w / 2 ^ 1))) w.here (62 - k)
+known-result w k few is_above is_here is_below =
     let small : any_of w < 2 ^ 64 = or_lt 64 (bit_or w.above w.here) w.below (or_lt 64 w.above w.here is_above is_here) is_below in
     let a0 : Bool = bit w.above (61 - k) in
     let a1 : Bool = bit w.above (62 - k) in
@@ -162,13 +162,13 @@ known-told w k few is_above is_here is_below =
     bit-or full (2 ^ 64 - 1 - some) (62 - k)
     ∙ ap (λ (t : Bool). t || bit (2 ^ 64 - 1 - some) (62 - k)) is_full
     ∙ ap (λ (t : Bool). black || t) (bit-not some (62 - k) (mixed-lt (any_of w) small) (omega arith) ∙ ap (λ (t : Bool). not t) is_some) in
-    told-rows (three_of w.below k) (three_of w.here k) (three_of w.above k) black mixed (three-lt w.below k) (three-lt w.here k) (three-lt w.above k)
+    result-rows (three_of w.below k) (three_of w.here k) (three_of w.above k) black mixed (three-lt w.below k) (three-lt w.here k) (three-lt w.above k)
     (rows-alike _ _ _ _ _ _ (three-full w.above k few) (three-full w.here k few) (three-full w.below k few) ∙ black-turned a0 a1 a2 h0 h1 h2 b0 b1 b2)
     (rows-alike _ _ _ _ _ _ (three-white w.above k few) (three-white w.here k few) (three-white w.below k few) ∙ none-turned a0 a1 a2 h0 h1 h2 b0 b1 b2)
-    ∙ told-alike black mixed h1 (black-here a1 h1 b1 ((a0 && h0) && b0) ((a2 && h2) && b2)) (none-here a1 h1 b1 ((a0 || h0) || b0) ((a2 || h2) || b2))
+    ∙ result-alike black mixed h1 (black-here a1 h1 b1 ((a0 && h0) && b0) ((a2 && h2) && b2)) (none-here a1 h1 b1 ((a0 || h0) || b0) ((a2 || h2) || b2))
     ∙ ap (λ (t : Bool). cond t (Some h1) None) (sym known)
 
-pub known-none : (here b : ℕ) → None ≡ told_by 0 here b
+pub known-none : (here b : ℕ) → None ≡ known_at 0 here b
 known-none here b = ap (λ (t : Bool). cond t (Some (bit here b)) None) (sym (bit-zero b))
 
 -- ---- the highest bits of a word
@@ -205,12 +205,12 @@ known-moved known done i inside =
     let place : 63 - i - (done + 1) ≡ 62 - (done + i) = omega arith in
     bit-shl_high known (done + 1) 64 (63 - i) (omega arith) (omega arith) ∙ ap (λ (b : ℕ). bit known b) place
 
-pub copied-known : (p : Bool) (w : RefinementWindows) (known done n : ℕ) → ((k : ℕ) → k < 32 → known_of p (nine_of w k) ≡ told_by known w.here (62 - k)) → done + n ≤ 32
+pub copied-known : (p : Bool) (w : RefinementWindows) (known done n : ℕ) → ((k : ℕ) → k < 32 → known_of p (nine_of w k) ≡ known_at known w.here (62 - k)) → done + n ≤ 32
     → ((i : ℕ) → i < n → bit (known * 2 ^ (done + 1) % 2 ^ 64) (63 - i) ≡ true) → (i : ℕ) → i < n → known_of p (nine_of w (done + i)) ≡ Some (bit w.here (62 - (done + i)))
 copied-known p w known done n tells few ones i inside =
     tells (done + i) (omega arith) ∙ ap (λ (t : Bool). cond t (Some (bit w.here (62 - (done + i)))) None) (sym (known-moved known done i (omega arith)) ∙ ones i inside)
 
-pub decided-unknown : (p : Bool) (w : RefinementWindows) (known done n : ℕ) → ((k : ℕ) → k < 32 → known_of p (nine_of w k) ≡ told_by known w.here (62 - k)) → done + n ≤ 32
+pub decided-unknown : (p : Bool) (w : RefinementWindows) (known done n : ℕ) → ((k : ℕ) → k < 32 → known_of p (nine_of w k) ≡ known_at known w.here (62 - k)) → done + n ≤ 32
     → ((i : ℕ) → i < n → bit (known * 2 ^ (done + 1) % 2 ^ 64) (63 - i) ≡ false) → IsUnknown p w done n
 decided-unknown p w known done n tells few zeros i inside =
     tells (done + i) (omega arith) ∙ ap (λ (t : Bool). cond t (Some (bit w.here (62 - (done + i)))) None) (sym (known-moved known done i (omega arith)) ∙ zeros i inside)

@@ -8,14 +8,14 @@ use Rattle.std.specs.List.{list_all}
 use Rattle.jbig2_base.specs.Counts.{Counts}
 use Rattle.jbig2_base.specs.Grid.{Grid, blank, bit_number}
 use Rattle.jbig2_region.specs.{Generic.{number_of, region_pixel, context_at}, RegionInfo.{PlacedRegion}}
-use Rattle.jbig2_region.specs.Refinement.{Reference, reference_pixel, refined_context, nine, common_colour, refinement_coding, refined_region, refined_grid, refined_answer, refined_contexts, reference_of, offset, is_far}
+use Rattle.jbig2_region.specs.Refinement.{Reference, reference_pixel, refined_context, nine, common_colour, refinement_coding, refined_region, refined_grid, refined_result, refined_contexts, reference_of, offset, is_far}
 use Rattle.jbig2_region.specs.RefinementHeader.{RefinementHeader}
 use Rattle.jbig2_region.specs.Steps.{CountsDecided, CountsRefined, refinement_loads}
 use Rattle.jbig2_region.specs.RefinementTemplates.{refinement_bits}
-use Rattle.jbig2_region.specs.inner.Holds.{Holds}
+use Rattle.jbig2_region.specs.inner.RegionStates.{HasDecoded}
 use Rattle.jbig2_region.specs.Raster.{Coding, decoded_region, no_pixels, fresh_contexts}
 use Rattle.jbig2_coder.specs.Coder.{Coder, Context, Registers, initial_registers}
-use Rattle.jbig2_base.specs.Answer.{◌>>=◌, refuse_if}
+use Rattle.jbig2_base.specs.Results.{◌>>=◌, refuse_if}
 use Rattle.jbig2_base.specs.declared.error.DecodeError.{DecodeError}
 use Rattle.jbig2_region.proofs.ContextLemmas.{number_of-lt}
 use Rattle.jbig2_base.proofs.Causes.{same-ok}
@@ -145,16 +145,16 @@ common-none r x y n e full none =
 
 -- a region that a coder and contexts that stand at the start refine
 pub refined-decoded : (h : RefinementHeader) (from : PlacedRegion) (r : Reference) (before grid : Grid) (first coder : Coder) (fresh states : List Context) → r ≡ reference_of h from → before ≡ blank h.region_info.width h.region_info.height false → first.bytes ≡ h.bytes → first.registers ≡ initial_registers h.bytes → fresh ≡ fresh_contexts (refinement_bits h.template)
-    → Holds before.width before.height first.bytes (decoded_region (refinement_coding h.template h.tpgron h.adaptive_template_pixels r) before.width before.height first.bytes (no_pixels first.registers fresh)) grid coder states
-    → Holds h.region_info.width h.region_info.height h.bytes (refined_region h from) grid coder states
+    → HasDecoded before.width before.height first.bytes (decoded_region (refinement_coding h.template h.tpgron h.adaptive_template_pixels r) before.width before.height first.bytes (no_pixels first.registers fresh)) grid coder states
+    → HasDecoded h.region_info.width h.region_info.height h.bytes (refined_region h from) grid coder states
 unfolding refined_region
 refined-decoded h from r before grid first coder fresh states place white bytes registers contexts holds =
-    let placed = subst (λ (q : Reference). Holds before.width before.height first.bytes (decoded_region (refinement_coding h.template h.tpgron h.adaptive_template_pixels q) before.width before.height first.bytes (no_pixels first.registers fresh)) grid coder states) place holds in
+    let placed = subst (λ (q : Reference). HasDecoded before.width before.height first.bytes (decoded_region (refinement_coding h.template h.tpgron h.adaptive_template_pixels q) before.width before.height first.bytes (no_pixels first.registers fresh)) grid coder states) place holds in
     fresh-decoded (refinement_coding h.template h.tpgron h.adaptive_template_pixels (reference_of h from)) h.region_info.width h.region_info.height (refinement_bits h.template) h.bytes before grid first coder fresh states white bytes registers contexts placed
 
-pub refined-answer : (h : RefinementHeader) (from : PlacedRegion) (d : ℤ × ℤ) (grid : Grid) (coder : Coder) (states : List Context) → offset from h.region_info ≡ Ok d → Holds h.region_info.width h.region_info.height h.bytes (refined_region h from) grid coder states → refined_answer h from ≡ Ok grid
+pub refined-result : (h : RefinementHeader) (from : PlacedRegion) (d : ℤ × ℤ) (grid : Grid) (coder : Coder) (states : List Context) → offset from h.region_info ≡ Ok d → HasDecoded h.region_info.width h.region_info.height h.bytes (refined_region h from) grid coder states → refined_result h from ≡ Ok grid
 unfolding refined_grid
-refined-answer h from d grid coder states near holds =
+refined-result h from d grid coder states near holds =
     ap (λ (r : Result (ℤ × ℤ) DecodeError). r >>= λ d. Ok (refined_grid h from)) near ∙ ap (λ (g : Grid). Ok g) (sym holds.pixels)
 
 pub refined-contexts : (h : RefinementHeader) (from : PlacedRegion) (d : ℤ × ℤ) (before after : List Context) → offset from h.region_info ≡ Ok d → after ≡ (refined_region h from).contexts → after ≡ refined_contexts h from before

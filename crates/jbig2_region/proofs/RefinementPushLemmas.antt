@@ -8,7 +8,7 @@ use Rattle.jbig2_base.proofs.BitLemmas.{bit-above}
 use Rattle.jbig2_coder.specs.Coder.{Coder, Context}
 use Rattle.jbig2_region.specs.Raster.{Coding}
 use Rattle.jbig2_region.specs.Refinement.{Reference, refinement_coding}
-use Rattle.jbig2_region.specs.inner.Codes.{Takes}
+use Rattle.jbig2_region.specs.inner.DecodedPixels.{Takes}
 use Rattle.jbig2_region.specs.inner.RefinementBlocks.{Block}
 use Rattle.jbig2_region.specs.inner.RefinementLanes.{Lanes, nine_in, region_in}
 use Rattle.jbig2_region.specs.inner.RefinementWindows.{SeesRows, context_of, corners, four_of, known_of, nine_of, three_of}

@@ -9,7 +9,7 @@ use Rattle.jbig2_base.proofs.BitLemmas.{bit-above, bit-shl_high, bit-shl_low, bi
 use Rattle.jbig2_base.proofs.GridLemmas.{pixel_at-right}
 use Rattle.jbig2_region.specs.Generic.{number_of, region_pixel}
 use Rattle.jbig2_region.specs.Refinement.{Reference, reference_pixel, refined_context, nine, common_colour}
-use Rattle.jbig2_region.specs.RefinementTemplates.{apart, reference_pixels, region_pixels}
+use Rattle.jbig2_region.specs.RefinementTemplates.{at_xy, reference_pixels, region_pixels}
 use Rattle.jbig2_region.specs.inner.Neighbours.{IsLeft, SameAbove}
 use Rattle.jbig2_region.specs.inner.RefinementWindows.{Sees, SeesRows, colour_of, context_of, corners, four_of, known_of, nine_of, three_of}
 use Rattle.jbig2_region.specs.declared.refinement_kernel.windows.RefinementWindows.{RefinementWindows}
@@ -97,7 +97,7 @@ three-pixels g column row word k l m r sees few is_l is_m is_r =
 
 -- three of the reference's pixels in a row
 three-referred : (r : Reference) (x y word k : ℕ) (dy : ℤ) → k < 32 → Sees r.grid (pos x -ℤ r.dx +ℤ negsuc 0) (pos y -ℤ r.dy +ℤ dy) word
-    → three_of word k ≡ bit_number (reference_pixel r (x + k) y (apart (pos 1) dy)) + bit_number (reference_pixel r (x + k) y (apart (pos 0) dy)) * 2 + bit_number (reference_pixel r (x + k) y (apart (negsuc 0) dy)) * 4
+    → three_of word k ≡ bit_number (reference_pixel r (x + k) y (at_xy (pos 1) dy)) + bit_number (reference_pixel r (x + k) y (at_xy (pos 0) dy)) * 2 + bit_number (reference_pixel r (x + k) y (at_xy (negsuc 0) dy)) * 4
 three-referred r x y word k dy few sees =
     let row : ℤ = pos y -ℤ r.dy +ℤ dy in
     let at_l : pos (x + k) -ℤ r.dx +ℤ negsuc 0 ≡ pos x -ℤ r.dx +ℤ negsuc 0 +ℤ pos k = omega (arith, ints) in
@@ -107,7 +107,7 @@ three-referred r x y word k dy few sees =
 
 -- three of the region's, in the row above, which later pixels leave alone
 three-above : (g g' : Grid) (x y word k : ℕ) → k < 32 → SameAbove g g' y → Sees g (pos x +ℤ negsuc 0) (pos y +ℤ negsuc 0) word
-    → three_of word k ≡ bit_number (region_pixel g' (x + k) y (apart (pos 1) (negsuc 0))) + bit_number (region_pixel g' (x + k) y (apart (pos 0) (negsuc 0))) * 2 + bit_number (region_pixel g' (x + k) y (apart (negsuc 0) (negsuc 0))) * 4
+    → three_of word k ≡ bit_number (region_pixel g' (x + k) y (at_xy (pos 1) (negsuc 0))) + bit_number (region_pixel g' (x + k) y (at_xy (pos 0) (negsuc 0))) * 2 + bit_number (region_pixel g' (x + k) y (at_xy (negsuc 0) (negsuc 0))) * 4
 three-above g g' x y word k few same sees =
     let row : pos y +ℤ negsuc 0 ≡ pos y -ℤ pos 1 = omega (arith, ints) in
     let at_l : pos (x + k) +ℤ negsuc 0 ≡ pos x +ℤ negsuc 0 +ℤ pos k = omega (arith, ints) in
@@ -119,7 +119,7 @@ three-above g g' x y word k few same sees =
     there X Z column row =
         ap (λ (z : ℤ). pixel g' X z) row ∙ sym (same-above g g' X y 1 (omega arith) same) ∙ ap (λ (z : ℤ). pixel g X z) (sym row) ∙ ap (λ (z : ℤ). pixel g z (pos y +ℤ negsuc 0)) column
 
-left-pixel : (g : Grid) (x y left : ℕ) → IsLeft g x y left → left % 2 ≡ bit_number (region_pixel g x y (apart (negsuc 0) (pos 0)))
+left-pixel : (g : Grid) (x y left : ℕ) → IsLeft g x y left → left % 2 ≡ bit_number (region_pixel g x y (at_xy (negsuc 0) (pos 0)))
 left-pixel g x y left is =
     let column : pos x -ℤ pos (0 + 1) ≡ pos x +ℤ negsuc 0 = omega (arith, ints) in
     let row : pos y ≡ pos y +ℤ pos 0 = omega (arith, ints) in

@@ -12,14 +12,14 @@ use Rattle.jbig2_region.specs.inner.RowCounts.{decided_rows}
 use Rattle.jbig2_region.specs.Generic.{context_at, is_skipped}
 use Rattle.jbig2_region.specs.Raster.{Coding, Region, at_pixel}
 use Rattle.jbig2_region.specs.{Steps.{CountsSkipping, kept_pixels, skipping_loads, skipping_words}, Generic.{skipping_coding}}
-use Rattle.jbig2_region.specs.inner.Codes.{Takes}
+use Rattle.jbig2_region.specs.inner.DecodedPixels.{Takes}
 use Rattle.jbig2_region.specs.inner.Masks.{IsMask, plain_context}
 use Rattle.jbig2_region.specs.inner.Neighbours.{IsLeft, IsNear, SameAbove, Shows, left_pixels, nominal_pixels, stretch_pixels}
 use Rattle.jbig2_region.specs.inner.RefinementBlocks.{Block}
 use Rattle.jbig2_region.specs.declared.template.AdaptiveTemplatePixel.{AdaptiveTemplatePixel}
 use Rattle.jbig2_region.specs.declared.template.neighbours.Neighbours.{Neighbours}
 use Rattle.jbig2_region.specs.declared.generic_kernel.windows.Windows.{Windows}
-use Rattle.jbig2_region.proofs.CodesLemmas.{codes-next, counts-next, taken-bytes, taken-decisions, taken-digit, taken-others}
+use Rattle.jbig2_region.proofs.DecodedPixelLemmas.{codes-next, counts-next, taken-bytes, taken-decisions, taken-digit, taken-others}
 use Rattle.jbig2_region.proofs.ContextBits.{context-append, length-side}
 use Rattle.jbig2_region.proofs.DecisionLemmas.{Decided}
 use Rattle.jbig2_region.proofs.PlaceCounts.{decisions-by-rows, how_many-same}

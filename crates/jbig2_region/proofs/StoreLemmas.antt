@@ -9,15 +9,15 @@ use Rattle.jbig2_base.specs.Bits.{bit}
 use Rattle.jbig2_base.specs.Writes.{with_pixel, with_pixels}
 use Rattle.jbig2_base.proofs.BitLemmas.{bit-mod, bit-zero, bit_number-bit, or-false}
 use Rattle.jbig2_base.proofs.GridLemmas.{grid_of-ext, pixel_at-grid_of, pixel_at-right, pixel_at-below, table-at}
-use Rattle.jbig2_base.proofs.WriteLemmas.{in_field, before_field, behind_field, other_row}
+use Rattle.jbig2_base.proofs.WriteLemmas.{in_field, before_field, after_field, other_row}
 use Rattle.jbig2_coder.specs.Coder.{Coder, Context, decision, fresh}
 use Rattle.jbig2_region.specs.Generic.{context_at}
-use Rattle.jbig2_region.specs.inner.Holds.{Holds}
+use Rattle.jbig2_region.specs.inner.RegionStates.{HasDecoded}
 use Rattle.jbig2_region.specs.inner.Neighbours.{DecodesPixels, IsLeft, row_coding, SameAbove}
 use Rattle.jbig2_region.specs.Raster.{Region, so_far}
 use Rattle.jbig2_region.specs.inner.Rows.{after_pixels}
 use Rattle.jbig2_region.specs.declared.template.AdaptiveTemplatePixel.{AdaptiveTemplatePixel}
-use Rattle.jbig2_region.proofs.RasterLemmas.{Holds-known, Holds-decided, after_pixels-length, after_pixels-predicted, after_pixels-one, after_pixels-none, after_pixels-add}
+use Rattle.jbig2_region.proofs.RasterLemmas.{HasDecoded-known, HasDecoded-decided, after_pixels-length, after_pixels-predicted, after_pixels-one, after_pixels-none, after_pixels-add}
 use Rattle.jbig2_region.proofs.WindowLemmas.{same-above, pixel-inside, pixel-left_of_all}
 
 -- a pixel after a store, at any place
@@ -117,7 +117,7 @@ stored-push g x y k b s c is left above = λ white.
     ∙ rw same (sym (or-only (pixel_at old (x + k) y) _ white ∙ there (x + k) y c)))
     (λ (other : i ≡ x + k → ⊥).
     rw (or-false (pixel_at old i y) _ (not-there (x + k) y i y c other))
-    (cond-false _ (bit (b * 2 + s) (x + (k + 1) - 1 - i)) (pixel_at g i y) (behind_field x y (k + 1) i y (above-by-one x k i more other)) ∙ sym (stored-outside g x y k b i y (behind_field x y k i y more))))
+    (cond-false _ (bit (b * 2 + s) (x + (k + 1) - 1 - i)) (pixel_at g i y) (after_field x y (k + 1) i y (above-by-one x k i more other)) ∙ sym (stored-outside g x y k b i y (after_field x y k i y more))))
     (cases_eq i (x + k)))
     (cases_lt i (x + k))
     ))
@@ -153,7 +153,7 @@ stored-one g x y s c is left above = λ white.
     apart x y i j ne =
         ⊎_elim
         (λ (low : i < x). before_field x y 1 i j low)
-        (λ (more : x ≤ i). behind_field x y 1 i j (omega arith))
+        (λ (more : x ≤ i). after_field x y 1 i j (omega arith))
         (cases_lt i x)
 
 -- ---- the pixels at the left
@@ -189,7 +189,7 @@ none-at : (g : Grid) (x y b i j : ℕ) → pixel_at (with_pixels g x y 0 b) i j 
 none-at g x y b i j =
     ⊎_elim
     (λ (low : i < x). stored-outside g x y 0 b i j (before_field x y 0 i j low))
-    (λ (more : x ≤ i). stored-outside g x y 0 b i j (behind_field x y 0 i j (omega arith)))
+    (λ (more : x ≤ i). stored-outside g x y 0 b i j (after_field x y 0 i j (omega arith)))
     (cases_lt i x)
 
 left-same : (g g' : Grid) (x y left : ℕ) → ((i j : ℕ) → pixel_at g' i j ≡ pixel_at g i j) → IsLeft g x y left → IsLeft g' x y left
@@ -226,12 +226,12 @@ unfolding so_far
 height-so_far w h bits = refl
 
 pub decodes-none : (template : List AdaptiveTemplatePixel) (p : Bool) (x y : ℕ) (g : Grid) (d : Coder) (s : List Context) → DecodesPixels template p x y 0 g d s g d s
-decodes-none template p x y g d s = λ w h input r len predicted holds. subst (λ (n : Region). Holds w h input n g d s) (sym (after_pixels-none (row_coding template) w h input r)) holds
+decodes-none template p x y g d s = λ w h input r len predicted holds. subst (λ (n : Region). HasDecoded w h input n g d s) (sym (after_pixels-none (row_coding template) w h input r)) holds
 
 pub decodes-start : (template : List AdaptiveTemplatePixel) (p : Bool) (x y b : ℕ) (g : Grid) (d : Coder) (s : List Context) → DecodesPixels template p x y 0 g d s (with_pixels g x y 0 b) d s
 decodes-start template p x y b g d s = λ w h input r len predicted holds.
-    subst (λ (n : Region). Holds w h input n (with_pixels g x y 0 b) d s) (sym (after_pixels-none (row_coding template) w h input r))
-    (subst (λ (q : Grid). Holds w h input r q d s) (sym (none-stored w h r.pixels g x y b holds.pixels)) holds)
+    subst (λ (n : Region). HasDecoded w h input n (with_pixels g x y 0 b) d s) (sym (after_pixels-none (row_coding template) w h input r))
+    (subst (λ (q : Grid). HasDecoded w h input r q d s) (sym (none-stored w h r.pixels g x y b holds.pixels)) holds)
 
 pub decodes-decided : (template : List AdaptiveTemplatePixel) (x y k : ℕ) (g0 g g' : Grid) (d0 d d' : Coder) (s0 s : List Context) (n : ℕ) (old new : Context)
     → DecodesPixels template false x y k g0 d0 s0 g d s → x + k < g.width → y < g.height → n ≡ context_at template g (x + k) y → old ≡ get_or s n fresh
@@ -244,8 +244,8 @@ decodes-decided template x y k g0 g g' d0 d d' s0 s n old new before left above 
     let wide : g.width ≡ w = ap (λ (q : Grid). q.width) at.pixels ∙ width-so_far w h made.pixels in
     let high : g.height ≡ h = ap (λ (q : Grid). q.height) at.pixels ∙ height-so_far w h made.pixels in
     let white = white-next w h made.pixels g (x + k) y at.pixels size (omega arith) (omega arith) in
-    subst (λ (q : Region). Holds w h input q g' d' (set s n new)) (sym (after_pixels-one (row_coding template) w h input k r))
-    (Holds-decided (row_coding template) w h input made g g' d d' s (x + k) y n false old new size (omega arith) (omega arith) (after_pixels-predicted (row_coding template) w h input k r ∙ predicted) refl is_context is_old (pushes white) is_next is_new at)
+    subst (λ (q : Region). HasDecoded w h input q g' d' (set s n new)) (sym (after_pixels-one (row_coding template) w h input k r))
+    (HasDecoded-decided (row_coding template) w h input made g g' d d' s (x + k) y n false old new size (omega arith) (omega arith) (after_pixels-predicted (row_coding template) w h input k r ∙ predicted) refl is_context is_old (pushes white) is_next is_new at)
 
 -- ---- the loops of the kernels
 -- a pixel into a number
@@ -308,7 +308,7 @@ pub decodes-then : (template : List AdaptiveTemplatePixel) (p : Bool) (x x' y n 
 decodes-then template p x x' y n m k g0 g1 g2 d0 d1 d2 s0 s1 s2 one two place sum = λ w h input r len predicted holds.
     let made : Region = after_pixels (row_coding template) w h input n r in
     let size : length made.pixels ≡ y * w + x' = after_pixels-length (row_coding template) w h input n r ∙ omega arith in
-    subst (λ (q : Region). Holds w h input q g2 d2 s2) (sym (ap (λ (i : ℕ). after_pixels (row_coding template) w h input i r) sum ∙ after_pixels-add (row_coding template) w h input n m r))
+    subst (λ (q : Region). HasDecoded w h input q g2 d2 s2) (sym (ap (λ (i : ℕ). after_pixels (row_coding template) w h input i r) sum ∙ after_pixels-add (row_coding template) w h input n m r))
     (two w h input made size (after_pixels-predicted (row_coding template) w h input n r ∙ predicted) (one w h input r len predicted holds))
 
 -- ---- copied pixels
@@ -321,8 +321,8 @@ decodes-known template x y k g0 g g' d0 d s0 s c before left above is pushes = �
     let wide : g.width ≡ w = ap (λ (q : Grid). q.width) at.pixels ∙ width-so_far w h made.pixels in
     let high : g.height ≡ h = ap (λ (q : Grid). q.height) at.pixels ∙ height-so_far w h made.pixels in
     let white = white-next w h made.pixels g (x + k) y at.pixels size (omega arith) (omega arith) in
-    subst (λ (q : Region). Holds w h input q g' d s) (sym (after_pixels-one (row_coding template) w h input k r))
-    (Holds-known (row_coding template) w h input made g g' d s (x + k) y true c size (omega arith) (omega arith) (after_pixels-predicted (row_coding template) w h input k r ∙ predicted) (ap (λ (b : Bool). Some b) is) (pushes white) at)
+    subst (λ (q : Region). HasDecoded w h input q g' d s) (sym (after_pixels-one (row_coding template) w h input k r))
+    (HasDecoded-known (row_coding template) w h input made g g' d s (x + k) y true c size (omega arith) (omega arith) (after_pixels-predicted (row_coding template) w h input k r ∙ predicted) (ap (λ (b : Bool). Some b) is) (pushes white) at)
 
 -- the first k of n pixels
 copied-some : (template : List AdaptiveTemplatePixel) (x y n k bits : ℕ) (g : Grid) (d : Coder) (s : List Context) → k ≤ n → ((i : ℕ) → i < n → bit bits (n - 1 - i) ≡ pixel g (pos (x + i)) (pos y +ℤ negsuc 0)) → x + n ≤ g.width → y < g.height

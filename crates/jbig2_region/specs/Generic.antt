@@ -3,7 +3,7 @@
 -- `contexts_after` gives the contexts after the region.
 use Rattle.std.specs.Prelude.{ℕ, ◌+◌, ◌*◌, Bool, false, if◌then◌else◌, List, [], ◌∷◌, map, Option, Some, None, pos}
 use Rattle.std.specs.Prelude.{negsuc, ◌+ℤ◌, Result, Ok}
-use Rattle.jbig2_base.specs.Answer.{◌>>=◌}
+use Rattle.jbig2_base.specs.Results.{◌>>=◌}
 use Rattle.jbig2_base.specs.Grid.{Grid, pixel, pixel_at, bit_number}
 use Rattle.jbig2_base.specs.declared.error.DecodeError.{DecodeError}
 use Rattle.jbig2_coder.specs.Coder.{Context, initial_registers}
@@ -61,8 +61,8 @@ generic_region h =
 unfoldable pub generic_grid : GenericHeader → Grid
 generic_grid h = so_far h.region_info.width h.region_info.height (generic_region h).pixels
 
-abbrev pub generic_answer : GenericHeader → Result Grid DecodeError  -- by the arithmetic coder or by MMR (6.2.6)
-generic_answer h =
+abbrev pub generic_result : GenericHeader → Result Grid DecodeError  -- by the arithmetic coder or by MMR (6.2.6)
+generic_result h =
     if h.mmr then (mmr_rows h.strict h.region_info.width h.region_info.height h.bytes >>= λ rows. Ok rows.grid)
     else Ok (generic_grid h)
 
@@ -76,7 +76,7 @@ abbrev pub contexts_after : GenericHeader → List Context → List Context
 contexts_after h contexts = if h.mmr then contexts else (generic_region h).contexts
 
 abbrev pub generic_decoded : GenericHeader → Result PlacedRegion DecodeError
-generic_decoded h = generic_answer h >>= λ g. Ok (placed h.region_info g)
+generic_decoded h = generic_result h >>= λ g. Ok (placed h.region_info g)
 
 abbrev pub skipping_coding : List AdaptiveTemplatePixel → Option Grid → Coding
 skipping_coding pixels skip = record { context = context_at pixels; known = known_colour skip; row_context = None }

@@ -38,9 +38,9 @@ after_pixel coding w h bytes r =
     with_next bytes r (coding.context g (n % w) (n / w)) (coding.known r.predicted g (n % w) (n / w))
 
 -- With typical prediction a row begins with a decision. LTP is the exclusive or of all these bits so far (6.2.5.7).
-unfoldable pub row_begun : Option ℕ → List ℕ → Region → Region
-row_begun None bytes r = r
-row_begun (Some k) bytes r =
+unfoldable pub after_ltp : Option ℕ → List ℕ → Region → Region
+after_ltp None bytes r = r
+after_ltp (Some k) bytes r =
     let d = decision bytes r.registers (slice_index_or r.contexts k fresh) in
     record r {
       predicted = differ d.symbol r.predicted;
@@ -54,7 +54,7 @@ row_decisions (Some _) = 1
 
 -- the state at the next pixel (6.2.5.7, 6.3.5.6): if the pixels so far end a row, the next row begins first
 unfoldable pub at_next : Coding → ℕ → List ℕ → Region → Region
-at_next coding w bytes r = if length r.pixels % w == 0 then row_begun coding.row_context bytes r else r
+at_next coding w bytes r = if length r.pixels % w == 0 then after_ltp coding.row_context bytes r else r
 
 -- the state after the first n pixels
 unfoldable pub first_pixels : Coding → ℕ → ℕ → List ℕ → Region → ℕ → Region

@@ -4,7 +4,7 @@
 use Rattle.std.specs.Prelude.{ℕ, Bool, true, false, not, ◌||◌, nat_lt, nat_le, if◌then◌else◌, List, [], ◌∷◌, ◌++◌, map}
 use Rattle.std.specs.Prelude.{Option, Some, None, ℤ, pos, negsuc, ◌+ℤ◌, ◌-ℤ◌, Result, Ok, is_ok}
 use Rattle.std.specs.List.{list_all}
-use Rattle.jbig2_base.specs.Answer.{◌>>=◌, refuse_if}
+use Rattle.jbig2_base.specs.Results.{◌>>=◌, refuse_if}
 use Rattle.jbig2_base.specs.Grid.{Grid, pixel}
 use Rattle.jbig2_base.specs.declared.error.DecodeError.{DecodeError}
 use Rattle.jbig2_base.specs.declared.error.OverflowError.TheVariants.{ReferenceOffset}
@@ -13,7 +13,7 @@ use Rattle.jbig2_coder.specs.Coder.{Context, initial_registers}
 use Rattle.jbig2_region.specs.Generic.{number_of, region_pixel}
 use Rattle.jbig2_region.specs.Raster.{Coding, Region, so_far, decoded_region, no_pixels, fresh_contexts}
 use Rattle.jbig2_region.specs.RefinementHeader.{RefinementHeader}
-use Rattle.jbig2_region.specs.RefinementTemplates.{apart, reference_pixels, refinement_row_context, region_pixels}
+use Rattle.jbig2_region.specs.RefinementTemplates.{at_xy, reference_pixels, refinement_row_context, region_pixels}
 use Rattle.jbig2_region.specs.RefinementTemplates.{refinement_bits}
 use Rattle.jbig2_region.specs.RegionInfo.{PlacedRegion, placed}
 use Rattle.jbig2_region.specs.declared.region_info.RegionSegmentInfo.{RegionSegmentInfo}
@@ -37,9 +37,9 @@ refined_context r in_reference in_region g x y = number_of (map (reference_pixel
 
 abbrev pub nine : List AdaptiveTemplatePixel  -- a pixel and the eight around it
 nine =
-    apart (negsuc 0) (negsuc 0) ∷ apart (pos 0) (negsuc 0) ∷ apart (pos 1) (negsuc 0)
-    ∷ apart (negsuc 0) (pos 0) ∷ apart (pos 0) (pos 0) ∷ apart (pos 1) (pos 0)
-    ∷ apart (negsuc 0) (pos 1) ∷ apart (pos 0) (pos 1) ∷ apart (pos 1) (pos 1) ∷ []
+    at_xy (negsuc 0) (negsuc 0) ∷ at_xy (pos 0) (negsuc 0) ∷ at_xy (pos 1) (negsuc 0)
+    ∷ at_xy (negsuc 0) (pos 0) ∷ at_xy (pos 0) (pos 0) ∷ at_xy (pos 1) (pos 0)
+    ∷ at_xy (negsuc 0) (pos 1) ∷ at_xy (pos 0) (pos 1) ∷ at_xy (pos 1) (pos 1) ∷ []
 
 -- the common colour of the nine pixels of the reference, if they have one
 unfoldable pub common_colour : Reference → ℕ → ℕ → Option Bool
@@ -87,11 +87,11 @@ offset from info = do
   near ← refuse_if (is_far from.x_location || is_far info.x_location || is_far from.y_location || is_far info.y_location) (errors.Overflow ReferenceOffset)
   Ok (pos from.x_location -ℤ pos info.x_location, pos from.y_location -ℤ pos info.y_location)
 
-abbrev pub refined_answer : RefinementHeader → PlacedRegion → Result Grid DecodeError
-refined_answer h from = offset from h.region_info >>= λ d. Ok (refined_grid h from)
+abbrev pub refined_result : RefinementHeader → PlacedRegion → Result Grid DecodeError
+refined_result h from = offset from h.region_info >>= λ d. Ok (refined_grid h from)
 
 abbrev pub refined_contexts : RefinementHeader → PlacedRegion → List Context → List Context
 refined_contexts h from contexts = if is_ok (offset from h.region_info) then (refined_region h from).contexts else contexts
 
 abbrev pub refined_decoded : RefinementHeader → PlacedRegion → Result PlacedRegion DecodeError
-refined_decoded h from = refined_answer h from >>= λ g. Ok (placed h.region_info g)
+refined_decoded h from = refined_result h from >>= λ g. Ok (placed h.region_info g)

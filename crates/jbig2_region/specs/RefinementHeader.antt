@@ -2,7 +2,7 @@
 -- pixels. The bytes give the header, and the coded bytes come after it.
 use Rattle.std.specs.Prelude.{ℕ, ◌/◌, ◌%◌, ◌≤◌, ◌==◌, nat_lt, Bool, ◌||◌, List, Result, Ok}
 use Rattle.std.specs.Int.{w8}
-use Rattle.jbig2_base.specs.Answer.{refuse_if, ◌>>=◌}
+use Rattle.jbig2_base.specs.Results.{refuse_if, ◌>>=◌}
 use Rattle.jbig2_base.specs.Fields.{number_at}
 use Rattle.jbig2_base.specs.declared.error.DecodeError.{DecodeError}
 use Rattle.jbig2_base.specs.declared.error.OverflowError.TheVariants.{BitmapDimension}

@@ -3,7 +3,7 @@
 -- the context of the decision that begins a row, and how a segment holds the adaptive pixels (7.4.7.3).
 use Rattle.std.specs.Prelude.{ℕ, ◌==◌, Bool, true, ◌&&◌, List, [], ◌∷◌, ℤ, pos, negsuc, Result, Ok, if◌then◌else◌}
 use Rattle.jbig2_base.specs.declared.error.DecodeError.{DecodeError}
-use Rattle.jbig2_base.specs.Answer.{◌>>=◌}
+use Rattle.jbig2_base.specs.Results.{◌>>=◌}
 use Rattle.jbig2_region.specs.Templates.{adaptive, free_pixel_at, lies_at}
 use Rattle.jbig2_region.specs.declared.template.AdaptiveTemplatePixel.{AdaptiveTemplatePixel}
 use Rattle.jbig2_region.specs.declared.template.RefinementTemplate.{RefinementTemplate}
@@ -13,8 +13,8 @@ abbrev pub refinement_template_of : ℕ → RefinementTemplate
 refinement_template_of n = if n == 0 then Template0 else Template1
 
 -- the pixel this many columns to the right and rows down; `negsuc 0` is one to the left or one up
-abbrev pub apart : ℤ → ℤ → AdaptiveTemplatePixel
-apart x y = record { x = x; y = y }
+abbrev pub at_xy : ℤ → ℤ → AdaptiveTemplatePixel
+at_xy x y = record { x = x; y = y }
 
 abbrev pub refinement_bits : RefinementTemplate → ℕ  -- how many bits a context's number has
 refinement_bits Template0 = 13
@@ -23,20 +23,20 @@ refinement_bits Template1 = 10
 -- the pixels of the reference (Figures 12 and 13)
 abbrev pub reference_pixels : RefinementTemplate → List AdaptiveTemplatePixel → List AdaptiveTemplatePixel
 reference_pixels Template0 a =
-    apart (pos 1) (pos 1) ∷ apart (pos 0) (pos 1) ∷ apart (negsuc 0) (pos 1)
-    ∷ apart (pos 1) (pos 0) ∷ apart (pos 0) (pos 0) ∷ apart (negsuc 0) (pos 0)
-    ∷ apart (pos 1) (negsuc 0) ∷ apart (pos 0) (negsuc 0) ∷ adaptive a 1 ∷ []
+    at_xy (pos 1) (pos 1) ∷ at_xy (pos 0) (pos 1) ∷ at_xy (negsuc 0) (pos 1)
+    ∷ at_xy (pos 1) (pos 0) ∷ at_xy (pos 0) (pos 0) ∷ at_xy (negsuc 0) (pos 0)
+    ∷ at_xy (pos 1) (negsuc 0) ∷ at_xy (pos 0) (negsuc 0) ∷ adaptive a 1 ∷ []
 reference_pixels Template1 a =
-    apart (pos 1) (pos 1) ∷ apart (pos 0) (pos 1)
-    ∷ apart (pos 1) (pos 0) ∷ apart (pos 0) (pos 0) ∷ apart (negsuc 0) (pos 0)
-    ∷ apart (pos 0) (negsuc 0) ∷ []
+    at_xy (pos 1) (pos 1) ∷ at_xy (pos 0) (pos 1)
+    ∷ at_xy (pos 1) (pos 0) ∷ at_xy (pos 0) (pos 0) ∷ at_xy (negsuc 0) (pos 0)
+    ∷ at_xy (pos 0) (negsuc 0) ∷ []
 
 -- the pixels of the region itself; their bits follow
 abbrev pub region_pixels : RefinementTemplate → List AdaptiveTemplatePixel → List AdaptiveTemplatePixel
 region_pixels Template0 a =
-    apart (negsuc 0) (pos 0) ∷ apart (pos 1) (negsuc 0) ∷ apart (pos 0) (negsuc 0) ∷ adaptive a 0 ∷ []
+    at_xy (negsuc 0) (pos 0) ∷ at_xy (pos 1) (negsuc 0) ∷ at_xy (pos 0) (negsuc 0) ∷ adaptive a 0 ∷ []
 region_pixels Template1 a =
-    apart (negsuc 0) (pos 0) ∷ apart (pos 1) (negsuc 0) ∷ apart (pos 0) (negsuc 0) ∷ apart (negsuc 0) (negsuc 0) ∷ []
+    at_xy (negsuc 0) (pos 0) ∷ at_xy (pos 1) (negsuc 0) ∷ at_xy (pos 0) (negsuc 0) ∷ at_xy (negsuc 0) (negsuc 0) ∷ []
 
 -- the context of the decision that begins a row under typical prediction (6.3.5.6, Figures 14 and 15)
 abbrev pub refinement_row_context : RefinementTemplate → ℕ

@@ -5,7 +5,7 @@ use Rattle.std.specs.Prelude.{ℕ, ◌==◌, ◌≡◌, Bool, true, false, not, 
 use Rattle.std.specs.Prelude.{List, [], ◌∷◌, zero, suc, slice_index_or, if◌then◌else◌, Result, Ok}
 use Rattle.std.specs.Int.{w8}
 use Rattle.std.specs.Ordering.{int_eq}
-use Rattle.jbig2_base.specs.Answer.{refuse_if, ◌>>=◌}
+use Rattle.jbig2_base.specs.Results.{refuse_if, ◌>>=◌}
 use Rattle.jbig2_base.specs.Fields.{signed_at}
 use Rattle.jbig2_base.specs.declared.error.DecodeError.{DecodeError}
 use Rattle.jbig2_base.specs.declared.error.TemplateError.TheVariants.{InvalidAtPixel}

@@ -1,6 +1,5 @@
-pub mod Codes
+pub mod DecodedPixels
 pub mod GenericViews
-pub mod Holds
 pub mod Layouts
 pub mod LongRuns
 pub mod Masks
@@ -13,6 +12,7 @@ pub mod RefinementBlocks
 pub mod RefinementLanes
 pub mod RefinementViews
 pub mod RefinementWindows
+pub mod RegionStates
 pub mod RegionViews
 pub mod RowCounts
 pub mod Rows

@@ -1,11 +1,11 @@
 //! Reads and decodes generic regions (T.88, 6.2 and 7.4.6).
 ghost use Rattle.std.specs.Prelude.{◌≡◌, ◌≤◌, length, IfOk, OnErr, OnOk, Bool, ℕ, true, false};
 ghost use Rattle.jbig2_steps.specs.Work.{CountsWithin};
-ghost use Rattle.jbig2_base.specs.Answer.{Answers, Gives, Leaves};
+ghost use Rattle.jbig2_base.specs.Results.{Returns, Gives, Leaves};
 ghost use Rattle.jbig2_base.specs.Bits.{IsAligned};
 ghost use Rattle.jbig2_base.specs.Counts.{KeepsLanes};
 ghost use Rattle.jbig2_base.specs.Fields.{Parses};
-ghost use Rattle.jbig2_region.specs.Generic.{contexts_after, generic_answer, generic_decoded, refused_grid};
+ghost use Rattle.jbig2_region.specs.Generic.{contexts_after, generic_result, generic_decoded, refused_grid};
 ghost use Rattle.jbig2_region.specs.RegionInfo.{IsWhiteFor};
 ghost use Rattle.jbig2_region.specs.inner.RegionViews.{region_view};
 ghost use Rattle.jbig2_region.specs.GenericSteps.{CountsGeneric, price_of_region};
@@ -51,7 +51,7 @@ pub struct GenericRegionHeader<'a> {
 /// The number of rows, which may replace `height`, and the coded bytes.
 #[tactic(auto, using(crate::proofs::Causes::rows_have_cause), unfolding(crate::specs::GenericHeader::rows_at))]
 fn rows<'a>(unknown_length: bool, height: u32, bytes: &'a [u8]) -> Result<(u32, &'a [u8])>
-    ensures value { Answers (λ rows. (rows.0, rows.1.now)) result
+    ensures value { Returns (λ rows. (rows.0, rows.1.now)) result
         (rows_at unknown_length height bytes.now) }
     ensures causes { HasCause result (BreaksRows unknown_length height bytes.now) }
 {
@@ -133,7 +133,7 @@ pub fn decode_into<A: Allocator, B: Allocator, L: Ledger>(
 ) -> Result<()>
     requires parsed { IsParsed (header_view header.now) }
     requires white { IsWhiteFor header.now.region_info bitmap.old }
-    ensures value { Gives (λ _. bitmap.new) result (generic_answer (header_view header.now)) }
+    ensures value { Gives (λ _. bitmap.new) result (generic_result (header_view header.now)) }
     ensures refused { OnErr result (bitmap.new ≡ refused_grid (header_view header.now) bitmap.old) }
     ensures contexts { Leaves result contexts.new.items
         (contexts_after (header_view header.now) contexts.old.items) }

@@ -2,7 +2,7 @@
 //! decision.
 ghost use Rattle.std.specs.Prelude.{◌≡◌, ◌+◌, ◌*◌, ◌^◌, ◌<◌, ◌≤◌, length, pos, negsuc, ◌+ℤ◌, false};
 ghost use Rattle.jbig2_base.specs.Grid.{pixel, bit_number};
-ghost use Rattle.jbig2_region.specs.inner.Holds.{DecodesRegion, IsReady};
+ghost use Rattle.jbig2_region.specs.inner.RegionStates.{DecodesRegion, IsReady};
 ghost use Rattle.jbig2_region.specs.Raster.{no_pixels};
 ghost use Rattle.jbig2_region.specs.Generic.{context_at, coding_of, white_if_skipped};
 ghost use Rattle.jbig2_region.specs.inner.RegionViews.{skip_of};

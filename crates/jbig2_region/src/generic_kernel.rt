@@ -4,7 +4,7 @@ ghost use Rattle.std.specs.Prelude.{◌≡◌, ℕ, ◌+◌, ◌-◌, ◌*◌, �
 ghost use Rattle.jbig2_base.specs.Counts.{KeepsLanes};
 ghost use Rattle.jbig2_base.specs.Grid.{blank};
 ghost use Rattle.jbig2_coder.specs.Coder.{Coder, Context};
-ghost use Rattle.jbig2_region.specs.inner.Holds.{DecodesRegion};
+ghost use Rattle.jbig2_region.specs.inner.RegionStates.{DecodesRegion};
 ghost use Rattle.jbig2_region.specs.inner.Neighbours.{DecodesPixels, IsLayout, is_nominal_layout, layout_coding, layout_count, layout_loads, layout_pixels};
 ghost use Rattle.jbig2_region.specs.Raster.{decoded_region, no_pixels};
 ghost use Rattle.jbig2_region.specs.Steps.{CountsRegion, row_loads, row_tests, row_words};

@@ -1,12 +1,12 @@
 //! Reads and decodes refinement regions (T.88, 6.3 and 7.4.7).
 ghost use Rattle.std.specs.Prelude.{◌≡◌, IfOk, OnErr, OnOk};
 ghost use Rattle.jbig2_steps.specs.Work.{CountsWithin, price_of_bitmap};
-ghost use Rattle.jbig2_base.specs.Answer.{Answers, Gives, Leaves};
+ghost use Rattle.jbig2_base.specs.Results.{Returns, Gives, Leaves};
 ghost use Rattle.jbig2_base.specs.Bits.{IsAligned};
 ghost use Rattle.jbig2_base.specs.Fields.{Parses};
 ghost use Rattle.jbig2_region.specs.RegionInfo.{IsWhiteFor, PlacedRegion};
 ghost use Rattle.jbig2_region.specs.inner.RegionViews.{region_view};
-ghost use Rattle.jbig2_region.specs.Refinement.{is_far, is_smaller, offset, refined_answer, refined_contexts, refined_decoded};
+ghost use Rattle.jbig2_region.specs.Refinement.{is_far, is_smaller, offset, refined_result, refined_contexts, refined_decoded};
 ghost use Rattle.jbig2_region.specs.Steps.{CountsRefined};
 ghost use Rattle.jbig2_region.specs.RefinementHeader.{IsRefinement, refinement_header_at, RefinementHeader};
 ghost use Rattle.jbig2_region.specs.inner.RefinedViews.{header_view};
@@ -104,7 +104,7 @@ fn offset<B: Allocator>(
     reference: &DecodedRegion<B>,
     region_info: &RegionSegmentInfo,
 ) -> Result<(i32, i32)>
-    ensures value { Answers (λ d. d) result (offset (region_view reference.now) region_info.now) }
+    ensures value { Returns (λ d. d) result (offset (region_view reference.now) region_info.now) }
     ensures causes { HasCause result
         (BreaksOffset (region_view reference.now) region_info.now) }
 {
@@ -141,7 +141,7 @@ pub fn decode_into<A: Allocator, B: Allocator, C: Allocator, L: Ledger>(
     requires parsed { IsRefinement (header_view header.now) }
     requires white { IsWhiteFor header.now.region_info bitmap.old }
     ensures value { Gives (λ _. bitmap.new) result
-        (refined_answer (header_view header.now) (region_view reference.now)) }
+        (refined_result (header_view header.now) (region_view reference.now)) }
     ensures contexts { Leaves result contexts.new.items
         (refined_contexts (header_view header.now) (region_view reference.now) contexts.old.items) }
     ensures same { OnErr result (bitmap.new ≡ bitmap.old) }

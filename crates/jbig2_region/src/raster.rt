@@ -1,11 +1,11 @@
 //! Decodes regions pixel by pixel (T.88, 6.2.5 and 6.3.5): the common part of generic regions and
 //! refinements.
 ghost use Rattle.std.specs.Prelude.{◌≡◌, ℕ, ◌+◌, ◌*◌, ◌^◌, ◌<◌, ◌≤◌, [], length, IfSome, false, Ok, Some, pos, ◌<ℤ◌};
-ghost use Rattle.jbig2_base.specs.Answer.{Gives};
+ghost use Rattle.jbig2_base.specs.Results.{Gives};
 ghost use Rattle.jbig2_base.specs.Grid.{Grid, pixel, bit_number};
 ghost use Rattle.jbig2_region.specs.Steps.{CountsDecided};
 ghost use Rattle.jbig2_region.specs.Raster.{Coding, Region, row_decisions, no_pixels, fresh_contexts};
-ghost use Rattle.jbig2_region.specs.inner.Holds.{Holds, BeginsRow, DecodesRegion, IsReady};
+ghost use Rattle.jbig2_region.specs.inner.RegionStates.{HasDecoded, BeginsRow, DecodesRegion, IsReady};
 ghost use Rattle.jbig2_region.specs.inner.Stretches.{DecodesPixels};
 
 use jbig2_base::bitmap::Bitmap;
@@ -170,7 +170,7 @@ fn decide_row<L: Ledger>(
 ) -> bool
     requires context { context < length contexts.old }
     ensures row { (w h : ℕ) (grid : Grid) (r : Region) → r.predicted ≡ predicted
-        → Holds w h decoder.old.bytes r grid decoder.old contexts.old
+        → HasDecoded w h decoder.old.bytes r grid decoder.old contexts.old
         → BeginsRow w h (Some context) r result grid decoder.old decoder.new contexts.new }
     ensures bytes { decoder.new.bytes ≡ decoder.old.bytes }
     ensures steps { steps.new
@@ -194,7 +194,7 @@ pub fn begin_row<L: Ledger>(
 ) -> bool
     requires context { IfSome row_context (λ k. k < length contexts.old) }
     ensures row { (w h : ℕ) (grid : Grid) (r : Region) → r.predicted ≡ predicted
-        → Holds w h decoder.old.bytes r grid decoder.old contexts.old
+        → HasDecoded w h decoder.old.bytes r grid decoder.old contexts.old
         → BeginsRow w h row_context r result grid decoder.old decoder.new contexts.new }
     ensures bytes { decoder.new.bytes ≡ decoder.old.bytes }
     ensures steps { steps.new

@@ -1,7 +1,7 @@
 //! Decodes generic regions with skipped pixels (T.88, 6.2.5.7), such as planes of a gray-scale
 //! image.
 ghost use Rattle.std.specs.Prelude.{◌≡◌, false, true};
-ghost use Rattle.jbig2_region.specs.inner.Holds.{DecodesRegion, IsReady};
+ghost use Rattle.jbig2_region.specs.inner.RegionStates.{DecodesRegion, IsReady};
 ghost use Rattle.jbig2_region.specs.{Steps.{CountsSkipping}, inner.RegionViews.{skip_of}, Generic.{skipping_coding}};
 ghost use Rattle.jbig2_region.specs.Templates.{context_bits, is_nominal, template_pixels};
 ghost use Rattle.jbig2_region.specs.inner.PixelArrays.{four_pixels};

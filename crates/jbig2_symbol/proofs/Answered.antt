@@ -17,7 +17,7 @@ use Rattle.jbig2_text.proofs.AnsweredRegions.{answered-in_band, by_coder-answere
 use Rattle.jbig2_symbol.specs.Symbols.{exports, next_run, runs_from, dictionary_by, dictionary_from, symbols_decoded}
 use Rattle.jbig2_symbol.specs.HeightClasses.{classes_from, drawn_class, height_class, next_width, size_in_word, symbols_from, width_by, widths_from}
 use Rattle.jbig2_symbol.specs.SymbolBitmaps.{aggregate_params, by_instances, coded_aggregate, coded_instances, coded_symbol, collective_bitmap, instance_count, mmr_bytes, plain_id, prefixed_aggregate, prefixed_instances, put_together, raw_rows, refined_alone, some_instances, symbol_cut, symbols_cut}
-use Rattle.jbig2_symbol.specs.SymbolCoding.{classes_by_coder, classes_by_prefix_codes, coded_bitmap, coder_begun, collective_class, prefix_codes_begun, symbols_by_coder, symbols_by_prefix_codes}
+use Rattle.jbig2_symbol.specs.SymbolCoding.{classes_by_coder, classes_by_prefix_codes, coded_bitmap, coder_start, collective_class, prefix_codes_start, symbols_by_coder, symbols_by_prefix_codes}
 use Rattle.jbig2_symbol.specs.SymbolHeader.{SymbolHeader, coded_pixels_at, refined_pixels_at, selection_of, symbol_flags_of, symbol_header_at}
 use Rattle.jbig2_symbol.specs.SymbolReading.{BitmapContexts, ClassReadings, SymbolInput, SymbolReadings, SymbolState, by_procedure, by_table, first_contexts, not_negative, symbol_tables, table_for}
 use Rattle.jbig2_symbol.specs.declared.symbol.header.HuffmanTableSelection.{HuffmanTableSelection}
@@ -256,7 +256,7 @@ answered-dictionary_by r a d s = search (answered-next, answered-classes r a, an
 
 answered-dictionary : (d : SymbolInput) (contexts : BitmapContexts) → Answered (dictionary_from d contexts)
 answered-dictionary d contexts =
-    answered-if d.header.flags.use_huffman _ _ (answered-dictionary_by classes_by_prefix_codes prefixed-classes d (prefix_codes_begun d contexts)) (answered-dictionary_by classes_by_coder coder-classes d (coder_begun d contexts))
+    answered-if d.header.flags.use_huffman _ _ (answered-dictionary_by classes_by_prefix_codes prefixed-classes d (prefix_codes_start d contexts)) (answered-dictionary_by classes_by_coder coder-classes d (coder_start d contexts))
 
 pub answered-symbols_decoded : (h : SymbolHeader) (symbols : List Grid) (referred : List (List Member)) (kept : Option BitmapContexts) → Answered (symbols_decoded h symbols referred kept)
 unfolding symbols_decoded

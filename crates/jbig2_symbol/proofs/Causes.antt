@@ -4,7 +4,7 @@ use Rattle.std.proofs.lemmas.Bool.{eq-eqb, false≢true, ltb-true}
 use Rattle.std.proofs.lemmas.Bool.Decides.{nat_tests}
 use Rattle.std.specs.Prelude.{IfErr}
 use Rattle.std.specs.Int.{w16, w32}
-use Rattle.jbig2_base.specs.Answer.{refuse_if}
+use Rattle.jbig2_base.specs.Results.{refuse_if}
 use Rattle.jbig2_base.specs.Causes.{HasCause}
 use Rattle.jbig2_base.specs.Fields.{end_of_bytes, number_at}
 use Rattle.jbig2_base.specs.declared.error.DecodeError.{DecodeError}
@@ -19,12 +19,12 @@ use Rattle.jbig2_region.specs.declared.template.RefinementTemplate.{RefinementTe
 use Rattle.jbig2_region.specs.declared.template.RefinementTemplate.TheVariants as refinements
 use Rattle.jbig2_region.specs.declared.template.Template.{Template}
 use Rattle.jbig2_region.specs.declared.template.Template.TheVariants.{Template0, Template1, Template2, Template3}
-use Rattle.jbig2_region.proofs.Told.{Number, Stands, Told, at-start, cause-last, cause-more, told, told-next, told-number, told-refused}
+use Rattle.jbig2_region.proofs.ResultCauses.{Number, IsAtPlace, IfResult, at-start, cause-last, cause-more, result-of, result-next, result-number, result-refused}
 use Rattle.jbig2_region.proofs.Causes as places
 use Rattle.jbig2_region.proofs.PixelCauses.{cause-pixels, pixels-there}
 use Rattle.jbig2_region.specs.Causes.{BreaksPixels}
 use Rattle.jbig2_base.proofs.CauseSteps.{call-cause}
-use Rattle.jbig2_text.proofs.CausesOfHeaders.{told-free}
+use Rattle.jbig2_text.proofs.CausesOfHeaders.{result-free}
 use Rattle.jbig2_symbol.specs.Causes.{BreaksSymbolFields, BreaksSymbolHeader, counts_place}
 use Rattle.jbig2_symbol.specs.SymbolHeader.{coded_pixels_at, refined_pixels_at, selection_of, symbol_flags_of, symbol_header_at}
 use Rattle.jbig2_symbol.specs.declared.symbol.header.HuffmanTableSelection.{HuffmanTableSelection}
@@ -33,15 +33,15 @@ use Rattle.jbig2_symbol.specs.declared.symbol.header.SymbolDictionaryFlags.{Symb
 
 -- after a value of which this many bytes are read
 abbrev At : {A : Type 0} → List ℕ → ℕ → A × List ℕ → Type 0
-At bytes m x = Stands bytes m x.1
+At bytes m x = IsAtPlace bytes m x.1
 
 -- ---- adaptive pixels
 -- so many of them, two bytes each
-told-pixels : (P : DecodeError → Type 0) (count : ℕ) (bytes rest : List ℕ) (k : ℕ) → Stands bytes k rest → (length bytes < k + 2 * count → P end_of_bytes)
-    → (BreaksPixels count k bytes (errors.Template InvalidAtPixel) → P (errors.Template InvalidAtPixel)) → Told (adaptive_pixels_at count rest) P (At bytes (k + 2 * count))
-told-pixels P count bytes rest k from why late =
+result-pixels : (P : DecodeError → Type 0) (count : ℕ) (bytes rest : List ℕ) (k : ℕ) → IsAtPlace bytes k rest → (length bytes < k + 2 * count → P end_of_bytes)
+    → (BreaksPixels count k bytes (errors.Template InvalidAtPixel) → P (errors.Template InvalidAtPixel)) → IfResult (adaptive_pixels_at count rest) P (At bytes (k + 2 * count))
+result-pixels P count bytes rest k from why late =
     let at : places.At k bytes rest = record { same = from.rest_is; size = omega (arith, ap length from.rest_is, length-drop k bytes, from.within) } in
-    told P (At bytes (k + 2 * count)) (adaptive_pixels_at count rest)
+    result-of P (At bytes (k + 2 * count)) (adaptive_pixels_at count rest)
     (cause-pixels P count k bytes rest at why (λ i below whole is. late (i, below, whole, is)))
     (λ x read. let after = pixels-there count k bytes rest x at read in record { within = omega (arith, after.size); rest_is = after.same })
 
@@ -58,44 +58,44 @@ template-bytes m = on (m == 0) (m == 1) (m == 2)
     on false false false = refl
 
 -- those of the symbols' bitmaps, by whether there are none
-told-coded : (P : DecodeError → Type 0) (plain : Bool) (m : ℕ) (none : List AdaptiveTemplatePixel) (bytes rest : List ℕ) → Stands bytes 2 rest
+result-coded : (P : DecodeError → Type 0) (plain : Bool) (m : ℕ) (none : List AdaptiveTemplatePixel) (bytes rest : List ℕ) → IsAtPlace bytes 2 rest
     → (length bytes < 2 + (if plain then 0 else if m == 0 then 8 else 2) → P end_of_bytes)
     → (plain ≡ false → BreaksPixels (count_of (template_of m)) 2 bytes (errors.Template InvalidAtPixel) → P (errors.Template InvalidAtPixel))
-    → Told (if plain then Ok (none, rest) else adaptive_pixels_at (count_of (template_of m)) rest) P (At bytes (2 + (if plain then 0 else if m == 0 then 8 else 2)))
-told-coded P true m none bytes rest from why late = from
-told-coded P false m none bytes rest from why late =
+    → IfResult (if plain then Ok (none, rest) else adaptive_pixels_at (count_of (template_of m)) rest) P (At bytes (2 + (if plain then 0 else if m == 0 then 8 else 2)))
+result-coded P true m none bytes rest from why late = from
+result-coded P false m none bytes rest from why late =
     let t = template_of m in
     let size : 2 + 2 * count_of t ≡ 2 + (if m == 0 then 8 else 2) = ap (λ (n : ℕ). 2 + n) (template-bytes m) in
-    subst (λ (n : ℕ). Told (adaptive_pixels_at (count_of t) rest) P (At bytes n)) size
-    (told-pixels P (count_of t) bytes rest 2 from (λ short. why (omega (arith, short, size))) (late refl))
+    subst (λ (n : ℕ). IfResult (adaptive_pixels_at (count_of t) rest) P (At bytes n)) size
+    (result-pixels P (count_of t) bytes rest 2 from (λ short. why (omega (arith, short, size))) (late refl))
 
 -- those of refinements
-told-refinement : (P : DecodeError → Type 0) (m : ℕ) (bytes rest : List ℕ) (k : ℕ) → Stands bytes k rest → (length bytes < k + (if m == 0 then 4 else 0) → P end_of_bytes)
-    → Told (refinement_pixels_at (refinement_template_of m) rest) P (At bytes (k + (if m == 0 then 4 else 0)))
+result-refinement : (P : DecodeError → Type 0) (m : ℕ) (bytes rest : List ℕ) (k : ℕ) → IsAtPlace bytes k rest → (length bytes < k + (if m == 0 then 4 else 0) → P end_of_bytes)
+    → IfResult (refinement_pixels_at (refinement_template_of m) rest) P (At bytes (k + (if m == 0 then 4 else 0)))
 unfolding refinement_pixels_at
-told-refinement P m bytes rest k from why = on (m == 0) why
+result-refinement P m bytes rest k from why = on (m == 0) why
   where
-    on : (a : Bool) → (length bytes < k + (if a then 4 else 0) → P end_of_bytes) → Told (refinement_pixels_at (if a then refinements.Template0 else refinements.Template1) rest) P (At bytes (k + (if a then 4 else 0)))
+    on : (a : Bool) → (length bytes < k + (if a then 4 else 0) → P end_of_bytes) → IfResult (refinement_pixels_at (if a then refinements.Template0 else refinements.Template1) rest) P (At bytes (k + (if a then 4 else 0)))
     on true why =
-        told-next P (At bytes (k + 2)) (At bytes (k + 4)) (free_pixel_at rest) _ (told-free P bytes k rest from (λ short. why (omega (arith, short)))) (λ first at.
+        result-next P (At bytes (k + 2)) (At bytes (k + 4)) (free_pixel_at rest) _ (result-free P bytes k rest from (λ short. why (omega (arith, short)))) (λ first at.
         let same : k + 2 + 2 ≡ k + 4 = omega arith in
-        told-next P (At bytes (k + 2 + 2)) (At bytes (k + 4)) (free_pixel_at first.1) _ (told-free P bytes (k + 2) first.1 at (λ short. why (omega (arith, short)))) (λ second behind. subst (λ (n : ℕ). Stands bytes n second.1) same behind))
-    on false why = subst (λ (n : ℕ). Stands bytes n rest) (omega arith) from
+        result-next P (At bytes (k + 2 + 2)) (At bytes (k + 4)) (free_pixel_at first.1) _ (result-free P bytes (k + 2) first.1 at (λ short. why (omega (arith, short)))) (λ second behind. subst (λ (n : ℕ). IsAtPlace bytes n second.1) same behind))
+    on false why = subst (λ (n : ℕ). IsAtPlace bytes n rest) (omega arith) from
 
-told-refined : (P : DecodeError → Type 0) (some : Bool) (m : ℕ) (none : List AdaptiveTemplatePixel) (bytes rest : List ℕ) (k : ℕ) → Stands bytes k rest → (length bytes < k + (if some && m == 0 then 4 else 0) → P end_of_bytes)
-    → Told (if some then refinement_pixels_at (refinement_template_of m) rest else Ok (none, rest)) P (At bytes (k + (if some && m == 0 then 4 else 0)))
-told-refined P true m none bytes rest k from why = told-refinement P m bytes rest k from why
-told-refined P false m none bytes rest k from why = subst (λ (n : ℕ). Stands bytes n rest) (omega arith) from
+result-refined : (P : DecodeError → Type 0) (some : Bool) (m : ℕ) (none : List AdaptiveTemplatePixel) (bytes rest : List ℕ) (k : ℕ) → IsAtPlace bytes k rest → (length bytes < k + (if some && m == 0 then 4 else 0) → P end_of_bytes)
+    → IfResult (if some then refinement_pixels_at (refinement_template_of m) rest else Ok (none, rest)) P (At bytes (k + (if some && m == 0 then 4 else 0)))
+result-refined P true m none bytes rest k from why = result-refinement P m bytes rest k from why
+result-refined P false m none bytes rest k from why = subst (λ (n : ℕ). IsAtPlace bytes n rest) (omega arith) from
 
 -- ---- flags
 without-meaning : (m : ℕ) → m < 4 → (m == 0) ≡ false → (m == 1) ≡ false → (m == 3) ≡ false → m ≡ 2
 without-meaning m below a b c = grind (arith, nat_tests)
 
-told-selection : (P : DecodeError → Type 0) (m : ℕ) (x y z : HuffmanTableSelection) → m < 4 → (m ≡ 2 → P (errors.Huffman InvalidSelection))
-    → Told (if m == 0 then Ok x else if m == 1 then Ok y else if m == 3 then Ok z else Err (errors.Huffman InvalidSelection)) P (λ selection. Unit {0})
-told-selection P m x y z below why = on (m == 0) (m == 1) (m == 3) (without-meaning m below)
+result-selection : (P : DecodeError → Type 0) (m : ℕ) (x y z : HuffmanTableSelection) → m < 4 → (m ≡ 2 → P (errors.Huffman InvalidSelection))
+    → IfResult (if m == 0 then Ok x else if m == 1 then Ok y else if m == 3 then Ok z else Err (errors.Huffman InvalidSelection)) P (λ selection. Unit {0})
+result-selection P m x y z below why = on (m == 0) (m == 1) (m == 3) (without-meaning m below)
   where
-    on : (a b c : Bool) → (a ≡ false → b ≡ false → c ≡ false → m ≡ 2) → Told (if a then Ok x else if b then Ok y else if c then Ok z else Err (errors.Huffman InvalidSelection)) P (λ selection. Unit {0})
+    on : (a b c : Bool) → (a ≡ false → b ≡ false → c ≡ false → m ≡ 2) → IfResult (if a then Ok x else if b then Ok y else if c then Ok z else Err (errors.Huffman InvalidSelection)) P (λ selection. Unit {0})
     on true b c two = tt
     on false true c two = tt
     on false false true two = tt
@@ -107,11 +107,11 @@ record FlagsOf (n : ℕ) (flags : SymbolDictionaryFlags) : Type 0 where
   template : flags.template ≡ template_of (n / 1024 % 4)
   refinement : flags.refinement_template ≡ refinement_template_of (n / 4096 % 2)
 
-told-flags : (P : DecodeError → Type 0) (n : ℕ) → ((n / 4 % 4 ≡ 2) ⊎ (n / 16 % 4 ≡ 2) → P (errors.Huffman InvalidSelection)) → Told (symbol_flags_of n) P (FlagsOf n)
+result-flags : (P : DecodeError → Type 0) (n : ℕ) → ((n / 4 % 4 ≡ 2) ⊎ (n / 16 % 4 ≡ 2) → P (errors.Huffman InvalidSelection)) → IfResult (symbol_flags_of n) P (FlagsOf n)
 unfolding symbol_flags_of
-told-flags P n why =
-    told-next P (λ x. Unit {0}) (FlagsOf n) (selection_of TableB4 TableB5 (n / 4 % 4)) _ (told-selection P (n / 4 % 4) _ _ _ (omega arith) (λ two. why (inl two))) (λ heights high.
-    told-next P (λ x. Unit {0}) (FlagsOf n) (selection_of TableB2 TableB3 (n / 16 % 4)) _ (told-selection P (n / 16 % 4) _ _ _ (omega arith) (λ two. why (inr two))) (λ widths wide.
+result-flags P n why =
+    result-next P (λ x. Unit {0}) (FlagsOf n) (selection_of TableB4 TableB5 (n / 4 % 4)) _ (result-selection P (n / 4 % 4) _ _ _ (omega arith) (λ two. why (inl two))) (λ heights high.
+    result-next P (λ x. Unit {0}) (FlagsOf n) (selection_of TableB2 TableB3 (n / 16 % 4)) _ (result-selection P (n / 16 % 4) _ _ _ (omega arith) (λ two. why (inr two))) (λ widths wide.
     record { huffman = refl; refagg = refl; template = refl; refinement = refl }))
 
 -- ---- the header
@@ -126,24 +126,24 @@ pixel_bytes flags = if flags % 2 == 1 then 0 else if flags / 1024 % 4 == 0 then 
 abbrev refinement_bytes : ℕ → ℕ
 refinement_bytes flags = if flags / 2 % 2 == 1 && flags / 4096 % 2 == 0 then 4 else 0
 
-coded-here : (P : DecodeError → Type 0) (n : ℕ) (flags : SymbolDictionaryFlags) (bytes rest : List ℕ) → FlagsOf n flags → Stands bytes 2 rest → (length bytes < 2 + pixel_bytes n → P end_of_bytes)
+coded-here : (P : DecodeError → Type 0) (n : ℕ) (flags : SymbolDictionaryFlags) (bytes rest : List ℕ) → FlagsOf n flags → IsAtPlace bytes 2 rest → (length bytes < 2 + pixel_bytes n → P end_of_bytes)
     → ((n % 2 == 1) ≡ false → BreaksPixels (count_of (template_of (n / 1024 % 4))) 2 bytes (errors.Template InvalidAtPixel) → P (errors.Template InvalidAtPixel))
-    → Told (coded_pixels_at flags rest) P (At bytes (2 + pixel_bytes n))
+    → IfResult (coded_pixels_at flags rest) P (At bytes (2 + pixel_bytes n))
 coded-here P n flags bytes rest is from why later =
     let none : List AdaptiveTemplatePixel = [] in
-    let M : Result (List AdaptiveTemplatePixel × List ℕ) DecodeError → Type 0 = λ r. Told r P (At bytes (2 + pixel_bytes n)) in
+    let M : Result (List AdaptiveTemplatePixel × List ℕ) DecodeError → Type 0 = λ r. IfResult r P (At bytes (2 + pixel_bytes n)) in
     subst M
     (ap (λ (t : Template). if n % 2 == 1 then Ok (none, rest) else adaptive_pixels_at (count_of t) rest) (sym is.template) ∙ ap (λ (b : Bool). if b then Ok (none, rest) else adaptive_pixels_at (count_of flags.template) rest) (sym is.huffman))
-    (told-coded P (n % 2 == 1) (n / 1024 % 4) none bytes rest from why later)
+    (result-coded P (n % 2 == 1) (n / 1024 % 4) none bytes rest from why later)
 
-refined-here : (P : DecodeError → Type 0) (n : ℕ) (flags : SymbolDictionaryFlags) (bytes rest : List ℕ) (k : ℕ) → FlagsOf n flags → Stands bytes k rest → (length bytes < k + refinement_bytes n → P end_of_bytes)
-    → Told (refined_pixels_at flags rest) P (At bytes (k + refinement_bytes n))
+refined-here : (P : DecodeError → Type 0) (n : ℕ) (flags : SymbolDictionaryFlags) (bytes rest : List ℕ) (k : ℕ) → FlagsOf n flags → IsAtPlace bytes k rest → (length bytes < k + refinement_bytes n → P end_of_bytes)
+    → IfResult (refined_pixels_at flags rest) P (At bytes (k + refinement_bytes n))
 refined-here P n flags bytes rest k is from why =
     let none : List AdaptiveTemplatePixel = [] in
-    let M : Result (List AdaptiveTemplatePixel × List ℕ) DecodeError → Type 0 = λ r. Told r P (At bytes (k + refinement_bytes n)) in
+    let M : Result (List AdaptiveTemplatePixel × List ℕ) DecodeError → Type 0 = λ r. IfResult r P (At bytes (k + refinement_bytes n)) in
     subst M
     (ap (λ (t : RefinementTemplate). if n / 2 % 2 == 1 then refinement_pixels_at t rest else Ok (none, rest)) (sym is.refinement) ∙ ap (λ (b : Bool). if b then refinement_pixels_at flags.refinement_template rest else Ok (none, rest)) (sym is.refagg))
-    (told-refined P (n / 2 % 2 == 1) (n / 4096 % 2) none bytes rest k from why)
+    (result-refined P (n / 2 % 2 == 1) (n / 4096 % 2) none bytes rest k from why)
 
 too-many : (a b x y : ℕ) → a ≡ x → b ≡ y → (nat_lt 1048576 a || nat_lt 1048576 b) ≡ true → (1048576 < x) ⊎ (1048576 < y)
 too-many a b x y first second over = on (either-of (nat_lt 1048576 a) (nat_lt 1048576 b) over)
@@ -156,20 +156,20 @@ symbol_header_causes : (strict : Bool) (bytes : List ℕ) → IfErr (symbol_head
 unfolding symbol_header_at
 symbol_header_causes strict bytes =
     let P : DecodeError → Type 0 = BreaksSymbolHeader bytes in
-    cause-last P (Number w16 bytes 0) (number_at w16 bytes) _ (told-number P w16 (at-start bytes) (λ short. omega (arith, short))) (λ number field.
+    cause-last P (Number w16 bytes 0) (number_at w16 bytes) _ (result-number P w16 (at-start bytes) (λ short. omega (arith, short))) (λ number field.
     let n : ℕ = number.0 in
     let Q : DecodeError → Type 0 = BreaksSymbolFields n bytes in
     cause-more Q P _
-    (cause-last Q (FlagsOf n) (symbol_flags_of n) _ (told-flags Q n (λ two. (field.behind.within, two))) (λ flags is.
+    (cause-last Q (FlagsOf n) (symbol_flags_of n) _ (result-flags Q n (λ two. (field.behind.within, two))) (λ flags is.
     let k : ℕ = 2 + pixel_bytes n in
-    let pixels-read : Told (coded_pixels_at flags number.1) Q (At bytes k) = coded-here Q n flags bytes number.1 is field.behind (λ short. omega (arith, short)) (λ odd late. (λ one. false≢true (sym odd ∙ eq-eqb (n % 2) 1 one), late)) in
+    let pixels-read : IfResult (coded_pixels_at flags number.1) Q (At bytes k) = coded-here Q n flags bytes number.1 is field.behind (λ short. omega (arith, short)) (λ odd late. (λ one. false≢true (sym odd ∙ eq-eqb (n % 2) 1 one), late)) in
     cause-last Q (At bytes k) (coded_pixels_at flags number.1) _ pixels-read (λ pixels at.
     cause-last Q (At bytes (counts_place n)) (refined_pixels_at flags pixels.1) _ (refined-here Q n flags bytes pixels.1 k is at (λ short. omega (arith, short))) (λ refined behind.
-    cause-last Q (Number w32 bytes (counts_place n)) (number_at w32 refined.1) _ (told-number Q w32 behind (λ short. omega (arith, short))) (λ exported first.
-    cause-last Q (Number w32 bytes (counts_place n + 4)) (number_at w32 exported.1) _ (told-number Q w32 first.behind (λ short. omega (arith, short))) (λ fresh second.
+    cause-last Q (Number w32 bytes (counts_place n)) (number_at w32 refined.1) _ (result-number Q w32 behind (λ short. omega (arith, short))) (λ exported first.
+    cause-last Q (Number w32 bytes (counts_place n + 4)) (number_at w32 exported.1) _ (result-number Q w32 first.behind (λ short. omega (arith, short))) (λ fresh second.
     let many : Bool = nat_lt 1048576 exported.0 || nat_lt 1048576 fresh.0 in
     let whole : counts_place n + 8 ≤ length bytes = omega (arith, second.behind.within) in
-    cause-last Q (λ x. many ≡ false) (refuse_if many (errors.Overflow SymbolCount)) _ (told-refused Q many (errors.Overflow SymbolCount) (λ over. (whole, too-many exported.0 fresh.0 _ _ (sym first.value) (sym second.value) over))) (λ few is_few. tt)))))))
+    cause-last Q (λ x. many ≡ false) (refuse_if many (errors.Overflow SymbolCount)) _ (result-refused Q many (errors.Overflow SymbolCount) (λ over. (whole, too-many exported.0 fresh.0 _ _ (sym first.value) (sym second.value) over))) (λ few is_few. tt)))))))
     (λ e broken. subst (λ (m : ℕ). BreaksSymbolFields m bytes e) (sym field.value) broken))
 
 pub symbol_header_cause : {X : Type 0} (strict : Bool) (bytes : List ℕ) (r : Result X DecodeError) → IfErr r (λ e. symbol_header_at strict bytes ≡ Err e) → HasCause r (BreaksSymbolHeader bytes)

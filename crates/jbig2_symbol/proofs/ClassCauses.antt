@@ -2,7 +2,7 @@
 use Rattle.std.proofs.Common.{if◌then◌else◌, ◌≡◌, ◌⊎◌, inl, inr, ℕ, ◌*◌, ◌<◌, ◌==◌, nat_le, nat_lt, Bool, true, false, ◌&&◌, List, length, take, Option, Some, None, Result, Ok, Err, ℤ, pos, negsuc, ◌+ℤ◌, refl, sym, ap, subst}
 use Rattle.std.proofs.lemmas.Bool.{and_parts, cond-false, cond-true, eqb-false, eqb-true, leb-true, ltb-true}
 use Rattle.std.specs.Prelude.{IfErr}
-use Rattle.jbig2_base.specs.Answer.{◌>>=◌, refuse_if}
+use Rattle.jbig2_base.specs.Results.{◌>>=◌, refuse_if}
 use Rattle.jbig2_base.specs.Bits.{Place, aligned, start_of}
 use Rattle.jbig2_base.specs.Fields.{bytes_at}
 use Rattle.jbig2_base.specs.Grid.{Grid, wide_or_overflow}
@@ -23,9 +23,9 @@ use Rattle.jbig2_symbol.specs.Causes.{BreaksCollectiveBitmap, BreaksEmptyClass, 
 use Rattle.jbig2_symbol.specs.HeightClasses.{empty_class, height_class, size_in_word}
 use Rattle.jbig2_symbol.specs.SymbolBitmaps.{collective_bitmap, mmr_bytes, raw_rows, raw_stride, rows_of_size}
 use Rattle.jbig2_symbol.specs.SymbolReading.{ClassReadings, SymbolInput, SymbolState, by_table, not_negative}
-use Rattle.jbig2_symbol.specs.inner.SymbolViews.{class_behind, tall_class}
-use Rattle.jbig2_region.proofs.Told.{cause-if, cause-last, cause-more}
-use Rattle.jbig2_symbol.proofs.ReadingCauses.{in-steps, own-error, told-size}
+use Rattle.jbig2_symbol.specs.inner.SymbolViews.{class_after, tall_class}
+use Rattle.jbig2_region.proofs.ResultCauses.{cause-if, cause-last, cause-more}
+use Rattle.jbig2_symbol.proofs.ReadingCauses.{in-steps, own-error, result-size}
 
 -- ---- collective bitmaps
 -- how many bytes its rows have
@@ -116,7 +116,7 @@ class-of r d before empty new None after = inl (refl, refl)
 class-of {S} r d before empty new (Some difference) after =
     let P : DecodeError → Type 0 = BreaksClassAt r d before empty new (Some difference) after in
     let size : ℤ = pos before +ℤ difference in
-    cause-last P (λ (n : ℕ). size ≡ pos n) (size_in_word size) _ (told-size P size (λ no. inr (difference, refl, inl (refl, no)))) (λ height height_is.
+    cause-last P (λ (n : ℕ). size ≡ pos n) (size_in_word size) _ (result-size P size (λ no. inr (difference, refl, inl (refl, no)))) (λ height height_is.
     cause-next P (r.class_of_height d height empty new after) _
     (cause-more (IsOf (r.class_of_height d height empty new after)) P (r.class_of_height d height empty new after) (own-error (r.class_of_height d height empty new after)) (λ e no. inr (difference, refl, inr (height, height_is, no)))) (λ class class_is. tt))
 
@@ -131,8 +131,8 @@ height_class_cause r d before empty new s result =
     call-cause-or-memory (BreaksHeightClass r d before empty new s) (height_class r d before empty new s) result (height_class_causes r d before empty new s)
 
 -- the class's own error, of what it makes with the symbols before it
-pub class-error : {S : Type 0} (new : List Grid) (empty : ℕ) (answer : Result (ℕ × List Grid × S) DecodeError) (e : DecodeError) → (e ≡ errors.OutOfMemory) ⊎ (class_behind new empty answer ≡ Err e)
-    → (e ≡ errors.OutOfMemory) ⊎ (answer ≡ Err e)
-class-error new empty answer e (inl memory) = inl memory
+pub class-error : {S : Type 0} (new : List Grid) (empty : ℕ) (result : Result (ℕ × List Grid × S) DecodeError) (e : DecodeError) → (e ≡ errors.OutOfMemory) ⊎ (class_after new empty result ≡ Err e)
+    → (e ≡ errors.OutOfMemory) ⊎ (result ≡ Err e)
+class-error new empty result e (inl memory) = inl memory
 class-error new empty (Ok class) e (inr same) = absurd cc
 class-error new empty (Err f) e (inr same) = inr cc

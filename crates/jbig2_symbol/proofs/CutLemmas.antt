@@ -3,7 +3,7 @@ use Rattle.std.proofs.Common.{◌≡◌, ℕ, ◌+◌, ◌-◌, ◌*◌, ◌/◌
 use Rattle.std.specs.Prelude.{sum, nat_lt}
 use Rattle.std.proofs.lemmas.List.Sums.{sum_by-drop_more}
 use Rattle.std.proofs.lemmas.List.{append-nil, drop_all}
-use Rattle.jbig2_base.specs.Answer.{◌>>=◌, refuse_if}
+use Rattle.jbig2_base.specs.Results.{◌>>=◌, refuse_if}
 use Rattle.jbig2_base.specs.Fields.{bytes_at}
 use Rattle.jbig2_base.specs.Grid.{Grid, grid_of, blank, wide_or_overflow}
 use Rattle.jbig2_base.specs.declared.error.DecodeError.{DecodeError}
@@ -16,12 +16,12 @@ use Rattle.jbig2_base.proofs.BitLemmas.{bit-shr}
 use Rattle.jbig2_base.proofs.FillLemmas.{all-filled, filled-store}
 use Rattle.jbig2_base.proofs.GridLemmas.{grid_of-ext}
 use Rattle.jbig2_symbol.specs.SymbolBitmaps.{raw_pixel, raw_rows, raw_stride, symbol_cut, symbols_cut}
-use Rattle.jbig2_symbol.specs.inner.SymbolViews.{bytes_of_rows, put_behind}
+use Rattle.jbig2_symbol.specs.inner.SymbolViews.{bytes_of_rows, symbols_after}
 
 -- ---- symbols after others
-behind-cons : (before : List Grid) (symbol : Grid) (others : Result (List Grid) DecodeError) → put_behind before (others >>= λ more. Ok (symbol ∷ more)) ≡ put_behind (before ++ symbol ∷ []) others
-behind-cons before symbol (Ok more) = ap (λ (all : List Grid). Ok all) (sym (append_assoc before (symbol ∷ []) more))
-behind-cons before symbol (Err e) = refl
+concat-cons : (before : List Grid) (symbol : Grid) (others : Result (List Grid) DecodeError) → symbols_after before (others >>= λ more. Ok (symbol ∷ more)) ≡ symbols_after (before ++ symbol ∷ []) others
+concat-cons before symbol (Ok more) = ap (λ (all : List Grid). Ok all) (sym (append_assoc before (symbol ∷ []) more))
+concat-cons before symbol (Err e) = refl
 
 drop-more : (xs : List ℕ) (k : ℕ) → k < length xs → drop k xs ≡ get_or xs k 0 ∷ drop (k + 1) xs
 drop-more xs k inside =
@@ -32,25 +32,25 @@ cut-more : (collective : Grid) (height left : ℕ) (widths : List ℕ) (k : ℕ)
 unfolding symbols_cut
 cut-more collective height left widths k inside = ap (λ (ws : List ℕ). symbols_cut collective height left ws) (drop-more widths k inside)
 
-pub cut-next : (collective : Grid) (height left : ℕ) (widths : List ℕ) (k : ℕ) (before : List Grid) (symbol : Grid) → k < length widths → symbol_cut collective left (get_or widths k 0) height ≡ Ok symbol → put_behind before (symbols_cut collective height left (drop k widths)) ≡ put_behind (before ++ symbol ∷ []) (symbols_cut collective height (left + get_or widths k 0) (drop (k + 1) widths))
+pub cut-next : (collective : Grid) (height left : ℕ) (widths : List ℕ) (k : ℕ) (before : List Grid) (symbol : Grid) → k < length widths → symbol_cut collective left (get_or widths k 0) height ≡ Ok symbol → symbols_after before (symbols_cut collective height left (drop k widths)) ≡ symbols_after (before ++ symbol ∷ []) (symbols_cut collective height (left + get_or widths k 0) (drop (k + 1) widths))
 cut-next collective height left widths k before symbol inside e =
-    ap (λ (answer : Result (List Grid) DecodeError). put_behind before answer) (cut-more collective height left widths k inside)
-    ∙ ap (λ (one : Result Grid DecodeError). put_behind before (one >>= λ s. symbols_cut collective height (left + get_or widths k 0) (drop (k + 1) widths) >>= λ others. Ok (s ∷ others))) e
-    ∙ behind-cons before symbol (symbols_cut collective height (left + get_or widths k 0) (drop (k + 1) widths))
+    ap (λ (result : Result (List Grid) DecodeError). symbols_after before result) (cut-more collective height left widths k inside)
+    ∙ ap (λ (one : Result Grid DecodeError). symbols_after before (one >>= λ s. symbols_cut collective height (left + get_or widths k 0) (drop (k + 1) widths) >>= λ others. Ok (s ∷ others))) e
+    ∙ concat-cons before symbol (symbols_cut collective height (left + get_or widths k 0) (drop (k + 1) widths))
 
-pub cut-fault : (collective : Grid) (height left : ℕ) (widths : List ℕ) (k : ℕ) (before : List Grid) (error : DecodeError) (whole : Result (List Grid) DecodeError) → k < length widths → put_behind before (symbols_cut collective height left (drop k widths)) ≡ whole → (error ≡ OutOfMemory) ⊎ (symbol_cut collective left (get_or widths k 0) height ≡ Err error) → (error ≡ OutOfMemory) ⊎ (whole ≡ Err error)
+pub cut-fault : (collective : Grid) (height left : ℕ) (widths : List ℕ) (k : ℕ) (before : List Grid) (error : DecodeError) (whole : Result (List Grid) DecodeError) → k < length widths → symbols_after before (symbols_cut collective height left (drop k widths)) ≡ whole → (error ≡ OutOfMemory) ⊎ (symbol_cut collective left (get_or widths k 0) height ≡ Err error) → (error ≡ OutOfMemory) ⊎ (whole ≡ Err error)
 cut-fault collective height left widths k before error whole inside so_far (inl memory) = inl memory
 cut-fault collective height left widths k before error whole inside so_far (inr e) =
     inr
     (sym so_far
-    ∙ ap (λ (answer : Result (List Grid) DecodeError). put_behind before answer) (cut-more collective height left widths k inside)
-    ∙ ap (λ (one : Result Grid DecodeError). put_behind before (one >>= λ s. symbols_cut collective height (left + get_or widths k 0) (drop (k + 1) widths) >>= λ others. Ok (s ∷ others))) e)
+    ∙ ap (λ (result : Result (List Grid) DecodeError). symbols_after before result) (cut-more collective height left widths k inside)
+    ∙ ap (λ (one : Result Grid DecodeError). symbols_after before (one >>= λ s. symbols_cut collective height (left + get_or widths k 0) (drop (k + 1) widths) >>= λ others. Ok (s ∷ others))) e)
 
-pub cut-all : (collective : Grid) (height left : ℕ) (widths : List ℕ) (k : ℕ) (before : List Grid) (whole : Result (List Grid) DecodeError) → length widths ≤ k → put_behind before (symbols_cut collective height left (drop k widths)) ≡ whole → whole ≡ Ok before
+pub cut-all : (collective : Grid) (height left : ℕ) (widths : List ℕ) (k : ℕ) (before : List Grid) (whole : Result (List Grid) DecodeError) → length widths ≤ k → symbols_after before (symbols_cut collective height left (drop k widths)) ≡ whole → whole ≡ Ok before
 unfolding symbols_cut
 cut-all collective height left widths k before whole done so_far =
     sym so_far
-    ∙ ap (λ (ws : List ℕ). put_behind before (symbols_cut collective height left ws)) (drop_all k widths done)
+    ∙ ap (λ (ws : List ℕ). symbols_after before (symbols_cut collective height left ws)) (drop_all k widths done)
     ∙ ap (λ (all : List Grid). Ok all) (append-nil before)
 
 pub sum-next : (widths : List ℕ) (k left most : ℕ) → k < length widths → left + sum (drop k widths) ≤ most → left + get_or widths k 0 + sum (drop (k + 1) widths) ≤ most

@@ -8,7 +8,7 @@ use Rattle.jbig2_base.specs.declared.error.DecodeError.{DecodeError}
 use Rattle.jbig2_base.specs.declared.error.DecodeError.TheVariants.{OutOfMemory}
 use Rattle.jbig2_base.proofs.CauseSteps.{call-cause-or-memory}
 use Rattle.jbig2_base.proofs.SearchLemmas.{place-found}
-use Rattle.jbig2_region.proofs.Told.{cause-if}
+use Rattle.jbig2_region.proofs.ResultCauses.{cause-if}
 use Rattle.jbig2_coder.specs.PrefixCode.{is_crowded, longest, share, weight}
 use Rattle.jbig2_coder.specs.Tables.{line, uniform}
 use Rattle.jbig2_coder.specs.declared.huffman_table.line.TableLine.{TableLine}

@@ -1,10 +1,10 @@
-pub mod Answered
 pub mod AggregateLemmas
-pub mod BehindLemmas
+pub mod Answered
 pub mod Causes
 pub mod ClassCauses
 pub mod ClassLemmas
 pub mod CodedLemmas
+pub mod ConcatLemmas
 pub mod CutLemmas
 pub mod ExportErrors
 pub mod ExportLemmas

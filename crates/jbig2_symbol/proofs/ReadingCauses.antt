@@ -3,7 +3,7 @@ use Rattle.std.proofs.Common.{◌≡◌, ◌≢◌, ◌⊎◌, inl, inr, ℕ, ze
 use Rattle.std.proofs.lemmas.Bool.{and_cases, and_parts, eq-eqb, eqb-true, false≢true, leb-true, ltb-false, not-false, not-true}
 use Rattle.std.proofs.lemmas.Bool as tests
 use Rattle.std.specs.Prelude.{IfErr}
-use Rattle.jbig2_base.specs.Answer.{◌>>=◌, refuse_if}
+use Rattle.jbig2_base.specs.Results.{◌>>=◌, refuse_if}
 use Rattle.jbig2_base.specs.Grid.{Grid, bit_number}
 use Rattle.jbig2_base.specs.Causes.{HasCause, HasCauseOrNoMemory, InSteps, IsOf}
 use Rattle.jbig2_base.proofs.CauseSteps.{call-cause, call-cause-or-memory}
@@ -16,13 +16,13 @@ use Rattle.jbig2_base.proofs.Causes.{cause-next, cause-refused}
 use Rattle.jbig2_coder.specs.PrefixCode.{Member}
 use Rattle.jbig2_text.specs.TextCoding.{in_band}
 use Rattle.jbig2_symbol.specs.SymbolBitmaps.{instance_count, some_instances}
-use Rattle.jbig2_symbol.specs.Causes.{BreaksContexts, BreaksCount, BreaksExports, BreaksNextWidth, BreaksRunBehind, BreaksRunValue, BreaksTables, IsNoSize, taken_by}
+use Rattle.jbig2_symbol.specs.Causes.{BreaksContexts, BreaksCount, BreaksExports, BreaksNextWidth, BreaksRunAfter, BreaksRunValue, BreaksTables, IsNoSize, custom_count}
 use Rattle.jbig2_symbol.specs.Symbols.{export_runs, exported, exports, next_run, runs_from}
 use Rattle.jbig2_symbol.specs.HeightClasses.{next_width, size_in_word, width_by}
 use Rattle.jbig2_symbol.specs.SymbolReading.{BitmapContexts, ClassReadings, SymbolInput, SymbolReadings, first_contexts, is_refinement_template, is_template, not_negative, symbol_tables, table_for}
 use Rattle.jbig2_symbol.specs.declared.symbol.header.HuffmanTableSelection.{HuffmanTableSelection}
 use Rattle.jbig2_symbol.specs.declared.symbol.header.HuffmanTableSelection.TheVariants.{TableB1, TableB2, TableB3, TableB4, TableB5, UserSupplied}
-use Rattle.jbig2_region.proofs.Told.{Told, cause-if, cause-last, cause-more, told-if, told-refused}
+use Rattle.jbig2_region.proofs.ResultCauses.{IfResult, cause-if, cause-last, cause-more, result-if, result-refused}
 use Rattle.jbig2_symbol.specs.declared.symbol.header.SymbolDictionaryFlags.{SymbolDictionaryFlags}
 
 -- ---- steps
@@ -46,28 +46,28 @@ differ m n apart same = false≢true (sym (not-true (m == n) apart) ∙ eq-eqb m
 abbrev Left : ℕ → List (List Member) → List Member × List (List Member) → Type 0
 Left taken customs x = length customs ≡ taken + length x.1
 
-told-table : (P : DecodeError → Type 0) (selection : HuffmanTableSelection) (customs : List (List Member)) → (length customs < taken_by selection → P (errors.Huffman huffman.MissingTables)) → Told (table_for selection customs) P (Left (taken_by selection) customs)
+result-table : (P : DecodeError → Type 0) (selection : HuffmanTableSelection) (customs : List (List Member)) → (length customs < custom_count selection → P (errors.Huffman huffman.MissingTables)) → IfResult (table_for selection customs) P (Left (custom_count selection) customs)
 unfolding table_for
-told-table P TableB1 customs why = omega arith
-told-table P TableB2 customs why = omega arith
-told-table P TableB3 customs why = omega arith
-told-table P TableB4 customs why = omega arith
-told-table P TableB5 customs why = omega arith
-told-table P UserSupplied [] why = why (omega arith)
-told-table P UserSupplied (table ∷ others) why = omega arith
+result-table P TableB1 customs why = omega arith
+result-table P TableB2 customs why = omega arith
+result-table P TableB3 customs why = omega arith
+result-table P TableB4 customs why = omega arith
+result-table P TableB5 customs why = omega arith
+result-table P UserSupplied [] why = why (omega arith)
+result-table P UserSupplied (table ∷ others) why = omega arith
 
 symbol_tables_causes : (flags : SymbolDictionaryFlags) (customs : List (List Member)) → IfErr (symbol_tables flags customs) (BreaksTables flags customs)
 unfolding symbol_tables
 symbol_tables_causes flags customs =
     let P : DecodeError → Type 0 = BreaksTables flags customs in
-    let h = taken_by flags.delta_height_table in
-    let w = taken_by flags.delta_width_table in
-    let c = taken_by flags.collective_bitmap_size_table in
-    let a = taken_by flags.aggregate_instance_table in
-    cause-last P (Left h customs) (table_for flags.delta_height_table customs) _ (told-table P flags.delta_height_table customs (λ few. omega (arith, few))) (λ heights one.
-    cause-last P (Left w heights.1) (table_for flags.delta_width_table heights.1) _ (told-table P flags.delta_width_table heights.1 (λ few. omega (arith, few, one))) (λ widths two.
-    cause-last P (Left c widths.1) (table_for flags.collective_bitmap_size_table widths.1) _ (told-table P flags.collective_bitmap_size_table widths.1 (λ few. omega (arith, few, one, two))) (λ sizes three.
-    cause-last P (Left a sizes.1) (table_for flags.aggregate_instance_table sizes.1) _ (told-table P flags.aggregate_instance_table sizes.1 (λ few. omega (arith, few, one, two, three))) (λ counts four. tt))))
+    let h = custom_count flags.delta_height_table in
+    let w = custom_count flags.delta_width_table in
+    let c = custom_count flags.collective_bitmap_size_table in
+    let a = custom_count flags.aggregate_instance_table in
+    cause-last P (Left h customs) (table_for flags.delta_height_table customs) _ (result-table P flags.delta_height_table customs (λ few. omega (arith, few))) (λ heights one.
+    cause-last P (Left w heights.1) (table_for flags.delta_width_table heights.1) _ (result-table P flags.delta_width_table heights.1 (λ few. omega (arith, few, one))) (λ widths two.
+    cause-last P (Left c widths.1) (table_for flags.collective_bitmap_size_table widths.1) _ (result-table P flags.collective_bitmap_size_table widths.1 (λ few. omega (arith, few, one, two))) (λ sizes three.
+    cause-last P (Left a sizes.1) (table_for flags.aggregate_instance_table sizes.1) _ (result-table P flags.aggregate_instance_table sizes.1 (λ few. omega (arith, few, one, two, three))) (λ counts four. tt))))
 
 pub symbol_tables_cause : {X : Type 0} (flags : SymbolDictionaryFlags) (customs : List (List Member)) (r : Result X DecodeError) → IfErr r (λ e. symbol_tables flags customs ≡ Err e) → HasCause r (BreaksTables flags customs)
 symbol_tables_cause flags customs r = call-cause (BreaksTables flags customs) (symbol_tables flags customs) r (symbol_tables_causes flags customs)
@@ -112,11 +112,11 @@ run-causes r d empty left s =
     in-steps (r.export_run d s) _ (IsOf (r.export_run d s)) (λ value. BreaksRunValue empty left value.0) (own-error (r.export_run d s)) (λ value value_is. run-of empty left value.0 value.1)
 
 abbrev Runs : {S : Type 0} → ClassReadings S → SymbolInput → ℕ → ℕ → S → DecodeError → Type 0
-Runs r d empty left s e = (before : List ℕ) × BreaksRunBehind before r d empty left s e
+Runs r d empty left s e = (before : List ℕ) × BreaksRunAfter before r d empty left s e
 
 runs-later : {S : Type 0} (r : ClassReadings S) (d : SymbolInput) (empty left : ℕ) (s : S) (run : ℕ × S) (e : DecodeError) → next_run r d empty left s ≡ Ok run → Runs r d (empty + bit_number (run.0 == 0)) (left - run.0) run.1 e → Runs r d empty left s e
 runs-later r d empty left s run e is later =
-    let broken : BreaksRunBehind (run.0 ∷ later.0) r d empty left s e = (run.1, is, later.1) in
+    let broken : BreaksRunAfter (run.0 ∷ later.0) r d empty left s e = (run.1, is, later.1) in
     (run.0 ∷ later.0, broken)
 
 runs-cause : {S : Type 0} (r : ClassReadings S) (d : SymbolInput) (n empty left : ℕ) (s : S) → IfErr (runs_from r d n empty left s) (Runs r d empty left s)
@@ -144,9 +144,9 @@ pub exports_cause : {X S : Type 0} (r : ClassReadings S) (d : SymbolInput) (grid
 exports_cause r d grids s result = call-cause-or-memory (BreaksExports r d grids s) (exports r d grids s) result (exports_causes r d grids s)
 
 -- ---- widths and instances
-pub told-size : (P : DecodeError → Type 0) (z : ℤ) → (IsNoSize z → P (errors.Overflow BitmapDimension)) → Told (size_in_word z) P (λ n. z ≡ pos n)
-told-size P (pos n) why = told-if P (λ (m : ℕ). pos n ≡ pos m) (nat_lt n 4294967296) (Ok n) (Err (errors.Overflow BitmapDimension)) (λ fits. refl) (λ large. why (ltb-false n 4294967296 large))
-told-size P (negsuc n) why = why tt
+pub result-size : (P : DecodeError → Type 0) (z : ℤ) → (IsNoSize z → P (errors.Overflow BitmapDimension)) → IfResult (size_in_word z) P (λ n. z ≡ pos n)
+result-size P (pos n) why = result-if P (λ (m : ℕ). pos n ≡ pos m) (nat_lt n 4294967296) (Ok n) (Err (errors.Overflow BitmapDimension)) (λ fits. refl) (λ large. why (ltb-false n 4294967296 large))
+result-size P (negsuc n) why = why tt
 
 abbrev BreaksWidth : ℕ → ℕ → ℕ → Option ℤ → DecodeError → Type 0
 BreaksWidth room width total value e =
@@ -159,9 +159,9 @@ width-cause room width total (Some difference) =
     let P : DecodeError → Type 0 = BreaksWidth room width total (Some difference) in
     let none : Bool = room == 0 in
     let next_width_is = pos width +ℤ difference in
-    cause-last P (λ x. none ≡ false) (refuse_if none (errors.Symbol symbols.TooManySymbols)) _ (told-refused P none (errors.Symbol symbols.TooManySymbols) (λ is. inl (refl, eqb-true room 0 is, λ same. absurd (cc)))) (λ missing there.
-    cause-last P (λ (n : ℕ). next_width_is ≡ pos n) (size_in_word next_width_is) _ (told-size P next_width_is (λ no. inr (refl, (difference, refl, inl no)))) (λ next is.
-    cause-last P (λ (n : ℕ). pos total +ℤ pos next ≡ pos n) (size_in_word (pos total +ℤ pos next)) _ (told-size P (pos total +ℤ pos next) (λ no. inr (refl, (difference, refl, inr (subst (λ (z : ℤ). IsNoSize (pos total +ℤ z)) (sym is) no))))) (λ all all_is. tt)))
+    cause-last P (λ x. none ≡ false) (refuse_if none (errors.Symbol symbols.TooManySymbols)) _ (result-refused P none (errors.Symbol symbols.TooManySymbols) (λ is. inl (refl, eqb-true room 0 is, λ same. absurd (cc)))) (λ missing there.
+    cause-last P (λ (n : ℕ). next_width_is ≡ pos n) (size_in_word next_width_is) _ (result-size P next_width_is (λ no. inr (refl, (difference, refl, inl no)))) (λ next is.
+    cause-last P (λ (n : ℕ). pos total +ℤ pos next ≡ pos n) (size_in_word (pos total +ℤ pos next)) _ (result-size P (pos total +ℤ pos next) (λ no. inr (refl, (difference, refl, inr (subst (λ (z : ℤ). IsNoSize (pos total +ℤ z)) (sym is) no))))) (λ all all_is. tt)))
 
 widths_causes : {S : Type 0} (r : SymbolReadings S) (d : SymbolInput) (room width total : ℕ) (s : S) → IfErr (next_width r d room width total s) (BreaksNextWidth r d room width total s)
 unfolding next_width

@@ -2,7 +2,7 @@
 use Rattle.std.proofs.Common.{◌≡◌, ◌⊎◌, inl, inr, ℕ, ◌==◌, ◌<◌, nat_lt, Bool, true, false, ◌||◌, max, List, length, Option, Result, Ok, Err, ℤ, refl}
 use Rattle.std.proofs.lemmas.Bool.{eqb-false, eqb-true, ltb-true}
 use Rattle.std.specs.Prelude.{IfErr}
-use Rattle.jbig2_base.specs.Answer.{◌>>=◌}
+use Rattle.jbig2_base.specs.Results.{◌>>=◌}
 use Rattle.jbig2_base.specs.Bits.{Place, bits_left, bits_on}
 use Rattle.jbig2_base.specs.Causes.{BreaksSides, HasCauseOrNoMemory, InSteps, IsOf}
 use Rattle.jbig2_base.proofs.CauseSteps.{call-cause-or-memory}
@@ -15,7 +15,7 @@ use Rattle.jbig2_base.specs.declared.error.ParseError.TheVariants.{UnexpectedEof
 use Rattle.jbig2_base.specs.declared.error.SymbolError.TheVariants.{OutOfRange}
 use Rattle.jbig2_coder.specs.PrefixCode.{Member, decoded_value}
 use Rattle.jbig2_coder.specs.declared.integer_procedures.IntegerProcedure.TheVariants.{Iaai}
-use Rattle.jbig2_text.specs.Causes.{Behind, BreaksInstances, ReadingsHaveCauses, NamesNone, ReadingCauses, RefusesValue, coder_causes, prefix_causes}
+use Rattle.jbig2_text.specs.Causes.{After, BreaksInstances, ReadingsHaveCauses, NamesNone, ReadingCauses, RefusesValue, coder_causes, prefix_causes}
 use Rattle.jbig2_text.specs.Refining.{Refining}
 use Rattle.jbig2_text.specs.Text.{Readings, TextParams, some_symbol, symbol_of, text_region}
 use Rattle.jbig2_text.specs.TextCoding.{Coded, Prefixed, by_coder, by_prefix_codes, next_id}
@@ -25,7 +25,7 @@ use Rattle.jbig2_symbol.specs.SymbolReading.{SymbolState, by_procedure, by_table
 use Rattle.jbig2_text.proofs.CausesOfInstances.{cause-some}
 use Rattle.jbig2_text.proofs.CausesOfRegions.{all_instance_causes, by_coder-causes, by_prefix_codes-causes}
 use Rattle.jbig2_text.proofs.Causes.{cause-bits}
-use Rattle.jbig2_region.proofs.Told.{cause-if, cause-more, cause-of}
+use Rattle.jbig2_region.proofs.ResultCauses.{cause-if, cause-more, cause-of}
 use Rattle.jbig2_base.proofs.Causes.{cause-next, cause-refused}
 use Rattle.jbig2_symbol.proofs.ReadingCauses.{instance_count_causes}
 
@@ -50,8 +50,8 @@ sides-cause width height =
 abbrev BreaksRefined : {S : Type 0} → ReadingCauses S → Readings S → List Grid → ℤ → ℕ → ℕ → S → DecodeError → Type 0
 BreaksRefined c r symbols id width height s e =
     c.x_delta s e
-    ⊎ Behind (r.x_delta s) (λ rdx. c.y_delta rdx.1 e
-    ⊎ Behind (r.y_delta rdx.1) (λ rdy. ((e ≡ errors.Symbol OutOfRange) × NamesNone symbols id) ⊎ BreaksSides width height e ⊎ c.refined rdy.1 e))
+    ⊎ After (r.x_delta s) (λ rdx. c.y_delta rdx.1 e
+    ⊎ After (r.y_delta rdx.1) (λ rdy. ((e ≡ errors.Symbol OutOfRange) × NamesNone symbols id) ⊎ BreaksSides width height e ⊎ c.refined rdy.1 e))
 
 cause-alone : {S : Type 0} (c : ReadingCauses S) (r : Readings S) (a : ReadingsHaveCauses r c) (P : DecodeError → Type 0) (symbols : List Grid) (id : ℤ) (width height : ℕ) (f : Refining) (s : S)
     → ((e : DecodeError) → BreaksRefined c r symbols id width height s e → P e) → IfErr (refined_alone r symbols id width height f s) P
@@ -82,11 +82,11 @@ cause-instances c r a alone lacks law p width height f s =
 
 -- what is broken in a step, or after it
 cause-count : {S : Type 0} (P : DecodeError → Type 0) (reading : Result (Option ℤ × S) DecodeError)
-    → ((e : DecodeError) → reading ≡ Err e → P e) → ((e : DecodeError) → Behind reading (λ value. BreaksCount value.0 e) → P e) → IfErr (instance_count reading) P
+    → ((e : DecodeError) → reading ≡ Err e → P e) → ((e : DecodeError) → After reading (λ value. BreaksCount value.0 e) → P e) → IfErr (instance_count reading) P
 unfolding instance_count
 cause-count {S} P reading refused broken = cause-more (λ e. InSteps reading (IsOf reading e) (λ value. BreaksCount value.0 e)) P (instance_count reading) (instance_count_causes reading) (λ e no. on reading (λ is. refused e is) (λ x. broken e x) no)
   where
-    on : {e : DecodeError} (answer : Result (Option ℤ × S) DecodeError) → (answer ≡ Err e → P e) → (Behind answer (λ value. BreaksCount value.0 e) → P e) → InSteps answer (IsOf answer e) (λ value. BreaksCount value.0 e) → P e
+    on : {e : DecodeError} (result : Result (Option ℤ × S) DecodeError) → (result ≡ Err e → P e) → (After result (λ value. BreaksCount value.0 e) → P e) → InSteps result (IsOf result e) (λ value. BreaksCount value.0 e) → P e
     on (Ok value) refused broken why = broken (value, refl, why)
     on (Err f) refused broken why = refused why
 
@@ -109,12 +109,12 @@ coded_aggregate_cause d new width height s r =
     call-cause-or-memory (BreaksCodedAggregate d new width height s) (coded_aggregate d new width height s) r (coded_aggregate_causes d new width height s)
 
 refused-value : (table : List Member) (s : SymbolState Place) (e : DecodeError) → by_table table s ≡ Err e → RefusesValue table (bits_left s.coding) e
-refused-value table s e = on (decoded_value table (bits_left s.coding)).answer
+refused-value table s e = on (decoded_value table (bits_left s.coding)).result
   where
     behind : SymbolState Place
     behind = record s { coding = bits_on (decoded_value table (bits_left s.coding)).taken s.coding }
 
-    on : (answer : Result (Option ℤ) DecodeError) → (answer >>= λ value. (let x : Result (Option ℤ × SymbolState Place) DecodeError = Ok (value, behind) in x)) ≡ Err e → answer ≡ Err e
+    on : (result : Result (Option ℤ) DecodeError) → (result >>= λ value. (let x : Result (Option ℤ × SymbolState Place) DecodeError = Ok (value, behind) in x)) ≡ Err e → result ≡ Err e
     on (Ok value) is = absurd cc
     on (Err f) is = cc
 

@@ -4,7 +4,7 @@ use Rattle.std.proofs.Common.{◌≡◌, ◌⊎◌, inl, inr, ℕ, ◌+◌, ◌*
 use Rattle.std.specs.Prelude.{sum}
 use Rattle.std.proofs.lemmas.Bool.{lt-ltb}
 use Rattle.std.proofs.Math.Bool.{and-false, or-true}
-use Rattle.jbig2_base.specs.Answer.{◌>>=◌, Gives}
+use Rattle.jbig2_base.specs.Results.{◌>>=◌, Gives}
 use Rattle.jbig2_base.specs.Bits.{Place}
 use Rattle.jbig2_base.specs.Fields.{bytes_at}
 use Rattle.jbig2_base.specs.Grid.{Grid, wide_or_overflow}
@@ -17,7 +17,7 @@ use Rattle.jbig2_symbol.specs.HeightClasses.{empty_class, widths_from}
 use Rattle.jbig2_symbol.specs.SymbolBitmaps.{collective_bitmap, mmr_bytes, rows_of_size, symbol_cut, symbols_cut}
 use Rattle.jbig2_symbol.specs.SymbolCoding.{collective_class, symbols_by_prefix_codes}
 use Rattle.jbig2_symbol.specs.SymbolReading.{SymbolInput, SymbolState}
-use Rattle.jbig2_symbol.specs.inner.SymbolViews.{behind, bytes_of_rows, room_behind, tall_class, with_no_value}
+use Rattle.jbig2_symbol.specs.inner.SymbolViews.{concat, bytes_of_rows, room_after, tall_class, with_no_value}
 use Rattle.jbig2_symbol.proofs.CutLemmas.{raw-read, raw-unread}
 use Rattle.jbig2_symbol.proofs.MmrRows.{whole-rows}
 use Rattle.jbig2_symbol.proofs.PayingLemmas.{bytes-many}
@@ -64,11 +64,11 @@ tall-cut collective height from [] tall some = absurd (omega arith)
 tall-cut collective height from (width ∷ widths) tall some = rw (lt-ltb 65535 height tall, or-true (ltb 65535 width)) refl
 
 -- whatever the collective bitmap, the first symbol is refused
-never-cut : {S : Type 0} (collective : Result (Grid × S) DecodeError) (height : ℕ) (before : List Grid) (widths : List ℕ) (error : DecodeError) → 65535 < height → 0 < length widths → (collective >>= λ _. (let r : Result (Unit {0}) DecodeError = Err (Overflow BitmapDimension) in r)) ≡ Err error → behind before (collective >>= λ c. symbols_cut c.0 height 0 widths >>= λ symbols. Ok (symbols, c.1)) ≡ Err error
+never-cut : {S : Type 0} (collective : Result (Grid × S) DecodeError) (height : ℕ) (before : List Grid) (widths : List ℕ) (error : DecodeError) → 65535 < height → 0 < length widths → (collective >>= λ _. (let r : Result (Unit {0}) DecodeError = Err (Overflow BitmapDimension) in r)) ≡ Err error → concat before (collective >>= λ c. symbols_cut c.0 height 0 widths >>= λ symbols. Ok (symbols, c.1)) ≡ Err error
 never-cut (Ok c) height before widths error tall some is = rw (tall-cut c.0 height 0 widths tall some) (cc)
 never-cut (Err e) height before widths error tall some is = cc
 
-tall-error : (d : SymbolInput) (height empty total : ℕ) (before : List Grid) (widths : List ℕ) (s t : SymbolState Place) (error : DecodeError) → widths_from symbols_by_prefix_codes d (room_behind d before) 0 0 s ≡ Ok (widths, t) → total ≡ sum widths → empty_class (length widths) empty ≡ Ok tt → 65535 < height → 0 < length widths → tall_class d total height t ≡ Err error → behind before (collective_class d height empty before s) ≡ Err error
+tall-error : (d : SymbolInput) (height empty total : ℕ) (before : List Grid) (widths : List ℕ) (s t : SymbolState Place) (error : DecodeError) → widths_from symbols_by_prefix_codes d (room_after d before) 0 0 s ≡ Ok (widths, t) → total ≡ sum widths → empty_class (length widths) empty ≡ Ok tt → 65535 < height → 0 < length widths → tall_class d total height t ≡ Err error → concat before (collective_class d height empty before s) ≡ Err error
 unfolding collective_class
 tall-error d height empty total before widths s t error read summed few tall some is =
     let is' : tall_class d (sum widths) height t ≡ Err error = subst (λ (n : ℕ). tall_class d n height t ≡ Err error) summed is in
@@ -82,7 +82,7 @@ tall-none d width height s = never (collective_bitmap d width height s)
     never (Ok x) is = cc
     never (Err e) is = cc
 
-pub tall-refused : (d : SymbolInput) (height empty total : ℕ) (before after : List Grid) (widths : List ℕ) (s t u : SymbolState Place) (result : Result (Unit {0}) DecodeError) → widths_from symbols_by_prefix_codes d (room_behind d before) 0 0 s ≡ Ok (widths, t) → total ≡ sum widths → empty_class (length widths) empty ≡ Ok tt → 65535 < height → 0 < length widths → Gives (λ _. tt) result (tall_class d total height t) → Gives (λ _. (after, u)) result (behind before (collective_class d height empty before s))
+pub tall-refused : (d : SymbolInput) (height empty total : ℕ) (before after : List Grid) (widths : List ℕ) (s t u : SymbolState Place) (result : Result (Unit {0}) DecodeError) → widths_from symbols_by_prefix_codes d (room_after d before) 0 0 s ≡ Ok (widths, t) → total ≡ sum widths → empty_class (length widths) empty ≡ Ok tt → 65535 < height → 0 < length widths → Gives (λ _. tt) result (tall_class d total height t) → Gives (λ _. (after, u)) result (concat before (collective_class d height empty before s))
 tall-refused d height empty total before after widths s t u (Ok x) read summed few tall some is = absurd (tall-none d total height t is)
 tall-refused d height empty total before after widths s t u (Err e) read summed few tall some (inl memory) = inl memory
 tall-refused d height empty total before after widths s t u (Err e) read summed few tall some (inr is) = inr (tall-error d height empty total before widths s t e read summed few tall some is)

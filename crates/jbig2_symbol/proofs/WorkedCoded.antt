@@ -1,6 +1,6 @@
 -- A symbol dictionary by the arithmetic coder, computed from the definitions alone.
 use Rattle.std.proofs.Common.{◌≡◌, ℕ, ◌+◌, Bool, true, false, List, [], ◌∷◌, ◌++◌, None, Result, Ok, refl}
-use Rattle.jbig2_base.specs.Answer.{◌>>=◌}
+use Rattle.jbig2_base.specs.Results.{◌>>=◌}
 use Rattle.jbig2_base.specs.Search.{least}
 use Rattle.jbig2_base.specs.Grid.{table, pixel_at}
 use Rattle.jbig2_base.specs.declared.error.DecodeError.{DecodeError}
@@ -11,7 +11,7 @@ use Rattle.jbig2_coder.specs.PrefixCode.{is_crowded, weight}
 use Rattle.jbig2_coder.specs.Table.{rows, row_of}
 use Rattle.jbig2_region.specs.Generic.{context_at}
 use Rattle.jbig2_region.specs.Templates.{adaptive_pixel_at}
-use Rattle.jbig2_region.specs.Raster.{so_far, with_next, after_pixel, row_begun, at_next, first_pixels, decoded_region}
+use Rattle.jbig2_region.specs.Raster.{so_far, with_next, after_pixel, after_ltp, at_next, first_pixels, decoded_region}
 use Rattle.jbig2_symbol.specs.Symbols.{ended_runs, exported_from, next_run, runs_from, exports, Symbols, symbols_decoded}
 use Rattle.jbig2_symbol.specs.SymbolBitmaps.{coded_symbol}
 use Rattle.jbig2_symbol.specs.SymbolHeader.{symbol_flags_of, symbol_header_at}
@@ -47,5 +47,5 @@ dictionary : List ℕ → Result Symbols DecodeError
 dictionary bytes = symbol_header_at true bytes >>= λ h. symbols_decoded h.0 [] [] None
 
 row_R8_6 : dictionary (8 ∷ 0 ∷ 2 ∷ 0xFF ∷ 0 ∷ 0 ∷ 0 ∷ 1 ∷ 0 ∷ 0 ∷ 0 ∷ 1 ∷ coded) ≡ Ok (record { exported = record { width = 1; height = 1; pixels = true ∷ [] } ∷ []; kept = None })
-unfolding dictionary symbol_header_at symbol_flags_of adaptive_pixel_at symbols_decoded first_contexts symbol_tables least is_crowded weight coded_start asked table_for classes_from height_class drawn_class symbols_from coded_bitmap next_width coded_symbol exports runs_from next_run exported_from ended_runs integer value_of_bits next read read_more ranges are_next next_range signed value_of byte_at byte_in filled doubled renormed initial_registers likely_next unlikely_next choice decision rows row_of context_at so_far with_next after_pixel row_begun at_next first_pixels decoded_region table pixel_at
+unfolding dictionary symbol_header_at symbol_flags_of adaptive_pixel_at symbols_decoded first_contexts symbol_tables least is_crowded weight coded_start asked table_for classes_from height_class drawn_class symbols_from coded_bitmap next_width coded_symbol exports runs_from next_run exported_from ended_runs integer value_of_bits next read read_more ranges are_next next_range signed value_of byte_at byte_in filled doubled renormed initial_registers likely_next unlikely_next choice decision rows row_of context_at so_far with_next after_pixel after_ltp at_next first_pixels decoded_region table pixel_at
 row_R8_6 = refl

@@ -1,6 +1,6 @@
 -- Symbol dictionaries of the worked rows, computed from the definitions alone.
 use Rattle.std.proofs.Common.{◌≡◌, ℕ, true, false, List, [], ◌∷◌, None, Result, Ok, Err, refl}
-use Rattle.jbig2_base.specs.Answer.{◌>>=◌}
+use Rattle.jbig2_base.specs.Results.{◌>>=◌}
 use Rattle.jbig2_base.specs.Bits.{bits_left, bits_on, bit}
 use Rattle.jbig2_base.specs.Grid.{Grid, table, pixel_at}
 use Rattle.jbig2_base.specs.declared.error.DecodeError.{DecodeError}

@@ -19,7 +19,7 @@ use Rattle.jbig2_coder.specs.declared.integer_procedures.IntegerProcedure.TheVar
 use Rattle.jbig2_mmr.specs.Causes.{BreaksMmr}
 use Rattle.jbig2_region.specs.Causes.{BreaksPixels}
 use Rattle.jbig2_region.specs.Templates.{adaptive_pixel_count, template_of}
-use Rattle.jbig2_text.specs.Causes.{Behind, BreaksInstances, NamesNone, ReadingCauses, RefusesValue, coder_causes}
+use Rattle.jbig2_text.specs.Causes.{After, BreaksInstances, NamesNone, ReadingCauses, RefusesValue, coder_causes}
 use Rattle.jbig2_text.specs.Causes.{prefix_causes}
 use Rattle.jbig2_text.specs.Refining.{Refining}
 use Rattle.jbig2_text.specs.Text.{Readings, TextParams}
@@ -59,14 +59,14 @@ BreaksSymbolFields flags bytes _ = ⊥
 abbrev pub BreaksSymbolHeader : List ℕ → DecodeError → Type 0
 BreaksSymbolHeader bytes = BreaksSymbolFields (number_in w16 0 bytes) bytes
 
-abbrev pub taken_by : HuffmanTableSelection → ℕ  -- how many custom tables a selection takes
-taken_by UserSupplied = 1
-taken_by _ = 0
+abbrev pub custom_count : HuffmanTableSelection → ℕ  -- how many custom tables a selection takes
+custom_count UserSupplied = 1
+custom_count _ = 0
 
 abbrev pub BreaksTables : SymbolDictionaryFlags → List (List Member) → DecodeError → Type 0
 BreaksTables flags customs (errors.Huffman huffman.MissingTables) =
-    length customs < taken_by flags.delta_height_table + taken_by flags.delta_width_table
-    + taken_by flags.collective_bitmap_size_table + taken_by flags.aggregate_instance_table
+    length customs < custom_count flags.delta_height_table + custom_count flags.delta_width_table
+    + custom_count flags.collective_bitmap_size_table + custom_count flags.aggregate_instance_table
 BreaksTables flags customs _ = ⊥
 
 -- the other dictionary kept no contexts, or contexts of other templates (7.4.2.2)
@@ -86,16 +86,16 @@ BreaksRunValue empty left value (errors.Symbol OutOfRange) = (run : ℕ) × (val
 BreaksRunValue empty left value _ = ⊥
 
 -- the run after these runs, which were read
-abbrev pub BreaksRunBehind : {S : Type 0} → List ℕ → ClassReadings S → SymbolInput → ℕ → ℕ → S → DecodeError → Type 0
-BreaksRunBehind [] r d empty left s e =
+abbrev pub BreaksRunAfter : {S : Type 0} → List ℕ → ClassReadings S → SymbolInput → ℕ → ℕ → S → DecodeError → Type 0
+BreaksRunAfter [] r d empty left s e =
     InSteps (r.export_run d s) (IsOf (r.export_run d s) e) (λ value. BreaksRunValue empty left value.0 e)
-BreaksRunBehind {S} (run ∷ runs) r d empty left s e =
-    (next : S) × (next_run r d empty left s ≡ Ok (run, next)) × BreaksRunBehind runs r d (empty + bit_number (run == 0)) (left - run) next e
+BreaksRunAfter {S} (run ∷ runs) r d empty left s e =
+    (next : S) × (next_run r d empty left s ≡ Ok (run, next)) × BreaksRunAfter runs r d (empty + bit_number (run == 0)) (left - run) next e
 
 -- one of the runs is refused, or they export another number of symbols than the header says
 abbrev pub BreaksExports : {S : Type 0} → ClassReadings S → SymbolInput → List Grid → S → DecodeError → Type 0
 BreaksExports r d grids s e =
-    InSteps (export_runs r d (length grids) s) ((before : List ℕ) × BreaksRunBehind before r d 0 (length grids) s e) (λ runs.
+    InSteps (export_runs r d (length grids) s) ((before : List ℕ) × BreaksRunAfter before r d 0 (length grids) s e) (λ runs.
     (e ≡ errors.Symbol NoSymbols) × (length (exported runs.0 grids) ≢ d.header.num_exported_symbols))
 
 abbrev pub IsNoSize : ℤ → Type 0  -- a number that isn't an unsigned number of 32 bits
@@ -120,25 +120,25 @@ BreaksCount value _ = ⊥
 abbrev pub BreaksByInstances : {S : Type 0} → ReadingCauses S → Readings S → (S → Result (ℤ × S) DecodeError) → (S → DecodeError → Type 0) → TextParams → ℕ → ℕ → Refining → S → DecodeError → Type 0
 BreaksByInstances c r alone lacks p width height f s e =
     ((p.count ≡ 1) × (lacks s e
-    ⊎ Behind (alone s) (λ id. c.x_delta id.1 e
-    ⊎ Behind (r.x_delta id.1) (λ rdx. c.y_delta rdx.1 e
-    ⊎ Behind (r.y_delta rdx.1) (λ rdy.
+    ⊎ After (alone s) (λ id. c.x_delta id.1 e
+    ⊎ After (r.x_delta id.1) (λ rdx. c.y_delta rdx.1 e
+    ⊎ After (r.y_delta rdx.1) (λ rdy.
     ((e ≡ errors.Symbol OutOfRange) × NamesNone p.symbols id.0) ⊎ BreaksSides width height e ⊎ c.refined rdy.1 e)))))
     ⊎ ((p.count ≢ 1) × (BreaksSides width height e ⊎ BreaksInstances c r p (blank width height false) f s e))
 
 -- The number of instances is refused, or then the instances. The arithmetic coder never refuses an id.
 abbrev pub BreaksCodedAggregate : SymbolInput → List Grid → ℕ → ℕ → SymbolState Coded → DecodeError → Type 0
 BreaksCodedAggregate d new width height s e =
-    Behind (by_procedure Iaai s) (λ value. BreaksCount value.0 e)
-    ⊎ Behind (instance_count (by_procedure Iaai s)) (λ count.
+    After (by_procedure Iaai s) (λ value. BreaksCount value.0 e)
+    ⊎ After (instance_count (by_procedure Iaai s)) (λ count.
     BreaksByInstances coder_causes by_coder (λ c. Ok (next_id c)) (λ c _. ⊥) (aggregate_params d new count.0) width height count.1.contexts.refining count.1.coding e)
 
 -- by prefix codes, where the id of a single instance may lack bits
 abbrev pub BreaksPrefixedAggregate : SymbolInput → List Grid → ℕ → ℕ → SymbolState Place → DecodeError → Type 0
 BreaksPrefixedAggregate d new width height s e =
     RefusesValue d.tables.counts (bits_left s.coding) e
-    ⊎ Behind (by_table d.tables.counts s) (λ value. BreaksCount value.0 e)
-    ⊎ Behind (instance_count (by_table d.tables.counts s)) (λ count.
+    ⊎ After (by_table d.tables.counts s) (λ value. BreaksCount value.0 e)
+    ⊎ After (instance_count (by_table d.tables.counts s)) (λ count.
     let bits = max 1 (id_bits d.header (length d.symbols)) in
     let lacks : Prefixed → DecodeError → Type 0 = λ c err. (err ≡ errors.Parse UnexpectedEof) × (length (bits_left c.place) < bits) in
     BreaksByInstances prefix_causes by_prefix_codes (plain_id bits) lacks (aggregate_params d new count.0) width height count.1.contexts.refining (prefixed_at d count.1.coding) e)

@@ -3,7 +3,7 @@
 use Rattle.std.specs.Prelude.{ℕ, suc, ◌+◌, ◌==◌, max, true, false, ◌&&◌, if◌then◌else◌, List, ◌++◌, length, Option}
 use Rattle.std.specs.Prelude.{Some, None, Result, Ok, Err, ℤ, pos, ◌-◌, ◌*◌, ◌/◌, ◌%◌, nat_lt, Bool, ◌||◌, [], ◌∷◌}
 use Rattle.std.specs.Prelude.{slice_index_or}
-use Rattle.jbig2_base.specs.Answer.{◌>>=◌, refuse_if}
+use Rattle.jbig2_base.specs.Results.{◌>>=◌, refuse_if}
 use Rattle.jbig2_base.specs.Bits.{Place, aligned, start_of, bit}
 use Rattle.jbig2_base.specs.Fields.{end_of_bytes, bytes_at}
 use Rattle.jbig2_base.specs.Grid.{Grid, blank, grid_of, part_or_overflow, wide_or_overflow}

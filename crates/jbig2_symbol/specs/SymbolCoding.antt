@@ -4,20 +4,20 @@ use Rattle.std.specs.Prelude.{ℕ, ◌-◌, if◌then◌else◌, List, length, s
 use Rattle.jbig2_base.specs.Bits.{Place, start_of}
 use Rattle.jbig2_base.specs.Grid.{Grid}
 use Rattle.jbig2_base.specs.declared.error.DecodeError.{DecodeError}
-use Rattle.jbig2_base.specs.Answer.{◌>>=◌}
+use Rattle.jbig2_base.specs.Results.{◌>>=◌}
 use Rattle.jbig2_coder.specs.declared.integer_procedures.IntegerProcedure.TheVariants.{Iadh, Iadw, Iaex}
 use Rattle.jbig2_text.specs.TextCoding.{Coded, coded_start}
 use Rattle.jbig2_symbol.specs.HeightClasses.{drawn_class, empty_class, widths_from}
 use Rattle.jbig2_symbol.specs.SymbolBitmaps.{coded_aggregate, coded_symbol, collective_bitmap, prefixed_aggregate}
 use Rattle.jbig2_symbol.specs.SymbolBitmaps.{state_bits, symbols_cut}
 use Rattle.jbig2_symbol.specs.SymbolReading.{BitmapContexts, ClassReadings, SymbolInput, SymbolReadings, SymbolState}
-use Rattle.jbig2_symbol.specs.SymbolReading.{begun_contexts, by_procedure, by_table}
+use Rattle.jbig2_symbol.specs.SymbolReading.{start_contexts, by_procedure, by_table}
 
 -- by the arithmetic coder, at the start of the bytes
-abbrev pub coder_begun : SymbolInput → BitmapContexts → SymbolState Coded
-coder_begun d contexts = record {
+abbrev pub coder_start : SymbolInput → BitmapContexts → SymbolState Coded
+coder_start d contexts = record {
   coding = coded_start d.header.bytes (state_bits d.header (length d.symbols));
-  contexts = begun_contexts d.header contexts;
+  contexts = start_contexts d.header contexts;
 }
 
 -- a symbol's bitmap: refined or aggregated from the symbols so far (SDREFAGG), or else coded by itself
@@ -36,8 +36,8 @@ classes_by_coder = record {
 }
 
 -- by prefix codes, at the start of the bytes
-abbrev pub prefix_codes_begun : SymbolInput → BitmapContexts → SymbolState Place
-prefix_codes_begun d contexts = record { coding = start_of d.header.bytes; contexts = begun_contexts d.header contexts }
+abbrev pub prefix_codes_start : SymbolInput → BitmapContexts → SymbolState Place
+prefix_codes_start d contexts = record { coding = start_of d.header.bytes; contexts = start_contexts d.header contexts }
 
 -- a symbol that is decoded by itself is refined or aggregated from the symbols so far
 abbrev pub symbols_by_prefix_codes : SymbolReadings (SymbolState Place)

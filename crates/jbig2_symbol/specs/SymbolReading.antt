@@ -3,7 +3,7 @@
 -- readings of the two codings.
 use Rattle.std.specs.Prelude.{ℕ, Bool, true, false, not, ◌&&◌, if◌then◌else◌, List, Option, Result, Ok, Err, ℤ, pos}
 use Rattle.std.specs.Prelude.{negsuc}
-use Rattle.jbig2_base.specs.Answer.{◌>>=◌, refuse_if, some_or}
+use Rattle.jbig2_base.specs.Results.{◌>>=◌, refuse_if, some_or}
 use Rattle.jbig2_base.specs.Bits.{Place, bits_left, bits_on}
 use Rattle.jbig2_base.specs.Grid.{Grid}
 use Rattle.jbig2_base.specs.declared.error.DecodeError.{DecodeError}
@@ -113,15 +113,15 @@ pub record SymbolState (C : Type 0) : Type 0 where
   pub contexts : SymbolContexts
 
 -- the contexts at the beginning of a dictionary, and the adaptive pixels of its refinements
-abbrev pub begun_contexts : SymbolHeader → BitmapContexts → SymbolContexts
-begun_contexts h contexts = record {
+abbrev pub start_contexts : SymbolHeader → BitmapContexts → SymbolContexts
+start_contexts h contexts = record {
   template = contexts.template;
   generic = contexts.generic;
   refining = record { template = contexts.refinement_template; pixels = h.refinement_at_pixels; contexts = contexts.refinement };
 }
 
-abbrev pub learned : SymbolContexts → BitmapContexts
-learned c = record {
+abbrev pub bitmap_contexts : SymbolContexts → BitmapContexts
+bitmap_contexts c = record {
   template = c.template;
   refinement_template = c.refining.template;
   generic = c.generic;
@@ -145,7 +145,7 @@ pub record ClassReadings (S : Type 0) : Type 0 where
 abbrev pub by_table : List Member → SymbolState Place → Result (Option ℤ × SymbolState Place) DecodeError
 by_table table s =
     let reading = decoded_value table (bits_left s.coding) in
-    reading.answer >>= λ value. Ok (value, record s { coding = bits_on reading.taken s.coding })
+    reading.result >>= λ value. Ok (value, record s { coding = bits_on reading.taken s.coding })
 
 -- a value of an integer procedure, or out of band
 abbrev pub by_procedure : IntegerProcedure → SymbolState Coded → Result (Option ℤ × SymbolState Coded) DecodeError

@@ -3,7 +3,7 @@
 -- gives the exported symbols and the contexts that the dictionary itself keeps.
 use Rattle.std.specs.Prelude.{◌++◌, if◌then◌else◌, List, length, Option, Some, None, Result, Ok, ℕ, zero, suc, ◌+◌, ◌-◌}
 use Rattle.std.specs.Prelude.{◌%◌, ◌==◌, nat_le, nat_lt, not, ◌&&◌, [], ◌∷◌}
-use Rattle.jbig2_base.specs.Answer.{◌>>=◌, refuse_if}
+use Rattle.jbig2_base.specs.Results.{◌>>=◌, refuse_if}
 use Rattle.jbig2_base.specs.Grid.{Grid, bit_number}
 use Rattle.jbig2_base.specs.declared.error.DecodeError.{DecodeError}
 use Rattle.jbig2_base.specs.declared.error.DecodeError.TheVariants.{Huffman, Symbol}
@@ -12,10 +12,10 @@ use Rattle.jbig2_base.specs.declared.error.SymbolError.TheVariants.{Invalid, NoS
 use Rattle.jbig2_coder.specs.PrefixCode.{Member}
 use Rattle.jbig2_symbol.specs.SymbolBitmaps.{id_codes}
 use Rattle.jbig2_symbol.specs.HeightClasses.{new_symbols}
-use Rattle.jbig2_symbol.specs.SymbolCoding.{classes_by_coder, classes_by_prefix_codes, coder_begun, prefix_codes_begun}
+use Rattle.jbig2_symbol.specs.SymbolCoding.{classes_by_coder, classes_by_prefix_codes, coder_start, prefix_codes_start}
 use Rattle.jbig2_symbol.specs.SymbolHeader.{SymbolHeader}
 use Rattle.jbig2_symbol.specs.SymbolReading.{BitmapContexts, ClassReadings, SymbolContexts, SymbolInput, SymbolState}
-use Rattle.jbig2_symbol.specs.SymbolReading.{first_contexts, learned, symbol_tables, not_negative}
+use Rattle.jbig2_symbol.specs.SymbolReading.{first_contexts, bitmap_contexts, symbol_tables, not_negative}
 use Rattle.jbig2_text.specs.TextCoding.{in_band}
 
 -- ---- exports (6.5.10): runs of symbols in turn, left out and exported, over the symbols that the dictionary refers to
@@ -74,7 +74,7 @@ symbols_exported r d s = new_symbols r d s >>= λ new. exports r d (d.symbols ++
 
 -- the dictionary, with the contexts at its end, which it keeps if the header says so
 abbrev pub dictionary_of : SymbolHeader → List Grid → SymbolContexts → Symbols
-dictionary_of h exported contexts = record { exported = exported; kept = (if h.flags.bitmap_context_retained then Some (learned contexts) else None) }
+dictionary_of h exported contexts = record { exported = exported; kept = (if h.flags.bitmap_context_retained then Some (bitmap_contexts contexts) else None) }
 
 abbrev pub dictionary_by : {C : Type 0} → ClassReadings (SymbolState C) → SymbolInput → SymbolState C → Result Symbols DecodeError
 dictionary_by r d s = symbols_exported r d s >>= λ exported. Ok (dictionary_of d.header exported.0 exported.1.contexts)
@@ -82,8 +82,8 @@ dictionary_by r d s = symbols_exported r d s >>= λ exported. Ok (dictionary_of 
 -- by the coding that the header names (SDHUFF), beginning with these contexts
 abbrev pub dictionary_from : SymbolInput → BitmapContexts → Result Symbols DecodeError
 dictionary_from d contexts =
-    if d.header.flags.use_huffman then dictionary_by classes_by_prefix_codes d (prefix_codes_begun d contexts)
-    else dictionary_by classes_by_coder d (coder_begun d contexts)
+    if d.header.flags.use_huffman then dictionary_by classes_by_prefix_codes d (prefix_codes_start d contexts)
+    else dictionary_by classes_by_coder d (coder_start d contexts)
 
 -- the whole dictionary; `kept` are the contexts of the last dictionary that it refers to, if that kept any
 unfoldable pub symbols_decoded : SymbolHeader → List Grid → List (List Member) → Option BitmapContexts → Result Symbols DecodeError

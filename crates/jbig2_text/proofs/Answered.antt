@@ -5,8 +5,8 @@ use Rattle.jbig2_base.specs.declared.error.DecodeError.{DecodeError}
 use Rattle.jbig2_base.proofs.Answered.{Answered, IsAnswered, answered-if, answered-next, answered-refusal}
 use Rattle.jbig2_region.specs.Refinement.{Reference}
 use Rattle.jbig2_text.specs.Refining.{Refining}
-use Rattle.{jbig2_text.specs.Text.{Reached, Readings, TextParams, after_instances, cursor_moved, edge, instance_symbol, moved_by, plain_symbol, refined_outline, refined_symbol, refinement_deltas, side_of, some_symbol, strip_begun, strip_delta, symbol_placed, t_in_strip, text_region, with_instance, with_symbol}, jbig2_base.specs.Fields.{word_or}}
-use Rattle.jbig2_text.specs.inner.Parts.{s_before, s_behind}
+use Rattle.{jbig2_text.specs.Text.{Reached, Readings, TextParams, after_instances, next_cursor, edge, instance_symbol, with_ids, plain_symbol, refined_outline, refined_symbol, refinement_deltas, side_of, some_symbol, strip_start, strip_delta, symbol_placed, t_in_strip, text_region, with_instance, with_symbol}, jbig2_base.specs.Fields.{word_or}}
+use Rattle.jbig2_text.specs.inner.FunctionResults.{s_before, s_after}
 use Rattle.jbig2_text.specs.declared.text.cursor.Cursor.{Cursor}
 use Rattle.jbig2_text.specs.declared.text.refined.RefinementDeltas.{RefinementDeltas}
 use Rattle.jbig2_text.specs.declared.text.header.TextRegionFlags.{TextRegionFlags}
@@ -34,16 +34,16 @@ answered-strip_delta : {S : Type 0} (r : Readings S) (a : AreAnswered r) (flags 
 unfolding strip_delta
 answered-strip_delta r a flags s = search (answered-next, answered-word, a.delta_t)
 
-answered-strip_begun : {S : Type 0} (r : Readings S) (a : AreAnswered r) (flags : TextRegionFlags) (stript firsts : ℤ) (s : S) → Answered (strip_begun r flags stript firsts s)
-unfolding strip_begun
-answered-strip_begun r a flags stript firsts s = search (answered-next, answered-word, answered-strip_delta r a, a.first_s) depth 8
+answered-strip_start : {S : Type 0} (r : Readings S) (a : AreAnswered r) (flags : TextRegionFlags) (stript firsts : ℤ) (s : S) → Answered (strip_start r flags stript firsts s)
+unfolding strip_start
+answered-strip_start r a flags stript firsts s = search (answered-next, answered-word, answered-strip_delta r a, a.first_s) depth 8
 
-answered-moved : {S : Type 0} (r : Readings S) (a : AreAnswered r) (flags : TextRegionFlags) (c : Cursor) (ids : Option ℤ) (s : S) → Answered (moved_by r flags c ids s)
-answered-moved r a flags c None s = answered-strip_begun r a flags c.strip_t c.first_s s
+answered-moved : {S : Type 0} (r : Readings S) (a : AreAnswered r) (flags : TextRegionFlags) (c : Cursor) (ids : Option ℤ) (s : S) → Answered (with_ids r flags c ids s)
+answered-moved r a flags c None s = answered-strip_start r a flags c.strip_t c.first_s s
 answered-moved r a flags c (Some ids) s = search (answered-next, answered-word)
 
-answered-cursor : {S : Type 0} (r : Readings S) (a : AreAnswered r) (flags : TextRegionFlags) (c : Cursor) (s : S) → Answered (cursor_moved r flags c s)
-unfolding cursor_moved
+answered-cursor : {S : Type 0} (r : Readings S) (a : AreAnswered r) (flags : TextRegionFlags) (c : Cursor) (s : S) → Answered (next_cursor r flags c s)
+unfolding next_cursor
 answered-cursor r a flags c s = search (answered-next, answered-moved r a, a.delta_s)
 
 answered-t : {S : Type 0} (r : Readings S) (a : AreAnswered r) (flags : TextRegionFlags) (s : S) → Answered (t_in_strip r flags s)
@@ -84,7 +84,7 @@ answered-symbol r a p id f s = search (answered-next, answered-if, a.is_refined,
 answered-before : (flags : TextRegionFlags) (g : Grid) (curs : ℤ) → Answered (s_before flags g curs)
 answered-before flags g curs = search (answered-if, answered-word)
 
-answered-after : (flags : TextRegionFlags) (g : Grid) (curs : ℤ) → Answered (s_behind flags g curs)
+answered-after : (flags : TextRegionFlags) (g : Grid) (curs : ℤ) → Answered (s_after flags g curs)
 answered-after flags g curs = search (answered-if, answered-word)
 
 answered-edge : (at_last : Bool) (side : ℕ) (place : ℤ) → Answered (edge at_last side place)
@@ -113,4 +113,4 @@ answered-instances r a p (suc n) x =
 pub answered-text_region : {S : Type 0} (r : Readings S) (a : AreAnswered r) (p : TextParams) (region : Grid) (f : Refining) (s : S) → Answered (text_region r p region f s)
 unfolding text_region
 answered-text_region r a p region f s =
-    search (answered-next, answered-refusal, answered-if, answered-strip_delta r a, answered-word, answered-strip_begun r a, answered-instances r a, answered-instance r a, a.delta_s) depth 18
+    search (answered-next, answered-refusal, answered-if, answered-strip_delta r a, answered-word, answered-strip_start r a, answered-instances r a, answered-instance r a, a.delta_s) depth 18

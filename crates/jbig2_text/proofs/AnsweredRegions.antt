@@ -15,7 +15,7 @@ use Rattle.jbig2_text.specs.SymbolCodes.{next_runcode, repeated, run_at, runcode
 use Rattle.jbig2_text.specs.Text.{Readings}
 use Rattle.jbig2_text.specs.TextCoding.{Coded, Prefixed, by_coder, by_prefix_codes, in_band, number_by_coder, prefixed_bits, prefixed_refined, prefixed_value, sized_bytes}
 use Rattle.jbig2_text.specs.TextHeader.{ArithmeticCoding, HuffmanCoding, NumberCoding, TextHeader, coding_at, table_numbers_at, text_fields_at, text_flags_at, text_header_at}
-use Rattle.jbig2_text.specs.TextRegion.{one_of_three, one_of_two, region_by, region_from, text_answer, text_decoded, text_tables}
+use Rattle.jbig2_text.specs.TextRegion.{one_of_three, one_of_two, region_by, region_from, text_result, text_decoded, text_tables}
 use Rattle.jbig2_text.specs.declared.text.header.TextRegionHuffmanFlags.{TextRegionHuffmanFlags}
 use Rattle.jbig2_text.proofs.Answered.{AreAnswered, answered-text_region}
 
@@ -152,10 +152,10 @@ answered-by : (h : TextHeader) (coding : NumberCoding) (symbols : List Grid) (cu
 answered-by h ArithmeticCoding symbols customs region = answered-from by_coder by_coder-answered h symbols region _
 answered-by h (HuffmanCoding numbers ids) symbols customs region = search (answered-next, answered-tables, answered-from by_prefix_codes by_prefix_codes-answered)
 
-answered-answer : (h : TextHeader) (symbols : List Grid) (customs : List (List Member)) → Answered (text_answer h symbols customs)
-unfolding text_answer
-answered-answer h symbols customs = answered-by h h.coding symbols customs _
+answered-result : (h : TextHeader) (symbols : List Grid) (customs : List (List Member)) → Answered (text_result h symbols customs)
+unfolding text_result
+answered-result h symbols customs = answered-by h h.coding symbols customs _
 
 pub answered-text : (h : TextHeader) (symbols : List Grid) (customs : List (List Member)) → Answered (text_decoded h symbols customs)
 unfolding text_decoded
-answered-text h symbols customs = search (answered-next, answered-refusal, answered-answer)
+answered-text h symbols customs = search (answered-next, answered-refusal, answered-result)

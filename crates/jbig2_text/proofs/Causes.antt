@@ -3,7 +3,7 @@ use Rattle.std.proofs.Common.{◌≡◌, inl, inr, ℕ, zero, suc, ◌+◌, ◌-
 use Rattle.std.specs.Prelude.{◌⊎◌, IfErr, slice_get}
 use Rattle.std.proofs.lemmas.Option.{slice_get-get_or}
 use Rattle.std.proofs.lemmas.Bool.{cond_both, cond-true, eqb-true, eqb-false, ltb-true, ltb-false}
-use Rattle.jbig2_base.specs.Answer.{◌>>=◌, refuse_if, some_or}
+use Rattle.jbig2_base.specs.Results.{◌>>=◌, refuse_if, some_or}
 use Rattle.jbig2_base.specs.Bits.{Place, bits_left, bits_next, start_of}
 use Rattle.jbig2_base.specs.Fields.{bits_at}
 use Rattle.jbig2_base.specs.declared.error.DecodeError.{DecodeError}
@@ -12,9 +12,9 @@ use Rattle.jbig2_base.proofs.Causes.{cause-next}
 use Rattle.jbig2_coder.specs.Causes.{AreCrowded}
 use Rattle.jbig2_coder.specs.PrefixCode.{Member, decoded_value, no_oob, table_of}
 use Rattle.jbig2_coder.proofs.Causes.{table-cause}
-use Rattle.jbig2_text.specs.Causes.{Behind, BreaksRun, BreaksSymbolCodes, RefusesNumber}
+use Rattle.jbig2_text.specs.Causes.{After, BreaksRun, BreaksSymbolCodes, RefusesNumber}
 use Rattle.jbig2_text.specs.SymbolCodes.{invalid_code, lines_from, next_runcode, repeated, run_at, runcodes_at, runs_at, short_lengths, symbol_codes_at, symbol_codes_from, symbol_lengths_at, value_at}
-use Rattle.jbig2_region.proofs.Told.{cause-if, cause-last, told, told-next, told-refused}
+use Rattle.jbig2_region.proofs.ResultCauses.{cause-if, cause-last, result-of, result-next, result-refused}
 use Rattle.jbig2_base.specs.Causes.{HasCauseOrNoMemory}
 use Rattle.jbig2_base.proofs.CauseSteps.{call-cause-or-memory}
 
@@ -31,11 +31,11 @@ cause-bits P e count p why =
     cause-next P (some_or e (bits_next count bits)) _ (cond_both (ltb (length bits) count) None _ Q (λ short. why (ltb-true (length bits) count short)) (λ there. tt)) (λ n is. tt)
 
 pub cause-value : (P : DecodeError → Type 0) (table : List Member) (p : Place) → ((e : DecodeError) → RefusesNumber table p e → P e) → IfErr (value_at table p) P
-cause-value P table p why = cause-next P (no_oob (decoded_value table (bits_left p)).answer) _ (own-error P (no_oob (decoded_value table (bits_left p)).answer) why) (λ n is. tt)
+cause-value P table p why = cause-next P (no_oob (decoded_value table (bits_left p)).result) _ (own-error P (no_oob (decoded_value table (bits_left p)).result) why) (λ n is. tt)
 
 -- ---- the runcodes' lengths
 cause-short : (P : DecodeError → Type 0) (count : ℕ) (so_far : List ℕ) (p : Place)
-    → ((k : ℕ) → k < count → Behind (short_lengths k so_far p) (λ lens. length (bits_left lens.1) < 4) → P invalid_code) → IfErr (short_lengths count so_far p) P
+    → ((k : ℕ) → k < count → After (short_lengths k so_far p) (λ lens. length (bits_left lens.1) < 4) → P invalid_code) → IfErr (short_lengths count so_far p) P
 unfolding short_lengths
 cause-short P zero so_far p why = tt
 cause-short P (suc count) so_far p why =
@@ -43,8 +43,8 @@ cause-short P (suc count) so_far p why =
     cause-short P count (so_far ++ len.0 ∷ []) len.1 (λ k below there.
     why (suc k) (omega (arith, below)) (there.0, ap (λ r. r >>= λ (l : ℕ × Place). short_lengths k (so_far ++ l.0 ∷ []) l.1) len_is ∙ there.1, there.2)))
 
-cause-runcodes : (P : DecodeError → Type 0) (p : Place) → ((k : ℕ) → k < 35 → Behind (short_lengths k [] p) (λ lens. length (bits_left lens.1) < 4) → P invalid_code)
-    → (Behind (short_lengths 35 [] p) (λ lens. AreCrowded (lines_from 0 lens.0)) → P invalid_code) → IfErr (runcodes_at p) P
+cause-runcodes : (P : DecodeError → Type 0) (p : Place) → ((k : ℕ) → k < 35 → After (short_lengths k [] p) (λ lens. length (bits_left lens.1) < 4) → P invalid_code)
+    → (After (short_lengths 35 [] p) (λ lens. AreCrowded (lines_from 0 lens.0)) → P invalid_code) → IfErr (runcodes_at p) P
 unfolding runcodes_at
 cause-runcodes P p missing crowded =
     cause-next P (short_lengths 35 [] p) _ (cause-short P 35 [] p missing) (λ lens is.
@@ -72,8 +72,8 @@ cause-run P (pos code) so_far p why =
     above code a b c = omega (arith, ltb-false code 32 a, eqb-false code 32 b, eqb-false code 33 c)
 
 cause-runs : (P : DecodeError → Type 0) (most count : ℕ) (runcodes : List Member) (so_far : List ℕ) (p : Place)
-    → ((k : ℕ) (e : DecodeError) → Behind (runs_at k count runcodes so_far p) (λ lens. (length lens.0 < count) × RefusesNumber runcodes lens.1 e) → P e)
-    → ((k : ℕ) → Behind (runs_at k count runcodes so_far p) (λ lens. (length lens.0 < count) × Behind (value_at runcodes lens.1) (λ code. BreaksRun code.0 lens.0 code.1)) → P invalid_code)
+    → ((k : ℕ) (e : DecodeError) → After (runs_at k count runcodes so_far p) (λ lens. (length lens.0 < count) × RefusesNumber runcodes lens.1 e) → P e)
+    → ((k : ℕ) → After (runs_at k count runcodes so_far p) (λ lens. (length lens.0 < count) × After (value_at runcodes lens.1) (λ code. BreaksRun code.0 lens.0 code.1)) → P invalid_code)
     → IfErr (runs_at most count runcodes so_far p) P
 unfolding runs_at
 cause-runs P zero count runcodes so_far p refused faulty = tt
@@ -98,10 +98,10 @@ symbol_code_causes count p =
     let runs : Result (List ℕ × Place) DecodeError = runs_at count count runcodes.0 [] runcodes.1 in
     let Q : List ℕ × Place → Type 0 = λ lens. runs ≡ Ok lens in
     cause-last P Q (symbol_lengths_at count runcodes.0 runcodes.1) _
-    (told-next P Q Q runs _
-    (told P Q runs (cause-runs P count count runcodes.0 [] runcodes.1 (λ k e there. inr (runcodes, is, (k, there))) (λ k there. inl (refl, inr (inr (inl (runcodes, is, (k, there))))))) (λ lens lens_are. lens_are))
-    (λ lens lens_are. told-next P _ Q (refuse_if (ltb count (length lens.0)) invalid_code) _
-    (told-refused P (ltb count (length lens.0)) invalid_code (λ past. inl (refl, inr (inr (inr (runcodes, is, (lens, lens_are, inl (ltb-true count (length lens.0) past)))))))) (λ fit r. lens_are)))
+    (result-next P Q Q runs _
+    (result-of P Q runs (cause-runs P count count runcodes.0 [] runcodes.1 (λ k e there. inr (runcodes, is, (k, there))) (λ k there. inl (refl, inr (inr (inl (runcodes, is, (k, there))))))) (λ lens lens_are. lens_are))
+    (λ lens lens_are. result-next P _ Q (refuse_if (ltb count (length lens.0)) invalid_code) _
+    (result-refused P (ltb count (length lens.0)) invalid_code (λ past. inl (refl, inr (inr (inr (runcodes, is, (lens, lens_are, inl (ltb-true count (length lens.0) past)))))))) (λ fit r. lens_are)))
     (λ lens lens_are. cause-next P (table_of (lines_from 0 lens.0)) _
     (table-cause P (lines_from 0 lens.0) (λ crowded. inl (refl, inr (inr (inr (runcodes, is, (lens, lens_are, inr crowded))))))) (λ codes r. tt)))
 

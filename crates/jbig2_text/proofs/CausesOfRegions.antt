@@ -2,7 +2,7 @@
 use Rattle.std.proofs.Common.{◌≡◌, ◌⊎◌, inl, inr, ℕ, zero, suc, ◌+◌, ◌-◌, ◌*◌, ◌<◌, eqb, ltb, Bool, true, false, List, [], ◌∷◌, length, Option, Some, None, Result, Ok, Err, refl, sym, ◌∙◌, ap, subst, arith, ℤ, pos, negsuc}
 use Rattle.std.specs.Prelude.{IfErr, ◌-ℤ◌}
 use Rattle.std.proofs.lemmas.Bool.{cond-true, eqb-false, eqb-true, lt-ltb, ltb-true}
-use Rattle.jbig2_base.specs.Answer.{◌>>=◌, refuse_if}
+use Rattle.jbig2_base.specs.Results.{◌>>=◌, refuse_if}
 use Rattle.jbig2_base.specs.Bits.{Place, aligned, bits_left}
 use Rattle.jbig2_base.specs.Fields.{bytes_at, end_of_bytes}
 use Rattle.jbig2_base.specs.Grid.{Grid}
@@ -17,37 +17,37 @@ use Rattle.jbig2_coder.specs.declared.integer_procedures.IntegerProcedure.{Integ
 use Rattle.jbig2_coder.specs.declared.integer_procedures.IntegerProcedure.TheVariants.{Iari}
 use Rattle.jbig2_region.specs.Refinement.{Reference}
 use Rattle.jbig2_text.specs.SymbolCodes.{invalid_code, value_at}
-use Rattle.jbig2_text.specs.Causes.{Behind, RefusesNumber, BreaksInstance, BreaksInstances, BreaksStrip, ReadingsHaveCauses, ReadingCauses, BreaksRegionBy, BreaksTextRegion, BreaksTextTables, HasNoMeaning, IsOutOfBand, LacksBytes, RefusesValue, coder_causes, customs_if, prefix_causes}
+use Rattle.jbig2_text.specs.Causes.{After, RefusesNumber, BreaksInstance, BreaksInstances, BreaksStrip, ReadingsHaveCauses, ReadingCauses, BreaksRegionBy, BreaksTextRegion, BreaksTextTables, HasNoMeaning, IsOutOfBand, LacksBytes, RefusesValue, coder_causes, customs_if, prefix_causes}
 use Rattle.jbig2_text.specs.Refining.{Refining}
-use Rattle.jbig2_text.specs.Text.{Reached, Readings, TextParams, after_instances, coordinate, cursor_moved, strip_begun, strip_delta, text_region, with_instance}
+use Rattle.jbig2_text.specs.Text.{Reached, Readings, TextParams, after_instances, coordinate, next_cursor, strip_start, strip_delta, text_region, with_instance}
 use Rattle.jbig2_text.specs.declared.text.cursor.Cursor.{Cursor}
-use Rattle.jbig2_text.specs.inner.Parts.{end_of_strip, reached, some_strips, strips, table_of_size}
+use Rattle.jbig2_text.specs.inner.FunctionResults.{end_of_strip, reached, some_strips, strips, table_of_size}
 use Rattle.jbig2_text.specs.TextCoding.{Coded, Prefixed, by_coder, by_prefix_codes, in_band, next_integer, number_by_coder, prefixed_refined, prefixed_value, sized_bytes}
 use Rattle.jbig2_text.specs.TextHeader.{ArithmeticCoding, HuffmanCoding, NumberCoding, TextHeader}
-use Rattle.jbig2_text.specs.TextRegion.{blank_region, coder_of, one_of_three, one_of_two, prefix_codes_of, refining_of, region_by, region_from, text_answer, text_params, text_tables}
+use Rattle.jbig2_text.specs.TextRegion.{blank_region, coder_of, one_of_three, one_of_two, prefix_codes_of, refining_of, region_by, region_from, text_result, text_params, text_tables}
 use Rattle.jbig2_text.proofs.Causes.{cause-bits, cause-value, own-error}
 use Rattle.jbig2_text.proofs.CausesOfInstances.{instance_causes}
-use Rattle.jbig2_text.proofs.CausesOfText.{BreaksMove, cause-delta, cause-move, cause-strip, told-word}
-use Rattle.jbig2_region.proofs.Told.{Told, cause-if, cause-last, cause-more, told-if}
+use Rattle.jbig2_text.proofs.CausesOfText.{BreaksMove, cause-delta, cause-move, cause-strip, result-word}
+use Rattle.jbig2_region.proofs.ResultCauses.{IfResult, cause-if, cause-last, cause-more, result-if}
 use Rattle.jbig2_base.specs.Causes.{HasCause, HasCauseOrNoMemory}
 use Rattle.jbig2_base.proofs.CauseSteps.{call-cause, call-cause-or-memory}
 use Rattle.jbig2_text.specs.declared.text.header.TextRegionHuffmanFlags.{TextRegionHuffmanFlags}
 
 -- ---- all instances
 cause-after : {S : Type 0} (c : ReadingCauses S) (r : Readings S) (a : ReadingsHaveCauses r c) (p : TextParams) (P : DecodeError → Type 0) (n : ℕ) (x : Reached S)
-    → ((k : ℕ) → k < n → (e : DecodeError) → Behind (after_instances r p k x) (λ y. BreaksInstance c r p y e ⊎ Behind (with_instance r p y) (λ z. BreaksMove c r p.flags z.cursor z.state e)) → P e)
+    → ((k : ℕ) → k < n → (e : DecodeError) → After (after_instances r p k x) (λ y. BreaksInstance c r p y e ⊎ After (with_instance r p y) (λ z. BreaksMove c r p.flags z.cursor z.state e)) → P e)
     → IfErr (after_instances r p n x) P
 unfolding after_instances
 cause-after c r a p P zero x why = tt
 cause-after {S} c r a p P (suc n) x why =
     cause-next P (with_instance r p x) _ (cause-more (BreaksInstance c r p x) P (with_instance r p x) (instance_causes c r a p x) (λ e broken. why 0 (omega arith) e (x, refl, inl broken))) (λ y y_is.
-    cause-next P (cursor_moved r p.flags y.cursor y.state) _
-    (cause-more (BreaksMove c r p.flags y.cursor y.state) P (cursor_moved r p.flags y.cursor y.state) (cause-move c r a p.flags y.cursor y.state) (λ e broken. why 0 (omega arith) e (x, refl, inr (y, y_is, broken)))) (λ at at_is.
-    let on : ℕ → Result (Reached S) DecodeError → Result (Reached S) DecodeError = λ k q. q >>= λ z. cursor_moved r p.flags z.cursor z.state >>= λ d. after_instances r p k (record z { cursor = d.0; state = d.1 }) in
+    cause-next P (next_cursor r p.flags y.cursor y.state) _
+    (cause-more (BreaksMove c r p.flags y.cursor y.state) P (next_cursor r p.flags y.cursor y.state) (cause-move c r a p.flags y.cursor y.state) (λ e broken. why 0 (omega arith) e (x, refl, inr (y, y_is, broken)))) (λ at at_is.
+    let on : ℕ → Result (Reached S) DecodeError → Result (Reached S) DecodeError = λ k q. q >>= λ z. next_cursor r p.flags z.cursor z.state >>= λ d. after_instances r p k (record z { cursor = d.0; state = d.1 }) in
     let moved : ℕ → Result (Cursor × S) DecodeError → Result (Reached S) DecodeError = λ k q. q >>= λ d. after_instances r p k (record y { cursor = d.0; state = d.1 }) in
     cause-after c r a p P n (record y { cursor = at.0; state = at.1 }) (λ k below e there. why (suc k) (omega (arith, below)) e (there.0, ap (on k) y_is ∙ ap (moved k) at_is ∙ there.1, there.2))))
 
-cause-end : (P : DecodeError → Type 0) (strict : Bool) (ids : Result (Option ℤ) DecodeError) → (strict ≡ true → Behind ids (λ o. (n : ℤ) × (o ≡ Some n)) → P (Symbol TooManyInstances))
+cause-end : (P : DecodeError → Type 0) (strict : Bool) (ids : Result (Option ℤ) DecodeError) → (strict ≡ true → After ids (λ o. (n : ℤ) × (o ≡ Some n)) → P (Symbol TooManyInstances))
     → (strict ≡ true → IfErr ids P) → IfErr (end_of_strip strict ids) P
 cause-end P false ids more refused = tt
 cause-end P true (Ok None) more refused = tt
@@ -61,11 +61,11 @@ all_instance_causes c r a p region f s =
     cause-next P (refuse_if (ltb (32 * p.data_length) p.count) (Symbol TooManyInstances)) _
     (cause-refused P (ltb (32 * p.data_length) p.count) (Symbol TooManyInstances) (λ many. inl (refl, inl (ltb-true (32 * p.data_length) p.count many)))) (λ few few_is.
     cause-next P (strip_delta r p.flags s) _ (cause-delta c r a p.flags s P (λ leaves. inr (inl (refl, leaves))) (λ e no. inr (inr (inr (inl no))))) (λ dt dt_is.
-    cause-last P _ (coordinate (pos 0 -ℤ dt.0)) _ (told-word P _ (pos 0 -ℤ dt.0) (λ large. inr (inr (inl (refl, (dt, dt_is, large)))))) (λ stript stript_is.
+    cause-last P _ (coordinate (pos 0 -ℤ dt.0)) _ (result-word P _ (pos 0 -ℤ dt.0) (λ large. inr (inr (inl (refl, (dt, dt_is, large)))))) (λ stript stript_is.
     subst (λ (n : ℤ). IfErr (strips r p region n f dt.1) P) stript_is
     (cause-if P (eqb p.count 0) _ (some_strips r p region (pos 0 -ℤ dt.0) f dt.1) (λ none. tt) (λ some.
-    cause-next P (strip_begun r p.flags (pos 0 -ℤ dt.0) (pos 0) dt.1) _
-    (cause-more (BreaksStrip c r p.flags (pos 0 -ℤ dt.0) (pos 0) dt.1) P (strip_begun r p.flags (pos 0 -ℤ dt.0) (pos 0) dt.1) (cause-strip c r a p.flags (pos 0 -ℤ dt.0) (pos 0) dt.1) (λ e broken. inr (inr (inr (inr (inl (dt, dt_is, broken))))))) (λ at at_is.
+    cause-next P (strip_start r p.flags (pos 0 -ℤ dt.0) (pos 0) dt.1) _
+    (cause-more (BreaksStrip c r p.flags (pos 0 -ℤ dt.0) (pos 0) dt.1) P (strip_start r p.flags (pos 0 -ℤ dt.0) (pos 0) dt.1) (cause-strip c r a p.flags (pos 0 -ℤ dt.0) (pos 0) dt.1) (λ e broken. inr (inr (inr (inr (inl (dt, dt_is, broken))))))) (λ at at_is.
     let first = reached region at.0 f at.1 in
     cause-next P (after_instances r p (p.count - 1) first) _
     (cause-after c r a p P (p.count - 1) first (λ k below e there. inr (inr (inr (inr (inr (inl (k, omega (arith, below), (dt, dt_is, (at, at_is, there)))))))))) (λ x x_is.
@@ -84,9 +84,9 @@ all_instance_causes c r a p region f s =
 abbrev Left : ℕ → List (List Member) → List Member × List (List Member) → Type 0
 Left taken customs x = length x.1 + taken ≡ length customs
 
-told-custom : (P : DecodeError → Type 0) (customs : List (List Member)) → (length customs < 1 → P (Huffman MissingTables)) → Told (next_custom customs) P (Left 1 customs)
-told-custom P [] why = why (omega arith)
-told-custom P (table ∷ others) why = omega arith
+result-custom : (P : DecodeError → Type 0) (customs : List (List Member)) → (length customs < 1 → P (Huffman MissingTables)) → IfResult (next_custom customs) P (Left 1 customs)
+result-custom P [] why = why (omega arith)
+result-custom P (table ∷ others) why = omega arith
 
 -- how many a choice takes among two tables of the standard, among three, and for the sizes
 abbrev customs_of_two : ℕ → ℕ
@@ -102,46 +102,46 @@ customs_of_size n = customs_if (ltb 0 n)
 taken-at : (f : ℕ → ℕ) (n m : ℕ) → n ≡ m → f n ≡ f m
 taken-at f n m same = ap f same
 
-told-two : (P : DecodeError → Type 0) (first second : List Member) (n : ℕ) (customs : List (List Member)) → (HasNoMeaning n → P (Huffman InvalidSelection)) → (length customs < customs_of_two n → P (Huffman MissingTables))
-    → Told (one_of_two first second n customs) P (Left (customs_of_two n) customs)
-told-two P first second n customs unknown missing =
+result-two : (P : DecodeError → Type 0) (first second : List Member) (n : ℕ) (customs : List (List Member)) → (HasNoMeaning n → P (Huffman InvalidSelection)) → (length customs < customs_of_two n → P (Huffman MissingTables))
+    → IfResult (one_of_two first second n customs) P (Left (customs_of_two n) customs)
+result-two P first second n customs unknown missing =
     let Q : List Member × List (List Member) → Type 0 = Left (customs_of_two n) customs in
-    told-if P Q (eqb n 0) _ _ (λ is. omega (arith, taken-at customs_of_two n 0 (eqb-true n 0 is))) (λ a.
-    told-if P Q (eqb n 1) _ _ (λ is. omega (arith, taken-at customs_of_two n 1 (eqb-true n 1 is))) (λ b.
-    told-if P Q (eqb n 3) _ _
+    result-if P Q (eqb n 0) _ _ (λ is. omega (arith, taken-at customs_of_two n 0 (eqb-true n 0 is))) (λ a.
+    result-if P Q (eqb n 1) _ _ (λ is. omega (arith, taken-at customs_of_two n 1 (eqb-true n 1 is))) (λ b.
+    result-if P Q (eqb n 3) _ _
     (λ is. let one : customs_of_two n ≡ 1 = taken-at customs_of_two n 3 (eqb-true n 3 is) in
-    subst (λ (k : ℕ). Told (next_custom customs) P (Left k customs)) (sym one) (told-custom P customs (λ none. missing (omega (arith, none, one)))))
+    subst (λ (k : ℕ). IfResult (next_custom customs) P (Left k customs)) (sym one) (result-custom P customs (λ none. missing (omega (arith, none, one)))))
     (λ d. unknown (omega (arith, eqb-false n 0 a, eqb-false n 1 b), eqb-false n 3 d))))
 
-told-three : (P : DecodeError → Type 0) (first second third : List Member) (n : ℕ) (customs : List (List Member)) → (length customs < customs_of_three n → P (Huffman MissingTables))
-    → Told (one_of_three first second third n customs) P (Left (customs_of_three n) customs)
-told-three P first second third n customs missing =
+result-three : (P : DecodeError → Type 0) (first second third : List Member) (n : ℕ) (customs : List (List Member)) → (length customs < customs_of_three n → P (Huffman MissingTables))
+    → IfResult (one_of_three first second third n customs) P (Left (customs_of_three n) customs)
+result-three P first second third n customs missing =
     let Q : List Member × List (List Member) → Type 0 = Left (customs_of_three n) customs in
-    told-if P Q (eqb n 0) _ _ (λ is. omega (arith, taken-at customs_of_three n 0 (eqb-true n 0 is))) (λ a.
-    told-if P Q (eqb n 1) _ _ (λ is. omega (arith, taken-at customs_of_three n 1 (eqb-true n 1 is))) (λ b.
-    told-if P Q (eqb n 2) _ _ (λ is. omega (arith, taken-at customs_of_three n 2 (eqb-true n 2 is)))
+    result-if P Q (eqb n 0) _ _ (λ is. omega (arith, taken-at customs_of_three n 0 (eqb-true n 0 is))) (λ a.
+    result-if P Q (eqb n 1) _ _ (λ is. omega (arith, taken-at customs_of_three n 1 (eqb-true n 1 is))) (λ b.
+    result-if P Q (eqb n 2) _ _ (λ is. omega (arith, taken-at customs_of_three n 2 (eqb-true n 2 is)))
     (λ d. let one : customs_of_three n ≡ 1 = cond-true (ltb 2 n) 1 0 (lt-ltb 2 n (omega (arith, eqb-false n 0 a, eqb-false n 1 b, eqb-false n 2 d))) in
-    subst (λ (k : ℕ). Told (next_custom customs) P (Left k customs)) (sym one) (told-custom P customs (λ none. missing (omega (arith, none, one)))))))
+    subst (λ (k : ℕ). IfResult (next_custom customs) P (Left k customs)) (sym one) (result-custom P customs (λ none. missing (omega (arith, none, one)))))))
 
-told-size : (P : DecodeError → Type 0) (n : ℕ) (customs : List (List Member)) → (length customs < customs_of_size n → P (Huffman MissingTables)) → Told (table_of_size n customs) P (Left (customs_of_size n) customs)
-told-size P n customs missing =
+result-size : (P : DecodeError → Type 0) (n : ℕ) (customs : List (List Member)) → (length customs < customs_of_size n → P (Huffman MissingTables)) → IfResult (table_of_size n customs) P (Left (customs_of_size n) customs)
+result-size P n customs missing =
     let Q : List Member × List (List Member) → Type 0 = Left (customs_of_size n) customs in
-    told-if P Q (eqb n 0) _ _ (λ is. omega (arith, taken-at customs_of_size n 0 (eqb-true n 0 is)))
+    result-if P Q (eqb n 0) _ _ (λ is. omega (arith, taken-at customs_of_size n 0 (eqb-true n 0 is)))
     (λ a. let one : customs_of_size n ≡ 1 = cond-true (ltb 0 n) 1 0 (lt-ltb 0 n (omega (arith, eqb-false n 0 a))) in
-    subst (λ (k : ℕ). Told (next_custom customs) P (Left k customs)) (sym one) (told-custom P customs (λ none. missing (omega (arith, none, one)))))
+    subst (λ (k : ℕ). IfResult (next_custom customs) P (Left k customs)) (sym one) (result-custom P customs (λ none. missing (omega (arith, none, one)))))
 
 text_table_causes : (flags : TextRegionHuffmanFlags) (customs : List (List Member)) → IfErr (text_tables flags customs) (BreaksTextTables flags customs)
 unfolding text_tables
 text_table_causes flags customs =
     let P : DecodeError → Type 0 = BreaksTextTables flags customs in
-    cause-last P _ (one_of_two _ _ flags.first_s_table customs) _ (told-two P _ _ flags.first_s_table customs (λ no. inl (refl, inl no)) (λ few. inr (refl, omega (arith, few)))) (λ a a_is.
-    cause-last P _ (one_of_three _ _ _ flags.delta_s_table a.1) _ (told-three P _ _ _ flags.delta_s_table a.1 (λ few. inr (refl, omega (arith, few, a_is)))) (λ b b_is.
-    cause-last P _ (one_of_three _ _ _ flags.delta_t_table b.1) _ (told-three P _ _ _ flags.delta_t_table b.1 (λ few. inr (refl, omega (arith, few, a_is, b_is)))) (λ d d_is.
-    cause-last P _ (one_of_two _ _ flags.refinement_width_table d.1) _ (told-two P _ _ flags.refinement_width_table d.1 (λ no. inl (refl, inr (inl no))) (λ few. inr (refl, omega (arith, few, a_is, b_is, d_is)))) (λ w w_is.
-    cause-last P _ (one_of_two _ _ flags.refinement_height_table w.1) _ (told-two P _ _ flags.refinement_height_table w.1 (λ no. inl (refl, inr (inr (inl no)))) (λ few. inr (refl, omega (arith, few, a_is, b_is, d_is, w_is)))) (λ h h_is.
-    cause-last P _ (one_of_two _ _ flags.refinement_x_table h.1) _ (told-two P _ _ flags.refinement_x_table h.1 (λ no. inl (refl, inr (inr (inr (inl no))))) (λ few. inr (refl, omega (arith, few, a_is, b_is, d_is, w_is, h_is)))) (λ x x_is.
-    cause-last P _ (one_of_two _ _ flags.refinement_y_table x.1) _ (told-two P _ _ flags.refinement_y_table x.1 (λ no. inl (refl, inr (inr (inr (inr no))))) (λ few. inr (refl, omega (arith, few, a_is, b_is, d_is, w_is, h_is, x_is)))) (λ y y_is.
-    cause-last P _ (table_of_size flags.refinement_size_table y.1) _ (told-size P flags.refinement_size_table y.1 (λ few. inr (refl, omega (arith, few, a_is, b_is, d_is, w_is, h_is, x_is, y_is)))) (λ size size_is. tt))))))))
+    cause-last P _ (one_of_two _ _ flags.first_s_table customs) _ (result-two P _ _ flags.first_s_table customs (λ no. inl (refl, inl no)) (λ few. inr (refl, omega (arith, few)))) (λ a a_is.
+    cause-last P _ (one_of_three _ _ _ flags.delta_s_table a.1) _ (result-three P _ _ _ flags.delta_s_table a.1 (λ few. inr (refl, omega (arith, few, a_is)))) (λ b b_is.
+    cause-last P _ (one_of_three _ _ _ flags.delta_t_table b.1) _ (result-three P _ _ _ flags.delta_t_table b.1 (λ few. inr (refl, omega (arith, few, a_is, b_is)))) (λ d d_is.
+    cause-last P _ (one_of_two _ _ flags.refinement_width_table d.1) _ (result-two P _ _ flags.refinement_width_table d.1 (λ no. inl (refl, inr (inl no))) (λ few. inr (refl, omega (arith, few, a_is, b_is, d_is)))) (λ w w_is.
+    cause-last P _ (one_of_two _ _ flags.refinement_height_table w.1) _ (result-two P _ _ flags.refinement_height_table w.1 (λ no. inl (refl, inr (inr (inl no)))) (λ few. inr (refl, omega (arith, few, a_is, b_is, d_is, w_is)))) (λ h h_is.
+    cause-last P _ (one_of_two _ _ flags.refinement_x_table h.1) _ (result-two P _ _ flags.refinement_x_table h.1 (λ no. inl (refl, inr (inr (inr (inl no))))) (λ few. inr (refl, omega (arith, few, a_is, b_is, d_is, w_is, h_is)))) (λ x x_is.
+    cause-last P _ (one_of_two _ _ flags.refinement_y_table x.1) _ (result-two P _ _ flags.refinement_y_table x.1 (λ no. inl (refl, inr (inr (inr (inr no))))) (λ few. inr (refl, omega (arith, few, a_is, b_is, d_is, w_is, h_is, x_is)))) (λ y y_is.
+    cause-last P _ (table_of_size flags.refinement_size_table y.1) _ (result-size P flags.refinement_size_table y.1 (λ few. inr (refl, omega (arith, few, a_is, b_is, d_is, w_is, h_is, x_is, y_is)))) (λ size size_is. tt))))))))
 
 pub text_table_cause : {X : Type 0} (flags : TextRegionHuffmanFlags) (customs : List (List Member)) (r : Result X DecodeError) → IfErr r (λ e. text_tables flags customs ≡ Err e) → HasCause r (BreaksTextTables flags customs)
 text_table_cause flags customs r = call-cause (BreaksTextTables flags customs) (text_tables flags customs) r (text_table_causes flags customs)
@@ -188,7 +188,7 @@ pub by_prefix_codes-causes : ReadingsHaveCauses by_prefix_codes prefix_causes
 by_prefix_codes-causes = record {
   delta_t = λ s. cause-prefixed _ s;
   first_s = λ s. cause-prefixed _ s;
-  delta_s = λ s. own-error (RefusesValue s.tables.delta_s (bits_left s.place)) (decoded_value s.tables.delta_s (bits_left s.place)).answer (λ e no. no);
+  delta_s = λ s. own-error (RefusesValue s.tables.delta_s (bits_left s.place)) (decoded_value s.tables.delta_s (bits_left s.place)).result (λ e no. no);
   t_bits = λ log s. cause-next (prefix_causes.t_bits log s) _ _ (cause-next (prefix_causes.t_bits log s) _ _ (cause-bits (prefix_causes.t_bits log s) invalid_code log s.place (λ short. (refl, short))) (λ n is. tt)) (λ n is. tt);
   id = λ s. cause-prefixed _ s;
   is_refined = λ s. cause-next (prefix_causes.is_refined s) _ _ (cause-next (prefix_causes.is_refined s) _ _ (cause-bits (prefix_causes.is_refined s) end_of_bytes 1 s.place (λ short. (refl, short))) (λ n is. tt)) (λ n is. tt);
@@ -216,10 +216,10 @@ cause-by h (HuffmanCoding numbers ids) symbols customs region =
     cause-more (BreaksInstances prefix_causes by_prefix_codes (text_params h symbols) region (refining_of h) s) P (region_from by_prefix_codes h symbols region s)
     (cause-from prefix_causes by_prefix_codes by_prefix_codes-causes h symbols region s) (λ e broken. inr (s, is, broken)))
 
-text_region_causes : (h : TextHeader) (symbols : List Grid) (customs : List (List Member)) → IfErr (text_answer h symbols customs) (BreaksTextRegion h symbols customs)
-unfolding text_answer BreaksTextRegion
+text_region_causes : (h : TextHeader) (symbols : List Grid) (customs : List (List Member)) → IfErr (text_result h symbols customs) (BreaksTextRegion h symbols customs)
+unfolding text_result BreaksTextRegion
 text_region_causes h symbols customs = cause-by h h.coding symbols customs (blank_region h)
 
-pub text_region_cause : {X : Type 0} (h : TextHeader) (symbols : List Grid) (customs : List (List Member)) (r : Result X DecodeError) → IfErr r (λ e. (e ≡ OutOfMemory) ⊎ (text_answer h symbols customs ≡ Err e))
+pub text_region_cause : {X : Type 0} (h : TextHeader) (symbols : List Grid) (customs : List (List Member)) (r : Result X DecodeError) → IfErr r (λ e. (e ≡ OutOfMemory) ⊎ (text_result h symbols customs ≡ Err e))
     → HasCauseOrNoMemory r (BreaksTextRegion h symbols customs)
-text_region_cause h symbols customs r = call-cause-or-memory (BreaksTextRegion h symbols customs) (text_answer h symbols customs) r (text_region_causes h symbols customs)
+text_region_cause h symbols customs r = call-cause-or-memory (BreaksTextRegion h symbols customs) (text_result h symbols customs) r (text_region_causes h symbols customs)

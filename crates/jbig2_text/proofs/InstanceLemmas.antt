@@ -1,14 +1,14 @@
 -- The steps of reading the instances of a text region.
 use Rattle.std.proofs.Common.{◌≡◌, ℕ, suc, ◌+◌, ◌-◌, ◌*◌, ◌<◌, ◌≤◌, Bool, false, ℤ, pos, Result, Ok, Err, refl, sym, ◌∙◌, ap, arith, inl, inr, ◌⊎◌}
 use Rattle.std.specs.Prelude.{nat_lt, ◌-ℤ◌}
-use Rattle.jbig2_base.specs.Answer.{◌>>=◌, refuse_if}
+use Rattle.jbig2_base.specs.Results.{◌>>=◌, refuse_if}
 use Rattle.jbig2_base.specs.Grid.{Grid}
 use Rattle.jbig2_base.specs.declared.error.DecodeError.{DecodeError}
 use Rattle.jbig2_base.specs.declared.error.DecodeError.TheVariants.{OutOfMemory, Symbol}
 use Rattle.jbig2_base.specs.declared.error.SymbolError.TheVariants.{TooManyInstances}
 use Rattle.jbig2_text.specs.Refining.{Refining}
-use Rattle.jbig2_text.specs.Text.{Readings, Reached, TextParams, after_instances, coordinate, cursor_moved, strip_begun, strip_delta, text_region, with_instance}
-use Rattle.jbig2_text.specs.inner.Parts.{reached, some_strips, strips, with_last, with_next_instance}
+use Rattle.jbig2_text.specs.Text.{Readings, Reached, TextParams, after_instances, coordinate, next_cursor, strip_start, strip_delta, text_region, with_instance}
+use Rattle.jbig2_text.specs.inner.FunctionResults.{reached, some_strips, strips, with_last, with_next_instance}
 use Rattle.jbig2_text.specs.declared.text.cursor.Cursor.{Cursor}
 
 -- the next step's next step
@@ -23,8 +23,8 @@ ap-next (Err e) same = refl
 inner-step : {S : Type 0} (r : Readings S) (p : TextParams) (n : ℕ) (x : Reached S) → after_instances r p (suc n) x ≡ (with_next_instance r p x >>= λ y. after_instances r p n y)
 unfolding after_instances
 inner-step {S} r p n x =
-    ap-next (with_instance r p x) (λ y. next-next (cursor_moved r p.flags y.cursor y.state) (λ c. Ok (reached y.region c.0 y.refining c.1)) (λ z. after_instances r p n z))
-    ∙ next-next (with_instance r p x) (λ y. cursor_moved r p.flags y.cursor y.state >>= λ c. Ok (reached y.region c.0 y.refining c.1)) (λ z. after_instances r p n z)
+    ap-next (with_instance r p x) (λ y. next-next (next_cursor r p.flags y.cursor y.state) (λ c. Ok (reached y.region c.0 y.refining c.1)) (λ z. after_instances r p n z))
+    ∙ next-next (with_instance r p x) (λ y. next_cursor r p.flags y.cursor y.state >>= λ c. Ok (reached y.region c.0 y.refining c.1)) (λ z. after_instances r p n z)
 
 pub inner-next : {S : Type 0} (r : Readings S) (p : TextParams) (n k : ℕ) (x y : Reached S) (whole : Result (Reached S) DecodeError) → k < n → after_instances r p (n - k) x ≡ whole → with_next_instance r p x ≡ Ok y → after_instances r p (n - (k + 1)) y ≡ whole
 inner-next {S} r p n k x y whole below goes read =
@@ -44,7 +44,7 @@ inner-done r p n k x whole done goes =
     sym goes ∙ ap (λ m. after_instances r p m x) e
 
 -- the strips, where the first one begins here
-pub begun-is : {S : Type 0} (r : Readings S) (p : TextParams) (region : Grid) (t : ℤ) (f : Refining) (s next : S) (c : Cursor) → strip_begun r p.flags t (pos 0) s ≡ Ok (c, next) → some_strips r p region t f s ≡ (after_instances r p (p.count - 1) (reached region c f next) >>= λ x. with_last r p x)
+pub begun-is : {S : Type 0} (r : Readings S) (p : TextParams) (region : Grid) (t : ℤ) (f : Refining) (s next : S) (c : Cursor) → strip_start r p.flags t (pos 0) s ≡ Ok (c, next) → some_strips r p region t f s ≡ (after_instances r p (p.count - 1) (reached region c f next) >>= λ x. with_last r p x)
 begun-is {S} r p region t f s next c begun =
     ap (λ (z : Result (Cursor × S) DecodeError). z >>= λ y. after_instances r p (p.count - 1) (reached region y.0 f y.1) >>= λ x. with_last r p x) begun
 

@@ -1,6 +1,6 @@
 -- Text regions from their states.
 use Rattle.std.proofs.Common.{◌≡◌, List, Result, Ok, Err, sym, ◌∙◌, ap, inl, inr}
-use Rattle.jbig2_base.specs.Answer.{◌>>=◌, Gives}
+use Rattle.jbig2_base.specs.Results.{◌>>=◌, Gives}
 use Rattle.jbig2_base.specs.Grid.{Grid}
 use Rattle.jbig2_base.specs.declared.error.DecodeError.{DecodeError}
 use Rattle.jbig2_text.specs.Refining.{Refining}

@@ -1,6 +1,6 @@
 -- A text region by the arithmetic coder, computed from the definitions alone.
 use Rattle.std.proofs.Common.{◌≡◌, ℕ, ◌+◌, Bool, true, false, List, [], ◌∷◌, ◌++◌, replicate, Result, Ok, refl}
-use Rattle.jbig2_base.specs.Answer.{◌>>=◌}
+use Rattle.jbig2_base.specs.Results.{◌>>=◌}
 use Rattle.jbig2_base.specs.Combination.{drawn_pixel}
 use Rattle.jbig2_base.specs.Grid.{table, pixel_at}
 use Rattle.jbig2_base.specs.declared.bitmap.operator.CombinationOperator.TheVariants.{Or}
@@ -10,15 +10,15 @@ use Rattle.jbig2_coder.specs.Encoder.{opened, plain, stuffed, byte_out, shifted,
 use Rattle.jbig2_coder.specs.Integers.{integer, value_of_bits, next, read, read_more, ranges, are_next, next_range, signed, value_of, id, asked}
 use Rattle.jbig2_coder.specs.Table.{rows, row_of}
 use Rattle.jbig2_region.specs.RegionInfo.{PlacedRegion, region_info_at}
-use Rattle.jbig2_region.specs.Raster.{so_far, with_next, after_pixel, row_begun, at_next, first_pixels, decoded_region}
+use Rattle.jbig2_region.specs.Raster.{so_far, with_next, after_pixel, after_ltp, at_next, first_pixels, decoded_region}
 use Rattle.jbig2_region.specs.Refinement.{refined_context}
 use Rattle.jbig2_region.specs.RefinementTemplates.{refinement_pixels_at}
 use Rattle.jbig2_base.specs.Search.{least}
-use Rattle.jbig2_text.specs.Text.{strip_delta, strip_begun, cursor_moved, instance_symbol, refined_symbol, refinement_deltas, refined_outline, symbol_placed, with_instance, after_instances, text_region}
+use Rattle.jbig2_text.specs.Text.{strip_delta, strip_start, next_cursor, instance_symbol, refined_symbol, refinement_deltas, refined_outline, symbol_placed, with_instance, after_instances, text_region}
 use Rattle.jbig2_text.specs.Refining.{refined_by}
 use Rattle.jbig2_text.specs.TextCoding.{coded_start}
 use Rattle.jbig2_text.specs.TextHeader.{text_fields_at, text_flags_at, text_header_at}
-use Rattle.jbig2_text.specs.TextRegion.{region_from, text_answer, text_decoded}
+use Rattle.jbig2_text.specs.TextRegion.{region_from, text_result, text_decoded}
 
 -- a number 0 in its contexts, which for each integer begin elsewhere
 abbrev zero_of : ℕ → List (ℕ × Bool)
@@ -49,7 +49,7 @@ abbrev dot : PlacedRegion
 dot = record { grid = record { width = 8; height = 1; pixels = true ∷ replicate 7 false }; x_location = 0; y_location = 0; combination_operator = Or }
 
 row_R8_6 : region true (0 ∷ 0 ∷ 0 ∷ 8 ∷ 0 ∷ 0 ∷ 0 ∷ 1 ∷ (replicate 9 0 ++ 0 ∷ 0x10 ∷ 0 ∷ 0 ∷ 0 ∷ 1 ∷ coded)) ≡ Ok dot
-unfolding region text_header_at region_info_at text_fields_at text_flags_at text_decoded text_answer region_from text_region after_instances with_instance symbol_placed instance_symbol cursor_moved strip_begun strip_delta least coded_start asked integer value_of_bits next read read_more ranges are_next next_range signed value_of id byte_at byte_in filled doubled renormed initial_registers likely_next unlikely_next choice decision rows row_of drawn_pixel table pixel_at
+unfolding region text_header_at region_info_at text_fields_at text_flags_at text_decoded text_result region_from text_region after_instances with_instance symbol_placed instance_symbol next_cursor strip_start strip_delta least coded_start asked integer value_of_bits next read read_more ranges are_next next_range signed value_of id byte_at byte_in filled doubled renormed initial_registers likely_next unlikely_next choice decision rows row_of drawn_pixel table pixel_at
 row_R8_6 = refl
 
 -- a white symbol refined into a black one, by template 1
@@ -64,5 +64,5 @@ unfolding opened plain stuffed byte_out set_bits flushed is_full closed encode_f
 refined-bytes = refl
 
 refined_symbol_by_coder : region false (0 ∷ 0 ∷ 0 ∷ 8 ∷ 0 ∷ 0 ∷ 0 ∷ 1 ∷ (replicate 9 0 ++ 0x80 ∷ 0x12 ∷ 0 ∷ 0 ∷ 0 ∷ 1 ∷ refined)) ≡ Ok dot
-unfolding region text_header_at region_info_at text_fields_at text_flags_at text_decoded text_answer region_from text_region after_instances with_instance symbol_placed instance_symbol cursor_moved strip_begun strip_delta least coded_start asked integer value_of_bits next read read_more ranges are_next next_range signed value_of id byte_at byte_in filled doubled renormed initial_registers likely_next unlikely_next choice decision rows row_of drawn_pixel table pixel_at refined_symbol refinement_deltas refined_outline refined_by decoded_region first_pixels at_next after_pixel with_next row_begun so_far refined_context refinement_pixels_at
+unfolding region text_header_at region_info_at text_fields_at text_flags_at text_decoded text_result region_from text_region after_instances with_instance symbol_placed instance_symbol next_cursor strip_start strip_delta least coded_start asked integer value_of_bits next read read_more ranges are_next next_range signed value_of id byte_at byte_in filled doubled renormed initial_registers likely_next unlikely_next choice decision rows row_of drawn_pixel table pixel_at refined_symbol refinement_deltas refined_outline refined_by decoded_region first_pixels at_next after_pixel with_next after_ltp so_far refined_context refinement_pixels_at
 refined_symbol_by_coder = refl

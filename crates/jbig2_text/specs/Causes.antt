@@ -27,7 +27,7 @@ use Rattle.jbig2_text.specs.SymbolCodes.{lines_from, runcodes_at, runs_at, short
 use Rattle.jbig2_text.specs.TextHeader.{ArithmeticCoding, HuffmanCoding, NumberCoding, TextHeader}
 use Rattle.jbig2_text.specs.Refining.{Refining}
 use Rattle.jbig2_text.specs.Text.{Reached, Readings, TextParams, after_instances, instance_symbol, is_bottom}
-use Rattle.jbig2_text.specs.Text.{is_last_along_s, is_right, refinement_deltas, strip_begun, strip_delta, symbol_of}
+use Rattle.jbig2_text.specs.Text.{is_last_along_s, is_right, refinement_deltas, strip_start, strip_delta, symbol_of}
 use Rattle.jbig2_text.specs.Text.{t_in_strip, with_instance}
 use Rattle.jbig2_text.specs.declared.text.cursor.Cursor.{Cursor}
 use Rattle.jbig2_text.specs.declared.text.header.TextRegionFlags.{TextRegionFlags}
@@ -37,12 +37,12 @@ use Rattle.jbig2_text.specs.TextRegion.{blank_region, coder_of, prefix_codes_of,
 use Rattle.jbig2_region.specs.Refinement.{Reference}
 
 -- the call succeeded, and this holds for its value
-abbrev pub Behind : {A : Type 0} → Result A DecodeError → (A → Type 0) → Type 0
-Behind {A} r P = (x : A) × (r ≡ Ok x) × P x
+abbrev pub After : {A : Type 0} → Result A DecodeError → (A → Type 0) → Type 0
+After {A} r P = (x : A) × (r ≡ Ok x) × P x
 
 -- a table of prefix codes gives this error at this place, where a number must come
 abbrev pub RefusesNumber : List Member → Place → DecodeError → Type 0
-RefusesNumber table p e = no_oob (decoded_value table (bits_left p)).answer ≡ Err e
+RefusesNumber table p e = no_oob (decoded_value table (bits_left p)).result ≡ Err e
 
 -- ---- the codes of the ids (7.4.3.1.7)
 -- A runcode whose bits are missing: two after 32, three after 33, seven after 34. Or 32, which has no length to repeat.
@@ -56,17 +56,17 @@ BreaksRun (negsuc n) so_far p = Unit {0}
 -- There are too few lengths after some runs, and this holds for the runcodes, the lengths so far and the place.
 abbrev pub ARun : ℕ → Place → (List Member → List ℕ → Place → Type 0) → Type 0
 ARun count p Q =
-    Behind (runcodes_at p) (λ runcodes. (k : ℕ) × Behind (runs_at k count runcodes.0 [] runcodes.1) (λ lens.
+    After (runcodes_at p) (λ runcodes. (k : ℕ) × After (runs_at k count runcodes.0 [] runcodes.1) (λ lens.
     (length lens.0 < count) × Q runcodes.0 lens.0 lens.1))
 
 -- One of the 35 short lengths is missing, or they are crowded. Or a run is faulty. Or the runs have more lengths than
 -- there are symbols, or crowded ones. Or a runcode is refused.
 abbrev pub BreaksSymbolCodes : ℕ → Place → DecodeError → Type 0
 BreaksSymbolCodes count p e =
-    ((e ≡ Huffman InvalidCode) × (((k : ℕ) × (k < 35) × Behind (short_lengths k [] p) (λ lens. length (bits_left lens.1) < 4))
-    ⊎ Behind (short_lengths 35 [] p) (λ lens. AreCrowded (lines_from 0 lens.0))
-    ⊎ ARun count p (λ runcodes so_far q. Behind (value_at runcodes q) (λ code. BreaksRun code.0 so_far code.1))
-    ⊎ Behind (runcodes_at p) (λ runcodes. Behind (runs_at count count runcodes.0 [] runcodes.1) (λ lens.
+    ((e ≡ Huffman InvalidCode) × (((k : ℕ) × (k < 35) × After (short_lengths k [] p) (λ lens. length (bits_left lens.1) < 4))
+    ⊎ After (short_lengths 35 [] p) (λ lens. AreCrowded (lines_from 0 lens.0))
+    ⊎ ARun count p (λ runcodes so_far q. After (value_at runcodes q) (λ code. BreaksRun code.0 so_far code.1))
+    ⊎ After (runcodes_at p) (λ runcodes. After (runs_at count count runcodes.0 [] runcodes.1) (λ lens.
     (count < length lens.0) ⊎ AreCrowded (lines_from 0 lens.0)))))
     ⊎ ARun count p (λ runcodes so_far q. RefusesNumber runcodes q e)
 
@@ -125,11 +125,11 @@ NamesNone symbols (negsuc id) = Unit {0}
 -- delta T times the strip size, STRIPT + DT or FIRSTS + DFS isn't a signed number of 32 bits; or a number is refused
 abbrev pub BreaksStrip : {S : Type 0} → ReadingCauses S → Readings S → TextRegionFlags → ℤ → ℤ → S → DecodeError → Type 0
 BreaksStrip c r flags stript firsts s e =
-    ((e ≡ Symbol InvalidStripDelta) × Behind (r.delta_t s) (λ strips. LeavesWord (strips.0 *ℤ pos (2 ^ flags.log_strip_size))))
-    ⊎ ((e ≡ Overflow PlacementCoordinate) × Behind (strip_delta r flags s) (λ dt.
-    LeavesWord (stript +ℤ dt.0) ⊎ Behind (r.first_s dt.1) (λ dfs. LeavesWord (firsts +ℤ dfs.0))))
+    ((e ≡ Symbol InvalidStripDelta) × After (r.delta_t s) (λ strips. LeavesWord (strips.0 *ℤ pos (2 ^ flags.log_strip_size))))
+    ⊎ ((e ≡ Overflow PlacementCoordinate) × After (strip_delta r flags s) (λ dt.
+    LeavesWord (stript +ℤ dt.0) ⊎ After (r.first_s dt.1) (λ dfs. LeavesWord (firsts +ℤ dfs.0))))
     ⊎ c.delta_t s e
-    ⊎ Behind (strip_delta r flags s) (λ dt. c.first_s dt.1 e)
+    ⊎ After (strip_delta r flags s) (λ dt. c.first_s dt.1 e)
 
 -- the move after IDS: to the next strip, or in this one, where IDS or SBDSOFFSET takes CURS out of signed 32 bits
 abbrev pub BreaksMoveBy : {S : Type 0} → ReadingCauses S → Readings S → TextRegionFlags → Cursor → Option ℤ → S → DecodeError → Type 0
@@ -140,12 +140,12 @@ BreaksMoveBy c r flags at (Some ids) s e =
 -- ---- an instance (6.4.5, step 3 c)
 -- this holds for its id, and for the state after the id
 abbrev pub AtId : {S : Type 0} → Readings S → TextParams → Reached S → (ℤ → S → Type 0) → Type 0
-AtId r p x Q = Behind (t_in_strip r p.flags x.state) (λ t. Behind (r.id t.1) (λ id. Q id.0 id.1))
+AtId r p x Q = After (t_in_strip r p.flags x.state) (λ t. After (r.id t.1) (λ id. Q id.0 id.1))
 
 -- it is refined, and this holds for the symbol of its id, and for the state before the numbers of its refinement
 abbrev pub AtRefined : {S : Type 0} → Readings S → TextParams → Reached S → (Grid → S → Type 0) → Type 0
 AtRefined r p x Q =
-    AtId r p x (λ id s. Behind (if p.flags.use_refinement then r.is_refined s else Ok (false, s)) (λ ri.
+    AtId r p x (λ id s. After (if p.flags.use_refinement then r.is_refined s else Ok (false, s)) (λ ri.
     (ri.0 ≡ true) × ((from : Grid) × (symbol_of p.symbols id ≡ Some from) × Q from ri.1)))
 
 -- a symbol's other end, its first column or its first row isn't a signed number of 32 bits
@@ -161,25 +161,25 @@ APlaceLeaves flags g curs ti =
 abbrev pub ARefinementIsRefused : {S : Type 0} → ReadingCauses S → Readings S → S → DecodeError → Type 0
 ARefinementIsRefused c r s e =
     c.width_delta s e
-    ⊎ Behind (r.width_delta s) (λ w. c.height_delta w.1 e
-    ⊎ Behind (r.height_delta w.1) (λ h. c.x_delta h.1 e
-    ⊎ Behind (r.x_delta h.1) (λ x. c.y_delta x.1 e)))
-    ⊎ Behind (refinement_deltas r s) (λ rd. c.refined rd.1 e)
+    ⊎ After (r.width_delta s) (λ w. c.height_delta w.1 e
+    ⊎ After (r.height_delta w.1) (λ h. c.x_delta h.1 e
+    ⊎ After (r.x_delta h.1) (λ x. c.y_delta x.1 e)))
+    ⊎ After (refinement_deltas r s) (λ rd. c.refined rd.1 e)
 
 -- Its id has no symbol. Or a side of a refined symbol, its place or TI leaves its range. Or a number is refused.
 abbrev pub BreaksInstance : {S : Type 0} → ReadingCauses S → Readings S → TextParams → Reached S → DecodeError → Type 0
 BreaksInstance c r p x e =
     ((e ≡ Symbol OutOfRange) × AtId r p x (λ id s. NamesNone p.symbols id))
-    ⊎ ((e ≡ Overflow BitmapDimension) × AtRefined r p x (λ from s. Behind (refinement_deltas r s) (λ rd.
+    ⊎ ((e ≡ Overflow BitmapDimension) × AtRefined r p x (λ from s. After (refinement_deltas r s) (λ rd.
     IsNoSide (pos from.width +ℤ rd.0.width) ⊎ IsNoSide (pos from.height +ℤ rd.0.height))))
-    ⊎ ((e ≡ Overflow ReferenceOffset) × AtRefined r p x (λ from s. Behind (refinement_deltas r s) (λ rd.
+    ⊎ ((e ≡ Overflow ReferenceOffset) × AtRefined r p x (λ from s. After (refinement_deltas r s) (λ rd.
     LeavesWord (int_shr rd.0.width 1 +ℤ rd.0.x) ⊎ LeavesWord (int_shr rd.0.height 1 +ℤ rd.0.y))))
-    ⊎ ((e ≡ Overflow PlacementCoordinate) × Behind (t_in_strip r p.flags x.state) (λ t.
+    ⊎ ((e ≡ Overflow PlacementCoordinate) × After (t_in_strip r p.flags x.state) (λ t.
     LeavesWord (x.cursor.strip_t +ℤ t.0)
-    ⊎ Behind (r.id t.1) (λ id. Behind (instance_symbol r p id.0 x.refining id.1) (λ ib.
+    ⊎ After (r.id t.1) (λ id. After (instance_symbol r p id.0 x.refining id.1) (λ ib.
     (g : Grid) × (ib.0 ≡ Some g) × APlaceLeaves p.flags g x.cursor.cur_s (x.cursor.strip_t +ℤ t.0)))))
     ⊎ c.t_bits p.flags.log_strip_size x.state e
-    ⊎ Behind (t_in_strip r p.flags x.state) (λ t. c.id t.1 e)
+    ⊎ After (t_in_strip r p.flags x.state) (λ t. c.id t.1 e)
     ⊎ AtId r p x (λ id s. c.is_refined s e)
     ⊎ AtRefined r p x (λ from s. ARefinementIsRefused c r s e)
 
@@ -187,13 +187,13 @@ BreaksInstance c r p x e =
 -- this holds at instance k, after those before it; STRIPT begins at the negative of the first delta T
 abbrev pub AtInstance : {S : Type 0} → Readings S → TextParams → Grid → Refining → S → ℕ → (Reached S → Type 0) → Type 0
 AtInstance r p region f s k Q =
-    Behind (strip_delta r p.flags s) (λ dt. Behind (strip_begun r p.flags (pos 0 -ℤ dt.0) (pos 0) dt.1) (λ c.
-    Behind (after_instances r p k (record { region = region; cursor = c.0; refining = f; state = c.1 })) Q))
+    After (strip_delta r p.flags s) (λ dt. After (strip_start r p.flags (pos 0 -ℤ dt.0) (pos 0) dt.1) (λ c.
+    After (after_instances r p k (record { region = region; cursor = c.0; refining = f; state = c.1 })) Q))
 
 -- the state after the last instance, in strict mode
 abbrev pub AtEnd : {S : Type 0} → Readings S → TextParams → Grid → Refining → S → (S → Type 0) → Type 0
 AtEnd r p region f s Q =
-    (p.strict ≡ true) × AtInstance r p region f s (p.count - 1) (λ x. Behind (with_instance r p x) (λ last. Q last.state))
+    (p.strict ≡ true) × AtInstance r p region f s (p.count - 1) (λ x. After (with_instance r p x) (λ last. Q last.state))
 
 -- There are more instances than 32 for each byte, or in strict mode another one after the last. Or the first delta T or
 -- its negative isn't a signed number of 32 bits. Or the first delta T, the first strip, an instance, the move to the
@@ -201,14 +201,14 @@ AtEnd r p region f s Q =
 abbrev pub BreaksInstances : {S : Type 0} → ReadingCauses S → Readings S → TextParams → Grid → Refining → S → DecodeError → Type 0
 BreaksInstances c r p region f s e =
     ((e ≡ Symbol TooManyInstances) × ((32 * p.data_length < p.count)
-    ⊎ AtEnd r p region f s (λ u. Behind (r.delta_s u) (λ ids. (n : ℤ) × (ids ≡ Some n)))))
-    ⊎ ((e ≡ Symbol InvalidStripDelta) × Behind (r.delta_t s) (λ strips. LeavesWord (strips.0 *ℤ pos (2 ^ p.flags.log_strip_size))))
-    ⊎ ((e ≡ Overflow PlacementCoordinate) × Behind (strip_delta r p.flags s) (λ dt. LeavesWord (pos 0 -ℤ dt.0)))
+    ⊎ AtEnd r p region f s (λ u. After (r.delta_s u) (λ ids. (n : ℤ) × (ids ≡ Some n)))))
+    ⊎ ((e ≡ Symbol InvalidStripDelta) × After (r.delta_t s) (λ strips. LeavesWord (strips.0 *ℤ pos (2 ^ p.flags.log_strip_size))))
+    ⊎ ((e ≡ Overflow PlacementCoordinate) × After (strip_delta r p.flags s) (λ dt. LeavesWord (pos 0 -ℤ dt.0)))
     ⊎ c.delta_t s e
-    ⊎ Behind (strip_delta r p.flags s) (λ dt. BreaksStrip c r p.flags (pos 0 -ℤ dt.0) (pos 0) dt.1 e)
+    ⊎ After (strip_delta r p.flags s) (λ dt. BreaksStrip c r p.flags (pos 0 -ℤ dt.0) (pos 0) dt.1 e)
     ⊎ ((k : ℕ) × (k < p.count) × AtInstance r p region f s k (λ x. BreaksInstance c r p x e
-    ⊎ Behind (with_instance r p x) (λ y. c.delta_s y.state e
-    ⊎ Behind (r.delta_s y.state) (λ ids. BreaksMoveBy c r p.flags y.cursor ids (r.behind_delta_s y.state) e))))
+    ⊎ After (with_instance r p x) (λ y. c.delta_s y.state e
+    ⊎ After (r.delta_s y.state) (λ ids. BreaksMoveBy c r p.flags y.cursor ids (r.after_delta_s y.state) e))))
     ⊎ AtEnd r p region f s (λ u. c.delta_s u e)
 
 -- ---- tables (7.4.3.1.6)
@@ -252,7 +252,7 @@ coder_causes = record {
 -- ---- prefix codes
 -- a table gives this error at the beginning of these bits, where a number or out of band must come
 abbrev pub RefusesValue : List Member → List ℕ → DecodeError → Type 0
-RefusesValue table bits e = (decoded_value table bits).answer ≡ Err e
+RefusesValue table bits e = (decoded_value table bits).result ≡ Err e
 
 abbrev pub LacksBits : DecodeError → ℕ → Prefixed → DecodeError → Type 0  -- fewer bits than this are left
 LacksBits error count s e = (e ≡ error) × (length (bits_left s.place) < count)
@@ -277,7 +277,7 @@ prefix_causes = record {
   y_delta = λ s. RefusesNumber s.tables.refinement_y s.place;
   refined = λ s e.
       RefusesNumber s.tables.refinement_size s.place e
-      ⊎ Behind (value_at s.tables.refinement_size s.place) (λ size. LacksBytes size.0 size.1 e);
+      ⊎ After (value_at s.tables.refinement_size s.place) (λ size. LacksBytes size.0 size.1 e);
 }
 
 -- ---- a region
@@ -286,7 +286,7 @@ BreaksRegionBy h ArithmeticCoding symbols customs region e =
     BreaksInstances coder_causes by_coder (text_params h symbols) region (refining_of h) (coder_of h symbols) e
 BreaksRegionBy h (HuffmanCoding numbers ids) symbols customs region e =
     BreaksTextTables numbers customs e
-    ⊎ Behind (prefix_codes_of h numbers ids customs) (λ s.
+    ⊎ After (prefix_codes_of h numbers ids customs) (λ s.
     BreaksInstances prefix_causes by_prefix_codes (text_params h symbols) region (refining_of h) s e)
 
 unfoldable pub BreaksTextRegion : TextHeader → List Grid → List (List Member) → DecodeError → Type 0

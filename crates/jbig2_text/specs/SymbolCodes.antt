@@ -2,7 +2,7 @@
 -- prefix codes themselves. A place in the bits and the number of symbols give the codes, and the place after them.
 use Rattle.std.specs.Prelude.{ℕ, zero, suc, ◌+◌, ◌-◌, nat_lt, ◌==◌, List, [], ◌∷◌, ◌++◌, length, replicate, slice_get}
 use Rattle.std.specs.Prelude.{Result, Ok, Err, ℤ, pos, negsuc, if◌then◌else◌}
-use Rattle.jbig2_base.specs.Answer.{◌>>=◌, refuse_if, some_or}
+use Rattle.jbig2_base.specs.Results.{◌>>=◌, refuse_if, some_or}
 use Rattle.jbig2_base.specs.Bits.{Place, aligned, bits_left, bits_on, start_of}
 use Rattle.jbig2_base.specs.Fields.{bits_at}
 use Rattle.jbig2_base.specs.declared.error.DecodeError.{DecodeError}
@@ -19,7 +19,7 @@ invalid_code = Huffman InvalidCode
 abbrev pub value_at : List Member → Place → Result (ℤ × Place) DecodeError
 value_at table p =
     let read = decoded_value table (bits_left p) in
-    no_oob read.answer >>= λ n. Ok (n, bits_on read.taken p)
+    no_oob read.result >>= λ n. Ok (n, bits_on read.taken p)
 
 abbrev pub lines_from : ℕ → List ℕ → List TableLine  -- the numbers from n on, with codes of these lengths
 lines_from n [] = []

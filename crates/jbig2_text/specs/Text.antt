@@ -5,7 +5,7 @@ use Rattle.std.specs.Prelude.{ℤ, pos, negsuc, ◌+ℤ◌, ◌-ℤ◌, ◌*ℤ�
 use Rattle.std.specs.Prelude.{Result, Ok, Err}
 use Rattle.std.specs.Int.{int_shr}
 use Rattle.std.specs.Option.{is_some}
-use Rattle.jbig2_base.specs.Answer.{◌>>=◌, refuse_if, some_or}
+use Rattle.jbig2_base.specs.Results.{◌>>=◌, refuse_if, some_or}
 use Rattle.jbig2_base.specs.Combination.{combined}
 use Rattle.jbig2_base.specs.Grid.{Grid}
 use Rattle.jbig2_base.specs.declared.error.DecodeError.{DecodeError}
@@ -43,7 +43,7 @@ pub record Readings (S : Type 0) : Type 0 where
   pub delta_t : S → Result (ℤ × S) DecodeError
   pub first_s : S → Result (ℤ × S) DecodeError
   pub delta_s : S → Result (Option ℤ) DecodeError
-  pub behind_delta_s : S → S
+  pub after_delta_s : S → S
   pub t_bits : ℕ → S → Result (ℤ × S) DecodeError
   pub id : S → Result (ℤ × S) DecodeError
   pub is_refined : S → Result (Bool × S) DecodeError
@@ -72,8 +72,8 @@ strip_delta r flags s = do
   Ok (dt, strips.1)
 
 -- a strip begins: DT is added to STRIPT and DFS to FIRSTS (6.4.7), and CURS is FIRSTS (steps 3 b and 3 c i)
-unfoldable pub strip_begun : {S : Type 0} → Readings S → TextRegionFlags → ℤ → ℤ → S → Result (Cursor × S) DecodeError
-strip_begun r flags stript firsts s = do
+unfoldable pub strip_start : {S : Type 0} → Readings S → TextRegionFlags → ℤ → ℤ → S → Result (Cursor × S) DecodeError
+strip_start r flags stript firsts s = do
   dt ← strip_delta r flags s
   next_stript ← coordinate (stript +ℤ dt.0)
   dfs ← r.first_s dt.1
@@ -81,15 +81,15 @@ strip_begun r flags stript firsts s = do
   Ok (record { strip_t = next_stript; first_s = next_firsts; cur_s = next_firsts }, dfs.1)
 
 -- IDS and SBDSOFFSET are added to CURS in the strip, or else the next strip begins (step 3 c ii, and 6.4.8)
-abbrev pub moved_by : {S : Type 0} → Readings S → TextRegionFlags → Cursor → Option ℤ → S → Result (Cursor × S) DecodeError
-moved_by r flags c None s = strip_begun r flags c.strip_t c.first_s s
-moved_by r flags c (Some ids) s = do
-  apart ← coordinate (c.cur_s +ℤ ids)
-  curs ← coordinate (apart +ℤ flags.delta_s_offset)
+abbrev pub with_ids : {S : Type 0} → Readings S → TextRegionFlags → Cursor → Option ℤ → S → Result (Cursor × S) DecodeError
+with_ids r flags c None s = strip_start r flags c.strip_t c.first_s s
+with_ids r flags c (Some ids) s = do
+  after_ids ← coordinate (c.cur_s +ℤ ids)
+  curs ← coordinate (after_ids +ℤ flags.delta_s_offset)
   Ok (record c { cur_s = curs }, s)
 
-unfoldable pub cursor_moved : {S : Type 0} → Readings S → TextRegionFlags → Cursor → S → Result (Cursor × S) DecodeError
-cursor_moved r flags c s = r.delta_s s >>= λ ids. moved_by r flags c ids (r.behind_delta_s s)
+unfoldable pub next_cursor : {S : Type 0} → Readings S → TextRegionFlags → Cursor → S → Result (Cursor × S) DecodeError
+next_cursor r flags c s = r.delta_s s >>= λ ids. with_ids r flags c ids (r.after_delta_s s)
 
 -- CURT, which is read only in strips of more than one row (6.4.9)
 abbrev pub t_in_strip : {S : Type 0} → Readings S → TextRegionFlags → S → Result (ℤ × S) DecodeError
@@ -165,8 +165,8 @@ is_bottom _ = false
 abbrev pub is_last_along_s : TextRegionFlags → Bool
 is_last_along_s flags = if flags.transposed then is_bottom flags.reference_corner else is_right flags.reference_corner
 
-abbrev pub grown : TextRegionFlags → Grid → ℤ → Result ℤ DecodeError  -- CURS at the other end of a symbol
-grown flags g curs = coordinate (curs +ℤ (pos (if flags.transposed then g.height else g.width) -ℤ pos 1))
+abbrev pub far_end : TextRegionFlags → Grid → ℤ → Result ℤ DecodeError  -- CURS at the other end of a symbol
+far_end flags g curs = coordinate (curs +ℤ (pos (if flags.transposed then g.height else g.width) -ℤ pos 1))
 
 -- the first column (or row) of a symbol: its corner is at this place, which may be the last one
 abbrev pub edge : Bool → ℕ → ℤ → Result ℤ DecodeError
@@ -176,10 +176,10 @@ edge at_last side place = if at_last then coordinate (place -ℤ (pos side -ℤ 
 -- is placed if its corner is the last one along S (vi), and else afterwards (x).
 unfoldable pub symbol_placed : TextRegionFlags → Grid → ℤ → ℤ → Result (Instance × ℤ) DecodeError
 symbol_placed flags g curs ti = do
-  si ← if is_last_along_s flags then grown flags g curs else Ok curs
+  si ← if is_last_along_s flags then far_end flags g curs else Ok curs
   x ← edge (is_right flags.reference_corner) g.width (if flags.transposed then ti else si)
   y ← edge (is_bottom flags.reference_corner) g.height (if flags.transposed then si else ti)
-  next ← if is_last_along_s flags then Ok si else grown flags g si
+  next ← if is_last_along_s flags then Ok si else far_end flags g si
   Ok (record { grid = g; x = x; y = y }, next)
 
 -- ---- instances
@@ -205,7 +205,7 @@ unfoldable pub after_instances : {S : Type 0} → Readings S → TextParams → 
 after_instances r p zero x = Ok x
 after_instances r p (suc n) x = do
   y ← with_instance r p x
-  c ← cursor_moved r p.flags y.cursor y.state
+  c ← next_cursor r p.flags y.cursor y.state
   after_instances r p n (record y { cursor = c.0; state = c.1 })
 
 -- A region (steps 1, 3 and 4), which begins in its default colour, and the contexts and the coder after it. STRIPT begins at the negative of the first DT; without
@@ -217,8 +217,8 @@ text_region r p region f s = do
   dt ← strip_delta r p.flags s
   stript ← coordinate (pos 0 -ℤ dt.0)
   if p.count == 0 then Ok (region, f, dt.1) else do
-    c ← strip_begun r p.flags stript (pos 0) dt.1
+    c ← strip_start r p.flags stript (pos 0) dt.1
     x ← after_instances r p (p.count - 1) (record { region = region; cursor = c.0; refining = f; state = c.1 })
     last ← with_instance r p x
     ends ← if p.strict then (r.delta_s last.state >>= λ ids. refuse_if (is_some ids) (Symbol TooManyInstances)) else Ok tt
-    Ok (last.region, last.refining, r.behind_delta_s last.state)
+    Ok (last.region, last.refining, r.after_delta_s last.state)

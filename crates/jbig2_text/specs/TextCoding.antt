@@ -1,7 +1,7 @@
 -- The two ways in which the numbers of a text region are coded (T.88, 6.4.6 to 6.4.11): by the arithmetic coder with
 -- its integer procedures, and by prefix codes. Symbol dictionaries read with the same states.
 use Rattle.std.specs.Prelude.{ℕ, ◌%◌, ◌^◌, ◌==◌, not, ℤ, pos, negsuc, nat_abs, List, Option, Result, Ok, Err, replicate}
-use Rattle.jbig2_base.specs.Answer.{◌>>=◌, some_or}
+use Rattle.jbig2_base.specs.Results.{◌>>=◌, some_or}
 use Rattle.jbig2_base.specs.Bits.{Place, aligned, bits_left, bits_on, start_of}
 use Rattle.jbig2_base.specs.Fields.{bits_at, bytes_at, end_of_bytes}
 use Rattle.jbig2_base.specs.Grid.{Grid}
@@ -57,7 +57,7 @@ by_coder = record {
   delta_t = number_by_coder Iadt;
   first_s = number_by_coder Iafs;
   delta_s = λ s. Ok (next_integer Iads s).0;
-  behind_delta_s = λ s. (next_integer Iads s).1;
+  after_delta_s = λ s. (next_integer Iads s).1;
   t_bits = λ _. number_by_coder Iait;
   id = λ s. Ok (next_id s);
   is_refined = λ s. number_by_coder Iari s >>= λ flag. Ok (not (nat_abs flag.0 % 256 == 0), flag.1);
@@ -109,8 +109,8 @@ abbrev pub by_prefix_codes : Readings Prefixed
 by_prefix_codes = record {
   delta_t = λ s. prefixed_value s.tables.delta_t s;
   first_s = λ s. prefixed_value s.tables.first_s s;
-  delta_s = λ s. (decoded_value s.tables.delta_s (bits_left s.place)).answer;
-  behind_delta_s = λ s.
+  delta_s = λ s. (decoded_value s.tables.delta_s (bits_left s.place)).result;
+  after_delta_s = λ s.
       record s { place = bits_on (decoded_value s.tables.delta_s (bits_left s.place)).taken s.place };
   t_bits = λ log s. prefixed_bits invalid_code log s >>= λ n. Ok (pos n.0, n.1);
   id = λ s. prefixed_value s.ids s;

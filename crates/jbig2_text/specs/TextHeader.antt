@@ -3,7 +3,7 @@
 use Rattle.std.specs.Prelude.{ℕ, ◌/◌, ◌%◌, ◌==◌, nat_lt, Bool, true, false, List, [], length, Option, Some, None}
 use Rattle.std.specs.Prelude.{Result, Ok, if◌then◌else◌, ℤ, pos, ◌-ℤ◌}
 use Rattle.std.specs.Int.{w16, w32}
-use Rattle.jbig2_base.specs.Answer.{◌>>=◌}
+use Rattle.jbig2_base.specs.Results.{◌>>=◌}
 use Rattle.jbig2_base.specs.Fields.{number_at}
 use Rattle.jbig2_base.specs.Combination.{operator_of}
 use Rattle.jbig2_base.specs.declared.error.DecodeError.{DecodeError}

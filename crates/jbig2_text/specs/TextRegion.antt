@@ -1,7 +1,7 @@
 -- A text region segment (T.88, 7.4.3). `text_decoded` takes the header with the coded bytes, and the symbols and the
 -- custom tables that the segment refers to. It gives the region's grid at its place, decoded from fresh states.
 use Rattle.std.specs.Prelude.{ℕ, nat_lt, ◌==◌, ◌||◌, if◌then◌else◌, List, length, Result, Ok, Err}
-use Rattle.jbig2_base.specs.Answer.{◌>>=◌, refuse_if}
+use Rattle.jbig2_base.specs.Results.{◌>>=◌, refuse_if}
 use Rattle.jbig2_base.specs.Bits.{start_of}
 use Rattle.jbig2_base.specs.Grid.{Grid, blank}
 use Rattle.jbig2_base.specs.declared.error.DecodeError.{DecodeError}
@@ -106,13 +106,13 @@ region_by h (HuffmanCoding numbers ids) symbols customs region =
 abbrev pub blank_region : TextHeader → Grid  -- a region in its default colour
 blank_region h = blank h.region_info.width h.region_info.height h.flags.default_pixel
 
-unfoldable pub text_answer : TextHeader → List Grid → List (List Member) → Result Grid DecodeError
-text_answer h symbols customs =
+unfoldable pub text_result : TextHeader → List Grid → List (List Member) → Result Grid DecodeError
+text_result h symbols customs =
     region_by h h.coding symbols customs (blank_region h)
 
 -- A region at its place. A side above 65535 is refused (our own rule).
 unfoldable pub text_decoded : TextHeader → List Grid → List (List Member) → Result PlacedRegion DecodeError
 text_decoded h symbols customs = do
   fits ← refuse_if (nat_lt 65535 h.region_info.width || nat_lt 65535 h.region_info.height) (Overflow BitmapDimension)
-  grid ← text_answer h symbols customs
+  grid ← text_result h symbols customs
   Ok (placed h.region_info grid)

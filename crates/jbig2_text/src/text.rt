@@ -1,12 +1,12 @@
 //! Text regions (T.88, 6.4 and 7.4.3): reads the instances of symbols and draws them.
 ghost use Rattle.std.specs.Prelude.{◌≡◌, ◌≤◌, ◌^◌, length, Ok, OnErr};
-ghost use Rattle.jbig2_base.specs.Answer.{Answers, Gives};
+ghost use Rattle.jbig2_base.specs.Results.{Returns, Gives};
 ghost use Rattle.jbig2_base.specs.Grid.{blank};
 ghost use Rattle.jbig2_steps.specs.Work.{Paid, PaidBut};
 ghost use Rattle.jbig2_text.specs.Paying.{number_steps};
 ghost use Rattle.jbig2_region.specs.inner.RegionViews.{region_view};
 ghost use Rattle.jbig2_text.specs.inner.TextViews.{some_pixels, header_view, text_pixels, coded_view, params_view, prefixed_view, symbols_view};
-ghost use Rattle.jbig2_text.specs.TextRegion.{coder_of, prefix_codes_of, refining_of, region_from, text_params, text_answer, text_decoded};
+ghost use Rattle.jbig2_text.specs.TextRegion.{coder_of, prefix_codes_of, refining_of, region_from, text_params, text_result, text_decoded};
 ghost use Rattle.jbig2_coder.specs.inner.TableViews.{customs_view};
 ghost use Rattle.jbig2_base.specs.Causes.{HasCauseOrNoMemory};
 ghost use Rattle.jbig2_text.specs.Causes.{BreaksTextRegion};
@@ -116,7 +116,7 @@ fn start_prefixed<'a, 't, A: Allocator>(
 ) -> Result<PrefixedReadings<'a, 't, A>>
     ensures { let h = header_view header.now in
         let meant = prefix_codes_of h numbers.now ids.now (customs_view customs.now) in
-        Answers (λ r. prefixed_view r) result meant }
+        Returns (λ r. prefixed_view r) result meant }
 {
     let tables = select_tables(numbers, customs, standard)?;
     Ok(PrefixedReadings {
@@ -164,7 +164,7 @@ fn decode_by<R: ReadInstances, A: Allocator + Clone, L: Ledger>(
 /// `OverflowError::PlacementCoordinate`, `OverflowError::BitmapDimension` and
 /// `OverflowError::ReferenceOffset` for numbers out of their ranges; `SymbolError::OutOfRange` for
 /// an id without a symbol, in lenient mode only where it is refined; `OutOfMemory`.
-#[tactic(auto, using(crate::proofs::CausesOfRegions::text_region_cause), unfolding(crate::specs::TextRegion::text_answer))]
+#[tactic(auto, using(crate::proofs::CausesOfRegions::text_region_cause), unfolding(crate::specs::TextRegion::text_result))]
 pub fn decode_into<A: Allocator + Clone, L: Ledger>(
     alloc: A,
     header: &TextRegionHeader<'_, A>,
@@ -179,7 +179,7 @@ pub fn decode_into<A: Allocator + Clone, L: Ledger>(
     requires coloured { let info = header.now.region_info in
         bitmap.old ≡ blank info.width info.height header.now.flags.default_pixel }
     ensures value { let customs = customs_view referred_tables.now in
-        let meant = text_answer (header_view header.now) (symbols_view symbols.now) customs in
+        let meant = text_result (header_view header.now) (symbols_view symbols.now) customs in
         Gives (λ _. bitmap.new) result meant }
     ensures same { OnErr result (bitmap.new ≡ bitmap.old) }
     ensures causes { let customs = customs_view referred_tables.now in

@@ -8,7 +8,7 @@ use Rattle.jbig2_text.specs.Paying.{number_steps}
 use Rattle.hayro_jbig2.specs.declared.region.parsed_region.ParsedRegion.{ParsedRegion}
 use Rattle.hayro_jbig2.specs.declared.region.parsed_region.ParsedRegion.TheVariants.{Text, Halftone, Generic}
 use Rattle.hayro_jbig2.specs.declared.region.parsed_region.ParsedRegion.TheVariants.{Refinement, PageRefinement}
-use Rattle.hayro_jbig2.specs.inner.Parsed.{info_of}
+use Rattle.hayro_jbig2.specs.inner.ParsedRegions.{info_of}
 use Rattle.jbig2_region.specs.inner.GenericViews as generics
 use Rattle.jbig2_halftone.specs.inner.HalftoneHeaderViews as halftones
 

@@ -1,9 +1,9 @@
 //! The page while its segments are drawn.
 ghost use Rattle.std.specs.Prelude.{◌≡◌, ◌*◌, ◌<◌, ◌≤◌, [], true, false, Ok};
-ghost use Rattle.jbig2_base.specs.Answer.{Gives};
+ghost use Rattle.jbig2_base.specs.Results.{Gives};
 ghost use Rattle.jbig2_region.specs.inner.RegionViews.{region_view};
 ghost use Rattle.hayro_jbig2.specs.Image.{packed_of};
-ghost use Rattle.hayro_jbig2.specs.Page.{nothing_drawn, page_begun, passing, shown, with_region};
+ghost use Rattle.hayro_jbig2.specs.Page.{empty_drawing, blank_page, passing, shown, with_region};
 ghost use Rattle.jbig2_steps.specs.Work.{PaidBut, price_of_bitmap};
 
 use crate::drawing::passed_over::PassedOver;
@@ -39,7 +39,7 @@ impl<A: Allocator> Model for Canvas<A> {
     ghost use Rattle.jbig2_region.specs.inner.RegionViews.{region_view};
     ghost use Rattle.hayro_jbig2.specs.Page.{Drawing};
     ghost use Rattle.hayro_jbig2.specs.inner.KeptViews.{seen};
-    ghost use Rattle.hayro_jbig2.specs.inner.Whole.{IsBegun};
+    ghost use Rattle.hayro_jbig2.specs.inner.WholePages.{IsBlankPage};
 
     ghost Value = { Drawing };
 
@@ -51,13 +51,13 @@ impl<A: Allocator> Model for Canvas<A> {
       passed_over = c.passed_over;
     } };
 
-    ghost invariant = { λ c. c.untouched ≡ true → IsBegun c.default_pixel c.bitmap };
+    ghost invariant = { λ c. c.untouched ≡ true → IsBlankPage c.default_pixel c.bitmap };
 }
 
 impl<A: Allocator + Clone> Canvas<A> {
     /// A page of no pixels. Its only error is `DecodeError::OutOfMemory`.
     pub(crate) fn new(alloc: A) -> Result<Canvas<A>>
-        ensures { Gives (λ canvas. canvas) result (Ok nothing_drawn) }
+        ensures { Gives (λ canvas. canvas) result (Ok empty_drawing) }
     {
         Ok(Canvas {
             bitmap: Bitmap::new_empty(alloc.clone()?),
@@ -90,7 +90,7 @@ impl<A: Allocator> Canvas<A> {
     pub(crate) fn begin(&mut self, initial_page: &InitialPage) -> Result<()>
         requires width { initial_page.now.width ≤ 65535 }
         requires height { initial_page.now.height ≤ 65535 }
-        ensures { Gives (λ _. self.new) result (Ok (page_begun initial_page.now)) }
+        ensures { Gives (λ _. self.new) result (Ok (blank_page initial_page.now)) }
     {
         self.bitmap.reinitialize(
             initial_page.width,

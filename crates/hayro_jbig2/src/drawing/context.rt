@@ -1,6 +1,6 @@
 //! What decoding keeps from one page to the next.
 ghost use Rattle.std.specs.Prelude.{◌≡◌};
-ghost use Rattle.jbig2_base.specs.Answer.{Gives};
+ghost use Rattle.jbig2_base.specs.Results.{Gives};
 ghost use Rattle.jbig2_base.specs.Counts.{no_steps};
 ghost use Rattle.hayro_jbig2.specs.Context.{after_page, new_context, units_of};
 ghost use Rattle.hayro_jbig2.specs.Image.{packed_of};

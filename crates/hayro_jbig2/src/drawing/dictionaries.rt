@@ -1,7 +1,7 @@
 //! Segments that draw nothing and keep something for later ones (T.88, 7.4.2, 7.4.4 and 7.4.13), of
 //! a page or of its globals. Only salvage passes over one that fails.
 ghost use Rattle.std.specs.Prelude.{◌≡◌, ◌+◌, ◌*◌, ◌⊎◌, IfErr, IfOk};
-ghost use Rattle.jbig2_base.specs.Answer.{Answers, Gives};
+ghost use Rattle.jbig2_base.specs.Results.{Returns, Gives};
 ghost use Rattle.jbig2_base.specs.inner.SegmentViews.{segment_view};
 ghost use Rattle.hayro_jbig2.specs.Names.{symbol_dictionary_at, with_symbols, pattern_dictionary_at, with_patterns, with_code, extension, Names};
 ghost use Rattle.hayro_jbig2.specs.inner.KeptViews.{patterns_view, symbols_view};
@@ -155,7 +155,7 @@ pub(crate) fn keep_table<A: Allocator + Clone>(
 /// An extension segment (T.88, 7.4.14): strict reading refuses one that a decoder must know.
 #[tactic(auto, using(crate::proofs::SegmentCauses::extension_cause))]
 pub(crate) fn extension(strict: bool, bytes: &[u8]) -> Result<()>
-    ensures value { Answers (λ known. known) result (extension strict bytes.now) }
+    ensures value { Returns (λ known. known) result (extension strict bytes.now) }
     ensures causes { HasCause result (BreaksExtension strict bytes.now) }
 {
     if !strict {

@@ -1,12 +1,12 @@
 //! Globals: segments that several pages share, as in PDF.
 ghost use Rattle.std.specs.Prelude.{◌≡◌, ◌<◌, ◌⊎◌, Ok, IfErr};
-ghost use Rattle.jbig2_base.specs.Answer.{Gives};
+ghost use Rattle.jbig2_base.specs.Results.{Gives};
 ghost use Rattle.jbig2_base.specs.Reading.{is_strict, reading_of};
 ghost use Rattle.jbig2_base.specs.declared.error.DecodeError.TheVariants.{OutOfMemory};
 ghost use Rattle.jbig2_base.specs.declared.reading.Reading.TheVariants.{Salvage};
 ghost use Rattle.jbig2_base.specs.inner.SegmentViews.{segment_view, segment_views};
 ghost use Rattle.hayro_jbig2.specs.Context.{IsWithin};
-ghost use Rattle.hayro_jbig2.specs.Names.{globals_at, named_from, kept_by, no_names, nothing_shared, or_shared_without};
+ghost use Rattle.hayro_jbig2.specs.Names.{globals_at, shared_from, kept_by, no_names, nothing_shared, or_shared_without};
 ghost use Rattle.hayro_jbig2.specs.Returned.{IsReturned};
 ghost use Rattle.hayro_jbig2.specs.inner.KeptViews.{found};
 ghost use Rattle.jbig2_steps.specs.Work.{IsWithinLimit, Paid};
@@ -140,7 +140,7 @@ impl<A: Allocator + Clone> Globals<A> {
         work: Option<u64>,
     ) -> Result<Globals<A>>
         ensures { Gives (λ globals. globals) result
-            (named_from reading (segment_views segments.now) (nothing_shared fault)) }
+            (shared_from reading (segment_views segments.now) (nothing_shared fault)) }
     {
         let mut counted = Counted::nothing();
         decode_shared::<A, Brand>(
@@ -197,7 +197,7 @@ fn decode_shared<A: Allocator + Clone, L: Ledger>(
     requires parts { blank.parts ≡ L.parts }
     requires enough { blank.parts ≡ 6 }
     ensures value { Gives (λ globals. globals) result
-        (named_from reading (segment_views segments.now) (nothing_shared fault)) }
+        (shared_from reading (segment_views segments.now) (nothing_shared fault)) }
     ensures limit { IsWithin work counted.new }
 {
     let mut counter = work_within::<L>(work, blank);
@@ -216,7 +216,7 @@ fn shared_within<A: Allocator + Clone, L: Ledger>(
     work: &mut Work<L>,
 ) -> Result<Globals<A>>
     ensures value { Gives (λ globals. globals) result
-        (named_from reading (segment_views segments.now) (nothing_shared fault)) }
+        (shared_from reading (segment_views segments.now) (nothing_shared fault)) }
     ensures paid { Paid work.old work.new }
     ensures limit { IsWithinLimit work.old work.new }
 {

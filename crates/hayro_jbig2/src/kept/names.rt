@@ -1,12 +1,12 @@
 //! Symbol dictionaries, custom tables and pattern dictionaries, to which later segments may refer
 //! by their numbers (T.88, 7.3).
 ghost use Rattle.std.specs.Prelude.{◌≡◌, Ok};
-ghost use Rattle.jbig2_base.specs.Answer.{Gives};
-ghost use Rattle.hayro_jbig2.specs.Names.{no_names, kept_under, named};
+ghost use Rattle.jbig2_base.specs.Results.{Gives};
+ghost use Rattle.hayro_jbig2.specs.Names.{no_names, kept_under, kept_of};
 ghost use Rattle.hayro_jbig2.specs.Regions.{patterns_for};
 ghost use Rattle.hayro_jbig2.specs.inner.KeptViews.{found, patterns_view, seen, symbols_view};
 
-use crate::kept::{Kept, named};
+use crate::kept::{Kept, kept_of};
 use jbig2_base::error::Result;
 use jbig2_coder::huffman_table::HuffmanTable;
 use jbig2_halftone::pattern::PatternDictionary;
@@ -140,28 +140,28 @@ pub(crate) struct Lookup<'a, A: Allocator> {
 impl<'a, A: Allocator> Lookup<'a, A> {
     pub(crate) fn symbols(&self, number: u32) -> Option<&'a SymbolDictionary<A>>
         ensures { found symbols_view result
-            ≡ named number self.now.own.now.symbols self.now.globals.now.symbols }
+            ≡ kept_of number self.now.own.now.symbols self.now.globals.now.symbols }
     {
         let own = self.own.symbols();
         let globals = self.globals.symbols();
-        named(own, globals, number)
+        kept_of(own, globals, number)
     }
 
     pub(crate) fn table(&self, number: u32) -> Option<&'a HuffmanTable<A>>
         ensures { found (λ code. code) result
-            ≡ named number self.now.own.now.codes self.now.globals.now.codes }
+            ≡ kept_of number self.now.own.now.codes self.now.globals.now.codes }
     {
         let own = self.own.tables();
         let globals = self.globals.tables();
-        named(own, globals, number)
+        kept_of(own, globals, number)
     }
 
     pub(crate) fn patterns(&self, number: u32) -> Option<&'a PatternDictionary<A>>
         ensures { found patterns_view result
-            ≡ named number self.now.own.now.patterns self.now.globals.now.patterns }
+            ≡ kept_of number self.now.own.now.patterns self.now.globals.now.patterns }
     {
         let own = self.own.patterns();
         let globals = self.globals.patterns();
-        named(own, globals, number)
+        kept_of(own, globals, number)
     }
 }

@@ -1,8 +1,8 @@
 //! How a page begins (T.88, 7.4.8), in each reading.
 ghost use Rattle.std.specs.Prelude.{◌≡◌, ◌≤◌, IfOk, min};
-ghost use Rattle.jbig2_base.specs.Answer.{Answers};
+ghost use Rattle.jbig2_base.specs.Results.{Returns};
 ghost use Rattle.jbig2_base.specs.inner.SegmentViews.{segment_view, segment_views};
-ghost use Rattle.hayro_jbig2.specs.Page.{beginning_of, end_of, is_immediate, region_height, region_type, regions_height, told_height};
+ghost use Rattle.hayro_jbig2.specs.Page.{beginning_of, end_of, is_immediate, region_height, region_type, regions_height, known_height};
 
 use jbig2_base::error::Result;
 use jbig2_base::page_info::{InitialPage, stripes_height};
@@ -70,8 +70,8 @@ fn regions_height<A: Allocator>(segments: &[Segment<'_, A>]) -> u32
 }
 
 /// How high a page with these segments is, where its page information leaves that open; 0 where nothing gives a height.
-fn told_height<A: Allocator>(reading: Reading, segments: &[Segment<'_, A>]) -> u32
-    ensures { result ≡ told_height reading (segment_views segments.now) }
+fn known_height<A: Allocator>(reading: Reading, segments: &[Segment<'_, A>]) -> u32
+    ensures { result ≡ known_height reading (segment_views segments.now) }
 {
     let stripes = stripes_height(segments);
     if stripes == 0 && matches!(reading, Reading::Salvage) {
@@ -87,10 +87,10 @@ pub(crate) fn beginning_of<A: Allocator>(
     reading: Reading,
     segments: &[Segment<'_, A>],
 ) -> Result<InitialPage>
-    ensures value { Answers (λ initial_page. initial_page) result
+    ensures value { Returns (λ initial_page. initial_page) result
         (beginning_of reading (segment_views segments.now)) }
     ensures fits { IfOk result
         (λ initial_page. (initial_page.width ≤ 65535) × (initial_page.height ≤ 65535)) }
 {
-    InitialPage::with_height(segments, told_height(reading, segments))
+    InitialPage::with_height(segments, known_height(reading, segments))
 }

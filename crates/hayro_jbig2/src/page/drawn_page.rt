@@ -1,7 +1,7 @@
 //! A page that was drawn, as packed rows.
 ghost use Rattle.std.specs.Prelude.{◌≡◌, ◌+◌, ◌≤◌, drop, false, length, take, true};
 ghost use Rattle.hayro_jbig2.specs.Image.{packed_of};
-ghost use Rattle.hayro_jbig2.specs.inner.Whole.{IsBegun};
+ghost use Rattle.hayro_jbig2.specs.inner.WholePages.{IsBlankPage};
 
 use crate::page::packed::write_packed;
 use jbig2_base::bitmap::Bitmap;
@@ -26,19 +26,19 @@ pub struct DrawnPage<'c, A: Allocator> {
 impl<'c, A: Allocator> Model for DrawnPage<'c, A> {
     ghost use Rattle.std.specs.Prelude.{List, ℕ, ◌≡◌, ◌≤◌, false, true};
     ghost use Rattle.hayro_jbig2.specs.Image.{packed_of};
-    ghost use Rattle.hayro_jbig2.specs.inner.Whole.{IsBegun};
+    ghost use Rattle.hayro_jbig2.specs.inner.WholePages.{IsBlankPage};
 
     ghost Value = { List ℕ };
 
     ghost view = { λ page. packed_of page.width page.height page.bitmap.now };
 
     ghost invariant = { λ page. (page.height ≤ 4294967295)
-        × (page.white ≡ true → IsBegun false page.bitmap.now) };
+        × (page.white ≡ true → IsBlankPage false page.bitmap.now) };
 }
 
 impl<'c, A: Allocator> DrawnPage<'c, A> {
     pub(crate) fn new(bitmap: &'c Bitmap<A>, white: bool) -> DrawnPage<'c, A>
-        requires { white ≡ true → IsBegun false bitmap.now }
+        requires { white ≡ true → IsBlankPage false bitmap.now }
         ensures { result ≡ packed_of bitmap.now.width bitmap.now.height bitmap.now }
     {
         DrawnPage {

@@ -2,7 +2,7 @@
 ghost use Rattle.std.specs.Prelude.{◌≡◌, ◌+◌, ◌-◌, ◌*◌, ◌<◌, ◌≤◌, length};
 ghost use Rattle.jbig2_base.specs.Bits.{bit};
 ghost use Rattle.hayro_jbig2.specs.Image.{image_of, shade};
-ghost use Rattle.hayro_jbig2.specs.inner.Puts.{Puts};
+ghost use Rattle.hayro_jbig2.specs.inner.BufferBytes.{Fills};
 ghost use Rattle.jbig2_steps.specs.Work.{CountsWithin, price_of_bitmap};
 
 use crate::page::calls::pixel_of;
@@ -25,7 +25,7 @@ fn shade(black: bool) -> u8
 fn put_shades(buf: &mut [u8], place: usize, count: usize, word: u64)
     requires few { count ≤ 64 }
     requires inside { place + count ≤ length buf.old }
-    ensures { Puts (λ i. shade (bit word (63 - i))) place count buf.old buf.new }
+    ensures { Fills (λ i. shade (bit word (63 - i))) place count buf.old buf.new }
 {
     for i in 0..count {
         buf[place + i] = shade(pixel_of(word, 63 - i as u32));

@@ -1,6 +1,6 @@
 //! How a page is handed out: as calls on a `Decoder`, as bytes, and as packed rows in a context.
 ghost use Rattle.std.specs.Prelude.{◌≡◌, ◌+◌, ◌-◌, ◌*◌, ◌<◌, ◌≤◌, Bool, IfErr, IfOk, IsTrue, OnErr, length, pos};
-ghost use Rattle.jbig2_base.specs.Answer.{Gives, Leaves};
+ghost use Rattle.jbig2_base.specs.Results.{Gives, Leaves};
 ghost use Rattle.jbig2_base.specs.Combination.{combined};
 ghost use Rattle.jbig2_base.specs.Grid.{Grid, blank};
 ghost use Rattle.jbig2_base.specs.Table.{IsTable};
@@ -8,7 +8,7 @@ ghost use Rattle.jbig2_base.specs.declared.bitmap.operator.CombinationOperator.{
 ghost use Rattle.hayro_jbig2.specs.Calls.{CallsAreFew, ChunksFit, DrawsGrid, calls_of, Decodes, IsCountable};
 ghost use Rattle.hayro_jbig2.specs.Context.{IsLeft, IsWithin};
 ghost use Rattle.hayro_jbig2.specs.Image.{image_of_page, packed_of_page, packed_size};
-ghost use Rattle.hayro_jbig2.specs.Page.{segments_drawn, drawing_of_page, grid_of_page, draws_over, page_begun, UntouchedIsBlank};
+ghost use Rattle.hayro_jbig2.specs.Page.{segments_drawn, drawing_of_page, grid_of_page, draws_over, blank_page, UntouchedIsBlank};
 ghost use Rattle.hayro_jbig2.specs.Returned.{IsReturned};
 ghost use Rattle.jbig2_steps.specs.Work.{IsWithinLimit, Paid, price_of_bitmap, worth};
 
@@ -319,7 +319,7 @@ impl<'a, A: Allocator + Clone> Page<'a, A> {
     ) -> Result<()>
         ensures value { Gives (λ _. canvas.new) result
             (segments_drawn self.now.reading globals.now self.now.segments
-            (page_begun self.now.initial_page)) }
+            (blank_page self.now.initial_page)) }
         ensures paid { Paid work.old work.new }
         ensures ahead { let page = self.now.initial_page in
             let price = price_of_bitmap page.width page.height in

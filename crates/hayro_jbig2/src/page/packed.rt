@@ -3,7 +3,7 @@ ghost use Rattle.std.specs.Prelude.{◌≡◌, ◌+◌, ◌-◌, ◌*◌, ◌/�
 ghost use Rattle.jbig2_base.specs.Bits.{bit};
 ghost use Rattle.jbig2_base.specs.Counts.{words_loaded};
 ghost use Rattle.hayro_jbig2.specs.Image.{packed_byte, packed_part, row_bytes};
-ghost use Rattle.hayro_jbig2.specs.inner.Puts.{top_byte, word_byte, Puts};
+ghost use Rattle.hayro_jbig2.specs.inner.BufferBytes.{top_byte, word_byte, Fills};
 ghost use Rattle.jbig2_steps.specs.Work.{counted};
 
 use crate::page::image::wrapped;
@@ -28,7 +28,7 @@ fn take_byte(word: &mut u64) -> u8
 fn put_bytes(buf: &mut [u8], place: usize, count: usize, word: u64)
     requires few { count ≤ 8 }
     requires inside { place + count ≤ length buf.old }
-    ensures { Puts (word_byte (bit word)) place count buf.old buf.new }
+    ensures { Fills (word_byte (bit word)) place count buf.old buf.new }
 {
     let mut rest = word;
     for i in 0..count {
@@ -54,7 +54,7 @@ fn put_rest<A: Allocator, L: Ledger>(
     ensures some { 1 ≤ result }
     ensures most { result ≤ most }
     ensures steps { steps.new ≡ words_loaded 1 steps.old }
-    ensures puts { Puts (λ i. packed_byte bitmap.now (column + i) y) place result buf.old buf.new }
+    ensures puts { Fills (λ i. packed_byte bitmap.now (column + i) y) place result buf.old buf.new }
 {
     let word = bitmap.load_pixels(8 * column as u32, y, 64, steps);
     let count = most.min(8 - column % 8);
@@ -77,7 +77,7 @@ fn put_words<A: Allocator, L: Ledger>(
     requires inside { place + most ≤ length buf.old }
     ensures most { result ≤ most }
     ensures steps { steps.new ≡ words_loaded (result / 8) steps.old }
-    ensures puts { Puts (λ i. packed_byte bitmap.now (column + i) y) place result buf.old buf.new }
+    ensures puts { Fills (λ i. packed_byte bitmap.now (column + i) y) place result buf.old buf.new }
 {
     if column % 8 != 0 || y >= bitmap.height() {
         return 0;

@@ -2,7 +2,7 @@
 ghost use Rattle.std.specs.Prelude.{IfOk};
 ghost use Rattle.jbig2_base.specs.inner.SegmentViews.{segment_view};
 ghost use Rattle.hayro_jbig2.specs.Regions.{generic_at};
-ghost use Rattle.hayro_jbig2.specs.inner.Parsed.{IsDecodable, Leads};
+ghost use Rattle.hayro_jbig2.specs.inner.ParsedRegions.{IsDecodable, DecodesTo};
 
 use crate::region::parsed_region::ParsedRegion;
 use crate::region::references::References;
@@ -19,7 +19,7 @@ pub(crate) fn parse_generic<'a, 'n, 'r, A: Allocator>(
     is_intermediate: bool,
     segment: &Segment<'a, A>,
 ) -> Result<ParsedRegion<'a, 'n, 'r, A>>
-    ensures value { Leads result (generic_at references.now.names.strict is_intermediate
+    ensures value { DecodesTo result (generic_at references.now.names.strict is_intermediate
         (segment_view segment.now)) }
     ensures parsed { IfOk result (λ region. IsDecodable region) }
 {

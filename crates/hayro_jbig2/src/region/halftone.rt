@@ -1,10 +1,10 @@
 //! Halftone regions of a page (T.88, 7.4.5).
 ghost use Rattle.std.specs.Prelude.{◌≡◌, ◌+◌, ◌*◌, IfErr, IfOk};
-ghost use Rattle.jbig2_base.specs.Answer.{Answers, some_or};
+ghost use Rattle.jbig2_base.specs.Results.{Returns, some_or};
 ghost use Rattle.jbig2_base.specs.inner.SegmentViews.{segment_view};
 ghost use Rattle.hayro_jbig2.specs.Regions.{halftone_at, patterns_for};
 ghost use Rattle.hayro_jbig2.specs.inner.KeptViews.{patterns_view};
-ghost use Rattle.hayro_jbig2.specs.inner.Parsed.{IsDecodable, Leads};
+ghost use Rattle.hayro_jbig2.specs.inner.ParsedRegions.{IsDecodable, DecodesTo};
 ghost use Rattle.hayro_jbig2.specs.Causes.{BreaksPatternReference};
 ghost use Rattle.jbig2_base.specs.Causes.{HasCause};
 ghost use Rattle.jbig2_steps.specs.Work.{Paid, worth};
@@ -31,7 +31,7 @@ fn referred_patterns<'a, A: Allocator>(
     lookup: &Lookup<'a, A>,
     numbers: &[u32],
 ) -> Result<&'a PatternDictionary<A>>
-    ensures value { Answers (λ patterns. patterns_view patterns.now) result
+    ensures value { Returns (λ patterns. patterns_view patterns.now) result
         (some_or (DecodeError.Segment SegmentError.MissingPatternDictionary)
         (patterns_for lookup.now.own.now lookup.now.globals.now numbers.now)) }
     ensures causes { HasCause result
@@ -51,7 +51,7 @@ pub(crate) fn parse_halftone<'a, 'n, 'r, A: Allocator>(
     references: &References<'n, 'r, '_, A>,
     segment: &Segment<'a, A>,
 ) -> Result<ParsedRegion<'a, 'n, 'r, A>>
-    ensures value { Leads result
+    ensures value { DecodesTo result
         (halftone_at references.now.names.strict references.now.names.own.now
         references.now.names.globals.now
         (segment_view segment.now)) }

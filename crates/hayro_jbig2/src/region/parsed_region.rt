@@ -1,9 +1,9 @@
 //! Regions whose headers were read (T.88, 7.4.3 and 7.4.5 to 7.4.7).
 ghost use Rattle.std.specs.Prelude.{◌≡◌, ◌≤◌, ◌+◌, ◌*◌, IfErr, IfOk};
-ghost use Rattle.jbig2_base.specs.Answer.{Gives};
+ghost use Rattle.jbig2_base.specs.Results.{Gives};
 ghost use Rattle.jbig2_base.specs.Grid.{blank};
 ghost use Rattle.jbig2_region.specs.inner.RegionViews.{region_view};
-ghost use Rattle.hayro_jbig2.specs.inner.Parsed.{IsDecodable, apart, drawn, info_of, initial_of};
+ghost use Rattle.hayro_jbig2.specs.inner.ParsedRegions.{IsDecodable, placed_region, drawn, info_of, initial_of};
 ghost use Rattle.hayro_jbig2.specs.inner.Prices.{counts_of, price_besides, price_of_info};
 ghost use Rattle.jbig2_steps.specs.Work.{Paid, PaidBut, price_of_bitmap, worth};
 
@@ -179,7 +179,7 @@ impl<'a, 'n, 'r, A: Allocator + Clone> ParsedRegion<'a, 'n, 'r, A> {
         work: &mut Work<L>,
     ) -> Result<DecodedRegion<A>>
         requires { IsDecodable self }
-        ensures value { Gives (λ region. region_view region) result (apart self.entry) }
+        ensures value { Gives (λ region. region_view region) result (placed_region self.entry) }
         ensures paid { Paid work.old work.new }
         ensures ahead { IfOk result (λ region. let page = region.bitmap in
             worth work.new + 32 * price_of_bitmap page.width page.height ≤ worth work.old) }

@@ -1,16 +1,16 @@
 //! Refinements on a page (T.88, 7.4.7).
 ghost use Rattle.std.specs.Prelude.{◌≡◌, ◌≤◌, ◌*◌, IfOk};
-ghost use Rattle.jbig2_base.specs.Answer.{Answers, Gives};
+ghost use Rattle.jbig2_base.specs.Results.{Returns, Gives};
 ghost use Rattle.jbig2_base.specs.inner.SegmentViews.{segment_view};
 ghost use Rattle.jbig2_region.specs.inner.RegionViews.{region_view};
 ghost use Rattle.jbig2_region.specs.Refinement.{refined_decoded};
 ghost use Rattle.jbig2_region.specs.RefinementHeader.{IsRefinement};
 ghost use Rattle.jbig2_region.specs.inner.RefinedViews.{header_view};
-ghost use Rattle.hayro_jbig2.specs.Names.{first_named};
+ghost use Rattle.hayro_jbig2.specs.Names.{first_kept};
 ghost use Rattle.hayro_jbig2.specs.Regions.{page_area, referred_region, refinement_at};
 ghost use Rattle.hayro_jbig2.specs.inner.KeptViews.{found, seen};
 ghost use Rattle.hayro_jbig2.specs.inner.PageViews.{near_area};
-ghost use Rattle.hayro_jbig2.specs.inner.Parsed.{IsDecodable, Leads};
+ghost use Rattle.hayro_jbig2.specs.inner.ParsedRegions.{IsDecodable, DecodesTo};
 ghost use Rattle.hayro_jbig2.specs.Causes.{BreaksRefinement};
 ghost use Rattle.jbig2_base.specs.Causes.{HasCauseOrNoMemory};
 ghost use Rattle.hayro_jbig2.specs.declared.kept.Kept.{Kept};
@@ -37,7 +37,7 @@ fn region_named<'a, A: Allocator>(
     regions: &'a [Kept<DecodedRegion<A>>],
     number: u32,
 ) -> Option<&'a DecodedRegion<A>>
-    ensures { found region_view result ≡ first_named number (seen region_view regions.now) }
+    ensures { found region_view result ≡ first_kept number (seen region_view regions.now) }
 {
     first_under(regions, number)
 }
@@ -49,7 +49,7 @@ fn referred_region<'a, A: Allocator>(
     numbers: &[u32],
     regions: &'a [Kept<DecodedRegion<A>>],
 ) -> Result<Option<&'a DecodedRegion<A>>>
-    ensures { Answers (λ r. found region_view r) result
+    ensures { Returns (λ r. found region_view r) result
         (referred_region strict numbers.now (seen region_view regions.now)) }
 {
     let Some(number) = numbers.first() else {
@@ -103,7 +103,7 @@ fn parse_page_refinement<'a, 'n, 'r, A: Allocator + Clone, L: Ledger>(
     work: &mut Work<L>,
 ) -> Result<ParsedRegion<'a, 'n, 'r, A>>
     requires parsed { IsRefinement (header_view header) }
-    ensures value { Leads result
+    ensures value { DecodesTo result
         (refined_decoded (header_view header.entry)
         (page_area references.now.page.now header.entry.region_info)) }
     ensures parsed { IfOk result (λ region. IsDecodable region) }
@@ -129,7 +129,7 @@ pub(crate) fn parse_refinement<'a, 'n, 'r, A: Allocator + Clone, L: Ledger>(
     workspace: &Workspace<A>,
     work: &mut Work<L>,
 ) -> Result<ParsedRegion<'a, 'n, 'r, A>>
-    ensures value { Leads result
+    ensures value { DecodesTo result
         (refinement_at references.now.names.strict is_intermediate references.now.page.now
         (seen region_view references.now.regions.now) (segment_view segment.now)) }
     ensures parsed { IfOk result (λ region. IsDecodable region) }

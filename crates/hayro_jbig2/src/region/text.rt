@@ -2,7 +2,7 @@
 ghost use Rattle.std.specs.Prelude.{IfOk};
 ghost use Rattle.jbig2_base.specs.inner.SegmentViews.{segment_view};
 ghost use Rattle.hayro_jbig2.specs.Regions.{text_at};
-ghost use Rattle.hayro_jbig2.specs.inner.Parsed.{IsDecodable, Leads};
+ghost use Rattle.hayro_jbig2.specs.inner.ParsedRegions.{IsDecodable, DecodesTo};
 
 use crate::drawing::workspace::Workspace;
 use crate::kept::referred::gather_referred;
@@ -21,7 +21,7 @@ pub(crate) fn parse_text<'a, 'n, 'r, A: Allocator + Clone>(
     segment: &Segment<'a, A>,
     workspace: &Workspace<A>,
 ) -> Result<ParsedRegion<'a, 'n, 'r, A>>
-    ensures value { Leads result
+    ensures value { DecodesTo result
         (text_at references.now.names.strict references.now.names.own.now
         references.now.names.globals.now
         (segment_view segment.now)) }

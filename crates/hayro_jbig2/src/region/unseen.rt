@@ -2,7 +2,7 @@
 ghost use Rattle.std.specs.Prelude.{◌≡◌, ◌≤◌, ◌<◌, ◌-ℤ◌, ℕ, pos};
 ghost use Rattle.std.specs.Int.{w32, cast_signed};
 ghost use Rattle.hayro_jbig2.specs.Page.{Drawing, shown};
-ghost use Rattle.hayro_jbig2.specs.inner.Parsed.{IsDecodable, apart};
+ghost use Rattle.hayro_jbig2.specs.inner.ParsedRegions.{IsDecodable, placed_region};
 
 use crate::region::parsed_region::ParsedRegion;
 use jbig2_region::region_info::RegionSegmentInfo;
@@ -31,7 +31,7 @@ impl<'a, 'n, 'r, A: Allocator + Clone> ParsedRegion<'a, 'n, 'r, A> {
         requires { IsDecodable self }
         ensures decodable { IsDecodable result }
         ensures shown { (d : Drawing) → d.grid.height ≡ page_height →
-            shown d (apart result) ≡ shown d (apart self.entry) }
+            shown d (placed_region result) ≡ shown d (placed_region self.entry) }
     {
         match self {
             ParsedRegion::Generic { mut header } => {

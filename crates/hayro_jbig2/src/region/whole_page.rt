@@ -1,10 +1,10 @@
 //! Regions that fill a whole page by themselves. They are decoded directly into the page's bitmap.
 ghost use Rattle.std.specs.Prelude.{◌≡◌, ◌⊎◌, true, false, IfErr};
-ghost use Rattle.jbig2_base.specs.Answer.{Gives};
+ghost use Rattle.jbig2_base.specs.Results.{Gives};
 ghost use Rattle.jbig2_base.specs.declared.error.DecodeError.TheVariants.{OutOfMemory};
 ghost use Rattle.hayro_jbig2.specs.Page.{draws_over};
-ghost use Rattle.hayro_jbig2.specs.inner.Parsed.{IsDecodable, drawn, info_of, initial_of};
-ghost use Rattle.hayro_jbig2.specs.inner.Whole.{IsBegun, IsWhole};
+ghost use Rattle.hayro_jbig2.specs.inner.ParsedRegions.{IsDecodable, drawn, info_of, initial_of};
+ghost use Rattle.hayro_jbig2.specs.inner.WholePages.{IsBlankPage, IsWhole};
 ghost use Rattle.jbig2_steps.specs.Work.{Paid};
 
 use crate::drawing::canvas::Canvas;
@@ -29,7 +29,7 @@ fn draws_over_white(operator: CombinationOperator) -> bool
 impl<A: Allocator> Canvas<A> {
     /// Whether the page is still white.
     pub(crate) fn is_white(&self) -> bool
-        ensures { result ≡ true → IsBegun false self.now.grid }
+        ensures { result ≡ true → IsBlankPage false self.now.grid }
     {
         if !self.untouched || self.default_pixel {
             return false;
@@ -42,7 +42,7 @@ impl<'a, 'n, 'r, A: Allocator + Clone> ParsedRegion<'a, 'n, 'r, A> {
     /// Whether drawing the region on a white page gives exactly the region. It must begin white and
     /// have the page's size and place, and its operator must draw over white.
     pub(crate) fn makes_up(&self, page: &Bitmap<A>) -> bool
-        ensures { result ≡ true → IsBegun false page.now →
+        ensures { result ≡ true → IsBlankPage false page.now →
             IsWhole (info_of self.now) (initial_of self.now) page.now }
     {
         if self.initial_pixel() {

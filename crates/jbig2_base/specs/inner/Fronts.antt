@@ -4,7 +4,7 @@ use Rattle.std.specs.Int.{w8}
 use Rattle.jbig2_base.specs.Fields.{bytes_at, number_at}
 use Rattle.jbig2_base.specs.Segment.{adaptive_bytes}
 use Rattle.jbig2_base.specs.declared.error.DecodeError.{DecodeError}
-use Rattle.jbig2_base.specs.Answer.{◌>>=◌}
+use Rattle.jbig2_base.specs.Results.{◌>>=◌}
 
 -- a generic region's flags, and the bytes after its adaptive pixels
 unfoldable pub coded_front_at : List ℕ → Result (ℕ × List ℕ) DecodeError

@@ -1,6 +1,6 @@
 //! How a region is combined with the bitmap below it (T.88, 7.4.1.5).
 ghost use Rattle.std.specs.Prelude.{◌≡◌, ◌%◌, Ok};
-ghost use Rattle.jbig2_base.specs.Answer.{Answers};
+ghost use Rattle.jbig2_base.specs.Results.{Returns};
 ghost use Rattle.jbig2_base.specs.Causes.{HasCause, BreaksOperator};
 ghost use Rattle.jbig2_base.specs.Combination.{operator_of};
 
@@ -35,7 +35,7 @@ impl CombinationOperator {
     #[tactic(auto, using(crate::proofs::PageCauses::operator_cause))]
     pub fn from_value(value: u8) -> Result<CombinationOperator>
         ensures causes { HasCause result (BreaksOperator (value % 8)) }
-        ensures value { Answers (λ operator. operator) result (operator_of (value % 8)) }
+        ensures value { Returns (λ operator. operator) result (operator_of (value % 8)) }
     {
         match value % 8 {
             0 => Ok(CombinationOperator::Or),

@@ -1,7 +1,7 @@
 //! Cuts parts out of bitmaps: the symbols of a collective bitmap (T.88, 6.5.9), the patterns of a
 //! collective bitmap (6.7.5), and the area of the page that a refinement takes (7.4.7.4).
 ghost use Rattle.std.specs.Prelude.{◌≡◌, ◌+◌, ◌/◌, ◌<◌, ◌≤◌, OnErr, OnOk};
-ghost use Rattle.jbig2_base.specs.Answer.{Gives};
+ghost use Rattle.jbig2_base.specs.Results.{Gives};
 ghost use Rattle.jbig2_base.specs.Counts.{words_copied, words_of};
 ghost use Rattle.jbig2_base.specs.Grid.{part_of, part_or_overflow};
 ghost use Rattle.jbig2_base.specs.inner.Filled.{filled, pixel_of_part};

@@ -1,7 +1,7 @@
 //! Rows of pixels packed into words. Only this module knows the size of a word. It reads and writes words only by the
 //! calls of `words`.
 ghost use Rattle.std.specs.Prelude.{◌≡◌, ℕ, ◌+◌, ◌-◌, ◌*◌, ◌/◌, ◌%◌, ◌^◌, ◌<◌, ◌≤◌, ◌&&◌, nat_lt, OnErr, Ok, false, length, slice_index};
-ghost use Rattle.jbig2_base.specs.Answer.{Gives};
+ghost use Rattle.jbig2_base.specs.Results.{Gives};
 ghost use Rattle.jbig2_base.specs.Counts.{words_copied};
 ghost use Rattle.jbig2_base.specs.{Counts.{words_of}, Grid.{blank, pixel_at, bit_number}};
 ghost use Rattle.jbig2_base.specs.Blocks.{LiesOn, CombinesBlock};

@@ -1,7 +1,7 @@
 //! Finds the end of data of unknown length (T.88, 7.2.7).
 ghost use Rattle.std.specs.Prelude.{◌≡◌, ◌+◌, ◌≤◌, length, IfOk, None};
 ghost use Rattle.std.specs.Bool.{OnTrue};
-ghost use Rattle.jbig2_base.specs.Answer.{Answers};
+ghost use Rattle.jbig2_base.specs.Results.{Returns};
 ghost use Rattle.jbig2_base.specs.Bits.{IsAligned};
 ghost use Rattle.jbig2_base.specs.Causes.{HasCause, BreaksData};
 ghost use Rattle.jbig2_base.specs.Segment.{adaptive_bytes, is_end_marker, first_end_marker, unknown_length_of};
@@ -39,7 +39,7 @@ fn is_end_marker(flags: u8, bytes: &[u8]) -> bool
 
 /// The place of the first end marker in `bytes`.
 fn first_end_marker(flags: u8, bytes: &[u8]) -> Result<usize>
-    ensures value { Answers (λ place. place) result (first_end_marker flags bytes.now) }
+    ensures value { Returns (λ place. place) result (first_end_marker flags bytes.now) }
     ensures inside { IfOk result (λ place. place + 6 ≤ length bytes.now) }
 {
     for place in 0..bytes.len() {
@@ -54,7 +54,7 @@ fn first_end_marker(flags: u8, bytes: &[u8]) -> Result<usize>
 #[tactic(auto, unfolding(crate::specs::inner::Fronts::coded_front_at))]
 fn coded_front(reader: &mut Reader<'_>) -> Result<u8>
     requires { IsAligned reader.old }
-    ensures value { Answers (λ flags. (flags, reader.new.bytes)) result
+    ensures value { Returns (λ flags. (flags, reader.new.bytes)) result
         (coded_front_at reader.old.bytes) }
     ensures length { IfOk result
         (λ flags. length reader.new.bytes + 18 + adaptive_bytes flags ≡ length reader.old.bytes) }
@@ -71,7 +71,7 @@ fn coded_front(reader: &mut Reader<'_>) -> Result<u8>
 #[tactic(auto, using(crate::proofs::DataCauses::unknown_cause))]
 pub(super) fn unknown_length(bytes: &[u8]) -> Result<usize>
     ensures causes { HasCause result (BreaksData None bytes.now) }
-    ensures value { Answers (λ n. n) result (unknown_length_of bytes.now) }
+    ensures value { Returns (λ n. n) result (unknown_length_of bytes.now) }
 {
     let mut reader = Reader::new(bytes);
     let flags = coded_front(&mut reader)?;

@@ -1,7 +1,7 @@
 -- Parts of the definitions of prefix codes and of custom tables (T.88, B.2 to B.4), each with a name of its own.
 use Rattle.std.specs.Prelude.{ℕ, ◌+◌, ◌≤◌, ◌<◌, nat_lt, Bool, not, ◌||◌, List, [], ◌∷◌, length, drop, Option, Some}
 use Rattle.std.specs.Prelude.{None, is_some, Result, Ok, Err, if◌then◌else◌, ℤ}
-use Rattle.jbig2_base.specs.Answer.{◌>>=◌}
+use Rattle.jbig2_base.specs.Results.{◌>>=◌}
 use Rattle.jbig2_base.specs.Bits.{Place, bits_next}
 use Rattle.jbig2_base.specs.declared.error.DecodeError.{DecodeError}
 use Rattle.jbig2_base.specs.declared.error.DecodeError.TheVariants.{Parse, Huffman}
@@ -19,15 +19,15 @@ abbrev pub code_of : ℕ → List TableLine → List TableLine → ℕ
 code_of l lines earlier = shorter l lines + length (level l earlier)
 
 abbrev pub ended : {A : Type 0} → ℕ → CodeReading A
-ended k = record { answer = Err (Parse UnexpectedEof); taken = k }
+ended k = record { result = Err (Parse UnexpectedEof); taken = k }
 
 abbrev pub refused : {A : Type 0} → ℕ → CodeReading A
-refused k = record { answer = Err (Huffman InvalidCode); taken = k }
+refused k = record { result = Err (Huffman InvalidCode); taken = k }
 
 -- the line that was found, or else another reading
 abbrev pub found_or : Option TableLine → ℕ → CodeReading TableLine → CodeReading TableLine
 found_or line k other = elim line [
-  | Some found ↦ record { answer = Ok found; taken = k }
+  | Some found ↦ record { result = Ok found; taken = k }
   | None ↦ other
 ]
 
@@ -53,9 +53,9 @@ range_bits line = if line.is_out_of_band then 0 else line.range_length
 -- the value of a code's line, after the bits of the code
 abbrev pub valued : CodeReading TableLine → List ℕ → CodeReading (Option ℤ)
 valued reading bits =
-    elim reading.answer [
-      | Ok line ↦ record { answer = value_after line (drop reading.taken bits); taken = reading.taken + range_bits line }
-      | Err e ↦ record { answer = Err e; taken = reading.taken }
+    elim reading.result [
+      | Ok line ↦ record { result = value_after line (drop reading.taken bits); taken = reading.taken + range_bits line }
+      | Err e ↦ record { result = Err e; taken = reading.taken }
     ]
 
 -- a header with widths that its flags can give

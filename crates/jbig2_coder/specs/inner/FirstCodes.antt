@@ -10,7 +10,7 @@ use Rattle.jbig2_coder.specs.inner.PrefixLevels.{walk, walk_of, groups_of, nodes
 -- The bits of v begin with this code, whatever bits come after.
 pub record Begins (lines : List TableLine) (levels : List Level) (v : ℕ) (code : FirstCode) : Type 0 where
   pub inside : code.line < length lines
-  pub walks : (more : List ℕ) (x : TableLine) → walk_of lines levels 0 (byte_bits v ++ more) ≡ record { answer = Ok (slice_index_or lines code.line x); taken = code.length }
+  pub walks : (more : List ℕ) (x : TableLine) → walk_of lines levels 0 (byte_bits v ++ more) ≡ record { result = Ok (slice_index_or lines code.line x); taken = code.length }
 
 -- each code that is entered for a byte begins it
 abbrev pub AreRight : List TableLine → List Level → List FirstCode → Type 0

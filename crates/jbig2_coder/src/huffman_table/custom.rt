@@ -1,7 +1,7 @@
 //! Reads the lines of a custom table (T.88, B.2).
 ghost use Rattle.std.specs.Prelude.{◌≡◌, ◌+◌, ◌≤◌, ◌<◌, ◌^◌, drop, length, OnOk, IfOk};
 ghost use Rattle.jbig2_base.specs.Bits.{bits_left, bits_on};
-ghost use Rattle.jbig2_coder.specs.CustomTable.{left_at, next_low, custom_header, custom_line, range_lines, end_lines, behind, custom_lines, GivesAt};
+ghost use Rattle.jbig2_coder.specs.CustomTable.{left_at, next_low, custom_header, custom_line, range_lines, end_lines, concat, custom_lines, GivesAt};
 ghost use Rattle.jbig2_coder.specs.inner.CodeParts.{HasWidths};
 ghost use Rattle.jbig2_coder.specs.PrefixCode.{AreShort};
 
@@ -109,7 +109,7 @@ fn push_end_lines<A: Allocator>(
     requires widths { HasWidths header.now }
     requires short { AreShort lines.old.items }
     ensures lines { GivesAt (λ _. lines.new.items) result reader.new
-        (behind lines.old.items (end_lines header.now reader.old)) }
+        (concat lines.old.items (end_lines header.now reader.old)) }
     ensures short { OnOk result (AreShort lines.new.items) }
 {
     let lower = bits_field(

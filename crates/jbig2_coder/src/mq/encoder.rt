@@ -2,7 +2,7 @@
 
 ghost use Rattle.std.specs.Prelude.{◌≡◌, ℕ, ◌+◌, ◌-◌, ◌*◌, ◌/◌, ◌%◌, ◌^◌, ◌<◌, ◌≤◌, ◌∷◌, [], reverse, vec_len, IfOk, IfErr, OnOk, Ok, MatchOption, drop};
 ghost use Rattle.std.specs.Bool.{OnFalse};
-ghost use Rattle.jbig2_base.specs.Answer.{Gives};
+ghost use Rattle.jbig2_base.specs.Results.{Gives};
 ghost use Rattle.jbig2_base.specs.declared.error.DecodeError.TheVariants.{OutOfMemory};
 ghost use Rattle.jbig2_coder.specs.Encoder.{opened, plain, stuffed, byte_out, shifted, renormed, narrowed, encoding, set_bits, flushed, is_full, closed};
 ghost use Rattle.jbig2_coder.specs.inner.EncoderViews.{writer_of, coding_of, HasRoom};

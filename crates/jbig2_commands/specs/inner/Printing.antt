@@ -9,12 +9,12 @@ use Rattle.jbig2_base.specs.declared.error.DecodeError.TheVariants.{OutOfMemory,
 use Rattle.jbig2_commands.specs.declared.output.Output.{Output}
 
 -- the bytes of the output and then those that are not yet written, where the first are known
-abbrev pub told : {O A : Type 0} → (O → Option (List ℕ)) → Output O A → Option (List ℕ)
-told contents output = append_known (contents output.out.now) output.held.items
+abbrev pub data_of : {O A : Type 0} → (O → Option (List ℕ)) → Output O A → Option (List ℕ)
+data_of contents output = append_known (contents output.out.now) output.held.items
 
 -- which output it is
-abbrev pub whose : {O A : Type 0} → Output O A → GName
-whose output = output.out.ghost_name
+abbrev pub output_id : {O A : Type 0} → Output O A → GName
+output_id output = output.out.ghost_name
 
 -- all of the bytes are added, or nothing changes
 abbrev pub Pushes : Bool → Option (List ℕ) → Option (List ℕ) → List ℕ → Type 0
@@ -38,7 +38,7 @@ refusals_if true None count = 2 ^ 64 - 1
 refusals_if _ known count = count
 
 -- Decoding alone adds what was meant, as `Prints` has it, where no output fails.
-abbrev pub Tells : Result (List ℕ) DecodeError → Result (Unit {0}) DecodeError → Option (List ℕ) → Option (List ℕ) → Type 0
-Tells (Ok bytes) (Ok u) old new = Appends old new bytes
-Tells (Err e) (Ok u) old new = ⊥
-Tells meant (Err e) old new = ((e ≡ OutOfMemory) ⊎ (meant ≡ Err e)) × Keeps old new
+abbrev pub Adds : Result (List ℕ) DecodeError → Result (Unit {0}) DecodeError → Option (List ℕ) → Option (List ℕ) → Type 0
+Adds (Ok bytes) (Ok u) old new = Appends old new bytes
+Adds (Err e) (Ok u) old new = ⊥
+Adds meant (Err e) old new = ((e ≡ OutOfMemory) ⊎ (meant ≡ Err e)) × Keeps old new

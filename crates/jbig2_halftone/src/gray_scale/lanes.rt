@@ -2,7 +2,7 @@
 ghost use Rattle.std.specs.Prelude.{◌≡◌, ◌^◌, ◌<◌, length};
 ghost use Rattle.std.specs.List.{All};
 ghost use Rattle.jbig2_halftone.specs.inner.NextValues.{TakesPlane};
-ghost use Rattle.jbig2_halftone.specs.inner.Stages.{after_lanes};
+ghost use Rattle.jbig2_halftone.specs.inner.FunctionResults.{after_lanes};
 
 use crate::gray_scale::groups::{LANES, next_group, next_pixel};
 use jbig2_base::bitmap::Bitmap;

@@ -1,17 +1,17 @@
 //! The coded planes of a gray-scale image, the highest first (T.88, C.5).
 ghost use Rattle.std.specs.Prelude.{◌≡◌, ◌+◌, ◌*◌, ◌^◌, ◌≤◌, false, length, IfOk, OnOk, OnErr};
-ghost use Rattle.jbig2_base.specs.Answer.{Gives, Leaves};
+ghost use Rattle.jbig2_base.specs.Results.{Gives, Leaves};
 ghost use Rattle.jbig2_base.specs.Counts.{KeepsLanes};
 ghost use Rattle.jbig2_base.specs.Grid.{blank};
 ghost use Rattle.jbig2_mmr.specs.Steps.{MovesWithin};
 ghost use Rattle.jbig2_region.specs.Raster.{fresh_contexts, no_pixels};
 ghost use Rattle.jbig2_region.specs.Templates.{context_bits};
 ghost use Rattle.jbig2_region.specs.inner.PixelArrays.{four_pixels};
-ghost use Rattle.jbig2_region.specs.inner.Holds.{DecodesRegion};
+ghost use Rattle.jbig2_region.specs.inner.RegionStates.{DecodesRegion};
 ghost use Rattle.jbig2_halftone.specs.GrayScale.{nominal_pixels, planes_of, after_planes, image_is_too_large, mmr_plane};
 ghost use Rattle.jbig2_halftone.specs.Steps.{CountsRead, StopsImage, words_of_plane};
 ghost use Rattle.jbig2_halftone.specs.inner.HalftoneViews.{gray_view};
-ghost use Rattle.jbig2_halftone.specs.inner.Stages.{plane_coding, planes_by_coder, planes_by_mmr, planes_contexts, CountsCoded, CountsMmr, CountsOne, StopsCoded};
+ghost use Rattle.jbig2_halftone.specs.inner.FunctionResults.{plane_coding, planes_by_coder, planes_by_mmr, planes_contexts, CountsCoded, CountsMmr, CountsOne, StopsCoded};
 
 use crate::gray_scale::GrayScaleParams;
 use jbig2_base::bitmap::Bitmap;

@@ -3,7 +3,7 @@ ghost use Rattle.std.specs.Prelude.{◌≡◌, ◌*◌, ◌≤◌, [], length, s
 ghost use Rattle.std.specs.List.{All};
 ghost use Rattle.jbig2_halftone.specs.GrayScale.{gray_values};
 ghost use Rattle.jbig2_halftone.specs.inner.NextValues.{row_values};
-ghost use Rattle.jbig2_halftone.specs.inner.Stages.{after_lane_rows};
+ghost use Rattle.jbig2_halftone.specs.inner.FunctionResults.{after_lane_rows};
 
 use crate::gray_scale::lanes::add_row;
 use jbig2_base::bitmap::Bitmap;

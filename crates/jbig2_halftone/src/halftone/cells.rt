@@ -1,7 +1,7 @@
 //! The places of the cells of a halftone region's grid (T.88, 6.6.5.1 and 6.6.5.2).
 ghost use Rattle.std.specs.Prelude.{◌≡◌, pos, ◌+ℤ◌, ◌-ℤ◌, ◌||◌, FitsSigned};
 ghost use Rattle.std.specs.Int.{w32, w64, int_shr};
-ghost use Rattle.jbig2_halftone.specs.Halftone.{is_apart};
+ghost use Rattle.jbig2_halftone.specs.Halftone.{is_beyond};
 ghost use Rattle.jbig2_halftone.specs.inner.HalftoneHeaderViews.{header_view};
 ghost use Rattle.jbig2_halftone.specs.inner.CellPlaces.{x_of, y_of};
 
@@ -68,8 +68,8 @@ pub fn whole_pixels(place: i64) -> i32
 /// Whether a pattern of this size at this place, in 256ths of a pixel, has no pixel in a region of
 /// `room` pixels, along one axis.
 #[inline(always)]
-fn is_apart(place: i64, size: u32, room: u32) -> bool
-    ensures { result ≡ is_apart (int_shr place 8) size room }
+fn is_beyond(place: i64, size: u32, room: u32) -> bool
+    ensures { result ≡ is_beyond (int_shr place 8) size room }
 {
     let pixels = place >> 8;
     pixels + i64::from(size) <= 0 || i64::from(room) <= pixels
@@ -79,8 +79,8 @@ fn is_apart(place: i64, size: u32, room: u32) -> bool
 /// this many columns and rows (T.88, 6.6.5.1).
 #[inline(always)]
 pub fn lies_outside(place: CellPlace, width: u32, height: u32, columns: u32, rows: u32) -> bool
-    ensures { result ≡ (is_apart (int_shr place.x 8) width columns
-        || is_apart (int_shr place.y 8) height rows) }
+    ensures { result ≡ (is_beyond (int_shr place.x 8) width columns
+        || is_beyond (int_shr place.y 8) height rows) }
 {
-    is_apart(place.x, width, columns) || is_apart(place.y, height, rows)
+    is_beyond(place.x, width, columns) || is_beyond(place.y, height, rows)
 }

@@ -1,6 +1,6 @@
 //! Headers of halftone regions (T.88, 7.4.5).
 ghost use Rattle.std.specs.Prelude.{◌≡◌, ◌≤◌, IfOk, OnErr, Bool};
-ghost use Rattle.jbig2_base.specs.Answer.{Answers};
+ghost use Rattle.jbig2_base.specs.Results.{Returns};
 ghost use Rattle.jbig2_base.specs.Bits.{IsAligned};
 ghost use Rattle.jbig2_base.specs.Fields.{signed_at};
 ghost use Rattle.jbig2_halftone.specs.HalftoneHeader.{halftone_flags_at, halftone_grid_at, halftone_header_at};
@@ -70,7 +70,7 @@ pub struct HalftoneRegionHeader<'a> {
 #[tactic(auto, unfolding(crate::specs::HalftoneHeader::halftone_flags_at))]
 fn parse_flags(reader: &mut Reader<'_>) -> Result<HalftoneRegionFlags>
     requires { IsAligned reader.old }
-    ensures value { Answers (λ flags. (flags, reader.new.bytes)) result
+    ensures value { Returns (λ flags. (flags, reader.new.bytes)) result
         (halftone_flags_at reader.old.bytes) }
     ensures aligned { IsAligned reader.new }
 {
@@ -88,7 +88,7 @@ fn parse_flags(reader: &mut Reader<'_>) -> Result<HalftoneRegionFlags>
 #[tactic(auto, unfolding(crate::specs::HalftoneHeader::halftone_grid_at))]
 fn parse_grid(reader: &mut Reader<'_>) -> Result<HalftoneGridPositionAndSize>
     requires { IsAligned reader.old }
-    ensures value { Answers (λ grid. (grid, reader.new.bytes)) result
+    ensures value { Returns (λ grid. (grid, reader.new.bytes)) result
         (halftone_grid_at reader.old.bytes) }
     ensures aligned { IsAligned reader.new }
     ensures columns { IfOk result (λ grid. grid.width ≤ 65535) }
@@ -119,7 +119,7 @@ fn parse_grid(reader: &mut Reader<'_>) -> Result<HalftoneGridPositionAndSize>
 #[tactic(auto, unfolding(crate::specs::HalftoneHeader::halftone_header_at))]
 pub fn parse<'a>(reader: &mut Reader<'a>, strict: bool) -> Result<HalftoneRegionHeader<'a>>
     requires { IsAligned reader.old }
-    ensures value { Answers (λ h. (header_view h, reader.new.bytes)) result
+    ensures value { Returns (λ h. (header_view h, reader.new.bytes)) result
         (halftone_header_at strict reader.old.bytes) }
     ensures aligned { IsAligned reader.new }
     ensures columns { IfOk result (λ h. h.grid_position_and_size.width ≤ 65535) }

@@ -11,7 +11,7 @@ use Rattle.jbig2_mmr.specs.inner.T6Reading.{IsTurn, IsRow}
 
 -- a place in a row, as the definition has it
 abbrev pub head_of : Place → Head
-head_of p = record { a0 = p.a0; begun = p.begun; black = p.black }
+head_of p = record { a0 = p.a0; past_start = p.past_start; black = p.black }
 
 -- a word of a row and its changes to either colour; the left neighbour of its first pixel is taken as white
 pub record IsWordOf (row : ℕ → Bool) (w : RowWord) : Type 0 where

@@ -74,7 +74,7 @@ pub record IsSpan (old new : Grid) (y from to : ℕ) (black : Bool) : Type 0 whe
 
 -- From the head on, the added changes keep the colour up to `turn`, and change it from there up to a0 of the next head.
 pub record IsTurn (w : ℕ) (h : Head) (added : List ℕ) (turn : ℕ) (next : Head) : Type 0 where
-  pub begun : next.begun ≡ true
+  pub past_start : next.past_start ≡ true
   pub forward : h.a0 ≤ turn
   pub ordered : turn ≤ next.a0
   pub inside : next.a0 ≤ w

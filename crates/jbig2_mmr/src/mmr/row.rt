@@ -23,7 +23,7 @@ use std::sync::ledger::Ledger;
 #[derive(Clone, Copy)]
 pub struct Place {
     a0: u32,
-    begun: bool,
+    past_start: bool,
     black: bool,
 }
 
@@ -58,7 +58,7 @@ pub fn read_row<A: Allocator, L: Ledger>(
     let mut word = RowWord::load(bitmap, above, 0, steps);
     let mut place = Place {
         a0: 0,
-        begun: false,
+        past_start: false,
         black: false,
     };
     while place.a0 < width {
@@ -72,7 +72,7 @@ pub fn read_row<A: Allocator, L: Ledger>(
                 }
                 place = Place {
                     a0: turn.next.a0,
-                    begun: true,
+                    past_start: true,
                     black: turn.next.black,
                 };
             }
@@ -105,7 +105,7 @@ fn read_turn<A: Allocator, L: Ledger>(
     steps: &mut Steps<L>,
 ) -> Option<Turn>
     requires column { place.a0 < bitmap.now.width }
-    requires first { place.begun ≡ false → place.a0 ≡ 0 }
+    requires first { place.past_start ≡ false → place.a0 ≡ 0 }
     requires word { IsWordOf (row_of bitmap.now above) word }
     requires index { word.index ≡ place.a0 / 64 }
     ensures value { ReadStep bitmap.now.width (head_of place)
@@ -133,7 +133,7 @@ fn pass<A: Allocator, L: Ledger>(
     steps: &mut Steps<L>,
 ) -> Turn
     requires column { place.a0 < bitmap.now.width }
-    requires first { place.begun ≡ false → place.a0 ≡ 0 }
+    requires first { place.past_start ≡ false → place.a0 ≡ 0 }
     requires word { IsWordOf (row_of bitmap.now above) word }
     requires index { word.index ≡ place.a0 / 64 }
     ensures value { (bits : List ℕ) → ReadStep bitmap.now.width (head_of place)
@@ -149,7 +149,7 @@ fn pass<A: Allocator, L: Ledger>(
     }
     let turned = Place {
         a0: b1,
-        begun: true,
+        past_start: true,
         black: !place.black,
     };
     let word = word.at(bitmap, above, b1, steps);
@@ -161,14 +161,14 @@ fn pass<A: Allocator, L: Ledger>(
 fn passed(b2: u32, black: bool) -> Turn
     ensures { result ≡ record {
       turn = b2;
-      next = record { a0 = b2; begun = true; black = black };
+      next = record { a0 = b2; past_start = true; black = black };
     } }
 {
     Turn {
         turn: b2,
         next: Place {
             a0: b2,
-            begun: true,
+            past_start: true,
             black,
         },
     }
@@ -189,7 +189,7 @@ fn horizontal(reader: &mut CodeReader, place: Place, width: u32) -> Option<Turn>
         turn,
         next: Place {
             a0,
-            begun: true,
+            past_start: true,
             black: place.black,
         },
     })
@@ -206,7 +206,7 @@ fn vertical<A: Allocator, L: Ledger>(
     steps: &mut Steps<L>,
 ) -> Option<Turn>
     requires column { place.a0 < bitmap.now.width }
-    requires first { place.begun ≡ false → place.a0 ≡ 0 }
+    requires first { place.past_start ≡ false → place.a0 ≡ 0 }
     requires word { IsWordOf (row_of bitmap.now above) word }
     requires index { word.index ≡ place.a0 / 64 }
     ensures value { (bits : List ℕ) → ReadStep bitmap.now.width (head_of place)
@@ -227,7 +227,7 @@ fn vertical<A: Allocator, L: Ledger>(
         turn: a1,
         next: Place {
             a0: a1,
-            begun: true,
+            past_start: true,
             black: !place.black,
         },
     })
@@ -244,7 +244,7 @@ fn find_b1<A: Allocator, L: Ledger>(
     steps: &mut Steps<L>,
 ) -> u32
     requires column { place.a0 < bitmap.now.width }
-    requires first { place.begun ≡ false → place.a0 ≡ 0 }
+    requires first { place.past_start ≡ false → place.a0 ≡ 0 }
     requires word { IsWordOf (row_of bitmap.now above) word }
     requires index { word.index ≡ place.a0 / 64 }
     ensures value { result ≡ b1_of bitmap.now.width (row_of bitmap.now above) (head_of place) }
@@ -272,10 +272,10 @@ fn find_b1<A: Allocator, L: Ledger>(
 /// The bits of a0's word where b1 may lie: those right of a0, or all before the first mode.
 #[inline(always)]
 fn right_of(place: Place) -> u64
-    requires { place.begun ≡ false → place.a0 ≡ 0 }
+    requires { place.past_start ≡ false → place.a0 ≡ 0 }
     ensures { (k : ℕ) → k < 64 → bit result (63 - k) ≡
-        nat_le (if place.begun then place.a0 + 1 else 0) (64 * (place.a0 / 64) + k) }
+        nat_le (if place.past_start then place.a0 + 1 else 0) (64 * (place.a0 / 64) + k) }
 {
     let right = u64::MAX >> (place.a0 % 64);
-    if place.begun { right >> 1 } else { right }
+    if place.past_start { right >> 1 } else { right }
 }

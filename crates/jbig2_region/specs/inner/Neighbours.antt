@@ -6,7 +6,7 @@ use Rattle.jbig2_base.specs.Grid.{Grid, pixel, pixel_at}
 use Rattle.jbig2_base.specs.Bits.{bit}
 use Rattle.jbig2_coder.specs.Coder.{Coder, Context}
 use Rattle.jbig2_region.specs.Generic.{context_at, known_colour}
-use Rattle.jbig2_region.specs.inner.Holds.{Holds}
+use Rattle.jbig2_region.specs.inner.RegionStates.{HasDecoded}
 use Rattle.jbig2_region.specs.inner.Rows.{after_pixels}
 use Rattle.jbig2_region.specs.Raster.{Coding, Region}
 use Rattle.jbig2_region.specs.declared.template.neighbours.Adaptives.{Adaptives}
@@ -84,8 +84,8 @@ pub record ShowsByte (g : Grid) (x y done : ℕ) (group w : WideWindows) : Type 
   pub second : w.second ≡ group.second
 
 -- the same, whenever the group's windows serve this many bytes
-abbrev pub StandAtByte : ℕ → ℕ → WideWindows → WideWindows → Type 0
-StandAtByte bytes done group w = (g : Grid) (x y : ℕ) → ShowsGroup g x y bytes group → ShowsByte g x y done group w
+abbrev pub AreAtByte : ℕ → ℕ → WideWindows → WideWindows → Type 0
+AreAtByte bytes done group w = (g : Grid) (x y : ℕ) → ShowsGroup g x y bytes group → ShowsByte g x y done group w
 
 -- windows around column x, with the pixels by which a run of `most` bytes is tested
 pub record ShowsRun (g : Grid) (x y most : ℕ) (w : WideWindows) : Type 0 where
@@ -107,7 +107,7 @@ row_coding template = record { context = context_at template; known = known_colo
 -- A bitmap, a coder and contexts before and after n pixels of row y, from column x on.
 abbrev pub DecodesPixels : List AdaptiveTemplatePixel → Bool → ℕ → ℕ → ℕ → Grid → Coder → List Context → Grid → Coder → List Context → Type 0
 DecodesPixels template predicted x y n grid coder states grid' coder' states' =
-    (w h : ℕ) (input : List ℕ) (r : Region) → length r.pixels ≡ y * w + x → r.predicted ≡ predicted → Holds w h input r grid coder states → Holds w h input (after_pixels (row_coding template) w h input n r) grid' coder' states'
+    (w h : ℕ) (input : List ℕ) (r : Region) → length r.pixels ≡ y * w + x → r.predicted ≡ predicted → HasDecoded w h input r grid coder states → HasDecoded w h input (after_pixels (row_coding template) w h input n r) grid' coder' states'
 
 -- the part of a context that a window has for a stretch, seen from `offset` columns right of the window's column
 abbrev pub stretch_bits : Stretch → ℕ → ℕ → ℕ

@@ -10,7 +10,7 @@ use Rattle.jbig2_region.specs.declared.generic_kernel.windows.Windows.{Windows}
 use Rattle.jbig2_region.specs.declared.template.neighbours.Neighbours.{Neighbours}
 
 -- a bitmap with this many columns from column x of row y on, what the windows show there, and the pixels left of it
-pub record StandsAt (shown : Type 0) (g : Grid) (x y count left : ℕ) : Type 0 where
+pub record IsAtShown (shown : Type 0) (g : Grid) (x y count left : ℕ) : Type 0 where
   pub columns : x + count ≤ g.width
   pub row : y < g.height
   pub shows : shown
@@ -18,55 +18,55 @@ pub record StandsAt (shown : Type 0) (g : Grid) (x y count left : ℕ) : Type 0 
 
 -- the next k pixels are the lowest bits of a number, for each such bitmap
 abbrev pub Pushes : (Grid → ℕ → ℕ → Type 0) → Neighbours → ℕ → ℕ → Coder → List Context → Coder → List Context → Type 0
-Pushes Stands n k pixels d s d' s' =
-    (g : Grid) (x y : ℕ) → Stands g x y → DecodesPixels (nominal_pixels n) false x y k g d s (with_pixels g x y k pixels) d' s'
+Pushes IsAtPixels n k pixels d s d' s' =
+    (g : Grid) (x y : ℕ) → IsAtPixels g x y → DecodesPixels (nominal_pixels n) false x y k g d s (with_pixels g x y k pixels) d' s'
 
 -- this many decisions are counted for them, for each such bitmap where a byte begins
 abbrev pub CountsPushed : (Grid → ℕ → ℕ → Type 0) → Neighbours → ℕ → Coder → List Context → ℕ → ℕ → Type 0
-CountsPushed Stands n k d s before after =
-    (g : Grid) (x y : ℕ) → x % 8 ≡ 0 → Stands g x y → CountsRuns (nominal_pixels n) x y k g d s before after
+CountsPushed IsAtPixels n k d s before after =
+    (g : Grid) (x y : ℕ) → x % 8 ≡ 0 → IsAtPixels g x y → CountsRuns (nominal_pixels n) x y k g d s before after
 
 -- ---- pixels
-abbrev pub Stands : Grid → ℕ → ℕ → ℕ → ℕ → Windows → Type 0
-Stands g x y count left w = StandsAt (Shows g x y 20 w) g x y count left
+abbrev pub IsAtPixels : Grid → ℕ → ℕ → ℕ → ℕ → Windows → Type 0
+IsAtPixels g x y count left w = IsAtShown (Shows g x y 20 w) g x y count left
 
 abbrev pub PushesPixels : Neighbours → ℕ → ℕ → Windows → ℕ → ℕ → Coder → List Context → Coder → List Context → Type 0
-PushesPixels n count left w = Pushes (λ g x y. Stands g x y count left w) n
+PushesPixels n count left w = Pushes (λ g x y. IsAtPixels g x y count left w) n
 
 -- ---- bytes that are tested for a run; none of them is the row's last
-abbrev pub StandsBytes : Grid → ℕ → ℕ → ℕ → ℕ → WideWindows → Type 0
-StandsBytes g x y most left w = StandsAt (ShowsRun g x y most w) g x y (8 * most + 1) left
+abbrev pub IsAtBytes : Grid → ℕ → ℕ → ℕ → ℕ → WideWindows → Type 0
+IsAtBytes g x y most left w = IsAtShown (ShowsRun g x y most w) g x y (8 * most + 1) left
 
 abbrev pub PushesBytes : Neighbours → ℕ → ℕ → WideWindows → ℕ → ℕ → Coder → List Context → Coder → List Context → Type 0
-PushesBytes n most left w bytes = Pushes (λ g x y. StandsBytes g x y most left w) n (8 * bytes)
+PushesBytes n most left w bytes = Pushes (λ g x y. IsAtBytes g x y most left w) n (8 * bytes)
 
 abbrev pub CountsBytes : Neighbours → ℕ → ℕ → WideWindows → ℕ → Coder → List Context → ℕ → ℕ → Type 0
-CountsBytes n most left w bytes = CountsPushed (λ g x y. StandsBytes g x y most left w) n (8 * bytes)
+CountsBytes n most left w bytes = CountsPushed (λ g x y. IsAtBytes g x y most left w) n (8 * bytes)
 
 -- ---- a group's first bytes
-abbrev pub StandsGroup : Grid → ℕ → ℕ → ℕ → ℕ → WideWindows → Type 0
-StandsGroup g x y bytes left w = StandsAt (ShowsGroup g x y bytes w) g x y (8 * bytes + 1) left
+abbrev pub IsAtGroup : Grid → ℕ → ℕ → ℕ → ℕ → WideWindows → Type 0
+IsAtGroup g x y bytes left w = IsAtShown (ShowsGroup g x y bytes w) g x y (8 * bytes + 1) left
 
 abbrev pub PushesGroup : Neighbours → ℕ → ℕ → WideWindows → ℕ → ℕ → Coder → List Context → Coder → List Context → Type 0
-PushesGroup n bytes left w k = Pushes (λ g x y. StandsGroup g x y bytes left w) n (8 * k)
+PushesGroup n bytes left w k = Pushes (λ g x y. IsAtGroup g x y bytes left w) n (8 * k)
 
 abbrev pub CountsGroup : Neighbours → ℕ → ℕ → WideWindows → ℕ → Coder → List Context → ℕ → ℕ → Type 0
-CountsGroup n bytes left w k = CountsPushed (λ g x y. StandsGroup g x y bytes left w) n (8 * k)
+CountsGroup n bytes left w k = CountsPushed (λ g x y. IsAtGroup g x y bytes left w) n (8 * k)
 
 -- ---- a byte of a narrow row that is not its last
 abbrev pub CountsByte : Neighbours → ℕ → Windows → Coder → List Context → ℕ → ℕ → Type 0
-CountsByte n left w = CountsPushed (λ g x y. Stands g x y 9 left w) n 8
+CountsByte n left w = CountsPushed (λ g x y. IsAtPixels g x y 9 left w) n 8
 
 -- ---- a narrow row's first k pixels
-pub record StandsRow (g : Grid) (y width : ℕ) (w : Windows) : Type 0 where
+pub record IsAtRow (g : Grid) (y width : ℕ) (w : Windows) : Type 0 where
   pub wide : g.width ≡ width
   pub row : y < g.height
   pub shows : Shows g 0 y 64 w
 
 abbrev pub PushesRow : Neighbours → ℕ → Windows → ℕ → ℕ → Coder → List Context → Coder → List Context → Type 0
 PushesRow n width w k pixels d s d' s' =
-    (g : Grid) (y : ℕ) → StandsRow g y width w → DecodesPixels (nominal_pixels n) false 0 y k g d s (with_pixels g 0 y k pixels) d' s'
+    (g : Grid) (y : ℕ) → IsAtRow g y width w → DecodesPixels (nominal_pixels n) false 0 y k g d s (with_pixels g 0 y k pixels) d' s'
 
 abbrev pub CountsRowPixels : Neighbours → ℕ → Windows → ℕ → Coder → List Context → ℕ → ℕ → Type 0
 CountsRowPixels n width w k d s before after =
-    (g : Grid) (y : ℕ) → StandsRow g y width w → CountsRuns (nominal_pixels n) 0 y k g d s before after
+    (g : Grid) (y : ℕ) → IsAtRow g y width w → CountsRuns (nominal_pixels n) 0 y k g d s before after

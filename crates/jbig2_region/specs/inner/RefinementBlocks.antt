@@ -7,7 +7,7 @@ use Rattle.jbig2_base.specs.Writes.{with_pixels}
 use Rattle.jbig2_coder.specs.Coder.{Coder, Context}
 use Rattle.jbig2_region.specs.Raster.{Coding}
 use Rattle.jbig2_region.specs.Refinement.{Reference, refinement_coding}
-use Rattle.jbig2_region.specs.inner.Codes.{Codes, CountsCodes}
+use Rattle.jbig2_region.specs.inner.DecodedPixels.{DecodesPart, CountsPart}
 use Rattle.jbig2_region.specs.inner.Neighbours.{IsLeft}
 use Rattle.jbig2_region.specs.inner.RefinementWindows.{SeesRows, corners, known_of, nine_of}
 use Rattle.jbig2_region.specs.declared.refinement_kernel.windows.RefinementWindows.{RefinementWindows}
@@ -18,8 +18,8 @@ pub record Block (coding : Coding) (p : Bool) (x y k : ℕ) (g : Grid) (d0 : Cod
   pub bytes : d.bytes ≡ d0.bytes
   pub few : pixels < 16 * 2 ^ k
   pub left : IsLeft (with_pixels g x y k pixels) (x + k) y pixels
-  pub holds : Codes coding p x y k g d0 s0 (with_pixels g x y k pixels) d s
-  pub decisions : CountsCodes coding p x y k g d0 s0 t0.decisions t.decisions
+  pub holds : DecodesPart coding p x y k g d0 s0 (with_pixels g x y k pixels) d s
+  pub decisions : CountsPart coding p x y k g d0 s0 t0.decisions t.decisions
   pub steps : t ≡ record t0 { decisions = t.decisions }
 
 -- the colour of n pixels, from the k-th on, is not known

@@ -5,7 +5,7 @@ use Rattle.jbig2_base.specs.Grid.{Grid, pixel}
 use Rattle.jbig2_base.specs.Bits.{bit}
 use Rattle.jbig2_region.specs.Raster.{Coding}
 use Rattle.jbig2_region.specs.Refinement.{Reference, refinement_coding}
-use Rattle.jbig2_region.specs.RefinementTemplates.{apart}
+use Rattle.jbig2_region.specs.RefinementTemplates.{at_xy}
 use Rattle.jbig2_region.specs.inner.RefinementViews.{reference_view}
 use Rattle.jbig2_region.specs.declared.refinement_kernel.WindowedCoding.{WindowedCoding}
 use Rattle.jbig2_region.specs.declared.refinement_kernel.windows.RefinementWindows.{RefinementWindows}
@@ -50,12 +50,12 @@ abbrev pub known_of : Bool → ℕ → Option Bool
 known_of predicted nine = if predicted then colour_of nine else None
 
 -- what a mask of known columns says about the column at bit b: if it is known, it has the reference's colour there
-abbrev pub told_by : ℕ → ℕ → ℕ → Option Bool
-told_by known here b = if bit known b then Some (bit here b) else None
+abbrev pub known_at : ℕ → ℕ → ℕ → Option Bool
+known_at known here b = if bit known b then Some (bit here b) else None
 
 -- template 0 with both adaptive pixels where the standard has them by default (Figure 12)
 abbrev pub corners : List AdaptiveTemplatePixel
-corners = apart (negsuc 0) (negsuc 0) ∷ apart (negsuc 0) (negsuc 0) ∷ []
+corners = at_xy (negsuc 0) (negsuc 0) ∷ at_xy (negsuc 0) (negsuc 0) ∷ []
 
 -- how the pixels are coded
 abbrev pub windowed_coding : {B : Type 0} → WindowedCoding B → Coding

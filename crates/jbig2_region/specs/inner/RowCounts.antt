@@ -3,8 +3,8 @@ use Rattle.std.specs.Prelude.{◌≡◌, ℕ, zero, suc, ◌+◌, ◌*◌, Bool,
 use Rattle.jbig2_base.specs.Grid.{Grid, bit_number}
 use Rattle.jbig2_coder.specs.Coder.{Coder, Context}
 use Rattle.jbig2_region.specs.Steps.{takes_decision, is_run_byte}
-use Rattle.jbig2_region.specs.Raster.{Coding, Region, row_begun}
-use Rattle.jbig2_region.specs.inner.Holds.{Holds}
+use Rattle.jbig2_region.specs.Raster.{Coding, Region, after_ltp}
+use Rattle.jbig2_region.specs.inner.RegionStates.{HasDecoded}
 use Rattle.jbig2_region.specs.inner.Neighbours.{row_coding}
 use Rattle.jbig2_region.specs.inner.Rows.{after_pixels, after_rows}
 use Rattle.jbig2_region.specs.declared.template.AdaptiveTemplatePixel.{AdaptiveTemplatePixel}
@@ -22,7 +22,7 @@ unfoldable pub decided_rows : Coding → ℕ → ℕ → List ℕ → ℕ → Re
 decided_rows coding w h bytes zero r = 0
 decided_rows coding w h bytes (suc n) r =
     decided_rows coding w h bytes n r
-    + decided_pixels coding w h bytes w (row_begun coding.row_context bytes (after_rows coding w h bytes n r))
+    + decided_pixels coding w h bytes w (after_ltp coding.row_context bytes (after_rows coding w h bytes n r))
 
 -- ---- run bytes
 -- how many of the next n pixels begin a run byte
@@ -33,23 +33,23 @@ run_bytes template w h bytes (suc n) r = run_bytes template w h bytes n r + bit_
 -- the decisions taken for n pixels of row y, from column x on: one for each, less eight for each run byte
 abbrev pub CountsRuns : List AdaptiveTemplatePixel → ℕ → ℕ → ℕ → Grid → Coder → List Context → ℕ → ℕ → Type 0
 CountsRuns template x y n grid coder states before after =
-    (w h : ℕ) (input : List ℕ) (r : Region) → length r.pixels ≡ y * w + x → r.predicted ≡ false → Holds w h input r grid coder states → after + 8 * run_bytes template w h input n r ≡ before + n
+    (w h : ℕ) (input : List ℕ) (r : Region) → length r.pixels ≡ y * w + x → r.predicted ≡ false → HasDecoded w h input r grid coder states → after + 8 * run_bytes template w h input n r ≡ before + n
 
 -- The same for the whole row y, in a template with run bytes or without. A predicted row takes no decision.
 abbrev pub CountsRow : List AdaptiveTemplatePixel → Bool → Bool → ℕ → Grid → Coder → List Context → ℕ → ℕ → Type 0
 CountsRow template nominal predicted y grid coder states before after =
-    (w h : ℕ) (input : List ℕ) (r : Region) → length r.pixels ≡ y * w → r.predicted ≡ predicted → Holds w h input r grid coder states
+    (w h : ℕ) (input : List ℕ) (r : Region) → length r.pixels ≡ y * w → r.predicted ≡ predicted → HasDecoded w h input r grid coder states
     → after + 8 * (if predicted then 0 else if nominal then run_bytes template w h input w r else 0) ≡ before + (if predicted then 0 else w)
 
 -- how many of the first n rows are coded, not predicted
 unfoldable pub coded_rows : Coding → ℕ → ℕ → List ℕ → ℕ → Region → ℕ
 coded_rows coding w h bytes zero r = 0
 coded_rows coding w h bytes (suc n) r =
-    coded_rows coding w h bytes n r + (if (row_begun coding.row_context bytes (after_rows coding w h bytes n r)).predicted then 0 else 1)
+    coded_rows coding w h bytes n r + (if (after_ltp coding.row_context bytes (after_rows coding w h bytes n r)).predicted then 0 else 1)
 
 -- how many run bytes these rows have, in a template with run bytes or without
 unfoldable pub rows_runs : List AdaptiveTemplatePixel → Bool → Coding → ℕ → ℕ → List ℕ → ℕ → Region → ℕ
 rows_runs template nominal coding w h bytes zero r = 0
 rows_runs template nominal coding w h bytes (suc n) r =
-    let begun = row_begun coding.row_context bytes (after_rows coding w h bytes n r) in
+    let begun = after_ltp coding.row_context bytes (after_rows coding w h bytes n r) in
     rows_runs template nominal coding w h bytes n r + (if begun.predicted then 0 else if nominal then run_bytes template w h bytes w begun else 0)

@@ -4,7 +4,7 @@ ghost use Rattle.std.specs.Prelude.{◌≡◌, ℕ, ◌+◌, ◌-◌, ◌*◌, �
 ghost use Rattle.jbig2_base.specs.Counts.{KeepsLanes};
 ghost use Rattle.jbig2_base.specs.Grid.{Grid, pixel_at};
 ghost use Rattle.jbig2_base.specs.Bits.{bit};
-ghost use Rattle.jbig2_region.specs.inner.Holds.{DecodesRegion};
+ghost use Rattle.jbig2_region.specs.inner.RegionStates.{DecodesRegion};
 ghost use Rattle.jbig2_region.specs.Templates.{template_of};
 ghost use Rattle.jbig2_region.specs.inner.Layouts.{nominal_neighbours};
 ghost use Rattle.jbig2_region.specs.inner.NominalRows.{CountsNarrow, FitsNarrow};
@@ -89,7 +89,7 @@ fn push_row<L: Ledger>(
         let left = (pixels % 16) as u32;
         let byte = push_byte(neighbours, left, shown, decoder, contexts, steps);
         pixels = pixels * 256 + byte;
-        shown = shown.moved(8);
+        shown = shown.right_by(8);
     }
     let count = width - 8 * whole;
     let left = (pixels % 16) as u32;

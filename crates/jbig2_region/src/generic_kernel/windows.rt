@@ -19,7 +19,7 @@
 //!
 //! A context takes the bits from 23 up and from 47 up. Each doubling moves both one column on.
 ghost use Rattle.std.specs.Prelude.{◌≡◌, ℕ, ◌+◌, ◌-◌, ◌*◌, ◌/◌, ◌%◌, ◌^◌, ◌<◌, ◌≤◌, bit_or, pos, ◌-ℤ◌};
-ghost use Rattle.jbig2_region.specs.inner.Neighbours.{IsNear, IsWindow, Shows, ShowsBefore, ShowsGroup, StandAtByte, cut_of, neighbour_count, register_of, stretch_bits};
+ghost use Rattle.jbig2_region.specs.inner.Neighbours.{IsNear, IsWindow, Shows, ShowsBefore, ShowsGroup, AreAtByte, cut_of, neighbour_count, register_of, stretch_bits};
 ghost use Rattle.jbig2_base.specs.Grid.{Grid, pixel};
 ghost use Rattle.jbig2_base.specs.Bits.{bit};
 
@@ -231,7 +231,7 @@ pub fn stretch_bits(stretch: Stretch, window: u64, offset: u32) -> u32
 impl Windows {
     /// The windows around the column this many pixels to the right. They show as many columns less.
     #[inline(always)]
-    pub fn moved(self, pixels: u32) -> Windows
+    pub fn right_by(self, pixels: u32) -> Windows
         requires few { pixels ≤ 32 }
         ensures { (g : Grid) (x y seen : ℕ) → seen ≤ 64 → Shows g x y seen self →
             Shows g (x + pixels) y (seen - pixels) result }
@@ -248,11 +248,11 @@ impl WideWindows {
     #[inline(always)]
     fn at_byte(self, done: u32) -> WideWindows
         requires few { done < 8 }
-        ensures { (bytes : ℕ) → done < bytes → StandAtByte bytes done self result }
+        ensures { (bytes : ℕ) → done < bytes → AreAtByte bytes done self result }
     {
         let second = self.second;
         let nearest = if done >= 4 { second } else { self.first };
-        let first = nearest.moved(8 * (done % 4));
+        let first = nearest.right_by(8 * (done % 4));
         WideWindows { first, second }
     }
 
@@ -260,10 +260,10 @@ impl WideWindows {
     #[inline(always)]
     fn next_byte(self, group: WideWindows, done: u32) -> WideWindows
         ensures { (bytes before : ℕ) → bytes ≤ 8 → done < bytes → before + 1 ≡ done →
-            StandAtByte bytes before group self → StandAtByte bytes done group result }
+            AreAtByte bytes before group self → AreAtByte bytes done group result }
     {
         let second = group.second;
-        let moved = self.first.moved(8);
+        let moved = self.first.right_by(8);
         let first = if done == 4 { second } else { moved };
         WideWindows { first, second }
     }
@@ -274,7 +274,7 @@ impl WideWindows {
     pub fn moved_on(self, group: WideWindows, taken: u32, done: u32, bytes: u32) -> WideWindows
         requires few { bytes ≤ 8 }
         ensures { (before : ℕ) → before + taken ≡ done → done < bytes →
-            StandAtByte bytes before group self → StandAtByte bytes done group result }
+            AreAtByte bytes before group self → AreAtByte bytes done group result }
     {
         if taken == 1 {
             return self.next_byte(group, done);

@@ -17,7 +17,7 @@ ghost use Rattle.std.specs.Prelude.{◌≡◌, ℕ, ◌+◌, ◌-◌, ◌*◌, �
 ghost use Rattle.jbig2_base.specs.Grid.{Grid, pixel_at};
 ghost use Rattle.jbig2_base.specs.Bits.{bit};
 ghost use Rattle.jbig2_region.specs.inner.RefinementViews.{reference_view};
-ghost use Rattle.jbig2_region.specs.inner.RefinementWindows.{Sees, SeesRows, known_of, nine_of, three_of, told_by};
+ghost use Rattle.jbig2_region.specs.inner.RefinementWindows.{Sees, SeesRows, known_of, nine_of, three_of, known_at};
 
 use crate::generic_refinement::ReferenceBitmap;
 use jbig2_base::bitmap::Bitmap;
@@ -162,7 +162,7 @@ impl RefinementWindows {
     #[inline(always)]
     pub fn known_columns(self, predicted: bool) -> u64
         ensures { (k : ℕ) → k < 32
-            → known_of predicted (nine_of self k) ≡ told_by result self.here (62 - k) }
+            → known_of predicted (nine_of self k) ≡ known_at result self.here (62 - k) }
     {
         if !predicted {
             return 0;

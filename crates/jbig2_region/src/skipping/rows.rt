@@ -3,8 +3,8 @@
 ghost use Rattle.std.specs.Prelude.{◌≡◌, ℕ, ◌+◌, ◌-◌, ◌*◌, ◌/◌, ◌%◌, ◌^◌, ◌<◌, ◌≤◌, false, length, Some, None, if◌then◌else◌};
 ghost use Rattle.jbig2_base.specs.Counts.{KeepsLanes};
 ghost use Rattle.jbig2_region.specs.{Steps.{CountsSkipping, skipping_loads, skipping_words}, inner.RegionViews.{skip_of}, Generic.{skipping_coding}};
-ghost use Rattle.jbig2_region.specs.inner.Codes.{Takes};
-ghost use Rattle.jbig2_region.specs.inner.Holds.{DecodesRegion, IsReady};
+ghost use Rattle.jbig2_region.specs.inner.DecodedPixels.{Takes};
+ghost use Rattle.jbig2_region.specs.inner.RegionStates.{DecodesRegion, IsReady};
 ghost use Rattle.jbig2_region.specs.inner.Neighbours.{IsLeft, IsNear, neighbour_count, nominal_pixels};
 ghost use Rattle.jbig2_region.specs.inner.Masks.{IsMask, plain_context};
 ghost use Rattle.jbig2_region.specs.inner.Stretches.{DecodesPixels};

@@ -1,6 +1,6 @@
 //! Reads the adaptive pixels of templates from segments (T.88, 7.4.6.3 and 7.4.7.3).
 ghost use Rattle.std.specs.Prelude.{◌≡◌, ◌≤◌, false, [], ◌∷◌, length, IfOk, OnOk, ℕ};
-ghost use Rattle.jbig2_base.specs.Answer.{Answers};
+ghost use Rattle.jbig2_base.specs.Results.{Returns};
 ghost use Rattle.jbig2_base.specs.Bits.{IsAligned};
 ghost use Rattle.jbig2_base.specs.Fields.{Parses};
 ghost use Rattle.jbig2_region.specs.RefinementTemplates.{refinement_pixels_at};
@@ -19,7 +19,7 @@ use jbig2_base::reader::Reader;
 #[tactic(auto, unfolding(crate::specs::Templates::free_pixel_at))]
 fn parse_free_pixel(reader: &mut Reader<'_>) -> Result<AdaptiveTemplatePixel>
     requires { IsAligned reader.old }
-    ensures value { Answers (λ pixel. (pixel, reader.new.bytes)) result
+    ensures value { Returns (λ pixel. (pixel, reader.new.bytes)) result
         (free_pixel_at reader.old.bytes) }
     ensures aligned { IsAligned reader.new }
     ensures shorter { OnOk result (length reader.new.bytes ≤ length reader.old.bytes) }
@@ -40,7 +40,7 @@ fn is_earlier(pixel: AdaptiveTemplatePixel) -> bool
 #[tactic(auto, unfolding(crate::specs::Templates::adaptive_pixel_at))]
 fn parse_adaptive_template_pixel(reader: &mut Reader<'_>) -> Result<AdaptiveTemplatePixel>
     requires { IsAligned reader.old }
-    ensures value { Answers (λ pixel. (pixel, reader.new.bytes)) result
+    ensures value { Returns (λ pixel. (pixel, reader.new.bytes)) result
         (adaptive_pixel_at reader.old.bytes) }
     ensures aligned { IsAligned reader.new }
     ensures shorter { OnOk result (length reader.new.bytes ≤ length reader.old.bytes) }
@@ -54,7 +54,7 @@ fn parse_adaptive_template_pixel(reader: &mut Reader<'_>) -> Result<AdaptiveTemp
 
 fn parse_four(reader: &mut Reader<'_>) -> Result<[AdaptiveTemplatePixel; 4]>
     requires { IsAligned reader.old }
-    ensures value { Answers (λ pixels. (pixels, reader.new.bytes)) result
+    ensures value { Returns (λ pixels. (pixels, reader.new.bytes)) result
         (adaptive_pixels_at 4 reader.old.bytes) }
     ensures aligned { IsAligned reader.new }
     ensures shorter { OnOk result (length reader.new.bytes ≤ length reader.old.bytes) }
@@ -68,7 +68,7 @@ fn parse_four(reader: &mut Reader<'_>) -> Result<[AdaptiveTemplatePixel; 4]>
 
 fn parse_twelve(reader: &mut Reader<'_>) -> Result<[AdaptiveTemplatePixel; 12]>
     requires { IsAligned reader.old }
-    ensures value { Answers (λ pixels. (pixels, reader.new.bytes)) result
+    ensures value { Returns (λ pixels. (pixels, reader.new.bytes)) result
         (adaptive_pixels_at 12 reader.old.bytes) }
     ensures aligned { IsAligned reader.new }
     ensures shorter { OnOk result (length reader.new.bytes ≤ length reader.old.bytes) }
@@ -121,7 +121,7 @@ pub fn parse_generic_template_pixels(
 ) -> Result<GenericTemplatePixels>
     requires { IsAligned reader.old }
     ensures value { let count = adaptive_pixel_count mmr extended template in
-        Answers (λ pixels. (pixels_view mmr template pixels, reader.new.bytes)) result
+        Returns (λ pixels. (pixels_view mmr template pixels, reader.new.bytes)) result
         (adaptive_pixels_at count reader.old.bytes) }
     ensures extended { let taken = takes_extended mmr extended template in
         IfOk result (λ pixels. is_extended pixels ≡ taken) }

@@ -1,7 +1,7 @@
 -- Runs of symbols without the empty ones between others (our own rule). Runs of symbols left out and exported take
 -- turns, so the runs before and after an empty run are of the same kind, and are one run.
 use Rattle.std.specs.Prelude.{ℕ, zero, suc, ◌+◌, List, [], ◌∷◌, Result, Ok}
-use Rattle.jbig2_base.specs.Answer.{◌>>=◌}
+use Rattle.jbig2_base.specs.Results.{◌>>=◌}
 use Rattle.jbig2_base.specs.declared.error.DecodeError.{DecodeError}
 
 -- this run and those after it; an empty run stays where none comes after it

@@ -2,7 +2,7 @@
 use Rattle.std.specs.Borrow.{Bor}
 use Rattle.std.specs.Prelude.{ℕ, ◌+◌, ◌-◌, ◌*◌, ◌==◌, ◌≡◌, ◌++◌, List, length, map, Option, Some, None, option_map}
 use Rattle.std.specs.Prelude.{Result, Ok, Err}
-use Rattle.jbig2_base.specs.Answer.{◌>>=◌}
+use Rattle.jbig2_base.specs.Results.{◌>>=◌}
 use Rattle.jbig2_base.specs.declared.error.DecodeError.{DecodeError}
 use Rattle.jbig2_base.specs.declared.error.DecodeError.TheVariants.{Huffman, Overflow}
 use Rattle.jbig2_base.specs.declared.error.HuffmanError.TheVariants.{UnexpectedOob}
@@ -40,7 +40,7 @@ prefixed_view r = record { coding = r.reader; contexts = r.contexts }
 
 -- a result of which only the error matters
 abbrev pub with_no_value : {X : Type 0} → Result X DecodeError → Result (Unit {0}) DecodeError
-with_no_value answer = answer >>= λ _. Ok tt
+with_no_value result = result >>= λ _. Ok tt
 
 -- the bytes of rows that are not coded, with those after them
 abbrev pub bytes_of_rows : ℕ → ℕ → List ℕ → Result (List ℕ × List ℕ) DecodeError
@@ -59,24 +59,24 @@ abbrev pub tall_class : SymbolInput → ℕ → ℕ → SymbolState Place → Re
 tall_class d width height s = collective_bitmap d width height s >>= λ _. Err (Overflow BitmapDimension)
 
 -- all that was read, where these came before
-abbrev pub behind : {X S : Type 0} → List X → Result (List X × S) DecodeError → Result (List X × S) DecodeError
-behind before answer = answer >>= λ more. Ok (before ++ more.0, more.1)
+abbrev pub concat : {X S : Type 0} → List X → Result (List X × S) DecodeError → Result (List X × S) DecodeError
+concat before result = result >>= λ more. Ok (before ++ more.0, more.1)
 
 -- all symbols, where these came before
-abbrev pub put_behind : List Grid → Result (List Grid) DecodeError → Result (List Grid) DecodeError
-put_behind before answer = answer >>= λ more. Ok (before ++ more)
+abbrev pub symbols_after : List Grid → Result (List Grid) DecodeError → Result (List Grid) DecodeError
+symbols_after before result = result >>= λ more. Ok (before ++ more)
 
 -- how many more new symbols may come
-abbrev pub room_behind : SymbolInput → List Grid → ℕ
-room_behind d new = d.header.num_new_symbols - length new
+abbrev pub room_after : SymbolInput → List Grid → ℕ
+room_after d new = d.header.num_new_symbols - length new
 
 -- the number of empty classes, after a class with these symbols
 abbrev pub empty_with : List Grid → ℕ → ℕ
 empty_with symbols empty = empty + bit_number (length symbols == 0)
 
 -- a class after others: all symbols so far, its height, and the number of empty classes
-abbrev pub class_behind : {S : Type 0} → List Grid → ℕ → Result (ℕ × List Grid × S) DecodeError → Result (List Grid × (ℕ × (ℕ × S))) DecodeError
-class_behind before empty answer = answer >>= λ class. Ok (before ++ class.1, (class.0, (empty_with class.1 empty, class.2)))
+abbrev pub class_after : {S : Type 0} → List Grid → ℕ → Result (ℕ × List Grid × S) DecodeError → Result (List Grid × (ℕ × (ℕ × S))) DecodeError
+class_after before empty result = result >>= λ class. Ok (before ++ class.1, (class.0, (empty_with class.1 empty, class.2)))
 
 -- the symbols that are referred to, and then the new ones
 abbrev pub all_symbols : List (Bor Grid) → List Grid → List Grid
@@ -95,7 +95,7 @@ abbrev pub with_total : ℕ → Option ℕ → Option (ℕ × ℕ)
 with_total total next = option_map (λ width. (width, total)) next
 
 -- The widths after one reading: they have moved to this width, or not at all.
-abbrev pub Moved : RunningWidths → Option ℕ → RunningWidths → Type 0
-Moved before None after = after ≡ before
-Moved before (Some width) after =
+abbrev pub IsNextWidth : RunningWidths → Option ℕ → RunningWidths → Type 0
+IsNextWidth before None after = after ≡ before
+IsNextWidth before (Some width) after =
     (before.left ≡ after.left + 1) × (after.width ≡ width) × (after.total ≡ before.total + width)

@@ -1,6 +1,6 @@
 //! Symbols that are refined from another one or aggregated from several (T.88, 6.5.8.2).
 ghost use Rattle.std.specs.Prelude.{◌≡◌, ◌+◌, ◌*◌, ◌≤◌, length, max};
-ghost use Rattle.jbig2_base.specs.Answer.{Answers, Gives};
+ghost use Rattle.jbig2_base.specs.Results.{Returns, Gives};
 ghost use Rattle.jbig2_steps.specs.Work.{Paid, PaidBut};
 ghost use Rattle.jbig2_text.specs.Paying.{number_steps};
 ghost use Rattle.jbig2_symbol.specs.SymbolBitmaps.{aggregate_flags, aggregate_params, id_bits, id_codes, put_together, refined_alone, some_instances, state_bits};
@@ -95,7 +95,7 @@ fn aggregate_flags(flags: &SymbolDictionaryFlags) -> TextRegionFlags
 
 /// The number of a symbol's instances. It must be at least one (T.88, 6.5.8.2.1).
 pub fn instance_count(number: Option<i32>) -> Result<u32>
-    ensures { Answers (λ count. count) result (some_instances number) }
+    ensures { Returns (λ count. count) result (some_instances number) }
 {
     let Some(number) = number else {
         return Err(SymbolError::UnexpectedOob.into());

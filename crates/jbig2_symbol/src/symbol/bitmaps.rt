@@ -1,14 +1,14 @@
 //! The bitmaps of symbols by prefix codes: those of a height class lie side by side in one
 //! collective bitmap (T.88, 6.5.9).
 ghost use Rattle.std.specs.Prelude.{◌≡◌, ◌+◌, ◌*◌, ◌/◌, ◌<◌, ◌≤◌, false, length, sum, OnOk};
-ghost use Rattle.jbig2_base.specs.Answer.{Answers, Gives};
+ghost use Rattle.jbig2_base.specs.Results.{Returns, Gives};
 ghost use Rattle.jbig2_base.specs.Bits.{IsAligned};
 ghost use Rattle.jbig2_base.specs.Counts.{WritesWithin};
 ghost use Rattle.jbig2_base.specs.Grid.{blank, wide_or_overflow};
 ghost use Rattle.jbig2_base.specs.inner.Filled.{filled};
 ghost use Rattle.jbig2_steps.specs.Work.{Paid, price_of_bitmap};
 ghost use Rattle.jbig2_symbol.specs.SymbolBitmaps.{symbols_cut, raw_pixel, raw_stride, raw_rows, mmr_bytes, rows_of_size};
-ghost use Rattle.jbig2_symbol.specs.inner.SymbolViews.{bytes_of_rows, put_behind, with_no_value};
+ghost use Rattle.jbig2_symbol.specs.inner.SymbolViews.{bytes_of_rows, symbols_after, with_no_value};
 
 use crate::symbol::aggregates::SymbolSize;
 use jbig2_base::bitmap::Bitmap;
@@ -53,7 +53,7 @@ fn fill_row<A: Allocator, L: Ledger>(
 
 /// Refuses a size with more pixels than a collective bitmap may have.
 fn check_pixels(width: u32, height: u32) -> Result<()>
-    ensures { Answers (λ _. blank width height false) result (wide_or_overflow width height) }
+    ensures { Returns (λ _. blank width height false) result (wide_or_overflow width height) }
 {
     if u64::from(width) * u64::from(height) > MOST_PIXELS {
         return Err(OverflowError::BitmapDimension.into());
@@ -65,7 +65,7 @@ fn check_pixels(width: u32, height: u32) -> Result<()>
 fn raw_bytes<'a>(width: u32, height: u32, reader: &mut Reader<'a>) -> Result<&'a [u8]>
     requires { IsAligned reader.old }
     ensures value { let meant = bytes_of_rows width height reader.old.bytes in
-        Answers (λ rows. (rows.now, reader.new.bytes)) result meant }
+        Returns (λ rows. (rows.now, reader.new.bytes)) result meant }
     ensures aligned { IsAligned reader.new }
 {
     check_pixels(width, height)?;
@@ -211,7 +211,7 @@ pub fn cut_symbols<A: Allocator + Clone, L: Ledger>(
 ) -> Result<()>
     requires { sum widths.now ≤ 4294967295 }
     ensures value { let cut = symbols_cut collective.now height 0 widths.now in
-        let meant = put_behind symbols.old.items cut in
+        let meant = symbols_after symbols.old.items cut in
         Gives (λ _. symbols.new.items) result meant }
     ensures paid { Paid work.old work.new }
     ensures count { OnOk result (length symbols.new.items

@@ -1,18 +1,18 @@
 //! The height classes of a symbol dictionary (T.88, 6.5.5).
 ghost use Rattle.std.specs.Prelude.{◌≡◌, ◌+◌, ◌*◌, ◌<◌, ◌≤◌, length, OnOk};
-ghost use Rattle.jbig2_base.specs.Answer.{Answers, Gives};
+ghost use Rattle.jbig2_base.specs.Results.{Returns, Gives};
 ghost use Rattle.jbig2_base.specs.Causes.{HasCause, HasCauseOrNoMemory};
 ghost use Rattle.jbig2_steps.specs.Work.{PaidBut};
 ghost use Rattle.jbig2_text.specs.Paying.{number_steps};
 ghost use Rattle.jbig2_symbol.specs.Paying.{PaidButSymbols, PaysSymbols};
 ghost use Rattle.jbig2_symbol.specs.Causes.{BreaksEmptyClass, BreaksHeightClass};
 ghost use Rattle.jbig2_symbol.specs.HeightClasses.{drawn_class, empty_class, height_class, new_symbols, symbols_from};
-ghost use Rattle.jbig2_symbol.specs.inner.SymbolViews.{behind, class_behind, input_view};
+ghost use Rattle.jbig2_symbol.specs.inner.SymbolViews.{concat, class_after, input_view};
 
 use crate::symbol::aggregates::SymbolSize;
 use crate::symbol::input::SymbolInput;
 use crate::symbol::readings::{ReadClasses, ReadSymbols};
-use crate::symbol::widths::{RunningWidths, size_moved};
+use crate::symbol::widths::{RunningWidths, next_size};
 use jbig2_base::bitmap::Bitmap;
 use jbig2_base::bitmap::steps::Work;
 use jbig2_base::error::{Result, SymbolError};
@@ -38,7 +38,7 @@ struct NewSymbols<A: Allocator> {
 /// Refuses a class without a symbol, where too many such classes came before.
 #[tactic(auto, using(crate::proofs::ClassCauses::empty_class_cause))]
 pub fn check_class(symbols: usize, empty: u32) -> Result<()>
-    ensures value { Answers (λ few. few) result (empty_class symbols empty) }
+    ensures value { Returns (λ few. few) result (empty_class symbols empty) }
     ensures causes { HasCause result (BreaksEmptyClass symbols empty) }
 {
     if symbols == 0 && empty >= MAX_EMPTY {
@@ -62,7 +62,7 @@ fn read_symbols<R: ReadSymbols<A>, A: Allocator + Clone, L: Ledger>(
     ensures value { let d = input_view input.now in
         let before = bitmaps.old.items in
         let state = R.state readings.old in
-        let meant = behind before (symbols_from R.readings d room height 0 0 before state) in
+        let meant = concat before (symbols_from R.readings d room height 0 0 before state) in
         Gives (λ _. (bitmaps.new.items, R.state readings.new)) result meant }
     ensures paid { let before = length bitmaps.old.items in
         PaidButSymbols before (before + room) 1 work.old work.new }
@@ -103,7 +103,7 @@ pub fn read_drawn_class<R: ReadSymbols<A>, A: Allocator + Clone, L: Ledger>(
     ensures value { let d = input_view input.now in
         let before = bitmaps.old.items in
         let class = drawn_class R.readings d height empty before (R.state readings.old) in
-        Gives (λ _. (bitmaps.new.items, R.state readings.new)) result (behind before class) }
+        Gives (λ _. (bitmaps.new.items, R.state readings.new)) result (concat before class) }
     ensures paid { let before = length bitmaps.old.items in
         let most = input.now.header.now.num_new_symbols in
         PaidButSymbols before most 1 work.old work.new }
@@ -136,7 +136,7 @@ fn read_height_class<R: ReadClasses<A>, A: Allocator + Clone, L: Ledger>(
         let new = before.bitmaps.items in
         let state = R.state readings.old in
         let class = height_class R.readings d before.height before.empty new state in
-        let meant = class_behind new before.empty class in
+        let meant = class_after new before.empty class in
         let all = symbols.new in
         let left = R.state readings.new in
         Gives (λ _. (all.bitmaps.items, (all.height, (all.empty, left)))) result meant }
@@ -159,7 +159,7 @@ fn read_height_class<R: ReadClasses<A>, A: Allocator + Clone, L: Ledger>(
     let Some(difference) = readings.height_difference(input, work)? else {
         return Err(SymbolError::UnexpectedOob.into());
     };
-    let height = size_moved(symbols.height, difference)?;
+    let height = next_size(symbols.height, difference)?;
     let before = symbols.bitmaps.len();
     let bitmaps = &mut symbols.bitmaps;
     match readings.class_of_height(alloc, input, height, symbols.empty, bitmaps, work) {

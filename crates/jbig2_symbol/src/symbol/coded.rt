@@ -1,13 +1,13 @@
 //! Symbol dictionaries that are coded by the arithmetic coder (T.88, 6.5).
 ghost use Rattle.std.specs.Prelude.{◌≡◌, ◌*◌, ◌≤◌, length, Ok};
-ghost use Rattle.jbig2_base.specs.Answer.{Answers, Gives};
+ghost use Rattle.jbig2_base.specs.Results.{Returns, Gives};
 ghost use Rattle.jbig2_text.specs.TextCoding.{Coded};
 ghost use Rattle.jbig2_text.specs.inner.TextViews.{params_view};
 ghost use Rattle.jbig2_steps.specs.Work.{Paid, PaidBut};
 ghost use Rattle.jbig2_text.specs.Paying.{number_steps};
 ghost use Rattle.jbig2_symbol.specs.SymbolBitmaps.{coded_aggregate, coded_instances, coded_symbol};
 ghost use Rattle.jbig2_symbol.specs.Causes.{BreaksCodedAggregate};
-ghost use Rattle.jbig2_symbol.specs.SymbolCoding.{coded_bitmap, coder_begun};
+ghost use Rattle.jbig2_symbol.specs.SymbolCoding.{coded_bitmap, coder_start};
 ghost use Rattle.jbig2_symbol.specs.inner.HeaderViews.{contexts_view, header_view};
 ghost use Rattle.jbig2_symbol.specs.SymbolReading.{SymbolState, by_procedure};
 ghost use Rattle.jbig2_symbol.specs.inner.SymbolViews.{coded_view, input_view};
@@ -48,7 +48,7 @@ impl<'a, A: Allocator + Clone> CodedSymbols<'a, A> {
     ) -> Result<CodedSymbols<'a, A>>
         requires symbols { length input.now.symbols.now ≤ 2097152 }
         requires fresh { input.now.header.now.num_new_symbols ≤ 1048576 }
-        ensures { let meant = Ok (coder_begun (input_view input.now) (contexts_view contexts)) in
+        ensures { let meant = Ok (coder_start (input_view input.now) (contexts_view contexts)) in
             Gives (λ readings. coded_view readings) result meant }
     {
         let bits = state_bits(input.header, input.symbols.len());
@@ -68,7 +68,7 @@ impl<A: Allocator + Clone> CodedSymbols<'_, A> {
         work: &mut Work<L>,
     ) -> Result<Option<i32>>
         ensures value { let meant = by_procedure procedure (coded_view self.old) in
-            Answers (λ value. (value, coded_view self.new)) result meant }
+            Returns (λ value. (value, coded_view self.new)) result meant }
         ensures paid { PaidBut (number_steps 1) work.old work.new }
     {
         Ok(self.coded.next_integer(procedure, work))

@@ -1,7 +1,7 @@
 //! The contexts of a symbol dictionary, from its beginning to its end (T.88, 7.4.2.2).
 ghost use Rattle.std.specs.Prelude.{◌≡◌, option_map, Ok};
-ghost use Rattle.jbig2_base.specs.Answer.{Gives};
-ghost use Rattle.jbig2_symbol.specs.SymbolReading.{begun_contexts, first_contexts, fresh_bitmap_contexts, is_refinement_template, is_template, learned};
+ghost use Rattle.jbig2_base.specs.Results.{Gives};
+ghost use Rattle.jbig2_symbol.specs.SymbolReading.{start_contexts, first_contexts, fresh_bitmap_contexts, is_refinement_template, is_template, bitmap_contexts};
 ghost use Rattle.jbig2_symbol.specs.inner.HeaderViews.{contexts_view, header_view};
 ghost use Rattle.jbig2_base.specs.Causes.{HasCauseOrNoMemory};
 ghost use Rattle.jbig2_symbol.specs.Causes.{BreaksContexts};
@@ -141,7 +141,7 @@ impl<A: Allocator> WorkingContexts<A> {
         header: &SymbolDictionaryHeader<'_>,
         contexts: RetainedContexts<A>,
     ) -> WorkingContexts<A>
-        ensures { result ≡ begun_contexts (header_view header.now) (contexts_view contexts) }
+        ensures { result ≡ start_contexts (header_view header.now) (contexts_view contexts) }
     {
         let RetainedContexts {
             template,
@@ -159,7 +159,7 @@ impl<A: Allocator> WorkingContexts<A> {
 
     /// What the contexts have learned, for another dictionary.
     pub fn into_retained(self) -> RetainedContexts<A>
-        ensures { contexts_view result ≡ learned self }
+        ensures { contexts_view result ≡ bitmap_contexts self }
     {
         RetainedContexts {
             template: self.template,

@@ -1,6 +1,6 @@
 //! The symbols that a dictionary exports (T.88, 6.5.10).
 ghost use Rattle.std.specs.Prelude.{◌≡◌, ◌+◌, ◌*◌, ◌<◌, ◌≤◌, ◌++◌, IfOk, length, sum, take, drop, slice_index_or, false, Ok};
-ghost use Rattle.jbig2_base.specs.Answer.{Answers, Gives};
+ghost use Rattle.jbig2_base.specs.Results.{Returns, Gives};
 ghost use Rattle.jbig2_base.specs.Grid.{blank};
 ghost use Rattle.jbig2_base.specs.Causes.{HasCauseOrNoMemory};
 ghost use Rattle.jbig2_steps.specs.Work.{Paid, PaidBut};
@@ -35,7 +35,7 @@ fn read_run<R: ReadClasses<A>, A: Allocator + Clone, L: Ledger>(
 ) -> Result<u32>
     ensures value { let d = input_view input.now in
         let meant = next_run R.readings d empty left (R.state readings.old) in
-        Answers (λ run. (run, R.state readings.new)) result meant }
+        Returns (λ run. (run, R.state readings.new)) result meant }
     ensures within { IfOk result (λ run. run ≤ left) }
     ensures few { IfOk result (λ run. run ≡ 0 → empty < 1048576) }
     ensures paid { PaidBut (number_steps 1) work.old work.new }

@@ -1,6 +1,6 @@
 //! The header of a symbol dictionary (T.88, 7.4.2.1).
 ghost use Rattle.std.specs.Prelude.{◌≡◌, ◌/◌, ◌%◌, ◌≤◌, IfOk, OnErr};
-ghost use Rattle.jbig2_base.specs.Answer.{Answers};
+ghost use Rattle.jbig2_base.specs.Results.{Returns};
 ghost use Rattle.jbig2_base.specs.Bits.{IsAligned};
 ghost use Rattle.jbig2_region.specs.inner.PixelArrays.{filled};
 ghost use Rattle.jbig2_text.specs.inner.TextViews.{some_pixels};
@@ -101,7 +101,7 @@ impl SymbolDictionaryHeader<'_> {
 /// The table of the height differences, by bits 2 and 3 of the flags.
 fn height_selection(number: u16) -> Result<HuffmanTableSelection>
     requires { number ≤ 3 }
-    ensures { Answers (λ selection. selection) result (selection_of TableB4 TableB5 number) }
+    ensures { Returns (λ selection. selection) result (selection_of TableB4 TableB5 number) }
 {
     match number {
         0 => Ok(HuffmanTableSelection::TableB4),
@@ -114,7 +114,7 @@ fn height_selection(number: u16) -> Result<HuffmanTableSelection>
 /// The table of the width differences, by bits 4 and 5 of the flags.
 fn width_selection(number: u16) -> Result<HuffmanTableSelection>
     requires { number ≤ 3 }
-    ensures { Answers (λ selection. selection) result (selection_of TableB2 TableB3 number) }
+    ensures { Returns (λ selection. selection) result (selection_of TableB2 TableB3 number) }
 {
     match number {
         0 => Ok(HuffmanTableSelection::TableB2),
@@ -136,7 +136,7 @@ fn other_selection(user_supplied: bool) -> HuffmanTableSelection
 
 #[tactic(auto, unfolding(crate::specs::SymbolHeader::symbol_flags_of))]
 fn symbol_flags(flags: u16) -> Result<SymbolDictionaryFlags>
-    ensures { Answers (λ f. f) result (symbol_flags_of flags) }
+    ensures { Returns (λ f. f) result (symbol_flags_of flags) }
 {
     let delta_height_table = height_selection(flags / 4 % 4)?;
     let delta_width_table = width_selection(flags / 16 % 4)?;
@@ -161,7 +161,7 @@ fn parse_coded_pixels(
 ) -> Result<[AdaptiveTemplatePixel; 4]>
     requires { IsAligned reader.old }
     ensures value { let meant = coded_pixels_at flags.now reader.old.bytes in
-        Answers (λ pixels. (coded_pixels flags.now pixels, reader.new.bytes)) result meant }
+        Returns (λ pixels. (coded_pixels flags.now pixels, reader.new.bytes)) result meant }
     ensures unused { IfOk result (λ pixels. pixels ≡ filled 4 (coded_pixels flags.now pixels)) }
     ensures aligned { IsAligned reader.new }
 {
@@ -178,7 +178,7 @@ fn parse_refined_pixels(
 ) -> Result<[AdaptiveTemplatePixel; 2]>
     requires { IsAligned reader.old }
     ensures value { let meant = refined_pixels_at flags.now reader.old.bytes in
-        Answers (λ pixels. (refined_pixels flags.now pixels, reader.new.bytes)) result meant }
+        Returns (λ pixels. (refined_pixels flags.now pixels, reader.new.bytes)) result meant }
     ensures unused { IfOk result (λ pixels. pixels ≡ filled 2 (refined_pixels flags.now pixels)) }
     ensures aligned { IsAligned reader.new }
 {
@@ -200,7 +200,7 @@ fn parse_refined_pixels(
 pub fn parse<'a>(reader: &mut Reader<'a>, strict: bool) -> Result<SymbolDictionaryHeader<'a>>
     requires { IsAligned reader.old }
     ensures value { let meant = symbol_header_at strict reader.old.bytes in
-        Answers (λ h. (header_view h, reader.new.bytes)) result meant }
+        Returns (λ h. (header_view h, reader.new.bytes)) result meant }
     ensures aligned { IsAligned reader.new }
     ensures exported { IfOk result (λ h. h.num_exported_symbols ≤ 1048576) }
     ensures fresh { IfOk result (λ h. h.num_new_symbols ≤ 1048576) }

@@ -1,6 +1,6 @@
 //! Symbol dictionaries that are coded by prefix codes (T.88, 6.5).
 ghost use Rattle.std.specs.Prelude.{◌≡◌, ◌+◌, ◌*◌, ◌<◌, ◌≤◌, length, OnOk};
-ghost use Rattle.jbig2_base.specs.Answer.{Answers, Gives};
+ghost use Rattle.jbig2_base.specs.Results.{Returns, Gives};
 ghost use Rattle.jbig2_base.specs.Bits.{IsAligned, Place};
 ghost use Rattle.jbig2_text.specs.TextCoding.{by_prefix_codes};
 ghost use Rattle.jbig2_text.specs.inner.TextViews as texts;
@@ -9,10 +9,10 @@ ghost use Rattle.jbig2_text.specs.Paying.{number_steps};
 ghost use Rattle.jbig2_symbol.specs.Paying.{PaidButSymbols, PaysSymbols};
 ghost use Rattle.jbig2_symbol.specs.Causes.{BreaksCollectiveBitmap, BreaksPrefixedAggregate, BreaksTallClass};
 ghost use Rattle.jbig2_symbol.specs.SymbolBitmaps.{by_instances, collective_bitmap, plain_id, prefixed_aggregate, prefixed_instances};
-ghost use Rattle.jbig2_symbol.specs.SymbolCoding.{collective_class, prefix_codes_begun};
+ghost use Rattle.jbig2_symbol.specs.SymbolCoding.{collective_class, prefix_codes_start};
 ghost use Rattle.jbig2_symbol.specs.SymbolReading.{SymbolState, by_table};
 ghost use Rattle.jbig2_symbol.specs.inner.HeaderViews.{contexts_view};
-ghost use Rattle.jbig2_symbol.specs.inner.SymbolViews.{behind, input_view, prefixed_view, size_of_rows, tall_class};
+ghost use Rattle.jbig2_symbol.specs.inner.SymbolViews.{concat, input_view, prefixed_view, size_of_rows, tall_class};
 ghost use Rattle.jbig2_base.specs.Causes.{HasCauseOrNoMemory};
 
 use crate::symbol::aggregates::{
@@ -75,7 +75,7 @@ pub struct PrefixedSymbols<'a, A: Allocator> {
 impl<'a, A: Allocator + Clone> PrefixedSymbols<'a, A> {
     /// The start of a dictionary's bytes, with these contexts for its bitmaps.
     pub fn new(input: &SymbolInput<'a, A>, contexts: RetainedContexts<A>) -> PrefixedSymbols<'a, A>
-        ensures { let meant = prefix_codes_begun (input_view input.now) (contexts_view contexts) in
+        ensures { let meant = prefix_codes_start (input_view input.now) (contexts_view contexts) in
             prefixed_view result ≡ meant }
     {
         PrefixedSymbols {
@@ -87,7 +87,7 @@ impl<'a, A: Allocator + Clone> PrefixedSymbols<'a, A> {
     /// A number with a code of this table, or out of band.
     fn number(&mut self, table: &HuffmanTable<A>) -> Result<Option<i32>>
         ensures { let meant = by_table table.now (prefixed_view self.old) in
-            Answers (λ value. (value, prefixed_view self.new)) result meant }
+            Returns (λ value. (value, prefixed_view self.new)) result meant }
     {
         table.decode(&mut self.reader)
     }
@@ -157,7 +157,7 @@ impl<'a, A: Allocator + Clone> PrefixedSymbols<'a, A> {
     fn read_size(&mut self, input: &SymbolInput<'_, A>) -> Result<usize>
         ensures value { let d = input_view input.now in
             let meant = size_of_rows d (prefixed_view self.old) in
-            Answers (λ size. (size, prefixed_view self.new)) result meant }
+            Returns (λ size. (size, prefixed_view self.new)) result meant }
         ensures aligned { OnOk result (IsAligned self.new.reader) }
     {
         let Some(size) = self.number(input.tables.sizes)? else {
@@ -247,7 +247,7 @@ impl<'a, A: Allocator + Clone> PrefixedSymbols<'a, A> {
         ensures value { let d = input_view input.now in
             let before = bitmaps.old.items in
             let class = collective_class d height empty before (prefixed_view self.old) in
-            Gives (λ _. (bitmaps.new.items, prefixed_view self.new)) result (behind before class) }
+            Gives (λ _. (bitmaps.new.items, prefixed_view self.new)) result (concat before class) }
         ensures paid { let before = length bitmaps.old.items in
             let most = input.now.header.now.num_new_symbols in
             PaidButSymbols before most 1 work.old work.new }

@@ -1,11 +1,11 @@
 //! Reads the symbols of a dictionary, in either coding (T.88, 6.5.5 to 6.5.10).
 ghost use Rattle.std.specs.Prelude.{◌+◌, ◌*◌, ◌≤◌, length, OnOk};
-ghost use Rattle.jbig2_base.specs.Answer.{Answers, Gives};
+ghost use Rattle.jbig2_base.specs.Results.{Returns, Gives};
 ghost use Rattle.jbig2_steps.specs.Work.{PaidBut};
 ghost use Rattle.jbig2_text.specs.Paying.{number_steps};
 ghost use Rattle.jbig2_symbol.specs.Paying.{PaidButSymbols, PaysSymbols};
 ghost use Rattle.jbig2_symbol.specs.SymbolReading.{ClassReadings, SymbolReadings};
-ghost use Rattle.jbig2_symbol.specs.inner.SymbolViews.{behind, input_view};
+ghost use Rattle.jbig2_symbol.specs.inner.SymbolViews.{concat, input_view};
 
 use crate::symbol::aggregates::SymbolSize;
 use crate::symbol::input::SymbolInput;
@@ -30,7 +30,7 @@ pub trait ReadSymbols<A: Allocator + Clone> {
         work: &mut Work<L>,
     ) -> Result<Option<i32>>
         ensures value { let meant = readings.width_difference (input_view input.now) (state self.old) in
-            Answers (λ value. (value, state self.new)) result meant }
+            Returns (λ value. (value, state self.new)) result meant }
         ensures paid { PaidBut (number_steps 1) work.old work.new };
 
     /// Reads the bitmap of a symbol, after these new symbols (T.88, 6.5.8).
@@ -67,7 +67,7 @@ pub trait ReadClasses<A: Allocator + Clone> {
         work: &mut Work<L>,
     ) -> Result<Option<i32>>
         ensures value { let meant = readings.height_difference (input_view input.now) (state self.old) in
-            Answers (λ value. (value, state self.new)) result meant }
+            Returns (λ value. (value, state self.new)) result meant }
         ensures paid { PaidBut (number_steps 1) work.old work.new };
 
     /// Reads a class of this height, after this many empty classes, and adds its symbols to
@@ -87,7 +87,7 @@ pub trait ReadClasses<A: Allocator + Clone> {
         ensures value { let d = input_view input.now in
             let before = bitmaps.old.items in
             let class = readings.class_of_height d height empty before (state self.old) in
-            Gives (λ _. (bitmaps.new.items, state self.new)) result (behind before class) }
+            Gives (λ _. (bitmaps.new.items, state self.new)) result (concat before class) }
         ensures paid { let before = length bitmaps.old.items in
             let most = input.now.header.now.num_new_symbols in
             PaidButSymbols before most 1 work.old work.new }
@@ -103,6 +103,6 @@ pub trait ReadClasses<A: Allocator + Clone> {
         work: &mut Work<L>,
     ) -> Result<Option<i32>>
         ensures value { let meant = readings.export_run (input_view input.now) (state self.old) in
-            Answers (λ value. (value, state self.new)) result meant }
+            Returns (λ value. (value, state self.new)) result meant }
         ensures paid { PaidBut (number_steps 1) work.old work.new };
 }

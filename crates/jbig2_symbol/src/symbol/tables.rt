@@ -1,5 +1,5 @@
 //! The tables of prefix codes of a symbol dictionary (T.88, 7.4.2.1.6).
-ghost use Rattle.jbig2_base.specs.Answer.{Answers};
+ghost use Rattle.jbig2_base.specs.Results.{Returns};
 ghost use Rattle.jbig2_coder.specs.inner.TableViews.{customs_view};
 ghost use Rattle.jbig2_symbol.specs.SymbolReading.{symbol_tables, table_for};
 ghost use Rattle.jbig2_symbol.specs.inner.SymbolViews.{tables_view};
@@ -22,7 +22,7 @@ fn table_for<'a, A: Allocator>(
     customs: &'a [&'a HuffmanTable<A>],
 ) -> Result<(&'a HuffmanTable<A>, &'a [&'a HuffmanTable<A>])>
     ensures { let meant = table_for selection (customs_view customs.now) in
-        Answers (λ t. (t.0.now, customs_view t.1.now)) result meant }
+        Returns (λ t. (t.0.now, customs_view t.1.now)) result meant }
 {
     match selection {
         HuffmanTableSelection::TableB1 => Ok((standard.table_a(), customs)),
@@ -44,7 +44,7 @@ pub fn symbol_tables<'a, A: Allocator>(
     referred: &'a [&'a HuffmanTable<A>],
 ) -> Result<SymbolTables<'a, A>>
     ensures value { let meant = symbol_tables flags.now (customs_view referred.now) in
-        Answers (λ tables. tables_view tables) result meant }
+        Returns (λ tables. tables_view tables) result meant }
     ensures causes { HasCause result (BreaksTables flags.now (customs_view referred.now)) }
 {
     let (heights, customs) = table_for(standard, flags.delta_height_table, referred)?;

@@ -1,12 +1,12 @@
 //! The widths of the symbols of a height class (T.88, 6.5.5, step 4 c).
 ghost use Rattle.std.specs.Prelude.{◌≡◌, ◌+◌, ◌*◌, ◌≤◌, pos, ◌+ℤ◌, length, IfOk, sum};
-ghost use Rattle.jbig2_base.specs.Answer.{Answers, Gives};
+ghost use Rattle.jbig2_base.specs.Results.{Returns, Gives};
 ghost use Rattle.jbig2_base.specs.Causes.{HasCause};
 ghost use Rattle.jbig2_steps.specs.Work.{PaidBut};
 ghost use Rattle.jbig2_text.specs.Paying.{number_steps};
 ghost use Rattle.jbig2_symbol.specs.Causes.{BreaksNextWidth};
 ghost use Rattle.jbig2_symbol.specs.HeightClasses.{next_width, size_in_word, width_by, widths_from};
-ghost use Rattle.jbig2_symbol.specs.inner.SymbolViews.{Moved, input_view, with_total};
+ghost use Rattle.jbig2_symbol.specs.inner.SymbolViews.{IsNextWidth, input_view, with_total};
 
 use crate::symbol::input::SymbolInput;
 use crate::symbol::readings::ReadSymbols;
@@ -25,8 +25,8 @@ pub struct ClassWidths<A: Allocator> {
 }
 
 /// The sum of a size and a difference.
-pub fn size_moved(size: u32, difference: i32) -> Result<u32>
-    ensures { Answers (λ s. s) result (size_in_word (pos size +ℤ difference)) }
+pub fn next_size(size: u32, difference: i32) -> Result<u32>
+    ensures { Returns (λ s. s) result (size_in_word (pos size +ℤ difference)) }
 {
     let moved = i64::from(size) + i64::from(difference);
     if moved < 0 || moved > 0xFFFF_FFFF {
@@ -37,7 +37,7 @@ pub fn size_moved(size: u32, difference: i32) -> Result<u32>
 
 /// The sum of two sizes.
 fn size_sum(size: u32, other: u32) -> Result<u32>
-    ensures value { Answers (λ s. s) result (size_in_word (pos size +ℤ pos other)) }
+    ensures value { Returns (λ s. s) result (size_in_word (pos size +ℤ pos other)) }
     ensures exact { IfOk result (λ s. s ≡ size + other) }
 {
     match size.checked_add(other) {
@@ -73,8 +73,8 @@ impl RunningWidths {
     fn move_by(&mut self, difference: Option<i32>) -> Result<Option<u32>>
         ensures value { let before = self.old in
             let meant = width_by before.left before.width before.total difference in
-            Answers (λ next. with_total self.new.total next) result meant }
-        ensures moved { IfOk result (λ next. Moved self.old next self.new) }
+            Returns (λ next. with_total self.new.total next) result meant }
+        ensures moved { IfOk result (λ next. IsNextWidth self.old next self.new) }
     {
         let Some(difference) = difference else {
             return Ok(None);
@@ -82,7 +82,7 @@ impl RunningWidths {
         if self.left == 0 {
             return Err(SymbolError::TooManySymbols.into());
         }
-        let width = size_moved(self.width, difference)?;
+        let width = next_size(self.width, difference)?;
         self.total = size_sum(self.total, width)?;
         self.width = width;
         self.left -= 1;
@@ -102,13 +102,13 @@ impl RunningWidths {
             let state = R.state readings.old in
             let meant = next_width R.readings d before.left before.width before.total state in
             let total = self.new.total in
-            Answers (λ next. (with_total total next, R.state readings.new)) result meant }
+            Returns (λ next. (with_total total next, R.state readings.new)) result meant }
         ensures causes { let d = input_view input.now in
             let before = self.old in
             let state = R.state readings.old in
             HasCause result
             (BreaksNextWidth R.readings d before.left before.width before.total state) }
-        ensures moved { IfOk result (λ next. Moved self.old next self.new) }
+        ensures moved { IfOk result (λ next. IsNextWidth self.old next self.new) }
         ensures paid { PaidBut (number_steps 1) work.old work.new }
     {
         let difference = readings.width_difference(input, work)?;

@@ -1,6 +1,6 @@
 //! Reads the numbers of a text region by the arithmetic coder (T.88, 6.4.6 to 6.4.11).
 ghost use Rattle.std.specs.Prelude.{◌≡◌, ◌≤◌, Ok};
-ghost use Rattle.jbig2_base.specs.Answer.{Answers, Gives};
+ghost use Rattle.jbig2_base.specs.Results.{Returns, Gives};
 ghost use Rattle.jbig2_steps.specs.Work.{PaidBut};
 ghost use Rattle.jbig2_text.specs.Paying.{number_steps};
 ghost use Rattle.jbig2_text.specs.TextCoding.{number_by_coder, coded_start, in_band, next_id, next_integer};
@@ -50,7 +50,7 @@ impl<'a, A: Allocator + Clone> CodedReadings<'a, A> {
 
 /// A number; out of band is an error.
 fn in_band(number: Option<i32>) -> Result<i32>
-    ensures { Answers (λ n. n) result
+    ensures { Returns (λ n. n) result
         (in_band (DecodeError.Symbol SymbolError.UnexpectedOob) number) }
 {
     number.ok_or(DecodeError::Symbol(SymbolError::UnexpectedOob))
@@ -81,7 +81,7 @@ impl<A: Allocator> CodedReadings<'_, A> {
         work: &mut Work<L>,
     ) -> Result<i32>
         ensures value { let meant = number_by_coder procedure (coded_view self.old) in
-            Answers (λ n. (n, coded_view self.new)) result meant }
+            Returns (λ n. (n, coded_view self.new)) result meant }
         ensures paid { PaidBut (number_steps 1) work.old work.new }
     {
         in_band(self.next_integer(procedure, work))

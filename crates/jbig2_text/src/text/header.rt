@@ -1,12 +1,12 @@
 //! Headers of text regions (T.88, 7.4.3.1).
 ghost use Rattle.std.specs.Prelude.{◌≡◌, ◌≤◌, ◌%◌, ◌^◌, IfOk, OnErr, OnOk};
-ghost use Rattle.jbig2_base.specs.Answer.{Answers, Gives};
+ghost use Rattle.jbig2_base.specs.Results.{Returns, Gives};
 ghost use Rattle.jbig2_base.specs.Bits.{IsAligned};
 ghost use Rattle.jbig2_region.specs.inner.PixelArrays.{filled};
 ghost use Rattle.jbig2_text.specs.declared.text.header.TextFields.{TextFields};
 ghost use Rattle.jbig2_text.specs.TextHeader.{corner_of, signed_5, text_flags_at, table_numbers, table_numbers_at, text_fields_at, coding_at, text_header_at};
 ghost use Rattle.jbig2_text.specs.inner.TextViews.{coding_view, header_view, text_pixels};
-ghost use Rattle.jbig2_text.specs.inner.Parts.{other_flags, text_pixels_at};
+ghost use Rattle.jbig2_text.specs.inner.FunctionResults.{other_flags, text_pixels_at};
 ghost use Rattle.jbig2_text.specs.inner.TextViews.{fields_view};
 ghost use Rattle.jbig2_base.specs.Causes.{HasCauseOrNoMemory};
 ghost use Rattle.jbig2_text.specs.Causes.{BreaksTextHeader};
@@ -147,7 +147,7 @@ fn other_flags(flags: u16, combination_operator: CombinationOperator) -> TextReg
 fn parse_flags(reader: &mut Reader<'_>) -> Result<(bool, TextRegionFlags)>
     requires { IsAligned reader.old }
     ensures value { let meant = text_flags_at reader.old.bytes in
-        Answers (λ flags. (flags, reader.new.bytes)) result meant }
+        Returns (λ flags. (flags, reader.new.bytes)) result meant }
     ensures aligned { IsAligned reader.new }
     ensures strips { IfOk result (λ flags. flags.1.log_strip_size ≤ 3) }
 {
@@ -178,7 +178,7 @@ fn parse_table_numbers(
 ) -> Result<Option<TextRegionHuffmanFlags>>
     requires { IsAligned reader.old }
     ensures value { let meant = table_numbers_at use_huffman reader.old.bytes in
-        Answers (λ numbers. (numbers, reader.new.bytes)) result meant }
+        Returns (λ numbers. (numbers, reader.new.bytes)) result meant }
     ensures aligned { IsAligned reader.new }
 {
     if !use_huffman {
@@ -196,7 +196,7 @@ fn parse_refinement_pixels(
     requires { IsAligned reader.old }
     ensures value { let meant = text_pixels_at flags.now.use_refinement
         flags.now.refinement_template reader.old.bytes in
-        Answers (λ pixels. (text_pixels flags.now pixels, reader.new.bytes)) result meant }
+        Returns (λ pixels. (text_pixels flags.now pixels, reader.new.bytes)) result meant }
     ensures unused { IfOk result (λ pixels. pixels ≡ filled 2 (text_pixels flags.now pixels)) }
     ensures aligned { IsAligned reader.new }
 {
@@ -212,7 +212,7 @@ fn parse_refinement_pixels(
 fn parse_fields(reader: &mut Reader<'_>) -> Result<TextFields>
     requires { IsAligned reader.old }
     ensures value { let meant = text_fields_at reader.old.bytes in
-        Answers (λ fields. (fields_view fields, reader.new.bytes)) result meant }
+        Returns (λ fields. (fields_view fields, reader.new.bytes)) result meant }
     ensures aligned { IsAligned reader.new }
     ensures strips { IfOk result (λ fields. fields.flags.log_strip_size ≤ 3) }
     ensures unused { let used = λ (f : TextFields). text_pixels f.flags f.refinement_at_pixels in

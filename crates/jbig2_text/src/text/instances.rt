@@ -1,11 +1,11 @@
 //! The instances of a text region (T.88, 6.4.5). Each is drawn as soon as it is read.
 ghost use Rattle.std.specs.Prelude.{◌≡◌, ◌*◌, ◌≤◌, nat_lt, option_map, OnErr};
-ghost use Rattle.jbig2_base.specs.Answer.{Gives};
+ghost use Rattle.jbig2_base.specs.Results.{Gives};
 ghost use Rattle.jbig2_base.specs.Grid.{blank};
 ghost use Rattle.jbig2_steps.specs.Work.{Paid, PaidBut};
 ghost use Rattle.jbig2_text.specs.Paying.{number_steps};
 ghost use Rattle.jbig2_text.specs.Text.{with_symbol, with_instance, after_instances, text_region};
-ghost use Rattle.jbig2_text.specs.inner.Parts.{KeepsSize, reached, some_strips, strips, with_last, with_next_instance};
+ghost use Rattle.jbig2_text.specs.inner.FunctionResults.{KeepsSize, reached, some_strips, strips, with_last, with_next_instance};
 ghost use Rattle.jbig2_text.specs.inner.TextViews.{params_view, symbol_view};
 
 use crate::text::cursor::Cursor;
@@ -72,7 +72,7 @@ fn draw_instance<R: ReadInstances, A: Allocator + Clone, L: Ledger>(
     ensures paid { PaidBut (number_steps 7) work.old work.new }
 {
     let t = read_t_in_strip(readings, &params.flags, work)?;
-    let t = numbers::moved(cursor.strip_t, t)?;
+    let t = numbers::place_after(cursor.strip_t, t)?;
     let id = readings.id(work)?;
     let alloc = refining.allocator().clone()?;
     let symbol = read_symbol(alloc, readings, refining, params, id, work)?;

@@ -1,8 +1,8 @@
 //! The places of the symbols of a text region (T.88, 6.4.5, step 3 c).
 ghost use Rattle.std.specs.Prelude.{◌≡◌, if◌then◌else◌, IfOk};
-ghost use Rattle.jbig2_base.specs.Answer.{Answers};
-ghost use Rattle.jbig2_text.specs.Text.{is_right, is_bottom, is_last_along_s, grown, edge, symbol_placed};
-ghost use Rattle.jbig2_text.specs.inner.Parts.{s_before, s_behind};
+ghost use Rattle.jbig2_base.specs.Results.{Returns};
+ghost use Rattle.jbig2_text.specs.Text.{is_right, is_bottom, is_last_along_s, far_end, edge, symbol_placed};
+ghost use Rattle.jbig2_text.specs.inner.FunctionResults.{s_before, s_after};
 ghost use Rattle.jbig2_text.specs.inner.TextViews.{instance_view, symbol_view};
 
 use crate::text::header::{ReferenceCorner, TextRegionFlags};
@@ -49,12 +49,12 @@ fn is_last_along_s(flags: &TextRegionFlags) -> bool
 }
 
 /// S at the other end of a symbol.
-fn grown<A: Allocator>(
+fn far_end<A: Allocator>(
     flags: &TextRegionFlags,
     symbol: &InstanceSymbol<'_, A>,
     s: i32,
 ) -> Result<i32>
-    ensures { Answers (λ n. n) result (grown flags.now (symbol_view symbol.now) s) }
+    ensures { Returns (λ n. n) result (far_end flags.now (symbol_view symbol.now) s) }
 {
     if flags.transposed {
         return numbers::last_of(s, symbol.height());
@@ -68,31 +68,31 @@ fn s_before<A: Allocator>(
     symbol: &InstanceSymbol<'_, A>,
     s: i32,
 ) -> Result<i32>
-    ensures { Answers (λ n. n) result (s_before flags.now (symbol_view symbol.now) s) }
+    ensures { Returns (λ n. n) result (s_before flags.now (symbol_view symbol.now) s) }
 {
     if is_last_along_s(flags) {
-        return grown(flags, symbol, s);
+        return far_end(flags, symbol, s);
     }
     Ok(s)
 }
 
 /// S after a symbol that is placed at `s`.
-fn s_behind<A: Allocator>(
+fn s_after<A: Allocator>(
     flags: &TextRegionFlags,
     symbol: &InstanceSymbol<'_, A>,
     s: i32,
 ) -> Result<i32>
-    ensures { Answers (λ n. n) result (s_behind flags.now (symbol_view symbol.now) s) }
+    ensures { Returns (λ n. n) result (s_after flags.now (symbol_view symbol.now) s) }
 {
     if is_last_along_s(flags) {
         return Ok(s);
     }
-    grown(flags, symbol, s)
+    far_end(flags, symbol, s)
 }
 
 /// The first column (or row) of a symbol, where `place` may be its last one.
 fn edge(at_last: bool, side: u32, place: i32) -> Result<i32>
-    ensures { Answers (λ n. n) result (edge at_last side place) }
+    ensures { Returns (λ n. n) result (edge at_last side place) }
 {
     if at_last {
         return numbers::first_of(place, side);
@@ -120,13 +120,13 @@ pub fn place<'a, A: Allocator>(
     t: i32,
 ) -> Result<(Instance<'a, A>, i32)>
     ensures value { let meant = symbol_placed flags.now (symbol_view symbol.entry) s t in
-        Answers (λ i. (instance_view i.0, i.1)) result meant }
+        Returns (λ i. (instance_view i.0, i.1)) result meant }
     ensures symbol { IfOk result (λ i. symbol_view i.0.symbol ≡ symbol_view symbol.entry) }
 {
     let start = s_before(flags, &symbol, s)?;
     let (column, row) = column_and_row(flags.transposed, start, t);
     let x = edge(is_right(flags.reference_corner), symbol.width(), column)?;
     let y = edge(is_bottom(flags.reference_corner), symbol.height(), row)?;
-    let next = s_behind(flags, &symbol, start)?;
+    let next = s_after(flags, &symbol, start)?;
     Ok((Instance { symbol, x, y }, next))
 }

@@ -1,6 +1,6 @@
 //! Reads the numbers of a text region that are coded in prefix codes (T.88, 6.4.6 to 6.4.11).
 ghost use Rattle.std.specs.Prelude.{◌≡◌, ◌≤◌};
-ghost use Rattle.jbig2_base.specs.Answer.{Answers};
+ghost use Rattle.jbig2_base.specs.Results.{Returns};
 ghost use Rattle.jbig2_text.specs.TextCoding.{sized_bytes};
 ghost use Rattle.jbig2_text.specs.inner.TextViews.{prefixed_view};
 
@@ -30,7 +30,7 @@ pub struct PrefixedReadings<'a, 't, A: Allocator> {
 
 /// Reads this many bytes from the next whole byte on.
 fn sized_bytes<'a>(size: i32, reader: &mut Reader<'a>) -> Result<&'a [u8]>
-    ensures { Answers (λ bytes. (bytes.now, reader.new)) result (sized_bytes size reader.old) }
+    ensures { Returns (λ bytes. (bytes.now, reader.new)) result (sized_bytes size reader.old) }
 {
     let Ok(size) = usize::try_from(size) else {
         return Err(ParseError::UnexpectedEof.into());

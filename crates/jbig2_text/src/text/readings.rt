@@ -1,6 +1,6 @@
 //! Reads the numbers of a text region, in either coding (T.88, 6.4.6 to 6.4.11).
 ghost use Rattle.std.specs.Prelude.{◌≡◌, ◌*◌, ◌≤◌, false};
-ghost use Rattle.jbig2_base.specs.Answer.{Answers};
+ghost use Rattle.jbig2_base.specs.Results.{Returns};
 ghost use Rattle.jbig2_base.specs.Grid.{blank};
 ghost use Rattle.jbig2_region.specs.inner.RefinementViews.{reference_view};
 ghost use Rattle.jbig2_steps.specs.Work.{PaidBut, price_of_bitmap};
@@ -26,58 +26,58 @@ pub trait ReadInstances {
 
     /// Reads a difference of T, in strips.
     fn delta_t<L: Ledger>(&mut self, work: &mut Work<L>) -> Result<i32>
-        ensures value { Answers (λ n. (n, state self.new)) result (readings.delta_t (state self.old)) }
+        ensures value { Returns (λ n. (n, state self.new)) result (readings.delta_t (state self.old)) }
         ensures paid { PaidBut (number_steps 1) work.old work.new };
 
     /// Reads the difference of S between the first instances of two strips.
     fn first_s<L: Ledger>(&mut self, work: &mut Work<L>) -> Result<i32>
-        ensures value { Answers (λ n. (n, state self.new)) result (readings.first_s (state self.old)) }
+        ensures value { Returns (λ n. (n, state self.new)) result (readings.first_s (state self.old)) }
         ensures paid { PaidBut (number_steps 1) work.old work.new };
 
     /// Reads a difference of S in a strip, or `None` at its end.
     fn delta_s<L: Ledger>(&mut self, work: &mut Work<L>) -> Result<Option<i32>>
         ensures value { result ≡ readings.delta_s (state self.old) }
-        ensures state { state self.new ≡ readings.behind_delta_s (state self.old) }
+        ensures state { state self.new ≡ readings.after_delta_s (state self.old) }
         ensures paid { PaidBut (number_steps 1) work.old work.new };
 
     /// Reads T in a strip of 2 to the power of `log` rows.
     fn t_bits<L: Ledger>(&mut self, log: u8, work: &mut Work<L>) -> Result<i32>
         requires { log ≤ 3 }
         ensures value { let meant = readings.t_bits log (state self.old) in
-            Answers (λ n. (n, state self.new)) result meant }
+            Returns (λ n. (n, state self.new)) result meant }
         ensures paid { PaidBut (number_steps 1) work.old work.new };
 
     /// Reads the id of a symbol.
     fn id<L: Ledger>(&mut self, work: &mut Work<L>) -> Result<i64>
-        ensures value { Answers (λ n. (n, state self.new)) result (readings.id (state self.old)) }
+        ensures value { Returns (λ n. (n, state self.new)) result (readings.id (state self.old)) }
         ensures paid { PaidBut (number_steps 1) work.old work.new };
 
     /// Reads whether the symbol is refined.
     fn is_refined<L: Ledger>(&mut self, work: &mut Work<L>) -> Result<bool>
         ensures value { let meant = readings.is_refined (state self.old) in
-            Answers (λ b. (b, state self.new)) result meant }
+            Returns (λ b. (b, state self.new)) result meant }
         ensures paid { PaidBut (number_steps 1) work.old work.new };
 
     /// Reads how much wider a refined symbol is.
     fn width_delta<L: Ledger>(&mut self, work: &mut Work<L>) -> Result<i32>
         ensures value { let meant = readings.width_delta (state self.old) in
-            Answers (λ n. (n, state self.new)) result meant }
+            Returns (λ n. (n, state self.new)) result meant }
         ensures paid { PaidBut (number_steps 1) work.old work.new };
 
     /// Reads how much higher a refined symbol is.
     fn height_delta<L: Ledger>(&mut self, work: &mut Work<L>) -> Result<i32>
         ensures value { let meant = readings.height_delta (state self.old) in
-            Answers (λ n. (n, state self.new)) result meant }
+            Returns (λ n. (n, state self.new)) result meant }
         ensures paid { PaidBut (number_steps 1) work.old work.new };
 
     /// Reads how far a refined symbol is moved to the right.
     fn x_delta<L: Ledger>(&mut self, work: &mut Work<L>) -> Result<i32>
-        ensures value { Answers (λ n. (n, state self.new)) result (readings.x_delta (state self.old)) }
+        ensures value { Returns (λ n. (n, state self.new)) result (readings.x_delta (state self.old)) }
         ensures paid { PaidBut (number_steps 1) work.old work.new };
 
     /// Reads how far a refined symbol is moved down.
     fn y_delta<L: Ledger>(&mut self, work: &mut Work<L>) -> Result<i32>
-        ensures value { Answers (λ n. (n, state self.new)) result (readings.y_delta (state self.old)) }
+        ensures value { Returns (λ n. (n, state self.new)) result (readings.y_delta (state self.old)) }
         ensures paid { PaidBut (number_steps 1) work.old work.new };
 
     /// Refines `reference` into a white bitmap. The contexts go on from their state.
@@ -95,7 +95,7 @@ pub trait ReadInstances {
             let height = bitmap.old.height in
             let from = reference_view reference.now in
             let meant = readings.refined from width height refining.old (state self.old) in
-            Answers (λ _. (bitmap.new, refining.new, state self.new)) result meant }
+            Returns (λ _. (bitmap.new, refining.new, state self.new)) result meant }
         ensures paid { PaidBut (32 * price_of_bitmap bitmap.old.width bitmap.old.height)
             work.old work.new };
 }

@@ -1,6 +1,6 @@
 //! Symbols that are refined from others while the instances are read (T.88, 6.4.11).
 ghost use Rattle.std.specs.Prelude.{◌≡◌, ◌+◌, ◌*◌, ◌≤◌, ◌⊎◌, false, IfErr, IfOk};
-ghost use Rattle.jbig2_base.specs.Answer.{Answers, Gives};
+ghost use Rattle.jbig2_base.specs.Results.{Returns, Gives};
 ghost use Rattle.jbig2_base.specs.Grid.{blank, blank_or_overflow};
 ghost use Rattle.jbig2_base.specs.declared.error.DecodeError.TheVariants.{OutOfMemory};
 ghost use Rattle.jbig2_steps.specs.Work.{Paid, PaidBut, price_of_bitmap, worth};
@@ -47,7 +47,7 @@ fn read_deltas<R: ReadInstances, L: Ledger>(
     work: &mut Work<L>,
 ) -> Result<RefinementDeltas>
     ensures value { let meant = refinement_deltas R.readings (R.state readings.old) in
-        Answers (λ deltas. (deltas, R.state readings.new)) result meant }
+        Returns (λ deltas. (deltas, R.state readings.new)) result meant }
     ensures paid { PaidBut (number_steps 4) work.old work.new }
 {
     let width = readings.width_delta(work)?;
@@ -65,7 +65,7 @@ fn read_deltas<R: ReadInstances, L: Ledger>(
 /// The outline of a symbol that is refined from `from`.
 #[tactic(auto, unfolding(crate::specs::Text::refined_outline))]
 fn outline_of<A: Allocator>(from: &Bitmap<A>, deltas: &RefinementDeltas) -> Result<Outline>
-    ensures { Answers (λ o. o) result (refined_outline from.now deltas.now) }
+    ensures { Returns (λ o. o) result (refined_outline from.now deltas.now) }
 {
     let width = numbers::refined_side(from.width(), deltas.width)?;
     let height = numbers::refined_side(from.height(), deltas.height)?;
@@ -83,7 +83,7 @@ fn outline_of<A: Allocator>(from: &Bitmap<A>, deltas: &RefinementDeltas) -> Resu
 /// `OverflowError::BitmapDimension`.
 pub fn check_sides(width: u32, height: u32) -> Result<()>
     ensures { let meant = blank_or_overflow width height false in
-        Answers (λ _. blank width height false) result meant }
+        Returns (λ _. blank width height false) result meant }
 {
     if width > MAX_DIMENSION || height > MAX_DIMENSION {
         return Err(OverflowError::BitmapDimension.into());

@@ -1,13 +1,13 @@
 //! Refinements of symbols, with contexts that are lent (T.88, 6.4.11).
 ghost use Rattle.std.specs.Prelude.{◌≡◌, ◌*◌, ◌≤◌, ◌^◌, length, false, Ok};
-ghost use Rattle.jbig2_base.specs.Answer.{Gives};
+ghost use Rattle.jbig2_base.specs.Results.{Gives};
 ghost use Rattle.jbig2_base.specs.Grid.{blank};
 ghost use Rattle.jbig2_region.specs.RefinementTemplates.{refinement_bits};
 ghost use Rattle.jbig2_region.specs.inner.PixelArrays.{two_pixels, filled};
 ghost use Rattle.jbig2_region.specs.inner.RefinementViews.{reference_view};
 ghost use Rattle.jbig2_steps.specs.Work.{PaidBut, price_of_bitmap};
 ghost use Rattle.jbig2_text.specs.{Refining.{refined_with}, inner.TextViews.{some_pixels}};
-ghost use Rattle.jbig2_text.specs.inner.Parts.{fresh_refining, refining_by};
+ghost use Rattle.jbig2_text.specs.inner.FunctionResults.{fresh_refining, refining_by};
 
 use jbig2_base::bitmap::Bitmap;
 use jbig2_base::bitmap::steps::Work;

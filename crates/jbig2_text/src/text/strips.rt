@@ -1,10 +1,10 @@
 //! The strips of a text region (T.88, 6.4.5, steps 1 to 4).
 ghost use Rattle.std.specs.Prelude.{◌≡◌, ◌≤◌};
-ghost use Rattle.jbig2_base.specs.Answer.{Answers};
+ghost use Rattle.jbig2_base.specs.Results.{Returns};
 ghost use Rattle.jbig2_steps.specs.Work.{PaidBut};
 ghost use Rattle.jbig2_text.specs.Paying.{number_steps};
-ghost use Rattle.jbig2_text.specs.Text.{strip_delta, strip_begun, moved_by, cursor_moved, t_in_strip};
-ghost use Rattle.jbig2_text.specs.inner.Parts.{end_of_strip};
+ghost use Rattle.jbig2_text.specs.Text.{strip_delta, strip_start, with_ids, next_cursor, t_in_strip};
+ghost use Rattle.jbig2_text.specs.inner.FunctionResults.{end_of_strip};
 
 use crate::text::cursor::Cursor;
 use crate::text::header::TextRegionFlags;
@@ -23,7 +23,7 @@ pub fn read_strip_delta<R: ReadInstances, L: Ledger>(
 ) -> Result<i32>
     requires { flags.now.log_strip_size ≤ 3 }
     ensures value { let meant = strip_delta R.readings flags.now (R.state readings.old) in
-        Answers (λ t. (t, R.state readings.new)) result meant }
+        Returns (λ t. (t, R.state readings.new)) result meant }
     ensures paid { PaidBut (number_steps 1) work.old work.new }
 {
     let delta = readings.delta_t(work)?;
@@ -31,7 +31,7 @@ pub fn read_strip_delta<R: ReadInstances, L: Ledger>(
 }
 
 /// Begins a strip. Gives the place of its first instance, from the T and first S of the last strip.
-#[tactic(auto, unfolding(crate::specs::Text::strip_begun))]
+#[tactic(auto, unfolding(crate::specs::Text::strip_start))]
 pub fn begin_strip<R: ReadInstances, L: Ledger>(
     readings: &mut R,
     flags: &TextRegionFlags,
@@ -40,14 +40,14 @@ pub fn begin_strip<R: ReadInstances, L: Ledger>(
     work: &mut Work<L>,
 ) -> Result<Cursor>
     requires { flags.now.log_strip_size ≤ 3 }
-    ensures value { let meant = strip_begun R.readings flags.now strip_t first_s (R.state readings.old) in
-        Answers (λ cursor. (cursor, R.state readings.new)) result meant }
+    ensures value { let meant = strip_start R.readings flags.now strip_t first_s (R.state readings.old) in
+        Returns (λ cursor. (cursor, R.state readings.new)) result meant }
     ensures paid { PaidBut (number_steps 2) work.old work.new }
 {
     let delta = read_strip_delta(readings, flags, work)?;
-    let strip_t = numbers::moved(strip_t, delta)?;
+    let strip_t = numbers::place_after(strip_t, delta)?;
     let first = readings.first_s(work)?;
-    let first_s = numbers::moved(first_s, first)?;
+    let first_s = numbers::place_after(first_s, first)?;
     Ok(Cursor {
         strip_t,
         first_s,
@@ -64,20 +64,20 @@ fn move_by<R: ReadInstances, L: Ledger>(
     work: &mut Work<L>,
 ) -> Result<Cursor>
     requires { flags.now.log_strip_size ≤ 3 }
-    ensures value { let meant = moved_by R.readings flags.now cursor delta (R.state readings.old) in
-        Answers (λ next. (next, R.state readings.new)) result meant }
+    ensures value { let meant = with_ids R.readings flags.now cursor delta (R.state readings.old) in
+        Returns (λ next. (next, R.state readings.new)) result meant }
     ensures paid { PaidBut (number_steps 2) work.old work.new }
 {
     let Some(delta) = delta else {
         return begin_strip(readings, flags, cursor.strip_t, cursor.first_s, work);
     };
-    let apart = numbers::moved(cursor.cur_s, delta)?;
-    let cur_s = numbers::moved(apart, i32::from(flags.delta_s_offset))?;
+    let after_ids = numbers::place_after(cursor.cur_s, delta)?;
+    let cur_s = numbers::place_after(after_ids, i32::from(flags.delta_s_offset))?;
     Ok(Cursor { cur_s, ..cursor })
 }
 
 /// Reads how far the next instance is, and gives its place.
-#[tactic(auto, unfolding(crate::specs::Text::cursor_moved))]
+#[tactic(auto, unfolding(crate::specs::Text::next_cursor))]
 pub fn move_on<R: ReadInstances, L: Ledger>(
     readings: &mut R,
     flags: &TextRegionFlags,
@@ -85,8 +85,8 @@ pub fn move_on<R: ReadInstances, L: Ledger>(
     work: &mut Work<L>,
 ) -> Result<Cursor>
     requires { flags.now.log_strip_size ≤ 3 }
-    ensures value { let meant = cursor_moved R.readings flags.now cursor (R.state readings.old) in
-        Answers (λ next. (next, R.state readings.new)) result meant }
+    ensures value { let meant = next_cursor R.readings flags.now cursor (R.state readings.old) in
+        Returns (λ next. (next, R.state readings.new)) result meant }
     ensures paid { PaidBut (number_steps 3) work.old work.new }
 {
     let delta = readings.delta_s(work)?;
@@ -101,7 +101,7 @@ pub fn read_t_in_strip<R: ReadInstances, L: Ledger>(
 ) -> Result<i32>
     requires { flags.now.log_strip_size ≤ 3 }
     ensures value { let meant = t_in_strip R.readings flags.now (R.state readings.old) in
-        Answers (λ t. (t, R.state readings.new)) result meant }
+        Returns (λ t. (t, R.state readings.new)) result meant }
     ensures paid { PaidBut (number_steps 1) work.old work.new }
 {
     if flags.log_strip_size == 0 {
@@ -112,7 +112,7 @@ pub fn read_t_in_strip<R: ReadInstances, L: Ledger>(
 
 /// Whether a strip may end with this difference of S.
 pub fn check_end(strict: bool, delta: Result<Option<i32>>) -> Result<()>
-    ensures { Answers (λ ends. ends) result (end_of_strip strict delta) }
+    ensures { Returns (λ ends. ends) result (end_of_strip strict delta) }
 {
     if !strict {
         return Ok(());

@@ -1,10 +1,10 @@
 //! The symbols of a text region's instances (T.88, 6.4.10 and 6.4.11).
 ghost use Rattle.std.specs.Prelude.{◌≡◌, option_map};
-ghost use Rattle.jbig2_base.specs.Answer.{Answers, Gives};
+ghost use Rattle.jbig2_base.specs.Results.{Returns, Gives};
 ghost use Rattle.jbig2_steps.specs.Work.{PaidBut};
 ghost use Rattle.jbig2_text.specs.Paying.{number_steps};
 ghost use Rattle.jbig2_text.specs.Text.{instance_symbol, plain_symbol, symbol_of};
-ghost use Rattle.jbig2_text.specs.inner.Parts.{refinement_flag};
+ghost use Rattle.jbig2_text.specs.inner.FunctionResults.{refinement_flag};
 ghost use Rattle.jbig2_text.specs.inner.TextViews.{list_view, params_view, symbol_view};
 
 use crate::text::header::TextRegionFlags;
@@ -44,7 +44,7 @@ fn read_refinement_flag<R: ReadInstances, L: Ledger>(
     work: &mut Work<L>,
 ) -> Result<bool>
     ensures value { let meant = refinement_flag R.readings flags.now (R.state readings.old) in
-        Answers (λ b. (b, R.state readings.new)) result meant }
+        Returns (λ b. (b, R.state readings.new)) result meant }
     ensures paid { PaidBut (number_steps 1) work.old work.new }
 {
     if !flags.use_refinement {
@@ -60,7 +60,7 @@ fn plain_symbol<'a, A: Allocator>(
 ) -> Result<Option<InstanceSymbol<'a, A>>>
     ensures { let symbol = symbol_of (list_view params.now.symbols) id in
         let meant = plain_symbol params.now.strict symbol in
-        Answers (λ s. option_map (λ x. symbol_view x) s) result meant }
+        Returns (λ s. option_map (λ x. symbol_view x) s) result meant }
 {
     match params.symbols.symbol(id) {
         Some(bitmap) => Ok(Some(InstanceSymbol::Shared(bitmap))),

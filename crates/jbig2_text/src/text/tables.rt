@@ -1,9 +1,9 @@
 //! The tables of a text region (T.88, 7.4.3.1.6).
 ghost use Rattle.std.specs.Prelude.{◌≡◌};
-ghost use Rattle.jbig2_base.specs.Answer.{Answers};
+ghost use Rattle.jbig2_base.specs.Results.{Returns};
 ghost use Rattle.jbig2_coder.specs.inner.TableViews.{customs_view};
 ghost use Rattle.jbig2_text.specs.TextRegion.{aggregate_tables, one_of_two, one_of_three, text_tables};
-ghost use Rattle.jbig2_text.specs.inner.Parts.{table_of_refinement, table_of_size};
+ghost use Rattle.jbig2_text.specs.inner.FunctionResults.{table_of_refinement, table_of_size};
 ghost use Rattle.jbig2_text.specs.inner.TextViews.{tables_view};
 ghost use Rattle.jbig2_base.specs.Causes.{HasCause};
 ghost use Rattle.jbig2_text.specs.Causes.{BreaksTextTables};
@@ -55,7 +55,7 @@ fn one_of_two<'a, A: Allocator>(
     customs: &'a [&'a HuffmanTable<A>],
 ) -> Result<(&'a HuffmanTable<A>, &'a [&'a HuffmanTable<A>])>
     ensures { let meant = one_of_two first.now second.now number (customs_view customs.now) in
-        Answers (λ t. (t.0.now, customs_view t.1.now)) result meant }
+        Returns (λ t. (t.0.now, customs_view t.1.now)) result meant }
 {
     match number {
         0 => Ok((first, customs)),
@@ -75,7 +75,7 @@ fn one_of_three<'a, A: Allocator>(
 ) -> Result<(&'a HuffmanTable<A>, &'a [&'a HuffmanTable<A>])>
     ensures { let customs = customs_view customs.now in
         let meant = one_of_three first.now second.now third.now number customs in
-        Answers (λ t. (t.0.now, customs_view t.1.now)) result meant }
+        Returns (λ t. (t.0.now, customs_view t.1.now)) result meant }
 {
     match number {
         0 => Ok((first, customs)),
@@ -92,7 +92,7 @@ fn refinement_table<'a, A: Allocator>(
     customs: &'a [&'a HuffmanTable<A>],
 ) -> Result<(&'a HuffmanTable<A>, &'a [&'a HuffmanTable<A>])>
     ensures { let meant = table_of_refinement number (customs_view customs.now) in
-        Answers (λ t. (t.0.now, customs_view t.1.now)) result meant }
+        Returns (λ t. (t.0.now, customs_view t.1.now)) result meant }
 {
     one_of_two(standard.table_n(), standard.table_o(), number, customs)
 }
@@ -104,7 +104,7 @@ fn size_table<'a, A: Allocator>(
     customs: &'a [&'a HuffmanTable<A>],
 ) -> Result<(&'a HuffmanTable<A>, &'a [&'a HuffmanTable<A>])>
     ensures { let meant = table_of_size number (customs_view customs.now) in
-        Answers (λ t. (t.0.now, customs_view t.1.now)) result meant }
+        Returns (λ t. (t.0.now, customs_view t.1.now)) result meant }
 {
     if number == 0 {
         return Ok((standard.table_a(), customs));
@@ -123,7 +123,7 @@ pub fn select_tables<'a, A: Allocator>(
     standard: &'a StandardHuffmanTables<A>,
 ) -> Result<TextRegionHuffmanTables<'a, A>>
     ensures value { let meant = text_tables flags.now (customs_view customs.now) in
-        Answers (λ tables. tables_view tables) result meant }
+        Returns (λ tables. tables_view tables) result meant }
     ensures causes { HasCause result (BreaksTextTables flags.now (customs_view customs.now)) }
 {
     let (first, second) = (standard.table_f(), standard.table_g());

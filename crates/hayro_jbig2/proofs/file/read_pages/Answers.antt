@@ -4,16 +4,16 @@ use Rattle.jbig2_base.specs.Reading.{is_salvaged}
 use Rattle.jbig2_base.specs.inner.SegmentViews.{segment_views}
 use Rattle.hayro_jbig2.proofs.Books.{left-made, left-more, page-left-out, page-made, page-refused, pages-begin, with_pages}
 use Rattle.hayro_jbig2.specs.inner.ByPages.{pages_view}
-use Rattle.hayro_jbig2.specs.Files.{PageInFile, filed_each, left_out_of}
+use Rattle.hayro_jbig2.specs.Files.{PageInFile, pages_in_file, left_out_of}
 use Rattle.hayro_jbig2.proofs.file.read_pages.Goals as goal
 
 pub loop-own-init : goal.loop-own-init
 loop-own-init g c =
     let gives = c.into_iter-own-iterator.ensures.into_iter_gives in
-    let meant = filed_each c.args.reading (pages_view (into_iter_items c.into_iter-own-iterator.result)) in
+    let meant = pages_in_file c.args.reading (pages_view (into_iter_items c.into_iter-own-iterator.result)) in
     record {
       counted = gives.1 ∙ c.args.segments.ok.0 ∙ ap (λ xs. length xs) (sym gives.0);
-      filed = ap (λ (front : List PageInFile). with_pages front meant) c.new-pages.ensures.items ∙ pages-begin meant ∙ ap (λ xs. filed_each c.args.reading (pages_view xs)) gives.0;
+      filed = ap (λ (front : List PageInFile). with_pages front meant) c.new-pages.ensures.items ∙ pages-begin meant ∙ ap (λ xs. pages_in_file c.args.reading (pages_view xs)) gives.0;
       left = ap (λ xs. c.args.left_out.now.items ++ left_out_of c.args.reading (pages_view xs)) gives.0;
     }
 

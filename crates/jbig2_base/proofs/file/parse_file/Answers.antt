@@ -1,5 +1,5 @@
 use Rattle.std.proofs.Common.{List, Result, subst}
-use Rattle.jbig2_base.specs.Answer.{Gives}
+use Rattle.jbig2_base.specs.Results.{Gives}
 use Rattle.jbig2_base.specs.Segment.{SegmentView}
 use Rattle.jbig2_base.specs.inner.SegmentViews.{file_view}
 use Rattle.jbig2_base.specs.declared.error.DecodeError.{DecodeError}

@@ -1,7 +1,7 @@
 //! The words of packed rows. Only this module indexes them. Each of its calls reads or writes one word, or reads the
 //! two words in which neighbouring pixels lie, and counts that. No other module gets a slice of them.
 ghost use Rattle.std.specs.Prelude.{◌≡◌, ℕ, ◌+◌, ◌-◌, ◌*◌, ◌/◌, ◌%◌, ◌^◌, ◌<◌, ◌≤◌, [], OnErr, Ok, true, if◌then◌else◌, length, slice_index, slice_set, bit_or};
-ghost use Rattle.jbig2_base.specs.Answer.{Gives};
+ghost use Rattle.jbig2_base.specs.Results.{Gives};
 ghost use Rattle.jbig2_base.specs.Bits.{bit};
 ghost use Rattle.jbig2_base.specs.Counts.{words_copied};
 ghost use Rattle.jbig2_base.specs.inner.Combines.{IsBlockOnBoth, CombinesBlockOfWords};

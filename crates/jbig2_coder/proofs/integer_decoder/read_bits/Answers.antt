@@ -2,8 +2,8 @@ use Rattle.std.proofs.Common.{◌≡◌, ℕ, ◌+◌, ◌*◌, ◌^◌, ◌<◌
 use Rattle.std.proofs.Math.Nat.{pow-suc}
 use Rattle.jbig2_base.specs.Grid.{bit_number}
 use Rattle.jbig2_coder.specs.Integers.{Reading, next, read_more, prev_of, value_of_bits}
-use Rattle.jbig2_coder.specs.inner.Stands.{Stands}
-use Rattle.jbig2_coder.proofs.Readings.{read_more-none, read_more-next, number-none, number-next, Stands-bytes}
+use Rattle.jbig2_coder.specs.inner.IntegerStates.{HasRead}
+use Rattle.jbig2_coder.proofs.Readings.{read_more-none, read_more-next, number-none, number-next, HasRead-bytes}
 use Rattle.jbig2_coder.proofs.integer_decoder.read_bits.Goals as goal
 
 grown : (value bit n : ℕ) → value < 2 ^ n → bit < 2 → 2 * value + bit < 2 ^ (n + 1)
@@ -29,8 +29,8 @@ loop-preserved g c = record {
       number-next prev_of c.loop.counter c.args.decoder.now.bytes r c.loop.value c.read_bit.result (c.loop.invariant.value start r s) bit;
   reads = λ start r s.
       let n = read_more prev_of c.loop.counter c.args.decoder.now.bytes r in
-      let t = Stands-bytes prev_of start _ _ n _ _ _ _ c.loop.invariant.bytes (c.read_bit.ensures.reads start n (c.loop.invariant.reads start r s)) in
-      subst (λ (m : Reading). Stands prev_of start m c.read_bit.new.prev c.read_bit.new.decoder c.read_bit.new.contexts c.read_bit.new.steps) (read_more-next prev_of c.loop.counter c.args.decoder.now.bytes r) t;
+      let t = HasRead-bytes prev_of start _ _ n _ _ _ _ c.loop.invariant.bytes (c.read_bit.ensures.reads start n (c.loop.invariant.reads start r s)) in
+      subst (λ (m : Reading). HasRead prev_of start m c.read_bit.new.prev c.read_bit.new.decoder c.read_bit.new.contexts c.read_bit.new.steps) (read_more-next prev_of c.loop.counter c.args.decoder.now.bytes r) t;
 }
 
 pub returns-clause-value : goal.returns-clause-value
@@ -41,4 +41,4 @@ returns-clause-value g c start r s =
 pub returns-clause-reads : goal.returns-clause-reads
 returns-clause-reads g c start r s =
     let e : c.loop.counter ≡ c.args.count = omega arith in
-    subst (λ n. Stands prev_of start (read_more prev_of n c.args.decoder.now.bytes r) c.loop.prev c.loop.decoder c.loop.contexts c.loop.steps) e (c.loop.invariant.reads start r s)
+    subst (λ n. HasRead prev_of start (read_more prev_of n c.args.decoder.now.bytes r) c.loop.prev c.loop.decoder c.loop.contexts c.loop.steps) e (c.loop.invariant.reads start r s)

@@ -1,6 +1,6 @@
 use Rattle.std.proofs.Common.{is_some}
-use Rattle.jbig2_commands.specs.inner.Printing.{told}
+use Rattle.jbig2_commands.specs.inner.Printing.{data_of}
 use Rattle.jbig2_commands.proofs.calls.print_calls.Given as goal
 
 abbrev pub ghosts-decode_to : goal.ghosts-decode_to
-ghosts-decode_to g a = record { is_told = is_some (told g.O.Write.contents a.output) }
+ghosts-decode_to g a = record { is_told = is_some (data_of g.O.Write.contents a.output) }

@@ -5,7 +5,7 @@ use Rattle.jbig2_base.specs.Grid.{Grid}
 use Rattle.jbig2_base.specs.declared.error.DecodeError.{DecodeError}
 use Rattle.jbig2_halftone.specs.GrayScale.{GrayScale, gray_scale_image, gray_values, image_is_too_large, planes_of}
 use Rattle.jbig2_halftone.specs.inner.HalftoneViews.{gray_view}
-use Rattle.jbig2_halftone.specs.inner.Stages.{after_lane_rows}
+use Rattle.jbig2_halftone.specs.inner.FunctionResults.{after_lane_rows}
 use Rattle.jbig2_halftone.proofs.GrayCounts.{image-lanes, no-lane-rows, stops-lanes, stops-none, stops-some}
 use Rattle.jbig2_halftone.proofs.DrawSteps.{on-any}
 use Rattle.jbig2_halftone.proofs.PlaneLemmas.{planes-sized}

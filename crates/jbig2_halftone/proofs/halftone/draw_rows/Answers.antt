@@ -8,7 +8,7 @@ use Rattle.jbig2_halftone.specs.Patterns.{Patterns}
 use Rattle.jbig2_halftone.specs.inner.DictionaryViews.{dictionary_view}
 use Rattle.jbig2_halftone.specs.Steps.{words_of_cells}
 use Rattle.jbig2_halftone.specs.inner.NextValues.{row_values}
-use Rattle.jbig2_halftone.specs.inner.Stages.{after_lane_rows}
+use Rattle.jbig2_halftone.specs.inner.FunctionResults.{after_lane_rows}
 use Rattle.jbig2_halftone.proofs.CellLemmas.{x-further, y-further, below-x, below-y, rows-drawn, rows-fault, rows-none}
 use Rattle.jbig2_halftone.proofs.DrawSteps.{rows-start, rows-more, rows-within}
 use Rattle.jbig2_halftone.proofs.RowLemmas.{no-counts}

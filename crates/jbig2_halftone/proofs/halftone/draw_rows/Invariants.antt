@@ -7,7 +7,7 @@ use Rattle.jbig2_halftone.specs.PatternHeader.{HasSize}
 use Rattle.jbig2_halftone.specs.inner.DictionaryViews.{dictionary_view}
 use Rattle.jbig2_halftone.specs.Steps.{words_of_cells}
 use Rattle.jbig2_halftone.specs.inner.CellPlaces.{x_of, y_of}
-use Rattle.jbig2_halftone.specs.inner.Stages.{after_lane_rows}
+use Rattle.jbig2_halftone.specs.inner.FunctionResults.{after_lane_rows}
 use Rattle.jbig2_halftone.proofs.halftone.draw_rows.Given as goal
 
 abbrev pub invariant-loop-m : goal.invariant-loop-m

@@ -1,7 +1,7 @@
 use Rattle.std.proofs.Common.{◌≡◌, ℕ, ◌+◌, ◌-◌, ◌*◌, ◌/◌, ◌<◌, ◌≤◌, true, false, eqb, List, [], length, drop, refl, ap, sym, subst, ◌∙◌, arith}
 use Rattle.std.specs.Prelude.{◌||◌}
 use Rattle.std.proofs.lemmas.Bool.{eq-eqb, or_left, or_right}
-use Rattle.jbig2_base.specs.Answer.{Answers}
+use Rattle.jbig2_base.specs.Results.{Returns}
 use Rattle.jbig2_base.proofs.CauseSteps.{err-answers}
 use Rattle.jbig2_base.proofs.LaneCounts.{lanes-none, lanes-then}
 use Rattle.jbig2_mmr.specs.T6.{Decoded, mmr_rows, row, ends_block, rows_of}
@@ -9,7 +9,7 @@ use Rattle.jbig2_mmr.specs.inner.T6Reading.{Rest, after_end, row_above}
 use Rattle.jbig2_mmr.specs.inner.T6Calls.{ReadRow}
 use Rattle.jbig2_mmr.proofs.Causes.{mmr_cause}
 use Rattle.jbig2_mmr.proofs.T6Bits.{end-after, end-none}
-use Rattle.jbig2_mmr.proofs.T6Decoding.{RowsReading, rows-start, rows-grid, rows-early, rows-last, rows-fault, rows-next, answer-whole, answer-missing, answer-none, drawn-none, drawn-rows}
+use Rattle.jbig2_mmr.proofs.T6Decoding.{RowsReading, rows-start, rows-grid, rows-early, rows-last, rows-fault, rows-next, result-whole, result-missing, result-none, drawn-none, drawn-rows}
 use Rattle.jbig2_base.specs.declared.error.{DecodeError.TheVariants.{Region}, RegionError.TheVariants.{InvalidMmrData}}
 use Rattle.jbig2_base.proofs.NumberLemmas.{length-bits}
 use Rattle.jbig2_mmr.proofs.T6Steps.{rows_moves, moves-none, moves-most, moves-then, next-moves, stop-moves, all-moves, used-bits, taken-bits, row-bound, both, drop-shorter, end-shorter}
@@ -24,7 +24,7 @@ returns-then-width-eq0 g c =
       | then-width-eq0-via-else-width-eq0+then-height-eq0 w ↦ or_right _ _ (eq-eqb c.args.bitmap.now.height 0 (sym c.height-height.ensures.value ∙ w.if-height-eq0.true))
     ] in
     record {
-      value = answer-none c.args.strict c.args.bitmap.now c.args.bytes.now c.requires none;
+      value = result-none c.args.strict c.args.bitmap.now c.args.bytes.now c.requires none;
       causes = mmr_cause c.args.strict c.args.bitmap.now.width c.args.bitmap.now.height c.args.bytes.now _ tt;
       lanes = lanes-none c.args.steps.now;
       work = moves-none _ c.args.steps.now;
@@ -57,7 +57,7 @@ returns-then-skip_end_of_block g c =
     ∙ ap (λ (bs : List ℕ). length bs - length (drop 24 c.loop-y.reader.left) / 8) inv.bytes in
     let early = rows-early w h c.loop-y.y c.loop-y.reader.left c.loop-y.bitmap (rows_of w h c.args.bytes.now) inv.reading (omega (arith, c.loop-y-test.true, c.height-height.ensures.value)) ends in
     let drawn = rows-grid w h c.loop-y.y c.loop-y.reader.left c.loop-y.bitmap (rows_of w h c.args.bytes.now) inv.reading in
-    let value : Answers (λ (n : ℕ). let d : Decoded = record { grid = c.loop-y.bitmap; used = n } in d) c.missing_rows.result (mmr_rows c.args.strict w h c.args.bytes.now) = answer-missing c.args.strict w h c.args.bytes.now inv.reading.done (drop 24 c.loop-y.reader.left) c.loop-y.bitmap c.bytes_used.result c.missing_rows.result early drawn used c.missing_rows.ensures in
+    let value : Returns (λ (n : ℕ). let d : Decoded = record { grid = c.loop-y.bitmap; used = n } in d) c.missing_rows.result (mmr_rows c.args.strict w h c.args.bytes.now) = result-missing c.args.strict w h c.args.bytes.now inv.reading.done (drop 24 c.loop-y.reader.left) c.loop-y.bitmap c.bytes_used.result c.missing_rows.result early drawn used c.missing_rows.ensures in
     record {
       value = value;
       causes = mmr_cause c.args.strict w h c.args.bytes.now _ (err-answers _ _ _ value);
@@ -79,7 +79,7 @@ returns-then-not-read_row g c =
     let left : c.skip_end_of_block.new.self.left ≡ c.loop-y.reader.left = ap (λ (r : Rest). r.left) c.skip_end_of_block.ensures.rest ∙ end-none c.loop-y.reader.left goes_on in
     let read = subst (λ (ys : List ℕ). ReadRow (row c.loop-y.bitmap.width (row_above c.loop-y.bitmap c.loop-y.y) ys) false c.loop-y.bitmap c.read_row.new.bitmap c.loop-y.y c.read_row.new.reader.left) left c.if-not-read_row.ensures.value in
     let fault = rows-fault w h c.loop-y.y c.loop-y.reader.left c.read_row.new.reader.left c.loop-y.bitmap c.read_row.new.bitmap (rows_of w h c.args.bytes.now) inv.reading (omega (arith, c.loop-y-test.true, c.height-height.ensures.value)) goes_on read in
-    let value : Answers (λ (n : ℕ). let d : Decoded = record { grid = c.read_row.new.bitmap; used = n } in d) c.missing_rows-then-not-read_row.result (mmr_rows c.args.strict w h c.args.bytes.now) = answer-missing c.args.strict w h c.args.bytes.now inv.reading.done [] c.read_row.new.bitmap (length c.args.bytes.now) c.missing_rows-then-not-read_row.result fault.0 fault.1 (omega arith) c.missing_rows-then-not-read_row.ensures in
+    let value : Returns (λ (n : ℕ). let d : Decoded = record { grid = c.read_row.new.bitmap; used = n } in d) c.missing_rows-then-not-read_row.result (mmr_rows c.args.strict w h c.args.bytes.now) = result-missing c.args.strict w h c.args.bytes.now inv.reading.done [] c.read_row.new.bitmap (length c.args.bytes.now) c.missing_rows-then-not-read_row.result fault.0 fault.1 (omega arith) c.missing_rows-then-not-read_row.ensures in
     record {
       value = value;
       causes = mmr_cause c.args.strict w h c.args.bytes.now _ (err-answers _ _ _ value);
@@ -124,7 +124,7 @@ returns g c =
     let last = rows-last w h c.loop-y.y c.loop-y.reader.left c.loop-y.bitmap (rows_of w h c.args.bytes.now) inv.reading (omega (arith, c.loop-y-test.false, c.height-height.ensures.value)) in
     let drawn = rows-grid w h c.loop-y.y c.loop-y.reader.left c.loop-y.bitmap (rows_of w h c.args.bytes.now) inv.reading in
     record {
-      value = answer-whole c.args.strict w h c.args.bytes.now inv.reading.done (after_end c.loop-y.reader.left) c.loop-y.bitmap c.bytes_used-2.result last drawn used;
+      value = result-whole c.args.strict w h c.args.bytes.now inv.reading.done (after_end c.loop-y.reader.left) c.loop-y.bitmap c.bytes_used-2.result last drawn used;
       causes = mmr_cause c.args.strict w h c.args.bytes.now _ tt;
       lanes = inv.lanes;
       work = moves-most (rows_moves ((w + 63) / 64) c.loop-y.y (8 * length c.args.bytes.now - length c.loop-y.reader.left)) _ c.args.steps.now c.loop-y.steps inv.work

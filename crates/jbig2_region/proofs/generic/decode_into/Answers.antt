@@ -1,7 +1,7 @@
 use Rattle.std.proofs.Common.{◌≡◌, ℕ, ◌+◌, ◌*◌, Bool, List, Result, sym, ap, ◌∙◌, length, drop, arith}
 use Rattle.jbig2_region.specs.inner.GenericViews.{header_view}
 use Rattle.jbig2_region.specs.Generic.{coding_of, generic_region}
-use Rattle.jbig2_region.specs.inner.Holds.{DecodesRegion, Holds}
+use Rattle.jbig2_region.specs.inner.RegionStates.{DecodesRegion, HasDecoded}
 use Rattle.jbig2_region.specs.GenericSteps.{CountsCoded}
 use Rattle.jbig2_region.specs.Raster.{fresh_contexts, no_pixels}
 use Rattle.jbig2_region.specs.Templates.{context_bits, template_pixels}
@@ -9,7 +9,7 @@ use Rattle.jbig2_region.specs.inner.PixelArrays.{is_extended}
 use Rattle.jbig2_region.specs.declared.template.AdaptiveTemplatePixel.{AdaptiveTemplatePixel}
 use Rattle.jbig2_base.proofs.Causes.{same-ok}
 use Rattle.jbig2_base.proofs.Prices.{price-same}
-use Rattle.jbig2_base.specs.Answer.{Answers}
+use Rattle.jbig2_base.specs.Results.{Returns}
 use Rattle.jbig2_base.specs.Counts.{Counts, KeepsLanes, words_of}
 use Rattle.jbig2_base.specs.Grid.{Grid}
 use Rattle.jbig2_base.specs.declared.error.DecodeError.{DecodeError}
@@ -20,7 +20,7 @@ use Rattle.jbig2_mmr.specs.T6.{mmr_rows}
 use Rattle.jbig2_region.specs.RegionInfo.{IsWhiteFor}
 use Rattle.jbig2_region.specs.declared.region_info.RegionSegmentInfo.{RegionSegmentInfo}
 use Rattle.jbig2_region.proofs.GenericPrices.{coded-paid}
-use Rattle.jbig2_region.proofs.GenericLemmas.{as-coded, region-decoded, answer-decoded, contexts-decoded, counts-decoded, whole-slice}
+use Rattle.jbig2_region.proofs.GenericLemmas.{as-coded, region-decoded, result-decoded, contexts-decoded, counts-decoded, whole-slice}
 use Rattle.jbig2_region.proofs.generic.decode_into.Goals as goal
 
 pub returns-clause-value : goal.returns-clause-value
@@ -28,7 +28,7 @@ returns-clause-value g c =
     let h = c.args.header.now in
     let decoded = as-coded h (λ (a : List AdaptiveTemplatePixel). DecodesRegion (coding_of h.tpgdon h.template (template_pixels (is_extended h.adaptive_template_pixels) h.template a)) c.args.bitmap.now c.new-decoder.result c.deref_mut.result.now c.decode_coded.new.bitmap c.decode_coded.new.decoder c.decode_coded.new.contexts) c.if-header.false c.decode_coded.ensures.holds in
     let fresh : c.deref_mut.result.now ≡ fresh_contexts (context_bits c.args.header.now.template) = c.deref_mut.ensures.value ∙ sym (same-ok _ _ c.in_ok-fresh_contexts.ensures) ∙ ap (λ (n : ℕ). fresh_contexts n) c.context_bits.ensures in
-    answer-decoded (header_view c.args.header.now) c.decode_coded.new.bitmap c.decode_coded.new.decoder c.decode_coded.new.contexts c.if-header.false
+    result-decoded (header_view c.args.header.now) c.decode_coded.new.bitmap c.decode_coded.new.decoder c.decode_coded.new.contexts c.if-header.false
     (region-decoded (header_view c.args.header.now) c.args.bitmap.now c.decode_coded.new.bitmap c.new-decoder.result c.decode_coded.new.decoder c.deref_mut.result.now c.decode_coded.new.contexts c.requires.white c.new-decoder.ensures.bytes c.new-decoder.ensures.registers fresh decoded)
 
 pub returns-clause-contexts : goal.returns-clause-contexts
@@ -36,7 +36,7 @@ returns-clause-contexts g c =
     let h = c.args.header.now in
     let decoded = as-coded h (λ (a : List AdaptiveTemplatePixel). DecodesRegion (coding_of h.tpgdon h.template (template_pixels (is_extended h.adaptive_template_pixels) h.template a)) c.args.bitmap.now c.new-decoder.result c.deref_mut.result.now c.decode_coded.new.bitmap c.decode_coded.new.decoder c.decode_coded.new.contexts) c.if-header.false c.decode_coded.ensures.holds in
     let fresh : c.deref_mut.result.now ≡ fresh_contexts (context_bits c.args.header.now.template) = c.deref_mut.ensures.value ∙ sym (same-ok _ _ c.in_ok-fresh_contexts.ensures) ∙ ap (λ (n : ℕ). fresh_contexts n) c.context_bits.ensures in
-    let holds : Holds c.args.header.now.region_info.width c.args.header.now.region_info.height c.args.header.now.bytes.now (generic_region (header_view c.args.header.now)) c.decode_coded.new.bitmap c.decode_coded.new.decoder c.decode_coded.new.contexts =
+    let holds : HasDecoded c.args.header.now.region_info.width c.args.header.now.region_info.height c.args.header.now.bytes.now (generic_region (header_view c.args.header.now)) c.decode_coded.new.bitmap c.decode_coded.new.decoder c.decode_coded.new.contexts =
     region-decoded (header_view c.args.header.now) c.args.bitmap.now c.decode_coded.new.bitmap c.new-decoder.result c.decode_coded.new.decoder c.deref_mut.result.now c.decode_coded.new.contexts c.requires.white c.new-decoder.ensures.bytes c.new-decoder.ensures.registers fresh decoded in
     contexts-decoded (header_view c.args.header.now) c.args.contexts.now.items _ c.if-header.false
     (whole-slice c.fresh_contexts.new.contexts.len c.decode_coded.new.contexts (drop (length c.decode_coded.new.contexts) c.fresh_contexts.new.contexts.items) (c.decode_coded.auto.contexts ∙ c.deref_mut.ensures.len) ∙ holds.contexts)
@@ -55,7 +55,7 @@ returns-clause-paid g c =
     omega (arith, within)
 
 -- MMR data
-decoded-paid : (result : Result ℕ DecodeError) (info : RegionSegmentInfo) (old new : Grid) (strict : Bool) (bytes : List ℕ) (before after : Counts) → IsWhiteFor info old → Answers (λ used. record { grid = new; used = used }) result (mmr_rows strict old.width old.height bytes) → KeepsLanes before after → MovesWithin (3 * (words_of old + 8 * bytes_taken result (length bytes))) before after → CountsWithin (price_of_bitmap info.width info.height + length bytes) before after
+decoded-paid : (result : Result ℕ DecodeError) (info : RegionSegmentInfo) (old new : Grid) (strict : Bool) (bytes : List ℕ) (before after : Counts) → IsWhiteFor info old → Returns (λ used. record { grid = new; used = used }) result (mmr_rows strict old.width old.height bytes) → KeepsLanes before after → MovesWithin (3 * (words_of old + 8 * bytes_taken result (length bytes))) before after → CountsWithin (price_of_bitmap info.width info.height + length bytes) before after
 decoded-paid result info old new strict bytes before after white value lanes moves =
     let paid = decode-paid result old new strict bytes before after value lanes moves in
     omega (arith, paid, price-same old.width info.width old.height info.height (ap (λ (g : Grid). g.width) white) (ap (λ (g : Grid). g.height) white))

@@ -1,7 +1,7 @@
 use Rattle.std.proofs.Common.{arith, refl, ◌≡◌, ◌≤◌, ◌+◌, ◌*◌, ◌∙◌, ℕ, sym, ap, subst, cond}
 use Rattle.jbig2_base.proofs.LaneCounts.{lanes-none, lanes-then}
 use Rattle.jbig2_base.specs.Counts.{Counts}
-use Rattle.jbig2_region.specs.inner.Holds.{Holds}
+use Rattle.jbig2_region.specs.inner.RegionStates.{HasDecoded}
 use Rattle.jbig2_region.specs.inner.Neighbours.{DecodesPixels, is_nominal_layout, layout_coding, layout_loads, layout_pixels}
 use Rattle.jbig2_region.specs.Raster.{Region, no_pixels}
 use Rattle.jbig2_region.specs.inner.Rows.{after_rows}
@@ -26,7 +26,7 @@ loop-y-init g c =
       width = refl;
       height = refl;
       bytes = refl;
-      holds = subst (λ (n : Region). Holds c.args.bitmap.now.width c.args.bitmap.now.height c.args.decoder.now.bytes n c.args.bitmap.now c.args.decoder.now c.args.contexts.now) (sym none) (region-start c.args.bitmap.now.width c.args.bitmap.now.height c.args.bitmap.now c.args.decoder.now c.args.contexts.now c.requires.white);
+      holds = subst (λ (n : Region). HasDecoded c.args.bitmap.now.width c.args.bitmap.now.height c.args.decoder.now.bytes n c.args.bitmap.now c.args.decoder.now c.args.contexts.now) (sym none) (region-start c.args.bitmap.now.width c.args.bitmap.now.height c.args.bitmap.now c.args.decoder.now c.args.contexts.now c.requires.white);
       predicted = ap (λ (n : Region). n.predicted) none;
       none = λ _. refl;
       decisions = counted-none (layout_pixels c.args.layout.now) (is_nominal_layout c.args.layout.now.adaptive) (layout_coding c.args.layout.now c.args.row_context) c.args.bitmap.now.width c.args.bitmap.now.height c.args.decoder.now.bytes start c.args.steps.now.decisions;

@@ -1,5 +1,5 @@
 use Rattle.std.proofs.Common.{rules, subst, sym, ℕ, Option}
-use Rattle.jbig2_region.specs.inner.Holds.{BeginsRow}
+use Rattle.jbig2_region.specs.inner.RegionStates.{BeginsRow}
 use Rattle.jbig2_region.proofs.RasterLemmas.{begun-plainly}
 use Rattle.jbig2_region.proofs.raster.begin_row.Goals as goal
 

@@ -3,7 +3,7 @@ use Rattle.jbig2_base.specs.Counts.{Counts}
 use Rattle.jbig2_base.specs.Grid.{Grid, pixel_at}
 use Rattle.jbig2_base.specs.Bits.{bit}
 use Rattle.jbig2_region.specs.inner.Stretches.{rest_of}
-use Rattle.jbig2_region.specs.inner.Codes.{CountsCodes, Takes}
+use Rattle.jbig2_region.specs.inner.DecodedPixels.{CountsPart, Takes}
 use Rattle.jbig2_region.specs.inner.RefinementBlocks.{Block}
 use Rattle.jbig2_region.specs.inner.RefinementViews.{reference_view}
 use Rattle.jbig2_region.specs.inner.RefinementWindows.{context_of, known_of, nine_of, three_of, windowed_coding}
@@ -94,7 +94,7 @@ returns-clause-decoded g c =
       width = ap (λ (b : Grid). b.width) c.store_pixels.ensures.value;
       height = ap (λ (b : Grid). b.height) c.store_pixels.ensures.value;
       bytes = c.loop-done-3.invariant.block.bytes;
-      decisions = subst (λ (n : ℕ). CountsCodes (windowed_coding c.args.coding.now) c.args.row.predicted c.args.stretch.x c.args.row.y c.args.stretch.count c.args.bitmap.now c.args.decoder.now c.args.contexts.now c.args.steps.now.decisions n) after whole.decisions;
+      decisions = subst (λ (n : ℕ). CountsPart (windowed_coding c.args.coding.now) c.args.row.predicted c.args.stretch.x c.args.row.y c.args.stretch.count c.args.bitmap.now c.args.decoder.now c.args.contexts.now c.args.steps.now.decisions n) after whole.decisions;
       rest = ap (λ (t : Counts). rest_of t) c.store_pixels.ensures.steps ∙ ap (λ (t : Counts). rest_of t) c.loop-done-3.invariant.block.steps;
     }
 

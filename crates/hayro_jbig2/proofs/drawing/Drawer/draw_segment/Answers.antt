@@ -1,22 +1,22 @@
 use Rattle.std.proofs.Common.{◌≡◌, ◌⊎◌, ℕ, Result, Err, inl, inr, ⊎_elim, refl, sym, ap, subst, arith}
-use Rattle.jbig2_base.specs.Answer.{Gives}
+use Rattle.jbig2_base.specs.Results.{Gives}
 use Rattle.jbig2_base.specs.Reading.{is_strict}
 use Rattle.jbig2_base.specs.inner.SegmentViews.{segment_view}
 use Rattle.jbig2_base.specs.declared.error.DecodeError.{DecodeError}
 use Rattle.jbig2_base.specs.declared.error.DecodeError.TheVariants.{OutOfMemory}
 use Rattle.jbig2_base.specs.declared.reading.Reading.{Reading}
 use Rattle.hayro_jbig2.specs.Page.{Drawing, or_left_out, segment_by}
-use Rattle.hayro_jbig2.specs.inner.Whole.{touched}
+use Rattle.hayro_jbig2.specs.inner.WholePages.{after_immediate}
 use Rattle.hayro_jbig2.proofs.drawing.Drawer.draw_segment.Goals as goal
 
 -- a segment that failed is left out
-left : (reading : Reading) (number : ℕ) (d d1 d' : Drawing) (meant : Result Drawing DecodeError) (e : DecodeError) (answer : Result (Unit {0}) DecodeError)
-    → (e ≡ OutOfMemory) ⊎ (meant ≡ Err e) → (e ≡ OutOfMemory) ⊎ (touched d1 ≡ touched d) → (e ≡ OutOfMemory → answer ≡ Err OutOfMemory) → Gives (λ _. d') answer (or_left_out reading number d1 (Err e)) → Gives (λ _. d') answer (or_left_out reading number d meant)
-left reading number d d1 d' meant e answer (inl memory) as_was refused gives = subst (λ (a : Result (Unit {0}) DecodeError). Gives (λ _. d') a (or_left_out reading number d meant)) (sym (refused memory)) (inl refl)
-left reading number d d1 d' meant e answer (inr failed) (inl memory) refused gives = subst (λ (a : Result (Unit {0}) DecodeError). Gives (λ _. d') a (or_left_out reading number d meant)) (sym (refused memory)) (inl refl)
-left reading number d d1 d' meant e answer (inr failed) (inr same) refused gives =
-    subst (λ (r : Result Drawing DecodeError). Gives (λ _. d') answer (or_left_out reading number d r)) (sym failed)
-    (subst (λ (b : Drawing). Gives (λ _. d') answer (or_left_out reading number b (Err e))) same gives)
+left : (reading : Reading) (number : ℕ) (d d1 d' : Drawing) (meant : Result Drawing DecodeError) (e : DecodeError) (result : Result (Unit {0}) DecodeError)
+    → (e ≡ OutOfMemory) ⊎ (meant ≡ Err e) → (e ≡ OutOfMemory) ⊎ (after_immediate d1 ≡ after_immediate d) → (e ≡ OutOfMemory → result ≡ Err OutOfMemory) → Gives (λ _. d') result (or_left_out reading number d1 (Err e)) → Gives (λ _. d') result (or_left_out reading number d meant)
+left reading number d d1 d' meant e result (inl memory) as_was refused gives = subst (λ (a : Result (Unit {0}) DecodeError). Gives (λ _. d') a (or_left_out reading number d meant)) (sym (refused memory)) (inl refl)
+left reading number d d1 d' meant e result (inr failed) (inl memory) refused gives = subst (λ (a : Result (Unit {0}) DecodeError). Gives (λ _. d') a (or_left_out reading number d meant)) (sym (refused memory)) (inl refl)
+left reading number d d1 d' meant e result (inr failed) (inr same) refused gives =
+    subst (λ (r : Result Drawing DecodeError). Gives (λ _. d') result (or_left_out reading number d r)) (sym failed)
+    (subst (λ (b : Drawing). Gives (λ _. d') result (or_left_out reading number b (Err e))) same gives)
 
 pub returns-in-Ok-clause-value : goal.returns-in-Ok-clause-value
 returns-in-Ok-clause-value g c = ap (λ (r : Result Drawing DecodeError). or_left_out c.args.self.now.reading c.args.segment.now.header.segment_number c.args.canvas.now r) c.in-Ok.ensures.value
@@ -32,5 +32,5 @@ pub leave_out-requires : goal.leave_out-requires
 leave_out-requires g c =
     ⊎_elim
     (λ (memory : c.in-Err.error ≡ OutOfMemory). inl memory)
-    (λ (same : touched c.try_segment.new.canvas ≡ touched c.args.canvas.now). inr (omega (arith, c.requires, ap (λ (d : Drawing). d.passed_over.count) same)))
+    (λ (same : after_immediate c.try_segment.new.canvas ≡ after_immediate c.args.canvas.now). inr (omega (arith, c.requires, ap (λ (d : Drawing). d.passed_over.count) same)))
     c.in-Err.ensures.err

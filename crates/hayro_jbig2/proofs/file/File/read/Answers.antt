@@ -13,7 +13,7 @@ use Rattle.jbig2_base.specs.declared.file_header.FileHeader.{FileHeader}
 use Rattle.jbig2_base.specs.declared.reading.Reading.{Reading}
 use Rattle.jbig2_base.specs.declared.reading.Reading.TheVariants.{Lenient}
 use Rattle.hayro_jbig2.specs.Causes.{IsAnswered}
-use Rattle.hayro_jbig2.specs.Files.{PageInFile, associated, book_at, by_pages, filed_each, left_out_of, miscounts, of_page, shared_by}
+use Rattle.hayro_jbig2.specs.Files.{PageInFile, associated, book_at, by_pages, pages_in_file, left_out_of, miscounts, of_page, shared_by}
 use Rattle.hayro_jbig2.specs.Names.{Shared}
 use Rattle.hayro_jbig2.specs.inner.ByPages.{by_page_view}
 use Rattle.jbig2_base.proofs.Answered.{answered-file}
@@ -27,7 +27,7 @@ use Rattle.hayro_jbig2.proofs.file.File.read.Goals.{else-strict-via-then-strict+
 -- a file of which each step was taken
 book-made : (reading : Reading) (bytes : List ℕ) (file : FileHeader × List SegmentView) (parts : List SegmentView × List (List SegmentView)) (pages : List PageInFile) (globals : Result Shared DecodeError) (left_out : List DecodeError) (fault : Option DecodeError)
     → file_at reading bytes ≡ Ok file → associated (is_strict reading) file.1 ≡ Ok tt → of_page 0 file.1 ≡ parts.0 → by_pages file.1 ≡ parts.1
-    → (is_strict reading && miscounts file.0.number_of_pages (length parts.1)) ≡ false → filed_each reading parts.1 ≡ Ok pages → shared_by reading pages parts.0 ≡ globals → left_out_of reading parts.1 ≡ left_out → fault_of reading (file_at Lenient bytes) ≡ fault
+    → (is_strict reading && miscounts file.0.number_of_pages (length parts.1)) ≡ false → pages_in_file reading parts.1 ≡ Ok pages → shared_by reading pages parts.0 ≡ globals → left_out_of reading parts.1 ≡ left_out → fault_of reading (file_at Lenient bytes) ≡ fault
     → book_at reading bytes ≡ Ok (record { reading = reading; pages = pages; globals = globals; left_out = left_out; fault = fault })
 unfolding book_at
 book-made reading bytes file parts pages globals left_out fault read known shared own counted filed named left ended = rw (read, known, shared, own, counted, filed, named, left, ended)
@@ -35,7 +35,7 @@ book-made reading bytes file parts pages globals left_out fault read known share
 -- a file whose pages are refused
 book-unfiled : (reading : Reading) (bytes : List ℕ) (file : FileHeader × List SegmentView) (parts : List SegmentView × List (List SegmentView)) (e : DecodeError)
     → file_at reading bytes ≡ Ok file → associated (is_strict reading) file.1 ≡ Ok tt → by_pages file.1 ≡ parts.1
-    → (is_strict reading && miscounts file.0.number_of_pages (length parts.1)) ≡ false → (e ≡ OutOfMemory) ⊎ (filed_each reading parts.1 ≡ Err e) → (e ≡ OutOfMemory) ⊎ (book_at reading bytes ≡ Err e)
+    → (is_strict reading && miscounts file.0.number_of_pages (length parts.1)) ≡ false → (e ≡ OutOfMemory) ⊎ (pages_in_file reading parts.1 ≡ Err e) → (e ≡ OutOfMemory) ⊎ (book_at reading bytes ≡ Err e)
 unfolding book_at
 book-unfiled reading bytes file parts e read known own counted (inl memory) = inl memory
 book-unfiled reading bytes file parts e read known own counted (inr unfiled) = inr (rw (read, known, own, counted, unfiled))

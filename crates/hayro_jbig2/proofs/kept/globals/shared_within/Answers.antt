@@ -9,7 +9,7 @@ use Rattle.jbig2_base.specs.declared.error.DecodeError.{DecodeError}
 use Rattle.jbig2_base.specs.declared.error.DecodeError.TheVariants.{OutOfMemory}
 use Rattle.jbig2_base.specs.declared.reading.Reading.{Reading}
 use Rattle.jbig2_base.specs.declared.segment.Segment.{Segment}
-use Rattle.hayro_jbig2.specs.Names.{named_from, Names, Shared, kept_by, no_names, or_shared_without, with_passed}
+use Rattle.hayro_jbig2.specs.Names.{shared_from, Names, Shared, kept_by, no_names, or_shared_without, with_passed}
 use Rattle.jbig2_steps.proofs.WorkLemmas.{paid-limit}
 use Rattle.hayro_jbig2.proofs.kept.globals.shared_within.Goals as goal
 
@@ -18,13 +18,13 @@ abbrev after : {A : Type 0} → Reading → Segment A → Shared → Result Shar
 after reading item shared = or_shared_without reading item.header.segment_number shared (kept_by (is_strict reading) no_names (segment_view item) shared.names)
 
 -- a segment that is refused ends the names
-refused-segment : {A : Type 0} (reading : Reading) (segments : List (Segment A)) (i : ℕ) (item : Segment A) (shared : Shared) (e : DecodeError) → i < length segments → item ≡ get_or segments i item → after reading item shared ≡ Err e → named_from reading (segment_views (drop i segments)) shared ≡ Err e
+refused-segment : {A : Type 0} (reading : Reading) (segments : List (Segment A)) (i : ℕ) (item : Segment A) (shared : Shared) (e : DecodeError) → i < length segments → item ≡ get_or segments i item → after reading item shared ≡ Err e → shared_from reading (segment_views (drop i segments)) shared ≡ Err e
 refused-segment reading segments i item shared e inside is refused =
     let here : drop i segments ≡ item ∷ drop (suc i) segments = drop-cons segments i item inside ∙ ap (λ s. s ∷ drop (suc i) segments) (sym is) in
     rw (here, refused)
 
 -- a segment that is taken is followed by the others
-taken-segment : {A : Type 0} (reading : Reading) (segments : List (Segment A)) (i : ℕ) (item : Segment A) (shared : Shared) (more : Shared) → i < length segments → item ≡ get_or segments i item → after reading item shared ≡ Ok more → named_from reading (segment_views (drop (i + 1) segments)) more ≡ named_from reading (segment_views (drop i segments)) shared
+taken-segment : {A : Type 0} (reading : Reading) (segments : List (Segment A)) (i : ℕ) (item : Segment A) (shared : Shared) (more : Shared) → i < length segments → item ≡ get_or segments i item → after reading item shared ≡ Ok more → shared_from reading (segment_views (drop (i + 1) segments)) more ≡ shared_from reading (segment_views (drop i segments)) shared
 taken-segment reading segments i item shared more inside is taken =
     let here : drop i segments ≡ item ∷ drop (suc i) segments = drop-cons segments i item inside ∙ ap (λ s. s ∷ drop (suc i) segments) (sym is) in
     let next : i + 1 ≡ suc i = omega arith in
@@ -62,7 +62,7 @@ returns-in-Err-clause-value g c =
 pub returns-clause-value : goal.returns-clause-value
 returns-clause-value g c =
     sym c.loop-segment.invariant.named
-    ∙ at_drop_all (λ left. named_from c.args.reading (segment_views left) c.loop-segment.globals) c.args.segments.now c.loop-segment.segment-index c.loop-segment-test.false
+    ∙ at_drop_all (λ left. shared_from c.args.reading (segment_views left) c.loop-segment.globals) c.args.segments.now c.loop-segment.segment-index c.loop-segment-test.false
 
 pub returns-in_err-pay_segment-clause-limit : goal.returns-in_err-pay_segment-clause-limit
 returns-in_err-pay_segment-clause-limit g c = paid-limit c.args.work.now c.pay_segment.new.work (omega (arith, c.loop-segment.invariant.paid, c.pay_segment.ensures.paid))

@@ -3,11 +3,11 @@ use Rattle.std.proofs.lemmas.Result.{err_from_is_err_and}
 use Rattle.jbig2_base.proofs.Answered.{answered-sequential}
 use Rattle.hayro_jbig2.proofs.Answered.{answered-beginning}
 use Rattle.hayro_jbig2.proofs.Answering.{returned_error}
-use Rattle.hayro_jbig2.proofs.Sides.{begun_sides}
+use Rattle.hayro_jbig2.proofs.Sides.{blank_sides}
 use Rattle.hayro_jbig2.proofs.page.Page.read_embedded.Goals as goal
 
 pub invariant_of-result : goal.invariant_of-result
-invariant_of-result g c = (begun_sides _ _ _ c.in_ok-initial_page.ensures.value, tt)
+invariant_of-result g c = (blank_sides _ _ _ c.in_ok-initial_page.ensures.value, tt)
 
 pub returns-in_err-segments-clause-errors : goal.returns-in_err-segments-clause-errors
 returns-in_err-segments-clause-errors g c =

@@ -1,6 +1,6 @@
 use Rattle.std.proofs.Common.{◌≡◌, ◌+◌, ◌-◌, ◌*◌, ◌<◌, ℕ, ◌∙◌, ap, refl, arith}
 use Rattle.jbig2_base.specs.Bits.{bit}
-use Rattle.hayro_jbig2.specs.inner.Puts.{word_byte}
+use Rattle.hayro_jbig2.specs.inner.BufferBytes.{word_byte}
 use Rattle.hayro_jbig2.proofs.PackedRows.{byte-of-rest}
 use Rattle.hayro_jbig2.proofs.PutLemmas.{puts-none, puts-next, puts-all}
 use Rattle.hayro_jbig2.proofs.page.packed.put_bytes.Goals as goal

@@ -1,11 +1,11 @@
 use Rattle.std.proofs.Common.{◌≡◌, ◌+◌, ◌*◌}
 use Rattle.jbig2_base.specs.Counts.{words_loaded}
 use Rattle.hayro_jbig2.specs.Image.{packed_byte}
-use Rattle.hayro_jbig2.specs.inner.Puts.{Puts}
+use Rattle.hayro_jbig2.specs.inner.BufferBytes.{Fills}
 use Rattle.hayro_jbig2.proofs.page.packed.put_words.Given as goal
 
 abbrev pub invariant-loop-index : goal.invariant-loop-index
 invariant-loop-index g l = record {
-  puts : Puts (λ i. packed_byte l.bitmap (l.column + i) l.y) l.place (8 * l.index) l.initial.buf l.buf;
+  puts : Fills (λ i. packed_byte l.bitmap (l.column + i) l.y) l.place (8 * l.index) l.initial.buf l.buf;
   steps : l.steps ≡ words_loaded l.index l.fn.steps;
 }

@@ -10,9 +10,9 @@ use Rattle.jbig2_base.proofs.page_info.InitialPage.with_height.Goals as goal
 pub returns-in_err-height-clause-causes : goal.returns-in_err-height-clause-causes
 returns-in_err-height-clause-causes g c =
     let e = err_from_is_err_and c.from_residual-in_err-height.result c.from_residual-in_err-height.ensures.1 in
-    rw (e.1, e.2) (initial_page_by_cause c.args.told_height (segment_views c.args.segments.now) (Err c.in_err-height.field-0.0) (search rules))
+    rw (e.1, e.2) (initial_page_by_cause c.args.known_height (segment_views c.args.segments.now) (Err c.in_err-height.field-0.0) (search rules))
 
 pub returns-clause-causes : goal.returns-clause-causes
 returns-clause-causes g c =
-    initial_page_by_cause c.args.told_height (segment_views c.args.segments.now) c.initial_page_with.result
-    (err-answers (λ (page : InitialPage). page) c.initial_page_with.result (initial_page_by c.args.told_height (segment_views c.args.segments.now)) (search rules))
+    initial_page_by_cause c.args.known_height (segment_views c.args.segments.now) c.initial_page_with.result
+    (err-answers (λ (page : InitialPage). page) c.initial_page_with.result (initial_page_by c.args.known_height (segment_views c.args.segments.now)) (search rules))

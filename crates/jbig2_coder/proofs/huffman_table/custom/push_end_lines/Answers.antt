@@ -22,7 +22,7 @@ returns-in_ok-push-3-clause-lines g c =
     let two = c.in_ok-push-2.ensures.items ∙ ap (λ (x : TableLine). c.push.new.self.items ++ x ∷ []) second in
     let three = c.in_ok-push-3.ensures.items ∙ ap (λ (x : TableLine). c.push-2.new.self.items ++ x ∷ []) c.out_of_band.ensures in
     ends-oob h p q r c.bits_field-then-header.new.reader c.in_ok-lower.lower c.in_ok-upper.upper c.in_ok-out_of_band.out_of_band c.args.lines.now.items c.push.new.self.items c.push-2.new.self.items c.push-then-header.new.self.items
-    c.in_ok-lower.ensures.answer c.in_ok-lower.ensures.place c.in_ok-upper.ensures.answer c.in_ok-upper.ensures.place c.in_ok-out_of_band.ensures.answer c.in_ok-out_of_band.ensures.place one two three c.if-header.true
+    c.in_ok-lower.ensures.number c.in_ok-lower.ensures.place c.in_ok-upper.ensures.number c.in_ok-upper.ensures.place c.in_ok-out_of_band.ensures.number c.in_ok-out_of_band.ensures.place one two three c.if-header.true
 
 pub returns-in_ok-push-3-clause-short : goal.returns-in_ok-push-3-clause-short
 returns-in_ok-push-3-clause-short g c =
@@ -43,7 +43,7 @@ returns-else-header-clause-lines g c =
     let one = c.in_ok-push.ensures.items ∙ ap (λ (x : TableLine). c.args.lines.now.items ++ x ∷ []) first in
     let two = c.in_ok-push-2.ensures.items ∙ ap (λ (x : TableLine). c.push.new.self.items ++ x ∷ []) second in
     ends-none h p q r c.in_ok-lower.lower c.in_ok-upper.upper c.args.lines.now.items c.push.new.self.items c.push-2.new.self.items
-    c.in_ok-lower.ensures.answer c.in_ok-lower.ensures.place c.in_ok-upper.ensures.answer c.in_ok-upper.ensures.place one two c.if-header.false
+    c.in_ok-lower.ensures.number c.in_ok-lower.ensures.place c.in_ok-upper.ensures.number c.in_ok-upper.ensures.place one two c.if-header.false
 
 pub returns-else-header-clause-short : goal.returns-else-header-clause-short
 returns-else-header-clause-short g c =

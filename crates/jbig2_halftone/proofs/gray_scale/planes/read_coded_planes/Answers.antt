@@ -6,7 +6,7 @@ use Rattle.jbig2_base.specs.declared.error.DecodeError.TheVariants.{OutOfMemory}
 use Rattle.jbig2_base.proofs.LaneCounts.{lanes-none, lanes-then}
 use Rattle.jbig2_halftone.specs.GrayScale.{GrayScale, image_is_too_large}
 use Rattle.jbig2_halftone.specs.inner.HalftoneViews.{gray_view}
-use Rattle.jbig2_halftone.specs.inner.Stages.{CountsCoded}
+use Rattle.jbig2_halftone.specs.inner.FunctionResults.{CountsCoded}
 use Rattle.jbig2_halftone.proofs.GrayCounts.{coded-some, counts-begin, counts-more, none-left, none-more, none-start}
 use Rattle.jbig2_halftone.proofs.DrawSteps.{on-any}
 use Rattle.jbig2_halftone.proofs.PatternLemmas.{blank-made}

@@ -1,7 +1,7 @@
 use Rattle.std.proofs.Common.{length}
 use Rattle.jbig2_base.specs.Counts.{KeepsLanes}
 use Rattle.jbig2_halftone.specs.Steps.{words_of_plane}
-use Rattle.jbig2_halftone.specs.inner.Stages.{CountsMmr}
+use Rattle.jbig2_halftone.specs.inner.FunctionResults.{CountsMmr}
 use Rattle.jbig2_halftone.specs.inner.HalftoneViews.{gray_view}
 use Rattle.jbig2_halftone.proofs.GrayCounts.{NoneYet}
 use Rattle.jbig2_halftone.proofs.PlaneLemmas.{ReadsMmr}

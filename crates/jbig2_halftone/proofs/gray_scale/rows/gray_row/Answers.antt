@@ -2,7 +2,7 @@ use Rattle.std.proofs.Common.{◌≡◌, ◌≤◌, ℕ, List, length, take, sym
 use Rattle.std.proofs.lemmas.List.{take_more, take_all}
 use Rattle.jbig2_base.specs.Grid.{Grid}
 use Rattle.jbig2_halftone.specs.inner.NextValues.{row_values}
-use Rattle.jbig2_halftone.specs.inner.Stages.{after_lane_rows}
+use Rattle.jbig2_halftone.specs.inner.FunctionResults.{after_lane_rows}
 use Rattle.jbig2_halftone.proofs.RowLemmas.{row-none, row-next, row-small, counts-start, counts-more, counts-one, take-some}
 use Rattle.jbig2_halftone.proofs.gray_scale.rows.gray_row.Goals as goal
 

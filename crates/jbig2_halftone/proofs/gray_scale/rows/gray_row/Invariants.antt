@@ -1,6 +1,6 @@
 use Rattle.std.proofs.Common.{◌≡◌, length, take}
 use Rattle.jbig2_halftone.specs.inner.NextValues.{row_values}
-use Rattle.jbig2_halftone.specs.inner.Stages.{after_lane_rows}
+use Rattle.jbig2_halftone.specs.inner.FunctionResults.{after_lane_rows}
 use Rattle.jbig2_halftone.proofs.gray_scale.rows.gray_row.Given as goal
 
 abbrev pub invariant-loop-plane : goal.invariant-loop-plane

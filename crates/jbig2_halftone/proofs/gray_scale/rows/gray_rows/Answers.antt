@@ -2,7 +2,7 @@ use Rattle.std.proofs.Common.{◌≡◌, ◌≤◌, ◌+◌, ◌*◌, ℕ, List,
 use Rattle.std.proofs.lemmas.List.{take_all}
 use Rattle.jbig2_halftone.specs.GrayScale.{gray_values}
 use Rattle.jbig2_halftone.specs.inner.NextValues.{row_values}
-use Rattle.jbig2_halftone.specs.inner.Stages.{after_lane_rows}
+use Rattle.jbig2_halftone.specs.inner.FunctionResults.{after_lane_rows}
 use Rattle.jbig2_halftone.proofs.RowLemmas.{values-length, no-rows, row-inside, rows-written, rows-more, no-counts, part-length}
 use Rattle.jbig2_halftone.proofs.gray_scale.rows.gray_rows.Goals as goal
 

@@ -1,6 +1,6 @@
 use Rattle.std.proofs.Common.{◌≡◌, ◌*◌, take, length}
 use Rattle.jbig2_halftone.specs.GrayScale.{gray_values}
-use Rattle.jbig2_halftone.specs.inner.Stages.{after_lane_rows}
+use Rattle.jbig2_halftone.specs.inner.FunctionResults.{after_lane_rows}
 use Rattle.jbig2_halftone.proofs.gray_scale.rows.gray_rows.Given as goal
 
 abbrev pub invariant-loop-y : goal.invariant-loop-y

@@ -22,23 +22,23 @@ and-small a b small = omega (arith, and_le_r a b)
 
 -- where b1 is looked for from
 abbrev start : Bool → ℕ → ℕ
-start begun a0 = cond begun (a0 + 1) 0
+start past_start a0 = cond past_start (a0 + 1) 0
 
-start-at : (begun : Bool) (a0 : ℕ) → (begun ≡ false → a0 ≡ 0) → (a0 ≤ start begun a0) × (start begun a0 ≤ a0 + 1) × (start begun a0 ≤ 64 * (a0 / 64) → 64 * (a0 / 64) ≡ 0)
-start-at begun a0 first =
+start-at : (past_start : Bool) (a0 : ℕ) → (past_start ≡ false → a0 ≡ 0) → (a0 ≤ start past_start a0) × (start past_start a0 ≤ a0 + 1) × (start past_start a0 ≤ 64 * (a0 / 64) → 64 * (a0 / 64) ≡ 0)
+start-at past_start a0 first =
     ⊎_elim
-    (λ (t : begun ≡ true). let is = cond-true begun (a0 + 1) 0 t in (omega (arith, is), omega (arith, is), λ h. absurd (omega (arith, is))))
-    (λ (f : begun ≡ false). let is = cond-false begun (a0 + 1) 0 f in let zero = first f in (omega (arith, zero), omega (arith, is), λ h. omega (arith, zero)))
-    (cases_Bool begun)
+    (λ (t : past_start ≡ true). let is = cond-true past_start (a0 + 1) 0 t in (omega (arith, is), omega (arith, is), λ h. absurd (omega (arith, is))))
+    (λ (f : past_start ≡ false). let is = cond-false past_start (a0 + 1) 0 f in let zero = first f in (omega (arith, zero), omega (arith, is), λ h. omega (arith, zero)))
+    (cases_Bool past_start)
 
 -- the changes in the word above a0, from where b1 may lie
-in-word : (row : ℕ → Bool) (black begun : Bool) (a0 : ℕ) (w : RowWord) (changes right : ℕ) → IsWordOf row w → w.index ≡ a0 / 64 → (begun ≡ false → a0 ≡ 0) → changes < 2 ^ 64 → right < 2 ^ 64 → changes ≡ cond black w.to_white w.to_black → ((k : ℕ) → k < 64 → bit right (63 - k) ≡ leb (start begun a0) (64 * (a0 / 64) + k)) → IsChanges row black (start begun a0) (64 * w.index) (bit_and changes right)
-in-word row black begun a0 w changes right is index first small_changes small_right e taken =
-    let at = start-at begun a0 first in
-    changes-right row black (start begun a0) (64 * w.index) w.pixels is.left changes right
+in-word : (row : ℕ → Bool) (black past_start : Bool) (a0 : ℕ) (w : RowWord) (changes right : ℕ) → IsWordOf row w → w.index ≡ a0 / 64 → (past_start ≡ false → a0 ≡ 0) → changes < 2 ^ 64 → right < 2 ^ 64 → changes ≡ cond black w.to_white w.to_black → ((k : ℕ) → k < 64 → bit right (63 - k) ≡ leb (start past_start a0) (64 * (a0 / 64) + k)) → IsChanges row black (start past_start a0) (64 * w.index) (bit_and changes right)
+in-word row black past_start a0 w changes right is index first small_changes small_right e taken =
+    let at = start-at past_start a0 first in
+    changes-right row black (start past_start a0) (64 * w.index) w.pixels is.left changes right
     (λ h. omega (arith, at.2 (omega (arith, h, index)), index)) small_changes small_right is.pixels is.first is.others
     (λ k. ap (λ (n : ℕ). bit n k) e ∙ is.changes black k)
-    (λ k inside. taken k inside ∙ ap (λ (i : ℕ). leb (start begun a0) (64 * i + k)) (sym index))
+    (λ k inside. taken k inside ∙ ap (λ (i : ℕ). leb (start past_start a0) (64 * i + k)) (sym index))
     (and-small changes right small_right)
 
 pub returns-then-changes-ne0 : goal.returns-then-changes-ne0
@@ -46,10 +46,10 @@ unfolding b1_of
 returns-then-changes-ne0 g c =
     let row : ℕ → Bool = row_of c.args.bitmap.now c.args.above in
     let black : Bool = c.args.place.black in
-    let from : ℕ = start c.args.place.begun c.args.place.a0 in
+    let from : ℕ = start c.args.place.past_start c.args.place.a0 in
     let w : ℕ = c.args.bitmap.now.width in
-    let at = start-at c.args.place.begun c.args.place.a0 c.requires.first in
-    let is = in-word row black c.args.place.begun c.args.place.a0 c.args.word c.changes.result c.right_of.result c.requires.word c.requires.index c.requires.first (omega (arith, c.changes.type_inv)) (omega (arith, c.right_of.type_inv)) c.changes.ensures c.right_of.ensures in
+    let at = start-at c.args.place.past_start c.args.place.a0 c.requires.first in
+    let is = in-word row black c.args.place.past_start c.args.place.a0 c.args.word c.changes.result c.right_of.result c.requires.word c.requires.index c.requires.first (omega (arith, c.changes.type_inv)) (omega (arith, c.right_of.type_inv)) c.changes.ensures c.right_of.ensures in
     let value = changes-within row black from (64 * c.args.word.index) (bit_and c.changes.result c.right_of.result) w is c.if-changes-ne0.true (omega (arith, at.1, c.requires.column))
     (λ i a b. absurd (omega (arith, a, b, at.0, c.requires.index))) (λ i past. pixel_at-right c.args.bitmap.now i c.args.above past) in
     let place = place-turned row black from w (omega (arith, at.1, c.requires.column)) in
@@ -75,10 +75,10 @@ returns g c =
     let row : ℕ → Bool = row_of c.args.bitmap.now c.args.above in
     let black : Bool = c.args.place.black in
     let x : ℕ = 64 * c.args.word.index in
-    let from : ℕ = start c.args.place.begun c.args.place.a0 in
+    let from : ℕ = start c.args.place.past_start c.args.place.a0 in
     let w : ℕ = c.args.bitmap.now.width in
-    let at = start-at c.args.place.begun c.args.place.a0 c.requires.first in
-    let is = in-word row black c.args.place.begun c.args.place.a0 c.args.word c.changes.result c.right_of.result c.requires.word c.requires.index c.requires.first (omega (arith, c.changes.type_inv)) (omega (arith, c.right_of.type_inv)) c.changes.ensures c.right_of.ensures in
+    let at = start-at c.args.place.past_start c.args.place.a0 c.requires.first in
+    let is = in-word row black c.args.place.past_start c.args.place.a0 c.args.word c.changes.result c.right_of.result c.requires.word c.requires.index c.requires.first (omega (arith, c.changes.type_inv)) (omega (arith, c.right_of.type_inv)) c.changes.ensures c.right_of.ensures in
     let none = changes-none row black from x (bit_and c.changes.result c.right_of.result) is c.if-changes-ne0.false (λ i a b. absurd (omega (arith, a, b, at.0, c.requires.index))) in
     let next : 64 * (c.args.word.index + 1) ≡ x + 64 = omega arith in
     let value : c.find_change.result ≡ place_from (is_change_from row black) from w =

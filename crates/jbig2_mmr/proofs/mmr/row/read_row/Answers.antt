@@ -36,7 +36,7 @@ loop-place-preserved-then-place g c =
     let second = span-white c.fill_span.new.bitmap c.args.y c.in-Some.turn.turn c.in-Some.turn.next.a0 (not c.loop-place.place.black) first.table (λ x a. first.right x a ∙ inv.reading.white x (omega (arith, within.0))) (ap (λ (b : Bool). not b) c.if-place.true) in
     let next = row-next c.args.bitmap.now c.loop-place.bitmap c.fill_span.new.bitmap c.fill_span.new.bitmap c.args.y (row_of c.loop-place.bitmap c.reference_row-above.result) (head_of c.loop-place.place) c.loop-place.reader.left c.read_turn.new.reader.left (row c.args.bitmap.now.width (row_above c.args.bitmap.now c.args.y) c.args.reader.now.left) c.in-Some.turn inv.reading (omega (arith, c.loop-place-test.true, c.width-width.ensures.value)) c.in-Some.ensures.shorter same c.in-Some.ensures.value first second in
     record {
-      reading = subst (λ (b : Bool). RowReading c.args.bitmap.now c.fill_span.new.bitmap c.args.y (record { a0 = c.in-Some.turn.next.a0; begun = b; black = c.in-Some.turn.next.black }) c.read_turn.new.reader.left (row c.args.bitmap.now.width (row_above c.args.bitmap.now c.args.y) c.args.reader.now.left)) within.3 next;
+      reading = subst (λ (b : Bool). RowReading c.args.bitmap.now c.fill_span.new.bitmap c.args.y (record { a0 = c.in-Some.turn.next.a0; past_start = b; black = c.in-Some.turn.next.black }) c.read_turn.new.reader.left (row c.args.bitmap.now.width (row_above c.args.bitmap.now c.args.y) c.args.reader.now.left)) within.3 next;
       word = subst (λ (row : ℕ → Bool). IsWordOf row c.at-word.result) same c.at-word.ensures.value;
       bytes = c.in-Some.ensures.bytes ∙ inv.bytes;
       work = moves-then (row_moves c.loop-place.place.a0 (length c.args.reader.now.left - length c.loop-place.reader.left)) (1 + (words_after c.loop-place.bitmap.width c.loop-place.place.a0 c.in-Some.turn.next.a0 + 1 + span_words c.loop-place.place.a0 c.in-Some.turn.turn)) _ c.args.steps.now c.loop-place.steps c.fill_span.new.steps inv.work
@@ -56,7 +56,7 @@ loop-place-preserved g c =
     let second = subst (λ (b : Bool). IsSpan c.loop-place.bitmap c.fill_span-else-place.new.bitmap c.args.y c.in-Some.turn.turn c.in-Some.turn.next.a0 b) (sym (ap (λ (b : Bool). not b) c.if-place.false)) c.fill_span-else-place.ensures.value in
     let next = row-next c.args.bitmap.now c.loop-place.bitmap c.loop-place.bitmap c.fill_span-else-place.new.bitmap c.args.y (row_of c.loop-place.bitmap c.reference_row-above.result) (head_of c.loop-place.place) c.loop-place.reader.left c.read_turn.new.reader.left (row c.args.bitmap.now.width (row_above c.args.bitmap.now c.args.y) c.args.reader.now.left) c.in-Some.turn inv.reading (omega (arith, c.loop-place-test.true, c.width-width.ensures.value)) c.in-Some.ensures.shorter same c.in-Some.ensures.value first second in
     record {
-      reading = subst (λ (b : Bool). RowReading c.args.bitmap.now c.fill_span-else-place.new.bitmap c.args.y (record { a0 = c.in-Some.turn.next.a0; begun = b; black = c.in-Some.turn.next.black }) c.read_turn.new.reader.left (row c.args.bitmap.now.width (row_above c.args.bitmap.now c.args.y) c.args.reader.now.left)) within.3 next;
+      reading = subst (λ (b : Bool). RowReading c.args.bitmap.now c.fill_span-else-place.new.bitmap c.args.y (record { a0 = c.in-Some.turn.next.a0; past_start = b; black = c.in-Some.turn.next.black }) c.read_turn.new.reader.left (row c.args.bitmap.now.width (row_above c.args.bitmap.now c.args.y) c.args.reader.now.left)) within.3 next;
       word = subst (λ (row : ℕ → Bool). IsWordOf row c.at-word.result) same c.at-word.ensures.value;
       bytes = c.in-Some.ensures.bytes ∙ inv.bytes;
       work = moves-then (row_moves c.loop-place.place.a0 (length c.args.reader.now.left - length c.loop-place.reader.left)) (1 + (words_after c.loop-place.bitmap.width c.loop-place.place.a0 c.in-Some.turn.next.a0 + 1 + span_words c.in-Some.turn.turn c.in-Some.turn.next.a0)) _ c.args.steps.now c.loop-place.steps c.fill_span-else-place.new.steps inv.work

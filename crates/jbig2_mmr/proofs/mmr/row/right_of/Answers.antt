@@ -9,11 +9,11 @@ returns-then-place c = λ k inside.
     let x : ℕ = 64 * (c.args.place.a0 / 64) in
     ap (λ (n : ℕ). bit n (63 - k)) (right-more (c.args.place.a0 % 64))
     ∙ right-bit (c.args.place.a0 + 1) x (c.args.place.a0 % 64 + 1) k (omega arith) (omega arith) inside
-    ∙ ap (λ (n : ℕ). leb n (x + k)) (sym (cond-true c.args.place.begun (c.args.place.a0 + 1) 0 c.if-place.true))
+    ∙ ap (λ (n : ℕ). leb n (x + k)) (sym (cond-true c.args.place.past_start (c.args.place.a0 + 1) 0 c.if-place.true))
 
 pub returns-else-place : goal.returns-else-place
 returns-else-place c = λ k inside.
     let x : ℕ = 64 * (c.args.place.a0 / 64) in
     let start : c.args.place.a0 ≡ 0 = c.requires c.if-place.false in
     right-bit 0 x (c.args.place.a0 % 64) k (omega arith) (omega (arith, start)) inside
-    ∙ ap (λ (n : ℕ). leb n (x + k)) (sym (cond-false c.args.place.begun (c.args.place.a0 + 1) 0 c.if-place.false))
+    ∙ ap (λ (n : ℕ). leb n (x + k)) (sym (cond-false c.args.place.past_start (c.args.place.a0 + 1) 0 c.if-place.false))

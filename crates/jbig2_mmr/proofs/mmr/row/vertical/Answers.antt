@@ -35,7 +35,7 @@ returns-clause-value g c = λ bits.
     let place = sum-place (pos c.find_b1-b1.result +ℤ c.args.distance) c.args.place.a0 c.args.bitmap.now.width inside.0 inside.1 in
     let a1 = ap unsigned_abs sum in
     vertical-read c.args.bitmap.now.width (row_of c.args.bitmap.now c.args.above) (head_of c.args.place) c.find_b1-b1.result (unsigned_abs (pos c.find_b1-b1.result +ℤ c.args.distance)) c.args.distance _ bits c.find_b1-b1.ensures.value place.0 place.1 place.2 a1
-    (ap (λ (a : ℕ). let made : Head = record { a0 = a; begun = true; black = not c.args.place.black } in made) a1)
+    (ap (λ (a : ℕ). let made : Head = record { a0 = a; past_start = true; black = not c.args.place.black } in made) a1)
 
 pub overflow_cast-a1 : goal.overflow_cast-a1
 overflow_cast-a1 g c =

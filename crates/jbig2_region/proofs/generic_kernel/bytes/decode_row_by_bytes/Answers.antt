@@ -4,7 +4,7 @@ use Rattle.jbig2_base.proofs.LaneCounts.{lanes-none, lanes-then}
 use Rattle.jbig2_base.specs.Counts.{Counts, KeepsLanes}
 use Rattle.jbig2_base.specs.Grid.{Grid}
 use Rattle.jbig2_region.specs.inner.Neighbours.{DecodesPixels, IsLeft, SameAbove, Shows, ShowsBefore, nominal_pixels}
-use Rattle.jbig2_region.specs.inner.PushedPixels.{Stands, StandsGroup}
+use Rattle.jbig2_region.specs.inner.PushedPixels.{IsAtPixels, IsAtGroup}
 use Rattle.jbig2_region.specs.inner.RowCounts.{CountsRuns}
 use Rattle.jbig2_region.proofs.CarriedLemmas.{shows-before, shows-none_before}
 use Rattle.jbig2_region.proofs.CountLemmas.{counts-none, counts-then, counts-last}
@@ -53,7 +53,7 @@ loop-group-preserved g c =
     let on : 64 * c.loop-group.group + 64 ≡ 64 * (c.loop-group.group + 1) = omega arith in
     let further : 64 * c.loop-group.group + 72 ≡ 64 * (c.loop-group.group + 1) + 8 = omega arith in
     let back : c.loop-group.group ≡ c.loop-group.group + 1 - 1 = omega arith in
-    let stands : StandsGroup c.loop-group.bitmap (64 * c.loop-group.group) c.args.y bytes c.loop-group.left c.windows_between-windows.result = record {
+    let stands : IsAtGroup c.loop-group.bitmap (64 * c.loop-group.group) c.args.y bytes c.loop-group.left c.windows_between-windows.result = record {
       columns = omega (arith, column, c.width-width.ensures.value, c.loop-group.invariant.width, c.requires.some);
       row = omega (arith, c.requires.row, c.loop-group.invariant.height);
       shows = c.windows_between-windows.ensures c.loop-group.bitmap (64 * c.loop-group.group) c.args.y bytes c.loop-group.invariant.before c.loop-group.invariant.here c.words_after-after.ensures.value;
@@ -113,7 +113,7 @@ returns g c = record {
       let n : ℕ = c.width-width.result - x in
       let all : min (8 * c.loop-group.group) whole ≡ whole = omega (arith, c.div_ceil-group-end.ensures) in
       let sum : c.args.bitmap.now.width ≡ x + n = omega (arith, c.width-width.ensures.value, c.requires.some) in
-      let stands : Stands c.loop-group.bitmap x c.args.y n c.loop-group.left c.last_windows-windows.result = record {
+      let stands : IsAtPixels c.loop-group.bitmap x c.args.y n c.loop-group.left c.last_windows-windows.result = record {
         columns = omega (arith, c.width-width.ensures.value, c.loop-group.invariant.width);
         row = omega (arith, c.requires.row, c.loop-group.invariant.height);
         shows = shows-less c.loop-group.bitmap x c.args.y 64 20 c.last_windows-windows.result (omega arith)

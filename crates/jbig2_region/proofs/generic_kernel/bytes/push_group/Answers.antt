@@ -4,7 +4,7 @@ use Rattle.jbig2_base.proofs.LaneCounts.{lanes-none, lanes-then}
 use Rattle.jbig2_base.specs.Grid.{Grid}
 use Rattle.jbig2_base.specs.Writes.{with_pixels}
 use Rattle.jbig2_region.specs.inner.Neighbours.{DecodesPixels, IsLeft, nominal_pixels}
-use Rattle.jbig2_region.specs.inner.PushedPixels.{CountsGroup, PushesGroup, StandsBytes, StandsGroup}
+use Rattle.jbig2_region.specs.inner.PushedPixels.{CountsGroup, PushesGroup, IsAtBytes, IsAtGroup}
 use Rattle.jbig2_region.proofs.CountLemmas.{counts-none, counts-then}
 use Rattle.jbig2_region.proofs.GroupLemmas.{byte-first, byte-run, group-same}
 use Rattle.jbig2_region.proofs.PushLemmas.{few-next, left-stored, stored-bytes}
@@ -45,7 +45,7 @@ loop-done-preserved g c =
     let next : (x : ℕ) → x + 8 * done + 8 * bytes ≡ x + 8 * (done + bytes) = λ x. omega arith in
     let sum : 8 * (done + bytes) ≡ 8 * done + 8 * bytes = omega arith in
     let within : done + bytes ≤ c.args.bytes = omega (arith, c.push_bytes-taken.ensures.most, c.most_bytes-most.ensures.within) in
-    let stands : (grid : Grid) (x y : ℕ) → StandsGroup grid x y c.args.bytes c.args.left c.args.windows → StandsBytes (with_pixels grid x y (8 * done) pixels) (x + 8 * done) y c.most_bytes-most.result c.loop-done.beside c.loop-done.shown = λ grid x y group. record {
+    let stands : (grid : Grid) (x y : ℕ) → IsAtGroup grid x y c.args.bytes c.args.left c.args.windows → IsAtBytes (with_pixels grid x y (8 * done) pixels) (x + 8 * done) y c.most_bytes-most.result c.loop-done.beside c.loop-done.shown = λ grid x y group. record {
       columns = omega (arith, group.columns, c.most_bytes-most.ensures.within);
       row = group.row;
       shows =
@@ -55,7 +55,7 @@ loop-done-preserved g c =
           (c.loop-done.invariant.shown c.loop-done-test.true mid x y serves);
       beside = c.loop-done.invariant.left grid x y group;
     } in
-    let stored : (grid : Grid) (x y : ℕ) → StandsGroup grid x y c.args.bytes c.args.left c.args.windows → with_pixels (with_pixels grid x y (8 * done) pixels) (x + 8 * done) y (8 * bytes) taken ≡ with_pixels grid x y (8 * (done + bytes)) c.join-pixels.result = λ grid x y group.
+    let stored : (grid : Grid) (x y : ℕ) → IsAtGroup grid x y c.args.bytes c.args.left c.args.windows → with_pixels (with_pixels grid x y (8 * done) pixels) (x + 8 * done) y (8 * bytes) taken ≡ with_pixels grid x y (8 * (done + bytes)) c.join-pixels.result = λ grid x y group.
     rw c.join-pixels.ensures (stored-bytes grid x y done bytes pixels taken c.push_bytes-taken.ensures.bound (omega (arith, group.columns, within)) group.row) in
     record {
       bytes = c.push_bytes-taken.ensures.bytes ∙ c.loop-done.invariant.bytes;

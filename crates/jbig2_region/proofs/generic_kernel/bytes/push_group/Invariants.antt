@@ -2,8 +2,8 @@ use Rattle.std.proofs.Common.{◌≡◌, ◌<◌, ◌≤◌, ◌+◌, ◌-◌, �
 use Rattle.jbig2_base.specs.Counts.{KeepsLanes}
 use Rattle.jbig2_base.specs.Grid.{Grid}
 use Rattle.jbig2_base.specs.Writes.{with_pixels}
-use Rattle.jbig2_region.specs.inner.Neighbours.{IsLeft, StandAtByte}
-use Rattle.jbig2_region.specs.inner.PushedPixels.{CountsGroup, PushesGroup, StandsGroup}
+use Rattle.jbig2_region.specs.inner.Neighbours.{IsLeft, AreAtByte}
+use Rattle.jbig2_region.specs.inner.PushedPixels.{CountsGroup, PushesGroup, IsAtGroup}
 use Rattle.jbig2_region.proofs.generic_kernel.bytes.push_group.Given as goal
 
 abbrev pub invariant-loop-done : goal.invariant-loop-done
@@ -11,9 +11,9 @@ invariant-loop-done g l = record {
   bytes : l.decoder.bytes ≡ l.initial.decoder.bytes;
   within : l.done ≤ l.bytes;
   small : l.beside < 16;
-  shown : l.done < l.fn.bytes → StandAtByte l.fn.bytes l.done l.fn.windows l.shown;
+  shown : l.done < l.fn.bytes → AreAtByte l.fn.bytes l.done l.fn.windows l.shown;
   few : l.pixels < 2 ^ (8 * l.done);
-  left : (grid : Grid) (x y : ℕ) → StandsGroup grid x y l.fn.bytes l.fn.left l.fn.windows → IsLeft (with_pixels grid x y (8 * l.done) l.pixels) (x + 8 * l.done) y l.beside;
+  left : (grid : Grid) (x y : ℕ) → IsAtGroup grid x y l.fn.bytes l.fn.left l.fn.windows → IsLeft (with_pixels grid x y (8 * l.done) l.pixels) (x + 8 * l.done) y l.beside;
   holds : PushesGroup l.fn.neighbours l.fn.bytes l.fn.left l.fn.windows l.done l.pixels l.initial.decoder l.initial.contexts l.decoder l.contexts;
   decisions : CountsGroup l.fn.neighbours l.fn.bytes l.fn.left l.fn.windows l.done l.initial.decoder l.initial.contexts l.initial.steps.decisions l.steps.decisions;
   run_tests : l.steps.run_tests ≤ l.initial.steps.run_tests + l.done;

@@ -1,5 +1,5 @@
 use Rattle.std.proofs.Common.{◌∙◌, ap, subst, sym}
-use Rattle.jbig2_region.specs.inner.Holds.{DecodesRegion}
+use Rattle.jbig2_region.specs.inner.RegionStates.{DecodesRegion}
 use Rattle.jbig2_region.specs.inner.Layouts.{nominal_neighbours}
 use Rattle.jbig2_region.specs.inner.Neighbours.{nominal_pixels, row_coding}
 use Rattle.jbig2_region.specs.inner.NominalRows.{CountsNarrow, FitsNarrow}

@@ -4,8 +4,8 @@ use Rattle.jbig2_base.specs.Counts.{Counts}
 use Rattle.jbig2_base.specs.Grid.{Grid, pixel_at}
 use Rattle.jbig2_base.specs.Bits.{bit}
 use Rattle.jbig2_base.specs.Writes.{with_pixels}
-use Rattle.jbig2_region.specs.inner.Holds.{BeginsRow, Holds}
-use Rattle.jbig2_region.specs.inner.PushedPixels.{StandsRow}
+use Rattle.jbig2_region.specs.inner.RegionStates.{BeginsRow, HasDecoded}
+use Rattle.jbig2_region.specs.inner.PushedPixels.{IsAtRow}
 use Rattle.jbig2_region.specs.inner.Neighbours.{DecodesPixels, SameAbove, nominal_pixels, row_coding}
 use Rattle.jbig2_region.specs.inner.RowCounts.{CountsRow, CountsRuns}
 use Rattle.jbig2_region.specs.Raster.{Region, no_pixels}
@@ -30,7 +30,7 @@ loop-y-init g c =
       width = refl;
       height = refl;
       bytes = refl;
-      holds = subst (λ (n : Region). Holds w h input n c.args.bitmap.now c.args.decoder.now c.args.contexts.now) (sym none) (region-start w h c.args.bitmap.now c.args.decoder.now c.args.contexts.now c.requires.white);
+      holds = subst (λ (n : Region). HasDecoded w h input n c.args.bitmap.now c.args.decoder.now c.args.contexts.now) (sym none) (region-start w h c.args.bitmap.now c.args.decoder.now c.args.contexts.now c.requires.white);
       predicted = ap (λ (n : Region). n.predicted) none;
       none = λ _. refl;
       decisions = counted-none (nominal_pixels c.args.neighbours) true (row_coding (nominal_pixels c.args.neighbours)) w h input start c.args.steps.now.decisions;
@@ -53,13 +53,13 @@ loop-y-preserved g c =
     let pixels : ℕ = c.push_row-pixels.result in
     let whole : c.width-width.result ≡ w = c.width-width.ensures.value in
     let wide : c.loop-y.bitmap.width ≡ c.width-width.result = c.loop-y.invariant.width ∙ sym whole in
-    let row : StandsRow c.loop-y.bitmap y c.width-width.result c.loop-y.windows = record { wide = wide; row = omega (arith, c.loop-y.invariant.height); shows = c.loop-y.invariant.shows } in
+    let row : IsAtRow c.loop-y.bitmap y c.width-width.result c.loop-y.windows = record { wide = wide; row = omega (arith, c.loop-y.invariant.height); shows = c.loop-y.invariant.shows } in
     let stored : with_pixels c.loop-y.bitmap 0 y c.width-width.result pixels ≡ c.store_pixels.new.self = sym c.store_pixels.ensures.value in
     let decodes : DecodesPixels template false 0 y w c.loop-y.bitmap c.loop-y.decoder c.loop-y.contexts c.store_pixels.new.self c.push_row-pixels.new.decoder c.push_row-pixels.new.contexts =
     subst (λ (q : Grid). DecodesPixels template false 0 y w c.loop-y.bitmap c.loop-y.decoder c.loop-y.contexts q c.push_row-pixels.new.decoder c.push_row-pixels.new.contexts) stored
     (subst (λ (n : ℕ). DecodesPixels template false 0 y n c.loop-y.bitmap c.loop-y.decoder c.loop-y.contexts (with_pixels c.loop-y.bitmap 0 y c.width-width.result pixels) c.push_row-pixels.new.decoder c.push_row-pixels.new.contexts) whole
     (c.push_row-pixels.ensures.holds c.loop-y.bitmap y row)) in
-    let begin : (w h : ℕ) (grid : Grid) (r : Region) → r.predicted ≡ false → Holds w h c.loop-y.decoder.bytes r grid c.loop-y.decoder c.loop-y.contexts → BeginsRow w h None r false grid c.loop-y.decoder c.loop-y.decoder c.loop-y.contexts = λ w h grid r is holds. begins-plain w h grid r c.loop-y.decoder c.loop-y.contexts is holds in
+    let begin : (w h : ℕ) (grid : Grid) (r : Region) → r.predicted ≡ false → HasDecoded w h c.loop-y.decoder.bytes r grid c.loop-y.decoder c.loop-y.contexts → BeginsRow w h None r false grid c.loop-y.decoder c.loop-y.decoder c.loop-y.contexts = λ w h grid r is holds. begins-plain w h grid r c.loop-y.decoder c.loop-y.contexts is holds in
     let next =
     layout-step template None y false false c.loop-y.bitmap c.loop-y.decoder c.loop-y.contexts c.loop-y.decoder c.loop-y.contexts c.store_pixels.new.self c.push_row-pixels.new.decoder c.push_row-pixels.new.contexts start w h input
     c.loop-y.invariant.bytes refl refl begin decodes c.loop-y.invariant.holds c.loop-y.invariant.predicted in

@@ -3,7 +3,7 @@ use Rattle.jbig2_base.proofs.LaneCounts.{lanes-none, lanes-then}
 use Rattle.jbig2_base.specs.Counts.{Counts}
 use Rattle.jbig2_base.specs.Grid.{Grid}
 use Rattle.jbig2_base.specs.Writes.{with_pixels}
-use Rattle.jbig2_region.specs.inner.PushedPixels.{Stands, StandsRow}
+use Rattle.jbig2_region.specs.inner.PushedPixels.{IsAtPixels, IsAtRow}
 use Rattle.jbig2_region.specs.inner.Neighbours.{DecodesPixels, Shows, nominal_pixels}
 use Rattle.jbig2_region.proofs.CountLemmas.{counts-last, counts-none, counts-then}
 use Rattle.jbig2_region.proofs.PushLemmas.{few-next, one-shifted, row-fits, stands-next, stored-next}
@@ -30,16 +30,16 @@ loop-preserved g c =
     let byte : ℕ = c.push_byte-byte.result in
     let sum : 8 * (k + 1) ≡ 8 * k + 8 = omega arith in
     let place : 8 * k ≡ 0 + 8 * k = omega arith in
-    let stands : (grid : Grid) (y : ℕ) → StandsRow grid y c.args.width c.args.windows → Stands (with_pixels grid 0 y (8 * k) pixels) (8 * k) y 9 (pixels % 16) c.loop.shown = λ grid y row.
+    let stands : (grid : Grid) (y : ℕ) → IsAtRow grid y c.args.width c.args.windows → IsAtPixels (with_pixels grid 0 y (8 * k) pixels) (8 * k) y 9 (pixels % 16) c.loop.shown = λ grid y row.
     stands-next grid y c.args.width k 9 pixels c.args.windows c.loop.shown row c.loop.invariant.few (omega arith) (omega arith) (c.loop.invariant.shows grid y row.shows) in
     record {
       bytes = c.push_byte-byte.ensures.bytes ∙ c.loop.invariant.bytes;
       few = few-next pixels byte (8 * k) 8 (8 * (k + 1)) c.loop.invariant.few c.push_byte-byte.ensures.bound sum;
       shows = λ grid y shows.
           let less : 64 - 8 * k - 8 ≡ 64 - 8 * (k + 1) = omega arith in
-          subst (λ (n : ℕ). Shows grid (8 * (k + 1)) y n c.moved-shown.result) less
-          (subst (λ (n : ℕ). Shows grid n y (64 - 8 * k - 8) c.moved-shown.result) (sym sum)
-          (c.moved-shown.ensures grid (8 * k) y (64 - 8 * k) (omega arith) (c.loop.invariant.shows grid y shows)));
+          subst (λ (n : ℕ). Shows grid (8 * (k + 1)) y n c.right_by-shown.result) less
+          (subst (λ (n : ℕ). Shows grid n y (64 - 8 * k - 8) c.right_by-shown.result) (sym sum)
+          (c.right_by-shown.ensures grid (8 * k) y (64 - 8 * k) (omega arith) (c.loop.invariant.shows grid y shows)));
       holds = λ grid y row.
           let mid : Grid = with_pixels grid 0 y (8 * k) pixels in
           let made : Grid = with_pixels grid 0 y (8 * (k + 1)) (pixels * 256 + byte) in
@@ -82,7 +82,7 @@ returns-clause-holds g c = λ grid y row.
     let sum : c.args.width ≡ 8 * k + count = omega (arith, whole) in
     let place : 8 * k ≡ 0 + 8 * k = omega arith in
     let mid : Grid = with_pixels grid 0 y (8 * k) pixels in
-    let stands : Stands mid (8 * k) y count (pixels % 16) c.loop.shown = stands-next grid y c.args.width k count pixels c.args.windows c.loop.shown row c.loop.invariant.few (omega (arith, sum)) (omega (arith, whole)) (c.loop.invariant.shows grid y row.shows) in
+    let stands : IsAtPixels mid (8 * k) y count (pixels % 16) c.loop.shown = stands-next grid y c.args.width k count pixels c.args.windows c.loop.shown row c.loop.invariant.few (omega (arith, sum)) (omega (arith, whole)) (c.loop.invariant.shows grid y row.shows) in
     let made : Grid = with_pixels grid 0 y c.args.width (pixels * 2 ^ count + last) in
     let stored : with_pixels mid (8 * k) y count last ≡ made = stored-next grid y (8 * k) count c.args.width pixels last c.push_pixels-last.ensures.bound sum (omega (arith, row.wide)) row.row in
     let shifted : pixels * 2 ^ count + last ≡ pixels * (1 * 2 ^ count % 2 ^ 64) + last = ap (λ (n : ℕ). pixels * n + last) (sym (one-shifted count (omega arith))) in

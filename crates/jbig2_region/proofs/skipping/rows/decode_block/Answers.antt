@@ -4,7 +4,7 @@ use Rattle.jbig2_base.specs.Grid.{Grid}
 use Rattle.jbig2_base.specs.Bits.{bit}
 use Rattle.jbig2_region.specs.inner.Stretches.{rest_of}
 use Rattle.jbig2_region.specs.{inner.RegionViews.{skip_of}, Generic.{skipping_coding}}
-use Rattle.jbig2_region.specs.inner.Codes.{CountsCodes}
+use Rattle.jbig2_region.specs.inner.DecodedPixels.{CountsPart}
 use Rattle.jbig2_region.specs.inner.Neighbours.{nominal_pixels}
 use Rattle.jbig2_region.specs.inner.RefinementBlocks.{Block}
 use Rattle.jbig2_region.proofs.RefinementKernelLemmas.{block-none, block-whole}
@@ -37,7 +37,7 @@ returns-clause-decoded g c =
       width = ap (λ (b : Grid). b.width) c.store_pixels.ensures.value;
       height = ap (λ (b : Grid). b.height) c.store_pixels.ensures.value;
       bytes = c.loop-offset.invariant.bytes;
-      decisions = subst (λ (n : ℕ). CountsCodes (skipping_coding (nominal_pixels c.args.neighbours) (skip_of c.args.skip)) false c.args.place.x c.args.place.y c.args.place.count c.args.bitmap.now c.args.decoder.now c.args.contexts.now c.args.steps.now.decisions n) after (subst (λ (n : ℕ). CountsCodes (skipping_coding (nominal_pixels c.args.neighbours) (skip_of c.args.skip)) false c.args.place.x c.args.place.y c.args.place.count c.args.bitmap.now c.args.decoder.now c.args.contexts.now n c.loop-offset.steps.decisions) before whole.decisions);
+      decisions = subst (λ (n : ℕ). CountsPart (skipping_coding (nominal_pixels c.args.neighbours) (skip_of c.args.skip)) false c.args.place.x c.args.place.y c.args.place.count c.args.bitmap.now c.args.decoder.now c.args.contexts.now c.args.steps.now.decisions n) after (subst (λ (n : ℕ). CountsPart (skipping_coding (nominal_pixels c.args.neighbours) (skip_of c.args.skip)) false c.args.place.x c.args.place.y c.args.place.count c.args.bitmap.now c.args.decoder.now c.args.contexts.now n c.loop-offset.steps.decisions) before whole.decisions);
       rest = ap (λ (t : Counts). rest_of t) c.store_pixels.ensures.steps ∙ ap (λ (t : Counts). rest_of t) c.loop-offset.invariant.steps ∙ ap (λ (t : Counts). rest_of t) c.mask_at-mask.ensures.steps ∙ ap (λ (t : Counts). rest_of t) c.windows_at-windows.ensures.steps;
     }
 

@@ -1,7 +1,7 @@
 use Rattle.std.proofs.Common.{◌+◌, List, [], ◌∷◌, drop, get_or, length, length-append, refl, sym, ap, ◌∙◌, arith}
 use Rattle.jbig2_base.specs.Grid.{Grid, part_of}
 use Rattle.jbig2_symbol.specs.SymbolBitmaps.{symbol_cut, symbols_cut}
-use Rattle.jbig2_symbol.specs.inner.SymbolViews.{put_behind}
+use Rattle.jbig2_symbol.specs.inner.SymbolViews.{symbols_after}
 use Rattle.jbig2_steps.proofs.WorkLemmas.{kept-worth}
 use Rattle.jbig2_symbol.proofs.PayingLemmas.{copy-paid}
 use Rattle.jbig2_symbol.proofs.CutLemmas.{cut-all, cut-fault, cut-next, sum-next}
@@ -20,7 +20,7 @@ unfolding symbol_cut
 loop-width-preserved g c = record {
   place = sum-next c.args.widths.now c.loop-width.width-index c.loop-width.left 4294967295 (omega arith) c.loop-width.invariant.place;
   cut =
-      ap (λ (symbols : List Grid). put_behind symbols (symbols_cut c.args.collective.now c.args.height (c.loop-width.left + get_or c.args.widths.now c.loop-width.width-index 0) (drop (c.loop-width.width-index + 1) c.args.widths.now))) c.in_ok-push.ensures.items
+      ap (λ (symbols : List Grid). symbols_after symbols (symbols_cut c.args.collective.now c.args.height (c.loop-width.left + get_or c.args.widths.now c.loop-width.width-index 0) (drop (c.loop-width.width-index + 1) c.args.widths.now))) c.in_ok-push.ensures.items
       ∙ sym (cut-next c.args.collective.now c.args.height c.loop-width.left c.args.widths.now c.loop-width.width-index c.loop-width.symbols.items c.in-Ok.symbol (omega arith) c.in-Ok.ensures.value)
       ∙ c.loop-width.invariant.cut;
   count = omega (arith, length-append c.loop-width.symbols.items (c.in-Ok.symbol ∷ []), ap length c.in_ok-push.ensures.items, c.loop-width.invariant.count);

@@ -1,6 +1,6 @@
 use Rattle.std.proofs.Common.{◌≡◌, ◌+◌, ◌*◌, ◌≤◌, length}
 use Rattle.jbig2_symbol.specs.HeightClasses.{symbols_from}
-use Rattle.jbig2_symbol.specs.inner.SymbolViews.{behind, input_view}
+use Rattle.jbig2_symbol.specs.inner.SymbolViews.{concat, input_view}
 use Rattle.jbig2_steps.specs.Work.{worth}
 use Rattle.jbig2_text.specs.Paying.{number_steps}
 use Rattle.jbig2_symbol.proofs.symbol.classes.read_symbols.Given as goal
@@ -10,8 +10,8 @@ invariant-loop-width g l =
     let r = g.R.ReadSymbols in
     record {
       reads :
-          behind l.bitmaps.items (symbols_from r.readings (input_view l.input) l.widths.left l.height l.widths.width l.widths.total l.bitmaps.items (r.state l.readings))
-          ≡ behind l.fn.bitmaps.items (symbols_from r.readings (input_view l.input) l.room l.height 0 0 l.fn.bitmaps.items (r.state l.fn.readings));
+          concat l.bitmaps.items (symbols_from r.readings (input_view l.input) l.widths.left l.height l.widths.width l.widths.total l.bitmaps.items (r.state l.readings))
+          ≡ concat l.fn.bitmaps.items (symbols_from r.readings (input_view l.input) l.room l.height 0 0 l.fn.bitmaps.items (r.state l.fn.readings));
       all : length l.bitmaps.items + l.widths.left ≡ length l.fn.bitmaps.items + l.room;
       paid : worth l.work + number_steps (5 * length l.fn.bitmaps.items) ≤ worth l.fn.work + number_steps (5 * length l.bitmaps.items);
     }

@@ -1,5 +1,5 @@
 use Rattle.std.proofs.Common.{◌-◌, length, Ok, false, refl, sym, subst, arith}
-use Rattle.jbig2_base.specs.Answer.{Gives}
+use Rattle.jbig2_base.specs.Results.{Gives}
 use Rattle.jbig2_base.specs.Grid.{Grid, blank}
 use Rattle.jbig2_symbol.proofs.ExportedLemmas.{all-new, all-referred}
 use Rattle.jbig2_symbol.proofs.symbol.exports.duplicate_symbol.Goals as goal

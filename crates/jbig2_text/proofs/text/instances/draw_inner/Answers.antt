@@ -1,6 +1,6 @@
 use Rattle.std.proofs.Common.{arith, ◌∙◌}
 use Rattle.jbig2_text.specs.Text.{after_instances}
-use Rattle.jbig2_text.specs.inner.Parts.{reached}
+use Rattle.jbig2_text.specs.inner.FunctionResults.{reached}
 use Rattle.jbig2_text.specs.inner.TextViews.{params_view}
 use Rattle.jbig2_text.proofs.InstanceLemmas.{inner-next, inner-fault, inner-done}
 use Rattle.jbig2_text.proofs.text.instances.draw_inner.Goals as goal

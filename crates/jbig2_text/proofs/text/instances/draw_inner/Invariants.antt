@@ -2,7 +2,7 @@ use Rattle.std.proofs.Common.{◌≡◌, ◌+◌, ◌-◌, ◌*◌, ◌≤◌}
 use Rattle.jbig2_steps.specs.Work.{worth}
 use Rattle.jbig2_text.specs.Paying.{number_steps}
 use Rattle.jbig2_text.specs.Text.{after_instances}
-use Rattle.jbig2_text.specs.inner.Parts.{KeepsSize, reached}
+use Rattle.jbig2_text.specs.inner.FunctionResults.{KeepsSize, reached}
 use Rattle.jbig2_text.specs.inner.TextViews.{params_view}
 use Rattle.jbig2_text.proofs.text.instances.draw_inner.Given as goal
 

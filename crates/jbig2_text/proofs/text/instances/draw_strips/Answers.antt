@@ -1,12 +1,12 @@
 use Rattle.std.proofs.Common.{◌≡◌, ℤ, to_z, of_z, w32, Result, ap, subst, ◌∙◌}
 use Rattle.std.proofs.lemmas.Bool.{ne_eqb}
 use Rattle.std.proofs.lemmas.Int.{to_z-of_z}
-use Rattle.jbig2_base.specs.Answer.{Gives}
+use Rattle.jbig2_base.specs.Results.{Gives}
 use Rattle.jbig2_base.specs.Grid.{Grid}
 use Rattle.jbig2_base.specs.declared.error.DecodeError.{DecodeError}
 use Rattle.jbig2_text.specs.Refining.{Refining}
 use Rattle.jbig2_text.specs.Text.{Readings, TextParams}
-use Rattle.jbig2_text.specs.inner.Parts.{some_strips, strips}
+use Rattle.jbig2_text.specs.inner.FunctionResults.{some_strips, strips}
 use Rattle.jbig2_text.specs.inner.TextViews.{params_view}
 use Rattle.jbig2_text.proofs.text.instances.draw_strips.Goals as goal
 

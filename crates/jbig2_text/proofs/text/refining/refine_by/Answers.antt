@@ -2,7 +2,7 @@ use Rattle.std.proofs.Common.{false, List, subst}
 use Rattle.jbig2_region.specs.Refinement.{refinement_coding}
 use Rattle.jbig2_region.specs.inner.PixelArrays.{two_pixels}
 use Rattle.jbig2_region.specs.declared.template.AdaptiveTemplatePixel.{AdaptiveTemplatePixel}
-use Rattle.jbig2_region.specs.inner.Holds.{DecodesRegion}
+use Rattle.jbig2_region.specs.inner.RegionStates.{DecodesRegion}
 use Rattle.jbig2_region.specs.inner.RefinementViews.{reference_view}
 use Rattle.jbig2_region.proofs.Prices.{decided-paid, refinement_loads-few}
 use Rattle.jbig2_steps.proofs.WorkLemmas.{counts-worth}

@@ -1,8 +1,8 @@
 use Rattle.std.proofs.Common.{arith, ◌∙◌, ◌≡◌, Bool, false, subst, sym}
 use Rattle.jbig2_base.specs.Grid.{Grid}
 use Rattle.jbig2_region.specs.declared.region_info.RegionSegmentInfo.{RegionSegmentInfo}
-use Rattle.hayro_jbig2.specs.inner.Parsed.{info_of, initial_of}
-use Rattle.hayro_jbig2.specs.inner.Whole.{IsWhole}
+use Rattle.hayro_jbig2.specs.inner.ParsedRegions.{info_of, initial_of}
+use Rattle.hayro_jbig2.specs.inner.WholePages.{IsWhole}
 use Rattle.hayro_jbig2.proofs.Direct.{whole-page}
 use Rattle.hayro_jbig2.proofs.region.parsed_region.ParsedRegion.makes_up.Goals as goal
 

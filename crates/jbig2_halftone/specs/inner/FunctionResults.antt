@@ -12,7 +12,7 @@ use Rattle.jbig2_region.specs.Steps.{CountsRegion, CountsSkipping}
 use Rattle.jbig2_region.specs.Templates.{template_pixels}
 use Rattle.jbig2_region.specs.declared.template.AdaptiveTemplatePixel.{AdaptiveTemplatePixel}
 use Rattle.jbig2_halftone.specs.GrayScale.{GrayScale, nominal_pixels, after_planes, mmr_planes}
-use Rattle.jbig2_halftone.specs.Halftone.{column_of, gray_params, row_of, is_apart}
+use Rattle.jbig2_halftone.specs.Halftone.{column_of, gray_params, row_of, is_beyond}
 use Rattle.jbig2_halftone.specs.HalftoneHeader.{HalftoneHeader}
 use Rattle.jbig2_halftone.specs.Patterns.{Patterns}
 use Rattle.jbig2_halftone.specs.Steps.{CountsPlanes, CountsMasked, StopsImage, after_mask, words_of_cells}
@@ -52,7 +52,7 @@ planes_contexts p bytes contexts = if p.use_mmr then contexts else (after_planes
 -- ---- the skip mask
 -- the pattern of cell (m, n) would lie wholly outside the region
 abbrev pub lies_outside : HalftoneHeader → Patterns → ℕ → ℕ → Bool
-lies_outside h d m n = is_apart (column_of h m n) d.width h.region_info.width || is_apart (row_of h m n) d.height h.region_info.height
+lies_outside h d m n = is_beyond (column_of h m n) d.width h.region_info.width || is_beyond (row_of h m n) d.height h.region_info.height
 
 -- black where a cell is skipped
 abbrev pub skip_grid : HalftoneHeader → Patterns → Grid

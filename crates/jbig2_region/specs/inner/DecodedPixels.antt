@@ -4,19 +4,19 @@ use Rattle.jbig2_base.specs.Counts.{Counts}
 use Rattle.jbig2_base.specs.Grid.{Grid, bit_number}
 use Rattle.jbig2_coder.specs.Coder.{Coder, Context, Decision, fresh, decision}
 use Rattle.jbig2_region.specs.inner.RowCounts.{decided_pixels}
-use Rattle.jbig2_region.specs.inner.Holds.{Holds}
+use Rattle.jbig2_region.specs.inner.RegionStates.{HasDecoded}
 use Rattle.jbig2_region.specs.inner.Rows.{after_pixels}
 use Rattle.jbig2_region.specs.Raster.{Coding, Region}
 
 -- A bitmap, a coder and contexts before and after n pixels of row y, from column x on.
-abbrev pub Codes : Coding → Bool → ℕ → ℕ → ℕ → Grid → Coder → List Context → Grid → Coder → List Context → Type 0
-Codes coding predicted x y n grid coder states grid' coder' states' =
-    (w h : ℕ) (input : List ℕ) (r : Region) → length r.pixels ≡ y * w + x → r.predicted ≡ predicted → Holds w h input r grid coder states → Holds w h input (after_pixels coding w h input n r) grid' coder' states'
+abbrev pub DecodesPart : Coding → Bool → ℕ → ℕ → ℕ → Grid → Coder → List Context → Grid → Coder → List Context → Type 0
+DecodesPart coding predicted x y n grid coder states grid' coder' states' =
+    (w h : ℕ) (input : List ℕ) (r : Region) → length r.pixels ≡ y * w + x → r.predicted ≡ predicted → HasDecoded w h input r grid coder states → HasDecoded w h input (after_pixels coding w h input n r) grid' coder' states'
 
 -- The decisions taken for these pixels: one for each pixel that takes one.
-abbrev pub CountsCodes : Coding → Bool → ℕ → ℕ → ℕ → Grid → Coder → List Context → ℕ → ℕ → Type 0
-CountsCodes coding predicted x y n grid coder states before after =
-    (w h : ℕ) (input : List ℕ) (r : Region) → length r.pixels ≡ y * w + x → r.predicted ≡ predicted → Holds w h input r grid coder states → after ≡ before + decided_pixels coding w h input n r
+abbrev pub CountsPart : Coding → Bool → ℕ → ℕ → ℕ → Grid → Coder → List Context → ℕ → ℕ → Type 0
+CountsPart coding predicted x y n grid coder states before after =
+    (w h : ℕ) (input : List ℕ) (r : Region) → length r.pixels ≡ y * w + x → r.predicted ≡ predicted → HasDecoded w h input r grid coder states → after ≡ before + decided_pixels coding w h input n r
 
 -- what one decision leaves
 pub record Decides (e : Decision) (k : ℕ) (d : Coder) (s : List Context) (before : Counts) (n : ℕ) (d' : Coder) (s' : List Context) (after : Counts) : Type 0 where

@@ -2,7 +2,7 @@
 use Rattle.std.specs.Prelude.{◌≡◌, ℕ, ◌-◌, ◌/◌, ◌%◌, ◌==◌, Bool, false, if◌then◌else◌, ℤ, pos, ◌-ℤ◌, List, [], Option}
 use Rattle.std.specs.Prelude.{Result, Ok}
 use Rattle.std.specs.Option.{is_some}
-use Rattle.jbig2_base.specs.Answer.{◌>>=◌, refuse_if}
+use Rattle.jbig2_base.specs.Results.{◌>>=◌, refuse_if}
 use Rattle.jbig2_base.specs.Grid.{Grid}
 use Rattle.jbig2_base.specs.declared.bitmap.operator.CombinationOperator.{CombinationOperator}
 use Rattle.jbig2_base.specs.declared.error.DecodeError.{DecodeError}
@@ -16,8 +16,8 @@ use Rattle.jbig2_region.specs.RefinementTemplates.{refinement_bits, refinement_p
 use Rattle.jbig2_region.specs.declared.template.AdaptiveTemplatePixel.{AdaptiveTemplatePixel}
 use Rattle.jbig2_region.specs.declared.template.RefinementTemplate.{RefinementTemplate}
 use Rattle.jbig2_text.specs.Refining.{Refining}
-use Rattle.jbig2_text.specs.Text.{Reached, Readings, TextParams, after_instances, cursor_moved, grown}
-use Rattle.jbig2_text.specs.Text.{is_last_along_s, strip_begun, with_instance}
+use Rattle.jbig2_text.specs.Text.{Reached, Readings, TextParams, after_instances, next_cursor, far_end}
+use Rattle.jbig2_text.specs.Text.{is_last_along_s, strip_start, with_instance}
 use Rattle.jbig2_text.specs.TextHeader.{corner_of, signed_5}
 use Rattle.jbig2_text.specs.TextRegion.{one_of_two}
 use Rattle.jbig2_text.specs.declared.text.cursor.Cursor.{Cursor}
@@ -59,15 +59,15 @@ fresh_refining template pixels = refining_by template pixels (fresh_contexts (re
 
 -- ---- places
 -- the distance from the first pixel of a side to the last
-abbrev pub behind_first : ℕ → ℤ
-behind_first side = pos side -ℤ pos 1
+abbrev pub last_offset : ℕ → ℤ
+last_offset side = pos side -ℤ pos 1
 
 -- CURS where a symbol is placed, and CURS after it
 abbrev pub s_before : TextRegionFlags → Grid → ℤ → Result ℤ DecodeError
-s_before flags g curs = if is_last_along_s flags then grown flags g curs else Ok curs
+s_before flags g curs = if is_last_along_s flags then far_end flags g curs else Ok curs
 
-abbrev pub s_behind : TextRegionFlags → Grid → ℤ → Result ℤ DecodeError
-s_behind flags g curs = if is_last_along_s flags then Ok curs else grown flags g curs
+abbrev pub s_after : TextRegionFlags → Grid → ℤ → Result ℤ DecodeError
+s_after flags g curs = if is_last_along_s flags then Ok curs else far_end flags g curs
 
 -- ---- instances
 abbrev pub reached : {S : Type 0} → Grid → Cursor → Refining → S → Reached S
@@ -77,7 +77,7 @@ reached region c f s = record { region = region; cursor = c; refining = f; state
 abbrev pub with_next_instance : {S : Type 0} → Readings S → TextParams → Reached S → Result (Reached S) DecodeError
 with_next_instance r p x = do
   y ← with_instance r p x
-  c ← cursor_moved r p.flags y.cursor y.state
+  c ← next_cursor r p.flags y.cursor y.state
   Ok (reached y.region c.0 y.refining c.1)
 
 -- whether a strip may end with this IDS
@@ -89,12 +89,12 @@ abbrev pub with_last : {S : Type 0} → Readings S → TextParams → Reached S 
 with_last r p x = do
   last ← with_instance r p x
   ends ← end_of_strip p.strict (r.delta_s last.state)
-  Ok (last.region, last.refining, r.behind_delta_s last.state)
+  Ok (last.region, last.refining, r.after_delta_s last.state)
 
 -- all strips after this STRIPT, where there are instances; `strips` allows for none
 abbrev pub some_strips : {S : Type 0} → Readings S → TextParams → Grid → ℤ → Refining → S → Result (Grid × Refining × S) DecodeError
 some_strips r p region stript f s = do
-  c ← strip_begun r p.flags stript (pos 0) s
+  c ← strip_start r p.flags stript (pos 0) s
   x ← after_instances r p (p.count - 1) (reached region c.0 f c.1)
   with_last r p x
 

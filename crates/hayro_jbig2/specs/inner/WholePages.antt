@@ -8,7 +8,7 @@ use Rattle.jbig2_region.specs.declared.region_info.RegionSegmentInfo.{RegionSegm
 use Rattle.hayro_jbig2.specs.Page.{Drawing}
 
 -- a page that is all of one colour, as at its beginning
-pub record IsBegun (black : Bool) (page : Grid) : Type 0 where
+pub record IsBlankPage (black : Bool) (page : Grid) : Type 0 where
   pub blank : page ≡ blank page.width page.height black
   pub columns : page.width ≤ 65535
   pub rows : page.height ≤ 65535
@@ -21,5 +21,5 @@ pub record IsWhole (info : RegionSegmentInfo) (initial_pixel : Bool) (page : Gri
   pub over : (g : Grid) → IsTable g → g.width ≡ info.width → g.height ≡ info.height → combined info.combination_operator page g (cast_signed w32 info.x_location) (cast_signed w32 info.y_location) ≡ g
 
 -- the drawing after any immediate region
-abbrev pub touched : Drawing → Drawing
-touched d = record d { untouched = false }
+abbrev pub after_immediate : Drawing → Drawing
+after_immediate d = record d { untouched = false }

@@ -3,7 +3,7 @@ use Rattle.std.proofs.lemmas.Result.{err_from_is_err_and}
 use Rattle.jbig2_commands.specs.inner.RequestViews.{task_view}
 use Rattle.jbig2_commands.specs.declared.request.Command.{Command}
 use Rattle.jbig2_commands.proofs.Ending.{bitmap_printed, bitmap_unnamed, calls_printed, calls_unnamed, pages_printed}
-use Rattle.jbig2_commands.proofs.program.answer_bytes.Goals as goal
+use Rattle.jbig2_commands.proofs.program.print_task.Goals as goal
 
 pub returns-in_err-page_at-in-Calls : goal.returns-in_err-page_at-in-Calls
 returns-in_err-page_at-in-Calls g c =

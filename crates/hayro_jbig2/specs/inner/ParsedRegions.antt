@@ -1,21 +1,21 @@
 -- How a region is decoded, once its header is read and what it refers to is found (T.88, 7.4.3 and 7.4.5 to 7.4.7).
 use Rattle.std.specs.Prelude.{◌≡◌, ◌≤◌, Bool, false, ◌||◌, nat_lt, Result, Ok, Err, ◌⊎◌}
-use Rattle.jbig2_base.specs.Answer.{◌>>=◌, refuse_if}
+use Rattle.jbig2_base.specs.Results.{◌>>=◌, refuse_if}
 use Rattle.jbig2_base.specs.Grid.{Grid}
 use Rattle.jbig2_base.specs.declared.error.DecodeError.{DecodeError}
 use Rattle.jbig2_base.specs.declared.error.DecodeError.TheVariants.{OutOfMemory, Overflow}
 use Rattle.jbig2_base.specs.declared.error.OverflowError.TheVariants.{BitmapDimension}
 use Rattle.jbig2_region.specs.RegionInfo.{PlacedRegion, placed}
-use Rattle.jbig2_region.specs.Generic.{generic_answer}
+use Rattle.jbig2_region.specs.Generic.{generic_result}
 use Rattle.jbig2_region.specs.inner.RegionViews.{region_view}
-use Rattle.jbig2_region.specs.Refinement.{refined_answer}
+use Rattle.jbig2_region.specs.Refinement.{refined_result}
 use Rattle.jbig2_region.specs.declared.region_info.RegionSegmentInfo.{RegionSegmentInfo}
 use Rattle.jbig2_region.specs.GenericHeader.{IsParsed}
 use Rattle.jbig2_region.specs.RefinementHeader.{IsRefinement}
-use Rattle.jbig2_halftone.specs.Halftone.{halftone_answer}
+use Rattle.jbig2_halftone.specs.Halftone.{halftone_result}
 use Rattle.jbig2_halftone.specs.inner.DictionaryViews.{dictionary_view}
 use Rattle.jbig2_halftone.specs.HalftoneHeader.{HalftoneHeader}
-use Rattle.jbig2_text.specs.TextRegion.{text_answer}
+use Rattle.jbig2_text.specs.TextRegion.{text_result}
 use Rattle.hayro_jbig2.specs.Names.{nothing_passed}
 use Rattle.hayro_jbig2.specs.Page.{Drawing}
 use Rattle.hayro_jbig2.specs.declared.region.parsed_region.ParsedRegion.{ParsedRegion}
@@ -45,15 +45,15 @@ initial_of (PageRefinement header area) = false
 
 -- the grid that it decodes to
 abbrev pub drawn : {A : Type 0} → ParsedRegion A → Result Grid DecodeError
-drawn (Text header referred) = text_answer (texts.header_view header) referred.symbols referred.codes
-drawn (Halftone header patterns) = halftone_answer (halftones.header_view header) (dictionary_view patterns.now)
-drawn (Generic header) = generic_answer (generics.header_view header)
-drawn (Refinement header reference) = refined_answer (refinements.header_view header) (region_view reference.now)
-drawn (PageRefinement header area) = refined_answer (refinements.header_view header) (region_view area)
+drawn (Text header referred) = text_result (texts.header_view header) referred.symbols referred.codes
+drawn (Halftone header patterns) = halftone_result (halftones.header_view header) (dictionary_view patterns.now)
+drawn (Generic header) = generic_result (generics.header_view header)
+drawn (Refinement header reference) = refined_result (refinements.header_view header) (region_view reference.now)
+drawn (PageRefinement header area) = refined_result (refinements.header_view header) (region_view area)
 
 -- the grid at its place, unless a side of the region is too large
-abbrev pub apart : {A : Type 0} → ParsedRegion A → Result PlacedRegion DecodeError
-apart r = refuse_if (nat_lt 65535 (info_of r).width || nat_lt 65535 (info_of r).height) (Overflow BitmapDimension) >>= λ fits. drawn r >>= λ g. Ok (placed (info_of r) g)
+abbrev pub placed_region : {A : Type 0} → ParsedRegion A → Result PlacedRegion DecodeError
+placed_region r = refuse_if (nat_lt 65535 (info_of r).width || nat_lt 65535 (info_of r).height) (Overflow BitmapDimension) >>= λ fits. drawn r >>= λ g. Ok (placed (info_of r) g)
 
 -- the limits of a halftone's grid
 pub record HasCells (header : HalftoneHeader) : Type 0 where
@@ -69,9 +69,9 @@ IsDecodable (Refinement header reference) = IsRefinement (refinements.header_vie
 IsDecodable (PageRefinement header area) = IsRefinement (refinements.header_view header)
 
 -- The parsed region decodes to what the definition gives, unless memory ran out.
-abbrev pub Leads : {A : Type 0} → Result (ParsedRegion A) DecodeError → Result PlacedRegion DecodeError → Type 0
-Leads (Ok parsed) meant = meant ≡ apart parsed
-Leads (Err e) meant = (e ≡ OutOfMemory) ⊎ (meant ≡ Err e)
+abbrev pub DecodesTo : {A : Type 0} → Result (ParsedRegion A) DecodeError → Result PlacedRegion DecodeError → Type 0
+DecodesTo (Ok parsed) meant = meant ≡ placed_region parsed
+DecodesTo (Err e) meant = (e ≡ OutOfMemory) ⊎ (meant ≡ Err e)
 
 -- the page as the references see it
 abbrev pub drawing_of : {A : Type 0} → References A → Drawing

@@ -2,7 +2,7 @@
 use Rattle.std.specs.Prelude.{◌≡◌, ◌≤◌, ◌^◌, ℕ, Bool, false, List, Option, length}
 use Rattle.jbig2_base.specs.Grid.{Grid, blank}
 use Rattle.jbig2_coder.specs.Coder.{Coder, Context}
-use Rattle.jbig2_region.specs.Raster.{Coding, Region, so_far, row_begun, decoded_region, no_pixels}
+use Rattle.jbig2_region.specs.Raster.{Coding, Region, so_far, after_ltp, decoded_region, no_pixels}
 
 -- A white bitmap whose sides a region may have, and as many contexts as a number of this many bits has values.
 pub record IsReady (bits : ℕ) (grid : Grid) (states : List Context) : Type 0 where
@@ -11,7 +11,7 @@ pub record IsReady (bits : ℕ) (grid : Grid) (states : List Context) : Type 0 w
   pub white : grid ≡ blank grid.width grid.height false
   pub contexts : length states ≡ 2 ^ bits
 
-pub record Holds (w h : ℕ) (input : List ℕ) (r : Region) (grid : Grid) (coder : Coder) (states : List Context) : Type 0 where
+pub record HasDecoded (w h : ℕ) (input : List ℕ) (r : Region) (grid : Grid) (coder : Coder) (states : List Context) : Type 0 where
   pub pixels : grid ≡ so_far w h r.pixels
   pub bytes : coder.bytes ≡ input
   pub registers : coder.registers ≡ r.registers
@@ -19,9 +19,9 @@ pub record Holds (w h : ℕ) (input : List ℕ) (r : Region) (grid : Grid) (code
 
 -- the same after the start of a row, and whether the row is predicted
 pub record BeginsRow (w h : ℕ) (row_context : Option ℕ) (r : Region) (is_predicted : Bool) (grid : Grid) (before coder : Coder) (states : List Context) : Type 0 where
-  pub holds : Holds w h before.bytes (row_begun row_context before.bytes r) grid coder states
-  pub predicted : (row_begun row_context before.bytes r).predicted ≡ is_predicted
+  pub holds : HasDecoded w h before.bytes (after_ltp row_context before.bytes r) grid coder states
+  pub predicted : (after_ltp row_context before.bytes r).predicted ≡ is_predicted
 
 -- A whole region is decoded, from the present state of the coder and the contexts.
 abbrev pub DecodesRegion : Coding → Grid → Coder → List Context → Grid → Coder → List Context → Type 0
-DecodesRegion coding g d s g' d' s' = Holds g.width g.height d.bytes (decoded_region coding g.width g.height d.bytes (no_pixels d.registers s)) g' d' s'
+DecodesRegion coding g d s g' d' s' = HasDecoded g.width g.height d.bytes (decoded_region coding g.width g.height d.bytes (no_pixels d.registers s)) g' d' s'

@@ -4,7 +4,7 @@ use Rattle.std.specs.List.{range_with_len}
 use Rattle.jbig2_coder.specs.Integers.{value_of_bits}
 
 -- This many bytes are put at a place. The bytes before it are as they were.
-pub record Puts (byte : ℕ → ℕ) (place count : ℕ) (old new : List ℕ) : Type 0 where
+pub record Fills (byte : ℕ → ℕ) (place count : ℕ) (old new : List ℕ) : Type 0 where
   pub sized : length new ≡ length old
   pub before : (k : ℕ) → k < place → get_or new k 0 ≡ get_or old k 0
   pub bytes : (i : ℕ) → i < count → get_or new (place + i) 0 ≡ byte i

@@ -24,9 +24,9 @@ Gives view (Ok x) meant = meant ≡ Ok (view x)
 Gives view (Err e) meant = (e ≡ OutOfMemory) ⊎ (meant ≡ Err e)
 
 -- the same for a call that takes no memory
-abbrev pub Answers : {X Y : Type 0} → (X → Y) → Result X DecodeError → Result Y DecodeError → Type 0
-Answers view (Ok x) meant = meant ≡ Ok (view x)
-Answers view (Err e) meant = meant ≡ Err e
+abbrev pub Returns : {X Y : Type 0} → (X → Y) → Result X DecodeError → Result Y DecodeError → Type 0
+Returns view (Ok x) meant = meant ≡ Ok (view x)
+Returns view (Err e) meant = meant ≡ Err e
 
 -- The state that a call leaves is what was meant, unless memory ran out.
 abbrev pub Leaves : {X Y : Type 0} → Result X DecodeError → Y → Y → Type 0
