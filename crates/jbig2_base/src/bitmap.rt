@@ -2,7 +2,8 @@
 ghost use Rattle.std.specs.Prelude.{◌≡◌, ℕ, ◌+◌, ◌-◌, ◌*◌, ◌/◌, ◌^◌, ◌<◌, ◌≤◌, OnErr, Ok, false, length, slice_index};
 ghost use Rattle.jbig2_base.specs.Results.{Gives};
 ghost use Rattle.jbig2_base.specs.Counts.{words_copied};
-ghost use Rattle.jbig2_base.specs.{Grid.{Grid, blank, pixel_at, bit_number, part_or_overflow, blank_or_overflow, wide_or_overflow}, Counts.{words_of}};
+ghost use Rattle.jbig2_base.specs.Grid.{Grid, blank, pixel_at, bit_number, part_or_overflow, blank_or_overflow, wide_or_overflow};
+ghost use Rattle.jbig2_base.specs.Counts.{words_of};
 ghost use Rattle.jbig2_base.specs.Causes.{HasCauseOrNoMemory, BreaksSides, BreaksArea};
 ghost use Rattle.jbig2_base.specs.Table.{IsTable};
 ghost use Rattle.jbig2_base.specs.Bits.{bit};

@@ -2,7 +2,9 @@
 //! image.
 ghost use Rattle.std.specs.Prelude.{◌≡◌, false, true};
 ghost use Rattle.jbig2_region.specs.inner.RegionStates.{DecodesRegion, IsReady};
-ghost use Rattle.jbig2_region.specs.{Steps.{CountsSkipping}, inner.RegionViews.{skip_of}, Generic.{skipping_coding}};
+ghost use Rattle.jbig2_region.specs.Steps.{CountsSkipping};
+ghost use Rattle.jbig2_region.specs.inner.RegionViews.{skip_of};
+ghost use Rattle.jbig2_region.specs.Generic.{skipping_coding};
 ghost use Rattle.jbig2_region.specs.Templates.{context_bits, is_nominal, template_pixels};
 ghost use Rattle.jbig2_region.specs.inner.PixelArrays.{four_pixels};
 

@@ -2,7 +2,8 @@
 ghost use Rattle.std.specs.Prelude.{◌≡◌, ℕ, true, ◌+◌, ◌-◌, ◌*◌, ◌/◌, ◌^◌, ◌<◌, ◌≤◌, min, pos, ◌-ℤ◌};
 ghost use Rattle.jbig2_base.specs.Blocks.{CombinesBlock, LiesOn, with_block};
 ghost use Rattle.jbig2_base.specs.inner.Combines.{HasEnds, block_of};
-ghost use Rattle.jbig2_base.specs.{Combination.{combined, combined_pixel}, Counts.{overlap, most_words, source_combined, WritesWithin}};
+ghost use Rattle.jbig2_base.specs.Combination.{combined, combined_pixel};
+ghost use Rattle.jbig2_base.specs.Counts.{overlap, most_words, source_combined, WritesWithin};
 ghost use Rattle.jbig2_base.specs.Table.{IsTable};
 ghost use Rattle.jbig2_base.specs.Bits.{bit};
 

@@ -3,7 +3,8 @@
 ghost use Rattle.std.specs.Prelude.{◌≡◌, ℕ, ◌+◌, ◌-◌, ◌*◌, ◌/◌, ◌%◌, ◌^◌, ◌<◌, ◌≤◌, ◌&&◌, nat_lt, OnErr, Ok, false, length, slice_index};
 ghost use Rattle.jbig2_base.specs.Results.{Gives};
 ghost use Rattle.jbig2_base.specs.Counts.{words_copied};
-ghost use Rattle.jbig2_base.specs.{Counts.{words_of}, Grid.{blank, pixel_at, bit_number}};
+ghost use Rattle.jbig2_base.specs.Counts.{words_of};
+ghost use Rattle.jbig2_base.specs.Grid.{blank, pixel_at, bit_number};
 ghost use Rattle.jbig2_base.specs.Blocks.{LiesOn, CombinesBlock};
 ghost use Rattle.jbig2_base.specs.Table.{IsTable};
 ghost use Rattle.jbig2_base.specs.Bits.{bit};

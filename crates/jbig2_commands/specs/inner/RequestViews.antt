@@ -1,7 +1,11 @@
 -- A request of the code as the definitions see it: the mode, the task and the file of Words.antt.
 use Rattle.std.specs.Prelude.{ℕ, Bool, List}
 use Rattle.std.specs.Str.Parse.{IsNumeral}
-use Rattle.jbig2_commands.specs.{Words.{Task, Pages as PagesTask, Embedded as EmbeddedTask, Calls as CallsTask, Pbm as PbmTask}, declared.request.{Command.{Command, TheVariants.{Pages, Embedded, Calls, Pbm}}, Request.{Request}}}
+use Rattle.jbig2_commands.specs.Words.{Task, Pages as PagesTask, Embedded as EmbeddedTask, Calls as CallsTask}
+use Rattle.jbig2_commands.specs.Words.{Pbm as PbmTask}
+use Rattle.jbig2_commands.specs.declared.request.Command.{Command}
+use Rattle.jbig2_commands.specs.declared.request.Command.TheVariants.{Pages, Embedded, Calls, Pbm}
+use Rattle.jbig2_commands.specs.declared.request.Request.{Request}
 
 abbrev pub task_view : Command → Task
 task_view Pages = PagesTask

@@ -3,7 +3,8 @@ ghost use Rattle.std.specs.Prelude.{◌≡◌, ℕ, ◌+◌, ◌*◌, ◌/◌, �
 ghost use Rattle.jbig2_base.specs.Counts.{KeepsLanes, words_loaded, words_searched};
 ghost use Rattle.jbig2_base.specs.Search.{place_from};
 ghost use Rattle.jbig2_base.specs.Bits.{bit};
-ghost use Rattle.{jbig2_base.specs.Grid.{differ}, jbig2_mmr.specs.T6.{left_of, is_change_from}};
+ghost use Rattle.jbig2_base.specs.Grid.{differ};
+ghost use Rattle.jbig2_mmr.specs.T6.{left_of, is_change_from};
 ghost use Rattle.jbig2_mmr.specs.inner.T6Reading.{row_of};
 ghost use Rattle.jbig2_mmr.specs.Steps.{MovesWithin};
 ghost use Rattle.jbig2_mmr.specs.inner.T6Calls.{IsWordOf};

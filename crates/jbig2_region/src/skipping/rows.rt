@@ -2,7 +2,9 @@
 //! windows on the rows above, and a window on the mask says which of 32 pixels are skipped.
 ghost use Rattle.std.specs.Prelude.{◌≡◌, ℕ, ◌+◌, ◌-◌, ◌*◌, ◌/◌, ◌%◌, ◌^◌, ◌<◌, ◌≤◌, false, length, Some, None, if◌then◌else◌};
 ghost use Rattle.jbig2_base.specs.Counts.{KeepsLanes};
-ghost use Rattle.jbig2_region.specs.{Steps.{CountsSkipping, skipping_loads, skipping_words}, inner.RegionViews.{skip_of}, Generic.{skipping_coding}};
+ghost use Rattle.jbig2_region.specs.Steps.{CountsSkipping, skipping_loads, skipping_words};
+ghost use Rattle.jbig2_region.specs.inner.RegionViews.{skip_of};
+ghost use Rattle.jbig2_region.specs.Generic.{skipping_coding};
 ghost use Rattle.jbig2_region.specs.inner.DecodedPixels.{Takes};
 ghost use Rattle.jbig2_region.specs.inner.RegionStates.{DecodesRegion, IsReady};
 ghost use Rattle.jbig2_region.specs.inner.Neighbours.{IsLeft, IsNear, neighbour_count, nominal_pixels};

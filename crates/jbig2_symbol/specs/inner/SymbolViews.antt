@@ -11,7 +11,18 @@ use Rattle.jbig2_base.specs.Bits.{Place, aligned}
 use Rattle.jbig2_base.specs.Fields.{bytes_at}
 use Rattle.jbig2_base.specs.Grid.{Grid, bit_number, wide_or_overflow}
 use Rattle.jbig2_text.specs.TextCoding.{Coded, in_band}
-use Rattle.jbig2_symbol.specs.{SymbolBitmaps.{collective_bitmap, raw_stride}, SymbolReading.{BitmapContexts, SymbolInput, SymbolState, SymbolTables, by_table, not_negative}, Symbols.{Symbols}, inner.HeaderViews.{contexts_view, header_view}, declared.symbol.{coded.CodedSymbols.{CodedSymbols}, dictionary.{RetainedContexts.{RetainedContexts}, SymbolDictionary.{SymbolDictionary}}, input.{SymbolInput.{SymbolInput as Input}, SymbolTables.{SymbolTables as Tables}}, prefixed.PrefixedSymbols.{PrefixedSymbols}, widths.RunningWidths.{RunningWidths}}}
+use Rattle.jbig2_symbol.specs.SymbolBitmaps.{collective_bitmap, raw_stride}
+use Rattle.jbig2_symbol.specs.SymbolReading.{BitmapContexts, SymbolInput, SymbolState, SymbolTables, by_table}
+use Rattle.jbig2_symbol.specs.SymbolReading.{not_negative}
+use Rattle.jbig2_symbol.specs.Symbols.{Symbols}
+use Rattle.jbig2_symbol.specs.inner.HeaderViews.{contexts_view, header_view}
+use Rattle.jbig2_symbol.specs.declared.symbol.coded.CodedSymbols.{CodedSymbols}
+use Rattle.jbig2_symbol.specs.declared.symbol.dictionary.RetainedContexts.{RetainedContexts}
+use Rattle.jbig2_symbol.specs.declared.symbol.dictionary.SymbolDictionary.{SymbolDictionary}
+use Rattle.jbig2_symbol.specs.declared.symbol.input.SymbolInput.{SymbolInput as Input}
+use Rattle.jbig2_symbol.specs.declared.symbol.input.SymbolTables.{SymbolTables as Tables}
+use Rattle.jbig2_symbol.specs.declared.symbol.prefixed.PrefixedSymbols.{PrefixedSymbols}
+use Rattle.jbig2_symbol.specs.declared.symbol.widths.RunningWidths.{RunningWidths}
 use Rattle.jbig2_text.specs.inner.TextViews as texts
 
 abbrev pub tables_view : {A : Type 0} → Tables A → SymbolTables

@@ -3,7 +3,8 @@ ghost use Rattle.std.specs.Prelude.{◌≡◌, ◌*◌, ◌^◌, ◌≤◌, pos,
 ghost use Rattle.jbig2_base.specs.Results.{Returns};
 ghost use Rattle.jbig2_base.specs.declared.error.DecodeError.TheVariants.{Symbol};
 ghost use Rattle.jbig2_base.specs.declared.error.SymbolError.TheVariants.{InvalidStripDelta};
-ghost use Rattle.{jbig2_base.specs.Fields.{word_or}, jbig2_text.specs.Text.{coordinate, side_of, reference_offset}};
+ghost use Rattle.jbig2_base.specs.Fields.{word_or};
+ghost use Rattle.jbig2_text.specs.Text.{coordinate, side_of, reference_offset};
 ghost use Rattle.jbig2_text.specs.inner.FunctionResults.{last_offset};
 
 use jbig2_base::error::{DecodeError, OverflowError, Result, SymbolError};

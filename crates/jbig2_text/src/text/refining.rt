@@ -6,7 +6,8 @@ ghost use Rattle.jbig2_region.specs.RefinementTemplates.{refinement_bits};
 ghost use Rattle.jbig2_region.specs.inner.PixelArrays.{two_pixels, filled};
 ghost use Rattle.jbig2_region.specs.inner.RefinementViews.{reference_view};
 ghost use Rattle.jbig2_steps.specs.Work.{PaidBut, price_of_bitmap};
-ghost use Rattle.jbig2_text.specs.{Refining.{refined_with}, inner.TextViews.{some_pixels}};
+ghost use Rattle.jbig2_text.specs.Refining.{refined_with};
+ghost use Rattle.jbig2_text.specs.inner.TextViews.{some_pixels};
 ghost use Rattle.jbig2_text.specs.inner.FunctionResults.{fresh_refining, refining_by};
 
 use jbig2_base::bitmap::Bitmap;
@@ -32,7 +33,8 @@ pub struct Refining<A: Allocator> {
 impl<A: Allocator> Model for Refining<A> {
     ghost use Rattle.std.specs.Prelude.{◌≡◌, ◌^◌, length};
     ghost use Rattle.jbig2_region.specs.RefinementTemplates.{refinement_bits};
-    ghost use Rattle.jbig2_text.specs.{Refining.{Refining}, inner.TextViews.{some_pixels}};
+    ghost use Rattle.jbig2_text.specs.Refining.{Refining};
+    ghost use Rattle.jbig2_text.specs.inner.TextViews.{some_pixels};
 
     ghost Value = { Refining };
 
