@@ -216,7 +216,8 @@ impl<'a, A: Allocator + Clone> File<'a, A> {
     /// and of each page's end and size. Where there is a page, the segments of no page are decoded
     /// too; decoding a page returns a fault of theirs.
     pub fn new(alloc: A, bytes: &'a [u8], settings: &DecodeSettings) -> Result<File<'a, A>>
-        ensures value { Gives (λ file. file) result (book_at (reading_of settings.now.strict) bytes.now) }
+        ensures value { Gives (λ file. file) result
+            (book_at (reading_of settings.now.strict) bytes.now) }
         ensures errors { IfErr result IsReturned }
     {
         File::new_within(alloc, bytes, settings, None)
@@ -230,7 +231,8 @@ impl<'a, A: Allocator + Clone> File<'a, A> {
         settings: &DecodeSettings,
         work: Option<u64>,
     ) -> Result<File<'a, A>>
-        ensures value { Gives (λ file. file) result (book_at (reading_of settings.now.strict) bytes.now) }
+        ensures value { Gives (λ file. file) result
+            (book_at (reading_of settings.now.strict) bytes.now) }
         ensures causes { HasCauseOrNoMemory result
             (BreaksBook (reading_of settings.now.strict) bytes.now) }
         ensures errors { IfErr result IsReturned }

@@ -141,7 +141,8 @@ fn parse_segments_random_access<'a, A: Allocator + Clone>(
     bytes: &'a [u8],
     reading: Reading,
 ) -> Result<Vec<Segment<'a, A>, A>>
-    ensures value { Gives (λ v. segment_views v.items) result (segments_by RandomAccess reading bytes.now) }
+    ensures value { Gives (λ v. segment_views v.items) result
+        (segments_by RandomAccess reading bytes.now) }
 {
     let mut reader = Reader::new(bytes);
     let headers = parse_segment_headers(alloc.clone()?, &mut reader, reading)?;

@@ -160,7 +160,8 @@ fn resolution(number: u32) -> Option<u32>
 pub fn parse_page_information(reader: &mut Reader<'_>) -> Result<PageInformation>
     requires { IsAligned reader.old }
     ensures causes { HasCause result (BreaksInformation reader.old.bytes) }
-    ensures parses { Parses reader.old reader.new result (λ p. p) (information_at reader.old.bytes) }
+    ensures parses { Parses reader.old reader.new result (λ p. p)
+        (information_at reader.old.bytes) }
 {
     let mut ahead = reader.duplicate();
     let width = u32_field(&mut ahead)?;
@@ -288,7 +289,8 @@ impl InitialPage {
         segments: &[Segment<'_, A>],
         known_height: u32,
     ) -> Result<InitialPage>
-        ensures causes { HasCause result (BreaksInitialPageBy known_height (segment_views segments.now)) }
+        ensures causes { HasCause result
+            (BreaksInitialPageBy known_height (segment_views segments.now)) }
         ensures value { Returns (λ initial_page. initial_page) result
             (initial_page_by known_height (segment_views segments.now)) }
         ensures fits { IfOk result

@@ -45,7 +45,8 @@ impl Ended {
     /// The end of a run with this result: writes its fault to standard error.
     pub fn of<E: Write>(ended: Result<(), Fault>, err: &mut E) -> Ended
         ensures status { result.status ≡ status_of ended }
-        ensures told { WritesLine result.told (error_line ended) (E.contents err.old) (E.contents err.new) }
+        ensures told { WritesLine result.told (error_line ended)
+            (E.contents err.old) (E.contents err.new) }
     {
         match ended {
             Ok(()) => Ended {

@@ -108,7 +108,8 @@ fn page_task<'w>(command: &str, index: &'w str) -> Option<Command<'w>>
 
 /// What is done with which file.
 fn task_of<'w>(words: &[&'w str]) -> Option<(Command<'w>, &'w str)>
-    ensures { option_map (λ task. (task_view task.0, task.1.now)) result ≡ task_of (map (λ word. word.now) words.now) }
+    ensures { option_map (λ task. (task_view task.0, task.1.now)) result
+        ≡ task_of (map (λ word. word.now) words.now) }
 {
     match words {
         [command, file] => Some((whole_task(command)?, *file)),
@@ -137,7 +138,8 @@ impl<'w> Request<'w> {
 
 /// The word that names the file; `None` where the words are not those of a run.
 pub fn file_word<'w>(words: &[&'w str]) -> Option<&'w str>
-    ensures { option_map (λ file. file.now) result ≡ option_map (λ request. request.2) (request_of (map (λ word. word.now) words.now)) }
+    ensures { let request = request_of (map (λ word. word.now) words.now) in
+        option_map (λ file. file.now) result ≡ option_map (λ r. r.2) request }
 {
     let request = Request::of_words(words)?;
     Some(request.file)

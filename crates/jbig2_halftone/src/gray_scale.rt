@@ -81,7 +81,8 @@ pub fn decode_gray_scale_image<M: Allocator, A: Allocator + Clone, B: Allocator,
     ensures lanes { OnOk result (CountsLanes (gray_view params.now) steps.old steps.new) }
     ensures no_lanes { OnErr result (KeepsLanes steps.old steps.new) }
     ensures no_planes { params.now.bits_per_pixel ≡ 0 → steps.new ≡ steps.old }
-    ensures paid { CountsWithin (price_of_image (gray_view params.now) bytes.now) steps.old steps.new }
+    ensures paid { let price = price_of_image (gray_view params.now) bytes.now in
+        CountsWithin price steps.old steps.new }
     ensures causes { HasCauseOrNoMemory result (BreaksGrayScale (gray_view params.now) bytes.now) }
 {
     let too_long = params.width > MAX_DIMENSION || params.height > MAX_DIMENSION;

@@ -40,7 +40,8 @@ pub fn decode<A: Allocator, L: Ledger>(
         (mmr_rows strict bitmap.old.width bitmap.old.height bytes.now) }
     ensures grid { bitmap.new ≡ grid_of_rows bitmap.old.width bitmap.old.height
         (rows_of bitmap.old.width bitmap.old.height bytes.now).rows }
-    ensures causes { HasCause result (BreaksMmr strict bitmap.old.width bitmap.old.height bytes.now) }
+    ensures causes { HasCause result
+        (BreaksMmr strict bitmap.old.width bitmap.old.height bytes.now) }
     ensures lanes { KeepsLanes steps.old steps.new }
     ensures work { MovesWithin (3 * (words_of bitmap.old + 8 * bytes_taken result (length bytes.now)))
         steps.old steps.new }

@@ -79,7 +79,8 @@ impl<A: Allocator> DecoderContext<A> {
     /// The page that was drawn last, as packed rows. After a page that was refused, it is what was drawn before the
     /// fault. After memory ran out it may be any page.
     pub fn drawn(&self) -> DrawnPage<'_, A>
-        ensures { let page = self.now.drawing.grid in result ≡ packed_of page.width page.height page }
+        ensures { let page = self.now.drawing.grid in
+            result ≡ packed_of page.width page.height page }
     {
         self.canvas.drawn()
     }

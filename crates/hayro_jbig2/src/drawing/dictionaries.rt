@@ -107,7 +107,8 @@ pub(crate) fn keep_symbols<A: Allocator + Clone, L: Ledger>(
 ) -> Result<()>
     ensures value { Gives (λ _. names.new) result
         (with_symbols strict globals.now (segment_view segment.now) names.old) }
-    ensures unchanged { IfErr result (λ e. (e ≡ DecodeError.OutOfMemory) ⊎ (names.new ≡ names.old)) }
+    ensures unchanged { IfErr result
+        (λ e. (e ≡ DecodeError.OutOfMemory) ⊎ (names.new ≡ names.old)) }
     ensures paid { Paid work.old work.new }
 {
     let lookup = Lookup {
@@ -130,7 +131,8 @@ pub(crate) fn keep_patterns<A: Allocator + Clone, L: Ledger>(
 ) -> Result<()>
     ensures value { Gives (λ _. names.new) result
         (with_patterns strict (segment_view segment.now) names.old) }
-    ensures unchanged { IfErr result (λ e. (e ≡ DecodeError.OutOfMemory) ⊎ (names.new ≡ names.old)) }
+    ensures unchanged { IfErr result
+        (λ e. (e ≡ DecodeError.OutOfMemory) ⊎ (names.new ≡ names.old)) }
     ensures paid { Paid work.old work.new }
 {
     let dictionary = decode_patterns(strict, segment.bytes, workspace, work)?;
@@ -145,7 +147,8 @@ pub(crate) fn keep_table<A: Allocator + Clone>(
     workspace: &Workspace<A>,
 ) -> Result<()>
     ensures value { Gives (λ _. names.new) result (with_code (segment_view segment.now) names.old) }
-    ensures unchanged { IfErr result (λ e. (e ≡ DecodeError.OutOfMemory) ⊎ (names.new ≡ names.old)) }
+    ensures unchanged { IfErr result
+        (λ e. (e ≡ DecodeError.OutOfMemory) ⊎ (names.new ≡ names.old)) }
 {
     let mut reader = Reader::new(segment.bytes);
     let table = HuffmanTable::read_custom(workspace.alloc.clone()?, &mut reader)?;

@@ -73,7 +73,8 @@ pub(crate) fn pay_cells<A: Allocator, L: Ledger>(
 ) -> Result<()>
     ensures memory { IfErr result (λ e. e ≡ DecodeError.OutOfMemory) }
     ensures paid { Paid work.old work.new }
-    ensures taken { let price = price_of_halftone (header_view header.now) (dictionary_view patterns.now) in
+    ensures taken { let dictionary = dictionary_view patterns.now in
+        let price = price_of_halftone (header_view header.now) dictionary in
         IfOk result (λ _. worth work.new + 32 * price ≡ worth work.old) }
 {
     let grid = &header.grid_position_and_size;

@@ -137,7 +137,8 @@ pub fn read_rows<A: Allocator, L: Ledger>(
     work: &mut Work<L>,
 ) -> Result<Bitmap<A>>
     requires { IsAligned reader.old }
-    ensures value { let meant = rows_of_size strict size sides.width sides.height reader.old.bytes in
+    ensures value { let bytes = reader.old.bytes in
+        let meant = rows_of_size strict size sides.width sides.height bytes in
         Gives (λ bitmap. (bitmap, reader.new.bytes)) result meant }
     ensures aligned { IsAligned reader.new }
     ensures paid { Paid work.old work.new }
@@ -188,7 +189,8 @@ pub fn check_rows<A: Allocator, L: Ledger>(
     work: &mut Work<L>,
 ) -> Result<()>
     requires { IsAligned reader.old }
-    ensures value { let meant = rows_of_size strict size sides.width sides.height reader.old.bytes in
+    ensures value { let bytes = reader.old.bytes in
+        let meant = rows_of_size strict size sides.width sides.height bytes in
         Gives (λ _. tt) result (with_no_value meant) }
     ensures paid { Paid work.old work.new }
 {

@@ -180,7 +180,8 @@ pub fn read_new_symbols<R: ReadClasses<A>, A: Allocator + Clone, L: Ledger>(
 ) -> Result<Vec<Bitmap<A>, A>>
     requires symbols { length input.now.symbols.now ≤ 2097152 }
     requires fresh { input.now.header.now.num_new_symbols ≤ 1048576 }
-    ensures value { let meant = new_symbols R.readings (input_view input.now) (R.state readings.old) in
+    ensures value { let state = R.state readings.old in
+        let meant = new_symbols R.readings (input_view input.now) state in
         Gives (λ symbols. (symbols.items, R.state readings.new)) result meant }
     ensures paid { let most = input.now.header.now.num_new_symbols in
         PaidBut (number_steps (5 * most)) work.old work.new }

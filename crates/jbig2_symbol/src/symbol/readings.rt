@@ -29,7 +29,8 @@ pub trait ReadSymbols<A: Allocator + Clone> {
         input: &SymbolInput<'_, A>,
         work: &mut Work<L>,
     ) -> Result<Option<i32>>
-        ensures value { let meant = readings.width_difference (input_view input.now) (state self.old) in
+        ensures value { let d = input_view input.now in
+            let meant = readings.width_difference d (state self.old) in
             Returns (λ value. (value, state self.new)) result meant }
         ensures paid { PaidBut (number_steps 1) work.old work.new };
 
@@ -66,7 +67,8 @@ pub trait ReadClasses<A: Allocator + Clone> {
         input: &SymbolInput<'_, A>,
         work: &mut Work<L>,
     ) -> Result<Option<i32>>
-        ensures value { let meant = readings.height_difference (input_view input.now) (state self.old) in
+        ensures value { let d = input_view input.now in
+            let meant = readings.height_difference d (state self.old) in
             Returns (λ value. (value, state self.new)) result meant }
         ensures paid { PaidBut (number_steps 1) work.old work.new };
 

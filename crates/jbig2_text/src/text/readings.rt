@@ -26,12 +26,14 @@ pub trait ReadInstances {
 
     /// Reads a difference of T, in strips.
     fn delta_t<L: Ledger>(&mut self, work: &mut Work<L>) -> Result<i32>
-        ensures value { Returns (λ n. (n, state self.new)) result (readings.delta_t (state self.old)) }
+        ensures value { Returns (λ n. (n, state self.new)) result
+            (readings.delta_t (state self.old)) }
         ensures paid { PaidBut (number_steps 1) work.old work.new };
 
     /// Reads the difference of S between the first instances of two strips.
     fn first_s<L: Ledger>(&mut self, work: &mut Work<L>) -> Result<i32>
-        ensures value { Returns (λ n. (n, state self.new)) result (readings.first_s (state self.old)) }
+        ensures value { Returns (λ n. (n, state self.new)) result
+            (readings.first_s (state self.old)) }
         ensures paid { PaidBut (number_steps 1) work.old work.new };
 
     /// Reads a difference of S in a strip, or `None` at its end.
@@ -72,12 +74,14 @@ pub trait ReadInstances {
 
     /// Reads how far a refined symbol is moved to the right.
     fn x_delta<L: Ledger>(&mut self, work: &mut Work<L>) -> Result<i32>
-        ensures value { Returns (λ n. (n, state self.new)) result (readings.x_delta (state self.old)) }
+        ensures value { Returns (λ n. (n, state self.new)) result
+            (readings.x_delta (state self.old)) }
         ensures paid { PaidBut (number_steps 1) work.old work.new };
 
     /// Reads how far a refined symbol is moved down.
     fn y_delta<L: Ledger>(&mut self, work: &mut Work<L>) -> Result<i32>
-        ensures value { Returns (λ n. (n, state self.new)) result (readings.y_delta (state self.old)) }
+        ensures value { Returns (λ n. (n, state self.new)) result
+            (readings.y_delta (state self.old)) }
         ensures paid { PaidBut (number_steps 1) work.old work.new };
 
     /// Refines `reference` into a white bitmap. The contexts go on from their state.

@@ -40,7 +40,8 @@ pub fn begin_strip<R: ReadInstances, L: Ledger>(
     work: &mut Work<L>,
 ) -> Result<Cursor>
     requires { flags.now.log_strip_size ≤ 3 }
-    ensures value { let meant = strip_start R.readings flags.now strip_t first_s (R.state readings.old) in
+    ensures value { let state = R.state readings.old in
+        let meant = strip_start R.readings flags.now strip_t first_s state in
         Returns (λ cursor. (cursor, R.state readings.new)) result meant }
     ensures paid { PaidBut (number_steps 2) work.old work.new }
 {

@@ -217,7 +217,8 @@ pub fn parse_symbol_codes<A: Allocator + Clone>(
     ensures value { let meant = symbol_codes_at count reader.old.bytes in
         Gives (λ table. (table, reader.new.bytes)) result meant }
     ensures aligned { OnOk result (IsAligned reader.new) }
-    ensures causes { HasCauseOrNoMemory result (BreaksSymbolCodes count (start_of reader.old.bytes)) }
+    ensures causes { HasCauseOrNoMemory result
+        (BreaksSymbolCodes count (start_of reader.old.bytes)) }
 {
     read_symbol_codes(alloc, reader, count)
 }

@@ -80,7 +80,8 @@ pub fn combine_rows<L: Ledger>(
     block: Block,
     steps: &mut Steps<L>,
 )
-    requires inside { IsBlockOnBoth shape words.old.words.now source.shape source.words.words.now block }
+    requires inside { IsBlockOnBoth shape words.old.words.now
+        source.shape source.words.words.now block }
     requires aligned { block.from / 64 < (block.from + block.columns - 1) / 64
         → block.left % 64 ≡ block.from % 64 }
     ensures same_reference { words.new.words.ghost_name ≡ words.old.words.ghost_name }
@@ -116,7 +117,8 @@ fn combine_laid<L: Ledger>(
     block: Block,
     steps: &mut Steps<L>,
 )
-    requires inside { IsBlockOnBoth shape words.old.words.now source.shape source.words.words.now block }
+    requires inside { IsBlockOnBoth shape words.old.words.now
+        source.shape source.words.words.now block }
     requires laid { IsLaid layout block.left block.columns block.from }
     ensures same_reference { words.new.words.ghost_name ≡ words.old.words.ghost_name }
     ensures combines { CombinesBlockOfWords operator shape words.old.words.now source.entry.shape
@@ -145,7 +147,8 @@ fn combine_line<L: Ledger>(
     line: Line,
     steps: &mut Steps<L>,
 )
-    requires inside { IsLineOnBoth shape words.old.words.now source.shape source.words.words.now line }
+    requires inside { IsLineOnBoth shape words.old.words.now
+        source.shape source.words.words.now line }
     requires laid { IsLaid layout line.left line.columns line.from }
     ensures same_reference { words.new.words.ghost_name ≡ words.old.words.ghost_name }
     ensures combines { CombinesLine operator shape words.old.words.now source.entry.shape
@@ -168,7 +171,8 @@ fn near_row<L: Ledger>(
     line: Line,
     steps: &mut Steps<L>,
 )
-    requires inside { IsLineOnBoth shape words.old.words.now source.shape source.words.words.now line }
+    requires inside { IsLineOnBoth shape words.old.words.now
+        source.shape source.words.words.now line }
     requires one_word { line.from / 64 ≡ (line.from + line.columns - 1) / 64 }
     requires near { line.left % 64 + line.columns ≤ 64 }
     ensures same_reference { words.new.words.ghost_name ≡ words.old.words.ghost_name }
@@ -197,7 +201,8 @@ fn narrow_row<L: Ledger>(
     line: Line,
     steps: &mut Steps<L>,
 )
-    requires inside { IsLineOnBoth shape words.old.words.now source.shape source.words.words.now line }
+    requires inside { IsLineOnBoth shape words.old.words.now
+        source.shape source.words.words.now line }
     requires one_word { line.from / 64 ≡ (line.from + line.columns - 1) / 64 }
     ensures same_reference { words.new.words.ghost_name ≡ words.old.words.ghost_name }
     ensures combines { CombinesLine operator shape words.old.words.now source.entry.shape
@@ -236,7 +241,8 @@ fn aligned_row<L: Ledger>(
     line: Line,
     steps: &mut Steps<L>,
 )
-    requires inside { IsLineOnBoth shape words.old.words.now source.shape source.words.words.now line }
+    requires inside { IsLineOnBoth shape words.old.words.now
+        source.shape source.words.words.now line }
     requires aligned { line.left % 64 ≡ line.from % 64 }
     requires wide { line.left / 64 < (line.left + line.columns - 1) / 64 }
     ensures same_reference { words.new.words.ghost_name ≡ words.old.words.ghost_name }
