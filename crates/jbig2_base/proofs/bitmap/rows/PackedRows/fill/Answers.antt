@@ -1,4 +1,4 @@
-use Rattle.std.proofs.Common.{◌≡◌, ◌*◌, length, ◌∙◌, ap, arith}
+use Rattle.std.proofs.Common.{◌≡◌, ◌*◌, length, ap, arith}
 use Rattle.jbig2_base.specs.inner.Packed.{blank_words, stride_of}
 use Rattle.jbig2_base.proofs.PackedLemmas.{blank_words-grid, blank_words-made, blank_words-packed}
 use Rattle.jbig2_base.proofs.bitmap.rows.PackedRows.fill.Goals as goal
