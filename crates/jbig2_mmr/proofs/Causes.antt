@@ -133,7 +133,7 @@ vertical-fault : (w : ℕ) (above : ℕ → Bool) (h : Head) (distance : ℤ) (b
 unfolding after_vertical
 vertical-fault w above h distance bits is =
     let z = pos (b1_of w above h) +ℤ distance in
-    outside h.a0 w z (no-place (λ a1. record { head = record { a0 = a1; begun = true; black = not h.black }; added = a1 ∷ []; left = bits }) (place_in h.a0 w z) is)
+    outside h.a0 w z (no-place (λ a1. record { head = record { a0 = a1; past_start = true; black = not h.black }; added = a1 ∷ []; left = bits }) (place_in h.a0 w z) is)
   where
     no-place : (f : ℕ → Step) (o : Option ℕ) → (o >>= λ a1. Some (f a1)) ≡ None → o ≡ None
     no-place f None is = refl
@@ -144,12 +144,12 @@ unfolding after_runs
 runs-fault w h bits is = by-first (run h.black bits) refl is
   where
     end : ℕ → ℕ → ℕ → List ℕ → Option Step
-    end w a1 a2 left = cond (leb a2 w) (Some (record { head = record { a0 = a2; begun = true; black = h.black }; added = a1 ∷ a2 ∷ []; left = left })) None
+    end w a1 a2 left = cond (leb a2 w) (Some (record { head = record { a0 = a2; past_start = true; black = h.black }; added = a1 ∷ a2 ∷ []; left = left })) None
 
     past : (first second : ℕ × List ℕ) → end w (h.a0 + first.0) (h.a0 + first.0 + second.0) second.1 ≡ None → w < h.a0 + first.0 + second.0
     past first second =
         let a2 = h.a0 + first.0 + second.0 in
-        let made : Step = record { head = record { a0 = a2; begun = true; black = h.black }; added = (h.a0 + first.0) ∷ a2 ∷ []; left = second.1 } in
+        let made : Step = record { head = record { a0 = a2; past_start = true; black = h.black }; added = (h.a0 + first.0) ∷ a2 ∷ []; left = second.1 } in
         let Q : Option Step → Type 0 = λ o. o ≡ None → w < a2 in
         cond_both (leb a2 w) (Some made) None Q (λ yes same. absurd (never-none made same)) (λ no same. leb-false a2 w no)
 
