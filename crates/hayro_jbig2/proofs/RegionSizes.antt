@@ -19,8 +19,8 @@ use Rattle.jbig2_region.specs.Refinement.{offset, refined_result, refined_grid, 
 use Rattle.jbig2_region.specs.RefinementHeader.{RefinementHeader}
 use Rattle.jbig2_text.specs.Refining.{Refining}
 use Rattle.jbig2_text.specs.Text.{Reached, Readings, TextParams, after_instances, coordinate, next_cursor, instance_symbol, strip_start, strip_delta, symbol_placed, t_in_strip, text_region, with_instance, with_symbol}
-use Rattle.jbig2_text.specs.declared.text.cursor.Cursor.{Cursor}
-use Rattle.jbig2_text.specs.declared.text.header.TextRegionFlags.{TextRegionFlags}
+use Rattle.jbig2_text.specs.declared.cursor.Cursor.{Cursor}
+use Rattle.jbig2_text.specs.declared.header.TextRegionFlags.{TextRegionFlags}
 use Rattle.jbig2_text.specs.inner.FunctionResults.{end_of_strip}
 use Rattle.jbig2_text.specs.TextCoding.{by_coder, by_prefix_codes}
 use Rattle.jbig2_text.specs.TextHeader.{NumberCoding, TextHeader, ArithmeticCoding, HuffmanCoding}

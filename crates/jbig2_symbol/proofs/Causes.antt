@@ -27,9 +27,9 @@ use Rattle.jbig2_base.proofs.CauseSteps.{call-cause}
 use Rattle.jbig2_text.proofs.CausesOfHeaders.{result-free}
 use Rattle.jbig2_symbol.specs.Causes.{BreaksSymbolFields, BreaksSymbolHeader, counts_place}
 use Rattle.jbig2_symbol.specs.SymbolHeader.{coded_pixels_at, refined_pixels_at, selection_of, symbol_flags_of, symbol_header_at}
-use Rattle.jbig2_symbol.specs.declared.symbol.header.HuffmanTableSelection.{HuffmanTableSelection}
-use Rattle.jbig2_symbol.specs.declared.symbol.header.HuffmanTableSelection.TheVariants.{TableB2, TableB3, TableB4, TableB5}
-use Rattle.jbig2_symbol.specs.declared.symbol.header.SymbolDictionaryFlags.{SymbolDictionaryFlags}
+use Rattle.jbig2_symbol.specs.declared.header.HuffmanTableSelection.{HuffmanTableSelection}
+use Rattle.jbig2_symbol.specs.declared.header.HuffmanTableSelection.TheVariants.{TableB2, TableB3, TableB4, TableB5}
+use Rattle.jbig2_symbol.specs.declared.header.SymbolDictionaryFlags.{SymbolDictionaryFlags}
 
 -- after a value of which this many bytes are read
 abbrev At : {A : Type 0} → List ℕ → ℕ → A × List ℕ → Type 0

@@ -20,10 +20,10 @@ use Rattle.jbig2_symbol.specs.Causes.{BreaksContexts, BreaksCount, BreaksExports
 use Rattle.jbig2_symbol.specs.Symbols.{export_runs, exported, exports, next_run, runs_from}
 use Rattle.jbig2_symbol.specs.HeightClasses.{next_width, size_in_word, width_by}
 use Rattle.jbig2_symbol.specs.SymbolReading.{BitmapContexts, ClassReadings, SymbolInput, SymbolReadings, first_contexts, is_refinement_template, is_template, not_negative, symbol_tables, table_for}
-use Rattle.jbig2_symbol.specs.declared.symbol.header.HuffmanTableSelection.{HuffmanTableSelection}
-use Rattle.jbig2_symbol.specs.declared.symbol.header.HuffmanTableSelection.TheVariants.{TableB1, TableB2, TableB3, TableB4, TableB5, UserSupplied}
+use Rattle.jbig2_symbol.specs.declared.header.HuffmanTableSelection.{HuffmanTableSelection}
+use Rattle.jbig2_symbol.specs.declared.header.HuffmanTableSelection.TheVariants.{TableB1, TableB2, TableB3, TableB4, TableB5, UserSupplied}
 use Rattle.jbig2_region.proofs.ResultCauses.{IfResult, cause-if, cause-last, cause-more, result-if, result-refused}
-use Rattle.jbig2_symbol.specs.declared.symbol.header.SymbolDictionaryFlags.{SymbolDictionaryFlags}
+use Rattle.jbig2_symbol.specs.declared.header.SymbolDictionaryFlags.{SymbolDictionaryFlags}
 
 -- ---- steps
 pub in-steps : {A B : Type 0} (r : Result A DecodeError) (next : A → Result B DecodeError) (F : DecodeError → Type 0) (N : A → DecodeError → Type 0)

@@ -30,9 +30,9 @@ use Rattle.jbig2_symbol.specs.SymbolBitmaps.{raw_stride}
 use Rattle.jbig2_symbol.specs.SymbolHeader.{SymbolHeader}
 use Rattle.jbig2_symbol.specs.SymbolReading.{BitmapContexts, ClassReadings, SymbolInput, SymbolReadings, SymbolState}
 use Rattle.jbig2_symbol.specs.SymbolReading.{by_procedure, by_table, is_refinement_template, is_template}
-use Rattle.jbig2_symbol.specs.declared.symbol.header.HuffmanTableSelection.{HuffmanTableSelection}
-use Rattle.jbig2_symbol.specs.declared.symbol.header.HuffmanTableSelection.TheVariants.{UserSupplied}
-use Rattle.jbig2_symbol.specs.declared.symbol.header.SymbolDictionaryFlags.{SymbolDictionaryFlags}
+use Rattle.jbig2_symbol.specs.declared.header.HuffmanTableSelection.{HuffmanTableSelection}
+use Rattle.jbig2_symbol.specs.declared.header.HuffmanTableSelection.TheVariants.{UserSupplied}
+use Rattle.jbig2_symbol.specs.declared.header.SymbolDictionaryFlags.{SymbolDictionaryFlags}
 use Rattle.jbig2_base.specs.declared.error.DecodeError.TheVariants as errors
 use Rattle.jbig2_base.specs.declared.error.HuffmanError.TheVariants as huffman
 

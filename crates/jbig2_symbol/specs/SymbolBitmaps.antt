@@ -24,12 +24,12 @@ use Rattle.jbig2_text.specs.Refining.{Refining}
 use Rattle.jbig2_text.specs.Text.{Readings, TextParams, some_symbol, symbol_of, text_region}
 use Rattle.jbig2_text.specs.TextCoding.{Coded, Prefixed, by_coder, by_prefix_codes, next_id, prefixed_bits, in_band}
 use Rattle.jbig2_text.specs.TextRegion.{aggregate_tables}
-use Rattle.jbig2_text.specs.declared.text.header.ReferenceCorner.TheVariants.{TopLeft}
-use Rattle.jbig2_text.specs.declared.text.header.TextRegionFlags.{TextRegionFlags}
+use Rattle.jbig2_text.specs.declared.header.ReferenceCorner.TheVariants.{TopLeft}
+use Rattle.jbig2_text.specs.declared.header.TextRegionFlags.{TextRegionFlags}
 use Rattle.jbig2_symbol.specs.SymbolHeader.{SymbolHeader}
 use Rattle.jbig2_symbol.specs.SymbolReading.{SymbolContexts, SymbolInput, SymbolState, by_procedure, by_table}
 use Rattle.jbig2_symbol.specs.SymbolReading.{not_negative}
-use Rattle.jbig2_symbol.specs.declared.symbol.header.SymbolDictionaryFlags.{SymbolDictionaryFlags}
+use Rattle.jbig2_symbol.specs.declared.header.SymbolDictionaryFlags.{SymbolDictionaryFlags}
 use Rattle.jbig2_base.specs.declared.error.HuffmanError.TheVariants as huffman
 
 -- no side of a symbol may be above 65535 (our own rule)

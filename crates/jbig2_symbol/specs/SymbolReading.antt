@@ -21,10 +21,10 @@ use Rattle.jbig2_region.specs.declared.template.Template.TheVariants.{Template0,
 use Rattle.jbig2_text.specs.Refining.{Refining}
 use Rattle.jbig2_text.specs.TextCoding.{Coded, next_integer}
 use Rattle.jbig2_symbol.specs.SymbolHeader.{SymbolHeader}
-use Rattle.jbig2_symbol.specs.declared.symbol.header.HuffmanTableSelection.{HuffmanTableSelection}
-use Rattle.jbig2_symbol.specs.declared.symbol.header.HuffmanTableSelection.TheVariants.{TableB1, TableB2, TableB3}
-use Rattle.jbig2_symbol.specs.declared.symbol.header.HuffmanTableSelection.TheVariants.{TableB4, TableB5, UserSupplied}
-use Rattle.jbig2_symbol.specs.declared.symbol.header.SymbolDictionaryFlags.{SymbolDictionaryFlags}
+use Rattle.jbig2_symbol.specs.declared.header.HuffmanTableSelection.{HuffmanTableSelection}
+use Rattle.jbig2_symbol.specs.declared.header.HuffmanTableSelection.TheVariants.{TableB1, TableB2, TableB3}
+use Rattle.jbig2_symbol.specs.declared.header.HuffmanTableSelection.TheVariants.{TableB4, TableB5, UserSupplied}
+use Rattle.jbig2_symbol.specs.declared.header.SymbolDictionaryFlags.{SymbolDictionaryFlags}
 use Rattle.jbig2_base.specs.declared.error.DecodeError.TheVariants as errors
 use Rattle.jbig2_region.specs.declared.template.RefinementTemplate.TheVariants as refinements
 

@@ -9,9 +9,7 @@ use jbig2_base::reader::Reader;
 use jbig2_coder::huffman_table::{HuffmanTable, StandardHuffmanTables};
 use jbig2_permit::Permit;
 use jbig2_region::template::{RefinementTemplate, Template};
-use jbig2_symbol::symbol::{
-    HuffmanTableSelection, RetainedContexts, SymbolDictionary, decode, parse,
-};
+use jbig2_symbol::{HuffmanTableSelection, RetainedContexts, SymbolDictionary, decode, parse};
 use std::alloc::Global;
 use std::marker::Brand;
 use std::sync::ledger::{Blank, Ledger};

@@ -7,9 +7,9 @@ use Rattle.jbig2_region.specs.Refinement.{Reference}
 use Rattle.jbig2_text.specs.Refining.{Refining}
 use Rattle.{jbig2_text.specs.Text.{Reached, Readings, TextParams, after_instances, next_cursor, edge, instance_symbol, with_ids, plain_symbol, refined_outline, refined_symbol, refinement_deltas, side_of, some_symbol, strip_start, strip_delta, symbol_placed, t_in_strip, text_region, with_instance, with_symbol}, jbig2_base.specs.Fields.{word_or}}
 use Rattle.jbig2_text.specs.inner.FunctionResults.{s_before, s_after}
-use Rattle.jbig2_text.specs.declared.text.cursor.Cursor.{Cursor}
-use Rattle.jbig2_text.specs.declared.text.refined.RefinementDeltas.{RefinementDeltas}
-use Rattle.jbig2_text.specs.declared.text.header.TextRegionFlags.{TextRegionFlags}
+use Rattle.jbig2_text.specs.declared.cursor.Cursor.{Cursor}
+use Rattle.jbig2_text.specs.declared.refined.RefinementDeltas.{RefinementDeltas}
+use Rattle.jbig2_text.specs.declared.header.TextRegionFlags.{TextRegionFlags}
 
 -- each reading returns such errors alone
 pub record AreAnswered {S : Type 0} (r : Readings S) : Type 0 where

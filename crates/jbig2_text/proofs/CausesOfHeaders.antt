@@ -20,9 +20,9 @@ use Rattle.jbig2_text.specs.Causes.{BreaksSymbolCodes, BreaksTextHeader, fields_
 use Rattle.jbig2_text.specs.SymbolCodes.{symbol_codes_at, symbol_codes_from}
 use Rattle.jbig2_text.specs.TextHeader.{coding_at, table_numbers_at, text_fields_at, text_flags_at, text_header_at}
 use Rattle.jbig2_text.specs.inner.FunctionResults.{text_pixels_at}
-use Rattle.jbig2_text.specs.declared.text.header.TextFields.{TextFields}
-use Rattle.jbig2_text.specs.declared.text.header.TextRegionFlags.{TextRegionFlags}
-use Rattle.jbig2_text.specs.declared.text.header.TextRegionHuffmanFlags.{TextRegionHuffmanFlags}
+use Rattle.jbig2_text.specs.declared.header.TextFields.{TextFields}
+use Rattle.jbig2_text.specs.declared.header.TextRegionFlags.{TextRegionFlags}
+use Rattle.jbig2_text.specs.declared.header.TextRegionHuffmanFlags.{TextRegionHuffmanFlags}
 use Rattle.jbig2_text.proofs.Causes.{symbol_code_causes}
 use Rattle.jbig2_base.proofs.CauseSteps.{call-cause-or-memory}
 use Rattle.jbig2_region.proofs.ResultCauses.{IsAtPlace, IfResult, cause-last, cause-more, result-next, result-number, result-operator, result-region_info, result-signed}

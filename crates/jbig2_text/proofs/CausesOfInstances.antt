@@ -15,10 +15,10 @@ use Rattle.jbig2_coder.specs.Causes.{LeavesWord}
 use Rattle.jbig2_text.specs.Causes.{After, APlaceLeaves, ARefinementIsRefused, BreaksInstance, ReadingsHaveCauses, IsNoSide, NamesNone, ReadingCauses}
 use Rattle.jbig2_text.specs.Refining.{Refining}
 use Rattle.jbig2_text.specs.Text.{Reached, Readings, TextParams, coordinate, edge, far_end, instance_symbol, is_bottom, is_last_along_s, is_right, plain_symbol, reference_offset, refined_outline, refined_symbol, refinement_deltas, side_of, some_symbol, symbol_of, symbol_placed, t_in_strip, with_instance, with_symbol}
-use Rattle.jbig2_text.specs.declared.text.cursor.Cursor.{Cursor}
-use Rattle.jbig2_text.specs.declared.text.header.TextRegionFlags.{TextRegionFlags}
-use Rattle.jbig2_text.specs.declared.text.refined.Outline.{Outline}
-use Rattle.jbig2_text.specs.declared.text.refined.RefinementDeltas.{RefinementDeltas}
+use Rattle.jbig2_text.specs.declared.cursor.Cursor.{Cursor}
+use Rattle.jbig2_text.specs.declared.header.TextRegionFlags.{TextRegionFlags}
+use Rattle.jbig2_text.specs.declared.refined.Outline.{Outline}
+use Rattle.jbig2_text.specs.declared.refined.RefinementDeltas.{RefinementDeltas}
 use Rattle.jbig2_text.specs.inner.FunctionResults.{last_offset, refinement_flag, s_before, s_after}
 use Rattle.jbig2_text.proofs.CausesOfText.{result-word}
 use Rattle.jbig2_region.proofs.ResultCauses.{IfResult, cause-if, cause-last, cause-more, cause-of, result-any, result-more, result-if, result-next}

@@ -20,7 +20,7 @@ use Rattle.jbig2_text.specs.SymbolCodes.{invalid_code, value_at}
 use Rattle.jbig2_text.specs.Causes.{After, RefusesNumber, BreaksInstance, BreaksInstances, BreaksStrip, ReadingsHaveCauses, ReadingCauses, BreaksRegionBy, BreaksTextRegion, BreaksTextTables, HasNoMeaning, IsOutOfBand, LacksBytes, RefusesValue, coder_causes, customs_if, prefix_causes}
 use Rattle.jbig2_text.specs.Refining.{Refining}
 use Rattle.jbig2_text.specs.Text.{Reached, Readings, TextParams, after_instances, coordinate, next_cursor, strip_start, strip_delta, text_region, with_instance}
-use Rattle.jbig2_text.specs.declared.text.cursor.Cursor.{Cursor}
+use Rattle.jbig2_text.specs.declared.cursor.Cursor.{Cursor}
 use Rattle.jbig2_text.specs.inner.FunctionResults.{end_of_strip, reached, some_strips, strips, table_of_size}
 use Rattle.jbig2_text.specs.TextCoding.{Coded, Prefixed, by_coder, by_prefix_codes, in_band, next_integer, number_by_coder, prefixed_refined, prefixed_value, sized_bytes}
 use Rattle.jbig2_text.specs.TextHeader.{ArithmeticCoding, HuffmanCoding, NumberCoding, TextHeader}
@@ -31,7 +31,7 @@ use Rattle.jbig2_text.proofs.CausesOfText.{BreaksMove, cause-delta, cause-move, 
 use Rattle.jbig2_region.proofs.ResultCauses.{IfResult, cause-if, cause-last, cause-more, result-if}
 use Rattle.jbig2_base.specs.Causes.{HasCause, HasCauseOrNoMemory}
 use Rattle.jbig2_base.proofs.CauseSteps.{call-cause, call-cause-or-memory}
-use Rattle.jbig2_text.specs.declared.text.header.TextRegionHuffmanFlags.{TextRegionHuffmanFlags}
+use Rattle.jbig2_text.specs.declared.header.TextRegionHuffmanFlags.{TextRegionHuffmanFlags}
 
 -- ---- all instances
 cause-after : {S : Type 0} (c : ReadingCauses S) (r : Readings S) (a : ReadingsHaveCauses r c) (p : TextParams) (P : DecodeError → Type 0) (n : ℕ) (x : Reached S)

@@ -9,8 +9,8 @@ use Rattle.jbig2_base.proofs.Causes.{cause-next}
 use Rattle.jbig2_coder.specs.Causes.{LeavesWord}
 use Rattle.jbig2_text.specs.Causes.{After, BreaksMoveBy, BreaksStrip, ReadingsHaveCauses, ReadingCauses}
 use Rattle.{jbig2_text.specs.Text.{Readings, coordinate, next_cursor, with_ids, strip_start, strip_delta}, jbig2_base.specs.Fields.{word_or}}
-use Rattle.jbig2_text.specs.declared.text.cursor.Cursor.{Cursor}
-use Rattle.jbig2_text.specs.declared.text.header.TextRegionFlags.{TextRegionFlags}
+use Rattle.jbig2_text.specs.declared.cursor.Cursor.{Cursor}
+use Rattle.jbig2_text.specs.declared.header.TextRegionFlags.{TextRegionFlags}
 use Rattle.jbig2_region.proofs.ResultCauses.{IfResult, cause-last, cause-more, result-if}
 
 -- ---- numbers

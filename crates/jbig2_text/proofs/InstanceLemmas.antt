@@ -9,7 +9,7 @@ use Rattle.jbig2_base.specs.declared.error.SymbolError.TheVariants.{TooManyInsta
 use Rattle.jbig2_text.specs.Refining.{Refining}
 use Rattle.jbig2_text.specs.Text.{Readings, Reached, TextParams, after_instances, coordinate, next_cursor, strip_start, strip_delta, text_region, with_instance}
 use Rattle.jbig2_text.specs.inner.FunctionResults.{reached, some_strips, strips, with_last, with_next_instance}
-use Rattle.jbig2_text.specs.declared.text.cursor.Cursor.{Cursor}
+use Rattle.jbig2_text.specs.declared.cursor.Cursor.{Cursor}
 
 -- the next step's next step
 next-next : {A B C : Type 0} (r : Result A DecodeError) (f : A → Result B DecodeError) (g : B → Result C DecodeError) → (r >>= λ x. f x >>= g) ≡ (r >>= f >>= g)

@@ -29,9 +29,9 @@ use Rattle.jbig2_text.specs.Refining.{Refining}
 use Rattle.jbig2_text.specs.Text.{Reached, Readings, TextParams, after_instances, instance_symbol, is_bottom}
 use Rattle.jbig2_text.specs.Text.{is_last_along_s, is_right, refinement_deltas, strip_start, strip_delta, symbol_of}
 use Rattle.jbig2_text.specs.Text.{t_in_strip, with_instance}
-use Rattle.jbig2_text.specs.declared.text.cursor.Cursor.{Cursor}
-use Rattle.jbig2_text.specs.declared.text.header.TextRegionFlags.{TextRegionFlags}
-use Rattle.jbig2_text.specs.declared.text.header.TextRegionHuffmanFlags.{TextRegionHuffmanFlags}
+use Rattle.jbig2_text.specs.declared.cursor.Cursor.{Cursor}
+use Rattle.jbig2_text.specs.declared.header.TextRegionFlags.{TextRegionFlags}
+use Rattle.jbig2_text.specs.declared.header.TextRegionHuffmanFlags.{TextRegionHuffmanFlags}
 use Rattle.jbig2_text.specs.TextCoding.{Coded, Prefixed, by_coder, by_prefix_codes, next_integer}
 use Rattle.jbig2_text.specs.TextRegion.{blank_region, coder_of, prefix_codes_of, refining_of, text_params}
 use Rattle.jbig2_region.specs.Refinement.{Reference}

@@ -16,12 +16,12 @@ use Rattle.jbig2_base.specs.declared.error.SymbolError.TheVariants.{InvalidStrip
 use Rattle.jbig2_base.specs.Fields.{word_or}
 use Rattle.jbig2_region.specs.Refinement.{Reference}
 use Rattle.jbig2_text.specs.Refining.{Refining}
-use Rattle.jbig2_text.specs.declared.text.cursor.Cursor.{Cursor}
-use Rattle.jbig2_text.specs.declared.text.header.ReferenceCorner.{ReferenceCorner}
-use Rattle.jbig2_text.specs.declared.text.header.ReferenceCorner.TheVariants.{BottomLeft, BottomRight, TopRight}
-use Rattle.jbig2_text.specs.declared.text.header.TextRegionFlags.{TextRegionFlags}
-use Rattle.jbig2_text.specs.declared.text.refined.Outline.{Outline}
-use Rattle.jbig2_text.specs.declared.text.refined.RefinementDeltas.{RefinementDeltas}
+use Rattle.jbig2_text.specs.declared.cursor.Cursor.{Cursor}
+use Rattle.jbig2_text.specs.declared.header.ReferenceCorner.{ReferenceCorner}
+use Rattle.jbig2_text.specs.declared.header.ReferenceCorner.TheVariants.{BottomLeft, BottomRight, TopRight}
+use Rattle.jbig2_text.specs.declared.header.TextRegionFlags.{TextRegionFlags}
+use Rattle.jbig2_text.specs.declared.refined.Outline.{Outline}
+use Rattle.jbig2_text.specs.declared.refined.RefinementDeltas.{RefinementDeltas}
 
 -- What is needed to read the instances (Table 9): flags, SBSYMS, SBNUMINSTANCES, and the length of the segment's data.
 pub record TextParams : Type 0 where

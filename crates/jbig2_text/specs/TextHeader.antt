@@ -13,12 +13,12 @@ use Rattle.jbig2_region.specs.RegionInfo.{region_info_at}
 use Rattle.jbig2_region.specs.declared.region_info.RegionSegmentInfo.{RegionSegmentInfo}
 use Rattle.jbig2_region.specs.declared.template.AdaptiveTemplatePixel.{AdaptiveTemplatePixel}
 use Rattle.jbig2_text.specs.SymbolCodes.{symbol_codes_at}
-use Rattle.jbig2_text.specs.declared.text.header.ReferenceCorner.{ReferenceCorner}
-use Rattle.jbig2_text.specs.declared.text.header.ReferenceCorner.TheVariants.{BottomLeft, TopLeft, BottomRight}
-use Rattle.jbig2_text.specs.declared.text.header.ReferenceCorner.TheVariants.{TopRight}
-use Rattle.jbig2_text.specs.declared.text.header.TextFields.{TextFields}
-use Rattle.jbig2_text.specs.declared.text.header.TextRegionFlags.{TextRegionFlags}
-use Rattle.jbig2_text.specs.declared.text.header.TextRegionHuffmanFlags.{TextRegionHuffmanFlags}
+use Rattle.jbig2_text.specs.declared.header.ReferenceCorner.{ReferenceCorner}
+use Rattle.jbig2_text.specs.declared.header.ReferenceCorner.TheVariants.{BottomLeft, TopLeft, BottomRight}
+use Rattle.jbig2_text.specs.declared.header.ReferenceCorner.TheVariants.{TopRight}
+use Rattle.jbig2_text.specs.declared.header.TextFields.{TextFields}
+use Rattle.jbig2_text.specs.declared.header.TextRegionFlags.{TextRegionFlags}
+use Rattle.jbig2_text.specs.declared.header.TextRegionHuffmanFlags.{TextRegionHuffmanFlags}
 
 -- How the numbers are coded (SBHUFF): by the arithmetic coder, or by prefix codes. Prefix codes have the numbers of
 -- their tables and the codes of the symbols' ids (SBSYMCODES).

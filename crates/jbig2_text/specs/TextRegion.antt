@@ -19,7 +19,7 @@ use Rattle.jbig2_text.specs.Refining.{Refining}
 use Rattle.jbig2_text.specs.Text.{Readings, TextParams, text_region}
 use Rattle.jbig2_text.specs.TextCoding.{Coded, Prefixed, TextTables, by_coder, by_prefix_codes, coded_start}
 use Rattle.jbig2_text.specs.TextHeader.{NumberCoding, TextHeader, ArithmeticCoding, HuffmanCoding}
-use Rattle.jbig2_text.specs.declared.text.header.TextRegionHuffmanFlags.{TextRegionHuffmanFlags}
+use Rattle.jbig2_text.specs.declared.header.TextRegionHuffmanFlags.{TextRegionHuffmanFlags}
 
 -- ---- tables (7.4.3.1.6)
 -- the table that a number names: one of two of the standard, or 3 for the next custom one; and the custom ones left

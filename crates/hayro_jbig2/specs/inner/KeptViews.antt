@@ -5,7 +5,7 @@ use Rattle.jbig2_halftone.specs.Patterns.{Patterns}
 use Rattle.jbig2_halftone.specs.inner.DictionaryViews.{dictionary_view}
 use Rattle.jbig2_halftone.specs.declared.pattern.dictionary.PatternDictionary.{PatternDictionary}
 use Rattle.jbig2_symbol.specs.Symbols.{Symbols}
-use Rattle.jbig2_symbol.specs.declared.symbol.dictionary.SymbolDictionary.{SymbolDictionary}
+use Rattle.jbig2_symbol.specs.declared.dictionary.SymbolDictionary.{SymbolDictionary}
 use Rattle.hayro_jbig2.specs.declared.kept.Kept.{Kept}
 use Rattle.jbig2_symbol.specs.inner.SymbolViews as symbol_views
 

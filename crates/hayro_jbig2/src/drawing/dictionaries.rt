@@ -21,7 +21,7 @@ use jbig2_base::reader::Reader;
 use jbig2_base::segment::Segment;
 use jbig2_coder::huffman_table::HuffmanTable;
 use jbig2_halftone::pattern::{self, PatternDictionary, PatternDictionaryHeader};
-use jbig2_symbol::symbol::{self, SymbolDictionary};
+use jbig2_symbol::SymbolDictionary;
 use std::alloc::Allocator;
 use std::sync::ledger::Ledger;
 
@@ -44,10 +44,10 @@ fn decode_symbols<A: Allocator + Clone, L: Ledger>(
     let numbers = &segment.header.referred_to_segments;
     let referred = gather_referred(workspace.alloc.clone()?, lookup, numbers)?;
     let mut reader = Reader::new(segment.bytes);
-    let header = symbol::parse(&mut reader, lookup.strict)?;
+    let header = jbig2_symbol::parse(&mut reader, lookup.strict)?;
     referred.pay_symbols(work)?;
     work.pay(u64::from(header.num_new_symbols) * NEW_SYMBOL)?;
-    symbol::decode(
+    jbig2_symbol::decode(
         workspace.alloc.clone()?,
         &header,
         &referred.symbols,

@@ -10,7 +10,7 @@ use crate::kept::{Kept, kept_of};
 use jbig2_base::error::Result;
 use jbig2_coder::huffman_table::HuffmanTable;
 use jbig2_halftone::pattern::PatternDictionary;
-use jbig2_symbol::symbol::SymbolDictionary;
+use jbig2_symbol::SymbolDictionary;
 use std::alloc::Allocator;
 use std::marker::Model;
 

@@ -13,7 +13,7 @@ use jbig2_base::bitmap::Bitmap;
 use jbig2_base::bitmap::steps::Work;
 use jbig2_base::error::{DecodeError, OverflowError, Result, SegmentError};
 use jbig2_coder::huffman_table::HuffmanTable;
-use jbig2_symbol::symbol::{RetainedContexts, SymbolDictionary};
+use jbig2_symbol::{RetainedContexts, SymbolDictionary};
 use std::alloc::Allocator;
 use std::marker::Model;
 use std::sync::ledger::Ledger;

@@ -20,8 +20,7 @@ use jbig2_halftone::pattern::PatternDictionary;
 use jbig2_region::generic::{self, DecodedRegion, GenericRegionHeader};
 use jbig2_region::generic_refinement::{self, GenericRefinementRegionHeader};
 use jbig2_region::region_info::RegionSegmentInfo;
-use jbig2_text::text;
-use jbig2_text::text::header::TextRegionHeader;
+use jbig2_text::header::TextRegionHeader;
 use std::alloc::Allocator;
 use std::sync::ledger::Ledger;
 
@@ -140,7 +139,7 @@ impl<'a, 'n, 'r, A: Allocator + Clone> ParsedRegion<'a, 'n, 'r, A> {
         ensures paid { PaidBut (counts_of self.now) work.old work.new }
     {
         match self {
-            ParsedRegion::Text { header, referred } => text::decode_into(
+            ParsedRegion::Text { header, referred } => jbig2_text::decode_into(
                 alloc.clone()?,
                 header,
                 &referred.symbols,
@@ -185,7 +184,7 @@ impl<'a, 'n, 'r, A: Allocator + Clone> ParsedRegion<'a, 'n, 'r, A> {
             worth work.new + 32 * price_of_bitmap page.width page.height ≤ worth work.old) }
     {
         let info = self.region_info();
-        text::check_sides(info.width, info.height)?;
+        jbig2_text::check_sides(info.width, info.height)?;
         self.pay_bitmaps(2, work)?;
         let alloc = workspace.alloc.clone()?;
         let mut bitmap = Bitmap::new_with(alloc, info.width, info.height, self.initial_pixel())?;

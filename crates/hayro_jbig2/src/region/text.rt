@@ -11,7 +11,6 @@ use crate::region::references::References;
 use jbig2_base::error::Result;
 use jbig2_base::reader::Reader;
 use jbig2_base::segment::Segment;
-use jbig2_text::text;
 use std::alloc::Allocator;
 
 /// Parses a text region, after what it refers to.
@@ -32,6 +31,6 @@ pub(crate) fn parse_text<'a, 'n, 'r, A: Allocator + Clone>(
     let referred = gather_referred(workspace.alloc.clone()?, lookup, numbers)?;
     let mut reader = Reader::new(segment.bytes);
     let count = referred.symbols.len() as u32;
-    let header = text::parse(workspace.alloc.clone()?, &mut reader, count, lookup.strict)?;
+    let header = jbig2_text::parse(workspace.alloc.clone()?, &mut reader, count, lookup.strict)?;
     Ok(ParsedRegion::Text { header, referred })
 }

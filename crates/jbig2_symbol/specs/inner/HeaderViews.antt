@@ -4,9 +4,9 @@ use Rattle.jbig2_region.specs.inner.PixelArrays.{two_pixels, four_pixels}
 use Rattle.jbig2_region.specs.declared.template.AdaptiveTemplatePixel.{AdaptiveTemplatePixel}
 use Rattle.jbig2_symbol.specs.SymbolHeader.{SymbolHeader}
 use Rattle.jbig2_symbol.specs.SymbolReading.{BitmapContexts}
-use Rattle.jbig2_symbol.specs.declared.symbol.dictionary.RetainedContexts.{RetainedContexts}
-use Rattle.jbig2_symbol.specs.declared.symbol.header.SymbolDictionaryFlags.{SymbolDictionaryFlags}
-use Rattle.jbig2_symbol.specs.declared.symbol.header.SymbolDictionaryHeader.{SymbolDictionaryHeader}
+use Rattle.jbig2_symbol.specs.declared.dictionary.RetainedContexts.{RetainedContexts}
+use Rattle.jbig2_symbol.specs.declared.header.SymbolDictionaryFlags.{SymbolDictionaryFlags}
+use Rattle.jbig2_symbol.specs.declared.header.SymbolDictionaryHeader.{SymbolDictionaryHeader}
 
 -- as many pixels of the code's arrays as these flags say
 abbrev pub coded_pixels : SymbolDictionaryFlags → List AdaptiveTemplatePixel → List AdaptiveTemplatePixel

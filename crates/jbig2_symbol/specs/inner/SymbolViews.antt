@@ -16,13 +16,13 @@ use Rattle.jbig2_symbol.specs.SymbolReading.{BitmapContexts, SymbolInput, Symbol
 use Rattle.jbig2_symbol.specs.SymbolReading.{not_negative}
 use Rattle.jbig2_symbol.specs.Symbols.{Symbols}
 use Rattle.jbig2_symbol.specs.inner.HeaderViews.{contexts_view, header_view}
-use Rattle.jbig2_symbol.specs.declared.symbol.coded.CodedSymbols.{CodedSymbols}
-use Rattle.jbig2_symbol.specs.declared.symbol.dictionary.RetainedContexts.{RetainedContexts}
-use Rattle.jbig2_symbol.specs.declared.symbol.dictionary.SymbolDictionary.{SymbolDictionary}
-use Rattle.jbig2_symbol.specs.declared.symbol.input.SymbolInput.{SymbolInput as Input}
-use Rattle.jbig2_symbol.specs.declared.symbol.input.SymbolTables.{SymbolTables as Tables}
-use Rattle.jbig2_symbol.specs.declared.symbol.prefixed.PrefixedSymbols.{PrefixedSymbols}
-use Rattle.jbig2_symbol.specs.declared.symbol.widths.RunningWidths.{RunningWidths}
+use Rattle.jbig2_symbol.specs.declared.coded.CodedSymbols.{CodedSymbols}
+use Rattle.jbig2_symbol.specs.declared.dictionary.RetainedContexts.{RetainedContexts}
+use Rattle.jbig2_symbol.specs.declared.dictionary.SymbolDictionary.{SymbolDictionary}
+use Rattle.jbig2_symbol.specs.declared.input.SymbolInput.{SymbolInput as Input}
+use Rattle.jbig2_symbol.specs.declared.input.SymbolTables.{SymbolTables as Tables}
+use Rattle.jbig2_symbol.specs.declared.prefixed.PrefixedSymbols.{PrefixedSymbols}
+use Rattle.jbig2_symbol.specs.declared.widths.RunningWidths.{RunningWidths}
 use Rattle.jbig2_text.specs.inner.TextViews as texts
 
 abbrev pub tables_view : {A : Type 0} → Tables A → SymbolTables

@@ -20,8 +20,8 @@ use Rattle.jbig2_text.specs.Text.{Reached, Readings, TextParams, after_instances
 use Rattle.jbig2_text.specs.Text.{is_last_along_s, strip_start, with_instance}
 use Rattle.jbig2_text.specs.TextHeader.{corner_of, signed_5}
 use Rattle.jbig2_text.specs.TextRegion.{one_of_two}
-use Rattle.jbig2_text.specs.declared.text.cursor.Cursor.{Cursor}
-use Rattle.jbig2_text.specs.declared.text.header.TextRegionFlags.{TextRegionFlags}
+use Rattle.jbig2_text.specs.declared.cursor.Cursor.{Cursor}
+use Rattle.jbig2_text.specs.declared.header.TextRegionFlags.{TextRegionFlags}
 
 -- ---- the header
 -- the bits of the flags after SBHUFF

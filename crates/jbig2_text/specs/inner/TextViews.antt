@@ -6,20 +6,20 @@ use Rattle.jbig2_region.specs.inner.PixelArrays.{two_pixels}
 use Rattle.jbig2_region.specs.declared.template.AdaptiveTemplatePixel.{AdaptiveTemplatePixel}
 use Rattle.jbig2_text.specs.Text.{Instance, TextParams as Params}
 use Rattle.jbig2_text.specs.TextCoding.{Coded, Prefixed, TextTables}
-use Rattle.jbig2_text.specs.declared.text.coded.CodedReadings.{CodedReadings}
-use Rattle.jbig2_text.specs.declared.text.header.TextFields.{TextFields}
-use Rattle.jbig2_text.specs.declared.text.header.TextRegionCoding.{TextRegionCoding}
-use Rattle.jbig2_text.specs.declared.text.header.TextRegionFlags.{TextRegionFlags}
-use Rattle.jbig2_text.specs.declared.text.header.TextRegionHeader.{TextRegionHeader}
-use Rattle.jbig2_text.specs.declared.text.placement.Instance.{Instance as PlacedSymbol}
-use Rattle.jbig2_text.specs.declared.text.prefixed.PrefixedReadings.{PrefixedReadings}
-use Rattle.jbig2_text.specs.declared.text.symbol_list.SymbolList.{SymbolList}
-use Rattle.jbig2_text.specs.declared.text.symbols.InstanceSymbol.{InstanceSymbol}
-use Rattle.jbig2_text.specs.declared.text.symbols.InstanceSymbol.TheVariants.{Shared, Refined}
-use Rattle.jbig2_text.specs.declared.text.symbols.TextParams.{TextParams}
-use Rattle.jbig2_text.specs.declared.text.tables.TextRegionHuffmanTables.{TextRegionHuffmanTables}
+use Rattle.jbig2_text.specs.declared.coded.CodedReadings.{CodedReadings}
+use Rattle.jbig2_text.specs.declared.header.TextFields.{TextFields}
+use Rattle.jbig2_text.specs.declared.header.TextRegionCoding.{TextRegionCoding}
+use Rattle.jbig2_text.specs.declared.header.TextRegionFlags.{TextRegionFlags}
+use Rattle.jbig2_text.specs.declared.header.TextRegionHeader.{TextRegionHeader}
+use Rattle.jbig2_text.specs.declared.placement.Instance.{Instance as PlacedSymbol}
+use Rattle.jbig2_text.specs.declared.prefixed.PrefixedReadings.{PrefixedReadings}
+use Rattle.jbig2_text.specs.declared.symbol_list.SymbolList.{SymbolList}
+use Rattle.jbig2_text.specs.declared.symbols.InstanceSymbol.{InstanceSymbol}
+use Rattle.jbig2_text.specs.declared.symbols.InstanceSymbol.TheVariants.{Shared, Refined}
+use Rattle.jbig2_text.specs.declared.symbols.TextParams.{TextParams}
+use Rattle.jbig2_text.specs.declared.tables.TextRegionHuffmanTables.{TextRegionHuffmanTables}
 use Rattle.jbig2_text.specs.TextHeader.{NumberCoding, ArithmeticCoding, HuffmanCoding, TextHeader}
-use Rattle.jbig2_text.specs.declared.text.header.TextRegionCoding.TheVariants as codings
+use Rattle.jbig2_text.specs.declared.header.TextRegionCoding.TheVariants as codings
 
 -- as many of the code's two refinement pixels as the flags say
 abbrev pub text_pixels : TextRegionFlags → List AdaptiveTemplatePixel → List AdaptiveTemplatePixel

@@ -1,0 +1,20 @@
+use Rattle.std.proofs.Common.{◌≡◌, ◌+◌, ◌*◌, ◌≤◌, length}
+use Rattle.jbig2_symbol.specs.HeightClasses.{symbols_from}
+use Rattle.jbig2_symbol.specs.inner.SymbolViews.{concat, input_view}
+use Rattle.jbig2_steps.specs.Work.{worth}
+use Rattle.jbig2_text.specs.Paying.{number_steps}
+use Rattle.jbig2_symbol.proofs.classes.read_symbols.Given as goal
+
+abbrev pub invariant-loop-width : goal.invariant-loop-width
+invariant-loop-width g l =
+    let r = g.R.ReadSymbols in
+    record {
+      reads :
+          concat l.bitmaps.items (symbols_from r.readings (input_view l.input) l.widths.left l.height l.widths.width l.widths.total l.bitmaps.items (r.state l.readings))
+          ≡ concat l.fn.bitmaps.items (symbols_from r.readings (input_view l.input) l.room l.height 0 0 l.fn.bitmaps.items (r.state l.fn.readings));
+      all : length l.bitmaps.items + l.widths.left ≡ length l.fn.bitmaps.items + l.room;
+      paid : worth l.work + number_steps (5 * length l.fn.bitmaps.items) ≤ worth l.fn.work + number_steps (5 * length l.bitmaps.items);
+    }
+
+abbrev pub decreases-loop-width : goal.decreases-loop-width
+decreases-loop-width g l = l.widths.left

@@ -1,0 +1,28 @@
+//! What is needed to decode a symbol dictionary (T.88, 6.5).
+
+use crate::header::SymbolDictionaryHeader;
+use jbig2_base::bitmap::Bitmap;
+use jbig2_coder::huffman_table::{HuffmanTable, StandardHuffmanTables};
+use std::alloc::Allocator;
+
+/// The tables of prefix codes of a dictionary, named for what they read.
+#[derive(Drop)]
+pub struct SymbolTables<'a, A: Allocator> {
+    pub heights: &'a HuffmanTable<A>,
+    pub widths: &'a HuffmanTable<A>,
+    pub sizes: &'a HuffmanTable<A>,
+    pub counts: &'a HuffmanTable<A>,
+    pub runs: &'a HuffmanTable<A>,
+}
+
+/// What is needed to decode a dictionary, besides the state of its reading.
+#[derive(Drop)]
+pub struct SymbolInput<'a, A: Allocator> {
+    pub header: &'a SymbolDictionaryHeader<'a>,
+    /// The symbols of the dictionaries that are referred to.
+    pub symbols: &'a [&'a Bitmap<A>],
+    pub tables: &'a SymbolTables<'a, A>,
+    /// The codes of the ids in symbols that are aggregated from others.
+    pub ids: &'a HuffmanTable<A>,
+    pub standard: &'a StandardHuffmanTables<A>,
+}
