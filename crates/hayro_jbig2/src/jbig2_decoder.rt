@@ -11,6 +11,7 @@ ghost use Rattle.hayro_jbig2.specs.Image.{first_size, first_image, first_packed,
 pub(crate) mod jbig2_error;
 pub mod reading;
 
+use crate::drawing::counted::Counted;
 use crate::file::File;
 use crate::jbig2_decoder::jbig2_error::Jbig2Error;
 use crate::jbig2_decoder::reading::read_all;
@@ -89,7 +90,7 @@ fn first_image<A: Allocator + Clone>(
 {
     let file = File::new_within(alloc, bytes, &LENIENT, work)?;
     let page = first_page_of(&file)?;
-    page.read_image_limited(buf, work)
+    page.read_image_limited(buf, work, &mut Counted::nothing())
 }
 
 /// Writes the first page into `buf`, as `Page::read_packed` does.
@@ -107,7 +108,7 @@ fn first_packed<A: Allocator + Clone>(
 {
     let file = File::new_within(alloc, bytes, &LENIENT, work)?;
     let page = first_page_of(&file)?;
-    page.read_packed_limited(buf, work)
+    page.read_packed_limited(buf, work, &mut Counted::nothing())
 }
 
 impl<A: Allocator + Clone> Jbig2Decoder<A> {

@@ -53,19 +53,25 @@ impl<'a, A: Allocator + Clone> Page<'a, A> {
         ensures unchanged { OnErr result (buf.new ≡ buf.old) }
         ensures errors { IfErr result IsReturned }
     {
-        self.read_image_limited(buf, None)
+        self.read_image_limited(buf, None, &mut Counted::nothing())
     }
 
-    /// Writes the page as `read_image` does, for at most `work` units; `None` means no limit.
-    pub(crate) fn read_image_limited(&self, buf: &mut [u8], work: Option<u64>) -> Result<()>
+    /// Writes the page as `read_image` does, for at most `work` units; `None` means no limit. `counted` is then what was
+    /// counted, after an error too.
+    pub(crate) fn read_image_limited(
+        &self,
+        buf: &mut [u8],
+        work: Option<u64>,
+        counted: &mut Counted,
+    ) -> Result<()>
         requires { length buf.old ≡ self.now.initial_page.width * self.now.initial_page.height }
         ensures value { Gives (λ _. buf.new) result (image_of_page self.now) }
         ensures unchanged { OnErr result (buf.new ≡ buf.old) }
         ensures errors { IfErr result IsReturned }
+        ensures limit { IsWithin work counted.new }
     {
         let _globals = &self.globals;
-        let mut counted = Counted::nothing();
-        self.read_counted::<Brand>(buf, work, &mut counted, Blank::new(6))
+        self.read_counted::<Brand>(buf, work, counted, Blank::new(6))
     }
 
     fn read_counted<L: Ledger>(
@@ -120,21 +126,43 @@ impl<'a, A: Allocator + Clone> Page<'a, A> {
         ensures unchanged { OnErr result (buf.new ≡ buf.old) }
         ensures errors { IfErr result IsReturned }
     {
-        self.read_packed_limited(buf, None)
+        self.read_packed_limited(buf, None, &mut Counted::nothing())
     }
 
-    /// Writes the page as `read_packed` does, for at most `work` units; `None` means no limit.
-    pub(crate) fn read_packed_limited(&self, buf: &mut [u8], work: Option<u64>) -> Result<()>
+    /// Writes the page as `read_packed` does, for at most `work` units; `None` means no limit. `counted` is then what was
+    /// counted, after an error too.
+    pub(crate) fn read_packed_limited(
+        &self,
+        buf: &mut [u8],
+        work: Option<u64>,
+        counted: &mut Counted,
+    ) -> Result<()>
         requires { length buf.old ≡ packed_size self.now.initial_page.width
             self.now.initial_page.height }
         ensures value { Gives (λ _. buf.new) result (packed_of_page self.now) }
         ensures unchanged { OnErr result (buf.new ≡ buf.old) }
         ensures errors { IfErr result IsReturned }
+        ensures limit { IsWithin work counted.new }
     {
+        *counted = Counted::nothing();
         let mut context = DecoderContext::new(self.segments.as_vec().allocator().clone()?)?;
         context.set_work_limit(work);
-        let drawn = self.draw(&mut context)?;
-        drawn.read_at(0, buf);
+        let read = self.read_packed_in(buf, &mut context);
+        *counted = context.counted();
+        read
+    }
+
+    /// Writes the page as `read_packed` does, in a fresh context, within its limit.
+    fn read_packed_in(&self, buf: &mut [u8], fresh: &mut DecoderContext<A>) -> Result<()>
+        requires { length buf.old ≡ packed_size self.now.initial_page.width
+            self.now.initial_page.height }
+        ensures value { Gives (λ _. buf.new) result (packed_of_page self.now) }
+        ensures unchanged { OnErr result (buf.new ≡ buf.old) }
+        ensures errors { IfErr result IsReturned }
+        ensures limit { IsWithin fresh.old.work_limit fresh.new.steps }
+    {
+        self.draw_in(fresh)?;
+        fresh.drawn().read_at(0, buf);
         Ok(())
     }
 
