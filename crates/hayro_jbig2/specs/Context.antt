@@ -1,6 +1,6 @@
 -- What a context keeps from one page to the next (our own rule): the drawing of the last page, how many units of work a
 -- page may take, how many of them the last page left, and how many steps it counted.
-use Rattle.std.specs.Prelude.{◌≡◌, ◌-◌, ◌*◌, ◌^◌, ◌≤◌, ℕ, [], false, true, Option, Some, None, unwrap_or}
+use Rattle.std.specs.Prelude.{◌≡◌, ◌-◌, ◌*◌, ◌^◌, ◌≤◌, ℕ, Option, Some, None, unwrap_or}
 use Rattle.jbig2_steps.specs.Work.{counted}
 use Rattle.jbig2_steps.specs.declared.work.Work.{Work}
 use Rattle.hayro_jbig2.specs.Page.{Drawing, empty_drawing}

@@ -13,11 +13,13 @@ ghost use Rattle.hayro_jbig2.specs.Page.{ReadPage};
 ghost use Rattle.hayro_jbig2.specs.Returned.{IsReturned};
 ghost use Rattle.hayro_jbig2.specs.inner.PageViews.{kept_names};
 ghost use Rattle.hayro_jbig2.specs.Causes.{BreaksBook};
+ghost use Rattle.hayro_jbig2.specs.Context.{IsWithin};
 ghost use Rattle.jbig2_base.specs.Causes.{HasCauseOrNoMemory};
 
 pub(crate) mod pages;
 mod segments_by_page;
 
+use crate::drawing::counted::Counted;
 use crate::file::pages::Pages;
 use crate::file::segments_by_page::SegmentsByPage;
 use crate::kept::globals::Globals;
@@ -195,14 +197,17 @@ fn kept_globals<A: Allocator + Clone>(
     pages: &[FilePage<'_, A>],
     shared: &[Segment<'_, A>],
     work: Option<u64>,
+    counted: &mut Counted,
 ) -> Result<Result<Globals<A>>>
-    ensures { Gives (λ kept. kept) result
+    ensures value { Gives (λ kept. kept) result
         (Ok (shared_by reading pages.now (segment_views shared.now))) }
+    ensures limit { IsWithin work counted.new }
 {
+    *counted = Counted::nothing();
     if pages.is_empty() {
         return Ok(Ok(Globals::empty(alloc, None)?));
     }
-    match Globals::from_segments(alloc, reading, shared, None, work) {
+    match Globals::from_segments(alloc, reading, shared, None, work, counted) {
         Ok(globals) => Ok(Ok(globals)),
         Err(DecodeError::OutOfMemory) => Err(DecodeError::OutOfMemory),
         Err(error) => Ok(Err(error)),
@@ -237,7 +242,8 @@ impl<'a, A: Allocator + Clone> File<'a, A> {
             (BreaksBook (reading_of settings.now.strict) bytes.now) }
         ensures errors { IfErr result IsReturned }
     {
-        File::read(alloc, bytes, settings.reading(), work)
+        let counted = &mut Counted::nothing();
+        File::read(alloc, bytes, settings.reading(), work, counted)
     }
 
     /// The file as lenient reading has it, but damage leaves out as little as possible. The list of segments ends at
@@ -251,15 +257,25 @@ impl<'a, A: Allocator + Clone> File<'a, A> {
         ensures causes { HasCauseOrNoMemory result (BreaksBook Salvage bytes.now) }
         ensures errors { IfErr result IsReturned }
     {
-        File::read(alloc, bytes, Reading::Salvage, work)
+        let counted = &mut Counted::nothing();
+        File::read(alloc, bytes, Reading::Salvage, work, counted)
     }
 
+    /// The file that `bytes` hold. `counted` is then how many steps were counted, after an error too.
     #[tactic(auto, using(crate::proofs::Causes::file_cause), unfolding(crate::specs::Files::book_at))]
-    fn read(alloc: A, bytes: &'a [u8], reading: Reading, work: Option<u64>) -> Result<File<'a, A>>
+    fn read(
+        alloc: A,
+        bytes: &'a [u8],
+        reading: Reading,
+        work: Option<u64>,
+        counted: &mut Counted,
+    ) -> Result<File<'a, A>>
         ensures value { Gives (λ file. file) result (book_at reading bytes.now) }
         ensures causes { HasCauseOrNoMemory result (BreaksBook reading bytes.now) }
         ensures errors { IfErr result IsReturned }
+        ensures limit { IsWithin work counted.new }
     {
+        *counted = Counted::nothing();
         let strict = reading.is_strict();
         let fault = file_fault(alloc.clone()?, bytes, reading)?;
         let file = parse_file(alloc.clone()?, bytes, reading)?;
@@ -270,7 +286,7 @@ impl<'a, A: Allocator + Clone> File<'a, A> {
         }
         let mut left_out = Vec::new(alloc.clone()?);
         let pages = read_pages(alloc.clone()?, reading, segments.pages, &mut left_out)?;
-        let globals = kept_globals(alloc, reading, &pages, &segments.shared, work)?;
+        let globals = kept_globals(alloc, reading, &pages, &segments.shared, work, counted)?;
         Ok(File {
             reading,
             pages,

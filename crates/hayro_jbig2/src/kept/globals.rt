@@ -108,7 +108,8 @@ impl<A: Allocator + Clone> Globals<A> {
             (globals_at (reading_of settings.now.strict) bytes.now) }
         ensures errors { IfErr result IsReturned }
     {
-        Globals::read(alloc, bytes, settings.reading(), work)
+        let counted = &mut Counted::nothing();
+        Globals::read(alloc, bytes, settings.reading(), work, counted)
     }
 
     /// The globals as lenient reading has them, but damage leaves out as little as possible. The list of their segments
@@ -118,38 +119,50 @@ impl<A: Allocator + Clone> Globals<A> {
         ensures value { Gives (λ globals. globals) result (globals_at Salvage bytes.now) }
         ensures memory { IfErr result (λ e. e ≡ OutOfMemory) }
     {
-        Globals::read(alloc, bytes, Reading::Salvage, work)
+        let counted = &mut Counted::nothing();
+        Globals::read(alloc, bytes, Reading::Salvage, work, counted)
     }
 
+    /// The globals in `bytes`. `counted` is then how many steps were counted, after an error too.
     #[tactic(auto, unfolding(crate::specs::Names::globals_at))]
-    fn read(alloc: A, bytes: &[u8], reading: Reading, work: Option<u64>) -> Result<Globals<A>>
+    fn read(
+        alloc: A,
+        bytes: &[u8],
+        reading: Reading,
+        work: Option<u64>,
+        counted: &mut Counted,
+    ) -> Result<Globals<A>>
         ensures value { Gives (λ globals. globals) result (globals_at reading bytes.now) }
         ensures errors { IfErr result IsReturned }
+        ensures limit { IsWithin work counted.new }
     {
+        *counted = Counted::nothing();
         let fault = sequence_fault(alloc.clone()?, bytes, reading)?;
         let mut segments = parse_segments_sequential(alloc.clone()?, bytes, reading)?;
         sort_segments(&mut segments)?;
-        Globals::from_segments(alloc, reading, &segments, fault, work)
+        Globals::from_segments(alloc, reading, &segments, fault, work, counted)
     }
 
+    /// What these segments keep. `counted` is then how many steps were counted, after an error too.
     pub(crate) fn from_segments(
         alloc: A,
         reading: Reading,
         segments: &[Segment<'_, A>],
         fault: Option<DecodeError>,
         work: Option<u64>,
+        counted: &mut Counted,
     ) -> Result<Globals<A>>
-        ensures { Gives (λ globals. globals) result
+        ensures value { Gives (λ globals. globals) result
             (shared_from reading (segment_views segments.now) (nothing_shared fault)) }
+        ensures limit { IsWithin work counted.new }
     {
-        let mut counted = Counted::nothing();
         decode_shared::<A, Brand>(
             alloc,
             reading,
             segments,
             fault,
             work,
-            &mut counted,
+            counted,
             Blank::new(6),
         )
     }

@@ -73,13 +73,13 @@ returns-clause-value g c =
     ] in
     let named =
     ap (λ ps. shared_by reading ps (segment_views c.in_ok-segments.segments.shared.items)) (sym c.deref-2.ensures.value)
-    ∙ ap (λ s. shared_by reading c.deref-2.result.now (segment_views s)) (sym c.deref-3.ensures.value) ∙ kept-is _ _ c.in_ok-globals.ensures in
+    ∙ ap (λ s. shared_by reading c.deref-2.result.now (segment_views s)) (sym c.deref-3.ensures.value) ∙ kept-is _ _ c.in_ok-globals.ensures.value in
     let left = sym (c.in_ok-pages.ensures.left_out ∙ ap (λ (es : List DecodeError). es ++ left_out_of reading parts.1) c.new-left_out.ensures.items) in
     book-made reading c.args.bytes.now file parts c.in_ok-pages.pages.items c.in_ok-globals.globals c.read_pages.new.left_out.items c.in_ok-fault.fault c.in_ok-file.ensures.value known split.0 split.1 counted c.in_ok-pages.ensures.value named left (kept-is _ _ c.in_ok-fault.ensures)
 
 pub invariant_of-result : goal.invariant_of-result
 invariant_of-result g c =
-    subst (λ (r : Result Shared DecodeError). IfErr r IsAnswered) (kept-is _ _ c.in_ok-globals.ensures)
+    subst (λ (r : Result Shared DecodeError). IfErr r IsAnswered) (kept-is _ _ c.in_ok-globals.ensures.value)
     (shared_answered c.args.reading c.deref-2.result.now (segment_views c.deref-3.result.now))
 
 pub returns-in_err-file-clause-errors : goal.returns-in_err-file-clause-errors
@@ -105,7 +105,7 @@ returns-in_err-pages-clause-errors g c =
 pub returns-in_err-globals-clause-errors : goal.returns-in_err-globals-clause-errors
 returns-in_err-globals-clause-errors g c =
     let e = err_from_is_err_and c.from_residual-in_err-globals.result c.from_residual-in_err-globals.ensures.1 in
-    rw (e.1, e.2) (returned_error (Ok _) _ tt c.in_err-globals.ensures)
+    rw (e.1, e.2) (returned_error (Ok _) _ tt c.in_err-globals.ensures.value)
 
 pub returns-in_err-fault-clause-errors : goal.returns-in_err-fault-clause-errors
 returns-in_err-fault-clause-errors g c =

@@ -8,7 +8,7 @@ use Rattle.hayro_jbig2.proofs.Answering.{returned, returned_error}
 use Rattle.hayro_jbig2.proofs.kept.globals.Globals.read.Goals as goal
 
 pub returns-clause-errors : goal.returns-clause-errors
-returns-clause-errors g c = returned _ c.from_segments.result _ (answered-named c.args.reading (segment_views c.deref.result.now) (nothing_shared c.in_ok-fault.fault)) c.from_segments.ensures
+returns-clause-errors g c = returned _ c.from_segments.result _ (answered-named c.args.reading (segment_views c.deref.result.now) (nothing_shared c.in_ok-fault.fault)) c.from_segments.ensures.value
 
 pub returns-in_err-segments-clause-errors : goal.returns-in_err-segments-clause-errors
 returns-in_err-segments-clause-errors g c =
