@@ -17,6 +17,7 @@ pub(crate) mod context;
 pub(crate) mod counted;
 pub(crate) mod dictionaries;
 pub(crate) mod passed_over;
+pub(crate) mod work_limit;
 pub(crate) mod workspace;
 
 use crate::drawing::canvas::Canvas;

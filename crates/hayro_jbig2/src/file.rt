@@ -13,13 +13,13 @@ ghost use Rattle.hayro_jbig2.specs.Page.{ReadPage};
 ghost use Rattle.hayro_jbig2.specs.Returned.{IsReturned};
 ghost use Rattle.hayro_jbig2.specs.inner.PageViews.{kept_names};
 ghost use Rattle.hayro_jbig2.specs.Causes.{BreaksBook};
-ghost use Rattle.hayro_jbig2.specs.Context.{IsWithin};
+ghost use Rattle.hayro_jbig2.specs.WorkLimit.{Takes};
 ghost use Rattle.jbig2_base.specs.Causes.{HasCauseOrNoMemory};
 
 pub(crate) mod pages;
 mod segments_by_page;
 
-use crate::drawing::counted::Counted;
+use crate::drawing::work_limit::WorkLimit;
 use crate::file::pages::Pages;
 use crate::file::segments_by_page::SegmentsByPage;
 use crate::kept::globals::Globals;
@@ -196,18 +196,16 @@ fn kept_globals<A: Allocator + Clone>(
     reading: Reading,
     pages: &[FilePage<'_, A>],
     shared: &[Segment<'_, A>],
-    work: Option<u64>,
-    counted: &mut Counted,
+    work: &mut WorkLimit,
 ) -> Result<Result<Globals<A>>>
     ensures value { Gives (λ kept. kept) result
         (Ok (shared_by reading pages.now (segment_views shared.now))) }
-    ensures limit { IsWithin work counted.new }
+    ensures limit { Takes 0 work.old work.new }
 {
-    *counted = Counted::nothing();
     if pages.is_empty() {
         return Ok(Ok(Globals::empty(alloc, None)?));
     }
-    match Globals::from_segments(alloc, reading, shared, None, work, counted) {
+    match Globals::from_segments(alloc, reading, shared, None, work) {
         Ok(globals) => Ok(Ok(globals)),
         Err(DecodeError::OutOfMemory) => Err(DecodeError::OutOfMemory),
         Err(error) => Ok(Err(error)),
@@ -225,57 +223,54 @@ impl<'a, A: Allocator + Clone> File<'a, A> {
             (book_at (reading_of settings.now.strict) bytes.now) }
         ensures errors { IfErr result IsReturned }
     {
-        File::new_within(alloc, bytes, settings, None)
+        File::new_within(alloc, bytes, settings, &mut WorkLimit::new(None))
     }
 
-    /// The file as `new` has it, but decoding the segments of no page takes at most `work` units of work. Where more
-    /// are needed, the error is `DecodeError::OutOfMemory`, as when memory runs out. `None` means no limit.
+    /// The file as `new` has it. Decoding the segments of no page takes its work from this limit.
     pub fn new_within(
         alloc: A,
         bytes: &'a [u8],
         settings: &DecodeSettings,
-        work: Option<u64>,
+        work: &mut WorkLimit,
     ) -> Result<File<'a, A>>
         ensures value { Gives (λ file. file) result
             (book_at (reading_of settings.now.strict) bytes.now) }
         ensures causes { HasCauseOrNoMemory result
             (BreaksBook (reading_of settings.now.strict) bytes.now) }
         ensures errors { IfErr result IsReturned }
+        ensures limit { Takes 0 work.old work.new }
     {
-        let counted = &mut Counted::nothing();
-        File::read(alloc, bytes, settings.reading(), work, counted)
+        File::read(alloc, bytes, settings.reading(), work)
     }
 
     /// The file as lenient reading has it, but damage leaves out as little as possible. The list of segments ends at
     /// the first one that is refused. A page whose beginning fails is left out. A segment of no page that fails is
-    /// passed over. Decoding the segments of no page takes at most `work` units of work.
+    /// passed over. Decoding the segments of no page takes its work from this limit.
     ///
     /// Where lenient reading gives a file, this gives the same. It is refused only for a fault of the file's header, or
     /// where memory or work runs out.
-    pub fn salvaged(alloc: A, bytes: &'a [u8], work: Option<u64>) -> Result<File<'a, A>>
+    pub fn salvaged(alloc: A, bytes: &'a [u8], work: &mut WorkLimit) -> Result<File<'a, A>>
         ensures value { Gives (λ file. file) result (book_at Salvage bytes.now) }
         ensures causes { HasCauseOrNoMemory result (BreaksBook Salvage bytes.now) }
         ensures errors { IfErr result IsReturned }
+        ensures limit { Takes 0 work.old work.new }
     {
-        let counted = &mut Counted::nothing();
-        File::read(alloc, bytes, Reading::Salvage, work, counted)
+        File::read(alloc, bytes, Reading::Salvage, work)
     }
 
-    /// The file that `bytes` hold. `counted` is then how many steps were counted, after an error too.
+    /// The file that `bytes` hold.
     #[tactic(auto, using(crate::proofs::Causes::file_cause), unfolding(crate::specs::Files::book_at))]
     fn read(
         alloc: A,
         bytes: &'a [u8],
         reading: Reading,
-        work: Option<u64>,
-        counted: &mut Counted,
+        work: &mut WorkLimit,
     ) -> Result<File<'a, A>>
         ensures value { Gives (λ file. file) result (book_at reading bytes.now) }
         ensures causes { HasCauseOrNoMemory result (BreaksBook reading bytes.now) }
         ensures errors { IfErr result IsReturned }
-        ensures limit { IsWithin work counted.new }
+        ensures limit { Takes 0 work.old work.new }
     {
-        *counted = Counted::nothing();
         let strict = reading.is_strict();
         let fault = file_fault(alloc.clone()?, bytes, reading)?;
         let file = parse_file(alloc.clone()?, bytes, reading)?;
@@ -286,7 +281,7 @@ impl<'a, A: Allocator + Clone> File<'a, A> {
         }
         let mut left_out = Vec::new(alloc.clone()?);
         let pages = read_pages(alloc.clone()?, reading, segments.pages, &mut left_out)?;
-        let globals = kept_globals(alloc, reading, &pages, &segments.shared, work, counted)?;
+        let globals = kept_globals(alloc, reading, &pages, &segments.shared, work)?;
         Ok(File {
             reading,
             pages,

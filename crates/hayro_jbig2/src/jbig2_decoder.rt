@@ -6,12 +6,13 @@ ghost use Rattle.hayro_jbig2.specs.Causes.{BreaksFirstPage};
 ghost use Rattle.hayro_jbig2.specs.Files.{page_of};
 ghost use Rattle.hayro_jbig2.specs.Page.{IsSide};
 ghost use Rattle.hayro_jbig2.specs.Returned.{IsReturned, IsReturnedOrIo};
+ghost use Rattle.hayro_jbig2.specs.WorkLimit.{Takes};
 ghost use Rattle.hayro_jbig2.specs.Image.{first_size, first_image, first_packed, IsLasting, Opens, GivesAgain, packed_size};
 
 pub(crate) mod jbig2_error;
 pub mod reading;
 
-use crate::drawing::counted::Counted;
+use crate::drawing::work_limit::WorkLimit;
 use crate::file::File;
 use crate::jbig2_decoder::jbig2_error::Jbig2Error;
 use crate::jbig2_decoder::reading::read_all;
@@ -30,8 +31,8 @@ pub struct Jbig2Decoder<A: Allocator> {
     bytes: Vec<u8, A>,
     width: u32,
     height: u32,
-    /// The most work that the segments of no page may take, and that the page may take too.
-    work_limit: Option<u64>,
+    /// The units of work that each reading of the page may take.
+    work: Option<u64>,
 }
 
 impl<A: Allocator> Model for Jbig2Decoder<A> {
@@ -65,10 +66,11 @@ fn first_page_of<'f, A: Allocator>(file: &'f File<'_, A>) -> jbig2_base::error::
 fn first_size<A: Allocator + Clone>(
     alloc: A,
     bytes: &[u8],
-    work: Option<u64>,
+    work: &mut WorkLimit,
 ) -> jbig2_base::error::Result<(u32, u32)>
     ensures value { Gives (λ size. size) result (first_size bytes.now) }
     ensures errors { IfErr result IsReturned }
+    ensures limit { Takes 0 work.old work.new }
 {
     let file = File::new_within(alloc, bytes, &LENIENT, work)?;
     let page = first_page_of(&file)?;
@@ -80,17 +82,18 @@ fn first_size<A: Allocator + Clone>(
 fn first_image<A: Allocator + Clone>(
     alloc: A,
     bytes: &[u8],
-    work: Option<u64>,
+    work: &mut WorkLimit,
     buf: &mut [u8],
 ) -> jbig2_base::error::Result<()>
     requires { IfOk (first_size bytes.now) (λ size. length buf.old ≡ size.0 * size.1) }
     ensures value { Gives (λ _. buf.new) result (first_image bytes.now) }
     ensures unchanged { OnErr result (buf.new ≡ buf.old) }
     ensures errors { IfErr result IsReturned }
+    ensures limit { Takes 0 work.old work.new }
 {
     let file = File::new_within(alloc, bytes, &LENIENT, work)?;
     let page = first_page_of(&file)?;
-    page.read_image_limited(buf, work, &mut Counted::nothing())
+    page.read_image_within(buf, work)
 }
 
 /// Writes the first page into `buf`, as `Page::read_packed` does.
@@ -98,17 +101,18 @@ fn first_image<A: Allocator + Clone>(
 fn first_packed<A: Allocator + Clone>(
     alloc: A,
     bytes: &[u8],
-    work: Option<u64>,
+    work: &mut WorkLimit,
     buf: &mut [u8],
 ) -> jbig2_base::error::Result<()>
     requires { IfOk (first_size bytes.now) (λ size. length buf.old ≡ packed_size size.0 size.1) }
     ensures value { Gives (λ _. buf.new) result (first_packed bytes.now) }
     ensures unchanged { OnErr result (buf.new ≡ buf.old) }
     ensures errors { IfErr result IsReturned }
+    ensures limit { Takes 0 work.old work.new }
 {
     let file = File::new_within(alloc, bytes, &LENIENT, work)?;
     let page = first_page_of(&file)?;
-    page.read_packed_limited(buf, work, &mut Counted::nothing())
+    page.read_packed_within(buf, work)
 }
 
 impl<A: Allocator + Clone> Jbig2Decoder<A> {
@@ -122,28 +126,29 @@ impl<A: Allocator + Clone> Jbig2Decoder<A> {
         ensures lasting { IfErr result IsLasting }
         ensures errors { IfErr result IsReturnedOrIo }
     {
-        Jbig2Decoder::new_within(alloc, reader, None)
+        Jbig2Decoder::new_within(alloc, reader, &mut WorkLimit::new(None))
     }
 
-    /// Reads the input as `new` does. Each time that the page is read, the segments of no page may take `work` units of
-    /// work, and the page's own segments as many. Where more are needed, the error is `DecodeError::OutOfMemory`.
-    /// `None` means no limit.
+    /// Reads the input as `new` does, within a limit of work. Later each reading of the page may take as many units as
+    /// are left before this call. Where more are needed, the error is `DecodeError::OutOfMemory`.
     pub fn new_within<R: Read + Drop>(
         alloc: A,
         mut reader: R,
-        work: Option<u64>,
+        work: &mut WorkLimit,
     ) -> Result<Jbig2Decoder<A>, Jbig2Error>
         ensures opens { IfSome (R.remaining reader) (λ told. Opens told result) }
         ensures lasting { IfErr result IsLasting }
         ensures errors { IfErr result IsReturnedOrIo }
+        ensures limit { Takes 0 work.old work.new }
     {
+        let units = work.left();
         let bytes = read_all(alloc.clone()?, &mut reader)?;
         let (width, height) = first_size(alloc, &bytes, work)?;
         Ok(Jbig2Decoder {
             bytes,
             width,
             height,
-            work_limit: work,
+            work: units,
         })
     }
 
@@ -158,7 +163,8 @@ impl<A: Allocator + Clone> Jbig2Decoder<A> {
         ensures errors { IfErr result IsReturnedOrIo }
     {
         let alloc = self.bytes.allocator().clone()?;
-        first_image(alloc, &self.bytes, self.work_limit, buf)?;
+        let work = &mut WorkLimit::new(self.work);
+        first_image(alloc, &self.bytes, work, buf)?;
         Ok(())
     }
 
@@ -172,7 +178,8 @@ impl<A: Allocator + Clone> Jbig2Decoder<A> {
         ensures errors { IfErr result IsReturnedOrIo }
     {
         let alloc = self.bytes.allocator().clone()?;
-        first_packed(alloc, &self.bytes, self.work_limit, buf)?;
+        let work = &mut WorkLimit::new(self.work);
+        first_packed(alloc, &self.bytes, work, buf)?;
         Ok(())
     }
 }

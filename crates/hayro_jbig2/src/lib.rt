@@ -17,6 +17,7 @@ mod settings;
 
 pub use drawing::context::DecoderContext;
 pub use drawing::passed_over::{PassedOver, PassedSegment};
+pub use drawing::work_limit::WorkLimit;
 pub use file::File;
 pub use file::pages::Pages;
 pub use jbig2_base::error::{

@@ -42,16 +42,21 @@ abbrev pub differ : Bool → Bool → Bool
 differ true b = not b
 differ false b = b
 
+abbrev pub max_side : ℕ  -- no bitmap that is asked for by its sides has a longer one (our own rule)
+max_side = 65535
+
+abbrev pub check_sides : ℕ → ℕ → Result (Unit {0}) DecodeError
+check_sides width height = refuse_if (nat_lt max_side width || nat_lt max_side height) (Overflow BitmapDimension)
+
 abbrev pub part_of : Grid → Area → Grid  -- a part may go past the sides, and is white there
 part_of g area = grid_of area.width area.height (λ x y. pixel_at g (area.left + x) (area.top + y))
 
 abbrev pub part_or_overflow : Grid → Area → Result Grid DecodeError  -- neither side may be above 65535 (our own rule)
 part_or_overflow g area =
-    refuse_if (nat_lt 65535 area.width || nat_lt 65535 area.height) (Overflow BitmapDimension)
-    >>= λ _. Ok (part_of g area)
+    check_sides area.width area.height >>= λ _. Ok (part_of g area)
 
 abbrev pub blank_or_overflow : ℕ → ℕ → Bool → Result Grid DecodeError  -- neither side may be above 65535
-blank_or_overflow w h black = refuse_if (nat_lt 65535 w || nat_lt 65535 h) (Overflow BitmapDimension) >>= λ _. Ok (blank w h black)
+blank_or_overflow w h black = check_sides w h >>= λ _. Ok (blank w h black)
 
 -- all white; one side may be above 65535 if the area is at most 65535 * 65535
 abbrev pub wide_or_overflow : ℕ → ℕ → Result Grid DecodeError

@@ -25,8 +25,11 @@ use std::marker::Model;
 use std::sync::ledger::Ledger;
 pub use steps::Steps;
 
-/// The longest side of a bitmap that is not wide.
-const MAX_DIMENSION: u32 = 65535;
+/// The longest side, in pixels, of a bitmap that is asked for by its sides (our own rule).
+pub const MAX_DIMENSION: u32 = 65535;
+
+/// The most pixels of any bitmap (our own rule).
+pub const MAX_AREA: u64 = 65535 * 65535;
 
 /// A grid of black and white pixels.
 #[derive(Debug, Drop)]
@@ -66,7 +69,7 @@ impl<A: Allocator> Bitmap<A> {
         ensures value { Gives (λ b. b) result (wide_or_overflow width height) }
         ensures causes { HasCauseOrNoMemory result (BreaksArea width height) }
     {
-        if u64::from(width) * u64::from(height) > 65535 * 65535 {
+        if u64::from(width) * u64::from(height) > MAX_AREA {
             return Err(DecodeError::Overflow(OverflowError::BitmapDimension));
         }
         let mut rows = PackedRows::new(alloc);

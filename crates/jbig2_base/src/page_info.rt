@@ -1,5 +1,6 @@
 //! Reads page information segments, and finds the size of a page (T.88, 7.4.8 and 7.4.10).
 ghost use Rattle.std.specs.Prelude.{◌≡◌, ◌+◌, ◌/◌, ◌%◌, ◌==◌, ◌<◌, ◌≤◌, Ok, IfOk, None, OnErr, OnOk, Option, false, length};
+ghost use Rattle.jbig2_base.specs.Grid.{max_side};
 ghost use Rattle.jbig2_base.specs.Results.{Returns};
 ghost use Rattle.jbig2_base.specs.Bits.{IsAligned, nonzero};
 ghost use Rattle.jbig2_base.specs.Causes.{HasCause, BreaksInformation, BreaksInitialPage, BreaksInitialPageBy};
@@ -7,6 +8,7 @@ ghost use Rattle.jbig2_base.specs.PageInfo.{default_operator_of, flags_of, infor
 ghost use Rattle.jbig2_base.specs.Fields.{Parses};
 ghost use Rattle.jbig2_base.specs.inner.SegmentViews.{segment_view, segment_views};
 
+use crate::bitmap::MAX_DIMENSION;
 use crate::bitmap::operator::CombinationOperator;
 use crate::error::{DecodeError, FormatError, OverflowError, Result};
 use crate::field::{byte_field, u16_field, u32_field};
@@ -248,13 +250,13 @@ fn initial_page_with(number: u32, information: &PageInformation, height: u32) ->
     ensures value { Returns (λ initial_page. initial_page) result
         (initial_page_with number information.now height) }
     ensures fits { IfOk result
-        (λ initial_page. (initial_page.width ≤ 65535) × (initial_page.height ≤ 65535)) }
+        (λ initial_page. (initial_page.width ≤ max_side) × (initial_page.height ≤ max_side)) }
 {
     let width = information.width;
     if width == 0 || height == 0 {
         return Err(DecodeError::Format(FormatError::EmptyPage));
     }
-    if width > 65535 || height > 65535 {
+    if width > MAX_DIMENSION || height > MAX_DIMENSION {
         return Err(DecodeError::Overflow(OverflowError::BitmapDimension));
     }
     Ok(InitialPage {
@@ -278,7 +280,7 @@ impl InitialPage {
         ensures value { Returns (λ initial_page. initial_page) result
             (initial_page_of (segment_views segments.now)) }
         ensures fits { IfOk result
-            (λ initial_page. (initial_page.width ≤ 65535) × (initial_page.height ≤ 65535)) }
+            (λ initial_page. (initial_page.width ≤ max_side) × (initial_page.height ≤ max_side)) }
     {
         InitialPage::with_height(segments, stripes_height(segments))
     }
@@ -294,7 +296,7 @@ impl InitialPage {
         ensures value { Returns (λ initial_page. initial_page) result
             (initial_page_by known_height (segment_views segments.now)) }
         ensures fits { IfOk result
-            (λ initial_page. (initial_page.width ≤ 65535) × (initial_page.height ≤ 65535)) }
+            (λ initial_page. (initial_page.width ≤ max_side) × (initial_page.height ≤ max_side)) }
     {
         let first = first_information(segments)?;
         let mut reader = Reader::new(first.bytes);

@@ -16,16 +16,13 @@ pub(crate) mod rows;
 
 use crate::gray_scale::planes::read_planes;
 use crate::gray_scale::rows::gray_rows;
-use jbig2_base::bitmap::Bitmap;
+use jbig2_base::bitmap::{Bitmap, MAX_DIMENSION};
 use jbig2_base::bitmap::steps::Steps;
 use jbig2_base::error::{DecodeError, OverflowError, Result};
 use jbig2_coder::arithmetic_decoder::ArithmeticDecoderContext;
 use jbig2_region::template::Template;
 use std::alloc::Allocator;
 use std::sync::ledger::Ledger;
-
-/// The longest side of a plane, in pixels.
-const MAX_DIMENSION: u32 = 65535;
 
 /// What is needed to decode a gray-scale image's coded bytes (T.88, Table C.1).
 #[derive(Drop)]

@@ -6,7 +6,7 @@ ghost use Rattle.jbig2_base.specs.Results.{Returns, Gives, Leaves};
 ghost use Rattle.std.specs.List.{All};
 ghost use Rattle.jbig2_base.specs.Counts.{WritesWithin, most_words, overlap};
 ghost use Rattle.jbig2_base.specs.Combination.{combined};
-ghost use Rattle.jbig2_base.specs.Grid.{blank};
+ghost use Rattle.jbig2_base.specs.Grid.{blank, max_side};
 ghost use Rattle.jbig2_base.specs.Search.{code_length};
 ghost use Rattle.jbig2_region.specs.inner.RegionViews.{region_view};
 ghost use Rattle.jbig2_halftone.specs.GrayScale.{planes_of, gray_values};
@@ -48,8 +48,8 @@ fn skip_bitmap<D: Allocator, A: Allocator, L: Ledger>(
     dictionary: &PatternDictionary<D>,
     steps: &mut Steps<L>,
 ) -> Result<Bitmap<A>>
-    requires columns { header.now.grid_position_and_size.width ≤ 65535 }
-    requires rows { header.now.grid_position_and_size.height ≤ 65535 }
+    requires columns { header.now.grid_position_and_size.width ≤ max_side }
+    requires rows { header.now.grid_position_and_size.height ≤ max_side }
     ensures value { Gives (λ skip. skip) result
         (Ok (skip_grid (header_view header.now) (dictionary_view dictionary.now))) }
     ensures steps { OnOk result (steps.new ≡ record steps.old {
@@ -143,7 +143,7 @@ fn draw_row<D: Allocator, A: Allocator, L: Ledger>(
     requires y { first.y ≡ y_of (header_view header.now) m 0 }
     requires x_fits { FitsSigned w32 header.now.grid_position_and_size.horizontal_offset }
     requires y_fits { FitsSigned w32 header.now.grid_position_and_size.vertical_offset }
-    requires columns { header.now.grid_position_and_size.width ≤ 65535 }
+    requires columns { header.now.grid_position_and_size.width ≤ max_side }
     requires sized { length values.now ≡ header.now.grid_position_and_size.width }
     requires region { HasSize header.now.region_info.width header.now.region_info.height
         bitmap.old }
@@ -181,8 +181,8 @@ fn draw_rows<D: Allocator, P: Allocator, A: Allocator, L: Ledger>(
     bitmap: &mut Bitmap<A>,
     steps: &mut Steps<L>,
 ) -> Result<()>
-    requires columns { header.now.grid_position_and_size.width ≤ 65535 }
-    requires rows { header.now.grid_position_and_size.height ≤ 65535 }
+    requires columns { header.now.grid_position_and_size.width ≤ max_side }
+    requires rows { header.now.grid_position_and_size.height ≤ max_side }
     requires sized { All (λ plane. plane.width ≡ header.now.grid_position_and_size.width)
         planes.now }
     requires few { length planes.now ≤ 32 }
@@ -222,8 +222,8 @@ fn skip_mask<D: Allocator, A: Allocator, L: Ledger>(
     dictionary: &PatternDictionary<D>,
     steps: &mut Steps<L>,
 ) -> Result<Option<Bitmap<A>>>
-    requires columns { header.now.grid_position_and_size.width ≤ 65535 }
-    requires rows { header.now.grid_position_and_size.height ≤ 65535 }
+    requires columns { header.now.grid_position_and_size.width ≤ max_side }
+    requires rows { header.now.grid_position_and_size.height ≤ max_side }
     ensures value { Gives (λ mask. mask) result
         (Ok (skip_mask (header_view header.now) (dictionary_view dictionary.now))) }
     ensures steps { OnOk result (steps.new ≡
@@ -244,8 +244,8 @@ fn read_cells<D: Allocator, A: Allocator + Clone, B: Allocator, L: Ledger>(
     contexts: &mut Vec<ArithmeticDecoderContext, B>,
     steps: &mut Steps<L>,
 ) -> Result<Vec<Bitmap<A>, A>>
-    requires columns { header.now.grid_position_and_size.width ≤ 65535 }
-    requires rows { header.now.grid_position_and_size.height ≤ 65535 }
+    requires columns { header.now.grid_position_and_size.width ≤ max_side }
+    requires rows { header.now.grid_position_and_size.height ≤ max_side }
     ensures value { Gives (λ planes. planes.items) result
         (planes_of (gray_params (header_view header.now) (dictionary_view dictionary.now))
         header.now.bytes.now) }
@@ -303,8 +303,8 @@ pub fn decode_into<D: Allocator, M: Allocator, A: Allocator + Clone, B: Allocato
     contexts: &mut Vec<ArithmeticDecoderContext, B>,
     steps: &mut Steps<L>,
 ) -> Result<()>
-    requires columns { header.now.grid_position_and_size.width ≤ 65535 }
-    requires rows { header.now.grid_position_and_size.height ≤ 65535 }
+    requires columns { header.now.grid_position_and_size.width ≤ max_side }
+    requires rows { header.now.grid_position_and_size.height ≤ max_side }
     requires coloured { bitmap.old ≡ blank header.now.region_info.width
         header.now.region_info.height header.now.flags.initial_pixel_color }
     ensures value { Gives (λ _. bitmap.new) result
@@ -345,8 +345,8 @@ pub fn decode<D: Allocator, A: Allocator + Clone, B: Allocator, L: Ledger>(
     contexts: &mut Vec<ArithmeticDecoderContext, B>,
     steps: &mut Steps<L>,
 ) -> Result<DecodedRegion<A>>
-    requires columns { header.now.grid_position_and_size.width ≤ 65535 }
-    requires rows { header.now.grid_position_and_size.height ≤ 65535 }
+    requires columns { header.now.grid_position_and_size.width ≤ max_side }
+    requires rows { header.now.grid_position_and_size.height ≤ max_side }
     ensures value { Gives (λ region. region_view region) result
         (halftone_decoded (header_view header.now) (dictionary_view dictionary.now)) }
     ensures contexts { Leaves result contexts.new.items

@@ -1,6 +1,7 @@
 //! Pattern dictionaries (T.88, 6.7 and 7.4.4): cuts the patterns out of one collective bitmap.
 ghost use Rattle.std.specs.Prelude.{◌≡◌, ◌+◌, ◌*◌, ◌/◌, ◌≤◌, [], ◌∷◌, length, IfOk, OnErr, OnOk, Ok, Bool, true, false};
 ghost use Rattle.jbig2_steps.specs.Work.{CountsWithin};
+ghost use Rattle.jbig2_base.specs.Grid.{max_side};
 ghost use Rattle.jbig2_base.specs.Results.{Returns, Gives, Leaves};
 ghost use Rattle.jbig2_base.specs.Bits.{IsAligned};
 ghost use Rattle.jbig2_base.specs.Counts.{KeepsLanes, words_copied};
@@ -20,7 +21,7 @@ ghost use Rattle.jbig2_halftone.specs.Causes.{BreaksPatternHeader, BreaksPattern
 mod dictionary;
 
 pub use dictionary::PatternDictionary;
-use jbig2_base::bitmap::Bitmap;
+use jbig2_base::bitmap::{Bitmap, MAX_DIMENSION};
 use jbig2_base::bitmap::operator::CombinationOperator;
 use jbig2_base::bitmap::part::Area;
 use jbig2_base::bitmap::steps::Steps;
@@ -33,9 +34,6 @@ use jbig2_region::region_info::RegionSegmentInfo;
 use jbig2_region::template::{AdaptiveTemplatePixel, GenericTemplatePixels, Template};
 use std::alloc::Allocator;
 use std::sync::ledger::Ledger;
-
-/// The widest collective bitmap, in pixels.
-const MAX_DIMENSION: u64 = 65535;
 
 /// What is needed to decode a pattern dictionary's coded bytes (T.88, 7.4.4).
 #[derive(Clone, Copy, Debug)]
@@ -127,9 +125,9 @@ fn cut_pattern<A: Allocator, L: Ledger>(
     k: u32,
     steps: &mut Steps<L>,
 ) -> Result<Bitmap<A>>
-    requires columns { width ≤ 65535 }
-    requires rows { height ≤ 65535 }
-    requires place { k * width ≤ 65535 }
+    requires columns { width ≤ max_side }
+    requires rows { height ≤ max_side }
+    requires place { k * width ≤ max_side }
     ensures value { Gives (λ pattern. pattern) result
         (Ok (pattern_of collective.now width height k)) }
     ensures steps { OnOk result
@@ -154,9 +152,9 @@ fn cut_patterns<A: Allocator + Clone, L: Ledger>(
     count: u32,
     steps: &mut Steps<L>,
 ) -> Result<Vec<Bitmap<A>, A>>
-    requires columns { width ≤ 65535 }
-    requires rows { height ≤ 65535 }
-    requires all { count * width ≤ 65535 }
+    requires columns { width ≤ max_side }
+    requires rows { height ≤ max_side }
+    requires all { count * width ≤ max_side }
     ensures value { Gives (λ patterns. patterns.items) result
         (Ok (patterns_of collective.now width height count)) }
     ensures steps { OnOk result
@@ -181,7 +179,7 @@ fn decode_collective<A: Allocator, B: Allocator, L: Ledger>(
     steps: &mut Steps<L>,
 ) -> Result<Bitmap<A>>
     requires width { width ≡ collective_width (header_view header.now) }
-    requires columns { width ≤ 65535 }
+    requires columns { width ≤ max_side }
     ensures value { Gives (λ collective. collective) result
         (generic_result (collective_header (header_view header.now))) }
     ensures contexts { Leaves result contexts.new.items
@@ -245,7 +243,7 @@ pub fn decode<A: Allocator + Clone, B: Allocator, L: Ledger>(
     let width = u32::from(header.pattern_width);
     let height = u32::from(header.pattern_height);
     let columns = (u64::from(header.num_patterns) + 1) * u64::from(width);
-    if columns > MAX_DIMENSION {
+    if columns > u64::from(MAX_DIMENSION) {
         return Err(DecodeError::Overflow(OverflowError::BitmapDimension));
     }
     let collective = decode_collective(alloc.clone()?, header, columns as u32, contexts, steps)?;

@@ -5,6 +5,7 @@ use crate::bytes::{FILE, bytes_of};
 use crate::sizes::WhiteRows;
 use hayro_jbig2::{
     DecodeError, DecodeSettings, DecoderContext, Globals, Jbig2Decoder, Jbig2Error, Page, Result,
+    WorkLimit,
 };
 use jbig2_permit::Permit;
 use jbig2_steps::Work;
@@ -101,7 +102,7 @@ fn salvaged_globals_hold(alloc: Global) -> Result<bool> {
     let bytes = bytes_of(alloc, DAMAGED_GLOBALS)?;
     let mut are_decoded = false;
     for work in 0..16_000 {
-        match Globals::salvaged(alloc, &bytes, Some(work)) {
+        match Globals::salvaged(alloc, &bytes, &mut WorkLimit::new(Some(work))) {
             Ok(globals) if globals.passed_over().count == 1 => are_decoded = true,
             Err(DecodeError::OutOfMemory) if !are_decoded => {}
             _ => return Ok(false),
@@ -115,7 +116,7 @@ fn globals_hold(alloc: Global) -> Result<bool> {
     let bytes = bytes_of(alloc, GLOBALS)?;
     let mut are_decoded = false;
     for work in 0..8_000 {
-        match Globals::new_within(alloc, &bytes, &LENIENT, Some(work)) {
+        match Globals::new_within(alloc, &bytes, &LENIENT, &mut WorkLimit::new(Some(work))) {
             Ok(_) => are_decoded = true,
             Err(DecodeError::OutOfMemory) if !are_decoded => {}
             Err(_) => return Ok(false),
@@ -138,7 +139,8 @@ fn is_white_within(
     bytes: &[u8],
     work: u64,
 ) -> std::result::Result<bool, Jbig2Error> {
-    let decoder = Jbig2Decoder::new_within(alloc, Cursor::new(bytes), Some(work))?;
+    let mut limit = WorkLimit::new(Some(work));
+    let decoder = Jbig2Decoder::new_within(alloc, Cursor::new(bytes), &mut limit)?;
     if decoder.dimensions() != (8, 1) {
         return Ok(false);
     }

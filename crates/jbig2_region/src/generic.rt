@@ -22,7 +22,7 @@ use crate::region_info::{RegionSegmentInfo, parse_region_segment_info};
 pub use crate::template::adaptive::parse_adaptive_template_pixels;
 use crate::template::adaptive::parse_generic_template_pixels;
 use crate::template::{GenericTemplatePixels, Template};
-use jbig2_base::bitmap::Bitmap;
+use jbig2_base::bitmap::{Bitmap, MAX_DIMENSION};
 use jbig2_base::bitmap::steps::Steps;
 use jbig2_base::error::{DecodeError, OverflowError, RegionError, Result};
 use jbig2_base::field::{byte_field, u32_field};
@@ -100,7 +100,7 @@ pub fn parse<'a>(
         template,
     )?;
     let (height, bytes) = rows(unknown_length, region_info.height, ahead.tail())?;
-    if region_info.width > 65535 || height > 65535 {
+    if region_info.width > MAX_DIMENSION || height > MAX_DIMENSION {
         return Err(DecodeError::Overflow(OverflowError::BitmapDimension));
     }
     region_info.height = height;

@@ -2,7 +2,7 @@
 //! above. If the adaptive pixels are nominal, they work by whole bytes.
 ghost use Rattle.std.specs.Prelude.{◌≡◌, ℕ, ◌+◌, ◌-◌, ◌*◌, ◌/◌, ◌^◌, ◌<◌, ◌≤◌, false, true, length, pos, negsuc, ◌+ℤ◌, List, IfSome, None, if◌then◌else◌};
 ghost use Rattle.jbig2_base.specs.Counts.{KeepsLanes};
-ghost use Rattle.jbig2_base.specs.Grid.{blank};
+ghost use Rattle.jbig2_base.specs.Grid.{blank, max_side};
 ghost use Rattle.jbig2_coder.specs.Coder.{Coder, Context};
 ghost use Rattle.jbig2_region.specs.inner.RegionStates.{DecodesRegion};
 ghost use Rattle.jbig2_region.specs.inner.Neighbours.{DecodesPixels, IsLayout, is_nominal_layout, layout_coding, layout_count, layout_loads, layout_pixels};
@@ -92,8 +92,8 @@ fn decode_row<A: Allocator, L: Ledger>(
         2 ^ layout_count layout.now.neighbours layout.now.adaptive }
     requires some { 1 ≤ bitmap.old.width }
     requires row { y < bitmap.old.height }
-    requires columns { bitmap.old.width ≤ 65535 }
-    requires rows { bitmap.old.height ≤ 65535 }
+    requires columns { bitmap.old.width ≤ max_side }
+    requires rows { bitmap.old.height ≤ max_side }
     ensures holds { DecodesPixels (layout_pixels layout.now) predicted 0 y bitmap.old.width
         bitmap.old decoder.old contexts.old bitmap.new decoder.new contexts.new }
     ensures width { bitmap.new.width ≡ bitmap.old.width }
@@ -147,8 +147,8 @@ pub fn decode_layout<A: Allocator, L: Ledger>(
     requires contexts { length contexts.old ≡
         2 ^ layout_count layout.now.neighbours layout.now.adaptive }
     requires context { IfSome row_context (λ k. k < length contexts.old) }
-    requires columns { bitmap.old.width ≤ 65535 }
-    requires rows { bitmap.old.height ≤ 65535 }
+    requires columns { bitmap.old.width ≤ max_side }
+    requires rows { bitmap.old.height ≤ max_side }
     requires white { bitmap.old ≡ blank bitmap.old.width bitmap.old.height false }
     ensures holds { DecodesRegion (layout_coding layout.now row_context) bitmap.old decoder.old
         contexts.old bitmap.new decoder.new contexts.new }

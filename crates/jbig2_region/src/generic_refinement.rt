@@ -19,7 +19,7 @@ pub use crate::refinement_coding::decode_bitmap;
 use crate::region_info::{DecodedRegion, RegionSegmentInfo, parse_region_segment_info};
 pub use crate::template::adaptive::parse_template_pixels;
 use crate::template::{AdaptiveTemplatePixel, RefinementTemplate};
-use jbig2_base::bitmap::Bitmap;
+use jbig2_base::bitmap::{Bitmap, MAX_DIMENSION};
 use jbig2_base::bitmap::steps::Steps;
 use jbig2_base::error::{DecodeError, OverflowError, RegionError, Result};
 use jbig2_base::field::byte_field;
@@ -72,7 +72,7 @@ pub fn parse<'a>(reader: &mut Reader<'a>) -> Result<GenericRefinementRegionHeade
     let flags = byte_field(&mut ahead)?;
     let template = RefinementTemplate::from_byte(flags);
     let adaptive_template_pixels = parse_template_pixels(&mut ahead, template)?;
-    if region_info.width > 65535 || region_info.height > 65535 {
+    if region_info.width > MAX_DIMENSION || region_info.height > MAX_DIMENSION {
         return Err(DecodeError::Overflow(OverflowError::BitmapDimension));
     }
     *reader = ahead;

@@ -2,7 +2,7 @@
 //! refinements.
 ghost use Rattle.std.specs.Prelude.{◌≡◌, ℕ, ◌+◌, ◌*◌, ◌^◌, ◌<◌, ◌≤◌, [], length, IfSome, false, Ok, Some, pos, ◌<ℤ◌};
 ghost use Rattle.jbig2_base.specs.Results.{Gives};
-ghost use Rattle.jbig2_base.specs.Grid.{Grid, pixel, bit_number};
+ghost use Rattle.jbig2_base.specs.Grid.{Grid, pixel, bit_number, max_side};
 ghost use Rattle.jbig2_region.specs.Steps.{CountsDecided};
 ghost use Rattle.jbig2_region.specs.Raster.{Coding, Region, row_decisions, no_pixels, fresh_contexts};
 ghost use Rattle.jbig2_region.specs.inner.RegionStates.{HasDecoded, BeginsRow, DecodesRegion, IsReady};
@@ -114,8 +114,8 @@ fn decode_pixel<C: PixelCoding, A: Allocator, L: Ledger>(
 )
     requires column { x < bitmap.old.width }
     requires row { row.y < bitmap.old.height }
-    requires columns { bitmap.old.width ≤ 65535 }
-    requires rows { bitmap.old.height ≤ 65535 }
+    requires columns { bitmap.old.width ≤ max_side }
+    requires rows { bitmap.old.height ≤ max_side }
     requires contexts { length contexts.old ≡ 2 ^ C.bits coding.now }
     ensures decoded { DecodesPixels (C.coding coding.now) row.predicted x row.y 1
         bitmap.old decoder.old contexts.old steps.old
@@ -143,8 +143,8 @@ fn decode_row<C: PixelCoding, A: Allocator, L: Ledger>(
     steps: &mut Steps<L>,
 )
     requires row { row.y < bitmap.old.height }
-    requires columns { bitmap.old.width ≤ 65535 }
-    requires rows { bitmap.old.height ≤ 65535 }
+    requires columns { bitmap.old.width ≤ max_side }
+    requires rows { bitmap.old.height ≤ max_side }
     requires contexts { length contexts.old ≡ 2 ^ C.bits coding.now }
     ensures decoded { DecodesPixels (C.coding coding.now) row.predicted 0 row.y
         bitmap.old.width bitmap.old decoder.old contexts.old steps.old

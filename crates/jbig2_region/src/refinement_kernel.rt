@@ -1,7 +1,7 @@
 //! Decodes refinements (T.88, 6.3) whose template's pixels are all next to the pixel that is decoded.
 //! Contexts and predicted colours come from windows on the rows.
 ghost use Rattle.std.specs.Prelude.{◌≡◌, ℕ, ◌+◌, ◌-◌, ◌*◌, ◌/◌, ◌%◌, ◌^◌, ◌<◌, ◌≤◌, length, false, None};
-ghost use Rattle.jbig2_base.specs.Grid.{pixel_at};
+ghost use Rattle.jbig2_base.specs.Grid.{pixel_at, max_side};
 ghost use Rattle.jbig2_base.specs.Bits.{bit};
 ghost use Rattle.jbig2_region.specs.Steps.{CountsDecided, window_loads};
 ghost use Rattle.jbig2_region.specs.Raster.{no_pixels};
@@ -209,8 +209,8 @@ fn decode_row<A: Allocator, B: Allocator, L: Ledger>(
 )
     requires contexts { length contexts.old ≡ 2 ^ refinement_bits coding.now.template }
     requires row { row.y < bitmap.old.height }
-    requires widths { bitmap.old.width ≤ 65535 }
-    requires heights { bitmap.old.height ≤ 65535 }
+    requires widths { bitmap.old.width ≤ max_side }
+    requires heights { bitmap.old.height ≤ max_side }
     ensures decoded { DecodesPixels (windowed_coding coding.now) row.predicted 0 row.y
         bitmap.old.width bitmap.old decoder.old contexts.old steps.old
         bitmap.new decoder.new contexts.new steps.new }

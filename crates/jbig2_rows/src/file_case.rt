@@ -5,6 +5,7 @@ use crate::errors::TOO_EARLY;
 use crate::spelling::spelled;
 use hayro_jbig2::{
     DecodeError, DecodeSettings, DecoderContext, File, Globals, Jbig2Decoder, Jbig2Error, Result,
+    WorkLimit,
 };
 use std::alloc::Allocator;
 use std::io::Cursor;
@@ -147,7 +148,7 @@ fn pages_hold<A: Allocator + Clone>(
         return all_pages_hold(&file, expected, context);
     }
     // Where lenient reading gives a file, salvage gives the same.
-    let salvaged = match File::salvaged(alloc.clone()?, bytes, None) {
+    let salvaged = match File::salvaged(alloc.clone()?, bytes, &mut WorkLimit::new(None)) {
         Ok(file) => file,
         Err(error) => return refused_as(error, None),
     };

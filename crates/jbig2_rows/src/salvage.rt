@@ -3,7 +3,7 @@ use crate::case::{Answer, refused_as};
 use crate::drawing::drawing_holds;
 use crate::file_case::{FilePage, all_pages_hold};
 use crate::spelling::spelled;
-use hayro_jbig2::{DecodeError, DecoderContext, File, Globals, Page, PassedOver, Result};
+use hayro_jbig2::{DecodeError, DecoderContext, File, Globals, Page, PassedOver, Result, WorkLimit};
 use std::alloc::Allocator;
 
 /// One case of salvage. `spelling::spelled` reads its bytes.
@@ -62,7 +62,7 @@ pub fn salvage_holds<A: Allocator + Clone>(
             let (Some(globals), Some(bytes)) = (globals, bytes) else {
                 return Ok(false);
             };
-            let globals = match Globals::salvaged(alloc.clone()?, &globals, None) {
+            let globals = match Globals::salvaged(alloc.clone()?, &globals, &mut WorkLimit::new(None)) {
                 Ok(globals) => globals,
                 Err(error) => return refused_as(error, None),
             };
@@ -143,7 +143,7 @@ fn file_holds<A: Allocator + Clone>(
     told: &Told,
     context: &mut DecoderContext<A>,
 ) -> Result<bool> {
-    let file = match File::salvaged(alloc.clone()?, bytes, None) {
+    let file = match File::salvaged(alloc.clone()?, bytes, &mut WorkLimit::new(None)) {
         Ok(file) => file,
         Err(error) => return refused_as(error, None),
     };

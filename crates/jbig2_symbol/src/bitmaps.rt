@@ -11,7 +11,7 @@ ghost use Rattle.jbig2_symbol.specs.SymbolBitmaps.{symbols_cut, raw_pixel, raw_s
 ghost use Rattle.jbig2_symbol.specs.inner.SymbolViews.{bytes_of_rows, symbols_after, with_no_value};
 
 use crate::aggregates::SymbolSize;
-use jbig2_base::bitmap::Bitmap;
+use jbig2_base::bitmap::{Bitmap, MAX_AREA};
 use jbig2_base::bitmap::part::Area;
 use jbig2_base::bitmap::steps::{Steps, Work};
 use jbig2_base::error::{OverflowError, RegionError, Result};
@@ -20,9 +20,6 @@ use jbig2_base::reader::Reader;
 use jbig2_mmr::mmr;
 use std::alloc::Allocator;
 use std::sync::ledger::Ledger;
-
-/// The most pixels of a collective bitmap.
-const MOST_PIXELS: u64 = 65535 * 65535;
 
 /// Copies row `y` of rows that are not coded into a bitmap that has the rows above it.
 fn fill_row<A: Allocator, L: Ledger>(
@@ -55,7 +52,7 @@ fn fill_row<A: Allocator, L: Ledger>(
 fn check_pixels(width: u32, height: u32) -> Result<()>
     ensures { Returns (λ _. blank width height false) result (wide_or_overflow width height) }
 {
-    if u64::from(width) * u64::from(height) > MOST_PIXELS {
+    if u64::from(width) * u64::from(height) > MAX_AREA {
         return Err(OverflowError::BitmapDimension.into());
     }
     Ok(())

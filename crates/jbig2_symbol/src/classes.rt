@@ -57,8 +57,6 @@ fn read_symbols<R: ReadSymbols<A>, A: Allocator + Clone, L: Ledger>(
     readings: &mut R,
     work: &mut Work<L>,
 ) -> Result<()>
-    requires symbols { length input.now.symbols.now ≤ 2097152 }
-    requires fresh { input.now.header.now.num_new_symbols ≤ 1048576 }
     ensures value { let d = input_view input.now in
         let before = bitmaps.old.items in
         let state = R.state readings.old in
@@ -97,8 +95,6 @@ pub fn read_drawn_class<R: ReadSymbols<A>, A: Allocator + Clone, L: Ledger>(
     readings: &mut R,
     work: &mut Work<L>,
 ) -> Result<()>
-    requires symbols { length input.now.symbols.now ≤ 2097152 }
-    requires fresh { input.now.header.now.num_new_symbols ≤ 1048576 }
     requires room { length bitmaps.old.items ≤ input.now.header.now.num_new_symbols }
     ensures value { let d = input_view input.now in
         let before = bitmaps.old.items in
@@ -127,8 +123,6 @@ fn read_height_class<R: ReadClasses<A>, A: Allocator + Clone, L: Ledger>(
     readings: &mut R,
     work: &mut Work<L>,
 ) -> Result<()>
-    requires symbols { length input.now.symbols.now ≤ 2097152 }
-    requires fresh { input.now.header.now.num_new_symbols ≤ 1048576 }
     requires room { length symbols.old.bitmaps.items ≤ input.now.header.now.num_new_symbols }
     requires few { symbols.old.empty < 4294967295 }
     ensures value { let d = input_view input.now in
@@ -178,8 +172,6 @@ pub fn read_new_symbols<R: ReadClasses<A>, A: Allocator + Clone, L: Ledger>(
     readings: &mut R,
     work: &mut Work<L>,
 ) -> Result<Vec<Bitmap<A>, A>>
-    requires symbols { length input.now.symbols.now ≤ 2097152 }
-    requires fresh { input.now.header.now.num_new_symbols ≤ 1048576 }
     ensures value { let state = R.state readings.old in
         let meant = new_symbols R.readings (input_view input.now) state in
         Gives (λ symbols. (symbols.items, R.state readings.new)) result meant }

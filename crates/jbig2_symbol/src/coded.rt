@@ -46,8 +46,6 @@ impl<'a, A: Allocator + Clone> CodedSymbols<'a, A> {
         input: &SymbolInput<'a, A>,
         contexts: RetainedContexts<A>,
     ) -> Result<CodedSymbols<'a, A>>
-        requires symbols { length input.now.symbols.now ≤ 2097152 }
-        requires fresh { input.now.header.now.num_new_symbols ≤ 1048576 }
         ensures { let meant = Ok (coder_start (input_view input.now) (contexts_view contexts)) in
             Gives (λ readings. coded_view readings) result meant }
     {

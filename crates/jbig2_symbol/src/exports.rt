@@ -232,7 +232,6 @@ pub fn read_exports<R: ReadClasses<A>, A: Allocator + Clone, L: Ledger>(
     readings: &mut R,
     work: &mut Work<L>,
 ) -> Result<Vec<Bitmap<A>, A>>
-    requires { length input.now.symbols.now ≤ 2097152 }
     ensures value { let d = input_view input.now in
         let all = all_symbols input.now.symbols.now new.items in
         let meant = exports R.readings d all (R.state readings.old) in

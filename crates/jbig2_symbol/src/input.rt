@@ -1,4 +1,5 @@
 //! What is needed to decode a symbol dictionary (T.88, 6.5).
+ghost use Rattle.std.specs.Prelude.{◌≤◌, length};
 
 use crate::header::SymbolDictionaryHeader;
 use jbig2_base::bitmap::Bitmap;
@@ -25,4 +26,6 @@ pub struct SymbolInput<'a, A: Allocator> {
     /// The codes of the ids in symbols that are aggregated from others.
     pub ids: &'a HuffmanTable<A>,
     pub standard: &'a StandardHuffmanTables<A>,
+    ghost few: { length symbols.now ≤ 2097152 },
+    ghost fresh: { header.now.num_new_symbols ≤ 1048576 },
 }

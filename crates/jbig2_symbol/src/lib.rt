@@ -51,8 +51,6 @@ fn decode_by<R: ReadClasses<A>, A: Allocator + Clone, L: Ledger>(
     readings: &mut R,
     work: &mut Work<L>,
 ) -> Result<Vec<Bitmap<A>, A>>
-    requires few { length input.now.symbols.now ≤ 2097152 }
-    requires fresh { input.now.header.now.num_new_symbols ≤ 1048576 }
     ensures value { let d = input_view input.now in
         let meant = symbols_exported R.readings d (R.state readings.old) in
         Gives (λ symbols. (symbols.items, R.state readings.new)) result meant }
@@ -91,8 +89,6 @@ fn decode_with<A: Allocator + Clone, L: Ledger>(
     contexts: RetainedContexts<A>,
     work: &mut Work<L>,
 ) -> Result<SymbolDictionary<A>>
-    requires few { length input.now.symbols.now ≤ 2097152 }
-    requires fresh { input.now.header.now.num_new_symbols ≤ 1048576 }
     ensures value { let meant = dictionary_from (input_view input.now) (contexts_view contexts) in
         Gives (λ d. dictionary_view d) result meant }
     ensures paid { let most = input.now.header.now.num_new_symbols in

@@ -1,5 +1,6 @@
 //! Symbol dictionaries that are coded by prefix codes (T.88, 6.5).
 ghost use Rattle.std.specs.Prelude.{◌≡◌, ◌+◌, ◌*◌, ◌<◌, ◌≤◌, length, OnOk};
+ghost use Rattle.jbig2_base.specs.Grid.{max_side};
 ghost use Rattle.jbig2_base.specs.Results.{Returns, Gives};
 ghost use Rattle.jbig2_base.specs.Bits.{IsAligned, Place};
 ghost use Rattle.jbig2_text.specs.TextCoding.{by_prefix_codes};
@@ -25,7 +26,7 @@ use crate::dictionary::RetainedContexts;
 use crate::input::SymbolInput;
 use crate::readings::{ReadClasses, ReadSymbols};
 use crate::widths::read_widths;
-use jbig2_base::bitmap::Bitmap;
+use jbig2_base::bitmap::{Bitmap, MAX_DIMENSION};
 use jbig2_base::bitmap::steps::Work;
 use jbig2_base::error::{DecodeError, HuffmanError, OverflowError, ParseError, Result};
 use jbig2_base::field::bits_field;
@@ -34,9 +35,6 @@ use jbig2_coder::huffman_table::HuffmanTable;
 use jbig2_text::{PrefixedReadings, Refining, TextParams, TextRegionHuffmanTables};
 use std::alloc::Allocator;
 use std::sync::ledger::Ledger;
-
-/// The most rows of a symbol.
-const MOST_ROWS: u32 = 65535;
 
 /// Reads a symbol by prefix codes. A single instance has an id of this many bits.
 fn read_by_instances<A: Allocator + Clone, L: Ledger>(
@@ -101,8 +99,6 @@ impl<'a, A: Allocator + Clone> PrefixedSymbols<'a, A> {
         size: SymbolSize,
         work: &mut Work<L>,
     ) -> Result<Bitmap<A>>
-        requires symbols { length input.now.symbols.now ≤ 2097152 }
-        requires fresh { input.now.header.now.num_new_symbols ≤ 1048576 }
         requires strips { params.now.flags.log_strip_size ≤ 3 }
         ensures value { let d = input_view input.now in
             let p = texts.params_view params.now in
@@ -136,8 +132,6 @@ impl<'a, A: Allocator + Clone> PrefixedSymbols<'a, A> {
         size: SymbolSize,
         work: &mut Work<L>,
     ) -> Result<Bitmap<A>>
-        requires symbols { length input.now.symbols.now ≤ 2097152 }
-        requires fresh { input.now.header.now.num_new_symbols ≤ 1048576 }
         ensures value { let d = input_view input.now in
             let state = prefixed_view self.old in
             let meant = prefixed_aggregate d new.now size.width size.height state in
@@ -211,7 +205,7 @@ impl<'a, A: Allocator + Clone> PrefixedSymbols<'a, A> {
         height: u32,
         work: &mut Work<L>,
     ) -> Result<()>
-        requires { 65535 < height }
+        requires { max_side < height }
         ensures value { let d = input_view input.now in
             let meant = tall_class d width height (prefixed_view self.old) in
             Gives (λ _. tt) result meant }
@@ -260,7 +254,7 @@ impl<'a, A: Allocator + Clone> PrefixedSymbols<'a, A> {
         let widths = read_widths(alloc.clone()?, input, room, self, work)?;
         check_class(widths.each.len(), empty)?;
         let total = widths.total;
-        if height > MOST_ROWS && !widths.each.is_empty() {
+        if height > MAX_DIMENSION && !widths.each.is_empty() {
             return self.refuse_tall_class(alloc, input, total, height, work);
         }
         let collective = self.read_collective(alloc.clone()?, input, total, height, work)?;

@@ -43,8 +43,6 @@ pub trait ReadSymbols<A: Allocator + Clone> {
         size: SymbolSize,
         work: &mut Work<L>,
     ) -> Result<Bitmap<A>>
-        requires symbols { length input.now.symbols.now ≤ 2097152 }
-        requires fresh { input.now.header.now.num_new_symbols ≤ 1048576 }
         ensures value { let d = input_view input.now in
             let before = state self.old in
             let meant = readings.symbol_bitmap d new.now size.width size.height before in
@@ -83,8 +81,6 @@ pub trait ReadClasses<A: Allocator + Clone> {
         bitmaps: &mut Vec<Bitmap<A>, A>,
         work: &mut Work<L>,
     ) -> Result<()>
-        requires symbols { length input.now.symbols.now ≤ 2097152 }
-        requires fresh { input.now.header.now.num_new_symbols ≤ 1048576 }
         requires room { length bitmaps.old.items ≤ input.now.header.now.num_new_symbols }
         ensures value { let d = input_view input.now in
             let before = bitmaps.old.items in

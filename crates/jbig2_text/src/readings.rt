@@ -1,7 +1,7 @@
 //! Reads the numbers of a text region, in either coding (T.88, 6.4.6 to 6.4.11).
 ghost use Rattle.std.specs.Prelude.{◌≡◌, ◌*◌, ◌≤◌, false};
 ghost use Rattle.jbig2_base.specs.Results.{Returns};
-ghost use Rattle.jbig2_base.specs.Grid.{blank};
+ghost use Rattle.jbig2_base.specs.Grid.{blank, max_side};
 ghost use Rattle.jbig2_region.specs.inner.RefinementViews.{reference_view};
 ghost use Rattle.jbig2_steps.specs.Work.{PaidBut, price_of_bitmap};
 ghost use Rattle.jbig2_text.specs.Paying.{number_steps};
@@ -92,8 +92,8 @@ pub trait ReadInstances {
         bitmap: &mut Bitmap<A>,
         work: &mut Work<L>,
     ) -> Result<()>
-        requires columns { bitmap.old.width ≤ 65535 }
-        requires rows { bitmap.old.height ≤ 65535 }
+        requires columns { bitmap.old.width ≤ max_side }
+        requires rows { bitmap.old.height ≤ max_side }
         requires white { bitmap.old ≡ blank bitmap.old.width bitmap.old.height false }
         ensures value { let width = bitmap.old.width in
             let height = bitmap.old.height in

@@ -1,7 +1,7 @@
 //! Symbols that are refined from others while the instances are read (T.88, 6.4.11).
 ghost use Rattle.std.specs.Prelude.{◌≡◌, ◌+◌, ◌*◌, ◌≤◌, ◌⊎◌, false, IfErr, IfOk};
 ghost use Rattle.jbig2_base.specs.Results.{Returns, Gives};
-ghost use Rattle.jbig2_base.specs.Grid.{blank, blank_or_overflow};
+ghost use Rattle.jbig2_base.specs.Grid.{blank, blank_or_overflow, max_side};
 ghost use Rattle.jbig2_base.specs.declared.error.DecodeError.TheVariants.{OutOfMemory};
 ghost use Rattle.jbig2_steps.specs.Work.{Paid, PaidBut, price_of_bitmap, worth};
 ghost use Rattle.jbig2_text.specs.Paying.{number_steps};
@@ -12,15 +12,12 @@ use crate::numbers;
 use crate::readings::ReadInstances;
 use crate::refining::Refining;
 use crate::symbol_list::SymbolList;
-use jbig2_base::bitmap::Bitmap;
+use jbig2_base::bitmap::{Bitmap, MAX_DIMENSION};
 use jbig2_base::bitmap::steps::Work;
 use jbig2_base::error::{OverflowError, Result, SymbolError};
 use jbig2_region::generic_refinement::ReferenceBitmap;
 use std::alloc::Allocator;
 use std::sync::ledger::Ledger;
-
-/// The longest side of a bitmap.
-const MAX_DIMENSION: u32 = 65535;
 
 /// How much wider and higher a refined symbol is (RDW, RDH), and how far it is moved to the right
 /// and down (RDX, RDY).
@@ -101,8 +98,8 @@ pub fn new_symbol<A: Allocator, L: Ledger>(
     ensures value { Gives (λ b. b) result (blank_or_overflow width height false) }
     ensures width { IfOk result (λ b. b.width ≡ width) }
     ensures height { IfOk result (λ b. b.height ≡ height) }
-    ensures columns { IfOk result (λ b. b.width ≤ 65535) }
-    ensures rows { IfOk result (λ b. b.height ≤ 65535) }
+    ensures columns { IfOk result (λ b. b.width ≤ max_side) }
+    ensures rows { IfOk result (λ b. b.height ≤ max_side) }
     ensures white { IfOk result (λ b. b ≡ blank b.width b.height false) }
     ensures paid { Paid work.old work.new }
     ensures taken { IfOk result

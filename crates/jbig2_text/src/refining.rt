@@ -1,7 +1,7 @@
 //! Refinements of symbols, with contexts that are lent (T.88, 6.4.11).
 ghost use Rattle.std.specs.Prelude.{◌≡◌, ◌*◌, ◌≤◌, ◌^◌, length, false, Ok};
 ghost use Rattle.jbig2_base.specs.Results.{Gives};
-ghost use Rattle.jbig2_base.specs.Grid.{blank};
+ghost use Rattle.jbig2_base.specs.Grid.{blank, max_side};
 ghost use Rattle.jbig2_region.specs.RefinementTemplates.{refinement_bits};
 ghost use Rattle.jbig2_region.specs.inner.PixelArrays.{two_pixels, filled};
 ghost use Rattle.jbig2_region.specs.inner.RefinementViews.{reference_view};
@@ -124,8 +124,8 @@ impl<A: Allocator> Refining<A> {
         decoder: &mut ArithmeticDecoder<'_>,
         work: &mut Work<L>,
     )
-        requires columns { bitmap.old.width ≤ 65535 }
-        requires rows { bitmap.old.height ≤ 65535 }
+        requires columns { bitmap.old.width ≤ max_side }
+        requires rows { bitmap.old.height ≤ max_side }
         requires white { bitmap.old ≡ blank bitmap.old.width bitmap.old.height false }
         ensures value { let from = reference_view reference.now in
             refined_with self.old from bitmap.old.width bitmap.old.height decoder.old
@@ -167,8 +167,8 @@ fn refine_by<A: Allocator, L: Ledger>(
     work: &mut Work<L>,
 )
     requires size { length contexts.old ≡ 2 ^ refinement_bits template }
-    requires columns { bitmap.old.width ≤ 65535 }
-    requires rows { bitmap.old.height ≤ 65535 }
+    requires columns { bitmap.old.width ≤ max_side }
+    requires rows { bitmap.old.height ≤ max_side }
     requires white { bitmap.old ≡ blank bitmap.old.width bitmap.old.height false }
     ensures grid { let f = refining_by template (some_pixels pixels) contexts.old in
         let from = reference_view reference.now in

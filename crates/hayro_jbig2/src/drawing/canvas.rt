@@ -1,5 +1,6 @@
 //! The page while its segments are drawn.
 ghost use Rattle.std.specs.Prelude.{◌≡◌, ◌*◌, ◌<◌, ◌≤◌, [], true, false, Ok};
+ghost use Rattle.jbig2_base.specs.Grid.{max_side};
 ghost use Rattle.jbig2_base.specs.Results.{Gives};
 ghost use Rattle.jbig2_region.specs.inner.RegionViews.{region_view};
 ghost use Rattle.hayro_jbig2.specs.Image.{packed_of};
@@ -88,8 +89,8 @@ impl<A: Allocator> Canvas<A> {
 
     /// Begins a page. Nothing is left of an earlier one.
     pub(crate) fn begin(&mut self, initial_page: &InitialPage) -> Result<()>
-        requires width { initial_page.now.width ≤ 65535 }
-        requires height { initial_page.now.height ≤ 65535 }
+        requires width { initial_page.now.width ≤ max_side }
+        requires height { initial_page.now.height ≤ max_side }
         ensures { Gives (λ _. self.new) result (Ok (blank_page initial_page.now)) }
     {
         self.bitmap.reinitialize(

@@ -115,13 +115,6 @@ impl<A: Allocator> DecoderContext<A> {
         work_within(self.work_limit, blank)
     }
 
-    /// What the last page counted.
-    pub(crate) fn counted(self) -> Counted
-        ensures { result ≡ self.steps }
-    {
-        self.counted
-    }
-
     /// Records what a page left of its limit, and what it counted.
     pub(crate) fn end<L: Ledger>(&mut self, work: &Work<L>)
         ensures { self.new ≡ after_page work.now self.old }

@@ -1,6 +1,6 @@
 //! How many steps were counted, for clauses alone: a number without a byte, whose type names no ledger. So a call that
 //! makes a counter for itself can say what it counted.
-ghost use Rattle.std.specs.Prelude.{◌≡◌, ℕ};
+ghost use Rattle.std.specs.Prelude.{◌≡◌, ◌+◌, ℕ};
 ghost use Rattle.jbig2_steps.specs.Work.{counted};
 ghost use base.Fml.{ftrue};
 
@@ -20,6 +20,17 @@ impl Measured for () {
 
 impl<L: Ledger> Measured for Steps<L> {
     ghost measure = { λ steps. counted steps };
+}
+
+/// A number of steps, and steps that are counted after it.
+#[derive(Drop)]
+struct Sum<'s, L: Ledger> {
+    before: &'s Counted,
+    steps: &'s Steps<L>,
+}
+
+impl<'s, L: Ledger> Measured for Sum<'s, L> {
+    ghost measure = { λ sum. sum.before.now + counted sum.steps.now };
 }
 
 /// A number. Nothing else is in it.
@@ -50,7 +61,7 @@ impl Drop for Tally {
     }
 }
 
-/// How many steps a counter had counted. Its value is that number.
+/// How many steps were counted. Its value is that number.
 #[derive(Drop)]
 pub(crate) struct Counted {
     tally: Snapshot<Tally>,
@@ -79,5 +90,17 @@ impl Counted {
         Counted {
             tally: Snapshot::of(&Tally::of(steps)),
         }
+    }
+
+    /// Adds these steps.
+    pub(crate) fn add<L: Ledger>(&mut self, steps: &Steps<L>)
+        ensures { self.new ≡ self.old + counted steps.now }
+    {
+        let sum = Sum {
+            before: self,
+            steps,
+        };
+        let tally = Snapshot::of(&Tally::of(&sum));
+        *self = Counted { tally };
     }
 }

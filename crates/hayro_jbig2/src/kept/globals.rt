@@ -1,18 +1,18 @@
 //! Globals: segments that several pages share, as in PDF.
-ghost use Rattle.std.specs.Prelude.{◌≡◌, ◌<◌, ◌⊎◌, Ok, IfErr};
+ghost use Rattle.std.specs.Prelude.{◌≡◌, ◌+◌, ◌*◌, ◌<◌, ◌≤◌, ◌⊎◌, Ok, IfErr, IfOk, length};
+ghost use Rattle.jbig2_base.specs.Sequential.{sorted_segments};
 ghost use Rattle.jbig2_base.specs.Results.{Gives};
 ghost use Rattle.jbig2_base.specs.Reading.{is_strict, reading_of};
 ghost use Rattle.jbig2_base.specs.declared.error.DecodeError.TheVariants.{OutOfMemory};
 ghost use Rattle.jbig2_base.specs.declared.reading.Reading.TheVariants.{Salvage};
 ghost use Rattle.jbig2_base.specs.inner.SegmentViews.{segment_view, segment_views};
-ghost use Rattle.hayro_jbig2.specs.Context.{IsWithin};
+ghost use Rattle.hayro_jbig2.specs.WorkLimit.{Takes};
 ghost use Rattle.hayro_jbig2.specs.Names.{globals_at, shared_from, kept_by, no_names, nothing_shared, or_shared_without};
 ghost use Rattle.hayro_jbig2.specs.Returned.{IsReturned};
 ghost use Rattle.hayro_jbig2.specs.inner.KeptViews.{found};
-ghost use Rattle.jbig2_steps.specs.Work.{IsWithinLimit, Paid};
+ghost use Rattle.jbig2_steps.specs.Work.{IsWithinLimit, Paid, worth};
 
-use crate::drawing::context::work_within;
-use crate::drawing::counted::Counted;
+use crate::drawing::work_limit::WorkLimit;
 use crate::drawing::dictionaries::{extension, keep_patterns, keep_symbols, keep_table};
 use crate::drawing::passed_over::PassedOver;
 use crate::drawing::pay_segment;
@@ -93,78 +93,74 @@ impl<A: Allocator + Clone> Globals<A> {
             (globals_at (reading_of settings.now.strict) bytes.now) }
         ensures errors { IfErr result IsReturned }
     {
-        Globals::new_within(alloc, bytes, settings, None)
+        Globals::new_within(alloc, bytes, settings, &mut WorkLimit::new(None))
     }
 
-    /// The globals as `new` has them, for at most `work` units of work. Where more are needed, the error is
-    /// `DecodeError::OutOfMemory`, as when memory runs out. `None` means no limit.
+    /// The globals as `new` has them, within a limit of work.
     pub fn new_within(
         alloc: A,
         bytes: &[u8],
         settings: &DecodeSettings,
-        work: Option<u64>,
+        work: &mut WorkLimit,
     ) -> Result<Globals<A>>
         ensures value { Gives (λ globals. globals) result
             (globals_at (reading_of settings.now.strict) bytes.now) }
         ensures errors { IfErr result IsReturned }
+        ensures limit { Takes 0 work.old work.new }
+        ensures taken { IfOk (sorted_segments (reading_of settings.now.strict) bytes.now)
+            (λ segments. IfOk result (λ _. Takes (1024 * length segments) work.old work.new)) }
     {
-        let counted = &mut Counted::nothing();
-        Globals::read(alloc, bytes, settings.reading(), work, counted)
+        Globals::read(alloc, bytes, settings.reading(), work)
     }
 
     /// The globals as lenient reading has them, but damage leaves out as little as possible. The list of their segments
     /// ends at the first one that is refused, and a segment that fails is passed over. They are refused only where
     /// memory or work runs out.
-    pub fn salvaged(alloc: A, bytes: &[u8], work: Option<u64>) -> Result<Globals<A>>
+    pub fn salvaged(alloc: A, bytes: &[u8], work: &mut WorkLimit) -> Result<Globals<A>>
         ensures value { Gives (λ globals. globals) result (globals_at Salvage bytes.now) }
         ensures memory { IfErr result (λ e. e ≡ OutOfMemory) }
+        ensures limit { Takes 0 work.old work.new }
+        ensures taken { IfOk (sorted_segments Salvage bytes.now)
+            (λ segments. IfOk result (λ _. Takes (1024 * length segments) work.old work.new)) }
     {
-        let counted = &mut Counted::nothing();
-        Globals::read(alloc, bytes, Reading::Salvage, work, counted)
+        Globals::read(alloc, bytes, Reading::Salvage, work)
     }
 
-    /// The globals in `bytes`. `counted` is then how many steps were counted, after an error too.
+    /// The globals in `bytes`.
     #[tactic(auto, unfolding(crate::specs::Names::globals_at))]
     fn read(
         alloc: A,
         bytes: &[u8],
         reading: Reading,
-        work: Option<u64>,
-        counted: &mut Counted,
+        work: &mut WorkLimit,
     ) -> Result<Globals<A>>
         ensures value { Gives (λ globals. globals) result (globals_at reading bytes.now) }
         ensures errors { IfErr result IsReturned }
-        ensures limit { IsWithin work counted.new }
+        ensures limit { Takes 0 work.old work.new }
+        ensures taken { IfOk (sorted_segments reading bytes.now)
+            (λ segments. IfOk result (λ _. Takes (1024 * length segments) work.old work.new)) }
     {
-        *counted = Counted::nothing();
         let fault = sequence_fault(alloc.clone()?, bytes, reading)?;
         let mut segments = parse_segments_sequential(alloc.clone()?, bytes, reading)?;
         sort_segments(&mut segments)?;
-        Globals::from_segments(alloc, reading, &segments, fault, work, counted)
+        Globals::from_segments(alloc, reading, &segments, fault, work)
     }
 
-    /// What these segments keep. `counted` is then how many steps were counted, after an error too.
+    /// What these segments keep.
     pub(crate) fn from_segments(
         alloc: A,
         reading: Reading,
         segments: &[Segment<'_, A>],
         fault: Option<DecodeError>,
-        work: Option<u64>,
-        counted: &mut Counted,
+        work: &mut WorkLimit,
     ) -> Result<Globals<A>>
         ensures value { Gives (λ globals. globals) result
             (shared_from reading (segment_views segments.now) (nothing_shared fault)) }
-        ensures limit { IsWithin work counted.new }
+        ensures limit { Takes 0 work.old work.new }
+        ensures taken { IfOk result
+            (λ _. Takes (1024 * length segments.now) work.old work.new) }
     {
-        decode_shared::<A, Brand>(
-            alloc,
-            reading,
-            segments,
-            fault,
-            work,
-            counted,
-            Blank::new(6),
-        )
+        decode_shared::<A, Brand>(alloc, reading, segments, fault, work, Blank::new(6))
     }
 
     /// Keeps what one more segment holds. Salvage passes over one that fails.
@@ -195,15 +191,13 @@ impl<A: Allocator + Clone> Globals<A> {
     }
 }
 
-/// What these segments keep, with a counter that begins with this limit. `counted` is then what it has counted, after an
-/// error too.
+/// What these segments keep, with a counter that may take what is left of the limit.
 fn decode_shared<A: Allocator + Clone, L: Ledger>(
     alloc: A,
     reading: Reading,
     segments: &[Segment<'_, A>],
     fault: Option<DecodeError>,
-    work: Option<u64>,
-    counted: &mut Counted,
+    limit: &mut WorkLimit,
     blank: Blank,
 ) -> Result<Globals<A>>
     requires name { blank.name ≡ L.name }
@@ -211,11 +205,13 @@ fn decode_shared<A: Allocator + Clone, L: Ledger>(
     requires enough { blank.parts ≡ 6 }
     ensures value { Gives (λ globals. globals) result
         (shared_from reading (segment_views segments.now) (nothing_shared fault)) }
-    ensures limit { IsWithin work counted.new }
+    ensures limit { Takes 0 limit.old limit.new }
+    ensures taken { IfOk result
+        (λ _. Takes (1024 * length segments.now) limit.old limit.new) }
 {
-    let mut counter = work_within::<L>(work, blank);
-    let shared = shared_within(alloc, reading, segments, fault, &mut counter);
-    *counted = Counted::of(&counter.steps);
+    let mut work = limit.counter::<L>(blank);
+    let shared = shared_within(alloc, reading, segments, fault, &mut work);
+    limit.end(&work);
     shared
 }
 
@@ -232,6 +228,8 @@ fn shared_within<A: Allocator + Clone, L: Ledger>(
         (shared_from reading (segment_views segments.now) (nothing_shared fault)) }
     ensures paid { Paid work.old work.new }
     ensures limit { IsWithinLimit work.old work.new }
+    ensures taken { IfOk result
+        (λ _. worth work.new + 32 * (1024 * length segments.now) ≤ worth work.old) }
 {
     let mut globals = Globals::empty(alloc.clone()?, fault)?;
     let mut workspace = Workspace::new(alloc)?;

@@ -1,9 +1,11 @@
 //! How a page begins (T.88, 7.4.8), in each reading.
 ghost use Rattle.std.specs.Prelude.{◌≡◌, ◌≤◌, IfOk, min};
+ghost use Rattle.jbig2_base.specs.Grid.{max_side};
 ghost use Rattle.jbig2_base.specs.Results.{Returns};
 ghost use Rattle.jbig2_base.specs.inner.SegmentViews.{segment_view, segment_views};
 ghost use Rattle.hayro_jbig2.specs.Page.{beginning_of, end_of, is_immediate, region_height, region_type, regions_height, known_height};
 
+use jbig2_base::bitmap::MAX_DIMENSION;
 use jbig2_base::error::Result;
 use jbig2_base::page_info::{InitialPage, stripes_height};
 use jbig2_base::reader::Reader;
@@ -11,9 +13,6 @@ use jbig2_base::reading::Reading;
 use jbig2_base::segment::{Segment, SegmentType};
 use jbig2_region::region_info::{RegionSegmentInfo, parse_region_segment_info};
 use std::alloc::Allocator;
-
-/// The largest height of a page or a region.
-const MAX_HEIGHT: u32 = 65535;
 
 fn is_immediate_region(kind: SegmentType) -> bool
     ensures { result ≡ is_immediate (region_type kind) }
@@ -33,13 +32,13 @@ fn is_immediate_region(kind: SegmentType) -> bool
 
 /// The row below the lowest row of a region, at most 65535. The region's y is read as a signed number (T.88, 7.4.1).
 fn end_of(info: &RegionSegmentInfo) -> u32
-    ensures { result ≡ min 65535 (end_of info.now) }
+    ensures { result ≡ min max_side (end_of info.now) }
 {
     let above = info.y_location.wrapping_neg();
     if info.y_location >= 0x8000_0000 {
-        return info.height.saturating_sub(above).min(MAX_HEIGHT);
+        return info.height.saturating_sub(above).min(MAX_DIMENSION);
     }
-    info.y_location.saturating_add(info.height).min(MAX_HEIGHT)
+    info.y_location.saturating_add(info.height).min(MAX_DIMENSION)
 }
 
 /// How high a page is that ends with this region. It is 0 for all but an immediate region that can be read and drawn.
@@ -53,7 +52,7 @@ fn region_height<A: Allocator>(segment: &Segment<'_, A>) -> u32
     let Ok(info) = parse_region_segment_info(&mut reader) else {
         return 0;
     };
-    if info.width > MAX_HEIGHT || info.height > MAX_HEIGHT {
+    if info.width > MAX_DIMENSION || info.height > MAX_DIMENSION {
         return 0;
     }
     end_of(&info)
@@ -90,7 +89,7 @@ pub(crate) fn beginning_of<A: Allocator>(
     ensures value { Returns (λ initial_page. initial_page) result
         (beginning_of reading (segment_views segments.now)) }
     ensures fits { IfOk result
-        (λ initial_page. (initial_page.width ≤ 65535) × (initial_page.height ≤ 65535)) }
+        (λ initial_page. (initial_page.width ≤ max_side) × (initial_page.height ≤ max_side)) }
 {
     InitialPage::with_height(segments, known_height(reading, segments))
 }

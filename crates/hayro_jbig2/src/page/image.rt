@@ -1,5 +1,6 @@
 //! A page as an image with a byte for each pixel.
 ghost use Rattle.std.specs.Prelude.{◌≡◌, ◌+◌, ◌-◌, ◌*◌, ◌<◌, ◌≤◌, length};
+ghost use Rattle.jbig2_base.specs.Grid.{max_side};
 ghost use Rattle.jbig2_base.specs.Bits.{bit};
 ghost use Rattle.hayro_jbig2.specs.Image.{image_of, shade};
 ghost use Rattle.hayro_jbig2.specs.inner.BufferBytes.{Fills};
@@ -53,8 +54,8 @@ pub(crate) fn write_image<A: Allocator, L: Ledger>(
     buf: &mut [u8],
     steps: &mut Steps<L>,
 )
-    requires width { initial_page.now.width ≤ 65535 }
-    requires height { initial_page.now.height ≤ 65535 }
+    requires width { initial_page.now.width ≤ max_side }
+    requires height { initial_page.now.height ≤ max_side }
     requires sized { length buf.old ≡ initial_page.now.width * initial_page.now.height }
     ensures value { buf.new ≡ image_of initial_page.now.width initial_page.now.height bitmap.now }
     ensures paid { let page = initial_page.now in

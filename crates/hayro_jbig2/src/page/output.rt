@@ -10,12 +10,13 @@ ghost use Rattle.hayro_jbig2.specs.Context.{IsLeft, IsWithin};
 ghost use Rattle.hayro_jbig2.specs.Image.{image_of_page, packed_of_page, packed_size};
 ghost use Rattle.hayro_jbig2.specs.Page.{segments_drawn, drawing_of_page, grid_of_page, draws_over, blank_page, UntouchedIsBlank};
 ghost use Rattle.hayro_jbig2.specs.Returned.{IsReturned};
+ghost use Rattle.hayro_jbig2.specs.WorkLimit.{Takes};
 ghost use Rattle.jbig2_steps.specs.Work.{IsWithinLimit, Paid, price_of_bitmap, worth};
 
 use crate::drawing::Drawer;
 use crate::drawing::canvas::Canvas;
-use crate::drawing::context::{DecoderContext, work_within};
-use crate::drawing::counted::Counted;
+use crate::drawing::context::DecoderContext;
+use crate::drawing::work_limit::WorkLimit;
 use crate::kept::names::KeptNames;
 use crate::page::Page;
 use crate::page::calls::push_bitmap;
@@ -53,32 +54,27 @@ impl<'a, A: Allocator + Clone> Page<'a, A> {
         ensures unchanged { OnErr result (buf.new ≡ buf.old) }
         ensures errors { IfErr result IsReturned }
     {
-        self.read_image_limited(buf, None, &mut Counted::nothing())
+        self.read_image_within(buf, &mut WorkLimit::new(None))
     }
 
-    /// Writes the page as `read_image` does, for at most `work` units; `None` means no limit. `counted` is then what was
-    /// counted, after an error too.
-    pub(crate) fn read_image_limited(
-        &self,
-        buf: &mut [u8],
-        work: Option<u64>,
-        counted: &mut Counted,
-    ) -> Result<()>
+    /// Writes the page as `read_image` does, within a limit of work.
+    pub fn read_image_within(&self, buf: &mut [u8], work: &mut WorkLimit) -> Result<()>
         requires { length buf.old ≡ self.now.initial_page.width * self.now.initial_page.height }
         ensures value { Gives (λ _. buf.new) result (image_of_page self.now) }
         ensures unchanged { OnErr result (buf.new ≡ buf.old) }
         ensures errors { IfErr result IsReturned }
-        ensures limit { IsWithin work counted.new }
+        ensures limit { Takes 0 work.old work.new }
+        ensures taken { let page = self.now.initial_page in
+            IfOk result (λ _. Takes (price_of_bitmap page.width page.height) work.old work.new) }
     {
         let _globals = &self.globals;
-        self.read_counted::<Brand>(buf, work, counted, Blank::new(6))
+        self.read_counted::<Brand>(buf, work, Blank::new(6))
     }
 
     fn read_counted<L: Ledger>(
         &self,
         buf: &mut [u8],
-        limit: Option<u64>,
-        counted: &mut Counted,
+        limit: &mut WorkLimit,
         blank: Blank,
     ) -> Result<()>
         requires sized { length buf.old
@@ -88,11 +84,13 @@ impl<'a, A: Allocator + Clone> Page<'a, A> {
         requires enough { blank.parts ≡ 6 }
         ensures value { Gives (λ _. buf.new) result (image_of_page self.now) }
         ensures unchanged { OnErr result (buf.new ≡ buf.old) }
-        ensures limit { IsWithin limit counted.new }
+        ensures limit { Takes 0 limit.old limit.new }
+        ensures taken { let page = self.now.initial_page in
+            IfOk result (λ _. Takes (price_of_bitmap page.width page.height) limit.old limit.new) }
     {
-        let mut work = work_within::<L>(limit, blank);
+        let mut work = limit.counter::<L>(blank);
         let read = self.read_within(buf, &mut work);
-        *counted = Counted::of(&work.steps);
+        limit.end(&work);
         read
     }
 
@@ -107,6 +105,9 @@ impl<'a, A: Allocator + Clone> Page<'a, A> {
         ensures errors { IfErr result IsReturned }
         ensures limit { IsWithinLimit work.old work.new }
         ensures paid { Paid work.old work.new }
+        ensures taken { let page = self.now.initial_page in
+            let price = price_of_bitmap page.width page.height in
+            IfOk result (λ _. worth work.new + 32 * price ≤ worth work.old) }
     {
         let _globals = &self.globals;
         let canvas = self.drawn(work)?;
@@ -126,43 +127,63 @@ impl<'a, A: Allocator + Clone> Page<'a, A> {
         ensures unchanged { OnErr result (buf.new ≡ buf.old) }
         ensures errors { IfErr result IsReturned }
     {
-        self.read_packed_limited(buf, None, &mut Counted::nothing())
+        self.read_packed_within(buf, &mut WorkLimit::new(None))
     }
 
-    /// Writes the page as `read_packed` does, for at most `work` units; `None` means no limit. `counted` is then what was
-    /// counted, after an error too.
-    pub(crate) fn read_packed_limited(
-        &self,
-        buf: &mut [u8],
-        work: Option<u64>,
-        counted: &mut Counted,
-    ) -> Result<()>
+    /// Writes the page as `read_packed` does, within a limit of work.
+    pub fn read_packed_within(&self, buf: &mut [u8], work: &mut WorkLimit) -> Result<()>
         requires { length buf.old ≡ packed_size self.now.initial_page.width
             self.now.initial_page.height }
         ensures value { Gives (λ _. buf.new) result (packed_of_page self.now) }
         ensures unchanged { OnErr result (buf.new ≡ buf.old) }
         ensures errors { IfErr result IsReturned }
-        ensures limit { IsWithin work counted.new }
+        ensures limit { Takes 0 work.old work.new }
+        ensures taken { let page = self.now.initial_page in
+            IfOk result (λ _. Takes (price_of_bitmap page.width page.height) work.old work.new) }
     {
-        *counted = Counted::nothing();
-        let mut context = DecoderContext::new(self.segments.as_vec().allocator().clone()?)?;
-        context.set_work_limit(work);
-        let read = self.read_packed_in(buf, &mut context);
-        *counted = context.counted();
+        let _globals = &self.globals;
+        self.read_packed_counted::<Brand>(buf, work, Blank::new(6))
+    }
+
+    fn read_packed_counted<L: Ledger>(
+        &self,
+        buf: &mut [u8],
+        limit: &mut WorkLimit,
+        blank: Blank,
+    ) -> Result<()>
+        requires sized { length buf.old ≡ packed_size self.now.initial_page.width
+            self.now.initial_page.height }
+        requires name { blank.name ≡ L.name }
+        requires parts { blank.parts ≡ L.parts }
+        requires enough { blank.parts ≡ 6 }
+        ensures value { Gives (λ _. buf.new) result (packed_of_page self.now) }
+        ensures unchanged { OnErr result (buf.new ≡ buf.old) }
+        ensures errors { IfErr result IsReturned }
+        ensures limit { Takes 0 limit.old limit.new }
+        ensures taken { let page = self.now.initial_page in
+            IfOk result (λ _. Takes (price_of_bitmap page.width page.height) limit.old limit.new) }
+    {
+        let mut work = limit.counter::<L>(blank);
+        let read = self.write_packed(buf, &mut work);
+        limit.end(&work);
         read
     }
 
-    /// Writes the page as `read_packed` does, in a fresh context, within its limit.
-    fn read_packed_in(&self, buf: &mut [u8], fresh: &mut DecoderContext<A>) -> Result<()>
+    /// Writes the page as `read_packed` does, with the caller's counter.
+    fn write_packed<L: Ledger>(&self, buf: &mut [u8], work: &mut Work<L>) -> Result<()>
         requires { length buf.old ≡ packed_size self.now.initial_page.width
             self.now.initial_page.height }
         ensures value { Gives (λ _. buf.new) result (packed_of_page self.now) }
         ensures unchanged { OnErr result (buf.new ≡ buf.old) }
         ensures errors { IfErr result IsReturned }
-        ensures limit { IsWithin fresh.old.work_limit fresh.new.steps }
+        ensures paid { Paid work.old work.new }
+        ensures taken { let page = self.now.initial_page in
+            let price = price_of_bitmap page.width page.height in
+            IfOk result (λ _. worth work.new + 32 * price ≤ worth work.old) }
     {
-        self.draw_in(fresh)?;
-        fresh.drawn().read_at(0, buf);
+        let mut context = DecoderContext::new(self.segments.as_vec().allocator().clone()?)?;
+        self.draw_within(&mut context, work)?;
+        context.drawn().read_at(0, buf);
         Ok(())
     }
 

@@ -1,5 +1,6 @@
 //! Refinements on a page (T.88, 7.4.7).
 ghost use Rattle.std.specs.Prelude.{◌≡◌, ◌≤◌, ◌*◌, IfOk};
+ghost use Rattle.jbig2_base.specs.Grid.{max_side};
 ghost use Rattle.jbig2_base.specs.Results.{Returns, Gives};
 ghost use Rattle.jbig2_base.specs.inner.SegmentViews.{segment_view};
 ghost use Rattle.jbig2_region.specs.inner.RegionViews.{region_view};
@@ -70,8 +71,8 @@ fn page_area<A: Allocator, B: Allocator, L: Ledger>(
     region_info: &RegionSegmentInfo,
     work: &mut Work<L>,
 ) -> Result<DecodedRegion<A>>
-    requires columns { region_info.now.width ≤ 65535 }
-    requires rows { region_info.now.height ≤ 65535 }
+    requires columns { region_info.now.width ≤ max_side }
+    requires rows { region_info.now.height ≤ max_side }
     ensures value { Gives (λ area. region_view area) result (near_area page.now region_info.now) }
     ensures paid { let info = region_info.now in
         PaidBut (32 * price_of_bitmap info.width info.height) work.old work.new }

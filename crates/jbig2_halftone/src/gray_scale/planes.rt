@@ -2,7 +2,7 @@
 ghost use Rattle.std.specs.Prelude.{◌≡◌, ◌+◌, ◌*◌, ◌^◌, ◌≤◌, false, length, IfOk, OnOk, OnErr};
 ghost use Rattle.jbig2_base.specs.Results.{Gives, Leaves};
 ghost use Rattle.jbig2_base.specs.Counts.{KeepsLanes};
-ghost use Rattle.jbig2_base.specs.Grid.{blank};
+ghost use Rattle.jbig2_base.specs.Grid.{blank, max_side};
 ghost use Rattle.jbig2_mmr.specs.Steps.{MovesWithin};
 ghost use Rattle.jbig2_region.specs.Raster.{fresh_contexts, no_pixels};
 ghost use Rattle.jbig2_region.specs.Templates.{context_bits};
@@ -50,8 +50,8 @@ fn decode_plane<M: Allocator, A: Allocator, L: Ledger>(
     contexts: &mut [ArithmeticDecoderContext],
     steps: &mut Steps<L>,
 )
-    requires columns { plane.old.width ≤ 65535 }
-    requires rows { plane.old.height ≤ 65535 }
+    requires columns { plane.old.width ≤ max_side }
+    requires rows { plane.old.height ≤ max_side }
     requires white { plane.old ≡ blank plane.old.width plane.old.height false }
     requires contexts { length contexts.old ≡ 2 ^ context_bits params.now.template }
     ensures holds { DecodesRegion (plane_coding (gray_view params.now)) plane.old decoder.old
@@ -123,8 +123,8 @@ fn read_mmr_plane<'a, M: Allocator, A: Allocator, L: Ledger>(
     params: &GrayScaleParams<'_, M>,
     steps: &mut Steps<L>,
 ) -> Result<(Bitmap<A>, &'a [u8])>
-    requires columns { params.now.width ≤ 65535 }
-    requires rows { params.now.height ≤ 65535 }
+    requires columns { params.now.width ≤ max_side }
+    requires rows { params.now.height ≤ max_side }
     ensures value { Gives (λ read. (read.0, read.1.now)) result
         (mmr_plane (gray_view params.now) bytes.now) }
     ensures work { IfOk result (λ read. CountsMmr (words_of_plane (gray_view params.now)) 1

@@ -1,5 +1,6 @@
 //! Headers of halftone regions (T.88, 7.4.5).
 ghost use Rattle.std.specs.Prelude.{◌≡◌, ◌≤◌, IfOk, OnErr, Bool};
+ghost use Rattle.jbig2_base.specs.Grid.{max_side};
 ghost use Rattle.jbig2_base.specs.Results.{Returns};
 ghost use Rattle.jbig2_base.specs.Bits.{IsAligned};
 ghost use Rattle.jbig2_base.specs.Fields.{signed_at};
@@ -8,15 +9,13 @@ ghost use Rattle.jbig2_halftone.specs.inner.HalftoneHeaderViews.{header_view};
 ghost use Rattle.jbig2_base.specs.Causes.{HasCause};
 ghost use Rattle.jbig2_halftone.specs.Causes.{BreaksHalftoneHeader};
 
+use jbig2_base::bitmap::MAX_DIMENSION;
 use jbig2_base::bitmap::operator::CombinationOperator;
 use jbig2_base::error::{DecodeError, OverflowError, Result};
 use jbig2_base::field::{byte_field, i32_field, u16_field, u32_field};
 use jbig2_base::reader::Reader;
 use jbig2_region::region_info::{RegionSegmentInfo, parse_region_segment_info};
 use jbig2_region::template::Template;
-
-/// The longest side of a grid, in cells.
-const MAX_DIMENSION: u32 = 65535;
 
 /// The flags of a halftone region (T.88, 7.4.5.1.1).
 #[derive(Clone, Copy, Debug)]
@@ -91,8 +90,8 @@ fn parse_grid(reader: &mut Reader<'_>) -> Result<HalftoneGridPositionAndSize>
     ensures value { Returns (λ grid. (grid, reader.new.bytes)) result
         (halftone_grid_at reader.old.bytes) }
     ensures aligned { IsAligned reader.new }
-    ensures columns { IfOk result (λ grid. grid.width ≤ 65535) }
-    ensures rows { IfOk result (λ grid. grid.height ≤ 65535) }
+    ensures columns { IfOk result (λ grid. grid.width ≤ max_side) }
+    ensures rows { IfOk result (λ grid. grid.height ≤ max_side) }
 {
     let width = u32_field(reader)?;
     let height = u32_field(reader)?;
@@ -122,8 +121,8 @@ pub fn parse<'a>(reader: &mut Reader<'a>, strict: bool) -> Result<HalftoneRegion
     ensures value { Returns (λ h. (header_view h, reader.new.bytes)) result
         (halftone_header_at strict reader.old.bytes) }
     ensures aligned { IsAligned reader.new }
-    ensures columns { IfOk result (λ h. h.grid_position_and_size.width ≤ 65535) }
-    ensures rows { IfOk result (λ h. h.grid_position_and_size.height ≤ 65535) }
+    ensures columns { IfOk result (λ h. h.grid_position_and_size.width ≤ max_side) }
+    ensures rows { IfOk result (λ h. h.grid_position_and_size.height ≤ max_side) }
     ensures stays { OnErr result (reader.new ≡ reader.old) }
     ensures causes { HasCause result (BreaksHalftoneHeader reader.old.bytes) }
 {

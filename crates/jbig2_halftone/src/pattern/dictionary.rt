@@ -2,6 +2,7 @@
 ghost use Rattle.std.specs.List.{All};
 ghost use Rattle.std.specs.Prelude.{◌≤◌, length};
 ghost use Rattle.jbig2_halftone.specs.PatternHeader.{HasSize};
+ghost use Rattle.jbig2_base.specs.Grid.{max_side};
 
 use jbig2_base::bitmap::Bitmap;
 use std::alloc::Allocator;
@@ -17,5 +18,5 @@ pub struct PatternDictionary<A: Allocator> {
     pub pattern_height: u32,
     ghost some: { 1 ≤ length patterns.items },
     ghost sized: { All (HasSize pattern_width pattern_height) patterns.items },
-    ghost few: { length patterns.items ≤ 65535 },
+    ghost few: { length patterns.items ≤ max_side },
 }

@@ -1,5 +1,6 @@
 //! Decodes rows of a template with adaptive pixels, which are read one by one.
 ghost use Rattle.std.specs.Prelude.{◌≡◌, ℕ, ◌+◌, ◌-◌, ◌*◌, ◌/◌, ◌%◌, ◌^◌, ◌<◌, ◌≤◌, false, length};
+ghost use Rattle.jbig2_base.specs.Grid.{max_side};
 ghost use Rattle.jbig2_base.specs.Counts.{KeepsLanes};
 ghost use Rattle.jbig2_region.specs.Generic.{context_at};
 ghost use Rattle.jbig2_region.specs.inner.Neighbours.{DecodesPixels, IsLeft, IsMixed, Shows, adaptive_count, mixed_count, mixed_pixels};
@@ -68,8 +69,8 @@ fn decode_pixels<A: Allocator, L: Ledger>(
     requires aligned { place.x % 8 ≡ 0 }
     requires columns { place.x + place.count ≤ bitmap.old.width }
     requires row { place.y < bitmap.old.height }
-    requires widths { bitmap.old.width ≤ 65535 }
-    requires heights { bitmap.old.height ≤ 65535 }
+    requires widths { bitmap.old.width ≤ max_side }
+    requires heights { bitmap.old.height ≤ max_side }
     requires left { IsLeft bitmap.old place.x place.y place.left }
     requires small { place.left < 16 }
     ensures holds { DecodesPixels (mixed_pixels neighbours adaptive.now) false
@@ -114,8 +115,8 @@ pub fn decode_row_by_pixels<A: Allocator, L: Ledger>(
     requires mixed { IsMixed neighbours adaptive.now }
     requires contexts { length contexts.old ≡ 2 ^ mixed_count neighbours adaptive.now }
     requires row { y < bitmap.old.height }
-    requires widths { bitmap.old.width ≤ 65535 }
-    requires heights { bitmap.old.height ≤ 65535 }
+    requires widths { bitmap.old.width ≤ max_side }
+    requires heights { bitmap.old.height ≤ max_side }
     ensures holds { DecodesPixels (mixed_pixels neighbours adaptive.now) false 0 y bitmap.old.width
         bitmap.old decoder.old contexts.old bitmap.new decoder.new contexts.new }
     ensures width { bitmap.new.width ≡ bitmap.old.width }

@@ -1,6 +1,7 @@
 //! Decodes rows with skipped pixels, in a template without adaptive pixels. Contexts come from
 //! windows on the rows above, and a window on the mask says which of 32 pixels are skipped.
 ghost use Rattle.std.specs.Prelude.{◌≡◌, ℕ, ◌+◌, ◌-◌, ◌*◌, ◌/◌, ◌%◌, ◌^◌, ◌<◌, ◌≤◌, false, length, Some, None, if◌then◌else◌};
+ghost use Rattle.jbig2_base.specs.Grid.{max_side};
 ghost use Rattle.jbig2_base.specs.Counts.{KeepsLanes};
 ghost use Rattle.jbig2_region.specs.Steps.{CountsSkipping, skipping_loads, skipping_words};
 ghost use Rattle.jbig2_region.specs.inner.RegionViews.{skip_of};
@@ -132,7 +133,7 @@ fn decode_row<M: Allocator, A: Allocator, L: Ledger>(
     requires near { IsNear neighbours }
     requires contexts { length contexts.old ≡ 2 ^ neighbour_count neighbours }
     requires row { y < bitmap.old.height }
-    requires widths { bitmap.old.width ≤ 65535 }
+    requires widths { bitmap.old.width ≤ max_side }
     ensures decoded { DecodesPixels
         (skipping_coding (nominal_pixels neighbours) (skip_of skip.entry)) false 0 y
         bitmap.old.width bitmap.old decoder.old contexts.old steps.old

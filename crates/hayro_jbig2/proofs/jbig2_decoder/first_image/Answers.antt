@@ -3,4 +3,4 @@ use Rattle.hayro_jbig2.proofs.jbig2_decoder.first_image.Goals as goal
 
 pub returns-clause-value : goal.returns-clause-value
 unfolding first_page
-returns-clause-value g c = rw (c.in_ok-file.ensures.value, c.in_ok-page.ensures.value) c.read_image_limited.ensures.value
+returns-clause-value g c = rw (c.in_ok-file.ensures.value, c.in_ok-page.ensures.value) c.read_image_within.ensures.value

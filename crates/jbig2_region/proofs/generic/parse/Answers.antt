@@ -28,9 +28,9 @@ returns-in_err-height-clause-causes c =
     let e = err_from_is_err_and c.from_residual-in_err-height.result c.from_residual-in_err-height.ensures.1 in
     rw (e.1, e.2) (generic_header_cause c.args.unknown_length c.args.strict c.args.reader.now.bytes (Err c.in_err-height.field-0.0) (search rules))
 
-pub returns-then-region_info-gt65535-clause-causes : goal.returns-then-region_info-gt65535-clause-causes
+pub returns-then-region_info-gt-MAX_DIMENSION-clause-causes : goal.returns-then-region_info-gt-MAX_DIMENSION-clause-causes
 unfolding generic_header_at
-returns-then-region_info-gt65535-clause-causes c = generic_header_cause c.args.unknown_length c.args.strict c.args.reader.now.bytes _ (search rules)
+returns-then-region_info-gt-MAX_DIMENSION-clause-causes c = generic_header_cause c.args.unknown_length c.args.strict c.args.reader.now.bytes _ (search rules)
 
 pub returns-clause-causes : goal.returns-clause-causes
 returns-clause-causes c = generic_header_cause c.args.unknown_length c.args.strict c.args.reader.now.bytes _ tt

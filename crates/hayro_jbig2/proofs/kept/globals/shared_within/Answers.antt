@@ -48,7 +48,7 @@ loop-segment-preserved g c =
       named =
           taken-segment c.args.reading c.args.segments.now c.loop-segment.segment-index item shared c.add.new.self (omega arith) c.segment-item.is c.in-Ok.ensures.value
           ∙ c.loop-segment.invariant.named;
-      paid = omega (arith, c.in_ok-pay_segment.ensures.paid, c.in-Ok.ensures.paid, c.loop-segment.invariant.paid);
+      paid = omega (arith, c.in_ok-pay_segment.ensures.taken, c.in-Ok.ensures.paid, c.loop-segment.invariant.paid);
       few = omega (arith, more, c.loop-segment.invariant.few);
     }
 
