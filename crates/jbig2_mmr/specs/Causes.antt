@@ -12,7 +12,7 @@ use Rattle.jbig2_mmr.specs.T6Codes.{modes}
 use Rattle.jbig2_mmr.specs.declared.mmr.codes.Mode.TheVariants.{Horizontal, Vertical}
 
 abbrev pub BeginNone : {A : Type 0} → List (A × List ℕ) → List ℕ → Type 0  -- no code word of the table begins the bits
-BeginNone words bits = All (λ c. begins c.1 bits ≡ false) words
+BeginNone words bits = All (λ (value, word). begins word bits ≡ false) words
 
 -- A run: no code word of its table (tables 2 and 3) begins the bits, or a make-up code does, and the rest has a fault.
 abbrev pub BreaksRun : ℕ → Bool → List ℕ → Type 0

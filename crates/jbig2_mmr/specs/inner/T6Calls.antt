@@ -30,7 +30,7 @@ ReadStep w h None (Some t) left = ⊥
 
 -- a row that was read, compared with the definition; a row with a fault is white
 abbrev pub ReadRow : Option (List ℕ × List ℕ) → Bool → Grid → Grid → ℕ → List ℕ → Type 0
-ReadRow (Some r) true old new y left = IsRow old new y (black_at r.0) × (r.1 ≡ left)
+ReadRow (Some (changes, rest)) true old new y left = IsRow old new y (black_at changes) × (rest ≡ left)
 ReadRow None false old new y left = IsRow old new y (λ x. false)
 ReadRow (Some r) false old new y left = ⊥
 ReadRow None true old new y left = ⊥
