@@ -100,9 +100,9 @@ with_context contexts k context = λ j. if j == k then context else contexts j
 
 unfoldable pub encode_from : Coding → (ℕ → Context) → List (ℕ × Bool) → Coding  -- the encoder after a list
 encode_from s contexts [] = s
-encode_from s contexts (entry ∷ entries) =
-    let next = encoding (contexts entry.0) entry.1 s in
-    encode_from next.coding (with_context contexts entry.0 next.context) entries
+encode_from s contexts ((k, decision) ∷ entries) =
+    let next = encoding (contexts k) decision s in
+    encode_from next.coding (with_context contexts k next.context) entries
 
 unfoldable pub encoded : List (ℕ × Bool) → List ℕ  -- the bytes of a list of (context, decision)
 encoded entries = closed (flushed (encode_from opened (λ _. fresh) entries)).out
@@ -117,4 +117,5 @@ unfoldable pub read_back : List ℕ → List ℕ → List Bool
 read_back bytes asked = decoded_from bytes (initial_registers bytes) (λ _. fresh) asked
 
 abbrev pub DecodesBack : Type 0  -- what is encoded is read back, if the decoder uses the same contexts
-DecodesBack = (entries : List (ℕ × Bool)) → read_back (encoded entries) (map (λ entry. entry.0) entries) ≡ map (λ entry. entry.1) entries
+DecodesBack = (entries : List (ℕ × Bool))
+    → read_back (encoded entries) (map (λ (k, decision). k) entries) ≡ map (λ (k, decision). decision) entries
