@@ -23,7 +23,8 @@ identification = 151 ∷ 74 ∷ 66 ∷ 50 ∷ 13 ∷ 10 ∷ 26 ∷ 10 ∷ []
 
 -- the number of pages (D.4.3), unless it is unknown
 abbrev pub page_count_at : Bool → List ℕ → Result (Option ℕ × List ℕ) DecodeError
-page_count_at unknown bytes = if unknown then Ok (None, bytes) else (number_at w32 bytes >>= λ (count, rest). Ok (Some count, rest))
+page_count_at unknown bytes =
+    if unknown then Ok (None, bytes) else (number_at w32 bytes >>= λ (count, rest). Ok (Some count, rest))
 
 -- the fields of the file header; the flags (D.4.2) have four reserved bits
 unfoldable pub file_header_at : List ℕ → Result (FileHeader × List ℕ) DecodeError
@@ -45,7 +46,8 @@ file_header_at bytes = do
 
 -- What follows a header: nothing after the header of an end of file, else the headers in the bytes that are left.
 -- Salvage ends the headers at the first one that is refused, and takes the data from there.
-abbrev pub header_goes_on : Reading → List ℕ → Result (Header × List ℕ) DecodeError → (List ℕ → Result (List Header × List ℕ) DecodeError) → Result (List Header × List ℕ) DecodeError
+abbrev pub header_goes_on : Reading → List ℕ → Result (Header × List ℕ) DecodeError
+    → (List ℕ → Result (List Header × List ℕ) DecodeError) → Result (List Header × List ℕ) DecodeError
 header_goes_on reading bytes (Ok (h, rest)) others =
     if is_end_of_file h.segment_type then Ok (h ∷ [], rest)
     else (others rest >>= λ (hs, rest). Ok (h ∷ hs, rest))
@@ -59,7 +61,8 @@ headers_in (suc most) reading bytes =
     else header_goes_on reading bytes (header_at (is_strict reading) bytes) (headers_in most reading)
 
 -- a segment, then the others; salvage drops a segment whose data is missing, and all after it, as no bytes are left
-abbrev pub gathered_before : Reading → Result (SegmentView × List ℕ) DecodeError → (List ℕ → Result (List SegmentView) DecodeError) → Result (List SegmentView) DecodeError
+abbrev pub gathered_before : Reading → Result (SegmentView × List ℕ) DecodeError
+    → (List ℕ → Result (List SegmentView) DecodeError) → Result (List SegmentView) DecodeError
 gathered_before reading (Ok (p, rest)) others = others rest >>= λ ps. Ok (p ∷ ps)
 gathered_before reading (Err e) others = if is_salvaged reading e then Ok [] else Err e
 
@@ -70,7 +73,8 @@ gathered reading (h ∷ hs) bytes = gathered_before reading (segment_data_at h b
 
 abbrev pub segments_by : FileOrganization → Reading → List ℕ → Result (List SegmentView) DecodeError
 segments_by Sequential reading bytes = sequential reading bytes
-segments_by RandomAccess reading bytes = headers_in (length bytes) reading bytes >>= λ (hs, rest). gathered reading hs rest
+segments_by RandomAccess reading bytes =
+    headers_in (length bytes) reading bytes >>= λ (hs, rest). gathered reading hs rest
 
 unfoldable pub file_at : Reading → List ℕ → Result (FileHeader × List SegmentView) DecodeError
 file_at reading bytes = do
