@@ -45,7 +45,7 @@ renormed (suc n) a w =
 abbrev pub Narrowed : Type 0  -- A, C and the context after a decision, and whether RENORME follows
 Narrowed = record { range : ℕ; register : ℕ; context : Context; renorm : Bool }
 
-module _ (context : Context) where
+module _ (context : Context) where  -- the context of the decision
   -- CODEMPS (E.2.4): the likely symbol gets the upper part of the interval, unless that is now the smaller part
   unfoldable pub narrowed_likely : ℕ → ℕ → Narrowed
   narrowed_likely a c =
@@ -73,10 +73,8 @@ module _ (context : Context) where
   encoding decision s =
       let next = narrowed decision s.range s.writer.register in
       let writer : Writer = record s.writer { register = next.register } in
-      record {
-        coding = (if next.renorm then renormed 15 next.range writer else record { range = next.range; writer = writer });
-        context = next.context;
-      }
+      let as_is : Coding = record { range = next.range; writer = writer } in
+      record { coding = (if next.renorm then renormed 15 next.range writer else as_is); context = next.context }
 
 unfoldable pub set_bits : ℕ → ℕ → ℕ  -- SETBITS (E.2.9): C with as many low bits set as the interval allows
 set_bits a c =
