@@ -93,21 +93,23 @@ BreaksOperator n (Region InvalidCombinationOperator) = 5 ≤ n
 BreaksOperator n _ = ⊥
 
 -- ---- segments (7.2)
--- how many segments are referred to: the top three bits of byte 5, or if they are 7, the other 29 bits of bytes 5 to 8
-abbrev pub referred_count : List ℕ → ℕ
-referred_count bytes =
-    if number_in w8 5 bytes / 32 == 7 then number_in w32 5 bytes - 7 * 2 ^ 29 else number_in w8 5 bytes / 32
+module _ (bytes : List ℕ) where
+  -- how many segments are referred to: the top three bits of byte 5, or if they are 7, the other 29 bits of bytes 5
+  -- to 8
+  abbrev pub referred_count : ℕ
+  referred_count =
+      if number_in w8 5 bytes / 32 == 7 then number_in w32 5 bytes - 7 * 2 ^ 29 else number_in w8 5 bytes / 32
 
--- the place of the first referred number: after the count, and after the retention flags of a long count
-abbrev pub referred_place : List ℕ → ℕ
-referred_place bytes = if number_in w8 5 bytes / 32 == 7 then 9 + (referred_count bytes + 8) / 8 else 6
+  -- the place of the first referred number: after the count, and after the retention flags of a long count
+  abbrev pub referred_place : ℕ
+  referred_place = if number_in w8 5 bytes / 32 == 7 then 9 + (referred_count + 8) / 8 else 6
 
--- the place of the page association, and of the data length after it, which ends the header
-abbrev pub page_place : List ℕ → ℕ
-page_place bytes = referred_place bytes + referred_count bytes * byte_len (number_width (number_in w32 0 bytes))
+  -- the place of the page association, and of the data length after it, which ends the header
+  abbrev pub page_place : ℕ
+  page_place = referred_place + referred_count * byte_len (number_width (number_in w32 0 bytes))
 
-abbrev pub length_place : List ℕ → ℕ
-length_place bytes = page_place bytes + (if number_in w8 4 bytes / 64 % 2 == 1 then 4 else 1)
+  abbrev pub length_place : ℕ
+  length_place = page_place + (if number_in w8 4 bytes / 64 % 2 == 1 then 4 else 1)
 
 abbrev pub listed_types : List ℕ  -- the numbers of the types in 7.3
 listed_types = 0 ∷ 4 ∷ 6 ∷ 7 ∷ 16 ∷ 20 ∷ 22 ∷ 23 ∷ 36 ∷ 38 ∷ 39 ∷ 40 ∷ 42 ∷ 43 ∷ 48 ∷ 49 ∷ 50 ∷ 51 ∷ 52 ∷ 53 ∷ 54 ∷ 62 ∷ []

@@ -23,7 +23,7 @@ number_at w bytes =
 
 -- the same as a signed number in two's complement
 abbrev pub signed_at : Width → List ℕ → Result (ℤ × List ℕ) DecodeError
-signed_at w bytes = number_at w bytes >>= λ n. Ok (cast_signed w n.0, n.1)
+signed_at w bytes = number_at w bytes >>= λ (n, rest). Ok (cast_signed w n, rest)
 
 -- The next count bits as a number, or the error, and the place after them.
 abbrev pub bits_at : DecodeError → ℕ → Place → Result (ℕ × Place) DecodeError

@@ -23,31 +23,34 @@ identification = 151 ∷ 74 ∷ 66 ∷ 50 ∷ 13 ∷ 10 ∷ 26 ∷ 10 ∷ []
 
 -- the number of pages (D.4.3), unless it is unknown
 abbrev pub page_count_at : Bool → List ℕ → Result (Option ℕ × List ℕ) DecodeError
-page_count_at unknown bytes = if unknown then Ok (None, bytes) else (number_at w32 bytes >>= λ n. Ok (Some n.0, n.1))
+page_count_at unknown bytes =
+    if unknown then Ok (None, bytes) else (number_at w32 bytes >>= λ (count, rest). Ok (Some count, rest))
 
 -- the fields of the file header; the flags (D.4.2) have four reserved bits
 unfoldable pub file_header_at : List ℕ → Result (FileHeader × List ℕ) DecodeError
 file_header_at bytes = do
-  front ← bytes_at 8 bytes
-  known ← refuse_if (not (bytes_eq front.0 identification)) (Format InvalidHeader)
-  flags ← number_at w8 front.1
-  clear ← refuse_if (not (flags.0 / 16 == 0)) (Format ReservedBits)
-  pages ← page_count_at (flags.0 / 2 % 2 == 1) flags.1
+  (front, rest) ← bytes_at 8 bytes
+  known ← refuse_if (not (bytes_eq front identification)) (Format InvalidHeader)
+  (flags, rest) ← number_at w8 rest
+  clear ← refuse_if (not (flags / 16 == 0)) (Format ReservedBits)
+  (pages, rest) ← page_count_at (flags / 2 % 2 == 1) rest
   Ok (
     record {
-      organization = if flags.0 % 2 == 1 then Sequential else RandomAccess;
-      number_of_pages = pages.0;
-      uses_extended_templates = flags.0 / 4 % 2 == 1;
-      contains_coloured_regions = flags.0 / 8 % 2 == 1;
+      organization = if flags % 2 == 1 then Sequential else RandomAccess;
+      number_of_pages = pages;
+      uses_extended_templates = flags / 4 % 2 == 1;
+      contains_coloured_regions = flags / 8 % 2 == 1;
     },
-    pages.1,
+    rest,
   )
 
 -- What follows a header: nothing after the header of an end of file, else the headers in the bytes that are left.
 -- Salvage ends the headers at the first one that is refused, and takes the data from there.
-abbrev pub header_goes_on : Reading → List ℕ → Result (Header × List ℕ) DecodeError → (List ℕ → Result (List Header × List ℕ) DecodeError) → Result (List Header × List ℕ) DecodeError
-header_goes_on reading bytes (Ok h) others =
-    if is_end_of_file h.0.segment_type then Ok (h.0 ∷ [], h.1) else (others h.1 >>= λ hs. Ok (h.0 ∷ hs.0, hs.1))
+abbrev pub header_goes_on : Reading → List ℕ → Result (Header × List ℕ) DecodeError
+    → (List ℕ → Result (List Header × List ℕ) DecodeError) → Result (List Header × List ℕ) DecodeError
+header_goes_on reading bytes (Ok (h, rest)) others =
+    if is_end_of_file h.segment_type then Ok (h ∷ [], rest)
+    else (others rest >>= λ (hs, rest). Ok (h ∷ hs, rest))
 header_goes_on reading bytes (Err e) others = if is_salvaged reading e then Ok ([], bytes) else Err e
 
 -- at most this many headers, up to that of an end of file, and the bytes after them; each has at least one byte
@@ -58,8 +61,9 @@ headers_in (suc most) reading bytes =
     else header_goes_on reading bytes (header_at (is_strict reading) bytes) (headers_in most reading)
 
 -- a segment, then the others; salvage drops a segment whose data is missing, and all after it, as no bytes are left
-abbrev pub gathered_before : Reading → Result (SegmentView × List ℕ) DecodeError → (List ℕ → Result (List SegmentView) DecodeError) → Result (List SegmentView) DecodeError
-gathered_before reading (Ok p) others = others p.1 >>= λ ps. Ok (p.0 ∷ ps)
+abbrev pub gathered_before : Reading → Result (SegmentView × List ℕ) DecodeError
+    → (List ℕ → Result (List SegmentView) DecodeError) → Result (List SegmentView) DecodeError
+gathered_before reading (Ok (p, rest)) others = others rest >>= λ ps. Ok (p ∷ ps)
 gathered_before reading (Err e) others = if is_salvaged reading e then Ok [] else Err e
 
 -- the segments with these headers; their data comes one after the other
@@ -69,13 +73,14 @@ gathered reading (h ∷ hs) bytes = gathered_before reading (segment_data_at h b
 
 abbrev pub segments_by : FileOrganization → Reading → List ℕ → Result (List SegmentView) DecodeError
 segments_by Sequential reading bytes = sequential reading bytes
-segments_by RandomAccess reading bytes = headers_in (length bytes) reading bytes >>= λ hs. gathered reading hs.0 hs.1
+segments_by RandomAccess reading bytes =
+    headers_in (length bytes) reading bytes >>= λ (hs, rest). gathered reading hs rest
 
 unfoldable pub file_at : Reading → List ℕ → Result (FileHeader × List SegmentView) DecodeError
 file_at reading bytes = do
-  header ← file_header_at bytes
-  ps ← segments_by header.0.organization reading header.1
-  Ok (header.0, by_number ps)
+  (header, rest) ← file_header_at bytes
+  ps ← segments_by header.organization reading rest
+  Ok (header, by_number ps)
 
 -- The way back, from segments to the bytes of a file: a segment, and the bytes of its header.
 pub record Spelled : Type 0 where

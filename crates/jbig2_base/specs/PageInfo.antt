@@ -40,22 +40,22 @@ flags_of n = record {
 -- the fields; a resolution of 0 is unknown (7.4.8.3); the last field is the striping (7.4.8.6)
 unfoldable pub information_at : List ℕ → Result (PageInformation × List ℕ) DecodeError
 information_at bytes = do
-  width ← number_at w32 bytes
-  height ← number_at w32 width.1
-  x ← number_at w32 height.1
-  y ← number_at w32 x.1
-  flags ← number_at w8 y.1
-  striping ← number_at w16 flags.1
+  (width, rest) ← number_at w32 bytes
+  (height, rest) ← number_at w32 rest
+  (x, rest) ← number_at w32 rest
+  (y, rest) ← number_at w32 rest
+  (flags, rest) ← number_at w8 rest
+  (striping, rest) ← number_at w16 rest
   Ok (
     record {
-      width = width.0;
-      height = height.0;
-      x_resolution = nonzero x.0;
-      y_resolution = nonzero y.0;
-      flags = flags_of flags.0;
-      striping = record { is_striped = striping.0 / 32768 == 1; max_stripe_size = striping.0 % 32768 };
+      width = width;
+      height = height;
+      x_resolution = nonzero x;
+      y_resolution = nonzero y;
+      flags = flags_of flags;
+      striping = record { is_striped = striping / 32768 == 1; max_stripe_size = striping % 32768 };
     },
-    striping.1,
+    rest,
   )
 
 abbrev pub is_page_information : SegmentType → Bool
@@ -97,9 +97,9 @@ initial_page_with number info height = do
 abbrev pub initial_page_by : ℕ → List SegmentView → Result InitialPage DecodeError
 initial_page_by known_height ps = do
   first ← first_information ps
-  info ← information_at first.bytes
-  height ← height_of info.0.height known_height
-  initial_page_with first.header.page_association info.0 height
+  (info, rest) ← information_at first.bytes
+  height ← height_of info.height known_height
+  initial_page_with first.header.page_association info height
 
 -- the same, where the stripes state an open height
 unfoldable pub initial_page_of : List SegmentView → Result InitialPage DecodeError

@@ -66,16 +66,17 @@ is_immediate_generic _ = false
 -- for this one.
 unfoldable pub long_count_at : ℕ → List ℕ → Result (ℕ × List ℕ) DecodeError
 long_count_at high bytes = do
-  low ← bytes_at 3 bytes
-  retention ← bytes_at ((from_be_bytes w32 (high ∷ low.0) + 8) / 8) low.1
-  Ok (from_be_bytes w32 (high ∷ low.0), retention.1)
+  (low, rest) ← bytes_at 3 bytes
+  let count = from_be_bytes w32 (high ∷ low)
+  (retention, rest) ← bytes_at ((count + 8) / 8) rest
+  Ok (count, rest)
 
 -- The count of referred segments (7.2.4) has three bits; 7 means that a long count follows.
 unfoldable pub count_at : List ℕ → Result (ℕ × List ℕ) DecodeError
 count_at bytes = do
-  first ← number_at w8 bytes
-  coded ← refuse_if (first.0 / 32 == 5 || first.0 / 32 == 6) (Segment InvalidReferredCount)
-  if first.0 / 32 == 7 then long_count_at (first.0 % 32) first.1 else Ok (first.0 / 32, first.1)
+  (first, rest) ← number_at w8 bytes
+  coded ← refuse_if (first / 32 == 5 || first / 32 == 6) (Segment InvalidReferredCount)
+  if first / 32 == 7 then long_count_at (first % 32) rest else Ok (first / 32, rest)
 
 -- A referred number has one, two or four bytes; this depends on the segment's own number (7.2.5).
 abbrev pub number_width : ℕ → Width
@@ -88,11 +89,11 @@ numbers_in w (suc count) bytes = from_be_bytes w (take (byte_len w) bytes) ∷ n
 -- The referred numbers (7.2.5): all must be there, and each must be smaller than the segment's own.
 unfoldable pub referred_at : ℕ → List ℕ → Result (List ℕ × List ℕ) DecodeError
 referred_at own bytes = do
-  count ← count_at bytes
-  coded ← bytes_at (count.0 * byte_len (number_width own)) count.1
-  let numbers = numbers_in (number_width own) count.0 coded.0
+  (count, rest) ← count_at bytes
+  (coded, rest) ← bytes_at (count * byte_len (number_width own)) rest
+  let numbers = numbers_in (number_width own) count coded
   earlier ← refuse_if (list_any (λ n. nat_le own n) numbers) (Segment InvalidReference)
-  Ok (numbers, coded.1)
+  Ok (numbers, rest)
 
 -- The data length (7.2.7): all ones mean an unknown length. Strict mode allows it only for immediate generic regions.
 abbrev pub length_of : Bool → SegmentType → ℕ → Result (Option ℕ) DecodeError
@@ -104,23 +105,24 @@ length_of strict kind n =
 -- A segment header. The page association (7.2.6) has four bytes or one.
 unfoldable pub header_at : Bool → List ℕ → Result (Header × List ℕ) DecodeError
 header_at strict bytes = do
-  number ← number_at w32 bytes
-  flags ← number_at w8 number.1
-  known ← refuse_if (strict && is_reserved (type_of (flags.0 % 64))) (Segment UnknownType)
-  referred ← referred_at number.0 flags.1
-  page ← number_at (if flags.0 / 64 % 2 == 1 then w32 else w8) referred.1
-  n ← number_at w32 page.1
-  len ← length_of strict (type_of (flags.0 % 64)) n.0
+  (number, rest) ← number_at w32 bytes
+  (flags, rest) ← number_at w8 rest
+  let kind = type_of (flags % 64)
+  known ← refuse_if (strict && is_reserved kind) (Segment UnknownType)
+  (referred, rest) ← referred_at number rest
+  (page, rest) ← number_at (if flags / 64 % 2 == 1 then w32 else w8) rest
+  (n, rest) ← number_at w32 rest
+  len ← length_of strict kind n
   Ok (
     record {
-      segment_number = number.0;
-      segment_type = type_of (flags.0 % 64);
-      retain_flag = flags.0 / 128 == 0;
-      page_association = page.0;
-      referred_to_segments = referred.0;
+      segment_number = number;
+      segment_type = kind;
+      retain_flag = flags / 128 == 0;
+      page_association = page;
+      referred_to_segments = referred;
       data_length = len;
     },
-    n.1,
+    rest,
   )
 
 abbrev pub adaptive_bytes : ℕ → ℕ  -- how many bytes a generic region's adaptive pixels have, by its flags (7.4.6.3)
@@ -141,11 +143,11 @@ first_end_marker flags bytes =
 -- The length of data of unknown length (7.2.7): fields (7.4.6), coded bytes, the first end marker, and the row count.
 unfoldable pub unknown_length_of : List ℕ → Result ℕ DecodeError
 unknown_length_of bytes = do
-  information ← bytes_at 17 bytes
-  flags ← number_at w8 information.1
-  pixels ← bytes_at (adaptive_bytes flags.0) flags.1
-  place ← first_end_marker flags.0 pixels.1
-  Ok (18 + adaptive_bytes flags.0 + place + 6)
+  (information, rest) ← bytes_at 17 bytes
+  (flags, rest) ← number_at w8 rest
+  (pixels, rest) ← bytes_at (adaptive_bytes flags) rest
+  place ← first_end_marker flags rest
+  Ok (18 + adaptive_bytes flags + place + 6)
 
 abbrev pub data_at : Option ℕ → List ℕ → Result (List ℕ × List ℕ) DecodeError  -- the data after a header (7.2.7)
 data_at (Some n) bytes = bytes_at n bytes
@@ -153,7 +155,7 @@ data_at None bytes = unknown_length_of bytes >>= λ n. bytes_at n bytes
 
 abbrev pub segment_data_at : Header → List ℕ → Result (SegmentView × List ℕ) DecodeError
 segment_data_at header bytes =
-    data_at header.data_length bytes >>= λ coded. Ok (record { header = header; bytes = coded.0 }, coded.1)
+    data_at header.data_length bytes >>= λ (coded, rest). Ok (record { header = header; bytes = coded }, rest)
 
 unfoldable pub segment_at : Bool → List ℕ → Result (SegmentView × List ℕ) DecodeError
-segment_at strict bytes = header_at strict bytes >>= λ header. segment_data_at header.0 header.1
+segment_at strict bytes = header_at strict bytes >>= λ (header, rest). segment_data_at header rest

@@ -22,9 +22,10 @@ is_cut_off Lenient (Parse e) = true
 is_cut_off reading e = is_salvaged reading e
 
 -- What follows a segment: nothing after an end of file, else the segments in the bytes that are left.
-abbrev pub goes_on : Reading → Result (SegmentView × List ℕ) DecodeError → (List ℕ → Result (List SegmentView) DecodeError) → Result (List SegmentView) DecodeError
-goes_on reading (Ok x) others =
-    if is_end_of_file x.0.header.segment_type then Ok (x.0 ∷ []) else (others x.1 >>= λ ps. Ok (x.0 ∷ ps))
+abbrev pub goes_on : Reading → Result (SegmentView × List ℕ) DecodeError
+    → (List ℕ → Result (List SegmentView) DecodeError) → Result (List SegmentView) DecodeError
+goes_on reading (Ok (p, rest)) others =
+    if is_end_of_file p.header.segment_type then Ok (p ∷ []) else (others rest >>= λ ps. Ok (p ∷ ps))
 goes_on reading (Err e) others = if is_cut_off reading e then Ok [] else Err e
 
 -- At most this many segments in the bytes. Each has at least one byte, so the number of bytes is enough.

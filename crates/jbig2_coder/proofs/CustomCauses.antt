@@ -218,20 +218,20 @@ cause-header P p why =
     let second = field-there e 32 flags.1 low low_is in
     cause-on P (field e 32 low.1) _ (cause-field P e 32 low.1 (λ short. why (omega (arith, first.left, second.left)))) (λ high high_is. tt)))
 
-cause-custom_lines : (P : DecodeError → Type 0) (p : Place) → (length (bits_left p) < 72 → P (Parse UnexpectedEof)) → (((header : Header × Place) × (custom_header p ≡ Ok header) × BreaksLines header.0 header.1) → P (Huffman InvalidCode)) → CauseAt P (custom_lines p)
+cause-custom_lines : (P : DecodeError → Type 0) (p : Place) → (length (bits_left p) < 72 → P (Parse UnexpectedEof)) → (((header : Header) × (place : Place) × (custom_header p ≡ Ok (header, place)) × BreaksLines header place) → P (Huffman InvalidCode)) → CauseAt P (custom_lines p)
 unfolding custom_lines range_lines
 cause-custom_lines P p at_end at_code =
     cause-on P (custom_header p) _ (cause-header P p at_end) (λ h h_is.
     cause-on P (range_lines h.0 h.1) _
-    (cause-lines P (length (bits_left h.1) + 1) h.0 h.0.minimum h.1 (λ breaks. at_code (h, h_is, inl breaks))) (λ ranges ranges_is.
-    cause-behind P ranges.0 (end_lines h.0 ranges.1) (cause-end P h.0 ranges.1 (λ short. at_code (h, h_is, inr (ranges, ranges_is, short))))))
+    (cause-lines P (length (bits_left h.1) + 1) h.0 h.0.minimum h.1 (λ breaks. at_code (h.0, h.1, h_is, inl breaks))) (λ ranges ranges_is.
+    cause-behind P ranges.0 (end_lines h.0 ranges.1) (cause-end P h.0 ranges.1 (λ short. at_code (h.0, h.1, h_is, inr (ranges.0, ranges.1, ranges_is, short))))))
 
 custom_causes : (p : Place) → CauseAt (BreaksCustom p) (custom_table p)
 unfolding custom_table
 custom_causes p =
     let P : DecodeError → Type 0 = BreaksCustom p in
     cause-on P (custom_lines p) _ (cause-custom_lines P p (λ short. short) (λ breaks. inl breaks))
-    (λ lines is. cause-left P lines.1 (table_of lines.0) (table-cause P lines.0 (λ crowded. inr (lines, is, crowded))))
+    (λ lines is. cause-left P lines.1 (table_of lines.0) (table-cause P lines.0 (λ crowded. inr (lines.0, lines.1, is, crowded))))
 
 -- the error of a call that gives the table's answer, wherever it leaves the reader
 pub custom_cause : {X : Type 0} (view : X → List Member) (p q : Place) (r : Result X DecodeError) → GivesAt view r q (custom_table p) → HasCauseOrNoMemory r (BreaksCustom p)

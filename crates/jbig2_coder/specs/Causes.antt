@@ -72,15 +72,15 @@ BreaksSomeLine (suc n) h low p =
 abbrev pub BreaksLines : Header → Place → Type 0
 BreaksLines h p =
     BreaksSomeLine (length (bits_left p) + 1) h h.minimum p
-    ⊎ ((ranges : List TableLine × Place) × (range_lines h p ≡ Ok ranges)
-    × (length (bits_left ranges.1) < (if h.has_out_of_band then 3 else 2) * h.prefix_bits))
+    ⊎ ((ranges : List TableLine) × (place : Place) × (range_lines h p ≡ Ok (ranges, place))
+    × (length (bits_left place) < (if h.has_out_of_band then 3 else 2) * h.prefix_bits))
 
 -- The header has 72 bits. After it a line of the table has a fault; or all lines are there, and their codes do not fit.
 abbrev pub BreaksCustom : Place → DecodeError → Type 0
 BreaksCustom p (Parse UnexpectedEof) = length (bits_left p) < 72
 BreaksCustom p (Huffman InvalidCode) =
-    ((header : Header × Place) × (custom_header p ≡ Ok header) × BreaksLines header.0 header.1)
-    ⊎ ((lines : List TableLine × Place) × (custom_lines p ≡ Ok lines) × AreCrowded lines.0)
+    ((header : Header) × (place : Place) × (custom_header p ≡ Ok (header, place)) × BreaksLines header place)
+    ⊎ ((lines : List TableLine) × (place : Place) × (custom_lines p ≡ Ok (lines, place)) × AreCrowded lines)
 BreaksCustom p _ = ⊥
 
 abbrev pub BreaksSelection : List (List Member) → DecodeError → Type 0  -- a custom table is selected, but none is left

@@ -18,36 +18,39 @@ Registers = record { a : ℕ; code : CodeRegister }
 abbrev pub Coder : Type 0  -- the bytes that a decoder reads, and its registers
 Coder = record { bytes : List ℕ; registers : Registers }
 
-unfoldable pub byte_at : List ℕ → ℕ → ℕ  -- the byte at a place; past the end every byte is FF
-byte_at bytes place = slice_index_or bytes place 0xFF
-
--- BYTEIN (Figure G.3), from C and the place. After FF comes a stuffed byte of seven bits, or a marker, where it stays.
-unfoldable pub byte_in : List ℕ → ℕ → ℕ → CodeRegister
-byte_in bytes c place =
-    let next = byte_at bytes (place + 1) in
-    let after_ff : CodeRegister =
-    if nat_lt 0x8F next then record { c = c; ct = 8; place = place }
-    else record { c = (c + (2 ^ 32 + 0xFE00 - next * 2 ^ 9)) % 2 ^ 32; ct = 7; place = place + 1 } in
-    if byte_at bytes place == 0xFF then after_ff
-    else record { c = (c + (0xFF00 - next * 2 ^ 8)) % 2 ^ 32; ct = 8; place = place + 1 }
-
-unfoldable pub filled : List ℕ → CodeRegister → CodeRegister  -- BYTEIN, but only if no bit is left
-filled bytes r = if r.ct == 0 then byte_in bytes r.c r.place else r
-
 unfoldable pub doubled : CodeRegister → CodeRegister  -- C is shifted by one bit
 doubled r = record { c = 2 * r.c % 2 ^ 32; ct = r.ct - 1; place = r.place }
 
--- RENORMD (E.3.3): A and C are shifted bit by bit until A is at least 8000. Fifteen shifts are enough for any A but 0.
-unfoldable pub renormed : List ℕ → ℕ → ℕ → CodeRegister → Registers
-renormed bytes zero a r = record { a = a; code = r }
-renormed bytes (suc n) a r =
-    let more = renormed bytes n (2 * a) (doubled (filled bytes r)) in
-    if nat_lt a 0x8000 then more else record { a = a; code = r }
+module _ (bytes : List ℕ) where  -- the bytes that are read
+  unfoldable pub byte_at : ℕ → ℕ  -- the byte at a place; past the end every byte is FF
+  byte_at place = slice_index_or bytes place 0xFF
 
-unfoldable pub initial_registers : List ℕ → Registers  -- INITDEC (Figure G.1)
-initial_registers bytes =
-    let r = byte_in bytes ((0xFF - byte_at bytes 0) * 2 ^ 16) 0 in
-    record { a = 0x8000; code = record { c = r.c * 2 ^ 7 % 2 ^ 32; ct = r.ct - 7; place = r.place } }
+  -- BYTEIN (Figure G.3), from C and the place. After FF comes a stuffed byte of seven bits, or a marker, where it
+  -- stays.
+  unfoldable pub byte_in : ℕ → ℕ → CodeRegister
+  byte_in c place =
+      let next = byte_at (place + 1) in
+      let after_ff : CodeRegister =
+      if nat_lt 0x8F next then record { c = c; ct = 8; place = place }
+      else record { c = (c + (2 ^ 32 + 0xFE00 - next * 2 ^ 9)) % 2 ^ 32; ct = 7; place = place + 1 } in
+      if byte_at place == 0xFF then after_ff
+      else record { c = (c + (0xFF00 - next * 2 ^ 8)) % 2 ^ 32; ct = 8; place = place + 1 }
+
+  unfoldable pub filled : CodeRegister → CodeRegister  -- BYTEIN, but only if no bit is left
+  filled r = if r.ct == 0 then byte_in r.c r.place else r
+
+  -- RENORMD (E.3.3): A and C are shifted bit by bit until A is at least 8000. Fifteen shifts are enough for any A
+  -- but 0.
+  unfoldable pub renormed : ℕ → ℕ → CodeRegister → Registers
+  renormed zero a r = record { a = a; code = r }
+  renormed (suc n) a r =
+      let more = renormed n (2 * a) (doubled (filled r)) in
+      if nat_lt a 0x8000 then more else record { a = a; code = r }
+
+  unfoldable pub initial_registers : Registers  -- INITDEC (Figure G.1)
+  initial_registers =
+      let r = byte_in ((0xFF - byte_at 0) * 2 ^ 16) 0 in
+      record { a = 0x8000; code = record { c = r.c * 2 ^ 7 % 2 ^ 32; ct = r.ct - 7; place = r.place } }
 
 unfoldable pub likely_next : Context → Context  -- the context after the likely symbol
 likely_next context = record { row = (row_of context.row).nmps; likely = context.likely }

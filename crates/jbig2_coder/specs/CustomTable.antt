@@ -22,44 +22,45 @@ left_at p (Ok x) = Ok (x, p)
 left_at p (Err e) = Err (e, p)
 
 abbrev pub result_of : {A : Type 0} → Step A → Result A DecodeError  -- only the result
-result_of (Ok x) = Ok x.0
-result_of (Err e) = Err e.0
+result_of (Ok (value, place)) = Ok value
+result_of (Err (error, place)) = Err error
 
 abbrev pub field : DecodeError → ℕ → Place → Step ℕ  -- the next count bits as a number, or the error
 field e count p = left_at (bits_on count p) (some_or e (bits_next count (bits_left p)))
 
 abbrev pub custom_header : Place → Step Header  -- the flags, and the least and the greatest value
 custom_header p = do
-  flags ← field (Parse UnexpectedEof) 8 p
-  minimum ← field (Parse UnexpectedEof) 32 flags.1
-  maximum ← field (Parse UnexpectedEof) 32 minimum.1
+  (flags, place) ← field (Parse UnexpectedEof) 8 p
+  (minimum, place) ← field (Parse UnexpectedEof) 32 place
+  (maximum, place) ← field (Parse UnexpectedEof) 32 place
   let header : Header = record {
-    has_out_of_band = flags.0 % 2 == 1;
-    prefix_bits = flags.0 / 2 % 8 + 1;
-    range_bits = flags.0 / 16 % 8 + 1;
-    minimum = cast_signed w32 minimum.0;
-    maximum = cast_signed w32 maximum.0;
+    has_out_of_band = flags % 2 == 1;
+    prefix_bits = flags / 2 % 8 + 1;
+    range_bits = flags / 16 % 8 + 1;
+    minimum = cast_signed w32 minimum;
+    maximum = cast_signed w32 maximum;
   }
-  Ok (header, maximum.1)
+  Ok (header, place)
 
 abbrev pub next_low : ℤ → ℕ → Result ℤ DecodeError  -- the low value of the next line, refused above signed 32 bits
 next_low low range = if nat_lt range 32 then in_word (low +ℤ pos (2 ^ range)) else Err (Huffman InvalidCode)
 
 abbrev pub custom_line : Header → ℤ → Place → Step (TableLine × ℤ)  -- a line, and the low value of the next one
 custom_line h low p = do
-  len ← field (Huffman InvalidCode) h.prefix_bits p
-  range ← field (Huffman InvalidCode) h.range_bits len.1
-  next ← left_at range.1 (next_low low range.0)
-  Ok ((line len.0 range.0 low, next.0), next.1)
+  (len, place) ← field (Huffman InvalidCode) h.prefix_bits p
+  (range, place) ← field (Huffman InvalidCode) h.range_bits place
+  (next, place) ← left_at place (next_low low range)
+  Ok ((line len range low, next), place)
 
 abbrev pub concat : List TableLine → Step (List TableLine) → Step (List TableLine)  -- these lines, then those of a step
-concat before s = s >>= λ lines. Ok (before ++ lines.0, lines.1)
+concat before s = s >>= λ (lines, place). Ok (before ++ lines, place)
 
 -- The lines while the low value is below the maximum. Each takes at least two bits: no more come than bits are left.
 abbrev pub range_lines_in : ℕ → Header → ℤ → Place → Step (List TableLine)
 range_lines_in zero h low p = Ok ([], p)
 range_lines_in (suc n) h low p =
-    if int_lt low h.maximum then (custom_line h low p >>= λ x. concat (x.0.0 ∷ []) (range_lines_in n h x.0.1 x.1))
+    if int_lt low h.maximum
+    then (custom_line h low p >>= λ ((line, next), place). concat (line ∷ []) (range_lines_in n h next place))
     else Ok ([], p)
 
 unfoldable pub range_lines : Header → Place → Step (List TableLine)
@@ -67,22 +68,22 @@ range_lines h p = range_lines_in (length (bits_left p) + 1) h h.minimum p
 
 abbrev pub end_lines : Header → Place → Step (List TableLine)  -- the lower, the upper, and any out-of-band line
 end_lines h p = do
-  below ← field (Huffman InvalidCode) h.prefix_bits p
-  above ← field (Huffman InvalidCode) h.prefix_bits below.1
-  concat (lower below.0 (h.minimum -ℤ pos 1) ∷ upper above.0 h.maximum ∷ []) (if h.has_out_of_band
-      then (field (Huffman InvalidCode) h.prefix_bits above.1 >>= λ len. Ok (out_of_band len.0 ∷ [], len.1))
-      else Ok ([], above.1))
+  (below, place) ← field (Huffman InvalidCode) h.prefix_bits p
+  (above, place) ← field (Huffman InvalidCode) h.prefix_bits place
+  concat (lower below (h.minimum -ℤ pos 1) ∷ upper above h.maximum ∷ []) (if h.has_out_of_band
+      then (field (Huffman InvalidCode) h.prefix_bits place >>= λ (len, place). Ok (out_of_band len ∷ [], place))
+      else Ok ([], place))
 
 unfoldable pub custom_lines : Place → Step (List TableLine)
 custom_lines p = do
-  header ← custom_header p
-  ranges ← range_lines header.0 header.1
-  concat ranges.0 (end_lines header.0 ranges.1)
+  (header, place) ← custom_header p
+  (ranges, place) ← range_lines header place
+  concat ranges (end_lines header place)
 
 unfoldable pub custom_table : Place → Step (List Member)  -- a custom table, from its bits
 custom_table p = do
-  lines ← custom_lines p
-  left_at lines.1 (table_of lines.0)
+  (lines, place) ← custom_lines p
+  left_at place (table_of lines)
 
 -- What a call returned, and the place of its reader then, is what was meant, unless memory ran out.
 abbrev pub GivesAt : {X Y : Type 0} → (X → Y) → Result X DecodeError → Place → Step Y → Type 0
@@ -94,5 +95,5 @@ GivesAt view (Err e) p meant = (e ≡ OutOfMemory) ⊎ (meant ≡ Err (e, p))
 pub record TablesAreFree : Type 0 where
   pub listed : (lines : List TableLine) → IfOk (table_of lines) IsFree
   pub uniform : (count code_length : ℕ) → IfOk (table_of (uniform count code_length)) IsFree
-  pub custom : (p : Place) → IfOk (custom_table p) (λ table. IsFree table.0)
+  pub custom : (p : Place) → IfOk (custom_table p) (λ (table, place). IsFree table)
   pub standard : All IsFree standard_codes

@@ -45,37 +45,36 @@ renormed (suc n) a w =
 abbrev pub Narrowed : Type 0  -- A, C and the context after a decision, and whether RENORME follows
 Narrowed = record { range : ℕ; register : ℕ; context : Context; renorm : Bool }
 
--- CODEMPS (E.2.4): the likely symbol gets the upper part of the interval, unless that is now the smaller part
-unfoldable pub narrowed_likely : Context → ℕ → ℕ → Narrowed
-narrowed_likely context a c =
-    let qe = (row_of context.row).qe in
-    let rest = a - qe in
-    if nat_le 0x8000 rest then record { range = rest; register = c + qe; context = context; renorm = false }
-    else if nat_lt rest qe then record { range = qe; register = c; context = likely_next context; renorm = true }
-    else record { range = rest; register = c + qe; context = likely_next context; renorm = true }
+module _ (context : Context) where  -- the context of the decision
+  -- CODEMPS (E.2.4): the likely symbol gets the upper part of the interval, unless that is now the smaller part
+  unfoldable pub narrowed_likely : ℕ → ℕ → Narrowed
+  narrowed_likely a c =
+      let qe = (row_of context.row).qe in
+      let rest = a - qe in
+      if nat_le 0x8000 rest then record { range = rest; register = c + qe; context = context; renorm = false }
+      else if nat_lt rest qe then record { range = qe; register = c; context = likely_next context; renorm = true }
+      else record { range = rest; register = c + qe; context = likely_next context; renorm = true }
 
--- CODELPS (E.2.4): the unlikely symbol gets the other part
-unfoldable pub narrowed_unlikely : Context → ℕ → ℕ → Narrowed
-narrowed_unlikely context a c =
-    let qe = (row_of context.row).qe in
-    let rest = a - qe in
-    if nat_lt rest qe then record { range = rest; register = c + qe; context = unlikely_next context; renorm = true }
-    else record { range = qe; register = c; context = unlikely_next context; renorm = true }
+  -- CODELPS (E.2.4): the unlikely symbol gets the other part
+  unfoldable pub narrowed_unlikely : ℕ → ℕ → Narrowed
+  narrowed_unlikely a c =
+      let qe = (row_of context.row).qe in
+      let rest = a - qe in
+      if nat_lt rest qe then record { range = rest; register = c + qe; context = unlikely_next context; renorm = true }
+      else record { range = qe; register = c; context = unlikely_next context; renorm = true }
 
-unfoldable pub narrowed : Context → Bool → ℕ → ℕ → Narrowed  -- ENCODE (E.2.2 and E.2.3)
-narrowed context decision a c =
-    if (if context.likely then decision else not decision) then narrowed_likely context a c
-    else narrowed_unlikely context a c
+  unfoldable pub narrowed : Bool → ℕ → ℕ → Narrowed  -- ENCODE (E.2.2 and E.2.3)
+  narrowed decision a c =
+      if (if context.likely then decision else not decision) then narrowed_likely a c
+      else narrowed_unlikely a c
 
--- the encoder after a decision is coded, and the decision's context then
-unfoldable pub encoding : Context → Bool → Coding → record { coding : Coding; context : Context }
-encoding context decision s =
-    let next = narrowed context decision s.range s.writer.register in
-    let writer : Writer = record s.writer { register = next.register } in
-    record {
-      coding = (if next.renorm then renormed 15 next.range writer else record { range = next.range; writer = writer });
-      context = next.context;
-    }
+  -- the encoder after a decision is coded, and the decision's context then
+  unfoldable pub encoding : Bool → Coding → record { coding : Coding; context : Context }
+  encoding decision s =
+      let next = narrowed decision s.range s.writer.register in
+      let writer : Writer = record s.writer { register = next.register } in
+      let as_is : Coding = record { range = next.range; writer = writer } in
+      record { coding = (if next.renorm then renormed 15 next.range writer else as_is); context = next.context }
 
 unfoldable pub set_bits : ℕ → ℕ → ℕ  -- SETBITS (E.2.9): C with as many low bits set as the interval allows
 set_bits a c =
@@ -100,9 +99,9 @@ with_context contexts k context = λ j. if j == k then context else contexts j
 
 unfoldable pub encode_from : Coding → (ℕ → Context) → List (ℕ × Bool) → Coding  -- the encoder after a list
 encode_from s contexts [] = s
-encode_from s contexts (entry ∷ entries) =
-    let next = encoding (contexts entry.0) entry.1 s in
-    encode_from next.coding (with_context contexts entry.0 next.context) entries
+encode_from s contexts ((k, decision) ∷ entries) =
+    let next = encoding (contexts k) decision s in
+    encode_from next.coding (with_context contexts k next.context) entries
 
 unfoldable pub encoded : List (ℕ × Bool) → List ℕ  -- the bytes of a list of (context, decision)
 encoded entries = closed (flushed (encode_from opened (λ _. fresh) entries)).out
@@ -117,4 +116,5 @@ unfoldable pub read_back : List ℕ → List ℕ → List Bool
 read_back bytes asked = decoded_from bytes (initial_registers bytes) (λ _. fresh) asked
 
 abbrev pub DecodesBack : Type 0  -- what is encoded is read back, if the decoder uses the same contexts
-DecodesBack = (entries : List (ℕ × Bool)) → read_back (encoded entries) (map (λ entry. entry.0) entries) ≡ map (λ entry. entry.1) entries
+DecodesBack = (entries : List (ℕ × Bool))
+    → read_back (encoded entries) (map (λ (k, decision). k) entries) ≡ map (λ (k, decision). decision) entries

@@ -18,17 +18,22 @@ value_of_bits (b ∷ bits) = bit_number b * 2 ^ length bits + value_of_bits bits
 abbrev pub Reading : Type 0  -- the bits read so far, and the registers and the contexts after them
 Reading = record { bits : List Bool; registers : Registers; contexts : List Context }
 
-unfoldable pub next : (List Bool → ℕ) → List ℕ → Reading → Decision  -- the decision in the context of the bits so far
-next name bytes r = decision bytes r.registers (slice_index_or r.contexts (name r.bits) fresh)
+module _ (name : List Bool → ℕ) where  -- the number of the next bit's context, by the bits so far
+  unfoldable pub next : List ℕ → Reading → Decision  -- the decision in the context of the bits so far
+  next bytes r = decision bytes r.registers (slice_index_or r.contexts (name r.bits) fresh)
 
-unfoldable pub read : (List Bool → ℕ) → List ℕ → Reading → Reading  -- one bit more
-read name bytes r =
-    let d = next name bytes r in
-    record { bits = r.bits ++ d.symbol ∷ []; registers = d.registers; contexts = slice_set r.contexts (name r.bits) d.context }
+  unfoldable pub read : List ℕ → Reading → Reading  -- one bit more
+  read bytes r =
+      let d = next bytes r in
+      record {
+        bits = r.bits ++ d.symbol ∷ [];
+        registers = d.registers;
+        contexts = slice_set r.contexts (name r.bits) d.context;
+      }
 
-unfoldable pub read_more : (List Bool → ℕ) → ℕ → List ℕ → Reading → Reading  -- n bits more
-read_more name zero bytes r = r
-read_more name (suc n) bytes r = read name bytes (read_more name n bytes r)
+  unfoldable pub read_more : ℕ → List ℕ → Reading → Reading  -- n bits more
+  read_more zero bytes r = r
+  read_more (suc n) bytes r = read bytes (read_more n bytes r)
 
 abbrev pub prev_of : List Bool → ℕ  -- PREV (A.2): the number that a 1 and the last bits make, at most eight of them
 prev_of bits = value_of_bits (true ∷ drop (length bits - 8) bits)

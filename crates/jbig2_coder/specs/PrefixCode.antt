@@ -31,28 +31,29 @@ abbrev pub longest : List TableLine → ℕ  -- the greatest prefix length
 longest [] = 0
 longest (x ∷ xs) = max x.prefix_length (longest xs)
 
-abbrev pub level : ℕ → List TableLine → List TableLine  -- the lines whose codes have l bits, in their order
-level l lines = filter (λ x. x.prefix_length == l) lines
+module _ (l : ℕ) where  -- the number of bits of a code
+  abbrev pub level : List TableLine → List TableLine  -- the lines whose codes have l bits, in their order
+  level lines = filter (λ x. x.prefix_length == l) lines
 
-abbrev pub share : ℕ → ℕ → ℕ  -- how many codes of l bits begin with one code of len bits; 0 if len is 0
-share l len = if nat_lt 0 len && nat_le len l then 2 ^ (l - len) else 0
+  abbrev pub share : ℕ → ℕ  -- how many codes of l bits begin with one code of len bits; 0 if len is 0
+  share len = if nat_lt 0 len && nat_le len l then 2 ^ (l - len) else 0
 
-unfoldable pub weight : ℕ → List TableLine → ℕ  -- the sum of these shares, over all lines
-weight l [] = 0
-weight l (x ∷ xs) = share l x.prefix_length + weight l xs
+  unfoldable pub weight : List TableLine → ℕ  -- the sum of these shares, over all lines
+  weight [] = 0
+  weight (x ∷ xs) = share x.prefix_length + weight xs
 
-unfoldable pub shorter : ℕ → List TableLine → ℕ  -- the sum over the lines of fewer than l bits
-shorter l [] = 0
-shorter l (x ∷ xs) = (if nat_lt x.prefix_length l then share l x.prefix_length else 0) + shorter l xs
+  unfoldable pub shorter : List TableLine → ℕ  -- the sum over the lines of fewer than l bits
+  shorter [] = 0
+  shorter (x ∷ xs) = (if nat_lt x.prefix_length l then share x.prefix_length else 0) + shorter xs
 
--- The members of l bits; `earlier` are the lines before the others. A code (B.3) is the sum of 2^(l - len) over the
--- lines that are shorter, or as long and earlier; each of those that are as long adds 1.
-abbrev pub members_of : ℕ → List TableLine → List TableLine → List TableLine → List Member
-members_of l lines earlier [] = []
-members_of l lines earlier (x ∷ xs) =
-    let others = members_of l lines (earlier ++ x ∷ []) xs in
-    let code = shorter l lines + length (level l earlier) in
-    if x.prefix_length == l then record { bits = l; number = code; line = x } ∷ others else others
+  -- The members of l bits; `earlier` are the lines before the others. A code (B.3) is the sum of 2^(l - len) over the
+  -- lines that are shorter, or as long and earlier; each of those that are as long adds 1.
+  abbrev pub members_of : List TableLine → List TableLine → List TableLine → List Member
+  members_of lines earlier [] = []
+  members_of lines earlier (x ∷ xs) =
+      let others = members_of lines (earlier ++ x ∷ []) xs in
+      let code = shorter lines + length (level earlier) in
+      if x.prefix_length == l then record { bits = l; number = code; line = x } ∷ others else others
 
 abbrev pub members_from : ℕ → ℕ → List TableLine → List Member  -- the members of n lengths, from l on
 members_from zero l lines = []

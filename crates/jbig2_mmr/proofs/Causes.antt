@@ -112,7 +112,7 @@ run-fault (suc most) black bits few is =
         let Q : Option (ℕ × List ℕ) → Type 0 = λ o. o ≡ None → BreaksRun (suc most) black bits in
         cond_both (ltb c.0 64) (Some c) next Q
         (λ small same. absurd (never-none c same))
-        (λ large same. inr (c, some, ltb-false c.0 64 large, later c some (rest-none c.0 (run_from most black c.1) same)))
+        (λ large same. inr (c.0, c.1, some, ltb-false c.0 64 large, later c some (rest-none c.0 (run_from most black c.1) same)))
         is
 
 -- ---- a mode
@@ -154,8 +154,8 @@ runs-fault w h bits is = by-first (run h.black bits) refl is
         cond_both (leb a2 w) (Some made) None Q (λ yes same. absurd (never-none made same)) (λ no same. leb-false a2 w no)
 
     by-second : (first : ℕ × List ℕ) → run h.black bits ≡ Some first → (o : Option (ℕ × List ℕ)) → run (not h.black) first.1 ≡ o → (o >>= λ second. end w (h.a0 + first.0) (h.a0 + first.0 + second.0) second.1) ≡ None → BreaksRuns w h bits
-    by-second first there None none is = inr (first, there, inl (run-fault (length first.1) (not h.black) first.1 (omega arith) none))
-    by-second first there (Some second) some is = inr (first, there, inr (second, some, past first second is))
+    by-second first there None none is = inr (first.0, first.1, there, inl (run-fault (length first.1) (not h.black) first.1 (omega arith) none))
+    by-second first there (Some second) some is = inr (first.0, first.1, there, inr (second.0, second.1, some, past first second is))
 
     by-first : (o : Option (ℕ × List ℕ)) → run h.black bits ≡ o → (o >>= λ first. run (not h.black) first.1 >>= λ second. end w (h.a0 + first.0) (h.a0 + first.0 + second.0) second.1) ≡ None → BreaksRuns w h bits
     by-first None none is = inl (run-fault (length bits) h.black bits (omega arith) none)
@@ -202,9 +202,9 @@ rows-fault (suc n) w above done bits =
     (λ ends is. inl ends)
     (λ goes is. inr (by-row o refl (λ r is. rows-fault n w r.0 (done ++ r.0 ∷ []) r.1 is) is))
   where
-    by-row : (o : Option (List ℕ × List ℕ)) → row w (pixel_of w above) bits ≡ o → ((r : List ℕ × List ℕ) → (rows_from n w r.0 (done ++ r.0 ∷ []) r.1).whole ≡ false → BreaksRows n w r.0 r.1) → (or_fault done o (λ r. rows_from n w r.0 (done ++ r.0 ∷ []) r.1)).whole ≡ false → BreaksRow (length bits) w (pixel_of w above) row_start bits ⊎ ((r : List ℕ × List ℕ) × (row w (pixel_of w above) bits ≡ Some r) × BreaksRows n w r.0 r.1)
+    by-row : (o : Option (List ℕ × List ℕ)) → row w (pixel_of w above) bits ≡ o → ((r : List ℕ × List ℕ) → (rows_from n w r.0 (done ++ r.0 ∷ []) r.1).whole ≡ false → BreaksRows n w r.0 r.1) → (or_fault done o (λ r. rows_from n w r.0 (done ++ r.0 ∷ []) r.1)).whole ≡ false → BreaksRow (length bits) w (pixel_of w above) row_start bits ⊎ ((changes : List ℕ) × (left : List ℕ) × (row w (pixel_of w above) bits ≡ Some (changes, left)) × BreaksRows n w changes left)
     by-row None none later is = inl (row-fault (length bits) w (pixel_of w above) row_start [] bits none)
-    by-row (Some r) some later is = inr (r, some, later r is)
+    by-row (Some r) some later is = inr (r.0, r.1, some, later r is)
 
 pub all-fault : (w h : ℕ) (bytes : List ℕ) → (rows_of w h bytes).whole ≡ false → (0 < w) × BreaksRows h w [] (bits_of bytes)
 unfolding rows_of

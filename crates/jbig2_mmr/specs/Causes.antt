@@ -12,22 +12,23 @@ use Rattle.jbig2_mmr.specs.T6Codes.{modes}
 use Rattle.jbig2_mmr.specs.declared.mmr.codes.Mode.TheVariants.{Horizontal, Vertical}
 
 abbrev pub BeginNone : {A : Type 0} → List (A × List ℕ) → List ℕ → Type 0  -- no code word of the table begins the bits
-BeginNone words bits = All (λ c. begins c.1 bits ≡ false) words
+BeginNone words bits = All (λ (value, word). begins word bits ≡ false) words
 
 -- A run: no code word of its table (tables 2 and 3) begins the bits, or a make-up code does, and the rest has a fault.
 abbrev pub BreaksRun : ℕ → Bool → List ℕ → Type 0
 BreaksRun zero black bits = BeginNone (runs_of black) bits
 BreaksRun (suc most) black bits =
     BeginNone (runs_of black) bits
-    ⊎ ((code : ℕ × List ℕ) × (read_code (runs_of black) bits ≡ Some code) × (64 ≤ code.0) × BreaksRun most black code.1)
+    ⊎ ((part : ℕ) × (left : List ℕ) × (read_code (runs_of black) bits ≡ Some (part, left)) × (64 ≤ part)
+    × BreaksRun most black left)
 
 -- Horizontal: the first run has a fault; or the second run has one; or both together go past the end of the row.
 abbrev pub BreaksRuns : ℕ → Head → List ℕ → Type 0
 BreaksRuns w h bits =
     BreaksRun (length bits) h.black bits
-    ⊎ ((first : ℕ × List ℕ) × (run h.black bits ≡ Some first)
-    × (BreaksRun (length first.1) (not h.black) first.1
-    ⊎ ((second : ℕ × List ℕ) × (run (not h.black) first.1 ≡ Some second) × (w < h.a0 + first.0 + second.0))))
+    ⊎ ((first : ℕ) × (left : List ℕ) × (run h.black bits ≡ Some (first, left))
+    × (BreaksRun (length left) (not h.black) left
+    ⊎ ((second : ℕ) × (rest : List ℕ) × (run (not h.black) left ≡ Some (second, rest)) × (w < h.a0 + first + second))))
 
 -- No mode's code word begins the bits (2.2.2, table 1); or the mode's runs have a fault; or a1 is left of a0 or past w.
 abbrev pub BreaksMode : ℕ → (ℕ → Bool) → Head → List ℕ → Type 0
@@ -51,7 +52,8 @@ BreaksRows zero w above bits = ⊥
 BreaksRows (suc n) w above bits =
     (ends_block bits ≡ true)
     ⊎ (BreaksRow (length bits) w (pixel_of w above) row_start bits
-    ⊎ ((r : List ℕ × List ℕ) × (row w (pixel_of w above) bits ≡ Some r) × BreaksRows n w r.0 r.1))
+    ⊎ ((changes : List ℕ) × (left : List ℕ) × (row w (pixel_of w above) bits ≡ Some (changes, left))
+    × BreaksRows n w changes left))
 
 -- Only in strict mode, and only if there are columns.
 abbrev pub BreaksMmr : Bool → ℕ → ℕ → List ℕ → DecodeError → Type 0

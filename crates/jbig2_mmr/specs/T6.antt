@@ -30,11 +30,13 @@ begins (b ∷ word) (c ∷ bits) = b == c && begins word bits
 -- the value of the code that begins the bits, and the bits after it
 unfoldable pub read_code : {A : Type 0} → List (A × List ℕ) → List ℕ → Option (A × List ℕ)
 read_code [] bits = None
-read_code (c ∷ cs) bits = if begins c.1 bits then Some (c.0, drop (length c.1) bits) else read_code cs bits
+read_code ((value, word) ∷ codes) bits =
+    if begins word bits then Some (value, drop (length word) bits) else read_code codes bits
 
 unfoldable pub is_prefix_free : {A : Type 0} → List (A × List ℕ) → Bool  -- no word of the list begins another one
 is_prefix_free [] = true
-is_prefix_free (c ∷ cs) = list_all (λ d. not (begins c.1 d.1) && not (begins d.1 c.1)) cs && is_prefix_free cs
+is_prefix_free ((value, word) ∷ codes) =
+    list_all (λ (other, longer). not (begins word longer) && not (begins longer word)) codes && is_prefix_free codes
 
 abbrev pub runs_of : Bool → List (ℕ × List ℕ)
 runs_of black = if black then black_runs else white_runs
@@ -43,8 +45,9 @@ runs_of black = if black then black_runs else white_runs
 unfoldable pub run_from : ℕ → Bool → List ℕ → Option (ℕ × List ℕ)
 run_from zero black bits = None
 run_from (suc most) black bits = do
-  code ← read_code (runs_of black) bits
-  if nat_lt code.0 64 then Some code else (run_from most black code.1 >>= λ rest. Some (code.0 + rest.0, rest.1))
+  (part, left) ← read_code (runs_of black) bits
+  if nat_lt part 64 then Some (part, left)
+    else (run_from most black left >>= λ (others, left). Some (part + others, left))
 
 abbrev pub run : Bool → List ℕ → Option (ℕ × List ℕ)
 run black bits = run_from (length bits) black bits
@@ -73,45 +76,49 @@ pub record Step : Type 0 where
   pub added : List ℕ
   pub left : List ℕ
 
--- b1: the first changing element of the reference row right of a0 whose colour is not that of a0 (2.2.1)
-unfoldable pub b1_of : ℕ → (ℕ → Bool) → Head → ℕ
-b1_of w above h = place_from (is_change_from above h.black) (if h.past_start then h.a0 + 1 else 0) w
-
-unfoldable pub b2_of : ℕ → (ℕ → Bool) → Head → ℕ  -- b2: the next changing element right of b1 (2.2.1)
-b2_of w above h = place_from (is_change above) (b1_of w above h + 1) w
-
--- Pass: a0 moves to the place below b2, and the colour stays.
-unfoldable pub after_pass : ℕ → (ℕ → Bool) → Head → List ℕ → Option Step
-after_pass w above h bits = Some (record { head = record { a0 = b2_of w above h; past_start = true; black = h.black }; added = []; left = bits })
-
 -- Horizontal: a run of the colour up to a1, then a run of the other up to a2, within the row. a0 moves to a2.
 unfoldable pub after_runs : ℕ → Head → List ℕ → Option Step
 after_runs w h bits = do
-  first ← run h.black bits
-  second ← run (not h.black) first.1
-  let a1 = h.a0 + first.0 in
-      let a2 = a1 + second.0 in
-      if nat_le a2 w then Some (record { head = record { a0 = a2; past_start = true; black = h.black }; added = a1 ∷ a2 ∷ []; left = second.1 }) else None
+  (first, left) ← run h.black bits
+  (second, left) ← run (not h.black) left
+  let a1 = h.a0 + first
+  let a2 = a1 + second
+  let head : Head = record { a0 = a2; past_start = true; black = h.black }
+  if nat_le a2 w then Some (record { head = head; added = a1 ∷ a2 ∷ []; left = left }) else None
 
 abbrev pub place_in : ℕ → ℕ → ℤ → Option ℕ  -- a place in the row that is not left of a0
 place_in a0 w (pos x) = if nat_le a0 x && nat_le x w then Some x else None
 place_in a0 w (negsuc x) = None
 
--- Vertical: a1 is b1 plus the mode's distance. a0 moves to a1, and the colour changes.
-unfoldable pub after_vertical : ℕ → (ℕ → Bool) → Head → ℤ → List ℕ → Option Step
-after_vertical w above h distance bits = do
-  a1 ← place_in h.a0 w (pos (b1_of w above h) +ℤ distance)
-  Some (record { head = record { a0 = a1; past_start = true; black = not h.black }; added = a1 ∷ []; left = bits })
+module _ (w : ℕ) (above : ℕ → Bool) where  -- the width, and the reference row
+  -- b1: the first changing element of the reference row right of a0 whose colour is not that of a0 (2.2.1)
+  unfoldable pub b1_of : Head → ℕ
+  b1_of h = place_from (is_change_from above h.black) (if h.past_start then h.a0 + 1 else 0) w
 
-abbrev pub after_mode : ℕ → (ℕ → Bool) → Head → Mode → List ℕ → Option Step
-after_mode w above h Pass bits = after_pass w above h bits
-after_mode w above h Horizontal bits = after_runs w h bits
-after_mode w above h (Vertical distance) bits = after_vertical w above h distance bits
+  unfoldable pub b2_of : Head → ℕ  -- b2: the next changing element right of b1 (2.2.1)
+  b2_of h = place_from (is_change above) (b1_of h + 1) w
 
-unfoldable pub next_step : ℕ → (ℕ → Bool) → Head → List ℕ → Option Step  -- the next mode (table 1), and its result
-next_step w above h bits = do
-  mode ← read_code modes bits
-  after_mode w above h mode.0 mode.1
+  -- Pass: a0 moves to the place below b2, and the colour stays.
+  unfoldable pub after_pass : Head → List ℕ → Option Step
+  after_pass h bits =
+      let head : Head = record { a0 = b2_of h; past_start = true; black = h.black } in
+      Some (record { head = head; added = []; left = bits })
+
+  -- Vertical: a1 is b1 plus the mode's distance. a0 moves to a1, and the colour changes.
+  unfoldable pub after_vertical : Head → ℤ → List ℕ → Option Step
+  after_vertical h distance bits = do
+    a1 ← place_in h.a0 w (pos (b1_of h) +ℤ distance)
+    Some (record { head = record { a0 = a1; past_start = true; black = not h.black }; added = a1 ∷ []; left = bits })
+
+  abbrev pub after_mode : Head → Mode → List ℕ → Option Step
+  after_mode h Pass bits = after_pass h bits
+  after_mode h Horizontal bits = after_runs w h bits
+  after_mode h (Vertical distance) bits = after_vertical h distance bits
+
+  unfoldable pub next_step : Head → List ℕ → Option Step  -- the next mode (table 1), and its result
+  next_step h bits = do
+    (mode, left) ← read_code modes bits
+    after_mode h mode left
 
 -- ---- rows (2.2.3)
 -- the changing elements of a row, and the bits after it, mode by mode; each mode takes at least one bit
@@ -145,19 +152,22 @@ pub record Rows : Type 0 where
 
 -- This many more rows. The end of block ends them early, and so does a fault. Above row 0 all is white.
 unfoldable pub rows_from : ℕ → ℕ → List ℕ → List (List ℕ) → List ℕ → Rows
-rows_from zero w above done bits = record { rows = done; whole = true; left = (if ends_block bits then drop 24 bits else bits) }
+rows_from zero w above done bits =
+    record { rows = done; whole = true; left = (if ends_block bits then drop 24 bits else bits) }
 rows_from (suc n) w above done bits =
     if ends_block bits then record { rows = done; whole = false; left = drop 24 bits }
     else (elim (row w (pixel_of w above) bits) [
       | None ↦ record { rows = done; whole = false; left = [] }
-      | Some r ↦ rows_from n w r.0 (done ++ r.0 ∷ []) r.1
+      | Some (changes, left) ↦ rows_from n w changes (done ++ changes ∷ []) left
     ])
 
 abbrev pub bits_of : List ℕ → List ℕ
 bits_of bytes = flat_map byte_bits bytes
 
 unfoldable pub rows_of : ℕ → ℕ → List ℕ → Rows  -- without columns or without rows nothing is read
-rows_of w h bytes = if w == 0 || h == 0 then record { rows = []; whole = true; left = bits_of bytes } else rows_from h w [] [] (bits_of bytes)
+rows_of w h bytes =
+    if w == 0 || h == 0 then record { rows = []; whole = true; left = bits_of bytes }
+    else rows_from h w [] [] (bits_of bytes)
 
 abbrev pub grid_of_rows : ℕ → ℕ → List (List ℕ) → Grid
 grid_of_rows w h rows = grid_of w h (λ x y. black_at (slice_index_or rows y []) x)

@@ -9,7 +9,7 @@ use Rattle.jbig2_base.specs.Results.{◌>>=◌}
 -- a generic region's flags, and the bytes after its adaptive pixels
 unfoldable pub coded_front_at : List ℕ → Result (ℕ × List ℕ) DecodeError
 coded_front_at bytes = do
-  information ← bytes_at 17 bytes
-  flags ← number_at w8 information.1
-  pixels ← bytes_at (adaptive_bytes flags.0) flags.1
-  Ok (flags.0, pixels.1)
+  (information, rest) ← bytes_at 17 bytes
+  (flags, rest) ← number_at w8 rest
+  (pixels, rest) ← bytes_at (adaptive_bytes flags) rest
+  Ok (flags, rest)

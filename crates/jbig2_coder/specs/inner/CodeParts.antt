@@ -65,5 +65,6 @@ HasWidths h = (0 < h.prefix_bits) × (h.prefix_bits ≤ 8) × (h.range_bits ≤ 
 -- the out-of-band line, if the flags ask for one
 abbrev pub last_line : Header → Place → Step (List TableLine)
 last_line h p =
-    if h.has_out_of_band then (field (Huffman InvalidCode) h.prefix_bits p >>= λ len. Ok (out_of_band len.0 ∷ [], len.1))
+    if h.has_out_of_band
+    then (field (Huffman InvalidCode) h.prefix_bits p >>= λ (len, place). Ok (out_of_band len ∷ [], place))
     else Ok ([], p)

@@ -7,25 +7,28 @@ use Rattle.jbig2_coder.specs.declared.huffman_table.first_table.FirstCode.{First
 use Rattle.jbig2_coder.specs.declared.huffman_table.first_table.FirstTable.{FirstTable}
 use Rattle.jbig2_coder.specs.inner.PrefixLevels.{walk, walk_of, groups_of, nodes}
 
--- The bits of v begin with this code, whatever bits come after.
-pub record Begins (lines : List TableLine) (levels : List Level) (v : ℕ) (code : FirstCode) : Type 0 where
-  pub inside : code.line < length lines
-  pub walks : (more : List ℕ) (x : TableLine) → walk_of lines levels 0 (byte_bits v ++ more) ≡ record { result = Ok (slice_index_or lines code.line x); taken = code.length }
+module _ (lines : List TableLine) (levels : List Level) where
+  -- The bits of v begin with this code, whatever bits come after.
+  pub record Begins (v : ℕ) (code : FirstCode) : Type 0 where
+    pub inside : code.line < length lines
+    pub walks : (more : List ℕ) (x : TableLine) → walk_of lines levels 0 (byte_bits v ++ more)
+        ≡ record { result = Ok (slice_index_or lines code.line x); taken = code.length }
 
--- each code that is entered for a byte begins it
-abbrev pub AreRight : List TableLine → List Level → List FirstCode → Type 0
-AreRight lines levels codes =
-    (v : ℕ) (d : FirstCode) → v < 256 → 0 < (slice_index_or codes v d).length → Begins lines levels v (slice_index_or codes v d)
+  -- each code that is entered for a byte begins it
+  abbrev pub AreRight : List FirstCode → Type 0
+  AreRight codes =
+      (v : ℕ) (d : FirstCode) → v < 256 → 0 < (slice_index_or codes v d).length
+      → Begins v (slice_index_or codes v d)
 
--- for the bytes from `from` on, the walk goes on at the inner nodes after the first eight levels
-abbrev pub GoesOn : List TableLine → List Level → ℕ → Type 0
-GoesOn lines levels from =
-    (v : ℕ) (more : List ℕ) → v < 256 → from ≤ v → v - from < nodes (groups_of lines (drop 8 levels)) →
-    walk_of lines levels 0 (byte_bits v ++ more) ≡ walk (groups_of lines (drop 8 levels)) 8 (v - from) more
+  -- for the bytes from `from` on, the walk goes on at the inner nodes after the first eight levels
+  abbrev pub GoesOn : ℕ → Type 0
+  GoesOn from =
+      (v : ℕ) (more : List ℕ) → v < 256 → from ≤ v → v - from < nodes (groups_of lines (drop 8 levels)) →
+      walk_of lines levels 0 (byte_bits v ++ more) ≡ walk (groups_of lines (drop 8 levels)) 8 (v - from) more
 
-pub record AreFirst (lines : List TableLine) (levels : List Level) (table : FirstTable) : Type 0 where
-  pub right : AreRight lines levels table.codes
-  pub longer : GoesOn lines levels table.longer
+  pub record AreFirst (table : FirstTable) : Type 0 where
+    pub right : AreRight table.codes
+    pub longer : GoesOn table.longer
 
 -- The byte v begins with a code of the level. The level's codes have len bits and are numbered from `code` on.
 pub record IsEntry (v : ℕ) (x : FirstCode) (level : Level) (len code : ℕ) : Type 0 where

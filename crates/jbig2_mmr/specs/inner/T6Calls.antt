@@ -19,18 +19,20 @@ pub record IsWordOf (row : ℕ → Bool) (w : RowWord) : Type 0 where
   pub pixels : (k : ℕ) → k < 64 → bit w.pixels (64 - 1 - k) ≡ row (64 * w.index + k)
   pub first : bit left 63 ≡ bit 0 0
   pub others : (k : ℕ) → k < 63 → bit left k ≡ bit w.pixels (k + 1)
-  pub changes : (black : Bool) (k : ℕ) → bit (if black then w.to_white else w.to_black) k ≡ (differ (bit w.pixels k) (bit left k) && differ (bit w.pixels k) black)
+  pub changes : (black : Bool) (k : ℕ) → bit (if black then w.to_white else w.to_black) k
+      ≡ (differ (bit w.pixels k) (bit left k) && differ (bit w.pixels k) black)
 
 -- a mode that was read, compared with the definition
 abbrev pub ReadStep : ℕ → Head → Option Step → Option Turn → List ℕ → Type 0
-ReadStep w h (Some s) (Some t) left = (s.head ≡ head_of t.next) × (s.left ≡ left) × IsTurn w h s.added t.turn (head_of t.next)
+ReadStep w h (Some s) (Some t) left =
+    (s.head ≡ head_of t.next) × (s.left ≡ left) × IsTurn w h s.added t.turn (head_of t.next)
 ReadStep w h None None left = Unit {0}
 ReadStep w h (Some s) None left = ⊥
 ReadStep w h None (Some t) left = ⊥
 
 -- a row that was read, compared with the definition; a row with a fault is white
 abbrev pub ReadRow : Option (List ℕ × List ℕ) → Bool → Grid → Grid → ℕ → List ℕ → Type 0
-ReadRow (Some r) true old new y left = IsRow old new y (black_at r.0) × (r.1 ≡ left)
+ReadRow (Some (changes, rest)) true old new y left = IsRow old new y (black_at changes) × (rest ≡ left)
 ReadRow None false old new y left = IsRow old new y (λ x. false)
 ReadRow (Some r) false old new y left = ⊥
 ReadRow None true old new y left = ⊥

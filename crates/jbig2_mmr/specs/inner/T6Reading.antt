@@ -18,12 +18,12 @@ pub record Rest : Type 0 where
 -- the value of the code that begins the bits, and how many bits it takes
 unfoldable pub code_at : {A : Type 0} → List (A × List ℕ) → List ℕ → Option (A × ℕ)
 code_at [] bits = None
-code_at (c ∷ cs) bits = if begins c.1 bits then Some (c.0, length c.1) else code_at cs bits
+code_at ((value, word) ∷ codes) bits = if begins word bits then Some (value, length word) else code_at codes bits
 
 -- An entry of a table of runs: 16 times the run, plus the size of its code in bits; 0 if there is no code.
 abbrev pub entry_of : Option (ℕ × ℕ) → ℕ
 entry_of None = 0
-entry_of (Some r) = 16 * r.0 + r.1
+entry_of (Some (run, size)) = 16 * run + size
 
 -- the bits after an end of block, if they begin with one
 abbrev pub after_end : List ℕ → List ℕ
@@ -40,8 +40,8 @@ with_rest (Some n) left = Some (n, left)
 
 -- a run that was read, compared with the definition; none if it is longer than the room
 abbrev pub ReadRun : Option (ℕ × List ℕ) → ℕ → Option ℕ → List ℕ → Type 0
-ReadRun (Some r) room (Some n) left = (r.0 ≡ n) × (r.1 ≡ left) × (n ≤ room)
-ReadRun (Some r) room None left = room < r.0
+ReadRun (Some (run, rest)) room (Some n) left = (run ≡ n) × (rest ≡ left) × (n ≤ room)
+ReadRun (Some (run, rest)) room None left = room < run
 ReadRun None room (Some n) left = ⊥
 ReadRun None room None left = Unit {0}
 
