@@ -69,8 +69,9 @@ is_smaller from info = nat_lt from.grid.width info.width || nat_lt from.grid.hei
 unfoldable pub offset : PlacedRegion → RegionSegmentInfo → Result (ℤ × ℤ) DecodeError
 offset from info = do
   covered ← refuse_if (is_smaller from info) (errors.Region InvalidDimension)
-  near ← refuse_if (is_far from.x_location || is_far info.x_location || is_far from.y_location || is_far info.y_location)
-    (errors.Overflow ReferenceOffset)
+  near ← refuse_if
+      (is_far from.x_location || is_far info.x_location || is_far from.y_location || is_far info.y_location)
+      (errors.Overflow ReferenceOffset)
   Ok (pos from.x_location -ℤ pos info.x_location, pos from.y_location -ℤ pos info.y_location)
 
 -- a refinement, by its header and the region that is refined
