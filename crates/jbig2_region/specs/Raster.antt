@@ -28,7 +28,11 @@ unfoldable pub with_next : List ℕ → Region → ℕ → Option Bool → Regio
 with_next bytes r k (Some colour) = record r { pixels = r.pixels ++ colour ∷ [] }
 with_next bytes r k None =
     let d = decision bytes r.registers (slice_index_or r.contexts k fresh) in
-    record r { pixels = r.pixels ++ d.symbol ∷ []; registers = d.registers; contexts = slice_set r.contexts k d.context }
+    record r {
+      pixels = r.pixels ++ d.symbol ∷ [];
+      registers = d.registers;
+      contexts = slice_set r.contexts k d.context;
+    }
 
 -- With typical prediction a row begins with a decision. LTP is the exclusive or of all these bits so far (6.2.5.7).
 unfoldable pub after_ltp : Option ℕ → List ℕ → Region → Region

@@ -33,7 +33,8 @@ reference_pixel r x y p = pixel r.grid (pos x -ℤ r.dx +ℤ p.x) (pos y -ℤ r.
 
 -- the number of a context, from the template's pixels in the reference and those in the region
 unfoldable pub refined_context : Reference → List AdaptiveTemplatePixel → List AdaptiveTemplatePixel → Grid → ℕ → ℕ → ℕ
-refined_context r in_reference in_region g x y = number_of (map (reference_pixel r x y) in_reference ++ map (region_pixel g x y) in_region)
+refined_context r in_reference in_region g x y =
+    number_of (map (reference_pixel r x y) in_reference ++ map (region_pixel g x y) in_region)
 
 abbrev pub nine : List AdaptiveTemplatePixel  -- a pixel and the eight around it
 nine =
@@ -48,7 +49,8 @@ common_colour r x y =
     else if list_all (λ p. not (reference_pixel r x y p)) nine then Some false else None
 
 -- how pixels are coded: in a predicted row a pixel takes the common colour of the nine (6.3.5.6)
-abbrev pub refined_coding : RefinementTemplate → Bool → List AdaptiveTemplatePixel → List AdaptiveTemplatePixel → Reference → Coding
+abbrev pub refined_coding : RefinementTemplate → Bool → List AdaptiveTemplatePixel → List AdaptiveTemplatePixel
+    → Reference → Coding
 refined_coding template typical in_reference in_region r = record {
   context = refined_context r in_reference in_region;
   known = λ predicted g x y. (if predicted then common_colour r x y else None);

@@ -31,10 +31,12 @@ pixel_decisions coding w h bytes start =
 
 -- One decision for each pixel that takes one, and for each row that begins with one. No run test and no lanes. At most
 -- one word a pixel, and this many loads a row. An empty region takes no step.
-pub record CountsDecided (coding : Coding) (row_loads : ℕ) (w h : ℕ) (bytes : List ℕ) (start : Region) (before after : Counts) : Type 0 where
+pub record CountsDecided (coding : Coding) (row_loads : ℕ) (w h : ℕ) (bytes : List ℕ) (start : Region)
+    (before after : Counts) : Type 0 where
   pub empty : w * h ≡ 0 → after ≡ before
   pub decisions : 1 ≤ w →
-      after.decisions ≡ before.decisions + (h * row_decisions coding.row_context + pixel_decisions coding w h bytes start)
+      after.decisions
+      ≡ before.decisions + (h * row_decisions coding.row_context + pixel_decisions coding w h bytes start)
   pub run_tests : after.run_tests ≡ before.run_tests
   pub words : after.words ≤ before.words + h * w
   pub loads : after.loads ≤ before.loads + h * row_loads
@@ -106,7 +108,8 @@ row_words nominal w = if nominal then (w - 1) / 8 + 1 else w
 
 -- One decision for each coded pixel, less eight for each run byte, and one for each row that begins with one. No lanes.
 -- An empty region takes no step.
-pub record CountsRegion (template : List AdaptiveTemplatePixel) (nominal : Bool) (adaptive : ℕ) (coding : Coding) (w h : ℕ) (bytes : List ℕ) (start : Region) (before after : Counts) : Type 0 where
+pub record CountsRegion (template : List AdaptiveTemplatePixel) (nominal : Bool) (adaptive : ℕ) (coding : Coding)
+    (w h : ℕ) (bytes : List ℕ) (start : Region) (before after : Counts) : Type 0 where
   pub empty : w * h ≡ 0 → after ≡ before
   pub decisions : 1 ≤ w →
       after.decisions + 8 * coded_runs template nominal coding w h bytes start

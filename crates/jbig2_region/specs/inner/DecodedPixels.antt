@@ -24,14 +24,16 @@ module _ (coding : Coding) (predicted : Bool) (x y n : ℕ) (grid : Grid) (coder
       → HasDecoded w h input r grid coder states → after ≡ before + decided_pixels coding w h input n r
 
 -- what one decision leaves
-pub record Decides (e : Decision) (k : ℕ) (d : Coder) (s : List Context) (before : Counts) (n : ℕ) (d' : Coder) (s' : List Context) (after : Counts) : Type 0 where
+pub record Decides (e : Decision) (k : ℕ) (d : Coder) (s : List Context) (before : Counts)
+    (n : ℕ) (d' : Coder) (s' : List Context) (after : Counts) : Type 0 where
   pub symbol : n ≡ bit_number e.symbol
   pub coder : d' ≡ record d { registers = e.registers }
   pub states : s' ≡ slice_set s k e.context
   pub steps : after ≡ record before { decisions = before.decisions + 1 }
 
 -- what a known colour leaves
-pub record Knows (colour : Bool) (d : Coder) (s : List Context) (before : Counts) (n : ℕ) (d' : Coder) (s' : List Context) (after : Counts) : Type 0 where
+pub record Knows (colour : Bool) (d : Coder) (s : List Context) (before : Counts)
+    (n : ℕ) (d' : Coder) (s' : List Context) (after : Counts) : Type 0 where
   pub symbol : n ≡ bit_number colour
   pub coder : d' ≡ d
   pub states : s' ≡ s
@@ -40,4 +42,5 @@ pub record Knows (colour : Bool) (d : Coder) (s : List Context) (before : Counts
 -- the next pixel: of a known colour, or else decided in the context with number k
 abbrev pub Takes : Option Bool → ℕ → Coder → List Context → Counts → ℕ → Coder → List Context → Counts → Type 0
 Takes (Some colour) k d s before n d' s' after = Knows colour d s before n d' s' after
-Takes None k d s before n d' s' after = Decides (decision d.bytes d.registers (slice_index_or s k fresh)) k d s before n d' s' after
+Takes None k d s before n d' s' after =
+    Decides (decision d.bytes d.registers (slice_index_or s k fresh)) k d s before n d' s' after

@@ -35,7 +35,8 @@ module _ (n : Neighbours) where
 
   abbrev pub mixed_pixels : Adaptives → List AdaptiveTemplatePixel
   mixed_pixels a =
-      left_pixels ++ (a.first.now ++ (stretch_pixels n.above 1 ++ (a.middle.now ++ (stretch_pixels n.top 2 ++ a.last.now))))
+      left_pixels
+      ++ (a.first.now ++ (stretch_pixels n.above 1 ++ (a.middle.now ++ (stretch_pixels n.top 2 ++ a.last.now))))
 
   abbrev pub optional_pixels : Option Adaptives → List AdaptiveTemplatePixel
   optional_pixels None = nominal_pixels
@@ -107,9 +108,12 @@ abbrev pub row_coding : List AdaptiveTemplatePixel → Coding
 row_coding template = record { context = context_at template; known = known_colour None; row_context = None }
 
 -- A bitmap, a coder and contexts before and after n pixels of row y, from column x on.
-abbrev pub DecodesPixels : List AdaptiveTemplatePixel → Bool → ℕ → ℕ → ℕ → Grid → Coder → List Context → Grid → Coder → List Context → Type 0
+abbrev pub DecodesPixels : List AdaptiveTemplatePixel → Bool → ℕ → ℕ → ℕ
+    → Grid → Coder → List Context → Grid → Coder → List Context → Type 0
 DecodesPixels template predicted x y n grid coder states grid' coder' states' =
-    (w h : ℕ) (input : List ℕ) (r : Region) → length r.pixels ≡ y * w + x → r.predicted ≡ predicted → HasDecoded w h input r grid coder states → HasDecoded w h input (after_pixels (row_coding template) w h input n r) grid' coder' states'
+    (w h : ℕ) (input : List ℕ) (r : Region) → length r.pixels ≡ y * w + x → r.predicted ≡ predicted
+    → HasDecoded w h input r grid coder states
+    → HasDecoded w h input (after_pixels (row_coding template) w h input n r) grid' coder' states'
 
 -- the part of a context that a window has for a stretch, seen from `offset` columns right of the window's column
 abbrev pub stretch_bits : Stretch → ℕ → ℕ → ℕ
@@ -149,7 +153,8 @@ abbrev pub adaptive_count : Adaptives → ℕ
 adaptive_count a = length a.first.now + (length a.middle.now + length a.last.now)
 
 abbrev pub mixed_count : Neighbours → Adaptives → ℕ
-mixed_count n a = n.left + (length a.first.now + (n.above.count + (length a.middle.now + (n.top.count + length a.last.now))))
+mixed_count n a =
+    n.left + (length a.first.now + (n.above.count + (length a.middle.now + (n.top.count + length a.last.now))))
 
 -- near neighbours, and no more adaptive pixels than a context has room for
 pub record IsMixed (n : Neighbours) (a : Adaptives) : Type 0 where
@@ -174,4 +179,5 @@ is_nominal_layout None = true
 is_nominal_layout (Some a) = false
 
 abbrev pub layout_coding : Layout → Option ℕ → Coding
-layout_coding l row_context = record { context = context_at (layout_pixels l); known = known_colour None; row_context = row_context }
+layout_coding l row_context =
+    record { context = context_at (layout_pixels l); known = known_colour None; row_context = row_context }
