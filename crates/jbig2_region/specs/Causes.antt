@@ -19,7 +19,8 @@ use Rattle.jbig2_base.specs.declared.error.DecodeError.TheVariants as errors
 -- ---- region information (7.4.1): the two sides and the place, four bytes each, and the flags
 abbrev pub BreaksRegionInfo : List ℕ → DecodeError → Type 0
 BreaksRegionInfo bytes (errors.Parse UnexpectedEof) = length bytes < 17
-BreaksRegionInfo bytes (errors.Region InvalidCombinationOperator) = (17 ≤ length bytes) × (4 < number_in w8 16 bytes % 8)
+BreaksRegionInfo bytes (errors.Region InvalidCombinationOperator) =
+    (17 ≤ length bytes) × (4 < number_in w8 16 bytes % 8)
 BreaksRegionInfo bytes errors.Unsupported = (17 ≤ length bytes) × (number_in w8 16 bytes / 8 % 2 ≡ 1)
 BreaksRegionInfo bytes _ = ⊥
 
@@ -33,7 +34,8 @@ abbrev pub BreaksPixels : ℕ → ℕ → List ℕ → DecodeError → Type 0
 BreaksPixels count place bytes (errors.Parse UnexpectedEof) = length bytes < place + 2 * count
 BreaksPixels count place bytes (errors.Template InvalidAtPixel) =
     (k : ℕ) × (k < count) × (place + 2 * k + 2 ≤ length bytes)
-    × IsLate (cast_signed w8 (number_in w8 (place + 2 * k) bytes)) (cast_signed w8 (number_in w8 (place + 2 * k + 1) bytes))
+    × IsLate (cast_signed w8 (number_in w8 (place + 2 * k) bytes))
+    (cast_signed w8 (number_in w8 (place + 2 * k + 1) bytes))
 BreaksPixels count place bytes _ = ⊥
 
 -- ---- generic regions (7.4.6): if the segment's length is unknown, the last four bytes are the number of rows
@@ -80,5 +82,6 @@ abbrev pub BreaksOffset : PlacedRegion → RegionSegmentInfo → DecodeError →
 BreaksOffset from info (errors.Region InvalidDimension) =
     (from.grid.width < info.width) ⊎ (from.grid.height < info.height)
 BreaksOffset from info (errors.Overflow ReferenceOffset) =
-    ((2 ^ 31 ≤ from.x_location) ⊎ (2 ^ 31 ≤ info.x_location)) ⊎ ((2 ^ 31 ≤ from.y_location) ⊎ (2 ^ 31 ≤ info.y_location))
+    ((2 ^ 31 ≤ from.x_location) ⊎ (2 ^ 31 ≤ info.x_location))
+    ⊎ ((2 ^ 31 ≤ from.y_location) ⊎ (2 ^ 31 ≤ info.y_location))
 BreaksOffset from info _ = ⊥

@@ -50,33 +50,35 @@ masked_coding typical template pixels skip = record {
 abbrev pub coding_of : Bool → Template → List AdaptiveTemplatePixel → Coding
 coding_of typical template pixels = masked_coding typical template pixels None
 
-abbrev pub generic_coding : GenericHeader → Coding
-generic_coding h = coding_of h.tpgdon h.template (template_pixels h.extended h.template h.adaptive_template_pixels)
+module _ (h : GenericHeader) where
+  abbrev pub generic_coding : Coding
+  generic_coding = coding_of h.tpgdon h.template (template_pixels h.extended h.template h.adaptive_template_pixels)
 
--- the region and the coder's state after it, from fresh contexts
-unfoldable pub generic_region : GenericHeader → Region
-generic_region h =
-    decoded_region (generic_coding h) h.region_info.width h.region_info.height h.bytes (no_pixels (initial_registers h.bytes) (fresh_contexts (context_bits h.template)))
+  -- the region and the coder's state after it, from fresh contexts
+  unfoldable pub generic_region : Region
+  generic_region =
+      decoded_region generic_coding h.region_info.width h.region_info.height h.bytes
+      (no_pixels (initial_registers h.bytes) (fresh_contexts (context_bits h.template)))
 
-unfoldable pub generic_grid : GenericHeader → Grid
-generic_grid h = so_far h.region_info.width h.region_info.height (generic_region h).pixels
+  unfoldable pub generic_grid : Grid
+  generic_grid = so_far h.region_info.width h.region_info.height generic_region.pixels
 
-abbrev pub generic_result : GenericHeader → Result Grid DecodeError  -- by the arithmetic coder or by MMR (6.2.6)
-generic_result h =
-    if h.mmr then (mmr_rows h.strict h.region_info.width h.region_info.height h.bytes >>= λ rows. Ok rows.grid)
-    else Ok (generic_grid h)
+  abbrev pub generic_result : Result Grid DecodeError  -- by the arithmetic coder or by MMR (6.2.6)
+  generic_result =
+      if h.mmr then (mmr_rows h.strict h.region_info.width h.region_info.height h.bytes >>= λ rows. Ok rows.grid)
+      else Ok generic_grid
 
--- the bitmap after a region is refused: with MMR the whole rows before the fault, and white below them
-abbrev pub refused_grid : GenericHeader → Grid → Grid
-refused_grid h g =
-    let info = h.region_info in
-    if h.mmr then grid_of_rows info.width info.height (rows_of info.width info.height h.bytes).rows else g
+  -- the bitmap after a region is refused: with MMR the whole rows before the fault, and white below them
+  abbrev pub refused_grid : Grid → Grid
+  refused_grid g =
+      let info = h.region_info in
+      if h.mmr then grid_of_rows info.width info.height (rows_of info.width info.height h.bytes).rows else g
 
-abbrev pub contexts_after : GenericHeader → List Context → List Context
-contexts_after h contexts = if h.mmr then contexts else (generic_region h).contexts
+  abbrev pub contexts_after : List Context → List Context
+  contexts_after contexts = if h.mmr then contexts else generic_region.contexts
 
-abbrev pub generic_decoded : GenericHeader → Result PlacedRegion DecodeError
-generic_decoded h = generic_result h >>= λ g. Ok (placed h.region_info g)
+  abbrev pub generic_decoded : Result PlacedRegion DecodeError
+  generic_decoded = generic_result >>= λ g. Ok (placed h.region_info g)
 
 abbrev pub skipping_coding : List AdaptiveTemplatePixel → Option Grid → Coding
 skipping_coding pixels skip = record { context = context_at pixels; known = known_colour skip; row_context = None }

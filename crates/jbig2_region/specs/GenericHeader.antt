@@ -30,33 +30,33 @@ pub record GenericHeader : Type 0 where
 unfoldable pub rows_at : Bool → ℕ → List ℕ → Result (ℕ × List ℕ) DecodeError
 rows_at false height bytes = Ok (height, bytes)
 rows_at true height bytes = do
-  rows ← number_at w32 (drop (length bytes - 4) bytes)
-  within ← refuse_if (nat_lt height rows.0) (errors.Region InvalidDimension)
-  Ok (rows.0, take (length bytes - 4) bytes)
+  (rows, after) ← number_at w32 (drop (length bytes - 4) bytes)
+  within ← refuse_if (nat_lt height rows) (errors.Region InvalidDimension)
+  Ok (rows, take (length bytes - 4) bytes)
 
 -- the header, and the bytes from the coded ones on; neither side may be above 65535 (our own rule)
 unfoldable pub generic_header_at : Bool → Bool → List ℕ → Result (GenericHeader × List ℕ) DecodeError
 generic_header_at unknown_length strict bytes = do
-  info ← region_info_at bytes
-  flags ← number_at w8 info.1
-  let mmr = flags.0 % 2 == 1
-  let extended = flags.0 / 16 % 2 == 1
-  let template = template_of (flags.0 / 2 % 4)
-  pixels ← adaptive_pixels_at (adaptive_pixel_count mmr extended template) flags.1
-  rows ← rows_at unknown_length info.0.height pixels.1
-  fits ← refuse_if (nat_lt 65535 info.0.width || nat_lt 65535 rows.0) (errors.Overflow BitmapDimension)
+  (info, rest) ← region_info_at bytes
+  (flags, rest) ← number_at w8 rest
+  let mmr = flags % 2 == 1
+  let extended = flags / 16 % 2 == 1
+  let template = template_of (flags / 2 % 4)
+  (pixels, rest) ← adaptive_pixels_at (adaptive_pixel_count mmr extended template) rest
+  (rows, coded) ← rows_at unknown_length info.height rest
+  fits ← refuse_if (nat_lt 65535 info.width || nat_lt 65535 rows) (errors.Overflow BitmapDimension)
   Ok (
     record {
-      region_info = record info.0 { height = rows.0 };
+      region_info = record info { height = rows };
       mmr = mmr;
       template = template;
       extended = takes_extended mmr extended template;
-      tpgdon = flags.0 / 8 % 2 == 1;
-      adaptive_template_pixels = pixels.0;
-      bytes = rows.1;
+      tpgdon = flags / 8 % 2 == 1;
+      adaptive_template_pixels = pixels;
+      bytes = coded;
       strict = strict;
     },
-    pixels.1,
+    rest,
   )
 
 pub record IsParsed (h : GenericHeader) : Type 0 where  -- what holds for every header that is read

@@ -16,14 +16,21 @@ abbrev pub read_pixels : Template → List AdaptiveTemplatePixel → ℕ
 read_pixels template a = if is_nominal template a then 0 else adaptive_pixel_count false false template
 
 -- The steps of a region. The extended template has no run bytes, and all its pixels are read one by one.
-abbrev pub CountsCoded : Bool → Template → List AdaptiveTemplatePixel → Coding → ℕ → ℕ → List ℕ → Region → Counts → Counts → Type 0
-CountsCoded true template a coding w h bytes start before after = CountsDecided coding (w * (context_bits template + 1)) w h bytes start before after
-CountsCoded false template a coding w h bytes start before after = CountsRegion (template_pixels false template a) (is_nominal template a) (read_pixels template a) coding w h bytes start before after
+abbrev pub CountsCoded : Bool → Template → List AdaptiveTemplatePixel → Coding
+    → ℕ → ℕ → List ℕ → Region → Counts → Counts → Type 0
+CountsCoded true template a coding w h bytes start before after =
+    CountsDecided coding (w * (context_bits template + 1)) w h bytes start before after
+CountsCoded false template a coding w h bytes start before after =
+    CountsRegion (template_pixels false template a) (is_nominal template a) (read_pixels template a)
+    coding w h bytes start before after
 
 -- the same for a region whose header is read; with MMR its steps are not counted
 abbrev pub CountsGeneric : GenericHeader → Counts → Counts → Type 0
 CountsGeneric h before after =
-    h.mmr ≡ false → CountsCoded h.extended h.template h.adaptive_template_pixels (generic_coding h) h.region_info.width h.region_info.height h.bytes (no_pixels (initial_registers h.bytes) (fresh_contexts (context_bits h.template))) before after
+    h.mmr ≡ false →
+    CountsCoded h.extended h.template h.adaptive_template_pixels (generic_coding h)
+    h.region_info.width h.region_info.height h.bytes
+    (no_pixels (initial_registers h.bytes) (fresh_contexts (context_bits h.template))) before after
 
 -- the units that pay for a region: those of a bitmap of its size, and one for each coded byte
 abbrev pub price_of_region : GenericHeader → ℕ

@@ -28,14 +28,11 @@ unfoldable pub with_next : List ℕ → Region → ℕ → Option Bool → Regio
 with_next bytes r k (Some colour) = record r { pixels = r.pixels ++ colour ∷ [] }
 with_next bytes r k None =
     let d = decision bytes r.registers (slice_index_or r.contexts k fresh) in
-    record r { pixels = r.pixels ++ d.symbol ∷ []; registers = d.registers; contexts = slice_set r.contexts k d.context }
-
--- one pixel more, in a region of w columns and h rows
-unfoldable pub after_pixel : Coding → ℕ → ℕ → List ℕ → Region → Region
-after_pixel coding w h bytes r =
-    let n = length r.pixels in
-    let g = so_far w h r.pixels in
-    with_next bytes r (coding.context g (n % w) (n / w)) (coding.known r.predicted g (n % w) (n / w))
+    record r {
+      pixels = r.pixels ++ d.symbol ∷ [];
+      registers = d.registers;
+      contexts = slice_set r.contexts k d.context;
+    }
 
 -- With typical prediction a row begins with a decision. LTP is the exclusive or of all these bits so far (6.2.5.7).
 unfoldable pub after_ltp : Option ℕ → List ℕ → Region → Region
@@ -56,21 +53,29 @@ row_decisions (Some _) = 1
 unfoldable pub at_next : Coding → ℕ → List ℕ → Region → Region
 at_next coding w bytes r = if length r.pixels % w == 0 then after_ltp coding.row_context bytes r else r
 
--- the state after the first n pixels
-unfoldable pub first_pixels : Coding → ℕ → ℕ → List ℕ → Region → ℕ → Region
-first_pixels coding w h bytes start zero = start
-first_pixels coding w h bytes start (suc n) =
-    after_pixel coding w h bytes (at_next coding w bytes (first_pixels coding w h bytes start n))
-
-abbrev pub at_pixel : Coding → ℕ → ℕ → List ℕ → Region → ℕ → Region  -- the state at pixel n of the raster
-at_pixel coding w h bytes start n = at_next coding w bytes (first_pixels coding w h bytes start n)
-
 abbrev pub no_pixels : Registers → List Context → Region
 no_pixels registers contexts = record { pixels = []; predicted = false; registers = registers; contexts = contexts }
 
--- the whole region; without columns or without rows it takes no decision (our own rule)
-unfoldable pub decoded_region : Coding → ℕ → ℕ → List ℕ → Region → Region
-decoded_region coding w h bytes start = first_pixels coding w h bytes start (w * h)
+-- a region of w columns and h rows
+module _ (coding : Coding) (w h : ℕ) (bytes : List ℕ) where
+  -- one pixel more
+  unfoldable pub after_pixel : Region → Region
+  after_pixel r =
+      let n = length r.pixels in
+      let g = so_far w h r.pixels in
+      with_next bytes r (coding.context g (n % w) (n / w)) (coding.known r.predicted g (n % w) (n / w))
+
+  -- the state after the first n pixels
+  unfoldable pub first_pixels : Region → ℕ → Region
+  first_pixels start zero = start
+  first_pixels start (suc n) = after_pixel (at_next coding w bytes (first_pixels start n))
+
+  abbrev pub at_pixel : Region → ℕ → Region  -- the state at pixel n of the raster
+  at_pixel start n = at_next coding w bytes (first_pixels start n)
+
+  -- the whole region; without columns or without rows it takes no decision (our own rule)
+  unfoldable pub decoded_region : Region → Region
+  decoded_region start = first_pixels start (w * h)
 
 abbrev pub fresh_contexts : ℕ → List Context
 fresh_contexts bits = replicate (2 ^ bits) fresh

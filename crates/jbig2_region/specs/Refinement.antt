@@ -33,7 +33,8 @@ reference_pixel r x y p = pixel r.grid (pos x -ℤ r.dx +ℤ p.x) (pos y -ℤ r.
 
 -- the number of a context, from the template's pixels in the reference and those in the region
 unfoldable pub refined_context : Reference → List AdaptiveTemplatePixel → List AdaptiveTemplatePixel → Grid → ℕ → ℕ → ℕ
-refined_context r in_reference in_region g x y = number_of (map (reference_pixel r x y) in_reference ++ map (region_pixel g x y) in_region)
+refined_context r in_reference in_region g x y =
+    number_of (map (reference_pixel r x y) in_reference ++ map (region_pixel g x y) in_region)
 
 abbrev pub nine : List AdaptiveTemplatePixel  -- a pixel and the eight around it
 nine =
@@ -48,7 +49,8 @@ common_colour r x y =
     else if list_all (λ p. not (reference_pixel r x y p)) nine then Some false else None
 
 -- how pixels are coded: in a predicted row a pixel takes the common colour of the nine (6.3.5.6)
-abbrev pub refined_coding : RefinementTemplate → Bool → List AdaptiveTemplatePixel → List AdaptiveTemplatePixel → Reference → Coding
+abbrev pub refined_coding : RefinementTemplate → Bool → List AdaptiveTemplatePixel → List AdaptiveTemplatePixel
+    → Reference → Coding
 refined_coding template typical in_reference in_region r = record {
   context = refined_context r in_reference in_region;
   known = λ predicted g x y. (if predicted then common_colour r x y else None);
@@ -58,21 +60,6 @@ refined_coding template typical in_reference in_region r = record {
 abbrev pub refinement_coding : RefinementTemplate → Bool → List AdaptiveTemplatePixel → Reference → Coding
 refinement_coding template typical a r =
     refined_coding template typical (reference_pixels template a) (region_pixels template a) r
-
--- the reference at its place on the page, seen from the region at its place
-abbrev pub reference_of : RefinementHeader → PlacedRegion → Reference
-reference_of h from = record {
-  grid = from.grid;
-  dx = pos from.x_location -ℤ pos h.region_info.x_location;
-  dy = pos from.y_location -ℤ pos h.region_info.y_location;
-}
-
-unfoldable pub refined_region : RefinementHeader → PlacedRegion → Region
-refined_region h from =
-    decoded_region (refinement_coding h.template h.tpgron h.adaptive_template_pixels (reference_of h from)) h.region_info.width h.region_info.height h.bytes (no_pixels (initial_registers h.bytes) (fresh_contexts (refinement_bits h.template)))
-
-unfoldable pub refined_grid : RefinementHeader → PlacedRegion → Grid
-refined_grid h from = so_far h.region_info.width h.region_info.height (refined_region h from).pixels
 
 abbrev pub is_far : ℕ → Bool
 is_far location = nat_le 0x80000000 location
@@ -84,14 +71,35 @@ is_smaller from info = nat_lt from.grid.width info.width || nat_lt from.grid.hei
 unfoldable pub offset : PlacedRegion → RegionSegmentInfo → Result (ℤ × ℤ) DecodeError
 offset from info = do
   covered ← refuse_if (is_smaller from info) (errors.Region InvalidDimension)
-  near ← refuse_if (is_far from.x_location || is_far info.x_location || is_far from.y_location || is_far info.y_location) (errors.Overflow ReferenceOffset)
+  near ← refuse_if
+      (is_far from.x_location || is_far info.x_location || is_far from.y_location || is_far info.y_location)
+      (errors.Overflow ReferenceOffset)
   Ok (pos from.x_location -ℤ pos info.x_location, pos from.y_location -ℤ pos info.y_location)
 
-abbrev pub refined_result : RefinementHeader → PlacedRegion → Result Grid DecodeError
-refined_result h from = offset from h.region_info >>= λ d. Ok (refined_grid h from)
+-- a refinement, by its header and the region that is refined
+module _ (h : RefinementHeader) (from : PlacedRegion) where
+  -- the reference at its place on the page, seen from the region at its place
+  abbrev pub reference_of : Reference
+  reference_of = record {
+    grid = from.grid;
+    dx = pos from.x_location -ℤ pos h.region_info.x_location;
+    dy = pos from.y_location -ℤ pos h.region_info.y_location;
+  }
 
-abbrev pub refined_contexts : RefinementHeader → PlacedRegion → List Context → List Context
-refined_contexts h from contexts = if is_ok (offset from h.region_info) then (refined_region h from).contexts else contexts
+  unfoldable pub refined_region : Region
+  refined_region =
+      decoded_region (refinement_coding h.template h.tpgron h.adaptive_template_pixels reference_of)
+      h.region_info.width h.region_info.height h.bytes
+      (no_pixels (initial_registers h.bytes) (fresh_contexts (refinement_bits h.template)))
 
-abbrev pub refined_decoded : RefinementHeader → PlacedRegion → Result PlacedRegion DecodeError
-refined_decoded h from = refined_result h from >>= λ g. Ok (placed h.region_info g)
+  unfoldable pub refined_grid : Grid
+  refined_grid = so_far h.region_info.width h.region_info.height refined_region.pixels
+
+  abbrev pub refined_result : Result Grid DecodeError
+  refined_result = offset from h.region_info >>= λ d. Ok refined_grid
+
+  abbrev pub refined_contexts : List Context → List Context
+  refined_contexts contexts = if is_ok (offset from h.region_info) then refined_region.contexts else contexts
+
+  abbrev pub refined_decoded : Result PlacedRegion DecodeError
+  refined_decoded = refined_result >>= λ g. Ok (placed h.region_info g)

@@ -23,19 +23,19 @@ pub record RefinementHeader : Type 0 where
 -- the header, and the coded bytes; neither side may be above 65535 (our own rule)
 unfoldable pub refinement_header_at : List ℕ → Result (RefinementHeader × List ℕ) DecodeError
 refinement_header_at bytes = do
-  info ← region_info_at bytes
-  flags ← number_at w8 info.1
-  pixels ← refinement_pixels_at (refinement_template_of (flags.0 % 2)) flags.1
-  fits ← refuse_if (nat_lt 65535 info.0.width || nat_lt 65535 info.0.height) (errors.Overflow BitmapDimension)
+  (info, rest) ← region_info_at bytes
+  (flags, rest) ← number_at w8 rest
+  (pixels, rest) ← refinement_pixels_at (refinement_template_of (flags % 2)) rest
+  fits ← refuse_if (nat_lt 65535 info.width || nat_lt 65535 info.height) (errors.Overflow BitmapDimension)
   Ok (
     record {
-      region_info = info.0;
-      template = refinement_template_of (flags.0 % 2);
-      tpgron = flags.0 / 2 % 2 == 1;
-      adaptive_template_pixels = pixels.0;
-      bytes = pixels.1;
+      region_info = info;
+      template = refinement_template_of (flags % 2);
+      tpgron = flags / 2 % 2 == 1;
+      adaptive_template_pixels = pixels;
+      bytes = rest;
     },
-    pixels.1,
+    rest,
   )
 
 pub record IsRefinement (h : RefinementHeader) : Type 0 where  -- what holds for every header that is read

@@ -53,9 +53,10 @@ is_nominal Template0 a = lies_at (adaptive a 0) (negsuc 0) (negsuc 0) && lies_at
 is_nominal Template1 a = true
 
 -- the adaptive pixels as a segment holds them (7.4.7.3); their places are not checked
-unfoldable pub refinement_pixels_at : RefinementTemplate → List ℕ → Result (List AdaptiveTemplatePixel × List ℕ) DecodeError
+unfoldable pub refinement_pixels_at : RefinementTemplate → List ℕ
+    → Result (List AdaptiveTemplatePixel × List ℕ) DecodeError
 refinement_pixels_at Template0 bytes = do
-  first ← free_pixel_at bytes
-  second ← free_pixel_at first.1
-  Ok (first.0 ∷ second.0 ∷ [], second.1)
+  (first, rest) ← free_pixel_at bytes
+  (second, rest) ← free_pixel_at rest
+  Ok (first ∷ second ∷ [], rest)
 refinement_pixels_at Template1 bytes = Ok ([], bytes)

@@ -14,14 +14,14 @@ use Rattle.jbig2_region.specs.declared.region_info.RegionSegmentInfo.{RegionSegm
 -- bit 3 of the flags means a colour extension, which this decoder does not support (our own rule)
 unfoldable pub region_info_at : List ℕ → Result (RegionSegmentInfo × List ℕ) DecodeError
 region_info_at bytes = do
-  width ← number_at w32 bytes
-  height ← number_at w32 width.1
-  x ← number_at w32 height.1
-  y ← number_at w32 x.1
-  flags ← number_at w8 y.1
-  operator ← operator_of (flags.0 % 8)
-  plain ← refuse_if (flags.0 / 8 % 2 == 1) Unsupported
-  Ok (record { width = width.0; height = height.0; x_location = x.0; y_location = y.0; combination_operator = operator }, flags.1)
+  (width, rest) ← number_at w32 bytes
+  (height, rest) ← number_at w32 rest
+  (x, rest) ← number_at w32 rest
+  (y, rest) ← number_at w32 rest
+  (flags, rest) ← number_at w8 rest
+  operator ← operator_of (flags % 8)
+  plain ← refuse_if (flags / 8 % 2 == 1) Unsupported
+  Ok (record { width = width; height = height; x_location = x; y_location = y; combination_operator = operator }, rest)
 
 abbrev pub IsWhiteFor : RegionSegmentInfo → Grid → Type 0
 IsWhiteFor info g = g ≡ blank info.width info.height false

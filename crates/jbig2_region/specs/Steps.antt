@@ -31,10 +31,12 @@ pixel_decisions coding w h bytes start =
 
 -- One decision for each pixel that takes one, and for each row that begins with one. No run test and no lanes. At most
 -- one word a pixel, and this many loads a row. An empty region takes no step.
-pub record CountsDecided (coding : Coding) (row_loads : ℕ) (w h : ℕ) (bytes : List ℕ) (start : Region) (before after : Counts) : Type 0 where
+pub record CountsDecided (coding : Coding) (row_loads : ℕ) (w h : ℕ) (bytes : List ℕ) (start : Region)
+    (before after : Counts) : Type 0 where
   pub empty : w * h ≡ 0 → after ≡ before
   pub decisions : 1 ≤ w →
-      after.decisions ≡ before.decisions + (h * row_decisions coding.row_context + pixel_decisions coding w h bytes start)
+      after.decisions
+      ≡ before.decisions + (h * row_decisions coding.row_context + pixel_decisions coding w h bytes start)
   pub run_tests : after.run_tests ≡ before.run_tests
   pub words : after.words ≤ before.words + h * w
   pub loads : after.loads ≤ before.loads + h * row_loads
@@ -56,30 +58,33 @@ CountsRefined h from before after =
     (no_pixels (initial_registers h.bytes) (fresh_contexts (refinement_bits h.template))) before after
 
 -- ---- run bytes of generic regions: eight likely pixels, for which the coder only lowers A
--- the context of a template whose pixels all have one colour
-abbrev pub all_of : List AdaptiveTemplatePixel → Bool → ℕ
-all_of template colour = number_of (replicate (length template) colour)
+module _ (template : List AdaptiveTemplatePixel) where
+  -- the context of a template whose pixels all have one colour
+  abbrev pub all_of : Bool → ℕ
+  all_of colour = number_of (replicate (length template) colour)
 
--- whether the pixel after these has that context
-unfoldable pub has_all : List AdaptiveTemplatePixel → ℕ → ℕ → Bool → List Bool → Bool
-has_all template w h colour bits = context_at template (so_far w h bits) (length bits % w) (length bits / w) == all_of template colour
+  module _ (w h : ℕ) where
+    -- whether the pixel after these has that context
+    unfoldable pub has_all : Bool → List Bool → Bool
+    has_all colour bits =
+        context_at template (so_far w h bits) (length bits % w) (length bits / w) == all_of colour
 
--- whether the next n pixels, if they have that colour, and the pixel after them all have that context
-unfoldable pub stays : List AdaptiveTemplatePixel → ℕ → ℕ → Bool → ℕ → List Bool → Bool
-stays template w h colour zero bits = has_all template w h colour bits
-stays template w h colour (suc n) bits = stays template w h colour n bits && has_all template w h colour (bits ++ replicate (suc n) colour)
+    -- whether the next n pixels, if they have that colour, and the pixel after them all have that context
+    unfoldable pub stays : Bool → ℕ → List Bool → Bool
+    stays colour zero bits = has_all colour bits
+    stays colour (suc n) bits = stays colour n bits && has_all colour (bits ++ replicate (suc n) colour)
 
--- whether the next eight pixels are a run of a colour: likely symbols, quiet, and in one context
-unfoldable pub is_run_of : List AdaptiveTemplatePixel → ℕ → ℕ → List ℕ → Region → Bool → Bool
-is_run_of template w h bytes r colour =
-    let context = slice_index_or r.contexts (all_of template colour) fresh in
-    stays template w h colour 8 r.pixels && (same_colour colour context.likely && all_quiet 8 bytes r.registers context)
+    -- whether the next eight pixels are a run of a colour: likely symbols, quiet, and in one context
+    unfoldable pub is_run_of : List ℕ → Region → Bool → Bool
+    is_run_of bytes r colour =
+        let context = slice_index_or r.contexts (all_of colour) fresh in
+        stays colour 8 r.pixels && (same_colour colour context.likely && all_quiet 8 bytes r.registers context)
 
--- whether the next pixel begins a run byte, which is not the last byte of its row
-unfoldable pub is_run_byte : List AdaptiveTemplatePixel → ℕ → ℕ → List ℕ → Region → Bool
-is_run_byte template w h bytes r =
-    let x = length r.pixels % w in
-    (x % 8 == 0 && nat_lt (x + 8) w) && (is_run_of template w h bytes r false || is_run_of template w h bytes r true)
+    -- whether the next pixel begins a run byte, which is not the last byte of its row
+    unfoldable pub is_run_byte : List ℕ → Region → Bool
+    is_run_byte bytes r =
+        let x = length r.pixels % w in
+        (x % 8 == 0 && nat_lt (x + 8) w) && (is_run_of bytes r false || is_run_of bytes r true)
 
 -- how many pixels of a region lie in rows that are not predicted
 unfoldable pub coded_pixels : Coding → ℕ → ℕ → List ℕ → Region → ℕ
@@ -103,7 +108,8 @@ row_words nominal w = if nominal then (w - 1) / 8 + 1 else w
 
 -- One decision for each coded pixel, less eight for each run byte, and one for each row that begins with one. No lanes.
 -- An empty region takes no step.
-pub record CountsRegion (template : List AdaptiveTemplatePixel) (nominal : Bool) (adaptive : ℕ) (coding : Coding) (w h : ℕ) (bytes : List ℕ) (start : Region) (before after : Counts) : Type 0 where
+pub record CountsRegion (template : List AdaptiveTemplatePixel) (nominal : Bool) (adaptive : ℕ) (coding : Coding)
+    (w h : ℕ) (bytes : List ℕ) (start : Region) (before after : Counts) : Type 0 where
   pub empty : w * h ≡ 0 → after ≡ before
   pub decisions : 1 ≤ w →
       after.decisions + 8 * coded_runs template nominal coding w h bytes start

@@ -89,24 +89,24 @@ is_earlier p = int_lt p.y (pos 0) || (int_le p.y (pos 0) && int_lt p.x (pos 0))
 -- a pixel at any place: two bytes in two's complement, the columns to the right and the rows down
 abbrev pub free_pixel_at : List ℕ → Result (AdaptiveTemplatePixel × List ℕ) DecodeError
 free_pixel_at bytes = do
-  x ← signed_at w8 bytes
-  y ← signed_at w8 x.1
-  Ok (record { x = x.0; y = y.0 }, y.1)
+  (x, rest) ← signed_at w8 bytes
+  (y, rest) ← signed_at w8 rest
+  Ok (record { x = x; y = y }, rest)
 
 -- an adaptive pixel (7.4.6.3)
 unfoldable pub adaptive_pixel_at : List ℕ → Result (AdaptiveTemplatePixel × List ℕ) DecodeError
 adaptive_pixel_at bytes = do
-  pixel ← free_pixel_at bytes
-  earlier ← refuse_if (not (is_earlier pixel.0)) (errors.Template InvalidAtPixel)
-  Ok pixel
+  (pixel, rest) ← free_pixel_at bytes
+  earlier ← refuse_if (not (is_earlier pixel)) (errors.Template InvalidAtPixel)
+  Ok (pixel, rest)
 
 -- this many of them (7.4.6.3)
 abbrev pub adaptive_pixels_at : ℕ → List ℕ → Result (List AdaptiveTemplatePixel × List ℕ) DecodeError
 adaptive_pixels_at zero bytes = Ok ([], bytes)
 adaptive_pixels_at (suc count) bytes = do
-  first ← adaptive_pixel_at bytes
-  others ← adaptive_pixels_at count first.1
-  Ok (first.0 ∷ others.0, others.1)
+  (first, rest) ← adaptive_pixel_at bytes
+  (others, rest) ← adaptive_pixels_at count rest
+  Ok (first ∷ others, rest)
 
 -- whether the extended template is used: if it is asked for, at template 0, and without MMR
 abbrev pub takes_extended : Bool → Bool → Template → Bool

@@ -9,7 +9,11 @@ use Rattle.jbig2_region.specs.declared.template.Template.{Template}
 use Rattle.jbig2_region.specs.declared.template.Template.TheVariants.{Template0, Template1, Template2, Template3}
 
 abbrev pub neighbours_of : ℕ → ℕ → ℕ → ℕ → ℕ → Neighbours
-neighbours_of left above_reach above_count top_reach top_count = record { left = left; above = record { reach = above_reach; count = above_count }; top = record { reach = top_reach; count = top_count } }
+neighbours_of left above_reach above_count top_reach top_count = record {
+  left = left;
+  above = record { reach = above_reach; count = above_count };
+  top = record { reach = top_reach; count = top_count };
+}
 
 -- with adaptive pixels at their nominal places, and without adaptive pixels
 abbrev pub nominal_neighbours : Template → Neighbours

@@ -13,4 +13,6 @@ IsMask skip x y mask = (k : ℕ) → k < 32 → bit mask (31 - k) ≡ is_skipped
 
 -- the context of neighbours without adaptive pixels, `offset` columns right of the windows' column
 abbrev pub plain_context : Neighbours → Windows → ℕ → ℕ → ℕ
-plain_context n w left offset = left % 2 ^ n.left + (stretch_bits n.above w.above offset + stretch_bits n.top w.top offset * 2 ^ n.above.count) * 2 ^ n.left
+plain_context n w left offset =
+    left % 2 ^ n.left
+    + (stretch_bits n.above w.above offset + stretch_bits n.top w.top offset * 2 ^ n.above.count) * 2 ^ n.left

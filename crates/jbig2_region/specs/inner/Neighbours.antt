@@ -22,22 +22,25 @@ abbrev pub side_by_side : ℤ → ℕ → ℕ → List AdaptiveTemplatePixel
 side_by_side x rows zero = []
 side_by_side x rows (suc count) = record { x = x; y = pos 0 -ℤ pos rows } ∷ side_by_side (x -ℤ pos 1) rows count
 
-abbrev pub left_pixels : Neighbours → List AdaptiveTemplatePixel
-left_pixels n = side_by_side (negsuc 0) 0 n.left
-
 abbrev pub stretch_pixels : Stretch → ℕ → List AdaptiveTemplatePixel
 stretch_pixels s rows = side_by_side (pos s.reach) rows s.count
 
--- the pixels without adaptive ones, or with nominal ones, which are neighbours too
-abbrev pub nominal_pixels : Neighbours → List AdaptiveTemplatePixel
-nominal_pixels n = left_pixels n ++ (stretch_pixels n.above 1 ++ stretch_pixels n.top 2)
+module _ (n : Neighbours) where
+  abbrev pub left_pixels : List AdaptiveTemplatePixel
+  left_pixels = side_by_side (negsuc 0) 0 n.left
 
-abbrev pub mixed_pixels : Neighbours → Adaptives → List AdaptiveTemplatePixel
-mixed_pixels n a = left_pixels n ++ (a.first.now ++ (stretch_pixels n.above 1 ++ (a.middle.now ++ (stretch_pixels n.top 2 ++ a.last.now))))
+  -- the pixels without adaptive ones, or with nominal ones, which are neighbours too
+  abbrev pub nominal_pixels : List AdaptiveTemplatePixel
+  nominal_pixels = left_pixels ++ (stretch_pixels n.above 1 ++ stretch_pixels n.top 2)
 
-abbrev pub optional_pixels : Neighbours → Option Adaptives → List AdaptiveTemplatePixel
-optional_pixels n None = nominal_pixels n
-optional_pixels n (Some a) = mixed_pixels n a
+  abbrev pub mixed_pixels : Adaptives → List AdaptiveTemplatePixel
+  mixed_pixels a =
+      left_pixels
+      ++ (a.first.now ++ (stretch_pixels n.above 1 ++ (a.middle.now ++ (stretch_pixels n.top 2 ++ a.last.now))))
+
+  abbrev pub optional_pixels : Option Adaptives → List AdaptiveTemplatePixel
+  optional_pixels None = nominal_pixels
+  optional_pixels (Some a) = mixed_pixels a
 
 abbrev pub layout_pixels : Layout → List AdaptiveTemplatePixel
 layout_pixels l = optional_pixels l.neighbours l.adaptive
@@ -105,9 +108,12 @@ abbrev pub row_coding : List AdaptiveTemplatePixel → Coding
 row_coding template = record { context = context_at template; known = known_colour None; row_context = None }
 
 -- A bitmap, a coder and contexts before and after n pixels of row y, from column x on.
-abbrev pub DecodesPixels : List AdaptiveTemplatePixel → Bool → ℕ → ℕ → ℕ → Grid → Coder → List Context → Grid → Coder → List Context → Type 0
+abbrev pub DecodesPixels : List AdaptiveTemplatePixel → Bool → ℕ → ℕ → ℕ
+    → Grid → Coder → List Context → Grid → Coder → List Context → Type 0
 DecodesPixels template predicted x y n grid coder states grid' coder' states' =
-    (w h : ℕ) (input : List ℕ) (r : Region) → length r.pixels ≡ y * w + x → r.predicted ≡ predicted → HasDecoded w h input r grid coder states → HasDecoded w h input (after_pixels (row_coding template) w h input n r) grid' coder' states'
+    (w h : ℕ) (input : List ℕ) (r : Region) → length r.pixels ≡ y * w + x → r.predicted ≡ predicted
+    → HasDecoded w h input r grid coder states
+    → HasDecoded w h input (after_pixels (row_coding template) w h input n r) grid' coder' states'
 
 -- the part of a context that a window has for a stretch, seen from `offset` columns right of the window's column
 abbrev pub stretch_bits : Stretch → ℕ → ℕ → ℕ
@@ -121,30 +127,34 @@ is_field word shift count colour = word / 2 ^ shift % 2 ^ count == (if colour th
 abbrev pub stretch_stays : Stretch → ℕ → Bool → ℕ → Bool
 stretch_stays s m colour word = if s.count == 0 then true else is_field word (55 - m - s.reach) (s.count + m) colour
 
--- the same for both stretches, and then also for the pixels on the left
-abbrev pub stretches_stay : Neighbours → ℕ → Bool → Windows → Bool
-stretches_stay n m colour w = stretch_stays n.above m colour w.above && stretch_stays n.top m colour w.top
+module _ (n : Neighbours) where
+  -- the same for both stretches, and then also for the pixels on the left
+  abbrev pub stretches_stay : ℕ → Bool → Windows → Bool
+  stretches_stay m colour w = stretch_stays n.above m colour w.above && stretch_stays n.top m colour w.top
 
-abbrev pub neighbours_stay : Neighbours → ℕ → Bool → ℕ → Windows → Bool
-neighbours_stay n m colour left w = is_field left 0 n.left colour && stretches_stay n m colour w
+  abbrev pub neighbours_stay : ℕ → Bool → ℕ → Windows → Bool
+  neighbours_stay m colour left w = is_field left 0 n.left colour && stretches_stay m colour w
 
--- the pixels of the stretches in the windows, in one number that moves on by doubling
-abbrev pub register_of : Neighbours → Windows → ℕ
-register_of n w = w.above / 2 ^ (48 - n.above.reach) % 2 ^ 16 * 2 ^ 16 + w.top / 2 ^ (48 - n.top.reach) % 2 ^ 16 * 2 ^ 40
+  -- the pixels of the stretches in the windows, in one number that moves on by doubling
+  abbrev pub register_of : Windows → ℕ
+  register_of w =
+      w.above / 2 ^ (48 - n.above.reach) % 2 ^ 16 * 2 ^ 16 + w.top / 2 ^ (48 - n.top.reach) % 2 ^ 16 * 2 ^ 40
 
--- the stretches' part of a context, from this number
-abbrev pub stretches_of : Neighbours → ℕ → ℕ
-stretches_of n register = register / 2 ^ 23 % 2 ^ n.above.count + register / 2 ^ 47 % 2 ^ n.top.count * 2 ^ n.above.count
+  -- the stretches' part of a context, from this number
+  abbrev pub stretches_of : ℕ → ℕ
+  stretches_of register =
+      register / 2 ^ 23 % 2 ^ n.above.count + register / 2 ^ 47 % 2 ^ n.top.count * 2 ^ n.above.count
 
--- the context, with the pixels on the left from another number
-abbrev pub cut_of : Neighbours → ℕ → ℕ → ℕ
-cut_of n register beside = beside % 2 ^ n.left + stretches_of n register * 2 ^ n.left
+  -- the context, with the pixels on the left from another number
+  abbrev pub cut_of : ℕ → ℕ → ℕ
+  cut_of register beside = beside % 2 ^ n.left + stretches_of register * 2 ^ n.left
 
 abbrev pub adaptive_count : Adaptives → ℕ
 adaptive_count a = length a.first.now + (length a.middle.now + length a.last.now)
 
 abbrev pub mixed_count : Neighbours → Adaptives → ℕ
-mixed_count n a = n.left + (length a.first.now + (n.above.count + (length a.middle.now + (n.top.count + length a.last.now))))
+mixed_count n a =
+    n.left + (length a.first.now + (n.above.count + (length a.middle.now + (n.top.count + length a.last.now))))
 
 -- near neighbours, and no more adaptive pixels than a context has room for
 pub record IsMixed (n : Neighbours) (a : Adaptives) : Type 0 where
@@ -169,4 +179,5 @@ is_nominal_layout None = true
 is_nominal_layout (Some a) = false
 
 abbrev pub layout_coding : Layout → Option ℕ → Coding
-layout_coding l row_context = record { context = context_at (layout_pixels l); known = known_colour None; row_context = row_context }
+layout_coding l row_context =
+    record { context = context_at (layout_pixels l); known = known_colour None; row_context = row_context }

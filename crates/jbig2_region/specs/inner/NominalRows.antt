@@ -17,7 +17,8 @@ pub record FitsRow (n : Neighbours) (y : ℕ) (g : Grid) (s : List Context) : Ty
   pub some : 1 ≤ g.width
   pub row : y < g.height
 
-pub record DecodesRow (n : Neighbours) (y : ℕ) (g : Grid) (d : Coder) (s : List Context) (before : Counts) (g' : Grid) (d' : Coder) (s' : List Context) (after : Counts) : Type 0 where
+pub record DecodesRow (n : Neighbours) (y : ℕ) (g : Grid) (d : Coder) (s : List Context) (before : Counts)
+    (g' : Grid) (d' : Coder) (s' : List Context) (after : Counts) : Type 0 where
   pub holds : DecodesPixels (nominal_pixels n) false 0 y g.width g d s g' d' s'
   pub width : g'.width ≡ g.width
   pub height : g'.height ≡ g.height
@@ -39,4 +40,5 @@ pub record FitsNarrow (n : Neighbours) (g : Grid) (s : List Context) : Type 0 wh
 
 abbrev pub CountsNarrow : Neighbours → Grid → Coder → List Context → Counts → Counts → Type 0
 CountsNarrow n g d s before after =
-    CountsRegion (nominal_pixels n) true 0 (row_coding (nominal_pixels n)) g.width g.height d.bytes (no_pixels d.registers s) before after
+    CountsRegion (nominal_pixels n) true 0 (row_coding (nominal_pixels n))
+    g.width g.height d.bytes (no_pixels d.registers s) before after

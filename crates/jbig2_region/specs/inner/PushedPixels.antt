@@ -19,7 +19,8 @@ pub record IsAtShown (shown : Type 0) (g : Grid) (x y count left : ℕ) : Type 0
 -- the next k pixels are the lowest bits of a number, for each such bitmap
 abbrev pub Pushes : (Grid → ℕ → ℕ → Type 0) → Neighbours → ℕ → ℕ → Coder → List Context → Coder → List Context → Type 0
 Pushes IsAtPixels n k pixels d s d' s' =
-    (g : Grid) (x y : ℕ) → IsAtPixels g x y → DecodesPixels (nominal_pixels n) false x y k g d s (with_pixels g x y k pixels) d' s'
+    (g : Grid) (x y : ℕ) → IsAtPixels g x y
+    → DecodesPixels (nominal_pixels n) false x y k g d s (with_pixels g x y k pixels) d' s'
 
 -- this many decisions are counted for them, for each such bitmap where a byte begins
 abbrev pub CountsPushed : (Grid → ℕ → ℕ → Type 0) → Neighbours → ℕ → Coder → List Context → ℕ → ℕ → Type 0
@@ -65,7 +66,8 @@ pub record IsAtRow (g : Grid) (y width : ℕ) (w : Windows) : Type 0 where
 
 abbrev pub PushesRow : Neighbours → ℕ → Windows → ℕ → ℕ → Coder → List Context → Coder → List Context → Type 0
 PushesRow n width w k pixels d s d' s' =
-    (g : Grid) (y : ℕ) → IsAtRow g y width w → DecodesPixels (nominal_pixels n) false 0 y k g d s (with_pixels g 0 y k pixels) d' s'
+    (g : Grid) (y : ℕ) → IsAtRow g y width w
+    → DecodesPixels (nominal_pixels n) false 0 y k g d s (with_pixels g 0 y k pixels) d' s'
 
 abbrev pub CountsRowPixels : Neighbours → ℕ → Windows → ℕ → Coder → List Context → ℕ → ℕ → Type 0
 CountsRowPixels n width w k d s before after =

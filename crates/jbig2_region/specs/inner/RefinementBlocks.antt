@@ -14,7 +14,8 @@ use Rattle.jbig2_region.specs.declared.refinement_kernel.windows.RefinementWindo
 use Rattle.jbig2_region.specs.declared.template.RefinementTemplate.{RefinementTemplate}
 
 -- what the code holds after k pixels of a block: the pixels as a number, after the four on the left
-pub record Block (coding : Coding) (p : Bool) (x y k : ℕ) (g : Grid) (d0 : Coder) (s0 : List Context) (t0 : Counts) (pixels : ℕ) (d : Coder) (s : List Context) (t : Counts) : Type 0 where
+pub record Block (coding : Coding) (p : Bool) (x y k : ℕ) (g : Grid) (d0 : Coder) (s0 : List Context) (t0 : Counts)
+    (pixels : ℕ) (d : Coder) (s : List Context) (t : Counts) : Type 0 where
   pub bytes : d.bytes ≡ d0.bytes
   pub few : pixels < 16 * 2 ^ k
   pub left : IsLeft (with_pixels g x y k pixels) (x + k) y pixels
@@ -27,7 +28,10 @@ abbrev pub IsUnknown : Bool → RefinementWindows → ℕ → ℕ → Type 0
 IsUnknown p w k n = (i : ℕ) → i < n → known_of p (nine_of w (k + i)) ≡ None
 
 -- a block before and after n more pixels, from the k-th on, none of whose colours is known
-abbrev pub MovesBlock : RefinementTemplate → RefinementWindows → ℕ → ℕ → ℕ → Coder → List Context → Counts → ℕ → Coder → List Context → Counts → Type 0
+abbrev pub MovesBlock : RefinementTemplate → RefinementWindows → ℕ → ℕ
+    → ℕ → Coder → List Context → Counts → ℕ → Coder → List Context → Counts → Type 0
 MovesBlock template w k n pixels d s t pixels' d' s' t' =
-    (typical p : Bool) (r : Reference) (x y : ℕ) (g : Grid) (d0 : Coder) (s0 : List Context) (t0 : Counts) → SeesRows g r x y w → k + n ≤ 32 → x + (k + n) ≤ g.width → y < g.height → IsUnknown p w k n
-    → Block (refinement_coding template typical corners r) p x y k g d0 s0 t0 pixels d s t → Block (refinement_coding template typical corners r) p x y (k + n) g d0 s0 t0 pixels' d' s' t'
+    (typical p : Bool) (r : Reference) (x y : ℕ) (g : Grid) (d0 : Coder) (s0 : List Context) (t0 : Counts)
+    → SeesRows g r x y w → k + n ≤ 32 → x + (k + n) ≤ g.width → y < g.height → IsUnknown p w k n
+    → Block (refinement_coding template typical corners r) p x y k g d0 s0 t0 pixels d s t
+    → Block (refinement_coding template typical corners r) p x y (k + n) g d0 s0 t0 pixels' d' s' t'

@@ -11,17 +11,21 @@ pub record IsReady (bits : ℕ) (grid : Grid) (states : List Context) : Type 0 w
   pub white : grid ≡ blank grid.width grid.height false
   pub contexts : length states ≡ 2 ^ bits
 
-pub record HasDecoded (w h : ℕ) (input : List ℕ) (r : Region) (grid : Grid) (coder : Coder) (states : List Context) : Type 0 where
+pub record HasDecoded (w h : ℕ) (input : List ℕ) (r : Region)
+    (grid : Grid) (coder : Coder) (states : List Context) : Type 0 where
   pub pixels : grid ≡ so_far w h r.pixels
   pub bytes : coder.bytes ≡ input
   pub registers : coder.registers ≡ r.registers
   pub contexts : states ≡ r.contexts
 
 -- the same after the start of a row, and whether the row is predicted
-pub record BeginsRow (w h : ℕ) (row_context : Option ℕ) (r : Region) (is_predicted : Bool) (grid : Grid) (before coder : Coder) (states : List Context) : Type 0 where
+pub record BeginsRow (w h : ℕ) (row_context : Option ℕ) (r : Region) (is_predicted : Bool) (grid : Grid)
+    (before coder : Coder) (states : List Context) : Type 0 where
   pub holds : HasDecoded w h before.bytes (after_ltp row_context before.bytes r) grid coder states
   pub predicted : (after_ltp row_context before.bytes r).predicted ≡ is_predicted
 
 -- A whole region is decoded, from the present state of the coder and the contexts.
 abbrev pub DecodesRegion : Coding → Grid → Coder → List Context → Grid → Coder → List Context → Type 0
-DecodesRegion coding g d s g' d' s' = HasDecoded g.width g.height d.bytes (decoded_region coding g.width g.height d.bytes (no_pixels d.registers s)) g' d' s'
+DecodesRegion coding g d s g' d' s' =
+    HasDecoded g.width g.height d.bytes
+    (decoded_region coding g.width g.height d.bytes (no_pixels d.registers s)) g' d' s'

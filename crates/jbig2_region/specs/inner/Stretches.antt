@@ -11,7 +11,9 @@ rest_of c = (c.run_tests, c.groups, c.pixels)
 
 -- The n pixels of row y from column x on are decoded, and their decisions are counted. The bitmap keeps its size, and
 -- the coder keeps its bytes.
-pub record DecodesPixels (coding : Coding) (predicted : Bool) (x y n : ℕ) (grid : Grid) (coder : Coder) (states : List Context) (before : Counts) (grid' : Grid) (coder' : Coder) (states' : List Context) (after : Counts) : Type 0 where
+pub record DecodesPixels (coding : Coding) (predicted : Bool) (x y n : ℕ)
+    (grid : Grid) (coder : Coder) (states : List Context) (before : Counts)
+    (grid' : Grid) (coder' : Coder) (states' : List Context) (after : Counts) : Type 0 where
   pub holds : DecodesPart coding predicted x y n grid coder states grid' coder' states'
   pub width : grid'.width ≡ grid.width
   pub height : grid'.height ≡ grid.height
