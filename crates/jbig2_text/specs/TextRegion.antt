@@ -48,26 +48,26 @@ aggregate_tables = record {
 -- all tables, in the order of the flags' bits
 unfoldable pub text_tables : TextRegionHuffmanFlags → List (List Member) → Result TextTables DecodeError
 text_tables flags customs = do
-  first_s ← one_of_two (prefix_code lines_f) (prefix_code lines_g) flags.first_s_table customs
-  delta_s ← one_of_three (prefix_code lines_h) (prefix_code lines_i) (prefix_code lines_j) flags.delta_s_table first_s.1
-  delta_t ← one_of_three (prefix_code lines_k) (prefix_code lines_l) (prefix_code lines_m) flags.delta_t_table delta_s.1
-  width ← one_of_two (prefix_code lines_n) (prefix_code lines_o) flags.refinement_width_table delta_t.1
-  height ← one_of_two (prefix_code lines_n) (prefix_code lines_o) flags.refinement_height_table width.1
-  x ← one_of_two (prefix_code lines_n) (prefix_code lines_o) flags.refinement_x_table height.1
-  y ← one_of_two (prefix_code lines_n) (prefix_code lines_o) flags.refinement_y_table x.1
-  size ← if flags.refinement_size_table == 0 then standard (prefix_code lines_a) y.1 else next_custom y.1
-  Ok (
-      record {
-        first_s = first_s.0;
-        delta_s = delta_s.0;
-        delta_t = delta_t.0;
-        refinement_width = width.0;
-        refinement_height = height.0;
-        refinement_x = x.0;
-        refinement_y = y.0;
-        refinement_size = size.0;
-      }
-      )
+  (first_s, left) ← one_of_two (prefix_code lines_f) (prefix_code lines_g) flags.first_s_table customs
+  (delta_s, left) ←
+      one_of_three (prefix_code lines_h) (prefix_code lines_i) (prefix_code lines_j) flags.delta_s_table left
+  (delta_t, left) ←
+      one_of_three (prefix_code lines_k) (prefix_code lines_l) (prefix_code lines_m) flags.delta_t_table left
+  (width, left) ← one_of_two (prefix_code lines_n) (prefix_code lines_o) flags.refinement_width_table left
+  (height, left) ← one_of_two (prefix_code lines_n) (prefix_code lines_o) flags.refinement_height_table left
+  (x, left) ← one_of_two (prefix_code lines_n) (prefix_code lines_o) flags.refinement_x_table left
+  (y, left) ← one_of_two (prefix_code lines_n) (prefix_code lines_o) flags.refinement_y_table left
+  (size, left) ← if flags.refinement_size_table == 0 then standard (prefix_code lines_a) left else next_custom left
+  Ok (record {
+    first_s = first_s;
+    delta_s = delta_s;
+    delta_t = delta_t;
+    refinement_width = width;
+    refinement_height = height;
+    refinement_x = x;
+    refinement_y = y;
+    refinement_size = size;
+  })
 
 -- ---- the region
 abbrev pub text_params : TextHeader → List Grid → TextParams
@@ -87,7 +87,8 @@ refining_of h = record {
 }
 
 unfoldable pub region_from : {S : Type 0} → Readings S → TextHeader → List Grid → Grid → S → Result Grid DecodeError
-region_from r h symbols region s = text_region r (text_params h symbols) region (refining_of h) s >>= λ found. Ok found.0
+region_from r h symbols region s =
+    text_region r (text_params h symbols) region (refining_of h) s >>= λ (decoded, _, _). Ok decoded
 
 -- the coder, with ids of as many bits as the number of symbols needs (SBSYMCODELEN)
 abbrev pub coder_of : TextHeader → List Grid → Coded

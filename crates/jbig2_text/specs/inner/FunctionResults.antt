@@ -77,8 +77,8 @@ reached region c f s = record { region = region; cursor = c; refining = f; state
 abbrev pub with_next_instance : {S : Type 0} → Readings S → TextParams → Reached S → Result (Reached S) DecodeError
 with_next_instance r p x = do
   y ← with_instance r p x
-  c ← next_cursor r p.flags y.cursor y.state
-  Ok (reached y.region c.0 y.refining c.1)
+  (cursor, after) ← next_cursor r p.flags y.cursor y.state
+  Ok (reached y.region cursor y.refining after)
 
 -- whether a strip may end with this IDS
 abbrev pub end_of_strip : Bool → Result (Option ℤ) DecodeError → Result (Unit {0}) DecodeError
@@ -94,8 +94,8 @@ with_last r p x = do
 -- all strips after this STRIPT, where there are instances; `strips` allows for none
 abbrev pub some_strips : {S : Type 0} → Readings S → TextParams → Grid → ℤ → Refining → S → Result (Grid × Refining × S) DecodeError
 some_strips r p region stript f s = do
-  c ← strip_start r p.flags stript (pos 0) s
-  x ← after_instances r p (p.count - 1) (reached region c.0 f c.1)
+  (cursor, after) ← strip_start r p.flags stript (pos 0) s
+  x ← after_instances r p (p.count - 1) (reached region cursor f after)
   with_last r p x
 
 abbrev pub strips : {S : Type 0} → Readings S → TextParams → Grid → ℤ → Refining → S → Result (Grid × Refining × S) DecodeError
