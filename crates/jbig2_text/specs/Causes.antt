@@ -123,33 +123,36 @@ NamesNone symbols (pos id) = length symbols ≤ id
 NamesNone symbols (negsuc id) = Unit {0}
 
 -- ---- strips (6.4.5, step 3)
--- delta T times the strip size, STRIPT + DT or FIRSTS + DFS isn't a signed number of 32 bits; or a number is refused
-abbrev pub BreaksStrip : {S : Type 0} → ReadingCauses S → Readings S → TextRegionFlags → ℤ → ℤ → S → DecodeError → Type 0
-BreaksStrip c r flags stript firsts s e =
-    ((e ≡ Symbol InvalidStripDelta)
-        × After (r.delta_t s) (λ (strips, _). LeavesWord (strips *ℤ pos (2 ^ flags.log_strip_size))))
-    ⊎ ((e ≡ Overflow PlacementCoordinate) × After (strip_delta r flags s) (λ (dt, after).
-    LeavesWord (stript +ℤ dt) ⊎ After (r.first_s after) (λ (dfs, _). LeavesWord (firsts +ℤ dfs))))
-    ⊎ c.delta_t s e
-    ⊎ After (strip_delta r flags s) (λ (_, after). c.first_s after e)
+module _ {S : Type 0} (c : ReadingCauses S) (r : Readings S) (flags : TextRegionFlags) where
+  -- delta T times the strip size, STRIPT + DT or FIRSTS + DFS isn't a signed number of 32 bits; or a number is refused
+  abbrev pub BreaksStrip : ℤ → ℤ → S → DecodeError → Type 0
+  BreaksStrip stript firsts s e =
+      ((e ≡ Symbol InvalidStripDelta)
+          × After (r.delta_t s) (λ (strips, _). LeavesWord (strips *ℤ pos (2 ^ flags.log_strip_size))))
+      ⊎ ((e ≡ Overflow PlacementCoordinate) × After (strip_delta r flags s) (λ (dt, after).
+      LeavesWord (stript +ℤ dt) ⊎ After (r.first_s after) (λ (dfs, _). LeavesWord (firsts +ℤ dfs))))
+      ⊎ c.delta_t s e
+      ⊎ After (strip_delta r flags s) (λ (_, after). c.first_s after e)
 
--- the move after IDS: to the next strip, or in this one, where IDS or SBDSOFFSET takes CURS out of signed 32 bits
-abbrev pub BreaksMoveBy : {S : Type 0} → ReadingCauses S → Readings S → TextRegionFlags → Cursor → Option ℤ → S → DecodeError → Type 0
-BreaksMoveBy c r flags at None s e = BreaksStrip c r flags at.strip_t at.first_s s e
-BreaksMoveBy c r flags at (Some ids) s e =
-    (e ≡ Overflow PlacementCoordinate) × (LeavesWord (at.cur_s +ℤ ids) ⊎ LeavesWord (at.cur_s +ℤ ids +ℤ flags.delta_s_offset))
+  -- the move after IDS: to the next strip, or in this one, where IDS or SBDSOFFSET takes CURS out of signed 32 bits
+  abbrev pub BreaksMoveBy : Cursor → Option ℤ → S → DecodeError → Type 0
+  BreaksMoveBy at None s e = BreaksStrip at.strip_t at.first_s s e
+  BreaksMoveBy at (Some ids) s e =
+      (e ≡ Overflow PlacementCoordinate)
+      × (LeavesWord (at.cur_s +ℤ ids) ⊎ LeavesWord (at.cur_s +ℤ ids +ℤ flags.delta_s_offset))
 
 -- ---- an instance (6.4.5, step 3 c)
--- this holds for its id, and for the state after the id
-abbrev pub AtId : {S : Type 0} → Readings S → TextParams → Reached S → (ℤ → S → Type 0) → Type 0
-AtId r p x Q =
-    After (t_in_strip r p.flags x.state) (λ (_, after_curt). After (r.id after_curt) (λ (id, after). Q id after))
+module _ {S : Type 0} (r : Readings S) (p : TextParams) (x : Reached S) where
+  -- this holds for its id, and for the state after the id
+  abbrev pub AtId : (ℤ → S → Type 0) → Type 0
+  AtId Q =
+      After (t_in_strip r p.flags x.state) (λ (_, after_curt). After (r.id after_curt) (λ (id, after). Q id after))
 
--- it is refined, and this holds for the symbol of its id, and for the state before the numbers of its refinement
-abbrev pub AtRefined : {S : Type 0} → Readings S → TextParams → Reached S → (Grid → S → Type 0) → Type 0
-AtRefined r p x Q =
-    AtId r p x (λ id s. After (if p.flags.use_refinement then r.is_refined s else Ok (false, s)) (λ (is_refined, after).
-    (is_refined ≡ true) × ((from : Grid) × (symbol_of p.symbols id ≡ Some from) × Q from after)))
+  -- it is refined, and this holds for the symbol of its id, and for the state before the numbers of its refinement
+  abbrev pub AtRefined : (Grid → S → Type 0) → Type 0
+  AtRefined Q =
+      AtId (λ id s. After (if p.flags.use_refinement then r.is_refined s else Ok (false, s)) (λ (is_refined, after).
+      (is_refined ≡ true) × ((from : Grid) × (symbol_of p.symbols id ≡ Some from) × Q from after)))
 
 -- a symbol's other end, its first column or its first row isn't a signed number of 32 bits
 abbrev pub APlaceLeaves : TextRegionFlags → Grid → ℤ → ℤ → Type 0
@@ -187,17 +190,18 @@ BreaksInstance c r p x e =
     ⊎ AtRefined r p x (λ from s. ARefinementIsRefused c r s e)
 
 -- ---- all instances
--- this holds at instance k, after those before it; STRIPT begins at the negative of the first delta T
-abbrev pub AtInstance : {S : Type 0} → Readings S → TextParams → Grid → Refining → S → ℕ → (Reached S → Type 0) → Type 0
-AtInstance r p region f s k Q =
-    After (strip_delta r p.flags s) (λ (dt, after_dt).
-    After (strip_start r p.flags (pos 0 -ℤ dt) (pos 0) after_dt) (λ (cursor, after).
-    After (after_instances r p k (record { region = region; cursor = cursor; refining = f; state = after })) Q))
+module _ {S : Type 0} (r : Readings S) (p : TextParams) (region : Grid) (f : Refining) (s : S) where
+  -- this holds at instance k, after those before it; STRIPT begins at the negative of the first delta T
+  abbrev pub AtInstance : ℕ → (Reached S → Type 0) → Type 0
+  AtInstance k Q =
+      After (strip_delta r p.flags s) (λ (dt, after_dt).
+      After (strip_start r p.flags (pos 0 -ℤ dt) (pos 0) after_dt) (λ (cursor, after).
+      After (after_instances r p k (record { region = region; cursor = cursor; refining = f; state = after })) Q))
 
--- the state after the last instance, in strict mode
-abbrev pub AtEnd : {S : Type 0} → Readings S → TextParams → Grid → Refining → S → (S → Type 0) → Type 0
-AtEnd r p region f s Q =
-    (p.strict ≡ true) × AtInstance r p region f s (p.count - 1) (λ x. After (with_instance r p x) (λ last. Q last.state))
+  -- the state after the last instance, in strict mode
+  abbrev pub AtEnd : (S → Type 0) → Type 0
+  AtEnd Q =
+      (p.strict ≡ true) × AtInstance (p.count - 1) (λ x. After (with_instance r p x) (λ last. Q last.state))
 
 -- There are more instances than 32 for each byte, or in strict mode another one after the last. Or the first delta T or
 -- its negative isn't a signed number of 32 bits. Or the first delta T, the first strip, an instance, the move to the

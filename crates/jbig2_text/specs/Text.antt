@@ -213,8 +213,8 @@ module _ {S : Type 0} (r : Readings S) (p : TextParams) where
 
   -- A region (steps 1, 3 and 4), which begins in its default colour, and the contexts and the coder after it. STRIPT
   -- begins at the negative of the first DT; without instances no strip is read. More than 32 instances for each byte of
-  -- the segment are refused. An out-of-band value must end the last strip, too: strict reading refuses any other end, and
-  -- lenient reading takes it (our own rules).
+  -- the segment are refused. An out-of-band value must end the last strip, too: strict reading refuses any other end,
+  -- and lenient reading takes it (our own rules).
   unfoldable pub text_region : Grid → Refining → S → Result (Grid × Refining × S) DecodeError
   text_region region f s = do
     few ← refuse_if (nat_lt (32 * p.data_length) p.count) (Symbol TooManyInstances)
@@ -224,5 +224,6 @@ module _ {S : Type 0} (r : Readings S) (p : TextParams) where
       (cursor, after) ← strip_start r p.flags stript (pos 0) after_dt
       x ← after_instances (p.count - 1) (record { region = region; cursor = cursor; refining = f; state = after })
       last ← with_instance x
-      ends ← if p.strict then (r.delta_s last.state >>= λ ids. refuse_if (is_some ids) (Symbol TooManyInstances)) else Ok tt
+      ends ← if p.strict
+          then (r.delta_s last.state >>= λ ids. refuse_if (is_some ids) (Symbol TooManyInstances)) else Ok tt
       Ok (last.region, last.refining, r.after_delta_s last.state)
