@@ -112,7 +112,8 @@ pub record ReadingsHaveCauses {S : Type 0} (r : Readings S) (c : ReadingCauses S
   pub height_delta : (s : S) → IfErr (r.height_delta s) (c.height_delta s)
   pub x_delta : (s : S) → IfErr (r.x_delta s) (c.x_delta s)
   pub y_delta : (s : S) → IfErr (r.y_delta s) (c.y_delta s)
-  pub refined : (from : Reference) (width height : ℕ) (f : Refining) (s : S) → IfErr (r.refined from width height f s) (c.refined s)
+  pub refined : (from : Reference) (width height : ℕ) (f : Refining) (s : S)
+      → IfErr (r.refined from width height f s) (c.refined s)
 
 abbrev pub IsNoSide : ℤ → Type 0  -- it can't be a side of a symbol: it is negative, or above 65535
 IsNoSide (pos n) = 65535 < n
@@ -206,7 +207,8 @@ module _ {S : Type 0} (r : Readings S) (p : TextParams) (region : Grid) (f : Ref
 -- There are more instances than 32 for each byte, or in strict mode another one after the last. Or the first delta T or
 -- its negative isn't a signed number of 32 bits. Or the first delta T, the first strip, an instance, the move to the
 -- next one or the last delta S breaks a rule.
-abbrev pub BreaksInstances : {S : Type 0} → ReadingCauses S → Readings S → TextParams → Grid → Refining → S → DecodeError → Type 0
+abbrev pub BreaksInstances : {S : Type 0} → ReadingCauses S → Readings S → TextParams → Grid → Refining → S
+    → DecodeError → Type 0
 BreaksInstances c r p region f s e =
     ((e ≡ Symbol TooManyInstances) × ((32 * p.data_length < p.count)
     ⊎ AtEnd r p region f s (λ u. After (r.delta_s u) (λ ids. (n : ℤ) × (ids ≡ Some n)))))

@@ -113,15 +113,6 @@ side_of (negsuc n) = Err (Overflow BitmapDimension)
 abbrev pub reference_offset : ℤ → ℤ → Result ℤ DecodeError
 reference_offset growth delta = word_or (Overflow ReferenceOffset) (int_shr growth 1 +ℤ delta)
 
--- RDW, RDH, RDX and RDY (6.4.11, steps 1 to 4)
-unfoldable pub refinement_deltas : {S : Type 0} → Readings S → S → Result (RefinementDeltas × S) DecodeError
-refinement_deltas r s = do
-  (rdw, after_rdw) ← r.width_delta s
-  (rdh, after_rdh) ← r.height_delta after_rdw
-  (rdx, after_rdx) ← r.x_delta after_rdh
-  (rdy, after_rdy) ← r.y_delta after_rdx
-  Ok (record { width = rdw; height = rdh; x = rdx; y = rdy }, after_rdy)
-
 -- the width and the height of a refined symbol, and the offset of its reference (Table 12)
 unfoldable pub refined_outline : Grid → RefinementDeltas → Result Outline DecodeError
 refined_outline from rd = do
@@ -131,27 +122,37 @@ refined_outline from rd = do
   dy ← reference_offset rd.height rd.y
   Ok (record { width = width; height = height; dx = dx; dy = dy })
 
--- a symbol that is refined from that of the id; no side may be above 65535 (our own rule)
-unfoldable pub refined_symbol : {S : Type 0} → Readings S → List Grid → ℤ → Refining → S → Result (Grid × Refining × S) DecodeError
-refined_symbol r symbols id f s = do
-  from ← some_symbol (symbol_of symbols id)
-  (deltas, after) ← refinement_deltas r s
-  o ← refined_outline from deltas
-  fits ← refuse_if (nat_lt 65535 o.width || nat_lt 65535 o.height) (Overflow BitmapDimension)
-  r.refined (record { grid = from; dx = o.dx; dy = o.dy }) o.width o.height f after
-
 -- strict reading refuses an id without a symbol; other readings take it as no symbol (our own rule)
 abbrev pub plain_symbol : Bool → Option Grid → Result (Option Grid) DecodeError
 plain_symbol strict (Some g) = Ok (Some g)
 plain_symbol strict None = if strict then Err (Symbol OutOfRange) else Ok None
 
--- IB, the symbol of an instance: refined if R_I is 1; R_I is 0 where nothing is refined (6.4.11)
-unfoldable pub instance_symbol : {S : Type 0} → Readings S → TextParams → ℤ → Refining → S → Result (Option Grid × Refining × S) DecodeError
-instance_symbol r p id f s = do
-  (is_refined, after) ← if p.flags.use_refinement then r.is_refined s else Ok (false, s)
-  if is_refined
-      then (refined_symbol r p.symbols id f after >>= λ (g, refining, after_g). Ok (Some g, refining, after_g))
-      else (plain_symbol p.strict (symbol_of p.symbols id) >>= λ g. Ok (g, f, after))
+module _ {S : Type 0} (r : Readings S) where
+  -- RDW, RDH, RDX and RDY (6.4.11, steps 1 to 4)
+  unfoldable pub refinement_deltas : S → Result (RefinementDeltas × S) DecodeError
+  refinement_deltas s = do
+    (rdw, after_rdw) ← r.width_delta s
+    (rdh, after_rdh) ← r.height_delta after_rdw
+    (rdx, after_rdx) ← r.x_delta after_rdh
+    (rdy, after_rdy) ← r.y_delta after_rdx
+    Ok (record { width = rdw; height = rdh; x = rdx; y = rdy }, after_rdy)
+
+  -- a symbol that is refined from that of the id; no side may be above 65535 (our own rule)
+  unfoldable pub refined_symbol : List Grid → ℤ → Refining → S → Result (Grid × Refining × S) DecodeError
+  refined_symbol symbols id f s = do
+    from ← some_symbol (symbol_of symbols id)
+    (deltas, after) ← refinement_deltas s
+    o ← refined_outline from deltas
+    fits ← refuse_if (nat_lt 65535 o.width || nat_lt 65535 o.height) (Overflow BitmapDimension)
+    r.refined (record { grid = from; dx = o.dx; dy = o.dy }) o.width o.height f after
+
+  -- IB, the symbol of an instance: refined if R_I is 1; R_I is 0 where nothing is refined (6.4.11)
+  unfoldable pub instance_symbol : TextParams → ℤ → Refining → S → Result (Option Grid × Refining × S) DecodeError
+  instance_symbol p id f s = do
+    (is_refined, after) ← if p.flags.use_refinement then r.is_refined s else Ok (false, s)
+    if is_refined
+        then (refined_symbol p.symbols id f after >>= λ (g, refining, after_g). Ok (Some g, refining, after_g))
+        else (plain_symbol p.strict (symbol_of p.symbols id) >>= λ g. Ok (g, f, after))
 
 -- ---- places (6.4.5, step 3 c)
 abbrev pub is_right : ReferenceCorner → Bool

@@ -23,12 +23,14 @@ use Rattle.jbig2_text.specs.declared.header.TextRegionHuffmanFlags.{TextRegionHu
 
 -- ---- tables (7.4.3.1.6)
 -- the table that a number names: one of two of the standard, or 3 for the next custom one; and the custom ones left
-abbrev pub one_of_two : List Member → List Member → ℕ → List (List Member) → Result (List Member × List (List Member)) DecodeError
+abbrev pub one_of_two : List Member → List Member → ℕ → List (List Member)
+    → Result (List Member × List (List Member)) DecodeError
 one_of_two first second n customs =
     if n == 0 then standard first customs else if n == 1 then standard second customs
     else if n == 3 then next_custom customs else Err (Huffman InvalidSelection)
 
-abbrev pub one_of_three : List Member → List Member → List Member → ℕ → List (List Member) → Result (List Member × List (List Member)) DecodeError
+abbrev pub one_of_three : List Member → List Member → List Member → ℕ → List (List Member)
+    → Result (List Member × List (List Member)) DecodeError
 one_of_three first second third n customs =
     if n == 0 then standard first customs else if n == 1 then standard second customs
     else if n == 2 then standard third customs else next_custom customs
@@ -90,30 +92,30 @@ unfoldable pub region_from : {S : Type 0} → Readings S → TextHeader → List
 region_from r h symbols region s =
     text_region r (text_params h symbols) region (refining_of h) s >>= λ (decoded, _, _). Ok decoded
 
--- the coder, with ids of as many bits as the number of symbols needs (SBSYMCODELEN)
-abbrev pub coder_of : TextHeader → List Grid → Coded
-coder_of h symbols = coded_start h.bytes (code_length (length symbols))
+module _ (h : TextHeader) where
+  -- the coder, with ids of as many bits as the number of symbols needs (SBSYMCODELEN)
+  abbrev pub coder_of : List Grid → Coded
+  coder_of symbols = coded_start h.bytes (code_length (length symbols))
 
--- the coded bytes, the tables and the codes of the ids
-abbrev pub prefix_codes_of : TextHeader → TextRegionHuffmanFlags → List Member → List (List Member) → Result Prefixed DecodeError
-prefix_codes_of h numbers ids customs =
-    text_tables numbers customs >>= λ tables. Ok (record { place = start_of h.bytes; tables = tables; ids = ids })
+  -- the coded bytes, the tables and the codes of the ids
+  abbrev pub prefix_codes_of : TextRegionHuffmanFlags → List Member → List (List Member) → Result Prefixed DecodeError
+  prefix_codes_of numbers ids customs =
+      text_tables numbers customs >>= λ tables. Ok (record { place = start_of h.bytes; tables = tables; ids = ids })
 
-abbrev pub region_by : TextHeader → NumberCoding → List Grid → List (List Member) → Grid → Result Grid DecodeError
-region_by h ArithmeticCoding symbols customs region = region_from by_coder h symbols region (coder_of h symbols)
-region_by h (HuffmanCoding numbers ids) symbols customs region =
-    prefix_codes_of h numbers ids customs >>= λ s. region_from by_prefix_codes h symbols region s
+  abbrev pub region_by : NumberCoding → List Grid → List (List Member) → Grid → Result Grid DecodeError
+  region_by ArithmeticCoding symbols customs region = region_from by_coder h symbols region (coder_of symbols)
+  region_by (HuffmanCoding numbers ids) symbols customs region =
+      prefix_codes_of numbers ids customs >>= λ s. region_from by_prefix_codes h symbols region s
 
-abbrev pub blank_region : TextHeader → Grid  -- a region in its default colour
-blank_region h = blank h.region_info.width h.region_info.height h.flags.default_pixel
+  abbrev pub blank_region : Grid  -- a region in its default colour
+  blank_region = blank h.region_info.width h.region_info.height h.flags.default_pixel
 
-unfoldable pub text_result : TextHeader → List Grid → List (List Member) → Result Grid DecodeError
-text_result h symbols customs =
-    region_by h h.coding symbols customs (blank_region h)
+  unfoldable pub text_result : List Grid → List (List Member) → Result Grid DecodeError
+  text_result symbols customs = region_by h.coding symbols customs blank_region
 
--- A region at its place. A side above 65535 is refused (our own rule).
-unfoldable pub text_decoded : TextHeader → List Grid → List (List Member) → Result PlacedRegion DecodeError
-text_decoded h symbols customs = do
-  fits ← refuse_if (nat_lt 65535 h.region_info.width || nat_lt 65535 h.region_info.height) (Overflow BitmapDimension)
-  grid ← text_result h symbols customs
-  Ok (placed h.region_info grid)
+  -- A region at its place. A side above 65535 is refused (our own rule).
+  unfoldable pub text_decoded : List Grid → List (List Member) → Result PlacedRegion DecodeError
+  text_decoded symbols customs = do
+    fits ← refuse_if (nat_lt 65535 h.region_info.width || nat_lt 65535 h.region_info.height) (Overflow BitmapDimension)
+    grid ← text_result symbols customs
+    Ok (placed h.region_info grid)

@@ -37,7 +37,8 @@ other_flags flags operator = record {
   refinement_template = refinement_template_of (flags / 32768);
 }
 
-abbrev pub text_pixels_at : Bool → RefinementTemplate → List ℕ → Result (List AdaptiveTemplatePixel × List ℕ) DecodeError
+abbrev pub text_pixels_at : Bool → RefinementTemplate → List ℕ
+    → Result (List AdaptiveTemplatePixel × List ℕ) DecodeError
 text_pixels_at refined template bytes = if refined then refinement_pixels_at template bytes else Ok ([], bytes)
 
 abbrev pub table_of_refinement : ℕ → List (List Member) → Result (List Member × List (List Member)) DecodeError
