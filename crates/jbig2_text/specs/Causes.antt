@@ -56,18 +56,19 @@ BreaksRun (negsuc n) so_far p = Unit {0}
 -- There are too few lengths after some runs, and this holds for the runcodes, the lengths so far and the place.
 abbrev pub ARun : ℕ → Place → (List Member → List ℕ → Place → Type 0) → Type 0
 ARun count p Q =
-    After (runcodes_at p) (λ runcodes. (k : ℕ) × After (runs_at k count runcodes.0 [] runcodes.1) (λ lens.
-    (length lens.0 < count) × Q runcodes.0 lens.0 lens.1))
+    After (runcodes_at p) (λ (runcodes, after). (k : ℕ) × After (runs_at k count runcodes [] after) (λ (lens, rest).
+    (length lens < count) × Q runcodes lens rest))
 
 -- One of the 35 short lengths is missing, or they are crowded. Or a run is faulty. Or the runs have more lengths than
 -- there are symbols, or crowded ones. Or a runcode is refused.
 abbrev pub BreaksSymbolCodes : ℕ → Place → DecodeError → Type 0
 BreaksSymbolCodes count p e =
-    ((e ≡ Huffman InvalidCode) × (((k : ℕ) × (k < 35) × After (short_lengths k [] p) (λ lens. length (bits_left lens.1) < 4))
-    ⊎ After (short_lengths 35 [] p) (λ lens. AreCrowded (lines_from 0 lens.0))
-    ⊎ ARun count p (λ runcodes so_far q. After (value_at runcodes q) (λ code. BreaksRun code.0 so_far code.1))
-    ⊎ After (runcodes_at p) (λ runcodes. After (runs_at count count runcodes.0 [] runcodes.1) (λ lens.
-    (count < length lens.0) ⊎ AreCrowded (lines_from 0 lens.0)))))
+    ((e ≡ Huffman InvalidCode) × (
+    ((k : ℕ) × (k < 35) × After (short_lengths k [] p) (λ (_, rest). length (bits_left rest) < 4))
+    ⊎ After (short_lengths 35 [] p) (λ (lens, _). AreCrowded (lines_from 0 lens))
+    ⊎ ARun count p (λ runcodes so_far q. After (value_at runcodes q) (λ (code, rest). BreaksRun code so_far rest))
+    ⊎ After (runcodes_at p) (λ (runcodes, after). After (runs_at count count runcodes [] after) (λ (lens, _).
+    (count < length lens) ⊎ AreCrowded (lines_from 0 lens)))))
     ⊎ ARun count p (λ runcodes so_far q. RefusesNumber runcodes q e)
 
 -- ---- the header
@@ -111,7 +112,8 @@ pub record ReadingsHaveCauses {S : Type 0} (r : Readings S) (c : ReadingCauses S
   pub height_delta : (s : S) → IfErr (r.height_delta s) (c.height_delta s)
   pub x_delta : (s : S) → IfErr (r.x_delta s) (c.x_delta s)
   pub y_delta : (s : S) → IfErr (r.y_delta s) (c.y_delta s)
-  pub refined : (from : Reference) (width height : ℕ) (f : Refining) (s : S) → IfErr (r.refined from width height f s) (c.refined s)
+  pub refined : (from : Reference) (width height : ℕ) (f : Refining) (s : S)
+      → IfErr (r.refined from width height f s) (c.refined s)
 
 abbrev pub IsNoSide : ℤ → Type 0  -- it can't be a side of a symbol: it is negative, or above 65535
 IsNoSide (pos n) = 65535 < n
@@ -122,31 +124,36 @@ NamesNone symbols (pos id) = length symbols ≤ id
 NamesNone symbols (negsuc id) = Unit {0}
 
 -- ---- strips (6.4.5, step 3)
--- delta T times the strip size, STRIPT + DT or FIRSTS + DFS isn't a signed number of 32 bits; or a number is refused
-abbrev pub BreaksStrip : {S : Type 0} → ReadingCauses S → Readings S → TextRegionFlags → ℤ → ℤ → S → DecodeError → Type 0
-BreaksStrip c r flags stript firsts s e =
-    ((e ≡ Symbol InvalidStripDelta) × After (r.delta_t s) (λ strips. LeavesWord (strips.0 *ℤ pos (2 ^ flags.log_strip_size))))
-    ⊎ ((e ≡ Overflow PlacementCoordinate) × After (strip_delta r flags s) (λ dt.
-    LeavesWord (stript +ℤ dt.0) ⊎ After (r.first_s dt.1) (λ dfs. LeavesWord (firsts +ℤ dfs.0))))
-    ⊎ c.delta_t s e
-    ⊎ After (strip_delta r flags s) (λ dt. c.first_s dt.1 e)
+module _ {S : Type 0} (c : ReadingCauses S) (r : Readings S) (flags : TextRegionFlags) where
+  -- delta T times the strip size, STRIPT + DT or FIRSTS + DFS isn't a signed number of 32 bits; or a number is refused
+  abbrev pub BreaksStrip : ℤ → ℤ → S → DecodeError → Type 0
+  BreaksStrip stript firsts s e =
+      ((e ≡ Symbol InvalidStripDelta)
+          × After (r.delta_t s) (λ (strips, _). LeavesWord (strips *ℤ pos (2 ^ flags.log_strip_size))))
+      ⊎ ((e ≡ Overflow PlacementCoordinate) × After (strip_delta r flags s) (λ (dt, after).
+      LeavesWord (stript +ℤ dt) ⊎ After (r.first_s after) (λ (dfs, _). LeavesWord (firsts +ℤ dfs))))
+      ⊎ c.delta_t s e
+      ⊎ After (strip_delta r flags s) (λ (_, after). c.first_s after e)
 
--- the move after IDS: to the next strip, or in this one, where IDS or SBDSOFFSET takes CURS out of signed 32 bits
-abbrev pub BreaksMoveBy : {S : Type 0} → ReadingCauses S → Readings S → TextRegionFlags → Cursor → Option ℤ → S → DecodeError → Type 0
-BreaksMoveBy c r flags at None s e = BreaksStrip c r flags at.strip_t at.first_s s e
-BreaksMoveBy c r flags at (Some ids) s e =
-    (e ≡ Overflow PlacementCoordinate) × (LeavesWord (at.cur_s +ℤ ids) ⊎ LeavesWord (at.cur_s +ℤ ids +ℤ flags.delta_s_offset))
+  -- the move after IDS: to the next strip, or in this one, where IDS or SBDSOFFSET takes CURS out of signed 32 bits
+  abbrev pub BreaksMoveBy : Cursor → Option ℤ → S → DecodeError → Type 0
+  BreaksMoveBy at None s e = BreaksStrip at.strip_t at.first_s s e
+  BreaksMoveBy at (Some ids) s e =
+      (e ≡ Overflow PlacementCoordinate)
+      × (LeavesWord (at.cur_s +ℤ ids) ⊎ LeavesWord (at.cur_s +ℤ ids +ℤ flags.delta_s_offset))
 
 -- ---- an instance (6.4.5, step 3 c)
--- this holds for its id, and for the state after the id
-abbrev pub AtId : {S : Type 0} → Readings S → TextParams → Reached S → (ℤ → S → Type 0) → Type 0
-AtId r p x Q = After (t_in_strip r p.flags x.state) (λ t. After (r.id t.1) (λ id. Q id.0 id.1))
+module _ {S : Type 0} (r : Readings S) (p : TextParams) (x : Reached S) where
+  -- this holds for its id, and for the state after the id
+  abbrev pub AtId : (ℤ → S → Type 0) → Type 0
+  AtId Q =
+      After (t_in_strip r p.flags x.state) (λ (_, after_curt). After (r.id after_curt) (λ (id, after). Q id after))
 
--- it is refined, and this holds for the symbol of its id, and for the state before the numbers of its refinement
-abbrev pub AtRefined : {S : Type 0} → Readings S → TextParams → Reached S → (Grid → S → Type 0) → Type 0
-AtRefined r p x Q =
-    AtId r p x (λ id s. After (if p.flags.use_refinement then r.is_refined s else Ok (false, s)) (λ ri.
-    (ri.0 ≡ true) × ((from : Grid) × (symbol_of p.symbols id ≡ Some from) × Q from ri.1)))
+  -- it is refined, and this holds for the symbol of its id, and for the state before the numbers of its refinement
+  abbrev pub AtRefined : (Grid → S → Type 0) → Type 0
+  AtRefined Q =
+      AtId (λ id s. After (if p.flags.use_refinement then r.is_refined s else Ok (false, s)) (λ (is_refined, after).
+      (is_refined ≡ true) × ((from : Grid) × (symbol_of p.symbols id ≡ Some from) × Q from after)))
 
 -- a symbol's other end, its first column or its first row isn't a signed number of 32 bits
 abbrev pub APlaceLeaves : TextRegionFlags → Grid → ℤ → ℤ → Type 0
@@ -161,51 +168,55 @@ APlaceLeaves flags g curs ti =
 abbrev pub ARefinementIsRefused : {S : Type 0} → ReadingCauses S → Readings S → S → DecodeError → Type 0
 ARefinementIsRefused c r s e =
     c.width_delta s e
-    ⊎ After (r.width_delta s) (λ w. c.height_delta w.1 e
-    ⊎ After (r.height_delta w.1) (λ h. c.x_delta h.1 e
-    ⊎ After (r.x_delta h.1) (λ x. c.y_delta x.1 e)))
-    ⊎ After (refinement_deltas r s) (λ rd. c.refined rd.1 e)
+    ⊎ After (r.width_delta s) (λ (_, after_rdw). c.height_delta after_rdw e
+    ⊎ After (r.height_delta after_rdw) (λ (_, after_rdh). c.x_delta after_rdh e
+    ⊎ After (r.x_delta after_rdh) (λ (_, after_rdx). c.y_delta after_rdx e)))
+    ⊎ After (refinement_deltas r s) (λ (_, after). c.refined after e)
 
 -- Its id has no symbol. Or a side of a refined symbol, its place or TI leaves its range. Or a number is refused.
 abbrev pub BreaksInstance : {S : Type 0} → ReadingCauses S → Readings S → TextParams → Reached S → DecodeError → Type 0
 BreaksInstance c r p x e =
     ((e ≡ Symbol OutOfRange) × AtId r p x (λ id s. NamesNone p.symbols id))
-    ⊎ ((e ≡ Overflow BitmapDimension) × AtRefined r p x (λ from s. After (refinement_deltas r s) (λ rd.
-    IsNoSide (pos from.width +ℤ rd.0.width) ⊎ IsNoSide (pos from.height +ℤ rd.0.height))))
-    ⊎ ((e ≡ Overflow ReferenceOffset) × AtRefined r p x (λ from s. After (refinement_deltas r s) (λ rd.
-    LeavesWord (int_shr rd.0.width 1 +ℤ rd.0.x) ⊎ LeavesWord (int_shr rd.0.height 1 +ℤ rd.0.y))))
-    ⊎ ((e ≡ Overflow PlacementCoordinate) × After (t_in_strip r p.flags x.state) (λ t.
-    LeavesWord (x.cursor.strip_t +ℤ t.0)
-    ⊎ After (r.id t.1) (λ id. After (instance_symbol r p id.0 x.refining id.1) (λ ib.
-    (g : Grid) × (ib.0 ≡ Some g) × APlaceLeaves p.flags g x.cursor.cur_s (x.cursor.strip_t +ℤ t.0)))))
+    ⊎ ((e ≡ Overflow BitmapDimension) × AtRefined r p x (λ from s. After (refinement_deltas r s) (λ (deltas, _).
+    IsNoSide (pos from.width +ℤ deltas.width) ⊎ IsNoSide (pos from.height +ℤ deltas.height))))
+    ⊎ ((e ≡ Overflow ReferenceOffset) × AtRefined r p x (λ from s. After (refinement_deltas r s) (λ (deltas, _).
+    LeavesWord (int_shr deltas.width 1 +ℤ deltas.x) ⊎ LeavesWord (int_shr deltas.height 1 +ℤ deltas.y))))
+    ⊎ ((e ≡ Overflow PlacementCoordinate) × After (t_in_strip r p.flags x.state) (λ (curt, after_curt).
+    LeavesWord (x.cursor.strip_t +ℤ curt)
+    ⊎ After (r.id after_curt) (λ (id, after_id). After (instance_symbol r p id x.refining after_id) (λ (ib, _, _).
+    (g : Grid) × (ib ≡ Some g) × APlaceLeaves p.flags g x.cursor.cur_s (x.cursor.strip_t +ℤ curt)))))
     ⊎ c.t_bits p.flags.log_strip_size x.state e
-    ⊎ After (t_in_strip r p.flags x.state) (λ t. c.id t.1 e)
+    ⊎ After (t_in_strip r p.flags x.state) (λ (_, after_curt). c.id after_curt e)
     ⊎ AtId r p x (λ id s. c.is_refined s e)
     ⊎ AtRefined r p x (λ from s. ARefinementIsRefused c r s e)
 
 -- ---- all instances
--- this holds at instance k, after those before it; STRIPT begins at the negative of the first delta T
-abbrev pub AtInstance : {S : Type 0} → Readings S → TextParams → Grid → Refining → S → ℕ → (Reached S → Type 0) → Type 0
-AtInstance r p region f s k Q =
-    After (strip_delta r p.flags s) (λ dt. After (strip_start r p.flags (pos 0 -ℤ dt.0) (pos 0) dt.1) (λ c.
-    After (after_instances r p k (record { region = region; cursor = c.0; refining = f; state = c.1 })) Q))
+module _ {S : Type 0} (r : Readings S) (p : TextParams) (region : Grid) (f : Refining) (s : S) where
+  -- this holds at instance k, after those before it; STRIPT begins at the negative of the first delta T
+  abbrev pub AtInstance : ℕ → (Reached S → Type 0) → Type 0
+  AtInstance k Q =
+      After (strip_delta r p.flags s) (λ (dt, after_dt).
+      After (strip_start r p.flags (pos 0 -ℤ dt) (pos 0) after_dt) (λ (cursor, after).
+      After (after_instances r p k (record { region = region; cursor = cursor; refining = f; state = after })) Q))
 
--- the state after the last instance, in strict mode
-abbrev pub AtEnd : {S : Type 0} → Readings S → TextParams → Grid → Refining → S → (S → Type 0) → Type 0
-AtEnd r p region f s Q =
-    (p.strict ≡ true) × AtInstance r p region f s (p.count - 1) (λ x. After (with_instance r p x) (λ last. Q last.state))
+  -- the state after the last instance, in strict mode
+  abbrev pub AtEnd : (S → Type 0) → Type 0
+  AtEnd Q =
+      (p.strict ≡ true) × AtInstance (p.count - 1) (λ x. After (with_instance r p x) (λ last. Q last.state))
 
 -- There are more instances than 32 for each byte, or in strict mode another one after the last. Or the first delta T or
 -- its negative isn't a signed number of 32 bits. Or the first delta T, the first strip, an instance, the move to the
 -- next one or the last delta S breaks a rule.
-abbrev pub BreaksInstances : {S : Type 0} → ReadingCauses S → Readings S → TextParams → Grid → Refining → S → DecodeError → Type 0
+abbrev pub BreaksInstances : {S : Type 0} → ReadingCauses S → Readings S → TextParams → Grid → Refining → S
+    → DecodeError → Type 0
 BreaksInstances c r p region f s e =
     ((e ≡ Symbol TooManyInstances) × ((32 * p.data_length < p.count)
     ⊎ AtEnd r p region f s (λ u. After (r.delta_s u) (λ ids. (n : ℤ) × (ids ≡ Some n)))))
-    ⊎ ((e ≡ Symbol InvalidStripDelta) × After (r.delta_t s) (λ strips. LeavesWord (strips.0 *ℤ pos (2 ^ p.flags.log_strip_size))))
-    ⊎ ((e ≡ Overflow PlacementCoordinate) × After (strip_delta r p.flags s) (λ dt. LeavesWord (pos 0 -ℤ dt.0)))
+    ⊎ ((e ≡ Symbol InvalidStripDelta)
+        × After (r.delta_t s) (λ (strips, _). LeavesWord (strips *ℤ pos (2 ^ p.flags.log_strip_size))))
+    ⊎ ((e ≡ Overflow PlacementCoordinate) × After (strip_delta r p.flags s) (λ (dt, _). LeavesWord (pos 0 -ℤ dt)))
     ⊎ c.delta_t s e
-    ⊎ After (strip_delta r p.flags s) (λ dt. BreaksStrip c r p.flags (pos 0 -ℤ dt.0) (pos 0) dt.1 e)
+    ⊎ After (strip_delta r p.flags s) (λ (dt, after). BreaksStrip c r p.flags (pos 0 -ℤ dt) (pos 0) after e)
     ⊎ ((k : ℕ) × (k < p.count) × AtInstance r p region f s k (λ x. BreaksInstance c r p x e
     ⊎ After (with_instance r p x) (λ y. c.delta_s y.state e
     ⊎ After (r.delta_s y.state) (λ ids. BreaksMoveBy c r p.flags y.cursor ids (r.after_delta_s y.state) e))))
@@ -277,7 +288,7 @@ prefix_causes = record {
   y_delta = λ s. RefusesNumber s.tables.refinement_y s.place;
   refined = λ s e.
       RefusesNumber s.tables.refinement_size s.place e
-      ⊎ After (value_at s.tables.refinement_size s.place) (λ size. LacksBytes size.0 size.1 e);
+      ⊎ After (value_at s.tables.refinement_size s.place) (λ (size, rest). LacksBytes size rest e);
 }
 
 -- ---- a region

@@ -28,7 +28,8 @@ lines_from n (len ∷ lens) = line len 0 (pos n) ∷ lines_from (n + 1) lens
 -- `count` lengths of four bits each, after those so far
 unfoldable pub short_lengths : ℕ → List ℕ → Place → Result (List ℕ × Place) DecodeError
 short_lengths zero so_far p = Ok (so_far, p)
-short_lengths (suc count) so_far p = bits_at invalid_code 4 p >>= λ len. short_lengths count (so_far ++ len.0 ∷ []) len.1
+short_lengths (suc count) so_far p = 
+    bits_at invalid_code 4 p >>= λ (len, rest). short_lengths count (so_far ++ len ∷ []) rest
 
 abbrev pub repeated : List ℕ → ℕ → Result (List ℕ) DecodeError  -- with the last length repeated this many more times
 repeated so_far count = some_or invalid_code (slice_get so_far (length so_far - 1)) >>= λ len. Ok (so_far ++ replicate count len)
@@ -38,38 +39,43 @@ abbrev pub run_at : ℤ → List ℕ → Place → Result (List ℕ × Place) De
 run_at (negsuc n) so_far p = Err invalid_code
 run_at (pos code) so_far p =
     if nat_lt code 32 then Ok (so_far ++ code ∷ [], p)
-    else if code == 32 then (bits_at invalid_code 2 p >>= λ n. repeated so_far (n.0 + 3) >>= λ lens. Ok (lens, n.1))
-    else if code == 33 then (bits_at invalid_code 3 p >>= λ n. Ok (so_far ++ replicate (n.0 + 3) 0, n.1))
-    else (bits_at invalid_code 7 p >>= λ n. Ok (so_far ++ replicate (n.0 + 11) 0, n.1))
+    else if code == 32
+    then (bits_at invalid_code 2 p >>= λ (n, rest). repeated so_far (n + 3) >>= λ lens. Ok (lens, rest))
+    else if code == 33 then (bits_at invalid_code 3 p >>= λ (n, rest). Ok (so_far ++ replicate (n + 3) 0, rest))
+    else (bits_at invalid_code 7 p >>= λ (n, rest). Ok (so_far ++ replicate (n + 11) 0, rest))
 
 abbrev pub next_runcode : List Member → List ℕ → Place → Result (List ℕ × Place) DecodeError
-next_runcode runcodes so_far p = value_at runcodes p >>= λ code. run_at code.0 so_far code.1
+next_runcode runcodes so_far p = value_at runcodes p >>= λ (code, rest). run_at code so_far rest
 
 -- Runs, until there are `count` lengths. Each run has at least one, so `most` = `count` runs are enough.
 unfoldable pub runs_at : ℕ → ℕ → List Member → List ℕ → Place → Result (List ℕ × Place) DecodeError
 runs_at zero count runcodes so_far p = Ok (so_far, p)
 runs_at (suc most) count runcodes so_far p =
-    if nat_lt (length so_far) count then (next_runcode runcodes so_far p >>= λ more. runs_at most count runcodes more.0 more.1)
+    if nat_lt (length so_far) count
+    then (next_runcode runcodes so_far p >>= λ (lens, rest). runs_at most count runcodes lens rest)
     else Ok (so_far, p)
 
 -- the codes of the 35 runcodes (steps 1 and 2)
 unfoldable pub runcodes_at : Place → Result (List Member × Place) DecodeError
-runcodes_at p = short_lengths 35 [] p >>= λ lens. table_of (lines_from 0 lens.0) >>= λ runcodes. Ok (runcodes, lens.1)
+runcodes_at p = do
+  (lens, rest) ← short_lengths 35 [] p
+  runcodes ← table_of (lines_from 0 lens)
+  Ok (runcodes, rest)
 
 -- the lengths of the codes of `count` symbols (steps 3 and 4); more lengths than that are refused
 unfoldable pub symbol_lengths_at : ℕ → List Member → Place → Result (List ℕ × Place) DecodeError
 symbol_lengths_at count runcodes p = do
-  lens ← runs_at count count runcodes [] p
-  fit ← refuse_if (nat_lt count (length lens.0)) invalid_code
-  Ok lens
+  (lens, rest) ← runs_at count count runcodes [] p
+  fit ← refuse_if (nat_lt count (length lens)) invalid_code
+  Ok (lens, rest)
 
 -- The codes of `count` symbols, and the place of the next whole byte (step 5).
 unfoldable pub symbol_codes_from : ℕ → Place → Result (List Member × Place) DecodeError
 symbol_codes_from count p = do
-  runcodes ← runcodes_at p
-  lens ← symbol_lengths_at count runcodes.0 runcodes.1
-  codes ← table_of (lines_from 0 lens.0)
-  Ok (codes, aligned lens.1)
+  (runcodes, after_runcodes) ← runcodes_at p
+  (lens, rest) ← symbol_lengths_at count runcodes after_runcodes
+  codes ← table_of (lines_from 0 lens)
+  Ok (codes, aligned rest)
 
 abbrev pub symbol_codes_at : ℕ → List ℕ → Result (List Member × List ℕ) DecodeError
-symbol_codes_at count bytes = symbol_codes_from count (start_of bytes) >>= λ codes. Ok (codes.0, codes.1.bytes)
+symbol_codes_at count bytes = symbol_codes_from count (start_of bytes) >>= λ (codes, rest). Ok (codes, rest.bytes)

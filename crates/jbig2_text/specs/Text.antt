@@ -64,36 +64,37 @@ abbrev pub coordinate : ℤ → Result ℤ DecodeError
 coordinate n = word_or (Overflow PlacementCoordinate) n
 
 -- ---- strips (6.4.5, steps 1 to 4)
--- DT, in rows; it is coded as a number of whole strips (6.4.6)
-unfoldable pub strip_delta : {S : Type 0} → Readings S → TextRegionFlags → S → Result (ℤ × S) DecodeError
-strip_delta r flags s = do
-  strips ← r.delta_t s
-  dt ← word_or (Symbol InvalidStripDelta) (strips.0 *ℤ pos (2 ^ flags.log_strip_size))
-  Ok (dt, strips.1)
+module _ {S : Type 0} (r : Readings S) (flags : TextRegionFlags) where
+  -- DT, in rows; it is coded as a number of whole strips (6.4.6)
+  unfoldable pub strip_delta : S → Result (ℤ × S) DecodeError
+  strip_delta s = do
+    (strips, after) ← r.delta_t s
+    dt ← word_or (Symbol InvalidStripDelta) (strips *ℤ pos (2 ^ flags.log_strip_size))
+    Ok (dt, after)
 
--- a strip begins: DT is added to STRIPT and DFS to FIRSTS (6.4.7), and CURS is FIRSTS (steps 3 b and 3 c i)
-unfoldable pub strip_start : {S : Type 0} → Readings S → TextRegionFlags → ℤ → ℤ → S → Result (Cursor × S) DecodeError
-strip_start r flags stript firsts s = do
-  dt ← strip_delta r flags s
-  next_stript ← coordinate (stript +ℤ dt.0)
-  dfs ← r.first_s dt.1
-  next_firsts ← coordinate (firsts +ℤ dfs.0)
-  Ok (record { strip_t = next_stript; first_s = next_firsts; cur_s = next_firsts }, dfs.1)
+  -- a strip begins: DT is added to STRIPT and DFS to FIRSTS (6.4.7), and CURS is FIRSTS (steps 3 b and 3 c i)
+  unfoldable pub strip_start : ℤ → ℤ → S → Result (Cursor × S) DecodeError
+  strip_start stript firsts s = do
+    (dt, after_dt) ← strip_delta s
+    next_stript ← coordinate (stript +ℤ dt)
+    (dfs, after_dfs) ← r.first_s after_dt
+    next_firsts ← coordinate (firsts +ℤ dfs)
+    Ok (record { strip_t = next_stript; first_s = next_firsts; cur_s = next_firsts }, after_dfs)
 
--- IDS and SBDSOFFSET are added to CURS in the strip, or else the next strip begins (step 3 c ii, and 6.4.8)
-abbrev pub with_ids : {S : Type 0} → Readings S → TextRegionFlags → Cursor → Option ℤ → S → Result (Cursor × S) DecodeError
-with_ids r flags c None s = strip_start r flags c.strip_t c.first_s s
-with_ids r flags c (Some ids) s = do
-  after_ids ← coordinate (c.cur_s +ℤ ids)
-  curs ← coordinate (after_ids +ℤ flags.delta_s_offset)
-  Ok (record c { cur_s = curs }, s)
+  -- IDS and SBDSOFFSET are added to CURS in the strip, or else the next strip begins (step 3 c ii, and 6.4.8)
+  abbrev pub with_ids : Cursor → Option ℤ → S → Result (Cursor × S) DecodeError
+  with_ids c None s = strip_start c.strip_t c.first_s s
+  with_ids c (Some ids) s = do
+    after_ids ← coordinate (c.cur_s +ℤ ids)
+    curs ← coordinate (after_ids +ℤ flags.delta_s_offset)
+    Ok (record c { cur_s = curs }, s)
 
-unfoldable pub next_cursor : {S : Type 0} → Readings S → TextRegionFlags → Cursor → S → Result (Cursor × S) DecodeError
-next_cursor r flags c s = r.delta_s s >>= λ ids. with_ids r flags c ids (r.after_delta_s s)
+  unfoldable pub next_cursor : Cursor → S → Result (Cursor × S) DecodeError
+  next_cursor c s = r.delta_s s >>= λ ids. with_ids c ids (r.after_delta_s s)
 
--- CURT, which is read only in strips of more than one row (6.4.9)
-abbrev pub t_in_strip : {S : Type 0} → Readings S → TextRegionFlags → S → Result (ℤ × S) DecodeError
-t_in_strip r flags s = if flags.log_strip_size == 0 then Ok (pos 0, s) else r.t_bits flags.log_strip_size s
+  -- CURT, which is read only in strips of more than one row (6.4.9)
+  abbrev pub t_in_strip : S → Result (ℤ × S) DecodeError
+  t_in_strip s = if flags.log_strip_size == 0 then Ok (pos 0, s) else r.t_bits flags.log_strip_size s
 
 -- ---- symbols (6.4.10 and 6.4.11)
 -- the symbol of an id, if it has one
@@ -112,15 +113,6 @@ side_of (negsuc n) = Err (Overflow BitmapDimension)
 abbrev pub reference_offset : ℤ → ℤ → Result ℤ DecodeError
 reference_offset growth delta = word_or (Overflow ReferenceOffset) (int_shr growth 1 +ℤ delta)
 
--- RDW, RDH, RDX and RDY (6.4.11, steps 1 to 4)
-unfoldable pub refinement_deltas : {S : Type 0} → Readings S → S → Result (RefinementDeltas × S) DecodeError
-refinement_deltas r s = do
-  rdw ← r.width_delta s
-  rdh ← r.height_delta rdw.1
-  rdx ← r.x_delta rdh.1
-  rdy ← r.y_delta rdx.1
-  Ok (record { width = rdw.0; height = rdh.0; x = rdx.0; y = rdy.0 }, rdy.1)
-
 -- the width and the height of a refined symbol, and the offset of its reference (Table 12)
 unfoldable pub refined_outline : Grid → RefinementDeltas → Result Outline DecodeError
 refined_outline from rd = do
@@ -130,26 +122,37 @@ refined_outline from rd = do
   dy ← reference_offset rd.height rd.y
   Ok (record { width = width; height = height; dx = dx; dy = dy })
 
--- a symbol that is refined from that of the id; no side may be above 65535 (our own rule)
-unfoldable pub refined_symbol : {S : Type 0} → Readings S → List Grid → ℤ → Refining → S → Result (Grid × Refining × S) DecodeError
-refined_symbol r symbols id f s = do
-  from ← some_symbol (symbol_of symbols id)
-  rd ← refinement_deltas r s
-  o ← refined_outline from rd.0
-  fits ← refuse_if (nat_lt 65535 o.width || nat_lt 65535 o.height) (Overflow BitmapDimension)
-  r.refined (record { grid = from; dx = o.dx; dy = o.dy }) o.width o.height f rd.1
-
 -- strict reading refuses an id without a symbol; other readings take it as no symbol (our own rule)
 abbrev pub plain_symbol : Bool → Option Grid → Result (Option Grid) DecodeError
 plain_symbol strict (Some g) = Ok (Some g)
 plain_symbol strict None = if strict then Err (Symbol OutOfRange) else Ok None
 
--- IB, the symbol of an instance: refined if R_I is 1; R_I is 0 where nothing is refined (6.4.11)
-unfoldable pub instance_symbol : {S : Type 0} → Readings S → TextParams → ℤ → Refining → S → Result (Option Grid × Refining × S) DecodeError
-instance_symbol r p id f s = do
-  ri ← if p.flags.use_refinement then r.is_refined s else Ok (false, s)
-  if ri.0 then (refined_symbol r p.symbols id f ri.1 >>= λ g. Ok (Some g.0, g.1, g.2))
-      else (plain_symbol p.strict (symbol_of p.symbols id) >>= λ g. Ok (g, f, ri.1))
+module _ {S : Type 0} (r : Readings S) where
+  -- RDW, RDH, RDX and RDY (6.4.11, steps 1 to 4)
+  unfoldable pub refinement_deltas : S → Result (RefinementDeltas × S) DecodeError
+  refinement_deltas s = do
+    (rdw, after_rdw) ← r.width_delta s
+    (rdh, after_rdh) ← r.height_delta after_rdw
+    (rdx, after_rdx) ← r.x_delta after_rdh
+    (rdy, after_rdy) ← r.y_delta after_rdx
+    Ok (record { width = rdw; height = rdh; x = rdx; y = rdy }, after_rdy)
+
+  -- a symbol that is refined from that of the id; no side may be above 65535 (our own rule)
+  unfoldable pub refined_symbol : List Grid → ℤ → Refining → S → Result (Grid × Refining × S) DecodeError
+  refined_symbol symbols id f s = do
+    from ← some_symbol (symbol_of symbols id)
+    (deltas, after) ← refinement_deltas s
+    o ← refined_outline from deltas
+    fits ← refuse_if (nat_lt 65535 o.width || nat_lt 65535 o.height) (Overflow BitmapDimension)
+    r.refined (record { grid = from; dx = o.dx; dy = o.dy }) o.width o.height f after
+
+  -- IB, the symbol of an instance: refined if R_I is 1; R_I is 0 where nothing is refined (6.4.11)
+  unfoldable pub instance_symbol : TextParams → ℤ → Refining → S → Result (Option Grid × Refining × S) DecodeError
+  instance_symbol p id f s = do
+    (is_refined, after) ← if p.flags.use_refinement then r.is_refined s else Ok (false, s)
+    if is_refined
+        then (refined_symbol p.symbols id f after >>= λ (g, refining, after_g). Ok (Some g, refining, after_g))
+        else (plain_symbol p.strict (symbol_of p.symbols id) >>= λ g. Ok (g, f, after))
 
 -- ---- places (6.4.5, step 3 c)
 abbrev pub is_right : ReferenceCorner → Bool
@@ -187,38 +190,41 @@ symbol_placed flags g curs ti = do
 abbrev pub with_symbol : TextRegionFlags → Grid → Cursor → ℤ → Option Grid → Result (Grid × Cursor) DecodeError
 with_symbol flags region c ti None = Ok (region, c)
 with_symbol flags region c ti (Some g) = do
-  i ← symbol_placed flags g c.cur_s ti
-  Ok (combined flags.combination_operator region i.0.grid i.0.x i.0.y, record c { cur_s = i.1 })
+  (i, curs) ← symbol_placed flags g c.cur_s ti
+  Ok (combined flags.combination_operator region i.grid i.x i.y, record c { cur_s = curs })
 
--- one instance more: TI is STRIPT and CURT, then come ID and IB (steps 3 c iii to x)
-unfoldable pub with_instance : {S : Type 0} → Readings S → TextParams → Reached S → Result (Reached S) DecodeError
-with_instance r p x = do
-  curt ← t_in_strip r p.flags x.state
-  ti ← coordinate (x.cursor.strip_t +ℤ curt.0)
-  id ← r.id curt.1
-  ib ← instance_symbol r p id.0 x.refining id.1
-  more ← with_symbol p.flags x.region x.cursor ti ib.0
-  Ok (record { region = more.0; cursor = more.1; refining = ib.1; state = ib.2 })
+module _ {S : Type 0} (r : Readings S) (p : TextParams) where
+  -- one instance more: TI is STRIPT and CURT, then come ID and IB (steps 3 c iii to x)
+  unfoldable pub with_instance : Reached S → Result (Reached S) DecodeError
+  with_instance x = do
+    (curt, after_curt) ← t_in_strip r p.flags x.state
+    ti ← coordinate (x.cursor.strip_t +ℤ curt)
+    (id, after_id) ← r.id after_curt
+    (ib, refining, after_ib) ← instance_symbol r p id x.refining after_id
+    (region, cursor) ← with_symbol p.flags x.region x.cursor ti ib
+    Ok (record { region = region; cursor = cursor; refining = refining; state = after_ib })
 
--- this many more instances, where others come after them
-unfoldable pub after_instances : {S : Type 0} → Readings S → TextParams → ℕ → Reached S → Result (Reached S) DecodeError
-after_instances r p zero x = Ok x
-after_instances r p (suc n) x = do
-  y ← with_instance r p x
-  c ← next_cursor r p.flags y.cursor y.state
-  after_instances r p n (record y { cursor = c.0; state = c.1 })
+  -- this many more instances, where others come after them
+  unfoldable pub after_instances : ℕ → Reached S → Result (Reached S) DecodeError
+  after_instances zero x = Ok x
+  after_instances (suc n) x = do
+    y ← with_instance x
+    (cursor, after) ← next_cursor r p.flags y.cursor y.state
+    after_instances n (record y { cursor = cursor; state = after })
 
--- A region (steps 1, 3 and 4), which begins in its default colour, and the contexts and the coder after it. STRIPT begins at the negative of the first DT; without
--- instances no strip is read. More than 32 instances for each byte of the segment are refused. An out-of-band value must
--- end the last strip, too: strict reading refuses any other end, and lenient reading takes it (our own rules).
-unfoldable pub text_region : {S : Type 0} → Readings S → TextParams → Grid → Refining → S → Result (Grid × Refining × S) DecodeError
-text_region r p region f s = do
-  few ← refuse_if (nat_lt (32 * p.data_length) p.count) (Symbol TooManyInstances)
-  dt ← strip_delta r p.flags s
-  stript ← coordinate (pos 0 -ℤ dt.0)
-  if p.count == 0 then Ok (region, f, dt.1) else do
-    c ← strip_start r p.flags stript (pos 0) dt.1
-    x ← after_instances r p (p.count - 1) (record { region = region; cursor = c.0; refining = f; state = c.1 })
-    last ← with_instance r p x
-    ends ← if p.strict then (r.delta_s last.state >>= λ ids. refuse_if (is_some ids) (Symbol TooManyInstances)) else Ok tt
-    Ok (last.region, last.refining, r.after_delta_s last.state)
+  -- A region (steps 1, 3 and 4), which begins in its default colour, and the contexts and the coder after it. STRIPT
+  -- begins at the negative of the first DT; without instances no strip is read. More than 32 instances for each byte of
+  -- the segment are refused. An out-of-band value must end the last strip, too: strict reading refuses any other end,
+  -- and lenient reading takes it (our own rules).
+  unfoldable pub text_region : Grid → Refining → S → Result (Grid × Refining × S) DecodeError
+  text_region region f s = do
+    few ← refuse_if (nat_lt (32 * p.data_length) p.count) (Symbol TooManyInstances)
+    (dt, after_dt) ← strip_delta r p.flags s
+    stript ← coordinate (pos 0 -ℤ dt)
+    if p.count == 0 then Ok (region, f, after_dt) else do
+      (cursor, after) ← strip_start r p.flags stript (pos 0) after_dt
+      x ← after_instances (p.count - 1) (record { region = region; cursor = cursor; refining = f; state = after })
+      last ← with_instance x
+      ends ← if p.strict
+          then (r.delta_s last.state >>= λ ids. refuse_if (is_some ids) (Symbol TooManyInstances)) else Ok tt
+      Ok (last.region, last.refining, r.after_delta_s last.state)

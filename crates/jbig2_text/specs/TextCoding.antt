@@ -50,7 +50,8 @@ abbrev pub in_band : DecodeError → Option ℤ → Result ℤ DecodeError
 in_band e n = some_or e n
 
 abbrev pub number_by_coder : IntegerProcedure → Coded → Result (ℤ × Coded) DecodeError
-number_by_coder procedure s = let i = next_integer procedure s in in_band (Symbol UnexpectedOob) i.0 >>= λ n. Ok (n, i.1)
+number_by_coder procedure s =
+    let (number, after) = next_integer procedure s in in_band (Symbol UnexpectedOob) number >>= λ n. Ok (n, after)
 
 abbrev pub by_coder : Readings Coded  -- the low eight bits of R_I count (our own rule)
 by_coder = record {
@@ -60,7 +61,7 @@ by_coder = record {
   after_delta_s = λ s. (next_integer Iads s).1;
   t_bits = λ _. number_by_coder Iait;
   id = λ s. Ok (next_id s);
-  is_refined = λ s. number_by_coder Iari s >>= λ flag. Ok (not (nat_abs flag.0 % 256 == 0), flag.1);
+  is_refined = λ s. number_by_coder Iari s >>= λ (flag, after). Ok (not (nat_abs flag % 256 == 0), after);
   width_delta = number_by_coder Iardw;
   height_delta = number_by_coder Iardh;
   x_delta = number_by_coder Iardx;
@@ -87,23 +88,23 @@ pub record Prefixed : Type 0 where  -- the place in the bits, the tables, and th
   pub ids : List Member
 
 abbrev pub prefixed_value : List Member → Prefixed → Result (ℤ × Prefixed) DecodeError
-prefixed_value table s = value_at table s.place >>= λ n. Ok (n.0, record s { place = n.1 })
+prefixed_value table s = value_at table s.place >>= λ (n, rest). Ok (n, record s { place = rest })
 
 abbrev pub prefixed_bits : DecodeError → ℕ → Prefixed → Result (ℕ × Prefixed) DecodeError
-prefixed_bits e count s = bits_at e count s.place >>= λ n. Ok (n.0, record s { place = n.1 })
+prefixed_bits e count s = bits_at e count s.place >>= λ (n, rest). Ok (n, record s { place = rest })
 
 -- this many bytes from the next whole byte on, and the place after them
 abbrev pub sized_bytes : ℤ → Place → Result (List ℕ × Place) DecodeError
-sized_bytes (pos size) p = bytes_at size (aligned p).bytes >>= λ coded. Ok (coded.0, start_of coded.1)
+sized_bytes (pos size) p = bytes_at size (aligned p).bytes >>= λ (coded, rest). Ok (coded, start_of rest)
 sized_bytes (negsuc size) p = Err end_of_bytes
 
 -- A refined symbol has bytes of its own, and its coder begins there (6.4.11, steps 5 to 7).
 abbrev pub prefixed_refined : Reference → ℕ → ℕ → Refining → Prefixed → Result (Grid × Refining × Prefixed) DecodeError
 prefixed_refined from width height f s = do
-  size ← value_at s.tables.refinement_size s.place
-  coded ← sized_bytes size.0 size.1
-  let r = refined_with f from width height (record { bytes = coded.0; registers = initial_registers coded.0 })
-  Ok (r.grid, r.refining, record s { place = coded.1 })
+  (size, after_size) ← value_at s.tables.refinement_size s.place
+  (coded, rest) ← sized_bytes size after_size
+  let r = refined_with f from width height (record { bytes = coded; registers = initial_registers coded })
+  Ok (r.grid, r.refining, record s { place = rest })
 
 abbrev pub by_prefix_codes : Readings Prefixed
 by_prefix_codes = record {
@@ -112,9 +113,9 @@ by_prefix_codes = record {
   delta_s = λ s. (decoded_value s.tables.delta_s (bits_left s.place)).result;
   after_delta_s = λ s.
       record s { place = bits_on (decoded_value s.tables.delta_s (bits_left s.place)).taken s.place };
-  t_bits = λ log s. prefixed_bits invalid_code log s >>= λ n. Ok (pos n.0, n.1);
+  t_bits = λ log s. prefixed_bits invalid_code log s >>= λ (n, after). Ok (pos n, after);
   id = λ s. prefixed_value s.ids s;
-  is_refined = λ s. prefixed_bits end_of_bytes 1 s >>= λ n. Ok (n.0 == 1, n.1);
+  is_refined = λ s. prefixed_bits end_of_bytes 1 s >>= λ (n, after). Ok (n == 1, after);
   width_delta = λ s. prefixed_value s.tables.refinement_width s;
   height_delta = λ s. prefixed_value s.tables.refinement_height s;
   x_delta = λ s. prefixed_value s.tables.refinement_x s;

@@ -45,19 +45,19 @@ signed_5 n = if nat_lt n 16 then pos n else pos n -ℤ pos 32
 -- whether prefix codes are used (SBHUFF), and the other flags (7.4.3.1.1)
 unfoldable pub text_flags_at : List ℕ → Result ((Bool × TextRegionFlags) × List ℕ) DecodeError
 text_flags_at bytes = do
-  flags ← number_at w16 bytes
-  operator ← operator_of (flags.0 / 128 % 4)
+  (flags, rest) ← number_at w16 bytes
+  operator ← operator_of (flags / 128 % 4)
   let others : TextRegionFlags = record {
-    use_refinement = flags.0 / 2 % 2 == 1;
-    log_strip_size = flags.0 / 4 % 4;
-    reference_corner = corner_of (flags.0 / 16 % 4);
-    transposed = flags.0 / 64 % 2 == 1;
+    use_refinement = flags / 2 % 2 == 1;
+    log_strip_size = flags / 4 % 4;
+    reference_corner = corner_of (flags / 16 % 4);
+    transposed = flags / 64 % 2 == 1;
     combination_operator = operator;
-    default_pixel = flags.0 / 512 % 2 == 1;
-    delta_s_offset = signed_5 (flags.0 / 1024 % 32);
-    refinement_template = refinement_template_of (flags.0 / 32768);
+    default_pixel = flags / 512 % 2 == 1;
+    delta_s_offset = signed_5 (flags / 1024 % 32);
+    refinement_template = refinement_template_of (flags / 32768);
   }
-  Ok ((flags.0 % 2 == 1, others), flags.1)
+  Ok ((flags % 2 == 1, others), rest)
 
 abbrev pub table_numbers : ℕ → TextRegionHuffmanFlags  -- the numbers of the tables (7.4.3.1.2)
 table_numbers flags = record {
@@ -73,48 +73,48 @@ table_numbers flags = record {
 
 -- they are there only with prefix codes
 abbrev pub table_numbers_at : Bool → List ℕ → Result (Option TextRegionHuffmanFlags × List ℕ) DecodeError
-table_numbers_at true bytes = number_at w16 bytes >>= λ flags. Ok (Some (table_numbers flags.0), flags.1)
+table_numbers_at true bytes = number_at w16 bytes >>= λ (flags, rest). Ok (Some (table_numbers flags), rest)
 table_numbers_at false bytes = Ok (None, bytes)
 
 -- the fields between the region information and the codes of the ids; adaptive pixels only with refinement (7.4.3.1.3)
 unfoldable pub text_fields_at : List ℕ → Result (TextFields × List ℕ) DecodeError
 text_fields_at bytes = do
-  flags ← text_flags_at bytes
-  tables ← table_numbers_at flags.0.0 flags.1
-  pixels ← if flags.0.1.use_refinement then refinement_pixels_at flags.0.1.refinement_template tables.1
-      else Ok ([], tables.1)
-  instances ← number_at w32 pixels.1
+  ((has_prefix_codes, flags), after_flags) ← text_flags_at bytes
+  (tables, after_tables) ← table_numbers_at has_prefix_codes after_flags
+  (pixels, after_pixels) ← if flags.use_refinement then refinement_pixels_at flags.refinement_template after_tables
+      else Ok ([], after_tables)
+  (instances, rest) ← number_at w32 after_pixels
   Ok (
     record {
-      flags = flags.0.1;
-      table_numbers = tables.0;
-      refinement_at_pixels = pixels.0;
-      num_instances = instances.0;
+      flags = flags;
+      table_numbers = tables;
+      refinement_at_pixels = pixels;
+      num_instances = instances;
     },
-    instances.1,
+    rest,
   )
 
 -- the codes of the ids of this many symbols, only with prefix codes
 abbrev pub coding_at : Option TextRegionHuffmanFlags → ℕ → List ℕ → Result (NumberCoding × List ℕ) DecodeError
-coding_at (Some tables) count bytes = symbol_codes_at count bytes >>= λ ids. Ok (HuffmanCoding tables ids.0, ids.1)
+coding_at (Some tables) count bytes = symbol_codes_at count bytes >>= λ (ids, rest). Ok (HuffmanCoding tables ids, rest)
 coding_at None count bytes = Ok (ArithmeticCoding, bytes)
 
 -- the whole header, for this many symbols, and the coded bytes after it
 unfoldable pub text_header_at : ℕ → Bool → List ℕ → Result (TextHeader × List ℕ) DecodeError
 text_header_at symbols strict bytes = do
-  info ← region_info_at bytes
-  fields ← text_fields_at info.1
-  coding ← coding_at fields.0.table_numbers symbols fields.1
+  (info, after_info) ← region_info_at bytes
+  (fields, after_fields) ← text_fields_at after_info
+  (coding, coded) ← coding_at fields.table_numbers symbols after_fields
   Ok (
     record {
-      region_info = info.0;
-      flags = fields.0.flags;
-      coding = coding.0;
-      refinement_pixels = fields.0.refinement_at_pixels;
-      instances = fields.0.num_instances;
+      region_info = info;
+      flags = fields.flags;
+      coding = coding;
+      refinement_pixels = fields.refinement_at_pixels;
+      instances = fields.num_instances;
       data_length = length bytes;
-      bytes = coding.1;
+      bytes = coded;
       strict = strict;
     },
-    coding.1,
+    coded,
   )

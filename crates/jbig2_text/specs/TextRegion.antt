@@ -23,12 +23,14 @@ use Rattle.jbig2_text.specs.declared.header.TextRegionHuffmanFlags.{TextRegionHu
 
 -- ---- tables (7.4.3.1.6)
 -- the table that a number names: one of two of the standard, or 3 for the next custom one; and the custom ones left
-abbrev pub one_of_two : List Member → List Member → ℕ → List (List Member) → Result (List Member × List (List Member)) DecodeError
+abbrev pub one_of_two : List Member → List Member → ℕ → List (List Member)
+    → Result (List Member × List (List Member)) DecodeError
 one_of_two first second n customs =
     if n == 0 then standard first customs else if n == 1 then standard second customs
     else if n == 3 then next_custom customs else Err (Huffman InvalidSelection)
 
-abbrev pub one_of_three : List Member → List Member → List Member → ℕ → List (List Member) → Result (List Member × List (List Member)) DecodeError
+abbrev pub one_of_three : List Member → List Member → List Member → ℕ → List (List Member)
+    → Result (List Member × List (List Member)) DecodeError
 one_of_three first second third n customs =
     if n == 0 then standard first customs else if n == 1 then standard second customs
     else if n == 2 then standard third customs else next_custom customs
@@ -48,26 +50,26 @@ aggregate_tables = record {
 -- all tables, in the order of the flags' bits
 unfoldable pub text_tables : TextRegionHuffmanFlags → List (List Member) → Result TextTables DecodeError
 text_tables flags customs = do
-  first_s ← one_of_two (prefix_code lines_f) (prefix_code lines_g) flags.first_s_table customs
-  delta_s ← one_of_three (prefix_code lines_h) (prefix_code lines_i) (prefix_code lines_j) flags.delta_s_table first_s.1
-  delta_t ← one_of_three (prefix_code lines_k) (prefix_code lines_l) (prefix_code lines_m) flags.delta_t_table delta_s.1
-  width ← one_of_two (prefix_code lines_n) (prefix_code lines_o) flags.refinement_width_table delta_t.1
-  height ← one_of_two (prefix_code lines_n) (prefix_code lines_o) flags.refinement_height_table width.1
-  x ← one_of_two (prefix_code lines_n) (prefix_code lines_o) flags.refinement_x_table height.1
-  y ← one_of_two (prefix_code lines_n) (prefix_code lines_o) flags.refinement_y_table x.1
-  size ← if flags.refinement_size_table == 0 then standard (prefix_code lines_a) y.1 else next_custom y.1
-  Ok (
-      record {
-        first_s = first_s.0;
-        delta_s = delta_s.0;
-        delta_t = delta_t.0;
-        refinement_width = width.0;
-        refinement_height = height.0;
-        refinement_x = x.0;
-        refinement_y = y.0;
-        refinement_size = size.0;
-      }
-      )
+  (first_s, left) ← one_of_two (prefix_code lines_f) (prefix_code lines_g) flags.first_s_table customs
+  (delta_s, left) ←
+      one_of_three (prefix_code lines_h) (prefix_code lines_i) (prefix_code lines_j) flags.delta_s_table left
+  (delta_t, left) ←
+      one_of_three (prefix_code lines_k) (prefix_code lines_l) (prefix_code lines_m) flags.delta_t_table left
+  (width, left) ← one_of_two (prefix_code lines_n) (prefix_code lines_o) flags.refinement_width_table left
+  (height, left) ← one_of_two (prefix_code lines_n) (prefix_code lines_o) flags.refinement_height_table left
+  (x, left) ← one_of_two (prefix_code lines_n) (prefix_code lines_o) flags.refinement_x_table left
+  (y, left) ← one_of_two (prefix_code lines_n) (prefix_code lines_o) flags.refinement_y_table left
+  (size, left) ← if flags.refinement_size_table == 0 then standard (prefix_code lines_a) left else next_custom left
+  Ok (record {
+    first_s = first_s;
+    delta_s = delta_s;
+    delta_t = delta_t;
+    refinement_width = width;
+    refinement_height = height;
+    refinement_x = x;
+    refinement_y = y;
+    refinement_size = size;
+  })
 
 -- ---- the region
 abbrev pub text_params : TextHeader → List Grid → TextParams
@@ -87,32 +89,33 @@ refining_of h = record {
 }
 
 unfoldable pub region_from : {S : Type 0} → Readings S → TextHeader → List Grid → Grid → S → Result Grid DecodeError
-region_from r h symbols region s = text_region r (text_params h symbols) region (refining_of h) s >>= λ found. Ok found.0
+region_from r h symbols region s =
+    text_region r (text_params h symbols) region (refining_of h) s >>= λ (decoded, _, _). Ok decoded
 
--- the coder, with ids of as many bits as the number of symbols needs (SBSYMCODELEN)
-abbrev pub coder_of : TextHeader → List Grid → Coded
-coder_of h symbols = coded_start h.bytes (code_length (length symbols))
+module _ (h : TextHeader) where
+  -- the coder, with ids of as many bits as the number of symbols needs (SBSYMCODELEN)
+  abbrev pub coder_of : List Grid → Coded
+  coder_of symbols = coded_start h.bytes (code_length (length symbols))
 
--- the coded bytes, the tables and the codes of the ids
-abbrev pub prefix_codes_of : TextHeader → TextRegionHuffmanFlags → List Member → List (List Member) → Result Prefixed DecodeError
-prefix_codes_of h numbers ids customs =
-    text_tables numbers customs >>= λ tables. Ok (record { place = start_of h.bytes; tables = tables; ids = ids })
+  -- the coded bytes, the tables and the codes of the ids
+  abbrev pub prefix_codes_of : TextRegionHuffmanFlags → List Member → List (List Member) → Result Prefixed DecodeError
+  prefix_codes_of numbers ids customs =
+      text_tables numbers customs >>= λ tables. Ok (record { place = start_of h.bytes; tables = tables; ids = ids })
 
-abbrev pub region_by : TextHeader → NumberCoding → List Grid → List (List Member) → Grid → Result Grid DecodeError
-region_by h ArithmeticCoding symbols customs region = region_from by_coder h symbols region (coder_of h symbols)
-region_by h (HuffmanCoding numbers ids) symbols customs region =
-    prefix_codes_of h numbers ids customs >>= λ s. region_from by_prefix_codes h symbols region s
+  abbrev pub region_by : NumberCoding → List Grid → List (List Member) → Grid → Result Grid DecodeError
+  region_by ArithmeticCoding symbols customs region = region_from by_coder h symbols region (coder_of symbols)
+  region_by (HuffmanCoding numbers ids) symbols customs region =
+      prefix_codes_of numbers ids customs >>= λ s. region_from by_prefix_codes h symbols region s
 
-abbrev pub blank_region : TextHeader → Grid  -- a region in its default colour
-blank_region h = blank h.region_info.width h.region_info.height h.flags.default_pixel
+  abbrev pub blank_region : Grid  -- a region in its default colour
+  blank_region = blank h.region_info.width h.region_info.height h.flags.default_pixel
 
-unfoldable pub text_result : TextHeader → List Grid → List (List Member) → Result Grid DecodeError
-text_result h symbols customs =
-    region_by h h.coding symbols customs (blank_region h)
+  unfoldable pub text_result : List Grid → List (List Member) → Result Grid DecodeError
+  text_result symbols customs = region_by h.coding symbols customs blank_region
 
--- A region at its place. A side above 65535 is refused (our own rule).
-unfoldable pub text_decoded : TextHeader → List Grid → List (List Member) → Result PlacedRegion DecodeError
-text_decoded h symbols customs = do
-  fits ← refuse_if (nat_lt 65535 h.region_info.width || nat_lt 65535 h.region_info.height) (Overflow BitmapDimension)
-  grid ← text_result h symbols customs
-  Ok (placed h.region_info grid)
+  -- A region at its place. A side above 65535 is refused (our own rule).
+  unfoldable pub text_decoded : List Grid → List (List Member) → Result PlacedRegion DecodeError
+  text_decoded symbols customs = do
+    fits ← refuse_if (nat_lt 65535 h.region_info.width || nat_lt 65535 h.region_info.height) (Overflow BitmapDimension)
+    grid ← text_result symbols customs
+    Ok (placed h.region_info grid)

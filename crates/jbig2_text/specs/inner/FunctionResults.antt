@@ -37,7 +37,8 @@ other_flags flags operator = record {
   refinement_template = refinement_template_of (flags / 32768);
 }
 
-abbrev pub text_pixels_at : Bool → RefinementTemplate → List ℕ → Result (List AdaptiveTemplatePixel × List ℕ) DecodeError
+abbrev pub text_pixels_at : Bool → RefinementTemplate → List ℕ
+    → Result (List AdaptiveTemplatePixel × List ℕ) DecodeError
 text_pixels_at refined template bytes = if refined then refinement_pixels_at template bytes else Ok ([], bytes)
 
 abbrev pub table_of_refinement : ℕ → List (List Member) → Result (List Member × List (List Member)) DecodeError
@@ -73,33 +74,34 @@ s_after flags g curs = if is_last_along_s flags then Ok curs else far_end flags 
 abbrev pub reached : {S : Type 0} → Grid → Cursor → Refining → S → Reached S
 reached region c f s = record { region = region; cursor = c; refining = f; state = s }
 
--- one more instance, and the place of the one after it
-abbrev pub with_next_instance : {S : Type 0} → Readings S → TextParams → Reached S → Result (Reached S) DecodeError
-with_next_instance r p x = do
-  y ← with_instance r p x
-  c ← next_cursor r p.flags y.cursor y.state
-  Ok (reached y.region c.0 y.refining c.1)
-
 -- whether a strip may end with this IDS
 abbrev pub end_of_strip : Bool → Result (Option ℤ) DecodeError → Result (Unit {0}) DecodeError
 end_of_strip strict ids = if strict then (ids >>= λ o. refuse_if (is_some o) (Symbol TooManyInstances)) else Ok tt
 
--- the last instance, and then the end of its strip
-abbrev pub with_last : {S : Type 0} → Readings S → TextParams → Reached S → Result (Grid × Refining × S) DecodeError
-with_last r p x = do
-  last ← with_instance r p x
-  ends ← end_of_strip p.strict (r.delta_s last.state)
-  Ok (last.region, last.refining, r.after_delta_s last.state)
+module _ {S : Type 0} (r : Readings S) (p : TextParams) where
+  -- one more instance, and the place of the one after it
+  abbrev pub with_next_instance : Reached S → Result (Reached S) DecodeError
+  with_next_instance x = do
+    y ← with_instance r p x
+    (cursor, after) ← next_cursor r p.flags y.cursor y.state
+    Ok (reached y.region cursor y.refining after)
 
--- all strips after this STRIPT, where there are instances; `strips` allows for none
-abbrev pub some_strips : {S : Type 0} → Readings S → TextParams → Grid → ℤ → Refining → S → Result (Grid × Refining × S) DecodeError
-some_strips r p region stript f s = do
-  c ← strip_start r p.flags stript (pos 0) s
-  x ← after_instances r p (p.count - 1) (reached region c.0 f c.1)
-  with_last r p x
+  -- the last instance, and then the end of its strip
+  abbrev pub with_last : Reached S → Result (Grid × Refining × S) DecodeError
+  with_last x = do
+    last ← with_instance r p x
+    ends ← end_of_strip p.strict (r.delta_s last.state)
+    Ok (last.region, last.refining, r.after_delta_s last.state)
 
-abbrev pub strips : {S : Type 0} → Readings S → TextParams → Grid → ℤ → Refining → S → Result (Grid × Refining × S) DecodeError
-strips r p region stript f s = if p.count == 0 then Ok (region, f, s) else some_strips r p region stript f s
+  -- all strips after this STRIPT, where there are instances; `strips` allows for none
+  abbrev pub some_strips : Grid → ℤ → Refining → S → Result (Grid × Refining × S) DecodeError
+  some_strips region stript f s = do
+    (cursor, after) ← strip_start r p.flags stript (pos 0) s
+    x ← after_instances r p (p.count - 1) (reached region cursor f after)
+    with_last x
+
+  abbrev pub strips : Grid → ℤ → Refining → S → Result (Grid × Refining × S) DecodeError
+  strips region stript f s = if p.count == 0 then Ok (region, f, s) else some_strips region stript f s
 
 -- after an error, too, a region keeps its size
 abbrev pub KeepsSize : Grid → Grid → Type 0
