@@ -8,7 +8,7 @@ use Rattle.jbig2_base.specs.Grid.{Grid, blank}
 use Rattle.jbig2_base.specs.declared.error.DecodeError.{DecodeError}
 use Rattle.jbig2_base.specs.declared.error.DecodeError.TheVariants.{Overflow}
 use Rattle.jbig2_base.specs.declared.error.OverflowError.TheVariants.{BitmapDimension}
-use Rattle.jbig2_halftone.specs.GrayScale.{GrayScale, after_planes, gray_scale_image, image_is_too_large, mmr_plane, mmr_planes, nominal_pixels, planes_of}
+use Rattle.jbig2_halftone.specs.GrayScale.{GrayScale, after_planes, gray_scale_image, image_is_too_large, mmr_plane, mmr_planes, planes_of}
 use Rattle.jbig2_halftone.specs.Halftone.{cells_drawn, gray_params, halftone_result, halftone_decoded, pattern_for, with_cell}
 use Rattle.jbig2_halftone.specs.HalftoneHeader.{HalftoneHeader, halftone_flags_at, halftone_grid_at, halftone_header_at}
 use Rattle.jbig2_halftone.specs.PatternHeader.{PatternHeader, pattern_header_at, side_at}
@@ -18,7 +18,7 @@ use Rattle.jbig2_region.specs.Generic.{generic_result, generic_decoded, generic_
 use Rattle.jbig2_region.specs.GenericHeader.{GenericHeader, generic_header_at, rows_at}
 use Rattle.jbig2_region.specs.Raster.{Region, decoded_region, no_pixels, so_far}
 use Rattle.jbig2_region.specs.RegionInfo.{region_info_at}
-use Rattle.jbig2_region.specs.Templates.{adaptive_pixels_at, template_pixels}
+use Rattle.jbig2_region.specs.Templates.{adaptive_pixels_at, template_pixels, nominal_adaptive_pixels}
 use Rattle.hayro_jbig2.proofs.Agreeing.{Agrees, Same, agrees-then, same-if, same-next, same-then, same-unless}
 use Rattle.hayro_jbig2.proofs.PackedRows.{map-same}
 
@@ -89,7 +89,7 @@ after-same : (p : GrayScale) (bytes : List ℕ) (count : ℕ) → after_planes (
 unfolding after_planes
 after-same p bytes zero = refl
 after-same p bytes (suc count) =
-    ap (λ (before : Region). decoded_region (skipping_coding (template_pixels false p.template (nominal_pixels p.template)) p.skip_mask) p.width p.height bytes (no_pixels before.registers before.contexts)) (after-same p bytes count)
+    ap (λ (before : Region). decoded_region (skipping_coding (template_pixels false p.template (nominal_adaptive_pixels p.template)) p.skip_mask) p.width p.height bytes (no_pixels before.registers before.contexts)) (after-same p bytes count)
 
 coded-same : (p : GrayScale) (bytes : List ℕ) → map (λ k. so_far p.width p.height (after_planes (lenient_gray p) bytes (k + 1)).pixels) (range_with_len 0 p.bits_per_pixel) ≡ map (λ k. so_far p.width p.height (after_planes p bytes (k + 1)).pixels) (range_with_len 0 p.bits_per_pixel)
 coded-same p bytes =

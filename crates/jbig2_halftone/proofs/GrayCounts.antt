@@ -14,11 +14,11 @@ use Rattle.jbig2_region.specs.GenericSteps.{read_pixels}
 use Rattle.jbig2_region.specs.Raster.{Coding, Region, at_pixel, no_pixels}
 use Rattle.jbig2_region.specs.Steps.{CountsRegion, coded_pixels, coded_runs, row_loads, row_tests, row_words}
 use Rattle.jbig2_region.specs.{Steps.{CountsSkipping, kept_pixels, skipping_loads, skipping_words}, inner.RegionViews.{skip_of}}
-use Rattle.jbig2_region.specs.Templates.{is_nominal, template_pixels}
+use Rattle.jbig2_region.specs.Templates.{is_nominal, template_pixels, nominal_adaptive_pixels}
 use Rattle.jbig2_region.specs.declared.template.AdaptiveTemplatePixel.{AdaptiveTemplatePixel}
 use Rattle.jbig2_region.specs.declared.template.Template.{Template}
 use Rattle.jbig2_region.specs.declared.template.Template.TheVariants.{Template0, Template1, Template2, Template3}
-use Rattle.jbig2_halftone.specs.GrayScale.{GrayScale, nominal_pixels, after_planes}
+use Rattle.jbig2_halftone.specs.GrayScale.{GrayScale, after_planes}
 use Rattle.jbig2_halftone.specs.Steps.{CountsImage, CountsLanes, CountsMasked, CountsPlanes, CountsRead, StopsImage, plane_runs, words_of_plane}
 use Rattle.jbig2_halftone.specs.inner.FunctionResults.{CountsCoded, CountsMmr, CountsOne, CountsPlane, StopsCoded, plain_coding, plane_pixels, plane_start, after_lane_rows}
 use Rattle.jbig2_halftone.proofs.PlaneLemmas.{AfterPlanes, no-mask}
@@ -29,22 +29,22 @@ some-mask : (mask : Option (Bor Grid)) → is_some mask ≡ true → skip_of mas
 some-mask None e none = cc
 some-mask (Some m) e none = cc
 
-nominal : (t : Template) → is_nominal t (nominal_pixels t) ≡ true
+nominal : (t : Template) → is_nominal t (nominal_adaptive_pixels t) ≡ true
 nominal Template0 = refl
 nominal Template1 = refl
 nominal Template2 = refl
 nominal Template3 = refl
 
-none-read : (t : Template) → read_pixels t (nominal_pixels t) ≡ 0
+none-read : (t : Template) → read_pixels t (nominal_adaptive_pixels t) ≡ 0
 none-read t = rw (nominal t) refl
 
 -- what a generic region says of a plane
-pub plain-counts : (p : GrayScale) (adaptive : List AdaptiveTemplatePixel) (w h : ℕ) (bytes : List ℕ) (start : Region) (before after : Counts) → adaptive ≡ nominal_pixels p.template
+pub plain-counts : (p : GrayScale) (adaptive : List AdaptiveTemplatePixel) (w h : ℕ) (bytes : List ℕ) (start : Region) (before after : Counts) → adaptive ≡ nominal_adaptive_pixels p.template
     → CountsRegion (template_pixels false p.template adaptive) (is_nominal p.template adaptive) (read_pixels p.template adaptive) (coding_of false p.template (template_pixels false p.template adaptive)) w h bytes start before after
     → CountsPlane p w h bytes start before after
 plain-counts p adaptive w h bytes start before after at counts =
     let here = subst (λ (a : List AdaptiveTemplatePixel). CountsRegion (template_pixels false p.template a) (is_nominal p.template a) (read_pixels p.template a) (coding_of false p.template (template_pixels false p.template a)) w h bytes start before after) at counts in
-    let none = subst (λ (n : ℕ). CountsRegion (plane_pixels p) (is_nominal p.template (nominal_pixels p.template)) n (plain_coding p) w h bytes start before after) (none-read p.template) here in
+    let none = subst (λ (n : ℕ). CountsRegion (plane_pixels p) (is_nominal p.template (nominal_adaptive_pixels p.template)) n (plain_coding p) w h bytes start before after) (none-read p.template) here in
     subst (λ (b : Bool). CountsRegion (plane_pixels p) b 0 (plain_coding p) w h bytes start before after) (nominal p.template) none
 
 -- every row of a plane is coded
@@ -192,7 +192,7 @@ one-plain p mask w h bytes start before after is none counts = record {
     no-some (Some x) none some = cc
 
 -- a plane of which some may be
-pub one-masked : (p : GrayScale) (mask : Option (Bor Grid)) (adaptive : List AdaptiveTemplatePixel) (w h : ℕ) (bytes : List ℕ) (start : Region) (before after : Counts) → p.skip_mask ≡ skip_of mask → is_some mask ≡ true → adaptive ≡ nominal_pixels p.template
+pub one-masked : (p : GrayScale) (mask : Option (Bor Grid)) (adaptive : List AdaptiveTemplatePixel) (w h : ℕ) (bytes : List ℕ) (start : Region) (before after : Counts) → p.skip_mask ≡ skip_of mask → is_some mask ≡ true → adaptive ≡ nominal_adaptive_pixels p.template
     → (is_nominal p.template adaptive ≡ true → CountsSkipping (skip_of mask) w h before after) → CountsOne p w h bytes start before after
 one-masked p mask adaptive w h bytes start before after is some at counts =
     let here = counts (ap (λ (a : List AdaptiveTemplatePixel). is_nominal p.template a) at ∙ nominal p.template) in

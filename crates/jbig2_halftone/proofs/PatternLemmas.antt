@@ -1,5 +1,5 @@
 -- Patterns cut out of a collective bitmap.
-use Rattle.std.proofs.Common.{inl, inr, ◌≡◌, ℕ, ◌+◌, ◌*◌, ◌/◌, ◌<◌, ◌≤◌, Bool, true, false, List, [], ◌∷◌, ◌++◌, length, Result, Ok, refl, sym, ap, subst, ◌∙◌, arith}
+use Rattle.std.proofs.Common.{inl, inr, ◌≡◌, ℕ, ◌+◌, ◌*◌, ◌/◌, ◌<◌, ◌≤◌, Bool, true, false, List, [], ◌∷◌, ◌++◌, drop, length, Result, Ok, refl, sym, ap, subst, ◌∙◌, arith}
 use Rattle.std.specs.List.{All}
 use Rattle.std.proofs.Math.Nat.{mul-le-mul_left}
 use Rattle.std.proofs.lemmas.List.FromFn.{get_or-map-range_with_len, map-range_with_len_more, length-map-range_with_len}
@@ -10,7 +10,7 @@ use Rattle.jbig2_base.proofs.CountLemmas.{written-none}
 use Rattle.jbig2_base.proofs.FillLemmas.{white-made}
 use Rattle.jbig2_base.proofs.LaneCounts.{lanes-none, lanes-then}
 use Rattle.jbig2_region.specs.GenericSteps.{CountsGeneric}
-use Rattle.jbig2_region.specs.Templates.{left, right}
+use Rattle.jbig2_region.specs.Templates.{left, nominal_adaptive_pixels}
 use Rattle.jbig2_region.specs.inner.PixelArrays.{pixels_view}
 use Rattle.jbig2_region.specs.declared.template.GenericTemplatePixels.TheVariants.{Regular}
 use Rattle.jbig2_region.specs.declared.template.Template.{Template}
@@ -21,7 +21,7 @@ use Rattle.jbig2_halftone.specs.Steps.{StopsDictionary, after_patterns}
 use Rattle.jbig2_halftone.specs.inner.FunctionResults.{StopsCut, pattern_of}
 
 -- the adaptive pixels of the collective bitmap, taken of an array of four
-pub collective_view : (mmr : Bool) (template : Template) (width : ℕ) → pixels_view mmr template (Regular (left width 0 ∷ left 3 1 ∷ right 2 2 ∷ left 2 2 ∷ [])) ≡ collective_pixels mmr template width
+pub collective_view : (mmr : Bool) (template : Template) (width : ℕ) → pixels_view mmr template (Regular (left width 0 ∷ drop 1 (nominal_adaptive_pixels Template0))) ≡ collective_pixels mmr template width
 collective_view true template width = refl
 collective_view false Template0 width = refl
 collective_view false Template1 width = refl

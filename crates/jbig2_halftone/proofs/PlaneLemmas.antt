@@ -15,9 +15,9 @@ use Rattle.jbig2_region.specs.inner.RegionStates.{DecodesRegion, HasDecoded}
 use Rattle.jbig2_region.specs.Raster.{so_far, decoded_region, no_pixels, fresh_contexts}
 use Rattle.jbig2_region.specs.{Generic.{skipping_coding}, inner.RegionViews.{skip_of}}
 use Rattle.jbig2_mmr.specs.T6.{Decoded, Rows, mmr_rows, grid_of_rows, rows_of}
-use Rattle.jbig2_region.specs.Templates.{context_bits, template_pixels}
+use Rattle.jbig2_region.specs.Templates.{context_bits, template_pixels, nominal_adaptive_pixels}
 use Rattle.jbig2_region.specs.declared.template.AdaptiveTemplatePixel.{AdaptiveTemplatePixel}
-use Rattle.jbig2_halftone.specs.GrayScale.{GrayScale, nominal_pixels, after_planes, mmr_plane, mmr_planes, planes_of, image_is_too_large}
+use Rattle.jbig2_halftone.specs.GrayScale.{GrayScale, after_planes, mmr_plane, mmr_planes, planes_of, image_is_too_large}
 use Rattle.jbig2_halftone.specs.inner.FunctionResults.{coded_plane, plane_coding, coded_planes, planes_by_coder, planes_by_mmr}
 
 -- neither side of an image that has a plane is too long
@@ -43,7 +43,7 @@ unfolding so_far
 plane-height w h bits grid e = ap (λ (g : Grid). g.height) e
 
 -- ---- a plane without skipped pixels is a generic region without typical prediction
-pub unskipped : (p : GrayScale) (adaptive : List AdaptiveTemplatePixel) (old : Grid) (coder : Coder) (states : List Context) (grid : Grid) (next : Coder) (after : List Context) → p.skip_mask ≡ None → adaptive ≡ nominal_pixels p.template
+pub unskipped : (p : GrayScale) (adaptive : List AdaptiveTemplatePixel) (old : Grid) (coder : Coder) (states : List Context) (grid : Grid) (next : Coder) (after : List Context) → p.skip_mask ≡ None → adaptive ≡ nominal_adaptive_pixels p.template
     → DecodesRegion (coding_of false p.template (template_pixels false p.template adaptive)) old coder states grid next after → DecodesRegion (plane_coding p) old coder states grid next after
 unskipped p adaptive old coder states grid next after none nominal holds =
     let pixels : List AdaptiveTemplatePixel = template_pixels false p.template adaptive in

@@ -12,7 +12,7 @@ use Rattle.jbig2_mmr.specs.T6.{mmr_rows}
 use Rattle.jbig2_coder.specs.Coder.{Context, initial_registers}
 use Rattle.jbig2_region.specs.Generic.{number_of, skipping_coding}
 use Rattle.jbig2_region.specs.Raster.{Region, so_far, decoded_region, no_pixels, fresh_contexts}
-use Rattle.jbig2_region.specs.Templates.{context_bits, left, right, template_pixels}
+use Rattle.jbig2_region.specs.Templates.{context_bits, left, right, template_pixels, nominal_adaptive_pixels}
 use Rattle.jbig2_region.specs.declared.template.AdaptiveTemplatePixel.{AdaptiveTemplatePixel}
 use Rattle.jbig2_region.specs.declared.template.Template.{Template}
 use Rattle.jbig2_region.specs.declared.template.Template.TheVariants.{Template0, Template1}
@@ -26,19 +26,13 @@ pub record GrayScale : Type 0 where  -- what is needed to decode an image's code
   pub skip_mask : Option Grid
   pub strict : Bool
 
--- the adaptive pixels at their nominal places (Table C.4)
-abbrev pub nominal_pixels : Template → List AdaptiveTemplatePixel
-nominal_pixels Template0 = right 3 1 ∷ left 3 1 ∷ right 2 2 ∷ left 2 2 ∷ []
-nominal_pixels Template1 = right 3 1 ∷ []
-nominal_pixels _ = right 2 1 ∷ []
-
 -- The last of the `count` highest planes. Each is a generic region without typical prediction (Table C.4). It begins
 -- with the registers and the contexts that the plane before it left, and the first one with fresh contexts.
 unfoldable pub after_planes : GrayScale → List ℕ → ℕ → Region
 after_planes p bytes zero = no_pixels (initial_registers bytes) (fresh_contexts (context_bits p.template))
 after_planes p bytes (suc count) =
     let before = after_planes p bytes count in
-    let coding = skipping_coding (template_pixels false p.template (nominal_pixels p.template)) p.skip_mask in
+    let coding = skipping_coding (template_pixels false p.template (nominal_adaptive_pixels p.template)) p.skip_mask in
     decoded_region coding p.width p.height bytes (no_pixels before.registers before.contexts)
 
 -- with MMR: a plane, and the bytes after those that it used; and this many planes

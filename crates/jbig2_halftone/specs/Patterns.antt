@@ -1,6 +1,6 @@
 -- Pattern dictionaries (T.88, 6.7): the patterns lie side by side in one collective bitmap, a generic region. The
 -- header with the coded bytes gives the list of the patterns' grids, one for each gray value.
-use Rattle.std.specs.Prelude.{ℕ, ◌+◌, ◌*◌, nat_lt, Bool, true, false, if◌then◌else◌, List, [], ◌∷◌, map, Result, Ok}
+use Rattle.std.specs.Prelude.{ℕ, ◌+◌, ◌*◌, nat_lt, Bool, true, false, if◌then◌else◌, List, [], ◌∷◌, drop, map, Result, Ok}
 use Rattle.std.specs.List.{range_with_len}
 use Rattle.jbig2_base.specs.Results.{refuse_if, ◌>>=◌}
 use Rattle.jbig2_base.specs.Grid.{Grid, part_of}
@@ -11,7 +11,7 @@ use Rattle.jbig2_base.specs.declared.error.OverflowError.TheVariants.{BitmapDime
 use Rattle.jbig2_coder.specs.Coder.{Context}
 use Rattle.jbig2_region.specs.Generic.{generic_result, contexts_after}
 use Rattle.jbig2_region.specs.GenericHeader.{GenericHeader}
-use Rattle.jbig2_region.specs.Templates.{left, right}
+use Rattle.jbig2_region.specs.Templates.{left, nominal_adaptive_pixels}
 use Rattle.jbig2_region.specs.declared.template.AdaptiveTemplatePixel.{AdaptiveTemplatePixel}
 use Rattle.jbig2_region.specs.declared.template.Template.{Template}
 use Rattle.jbig2_region.specs.declared.template.Template.TheVariants.{Template0}
@@ -25,11 +25,11 @@ pub record Patterns : Type 0 where  -- the patterns of a dictionary, which have 
 abbrev pub collective_width : PatternHeader → ℕ
 collective_width h = (h.gray_max + 1) * h.pattern_width
 
--- the adaptive pixels (Table 27), for MMR or not, a template and a pattern's width: A1 lies one pattern to the left
+-- The adaptive pixels (Table 27), for MMR or not, a template and a pattern's width: A1 lies one pattern to the left,
+-- the others where they lie by default.
 abbrev pub collective_pixels : Bool → Template → ℕ → List AdaptiveTemplatePixel
 collective_pixels true template width = []
-collective_pixels false Template0 width = left width 0 ∷ left 3 1 ∷ right 2 2 ∷ left 2 2 ∷ []
-collective_pixels false template width = left width 0 ∷ []
+collective_pixels false template width = left width 0 ∷ drop 1 (nominal_adaptive_pixels template)
 
 -- the collective bitmap as a generic region, without typical prediction (Table 27)
 abbrev pub collective_header : PatternHeader → GenericHeader

@@ -12,8 +12,8 @@ use Rattle.jbig2_region.specs.GenericSteps.{CountsGeneric}
 use Rattle.jbig2_region.specs.Raster.{no_pixels}
 use Rattle.jbig2_region.specs.Steps.{coded_runs, row_loads, row_tests, row_words, kept_pixels, skipping_loads}
 use Rattle.jbig2_region.specs.Steps.{skipping_words}
-use Rattle.jbig2_region.specs.Templates.{template_pixels}
-use Rattle.jbig2_halftone.specs.GrayScale.{GrayScale, nominal_pixels, after_planes}
+use Rattle.jbig2_region.specs.Templates.{template_pixels, nominal_adaptive_pixels}
+use Rattle.jbig2_halftone.specs.GrayScale.{GrayScale, after_planes}
 use Rattle.jbig2_halftone.specs.Halftone.{column_of, gray_params, row_of, skip_mask}
 use Rattle.jbig2_halftone.specs.HalftoneHeader.{HalftoneHeader}
 use Rattle.jbig2_halftone.specs.PatternHeader.{PatternHeader}
@@ -23,7 +23,7 @@ use Rattle.jbig2_halftone.specs.Patterns.{Patterns, collective_header}
 unfoldable pub plane_runs : GrayScale → List ℕ → ℕ → ℕ
 plane_runs p bytes zero = 0
 plane_runs p bytes (suc count) =
-    let pixels = template_pixels false p.template (nominal_pixels p.template) in
+    let pixels = template_pixels false p.template (nominal_adaptive_pixels p.template) in
     let before = after_planes p bytes count in
     plane_runs p bytes count
     + coded_runs pixels true (coding_of false p.template pixels) p.width p.height bytes (no_pixels before.registers before.contexts)

@@ -1,5 +1,5 @@
 //! Pattern dictionaries (T.88, 6.7 and 7.4.4): cuts the patterns out of one collective bitmap.
-ghost use Rattle.std.specs.Prelude.{◌≡◌, ◌+◌, ◌*◌, ◌/◌, ◌≤◌, [], ◌∷◌, length, IfOk, OnErr, OnOk, Ok, Bool, true, false};
+ghost use Rattle.std.specs.Prelude.{◌≡◌, ◌+◌, ◌*◌, ◌/◌, ◌≤◌, ◌∷◌, drop, length, IfOk, OnErr, OnOk, Ok, Bool, true, false};
 ghost use Rattle.jbig2_steps.specs.Work.{CountsWithin};
 ghost use Rattle.jbig2_base.specs.Grid.{max_side};
 ghost use Rattle.jbig2_base.specs.Results.{Returns, Gives, Leaves};
@@ -7,7 +7,8 @@ ghost use Rattle.jbig2_base.specs.Bits.{IsAligned};
 ghost use Rattle.jbig2_base.specs.Counts.{KeepsLanes, words_copied};
 ghost use Rattle.jbig2_region.specs.Generic.{generic_result, contexts_after};
 ghost use Rattle.jbig2_region.specs.GenericSteps.{CountsGeneric, price_of_region};
-ghost use Rattle.jbig2_region.specs.Templates.{left, right};
+ghost use Rattle.jbig2_region.specs.Templates.{left, nominal_adaptive_pixels};
+ghost use Rattle.jbig2_region.specs.declared.template.Template.TheVariants.{Template0};
 ghost use Rattle.jbig2_region.specs.declared.template.GenericTemplatePixels.TheVariants.{Regular};
 ghost use Rattle.jbig2_halftone.specs.PatternHeader.{side_at, pattern_header_at};
 ghost use Rattle.jbig2_halftone.specs.Patterns.{collective_width, collective_header, patterns_of, patterns_decoded, dictionary_contexts};
@@ -100,20 +101,18 @@ pub fn parse<'a>(reader: &mut Reader<'a>, strict: bool) -> Result<PatternDiction
     })
 }
 
-/// The adaptive pixels of a collective bitmap: A1 lies one pattern to the left (T.88, Table 27).
+/// The adaptive pixels of a collective bitmap: A1 lies one pattern to the left, the others where they lie by default
+/// (T.88, Table 27).
 fn collective_pixels(pattern_width: u8) -> GenericTemplatePixels
-    ensures { let others = left 3 1 ∷ right 2 2 ∷ left 2 2 ∷ [] in
+    ensures { let others = drop 1 (nominal_adaptive_pixels Template0) in
         result ≡ Regular (left pattern_width 0 ∷ others) }
 {
-    GenericTemplatePixels::Regular([
-        AdaptiveTemplatePixel {
-            x: -i16::from(pattern_width),
-            y: 0,
-        },
-        AdaptiveTemplatePixel { x: -3, y: -1 },
-        AdaptiveTemplatePixel { x: 2, y: -2 },
-        AdaptiveTemplatePixel { x: -2, y: -2 },
-    ])
+    let [_, second, third, fourth] = Template::Template0.nominal_pixels();
+    let first = AdaptiveTemplatePixel {
+        x: -i16::from(pattern_width),
+        y: 0,
+    };
+    GenericTemplatePixels::Regular([first, second, third, fourth])
 }
 
 /// Cuts out pattern `k`: the columns of a collective bitmap from `k` times the width on.

@@ -1,7 +1,7 @@
 -- The templates of generic regions (T.88, 6.2.5.3, Figures 3 to 6, and the extended one). `template_pixels` takes a
 -- template and its adaptive pixels, and gives the pixels of a context. Then come the context of the decision that
 -- begins a row, and how a segment holds the adaptive pixels (7.4.6.3).
-use Rattle.std.specs.Prelude.{ℕ, ◌==◌, ◌≡◌, Bool, true, false, not, ◌&&◌, ◌||◌, ℤ, pos, negsuc, ◌-ℤ◌, int_lt, int_le}
+use Rattle.std.specs.Prelude.{ℕ, ◌+◌, ◌==◌, ◌≡◌, Bool, true, false, not, ◌&&◌, ◌||◌, ℤ, pos, negsuc, ◌-ℤ◌, int_lt, int_le}
 use Rattle.std.specs.Prelude.{List, [], ◌∷◌, zero, suc, slice_index_or, if◌then◌else◌, Result, Ok}
 use Rattle.std.specs.Int.{w8}
 use Rattle.std.specs.Ordering.{int_eq}
@@ -73,14 +73,21 @@ row_context Template3 = 0x0195
 abbrev pub lies_at : AdaptiveTemplatePixel → ℤ → ℤ → Bool
 lies_at p x y = int_eq p.x x && int_eq p.y y
 
--- whether the adaptive pixels lie where the standard has them by default (6.2.5.4)
+-- the adaptive pixels where the standard has them by default (6.2.5.4)
+abbrev pub nominal_adaptive_pixels : Template → List AdaptiveTemplatePixel
+nominal_adaptive_pixels Template0 = right 3 1 ∷ left 3 1 ∷ right 2 2 ∷ left 2 2 ∷ []
+nominal_adaptive_pixels Template1 = right 3 1 ∷ []
+nominal_adaptive_pixels Template2 = right 2 1 ∷ []
+nominal_adaptive_pixels Template3 = right 2 1 ∷ []
+
+-- whether the adaptive pixels from number k + 1 on lie where these do
+abbrev pub lie_at : List AdaptiveTemplatePixel → ℕ → List AdaptiveTemplatePixel → Bool
+lie_at a k [] = true
+lie_at a k (p ∷ []) = lies_at (adaptive a k) p.x p.y
+lie_at a k (p ∷ q ∷ others) = lies_at (adaptive a k) p.x p.y && lie_at a (k + 1) (q ∷ others)
+
 abbrev pub is_nominal : Template → List AdaptiveTemplatePixel → Bool
-is_nominal Template0 a =
-    lies_at (adaptive a 0) (pos 3) (negsuc 0) && (lies_at (adaptive a 1) (negsuc 2) (negsuc 0)
-    && (lies_at (adaptive a 2) (pos 2) (negsuc 1) && lies_at (adaptive a 3) (negsuc 1) (negsuc 1)))
-is_nominal Template1 a = lies_at (adaptive a 0) (pos 3) (negsuc 0)
-is_nominal Template2 a = lies_at (adaptive a 0) (pos 2) (negsuc 0)
-is_nominal Template3 a = lies_at (adaptive a 0) (pos 2) (negsuc 0)
+is_nominal template a = lie_at a 0 (nominal_adaptive_pixels template)
 
 -- whether a pixel is decoded earlier (6.2.5.4): in a row above, or to the left in the same row
 abbrev pub is_earlier : AdaptiveTemplatePixel → Bool

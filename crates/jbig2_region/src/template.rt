@@ -2,7 +2,8 @@
 //! pixels.
 ghost use Rattle.std.specs.Prelude.{◌≡◌, ◌%◌, pos};
 ghost use Rattle.jbig2_region.specs.RefinementTemplates.{refinement_bits, refinement_template_of};
-ghost use Rattle.jbig2_region.specs.Templates.{template_of, context_bits};
+ghost use Rattle.jbig2_region.specs.Templates.{template_of, context_bits, nominal_adaptive_pixels};
+ghost use Rattle.jbig2_region.specs.inner.PixelArrays.{filled, four_pixels};
 
 pub(crate) mod adaptive;
 pub(crate) mod generic;
@@ -41,6 +42,29 @@ impl Template {
             Template::Template0 => 16,
             Template::Template1 => 13,
             Template::Template2 | Template::Template3 => 10,
+        }
+    }
+
+    /// The adaptive pixels where the standard has them by default (T.88, 6.2.5.4), and (0, 0) for those that the
+    /// template does not have.
+    pub fn nominal_pixels(self) -> [AdaptiveTemplatePixel; 4]
+        ensures all { result ≡ filled 4 (nominal_adaptive_pixels self) }
+        ensures used { four_pixels self result ≡ nominal_adaptive_pixels self }
+    {
+        let unused = AdaptiveTemplatePixel { x: 0, y: 0 };
+        let second = AdaptiveTemplatePixel { x: -3, y: -1 };
+        let third = AdaptiveTemplatePixel { x: 2, y: -2 };
+        let fourth = AdaptiveTemplatePixel { x: -2, y: -2 };
+        match self {
+            Template::Template0 => {
+                [AdaptiveTemplatePixel { x: 3, y: -1 }, second, third, fourth]
+            }
+            Template::Template1 => {
+                [AdaptiveTemplatePixel { x: 3, y: -1 }, unused, unused, unused]
+            }
+            Template::Template2 | Template::Template3 => {
+                [AdaptiveTemplatePixel { x: 2, y: -1 }, unused, unused, unused]
+            }
         }
     }
 }

@@ -9,9 +9,9 @@ use Rattle.jbig2_coder.specs.Coder.{Context}
 use Rattle.jbig2_region.specs.Generic.{coding_of, skipping_coding}
 use Rattle.jbig2_region.specs.Raster.{Coding, Region, so_far, no_pixels}
 use Rattle.jbig2_region.specs.Steps.{CountsRegion, CountsSkipping}
-use Rattle.jbig2_region.specs.Templates.{template_pixels}
+use Rattle.jbig2_region.specs.Templates.{template_pixels, nominal_adaptive_pixels}
 use Rattle.jbig2_region.specs.declared.template.AdaptiveTemplatePixel.{AdaptiveTemplatePixel}
-use Rattle.jbig2_halftone.specs.GrayScale.{GrayScale, nominal_pixels, after_planes, mmr_planes}
+use Rattle.jbig2_halftone.specs.GrayScale.{GrayScale, after_planes, mmr_planes}
 use Rattle.jbig2_halftone.specs.Halftone.{column_of, gray_params, row_of, is_beyond}
 use Rattle.jbig2_halftone.specs.HalftoneHeader.{HalftoneHeader}
 use Rattle.jbig2_halftone.specs.Patterns.{Patterns}
@@ -29,7 +29,7 @@ StopsCut count words before after = (cut : ℕ) × ((cut ≤ count) × (after �
 -- ---- planes
 -- a plane is a generic region without typical prediction
 abbrev pub plane_coding : GrayScale → Coding
-plane_coding p = skipping_coding (template_pixels false p.template (nominal_pixels p.template)) p.skip_mask
+plane_coding p = skipping_coding (template_pixels false p.template (nominal_adaptive_pixels p.template)) p.skip_mask
 
 -- the plane after the k highest ones, the highest ones, and all of them
 abbrev pub coded_plane : GrayScale → List ℕ → ℕ → Grid
@@ -61,7 +61,7 @@ skip_grid h d = grid_of h.grid_position_and_size.width h.grid_position_and_size.
 -- ---- steps
 -- a plane without skipped pixels, as a generic region
 abbrev pub plane_pixels : GrayScale → List AdaptiveTemplatePixel
-plane_pixels p = template_pixels false p.template (nominal_pixels p.template)
+plane_pixels p = template_pixels false p.template (nominal_adaptive_pixels p.template)
 
 abbrev pub plain_coding : GrayScale → Coding
 plain_coding p = coding_of false p.template (plane_pixels p)

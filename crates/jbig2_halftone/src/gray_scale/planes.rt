@@ -6,9 +6,8 @@ ghost use Rattle.jbig2_base.specs.Grid.{blank, max_side};
 ghost use Rattle.jbig2_mmr.specs.Steps.{MovesWithin};
 ghost use Rattle.jbig2_region.specs.Raster.{fresh_contexts, no_pixels};
 ghost use Rattle.jbig2_region.specs.Templates.{context_bits};
-ghost use Rattle.jbig2_region.specs.inner.PixelArrays.{four_pixels};
 ghost use Rattle.jbig2_region.specs.inner.RegionStates.{DecodesRegion};
-ghost use Rattle.jbig2_halftone.specs.GrayScale.{nominal_pixels, planes_of, after_planes, image_is_too_large, mmr_plane};
+ghost use Rattle.jbig2_halftone.specs.GrayScale.{planes_of, after_planes, image_is_too_large, mmr_plane};
 ghost use Rattle.jbig2_halftone.specs.Steps.{CountsRead, StopsImage, words_of_plane};
 ghost use Rattle.jbig2_halftone.specs.inner.HalftoneViews.{gray_view};
 ghost use Rattle.jbig2_halftone.specs.inner.FunctionResults.{plane_coding, planes_by_coder, planes_by_mmr, planes_contexts, CountsCoded, CountsMmr, CountsOne, StopsCoded};
@@ -22,25 +21,9 @@ use jbig2_mmr::mmr;
 use jbig2_region::generic::decode_coded;
 use jbig2_region::raster::fresh_contexts;
 use jbig2_region::skipping::decode_skipping;
-use jbig2_region::template::{AdaptiveTemplatePixel, GenericTemplatePixels, Template};
+use jbig2_region::template::GenericTemplatePixels;
 use std::alloc::Allocator;
 use std::sync::ledger::Ledger;
-
-/// The adaptive pixels of a plane, at their nominal places (T.88, Table C.4).
-fn nominal_pixels(template: Template) -> [AdaptiveTemplatePixel; 4]
-    ensures { four_pixels template result ≡ nominal_pixels template }
-{
-    let first = match template {
-        Template::Template0 | Template::Template1 => AdaptiveTemplatePixel { x: 3, y: -1 },
-        Template::Template2 | Template::Template3 => AdaptiveTemplatePixel { x: 2, y: -1 },
-    };
-    [
-        first,
-        AdaptiveTemplatePixel { x: -3, y: -1 },
-        AdaptiveTemplatePixel { x: 2, y: -2 },
-        AdaptiveTemplatePixel { x: -2, y: -2 },
-    ]
-}
 
 /// Decodes the next plane with the arithmetic coder, into a white bitmap of its size.
 fn decode_plane<M: Allocator, A: Allocator, L: Ledger>(
@@ -59,7 +42,8 @@ fn decode_plane<M: Allocator, A: Allocator, L: Ledger>(
     ensures steps { CountsOne (gray_view params.now) plane.old.width plane.old.height
         decoder.old.bytes (no_pixels decoder.old.registers contexts.old) steps.old steps.new }
 {
-    let adaptive = nominal_pixels(params.template);
+    // Table C.4
+    let adaptive = params.template.nominal_pixels();
     if params.skip_mask.is_none() {
         let adaptive = GenericTemplatePixels::Regular(adaptive);
         decode_coded(

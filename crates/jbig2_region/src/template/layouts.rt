@@ -63,18 +63,23 @@ pub fn lies_at(pixel: AdaptiveTemplatePixel, x: i16, y: i16) -> bool
     pixel.x == x && pixel.y == y
 }
 
+fn lies_with(pixel: AdaptiveTemplatePixel, other: AdaptiveTemplatePixel) -> bool
+    ensures { result ≡ lies_at pixel other.x other.y }
+{
+    lies_at(pixel, other.x, other.y)
+}
+
 /// Whether the adaptive pixels lie where the standard has them by default (Figures 3 to 6).
 fn is_nominal(template: Template, a: &[AdaptiveTemplatePixel; 4]) -> bool
     ensures { result ≡ is_nominal template a.now }
 {
+    let [first, second, third, fourth] = template.nominal_pixels();
     match template {
         Template::Template0 => {
-            lies_at(a[0], 3, -1)
-                && (lies_at(a[1], -3, -1) && (lies_at(a[2], 2, -2) && lies_at(a[3], -2, -2)))
+            lies_with(a[0], first)
+                && (lies_with(a[1], second) && (lies_with(a[2], third) && lies_with(a[3], fourth)))
         }
-        Template::Template1 => lies_at(a[0], 3, -1),
-        Template::Template2 => lies_at(a[0], 2, -1),
-        Template::Template3 => lies_at(a[0], 2, -1),
+        _ => lies_with(a[0], first),
     }
 }
 
