@@ -21,14 +21,16 @@ use Rattle.jbig2_halftone.specs.Patterns.{Patterns}
 
 -- A pattern dictionary's header has seven bytes: flags, the width and the height of a pattern, GRAYMAX.
 abbrev pub BreaksPatternHeader : List ℕ → DecodeError → Type 0
-BreaksPatternHeader bytes (Parse UnexpectedEof) = (length bytes < 7) ⊎ (number_in w8 1 bytes ≡ 0) ⊎ (number_in w8 2 bytes ≡ 0)
+BreaksPatternHeader bytes (Parse UnexpectedEof) =
+    (length bytes < 7) ⊎ (number_in w8 1 bytes ≡ 0) ⊎ (number_in w8 2 bytes ≡ 0)
 BreaksPatternHeader bytes _ = ⊥
 
 -- A halftone region's header has 38 bytes. The region information's flags are at byte 16, those of the halftone at byte
 -- 17, and the width and the height of the grid at bytes 18 and 22.
 abbrev pub BreaksHalftoneHeader : List ℕ → DecodeError → Type 0
 BreaksHalftoneHeader bytes (Parse UnexpectedEof) = length bytes < 38
-BreaksHalftoneHeader bytes (Region InvalidCombinationOperator) = (4 < number_in w8 16 bytes % 8) ⊎ (4 < number_in w8 17 bytes / 16 % 8)
+BreaksHalftoneHeader bytes (Region InvalidCombinationOperator) =
+    (4 < number_in w8 16 bytes % 8) ⊎ (4 < number_in w8 17 bytes / 16 % 8)
 BreaksHalftoneHeader bytes Unsupported = number_in w8 16 bytes / 8 % 2 ≡ 1
 BreaksHalftoneHeader bytes (Overflow GridDimension) =
     (26 ≤ length bytes) × ((65535 < number_in w32 18 bytes) ⊎ (65535 < number_in w32 22 bytes))
@@ -38,7 +40,8 @@ BreaksHalftoneHeader bytes _ = ⊥
 abbrev pub BreaksPatterns : PatternHeader → DecodeError → Type 0
 BreaksPatterns h (Overflow BitmapDimension) = 65535 < (h.gray_max + 1) * h.pattern_width
 BreaksPatterns h (Region InvalidMmrData) =
-    (h.mmr ≡ true) × BreaksMmr h.strict ((h.gray_max + 1) * h.pattern_width) h.pattern_height h.bytes (Region InvalidMmrData)
+    (h.mmr ≡ true)
+    × BreaksMmr h.strict ((h.gray_max + 1) * h.pattern_width) h.pattern_height h.bytes (Region InvalidMmrData)
 BreaksPatterns h _ = ⊥
 
 -- where plane k of MMR data begins: after the whole bytes that each plane before it used
