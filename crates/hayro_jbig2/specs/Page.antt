@@ -5,7 +5,7 @@ use Rattle.std.specs.Prelude.{◌∷◌, Option, Some, None, Result, Ok, Err, If
 use Rattle.std.specs.Int.{w32, cast_signed}
 use Rattle.jbig2_base.specs.Results.{◌>>=◌}
 use Rattle.jbig2_base.specs.Combination.{combined}
-use Rattle.jbig2_base.specs.Grid.{Grid, blank}
+use Rattle.jbig2_base.specs.Grid.{Grid, blank, max_side}
 use Rattle.jbig2_base.specs.PageInfo.{initial_page_by, stripes_height}
 use Rattle.jbig2_base.specs.Reading.{fault_of, is_salvaged, is_strict}
 use Rattle.jbig2_base.specs.Segment.{SegmentView}
@@ -38,13 +38,13 @@ pub record ReadPage : Type 0 where
   pub fault : Option DecodeError
 
 abbrev pub IsSide : ℕ → Type 0  -- a side of a page, in pixels (our own rule)
-IsSide n = (1 ≤ n) × (n ≤ 65535)
+IsSide n = (1 ≤ n) × (n ≤ max_side)
 
 pub record HasSides (p : InitialPage) : Type 0 where
   pub some_columns : 1 ≤ p.width
-  pub columns : p.width ≤ 65535
+  pub columns : p.width ≤ max_side
   pub some_rows : 1 ≤ p.height
-  pub rows : p.height ≤ 65535
+  pub rows : p.height ≤ max_side
 
 -- What was drawn so far, what is kept, whether the page is untouched (no immediate region came before), and what the
 -- reading passed over.
@@ -161,7 +161,7 @@ abbrev pub region_height : SegmentView → ℕ
 region_height p = if is_immediate (region_type p.header.segment_type) then on (region_info_at p.bytes) else 0
   where
     on : Result (RegionSegmentInfo × List ℕ) DecodeError → ℕ
-    on (Ok info) = if nat_lt 65535 info.0.width || nat_lt 65535 info.0.height then 0 else min 65535 (end_of info.0)
+    on (Ok info) = if nat_lt max_side info.0.width || nat_lt max_side info.0.height then 0 else min max_side (end_of info.0)
     on (Err e) = 0
 
 abbrev pub regions_height : List SegmentView → ℕ

@@ -4,6 +4,7 @@
 use Rattle.std.specs.Prelude.{◌≡◌, ◌≢◌, ◌<◌, ◌≤◌, ◌+◌, ◌*◌, ◌-◌, ◌/◌, ◌%◌, ◌^◌, ◌==◌, ◌⊎◌, ℕ, Bool, true, List, [], ◌∷◌}
 use Rattle.std.specs.Prelude.{take, drop, length, All, Any, Option, Some, None, Result, Ok, Err, IfErr, if◌then◌else◌}
 use Rattle.std.specs.Int.{Width, w8, w32, byte_len, from_be_bytes}
+use Rattle.jbig2_base.specs.Grid.{max_side}
 use Rattle.jbig2_base.specs.File.{identification}
 use Rattle.jbig2_base.specs.Segment.{SegmentView, adaptive_bytes, number_width}
 use Rattle.jbig2_base.specs.declared.error.DecodeError.{DecodeError}
@@ -68,8 +69,8 @@ LeavesHeightOpen ps = FirstInformation (λ bytes. (19 ≤ length bytes) × (numb
 
 abbrev pub StatesLongSide : List SegmentView → Type 0  -- a side above 65535 is too long
 StatesLongSide ps =
-    FirstInformation (λ bytes. (19 ≤ length bytes) × (65535 < number_in w32 0 bytes)) ps
-    ⊎ FirstInformation (λ bytes. (19 ≤ length bytes) × (65535 < number_in w32 4 bytes) × (number_in w32 4 bytes ≢ 4294967295)) ps
+    FirstInformation (λ bytes. (19 ≤ length bytes) × (max_side < number_in w32 0 bytes)) ps
+    ⊎ FirstInformation (λ bytes. (19 ≤ length bytes) × (max_side < number_in w32 4 bytes) × (number_in w32 4 bytes ≢ 4294967295)) ps
 
 -- The stripes state an open height. It is too large if the number of a stripe's last row is 65535 or more.
 abbrev pub BreaksInitialPage : List SegmentView → DecodeError → Type 0
@@ -79,13 +80,13 @@ BreaksInitialPage ps (Format UnknownPageHeight) = LeavesHeightOpen ps × All (λ
 BreaksInitialPage ps (Format EmptyPage) =
     FirstInformation (λ bytes. (19 ≤ length bytes) × ((number_in w32 0 bytes ≡ 0) ⊎ (number_in w32 4 bytes ≡ 0))) ps
 BreaksInitialPage ps (Overflow BitmapDimension) =
-    StatesLongSide ps ⊎ (LeavesHeightOpen ps × Any (λ p. StatesHeight p × (65535 ≤ number_in w32 0 p.bytes)) ps)
+    StatesLongSide ps ⊎ (LeavesHeightOpen ps × Any (λ p. StatesHeight p × (max_side ≤ number_in w32 0 p.bytes)) ps)
 BreaksInitialPage ps _ = ⊥
 
 -- An open height is this number, which is 0 if nothing states it.
 abbrev pub BreaksInitialPageBy : ℕ → List SegmentView → DecodeError → Type 0
 BreaksInitialPageBy known_height ps (Format UnknownPageHeight) = LeavesHeightOpen ps × (known_height ≡ 0)
-BreaksInitialPageBy known_height ps (Overflow BitmapDimension) = StatesLongSide ps ⊎ (LeavesHeightOpen ps × (65535 < known_height))
+BreaksInitialPageBy known_height ps (Overflow BitmapDimension) = StatesLongSide ps ⊎ (LeavesHeightOpen ps × (max_side < known_height))
 BreaksInitialPageBy known_height ps e = BreaksInitialPage ps e
 
 abbrev pub BreaksOperator : ℕ → DecodeError → Type 0  -- a combination operator (7.4.1.5)
@@ -143,9 +144,9 @@ BreaksData _ bytes _ = ⊥
 
 -- ---- bitmaps (our own rule)
 abbrev pub BreaksSides : ℕ → ℕ → DecodeError → Type 0
-BreaksSides width height (Overflow BitmapDimension) = (65535 < width) ⊎ (65535 < height)
+BreaksSides width height (Overflow BitmapDimension) = (max_side < width) ⊎ (max_side < height)
 BreaksSides width height _ = ⊥
 
 abbrev pub BreaksArea : ℕ → ℕ → DecodeError → Type 0
-BreaksArea width height (Overflow BitmapDimension) = 65535 * 65535 < width * height
+BreaksArea width height (Overflow BitmapDimension) = max_side * max_side < width * height
 BreaksArea width height _ = ⊥

@@ -43,7 +43,7 @@ differ true b = not b
 differ false b = b
 
 abbrev pub max_side : ℕ  -- no bitmap that is asked for by its sides has a longer one (our own rule)
-max_side = 65535
+max_side = max_side
 
 abbrev pub check_sides : ℕ → ℕ → Result (Unit {0}) DecodeError
 check_sides width height = refuse_if (nat_lt max_side width || nat_lt max_side height) (Overflow BitmapDimension)
@@ -60,4 +60,4 @@ blank_or_overflow w h black = check_sides w h >>= λ _. Ok (blank w h black)
 
 -- all white; one side may be above 65535 if the area is at most 65535 * 65535
 abbrev pub wide_or_overflow : ℕ → ℕ → Result Grid DecodeError
-wide_or_overflow w h = refuse_if (nat_lt (65535 * 65535) (w * h)) (Overflow BitmapDimension) >>= λ _. Ok (blank w h false)
+wide_or_overflow w h = refuse_if (nat_lt (max_side * max_side) (w * h)) (Overflow BitmapDimension) >>= λ _. Ok (blank w h false)

@@ -4,6 +4,7 @@
 use Rattle.std.specs.Prelude.{ℕ, ◌+◌, ◌/◌, ◌%◌, ◌==◌, max, nat_lt, Bool, true, false, not, ◌&&◌, ◌||◌, List, [], ◌∷◌}
 use Rattle.std.specs.Prelude.{length, take, Result, Ok, Err, if◌then◌else◌}
 use Rattle.std.specs.Int.{w8, w16, w32, from_be_bytes}
+use Rattle.jbig2_base.specs.Grid.{check_sides}
 use Rattle.jbig2_base.specs.Results.{◌>>=◌, refuse_if}
 use Rattle.jbig2_base.specs.Bits.{nonzero}
 use Rattle.jbig2_base.specs.Fields.{number_at}
@@ -90,7 +91,7 @@ height_of stated known_height =
 abbrev pub initial_page_with : ℕ → PageInformation → ℕ → Result InitialPage DecodeError
 initial_page_with number info height = do
   some ← refuse_if (info.width == 0 || height == 0) (Format EmptyPage)
-  fits ← refuse_if (nat_lt 65535 info.width || nat_lt 65535 height) (Overflow BitmapDimension)
+  fits ← check_sides info.width height
   Ok (record { number = number; width = info.width; height = height; default_pixel = info.flags.default_pixel })
 
 -- how a page with these segments begins; `known_height` is its height if page information leaves it open

@@ -4,7 +4,7 @@
 use Rattle.std.specs.Prelude.{◌≡◌, ◌<◌, ◌≤◌, ◌⊎◌, ℕ, zero, suc, ◌+◌, ◌-◌, ◌*◌, ◌/◌, ◌%◌, true, List, length, drop, Ok}
 use Rattle.std.specs.Int.{w8, w32}
 use Rattle.jbig2_base.specs.Causes.{number_in}
-use Rattle.jbig2_base.specs.Grid.{Grid}
+use Rattle.jbig2_base.specs.Grid.{Grid, max_side}
 use Rattle.jbig2_base.specs.declared.error.DecodeError.{DecodeError}
 use Rattle.jbig2_base.specs.declared.error.DecodeError.TheVariants.{Overflow, Parse, Region, Unsupported}
 use Rattle.jbig2_base.specs.declared.error.OverflowError.TheVariants.{BitmapDimension, GridDimension}
@@ -21,24 +21,27 @@ use Rattle.jbig2_halftone.specs.Patterns.{Patterns}
 
 -- A pattern dictionary's header has seven bytes: flags, the width and the height of a pattern, GRAYMAX.
 abbrev pub BreaksPatternHeader : List ℕ → DecodeError → Type 0
-BreaksPatternHeader bytes (Parse UnexpectedEof) = (length bytes < 7) ⊎ (number_in w8 1 bytes ≡ 0) ⊎ (number_in w8 2 bytes ≡ 0)
+BreaksPatternHeader bytes (Parse UnexpectedEof) =
+    (length bytes < 7) ⊎ (number_in w8 1 bytes ≡ 0) ⊎ (number_in w8 2 bytes ≡ 0)
 BreaksPatternHeader bytes _ = ⊥
 
 -- A halftone region's header has 38 bytes. The region information's flags are at byte 16, those of the halftone at byte
 -- 17, and the width and the height of the grid at bytes 18 and 22.
 abbrev pub BreaksHalftoneHeader : List ℕ → DecodeError → Type 0
 BreaksHalftoneHeader bytes (Parse UnexpectedEof) = length bytes < 38
-BreaksHalftoneHeader bytes (Region InvalidCombinationOperator) = (4 < number_in w8 16 bytes % 8) ⊎ (4 < number_in w8 17 bytes / 16 % 8)
+BreaksHalftoneHeader bytes (Region InvalidCombinationOperator) =
+    (4 < number_in w8 16 bytes % 8) ⊎ (4 < number_in w8 17 bytes / 16 % 8)
 BreaksHalftoneHeader bytes Unsupported = number_in w8 16 bytes / 8 % 2 ≡ 1
 BreaksHalftoneHeader bytes (Overflow GridDimension) =
-    (26 ≤ length bytes) × ((65535 < number_in w32 18 bytes) ⊎ (65535 < number_in w32 22 bytes))
+    (26 ≤ length bytes) × ((max_side < number_in w32 18 bytes) ⊎ (max_side < number_in w32 22 bytes))
 BreaksHalftoneHeader bytes _ = ⊥
 
 -- The patterns side by side have too many columns; or, in strict mode, their MMR data breaks a rule of T.6.
 abbrev pub BreaksPatterns : PatternHeader → DecodeError → Type 0
-BreaksPatterns h (Overflow BitmapDimension) = 65535 < (h.gray_max + 1) * h.pattern_width
+BreaksPatterns h (Overflow BitmapDimension) = max_side < (h.gray_max + 1) * h.pattern_width
 BreaksPatterns h (Region InvalidMmrData) =
-    (h.mmr ≡ true) × BreaksMmr h.strict ((h.gray_max + 1) * h.pattern_width) h.pattern_height h.bytes (Region InvalidMmrData)
+    (h.mmr ≡ true)
+    × BreaksMmr h.strict ((h.gray_max + 1) * h.pattern_width) h.pattern_height h.bytes (Region InvalidMmrData)
 BreaksPatterns h _ = ⊥
 
 -- where plane k of MMR data begins: after the whole bytes that each plane before it used
@@ -50,7 +53,7 @@ plane_start p bytes (suc k) =
 
 -- The image has planes, and a side above 65535. Or, in strict mode, the MMR data of a plane breaks a rule of T.6.
 abbrev pub BreaksGrayScale : GrayScale → List ℕ → DecodeError → Type 0
-BreaksGrayScale p bytes (Overflow BitmapDimension) = (0 < p.bits_per_pixel) × ((65535 < p.width) ⊎ (65535 < p.height))
+BreaksGrayScale p bytes (Overflow BitmapDimension) = (0 < p.bits_per_pixel) × ((max_side < p.width) ⊎ (max_side < p.height))
 BreaksGrayScale p bytes (Region InvalidMmrData) =
     (p.use_mmr ≡ true) × ((k : ℕ) × (k < p.bits_per_pixel)
     × BreaksMmr p.strict p.width p.height (plane_start p bytes k) (Region InvalidMmrData))

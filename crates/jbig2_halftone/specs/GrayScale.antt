@@ -4,7 +4,7 @@ use Rattle.std.specs.Prelude.{ℕ, zero, suc, ◌+◌, ◌-◌, ◌*◌, ◌/◌
 use Rattle.std.specs.Prelude.{List, [], ◌∷◌, length, take, drop, map, Option, Result, Ok}
 use Rattle.std.specs.List.{range_with_len}
 use Rattle.jbig2_base.specs.Results.{◌>>=◌, refuse_if}
-use Rattle.jbig2_base.specs.Grid.{Grid, pixel_at, differ}
+use Rattle.jbig2_base.specs.Grid.{Grid, pixel_at, differ, max_side}
 use Rattle.jbig2_base.specs.declared.error.DecodeError.{DecodeError}
 use Rattle.jbig2_base.specs.declared.error.DecodeError.TheVariants.{Overflow}
 use Rattle.jbig2_base.specs.declared.error.OverflowError.TheVariants.{BitmapDimension}
@@ -12,7 +12,7 @@ use Rattle.jbig2_mmr.specs.T6.{mmr_rows}
 use Rattle.jbig2_coder.specs.Coder.{Context, initial_registers}
 use Rattle.jbig2_region.specs.Generic.{number_of, skipping_coding}
 use Rattle.jbig2_region.specs.Raster.{Region, so_far, decoded_region, no_pixels, fresh_contexts}
-use Rattle.jbig2_region.specs.Templates.{context_bits, left, right, template_pixels, nominal_adaptive_pixels}
+use Rattle.jbig2_region.specs.Templates.{context_bits, nominal_adaptive_pixels, template_pixels}
 use Rattle.jbig2_region.specs.declared.template.AdaptiveTemplatePixel.{AdaptiveTemplatePixel}
 use Rattle.jbig2_region.specs.declared.template.Template.{Template}
 use Rattle.jbig2_region.specs.declared.template.Template.TheVariants.{Template0, Template1}
@@ -26,31 +26,33 @@ pub record GrayScale : Type 0 where  -- what is needed to decode an image's code
   pub skip_mask : Option Grid
   pub strict : Bool
 
--- The last of the `count` highest planes. Each is a generic region without typical prediction (Table C.4). It begins
--- with the registers and the contexts that the plane before it left, and the first one with fresh contexts.
-unfoldable pub after_planes : GrayScale → List ℕ → ℕ → Region
-after_planes p bytes zero = no_pixels (initial_registers bytes) (fresh_contexts (context_bits p.template))
-after_planes p bytes (suc count) =
-    let before = after_planes p bytes count in
-    let coding = skipping_coding (template_pixels false p.template (nominal_adaptive_pixels p.template)) p.skip_mask in
-    decoded_region coding p.width p.height bytes (no_pixels before.registers before.contexts)
+module _ (p : GrayScale) where
+  -- The last of the `count` highest planes. Each is a generic region without typical prediction (Table C.4). It begins
+  -- with the registers and the contexts that the plane before it left, and the first one with fresh contexts.
+  unfoldable pub after_planes : List ℕ → ℕ → Region
+  after_planes bytes zero = no_pixels (initial_registers bytes) (fresh_contexts (context_bits p.template))
+  after_planes bytes (suc count) =
+      let before = after_planes bytes count in
+      let coding = skipping_coding (template_pixels false p.template (nominal_adaptive_pixels p.template)) p.skip_mask in
+      decoded_region coding p.width p.height bytes (no_pixels before.registers before.contexts)
 
--- with MMR: a plane, and the bytes after those that it used; and this many planes
-unfoldable pub mmr_plane : GrayScale → List ℕ → Result (Grid × List ℕ) DecodeError
-mmr_plane p bytes = mmr_rows p.strict p.width p.height bytes >>= λ rows. Ok (rows.grid, drop rows.used bytes)
+  -- with MMR: a plane, and the bytes after those that it used; and this many planes
+  unfoldable pub mmr_plane : List ℕ → Result (Grid × List ℕ) DecodeError
+  mmr_plane bytes = mmr_rows p.strict p.width p.height bytes >>= λ rows. Ok (rows.grid, drop rows.used bytes)
 
-unfoldable pub mmr_planes : GrayScale → List ℕ → ℕ → Result (List Grid) DecodeError
-mmr_planes p bytes zero = Ok []
-mmr_planes p bytes (suc count) = do
-  plane ← mmr_plane p bytes
-  others ← mmr_planes p plane.1 count
-  Ok (plane.0 ∷ others)
+  unfoldable pub mmr_planes : List ℕ → ℕ → Result (List Grid) DecodeError
+  mmr_planes bytes zero = Ok []
+  mmr_planes bytes (suc count) = do
+    (plane, rest) ← mmr_plane bytes
+    others ← mmr_planes rest count
+    Ok (plane ∷ others)
 
--- all planes, the highest first; with the arithmetic coder, plane k is the last of the k + 1 highest ones
-abbrev pub planes_of : GrayScale → List ℕ → Result (List Grid) DecodeError
-planes_of p bytes =
-    if p.use_mmr then mmr_planes p bytes p.bits_per_pixel
-    else Ok (map (λ k. so_far p.width p.height (after_planes p bytes (k + 1)).pixels) (range_with_len 0 p.bits_per_pixel))
+  -- all planes, the highest first; with the arithmetic coder, plane k is the last of the k + 1 highest ones
+  abbrev pub planes_of : List ℕ → Result (List Grid) DecodeError
+  planes_of bytes =
+      if p.use_mmr then mmr_planes bytes p.bits_per_pixel
+      else Ok (map (λ k. so_far p.width p.height (after_planes bytes (k + 1)).pixels)
+      (range_with_len 0 p.bits_per_pixel))
 
 abbrev pub parity : List Grid → ℕ → ℕ → Bool  -- the exclusive or of the pixels of these planes at column x of row y
 parity [] x y = false
@@ -65,17 +67,18 @@ gray_value planes x y =
 unfoldable pub gray_values : ℕ → ℕ → List Grid → List ℕ
 gray_values w h planes = map (λ n. gray_value planes (n % w) (n / w)) (range_with_len 0 (w * h))
 
--- a side above 65535, which is refused where there is a plane to read (our own rule)
-abbrev pub image_is_too_large : GrayScale → Bool
-image_is_too_large p = nat_lt 0 p.bits_per_pixel && (nat_lt 65535 p.width || nat_lt 65535 p.height)
+module _ (p : GrayScale) where
+  -- a side above 65535, which is refused where there is a plane to read (our own rule)
+  abbrev pub image_is_too_large : Bool
+  image_is_too_large = nat_lt 0 p.bits_per_pixel && (nat_lt max_side p.width || nat_lt max_side p.height)
 
-unfoldable pub gray_scale_image : GrayScale → List ℕ → Result (List ℕ) DecodeError
-gray_scale_image p bytes = do
-  fits ← refuse_if (image_is_too_large p) (Overflow BitmapDimension)
-  planes ← planes_of p bytes
-  Ok (gray_values p.width p.height planes)
+  unfoldable pub gray_scale_image : List ℕ → Result (List ℕ) DecodeError
+  gray_scale_image bytes = do
+    fits ← refuse_if image_is_too_large (Overflow BitmapDimension)
+    planes ← planes_of p bytes
+    Ok (gray_values p.width p.height planes)
 
--- The contexts after the image. MMR leaves them as they were, refused or not, and so does a side that is too large.
-abbrev pub gray_contexts : GrayScale → List ℕ → List Context → List Context
-gray_contexts p bytes contexts =
-    if image_is_too_large p || p.use_mmr then contexts else (after_planes p bytes p.bits_per_pixel).contexts
+  -- The contexts after the image. MMR leaves them as they were, refused or not, and so does a side that is too large.
+  abbrev pub gray_contexts : List ℕ → List Context → List Context
+  gray_contexts bytes contexts =
+      if image_is_too_large || p.use_mmr then contexts else (after_planes p bytes p.bits_per_pixel).contexts

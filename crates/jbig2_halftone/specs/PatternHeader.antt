@@ -26,23 +26,26 @@ pub record HasSize (width height : ℕ) (grid : Grid) : Type 0 where
 
 -- a side of a pattern; 0 counts as a missing side (our own rule)
 abbrev pub side_at : List ℕ → Result (ℕ × List ℕ) DecodeError
-side_at bytes = number_at w8 bytes >>= λ n. refuse_if (n.0 == 0) end_of_bytes >>= λ some. Ok n
+side_at bytes = do
+  (side, rest) ← number_at w8 bytes
+  some ← refuse_if (side == 0) end_of_bytes
+  Ok (side, rest)
 
 unfoldable pub pattern_header_at : Bool → List ℕ → Result (PatternHeader × List ℕ) DecodeError
 pattern_header_at strict bytes = do
-  flags ← number_at w8 bytes
-  width ← side_at flags.1
-  height ← side_at width.1
-  largest ← number_at w32 height.1
+  (flags, rest) ← number_at w8 bytes
+  (width, rest) ← side_at rest
+  (height, rest) ← side_at rest
+  (largest, rest) ← number_at w32 rest
   Ok (
     record {
-      mmr = flags.0 % 2 == 1;
-      template = template_of (flags.0 / 2 % 4);
-      pattern_width = width.0;
-      pattern_height = height.0;
-      gray_max = largest.0;
-      bytes = largest.1;
+      mmr = flags % 2 == 1;
+      template = template_of (flags / 2 % 4);
+      pattern_width = width;
+      pattern_height = height;
+      gray_max = largest;
+      bytes = rest;
       strict = strict;
     },
-    largest.1,
+    rest,
   )

@@ -19,118 +19,129 @@ use Rattle.jbig2_halftone.specs.HalftoneHeader.{HalftoneHeader}
 use Rattle.jbig2_halftone.specs.PatternHeader.{PatternHeader}
 use Rattle.jbig2_halftone.specs.Patterns.{Patterns, collective_header}
 
--- the number of run bytes of the highest planes, where no pixel is skipped
-unfoldable pub plane_runs : GrayScale → List ℕ → ℕ → ℕ
-plane_runs p bytes zero = 0
-plane_runs p bytes (suc count) =
-    let pixels = template_pixels false p.template (nominal_adaptive_pixels p.template) in
-    let before = after_planes p bytes count in
-    plane_runs p bytes count
-    + coded_runs pixels true (coding_of false p.template pixels) p.width p.height bytes (no_pixels before.registers before.contexts)
+module _ (p : GrayScale) where
+  -- the number of run bytes of the highest planes, where no pixel is skipped
+  unfoldable pub plane_runs : List ℕ → ℕ → ℕ
+  plane_runs bytes zero = 0
+  plane_runs bytes (suc count) =
+      let pixels = template_pixels false p.template (nominal_adaptive_pixels p.template) in
+      let before = after_planes p bytes count in
+      plane_runs bytes count
+      + coded_runs pixels true (coding_of false p.template pixels) p.width p.height bytes
+      (no_pixels before.registers before.contexts)
 
--- the highest planes, without skipped pixels: a decision for each pixel, but eight fewer for each run byte, and no
--- lanes; empty planes take no step
-pub record CountsPlanes (p : GrayScale) (bytes : List ℕ) (count : ℕ) (before after : Counts) : Type 0 where
-  pub empty : p.width * p.height ≡ 0 → after ≡ before
-  pub decisions : 1 ≤ p.width → after.decisions + 8 * plane_runs p bytes count ≡ before.decisions + count * (p.width * p.height)
-  pub run_tests : after.run_tests ≤ before.run_tests + count * (p.height * row_tests true p.width)
-  pub words : after.words ≤ before.words + count * (p.height * row_words true p.width)
-  pub loads : after.loads ≤ before.loads + count * (p.height * row_loads true p.width)
-  pub lanes : KeepsLanes before after
+  -- the highest planes, without skipped pixels: a decision for each pixel, but eight fewer for each run byte, and no
+  -- lanes; empty planes take no step
+  pub record CountsPlanes (bytes : List ℕ) (count : ℕ) (before after : Counts) : Type 0 where
+    pub empty : p.width * p.height ≡ 0 → after ≡ before
+    pub decisions : 1 ≤ p.width →
+        after.decisions + 8 * plane_runs bytes count ≡ before.decisions + count * (p.width * p.height)
+    pub run_tests : after.run_tests ≤ before.run_tests + count * (p.height * row_tests true p.width)
+    pub words : after.words ≤ before.words + count * (p.height * row_words true p.width)
+    pub loads : after.loads ≤ before.loads + count * (p.height * row_loads true p.width)
+    pub lanes : KeepsLanes before after
 
--- the highest planes, with skipped pixels: a decision for each pixel that is not skipped, and no run test
-pub record CountsMasked (p : GrayScale) (count : ℕ) (before after : Counts) : Type 0 where
-  pub decisions : after.decisions ≡ before.decisions + count * kept_pixels p.skip_mask p.width p.height
-  pub run_tests : after.run_tests ≡ before.run_tests
-  pub words : after.words ≤ before.words + count * (p.height * skipping_words p.width)
-  pub loads : after.loads ≤ before.loads + count * (p.height * skipping_loads p.width)
+  -- the highest planes, with skipped pixels: a decision for each pixel that is not skipped, and no run test
+  pub record CountsMasked (count : ℕ) (before after : Counts) : Type 0 where
+    pub decisions : after.decisions ≡ before.decisions + count * kept_pixels p.skip_mask p.width p.height
+    pub run_tests : after.run_tests ≡ before.run_tests
+    pub words : after.words ≤ before.words + count * (p.height * skipping_words p.width)
+    pub loads : after.loads ≤ before.loads + count * (p.height * skipping_loads p.width)
 
-abbrev pub words_of_plane : GrayScale → ℕ  -- the number of words of 64 pixels in a plane
-words_of_plane p = (p.width + 63) / 64 * p.height
+  abbrev pub words_of_plane : ℕ  -- the number of words of 64 pixels in a plane
+  words_of_plane = (p.width + 63) / 64 * p.height
 
--- This many of the highest planes. MMR data makes at most three loads and words together for each word of a plane and
--- each bit of the bytes. No plane uses bytes that a plane before it has used.
-pub record CountsRead (p : GrayScale) (bytes : List ℕ) (count : ℕ) (before after : Counts) : Type 0 where
-  pub plain : p.use_mmr ≡ false → p.skip_mask ≡ None → CountsPlanes p bytes count before after
-  pub masked : p.use_mmr ≡ false → is_some p.skip_mask ≡ true → CountsMasked p count before after
-  pub mmr : p.use_mmr ≡ true → MovesWithin (3 * (count * words_of_plane p + 8 * length bytes)) before after
-  pub lanes : KeepsLanes before after
+  -- This many of the highest planes. MMR data makes at most three loads and words together for each word of a plane and
+  -- each bit of the bytes. No plane uses bytes that a plane before it has used.
+  pub record CountsRead (bytes : List ℕ) (count : ℕ) (before after : Counts) : Type 0 where
+    pub plain : p.use_mmr ≡ false → p.skip_mask ≡ None → CountsPlanes bytes count before after
+    pub masked : p.use_mmr ≡ false → is_some p.skip_mask ≡ true → CountsMasked count before after
+    pub mmr : p.use_mmr ≡ true → MovesWithin (3 * (count * words_of_plane + 8 * length bytes)) before after
+    pub lanes : KeepsLanes before after
 
--- this many of the highest planes are read, then this many rows of each are taken, in groups of eight and single pixels
-abbrev pub CountsRows : GrayScale → List ℕ → ℕ → ℕ → Counts → Counts → Type 0
-CountsRows p bytes planes rows before after =
-    (read : Counts) × (CountsRead p bytes planes before read × (after ≡ record read {
-      loads = read.loads + rows * planes * (p.width / 8 + p.width % 8);
-      groups = read.groups + rows * planes * (p.width / 8);
-      pixels = read.pixels + rows * planes * (p.width % 8);
-    }))
+  -- this many of the highest planes are read, then this many rows of each are taken, in groups of eight and single
+  -- pixels
+  abbrev pub CountsRows : List ℕ → ℕ → ℕ → Counts → Counts → Type 0
+  CountsRows bytes planes rows before after =
+      (read : Counts) × (CountsRead bytes planes before read × (after ≡ record read {
+        loads = read.loads + rows * planes * (p.width / 8 + p.width % 8);
+        groups = read.groups + rows * planes * (p.width / 8);
+        pixels = read.pixels + rows * planes * (p.width % 8);
+      }))
 
--- an image: all planes are read, and then all their rows are taken
-abbrev pub CountsImage : GrayScale → List ℕ → Counts → Counts → Type 0
-CountsImage p bytes before after = CountsRows p bytes p.bits_per_pixel p.height before after
+  -- an image: all planes are read, and then all their rows are taken
+  abbrev pub CountsImage : List ℕ → Counts → Counts → Type 0
+  CountsImage bytes before after = CountsRows bytes p.bits_per_pixel p.height before after
 
--- an image that is refused: some of the highest planes or all of them were read, and no row was taken
-abbrev pub StopsImage : GrayScale → List ℕ → Counts → Counts → Type 0
-StopsImage p bytes before after = (planes : ℕ) × ((planes ≤ p.bits_per_pixel) × CountsRead p bytes planes before after)
+  -- an image that is refused: some of the highest planes or all of them were read, and no row was taken
+  abbrev pub StopsImage : List ℕ → Counts → Counts → Type 0
+  StopsImage bytes before after = (planes : ℕ) × ((planes ≤ p.bits_per_pixel) × CountsRead bytes planes before after)
 
--- from each row of each plane, an image takes one group for each whole eight pixels, and the other pixels one by one
-pub record CountsLanes (p : GrayScale) (before after : Counts) : Type 0 where
-  pub groups : after.groups ≡ before.groups + p.height * p.bits_per_pixel * (p.width / 8)
-  pub pixels : after.pixels ≡ before.pixels + p.height * p.bits_per_pixel * (p.width % 8)
-  pub both : after.groups + after.pixels ≤ before.groups + before.pixels + p.height * p.bits_per_pixel * (p.width / 8 + 7)
+  -- from each row of each plane, an image takes one group for each whole eight pixels, and the other pixels one by one
+  pub record CountsLanes (before after : Counts) : Type 0 where
+    pub groups : after.groups ≡ before.groups + p.height * p.bits_per_pixel * (p.width / 8)
+    pub pixels : after.pixels ≡ before.pixels + p.height * p.bits_per_pixel * (p.width % 8)
+    pub both :
+        after.groups + after.pixels ≤ before.groups + before.pixels + p.height * p.bits_per_pixel * (p.width / 8 + 7)
 
--- The words that drawing cell k may write. For each row inside the region: two words for up to 64 columns inside, and
--- one more for each further 64 or part of 64. So a cell that lies wholly outside writes none.
-unfoldable pub cell_words : HalftoneHeader → Patterns → ℕ → ℕ
-cell_words h d k =
-    let columns = h.grid_position_and_size.width in
-    overlap h.region_info.height d.height (row_of h (k / columns) (k % columns))
-    * most_words (overlap h.region_info.width d.width (column_of h (k / columns) (k % columns)))
+module _ (h : HalftoneHeader) (d : Patterns) where
+  -- The words that drawing cell k may write. For each row inside the region: two words for up to 64 columns inside, and
+  -- one more for each further 64 or part of 64. So a cell that lies wholly outside writes none.
+  unfoldable pub cell_words : ℕ → ℕ
+  cell_words k =
+      let columns = h.grid_position_and_size.width in
+      overlap h.region_info.height d.height (row_of h (k / columns) (k % columns))
+      * most_words (overlap h.region_info.width d.width (column_of h (k / columns) (k % columns)))
 
-unfoldable pub words_of_cells : HalftoneHeader → Patterns → ℕ → ℕ → ℕ  -- the same for n cells from cell k on
-words_of_cells h d k zero = 0
-words_of_cells h d k (suc n) = words_of_cells h d k n + cell_words h d (k + n)
+  unfoldable pub words_of_cells : ℕ → ℕ → ℕ  -- the same for n cells from cell k on
+  words_of_cells k zero = 0
+  words_of_cells k (suc n) = words_of_cells k n + cell_words (k + n)
 
--- a word is written for each cell of the skip mask, where there is one
-abbrev pub after_mask : HalftoneHeader → Patterns → Counts → Counts
-after_mask h d before =
-    let cells = h.grid_position_and_size.height * h.grid_position_and_size.width in
-    record before { words = before.words + (if is_some (skip_mask h d) then cells else 0) }
+  -- a word is written for each cell of the skip mask, where there is one
+  abbrev pub after_mask : Counts → Counts
+  after_mask before =
+      let cells = h.grid_position_and_size.height * h.grid_position_and_size.width in
+      record before { words = before.words + (if is_some (skip_mask h d) then cells else 0) }
 
--- after the mask, planes are read and this many rows of values taken; then cells are drawn, two loads for each word
-abbrev pub CountsDrawn : HalftoneHeader → Patterns → ℕ → ℕ → Counts → Counts → Type 0
-CountsDrawn h d planes rows before after =
-    let cells = h.grid_position_and_size.height * h.grid_position_and_size.width in
-    (image : Counts) × (CountsRows (gray_params h d) h.bytes planes rows (after_mask h d before) image × WritesWithin (words_of_cells h d 0 cells) image after)
+  -- after the mask, planes are read and this many rows of values taken; then cells are drawn, two loads for each word
+  abbrev pub CountsDrawn : ℕ → ℕ → Counts → Counts → Type 0
+  CountsDrawn planes rows before after =
+      let cells = h.grid_position_and_size.height * h.grid_position_and_size.width in
+      (image : Counts)
+      × (CountsRows (gray_params h d) h.bytes planes rows (after_mask before) image
+      × WritesWithin (words_of_cells 0 cells) image after)
 
--- a region: all planes, all rows and all cells
-abbrev pub CountsHalftone : HalftoneHeader → Patterns → Counts → Counts → Type 0
-CountsHalftone h d before after =
-    CountsDrawn h d (gray_params h d).bits_per_pixel h.grid_position_and_size.height before after
+  -- a region: all planes, all rows and all cells
+  abbrev pub CountsHalftone : Counts → Counts → Type 0
+  CountsHalftone before after =
+      CountsDrawn (gray_params h d).bits_per_pixel h.grid_position_and_size.height before after
 
--- a region that is refused: no step, or at most all planes and all rows
-abbrev pub StopsHalftone : HalftoneHeader → Patterns → Counts → Counts → Type 0
-StopsHalftone h d before after =
-    (after ≡ before)
-    ⊎ ((planes : ℕ) × ((rows : ℕ) × ((planes ≤ (gray_params h d).bits_per_pixel) × ((rows ≤ h.grid_position_and_size.height) × CountsDrawn h d planes rows before after))))
+  -- a region that is refused: no step, or at most all planes and all rows
+  abbrev pub StopsHalftone : Counts → Counts → Type 0
+  StopsHalftone before after =
+      (after ≡ before)
+      ⊎ ((planes : ℕ) × ((rows : ℕ) × ((planes ≤ (gray_params h d).bits_per_pixel)
+      × ((rows ≤ h.grid_position_and_size.height) × CountsDrawn planes rows before after))))
 
--- this many patterns are cut out of their collective bitmap: a load and a word for each of their words
-abbrev pub after_patterns : PatternHeader → ℕ → Counts → Counts
-after_patterns h count = words_copied (count * ((h.pattern_width + 63) / 64 * h.pattern_height))
+module _ (h : PatternHeader) where
+  -- this many patterns are cut out of their collective bitmap: a load and a word for each of their words
+  abbrev pub after_patterns : ℕ → Counts → Counts
+  after_patterns count = words_copied (count * ((h.pattern_width + 63) / 64 * h.pattern_height))
 
--- a collective bitmap, a generic region, and this many patterns that are cut out of it
-abbrev pub CountsCut : PatternHeader → ℕ → Counts → Counts → Type 0
-CountsCut h count before after =
-    (collective : Counts) × (CountsGeneric (collective_header h) before collective × (after ≡ after_patterns h count collective))
+  -- a collective bitmap, a generic region, and this many patterns that are cut out of it
+  abbrev pub CountsCut : ℕ → Counts → Counts → Type 0
+  CountsCut count before after =
+      (collective : Counts)
+      × (CountsGeneric (collective_header h) before collective × (after ≡ after_patterns count collective))
 
--- a dictionary: all patterns
-abbrev pub CountsDictionary : PatternHeader → Counts → Counts → Type 0
-CountsDictionary h before after = CountsCut h (h.gray_max + 1) before after
+  -- a dictionary: all patterns
+  abbrev pub CountsDictionary : Counts → Counts → Type 0
+  CountsDictionary before after = CountsCut (h.gray_max + 1) before after
 
--- a dictionary that is refused: no step, or at most all patterns
-abbrev pub StopsDictionary : PatternHeader → Counts → Counts → Type 0
-StopsDictionary h before after =
-    (after ≡ before) ⊎ ((count : ℕ) × ((count ≤ h.gray_max + 1) × CountsCut h count before after))
+  -- a dictionary that is refused: no step, or at most all patterns
+  abbrev pub StopsDictionary : Counts → Counts → Type 0
+  StopsDictionary before after =
+      (after ≡ before) ⊎ ((count : ℕ) × ((count ≤ h.gray_max + 1) × CountsCut count before after))
 
 -- ---- prices: the units that pay for what is counted, whatever the result
 -- an image: a bitmap of its size for each plane, and a unit for each byte
@@ -141,7 +152,9 @@ price_of_image p bytes = price_of_bitmap p.width p.height * p.bits_per_pixel + l
 abbrev pub price_of_halftone : HalftoneHeader → Patterns → ℕ
 price_of_halftone h d =
     let grid = h.grid_position_and_size in
-    price_of_bitmap grid.width grid.height * (gray_params h d).bits_per_pixel + price_of_bitmap d.width d.height * (grid.width * grid.height) + length h.bytes
+    price_of_bitmap grid.width grid.height * (gray_params h d).bits_per_pixel
+    + price_of_bitmap d.width d.height * (grid.width * grid.height)
+    + length h.bytes
 
 -- a dictionary: two patterns for each pattern, in the collective bitmap and cut out of it, and a unit for each byte
 abbrev pub price_of_patterns : PatternHeader → ℕ

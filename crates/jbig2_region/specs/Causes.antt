@@ -3,6 +3,7 @@
 use Rattle.std.specs.Prelude.{◌≡◌, ◌<◌, ◌≤◌, ◌⊎◌, ℕ, ◌+◌, ◌-◌, ◌*◌, ◌/◌, ◌%◌, ◌^◌, ◌==◌, Bool, true, if◌then◌else◌}
 use Rattle.std.specs.Prelude.{List, length, ℤ, pos, ◌<ℤ◌, ◌≤ℤ◌}
 use Rattle.std.specs.Int.{w8, w32, cast_signed}
+use Rattle.jbig2_base.specs.Grid.{max_side}
 use Rattle.jbig2_base.specs.Causes.{number_in}
 use Rattle.jbig2_base.specs.declared.error.DecodeError.{DecodeError}
 use Rattle.jbig2_base.specs.declared.error.OverflowError.TheVariants.{BitmapDimension, ReferenceOffset}
@@ -60,7 +61,7 @@ BreaksGenericHeader unknown bytes (errors.Region InvalidDimension) =
     × (number_in w32 4 bytes < number_in w32 (length bytes - 4) bytes)
 BreaksGenericHeader unknown bytes (errors.Overflow BitmapDimension) =
     (18 + 2 * pixels_in bytes ≤ length bytes)
-    × ((65535 < number_in w32 0 bytes) ⊎ (65535 < number_in w32 (if unknown then length bytes - 4 else 4) bytes))
+    × ((max_side < number_in w32 0 bytes) ⊎ (max_side < number_in w32 (if unknown then length bytes - 4 else 4) bytes))
 BreaksGenericHeader unknown bytes (errors.Template InvalidAtPixel) =
     BreaksPixels (pixels_in bytes) 18 bytes (errors.Template InvalidAtPixel)
 BreaksGenericHeader unknown bytes e = BreaksRegionInfo bytes e
@@ -75,7 +76,7 @@ abbrev pub BreaksRefinementHeader : List ℕ → DecodeError → Type 0
 BreaksRefinementHeader bytes (errors.Parse UnexpectedEof) =
     length bytes < 18 + (if number_in w8 17 bytes % 2 == 0 then 4 else 0)
 BreaksRefinementHeader bytes (errors.Overflow BitmapDimension) =
-    (18 ≤ length bytes) × ((65535 < number_in w32 0 bytes) ⊎ (65535 < number_in w32 4 bytes))
+    (18 ≤ length bytes) × ((max_side < number_in w32 0 bytes) ⊎ (max_side < number_in w32 4 bytes))
 BreaksRefinementHeader bytes e = BreaksRegionInfo bytes e
 
 abbrev pub BreaksOffset : PlacedRegion → RegionSegmentInfo → DecodeError → Type 0

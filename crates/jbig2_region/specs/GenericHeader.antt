@@ -3,6 +3,7 @@
 use Rattle.std.specs.Prelude.{ℕ, ◌-◌, ◌/◌, ◌%◌, ◌≤◌, ◌==◌, nat_lt, Bool, true, false, ◌||◌, List, length, take, drop}
 use Rattle.std.specs.Prelude.{Result, Ok}
 use Rattle.std.specs.Int.{w8, w32}
+use Rattle.jbig2_base.specs.Grid.{max_side, check_sides}
 use Rattle.jbig2_base.specs.Results.{refuse_if, ◌>>=◌}
 use Rattle.jbig2_base.specs.Fields.{number_at}
 use Rattle.jbig2_base.specs.declared.error.DecodeError.{DecodeError}
@@ -44,7 +45,7 @@ generic_header_at unknown_length strict bytes = do
   let template = template_of (flags / 2 % 4)
   (pixels, rest) ← adaptive_pixels_at (adaptive_pixel_count mmr extended template) rest
   (rows, coded) ← rows_at unknown_length info.height rest
-  fits ← refuse_if (nat_lt 65535 info.width || nat_lt 65535 rows) (errors.Overflow BitmapDimension)
+  fits ← check_sides info.width rows
   Ok (
     record {
       region_info = record info { height = rows };
@@ -60,6 +61,6 @@ generic_header_at unknown_length strict bytes = do
   )
 
 pub record IsParsed (h : GenericHeader) : Type 0 where  -- what holds for every header that is read
-  pub columns : h.region_info.width ≤ 65535
-  pub rows : h.region_info.height ≤ 65535
+  pub columns : h.region_info.width ≤ max_side
+  pub rows : h.region_info.height ≤ max_side
   pub pixels : FitsTemplate h.extended h.template

@@ -2,6 +2,7 @@
 -- pixels. The bytes give the header, and the coded bytes come after it.
 use Rattle.std.specs.Prelude.{ℕ, ◌/◌, ◌%◌, ◌≤◌, ◌==◌, nat_lt, Bool, ◌||◌, List, Result, Ok}
 use Rattle.std.specs.Int.{w8}
+use Rattle.jbig2_base.specs.Grid.{max_side, check_sides}
 use Rattle.jbig2_base.specs.Results.{refuse_if, ◌>>=◌}
 use Rattle.jbig2_base.specs.Fields.{number_at}
 use Rattle.jbig2_base.specs.declared.error.DecodeError.{DecodeError}
@@ -26,7 +27,7 @@ refinement_header_at bytes = do
   (info, rest) ← region_info_at bytes
   (flags, rest) ← number_at w8 rest
   (pixels, rest) ← refinement_pixels_at (refinement_template_of (flags % 2)) rest
-  fits ← refuse_if (nat_lt 65535 info.width || nat_lt 65535 info.height) (errors.Overflow BitmapDimension)
+  fits ← check_sides info.width info.height
   Ok (
     record {
       region_info = info;
@@ -39,5 +40,5 @@ refinement_header_at bytes = do
   )
 
 pub record IsRefinement (h : RefinementHeader) : Type 0 where  -- what holds for every header that is read
-  pub columns : h.region_info.width ≤ 65535
-  pub rows : h.region_info.height ≤ 65535
+  pub columns : h.region_info.width ≤ max_side
+  pub rows : h.region_info.height ≤ max_side

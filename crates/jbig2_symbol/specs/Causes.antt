@@ -6,7 +6,7 @@ use Rattle.std.specs.Prelude.{pos, negsuc, ◌+ℤ◌}
 use Rattle.std.specs.Int.{w16, w32}
 use Rattle.jbig2_base.specs.Bits.{Place, aligned, bits_left}
 use Rattle.jbig2_base.specs.Causes.{BreaksSides, InSteps, IsOf, number_in}
-use Rattle.jbig2_base.specs.Grid.{Grid, bit_number, blank}
+use Rattle.jbig2_base.specs.Grid.{Grid, bit_number, blank, max_side}
 use Rattle.jbig2_base.specs.declared.error.DecodeError.{DecodeError}
 use Rattle.jbig2_base.specs.declared.error.OverflowError.TheVariants.{SymbolCount, BitmapDimension}
 use Rattle.jbig2_base.specs.declared.error.ParseError.TheVariants.{UnexpectedEof}
@@ -148,7 +148,7 @@ abbrev pub BreaksSized : Bool → ℕ → ℕ → Option ℤ → List ℕ → De
 BreaksSized strict width height None bytes e = e ≡ errors.Huffman huffman.UnexpectedOob
 BreaksSized strict width height (Some (negsuc n)) bytes e = e ≡ errors.Overflow BitmapDimension
 BreaksSized strict width height (Some (pos size)) bytes (errors.Parse UnexpectedEof) = length bytes < (if size == 0 then height * raw_stride width else size)
-BreaksSized strict width height (Some (pos size)) bytes (errors.Overflow BitmapDimension) = 65535 * 65535 < width * height
+BreaksSized strict width height (Some (pos size)) bytes (errors.Overflow BitmapDimension) = max_side * max_side < width * height
 BreaksSized strict width height (Some (pos size)) bytes (errors.Region InvalidMmrData) =
     (size ≢ 0) × BreaksMmr strict width height (take size bytes) (errors.Region InvalidMmrData)
 BreaksSized strict width height (Some (pos size)) bytes _ = ⊥
@@ -160,7 +160,7 @@ BreaksCollectiveBitmap d width height s e =
 
 -- A class that is too high for its symbols: its collective bitmap is refused, or else the first symbol cut from it.
 abbrev pub BreaksTallClass : SymbolInput → ℕ → ℕ → SymbolState Place → DecodeError → Type 0
-BreaksTallClass d width height s e = BreaksCollectiveBitmap d width height s e ⊎ ((e ≡ errors.Overflow BitmapDimension) × (65535 < height))
+BreaksTallClass d width height s e = BreaksCollectiveBitmap d width height s e ⊎ ((e ≡ errors.Overflow BitmapDimension) × (max_side < height))
 
 -- A class without symbols (6.5.5, step 4), after 2^20 classes that had none.
 abbrev pub BreaksEmptyClass : ℕ → ℕ → DecodeError → Type 0

@@ -6,7 +6,7 @@ use Rattle.std.specs.Prelude.{slice_index_or}
 use Rattle.jbig2_base.specs.Results.{◌>>=◌, refuse_if}
 use Rattle.jbig2_base.specs.Bits.{Place, aligned, start_of, bit}
 use Rattle.jbig2_base.specs.Fields.{end_of_bytes, bytes_at}
-use Rattle.jbig2_base.specs.Grid.{Grid, blank, grid_of, part_or_overflow, wide_or_overflow}
+use Rattle.jbig2_base.specs.Grid.{Grid, blank, grid_of, part_or_overflow, wide_or_overflow, check_sides}
 use Rattle.jbig2_base.specs.Search.{code_length}
 use Rattle.jbig2_base.specs.declared.bitmap.operator.CombinationOperator.TheVariants.{Or}
 use Rattle.jbig2_base.specs.declared.error.DecodeError.{DecodeError}
@@ -34,7 +34,7 @@ use Rattle.jbig2_base.specs.declared.error.HuffmanError.TheVariants as huffman
 
 -- no side of a symbol may be above 65535 (our own rule)
 abbrev pub fits_symbol : ℕ → ℕ → Result (Unit {0}) DecodeError
-fits_symbol w h = refuse_if (nat_lt 65535 w || nat_lt 65535 h) (Overflow BitmapDimension)
+fits_symbol w h = check_sides w h
 
 -- A generic region of its own (6.5.8.1), without typical prediction (Table 16).
 unfoldable pub coded_symbol : SymbolHeader → ℕ → ℕ → SymbolState Coded → Result (Grid × SymbolState Coded) DecodeError

@@ -17,7 +17,7 @@ use Rattle.jbig2_base.specs.declared.error.OverflowError.TheVariants.{BitmapDime
 use Rattle.jbig2_base.specs.declared.error.OverflowError.TheVariants.{ReferenceOffset}
 use Rattle.jbig2_base.specs.declared.error.SymbolError.TheVariants.{InvalidStripDelta, OutOfRange, TooManyInstances}
 use Rattle.jbig2_base.specs.declared.error.SymbolError.TheVariants.{UnexpectedOob}
-use Rattle.jbig2_base.specs.Grid.{Grid}
+use Rattle.jbig2_base.specs.Grid.{Grid, max_side}
 use Rattle.jbig2_coder.specs.Causes.{AreCrowded, LeavesWord}
 use Rattle.jbig2_coder.specs.PrefixCode.{Member, decoded_value, no_oob}
 use Rattle.jbig2_coder.specs.declared.integer_procedures.IntegerProcedure.{IntegerProcedure}
@@ -116,7 +116,7 @@ pub record ReadingsHaveCauses {S : Type 0} (r : Readings S) (c : ReadingCauses S
       → IfErr (r.refined from width height f s) (c.refined s)
 
 abbrev pub IsNoSide : ℤ → Type 0  -- it can't be a side of a symbol: it is negative, or above 65535
-IsNoSide (pos n) = 65535 < n
+IsNoSide (pos n) = max_side < n
 IsNoSide (negsuc n) = Unit {0}
 
 abbrev pub NamesNone : List Grid → ℤ → Type 0  -- an id that is not below the number of the symbols

@@ -7,7 +7,7 @@ use Rattle.std.specs.Int.{int_shr}
 use Rattle.std.specs.Option.{is_some}
 use Rattle.jbig2_base.specs.Results.{◌>>=◌, refuse_if, some_or}
 use Rattle.jbig2_base.specs.Combination.{combined}
-use Rattle.jbig2_base.specs.Grid.{Grid}
+use Rattle.jbig2_base.specs.Grid.{Grid, check_sides}
 use Rattle.jbig2_base.specs.declared.error.DecodeError.{DecodeError}
 use Rattle.jbig2_base.specs.declared.error.DecodeError.TheVariants.{Overflow, Symbol}
 use Rattle.jbig2_base.specs.declared.error.OverflowError.TheVariants.{BitmapDimension, PlacementCoordinate}
@@ -143,7 +143,7 @@ module _ {S : Type 0} (r : Readings S) where
     from ← some_symbol (symbol_of symbols id)
     (deltas, after) ← refinement_deltas s
     o ← refined_outline from deltas
-    fits ← refuse_if (nat_lt 65535 o.width || nat_lt 65535 o.height) (Overflow BitmapDimension)
+    fits ← check_sides o.width o.height
     r.refined (record { grid = from; dx = o.dx; dy = o.dy }) o.width o.height f after
 
   -- IB, the symbol of an instance: refined if R_I is 1; R_I is 0 where nothing is refined (6.4.11)

@@ -3,7 +3,7 @@
 use Rattle.std.specs.Prelude.{ℕ, nat_lt, ◌==◌, ◌||◌, if◌then◌else◌, List, length, Result, Ok, Err}
 use Rattle.jbig2_base.specs.Results.{◌>>=◌, refuse_if}
 use Rattle.jbig2_base.specs.Bits.{start_of}
-use Rattle.jbig2_base.specs.Grid.{Grid, blank}
+use Rattle.jbig2_base.specs.Grid.{Grid, blank, check_sides}
 use Rattle.jbig2_base.specs.declared.error.DecodeError.{DecodeError}
 use Rattle.jbig2_base.specs.declared.error.DecodeError.TheVariants.{Huffman, Overflow}
 use Rattle.jbig2_base.specs.declared.error.HuffmanError.TheVariants.{InvalidSelection}
@@ -116,6 +116,6 @@ module _ (h : TextHeader) where
   -- A region at its place. A side above 65535 is refused (our own rule).
   unfoldable pub text_decoded : List Grid → List (List Member) → Result PlacedRegion DecodeError
   text_decoded symbols customs = do
-    fits ← refuse_if (nat_lt 65535 h.region_info.width || nat_lt 65535 h.region_info.height) (Overflow BitmapDimension)
+    fits ← check_sides h.region_info.width h.region_info.height
     grid ← text_result symbols customs
     Ok (placed h.region_info grid)

@@ -1,7 +1,7 @@
 -- How a region is decoded, once its header is read and what it refers to is found (T.88, 7.4.3 and 7.4.5 to 7.4.7).
 use Rattle.std.specs.Prelude.{◌≡◌, ◌≤◌, Bool, false, ◌||◌, nat_lt, Result, Ok, Err, ◌⊎◌}
 use Rattle.jbig2_base.specs.Results.{◌>>=◌, refuse_if}
-use Rattle.jbig2_base.specs.Grid.{Grid}
+use Rattle.jbig2_base.specs.Grid.{Grid, max_side, check_sides}
 use Rattle.jbig2_base.specs.declared.error.DecodeError.{DecodeError}
 use Rattle.jbig2_base.specs.declared.error.DecodeError.TheVariants.{OutOfMemory, Overflow}
 use Rattle.jbig2_base.specs.declared.error.OverflowError.TheVariants.{BitmapDimension}
@@ -53,12 +53,12 @@ drawn (PageRefinement header area) = refined_result (refinements.header_view hea
 
 -- the grid at its place, unless a side of the region is too large
 abbrev pub placed_region : {A : Type 0} → ParsedRegion A → Result PlacedRegion DecodeError
-placed_region r = refuse_if (nat_lt 65535 (info_of r).width || nat_lt 65535 (info_of r).height) (Overflow BitmapDimension) >>= λ fits. drawn r >>= λ g. Ok (placed (info_of r) g)
+placed_region r = check_sides (info_of r).width (info_of r).height >>= λ fits. drawn r >>= λ g. Ok (placed (info_of r) g)
 
 -- the limits of a halftone's grid
 pub record HasCells (header : HalftoneHeader) : Type 0 where
-  pub columns : header.grid_position_and_size.width ≤ 65535
-  pub rows : header.grid_position_and_size.height ≤ 65535
+  pub columns : header.grid_position_and_size.width ≤ max_side
+  pub rows : header.grid_position_and_size.height ≤ max_side
 
 -- what holds for every region that was parsed
 abbrev pub IsDecodable : {A : Type 0} → ParsedRegion A → Type 0

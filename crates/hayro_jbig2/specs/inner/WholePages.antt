@@ -2,7 +2,7 @@
 use Rattle.std.specs.Prelude.{◌≡◌, ◌≤◌, Bool, false}
 use Rattle.std.specs.Int.{w32, cast_signed}
 use Rattle.jbig2_base.specs.Combination.{combined}
-use Rattle.jbig2_base.specs.Grid.{Grid, blank}
+use Rattle.jbig2_base.specs.Grid.{Grid, blank, max_side}
 use Rattle.jbig2_base.specs.Table.{IsTable}
 use Rattle.jbig2_region.specs.declared.region_info.RegionSegmentInfo.{RegionSegmentInfo}
 use Rattle.hayro_jbig2.specs.Page.{Drawing}
@@ -10,13 +10,13 @@ use Rattle.hayro_jbig2.specs.Page.{Drawing}
 -- a page that is all of one colour, as at its beginning
 pub record IsBlankPage (black : Bool) (page : Grid) : Type 0 where
   pub blank : page ≡ blank page.width page.height black
-  pub columns : page.width ≤ 65535
-  pub rows : page.height ≤ 65535
+  pub columns : page.width ≤ max_side
+  pub rows : page.height ≤ max_side
 
 -- A page of a region's size and initial colour. Once the region is drawn, the page shows the region's own pixels.
 pub record IsWhole (info : RegionSegmentInfo) (initial_pixel : Bool) (page : Grid) : Type 0 where
-  pub columns : info.width ≤ 65535
-  pub rows : info.height ≤ 65535
+  pub columns : info.width ≤ max_side
+  pub rows : info.height ≤ max_side
   pub coloured : page ≡ blank info.width info.height initial_pixel
   pub over : (g : Grid) → IsTable g → g.width ≡ info.width → g.height ≡ info.height → combined info.combination_operator page g (cast_signed w32 info.x_location) (cast_signed w32 info.y_location) ≡ g
 

@@ -20,70 +20,78 @@ use Rattle.jbig2_halftone.specs.Steps.{CountsPlanes, CountsMasked, StopsImage, a
 -- ---- patterns
 -- pattern k: the columns from k * width on
 abbrev pub pattern_of : Grid → ℕ → ℕ → ℕ → Grid
-pattern_of collective width height k = part_of collective (record { left = k * width; top = 0; width = width; height = height })
+pattern_of collective width height k =
+    part_of collective (record { left = k * width; top = 0; width = width; height = height })
 
 -- some of this many patterns were cut out, or all
 abbrev pub StopsCut : ℕ → ℕ → Counts → Counts → Type 0
 StopsCut count words before after = (cut : ℕ) × ((cut ≤ count) × (after ≡ words_copied (cut * words) before))
 
 -- ---- planes
--- a plane is a generic region without typical prediction
-abbrev pub plane_coding : GrayScale → Coding
-plane_coding p = skipping_coding (template_pixels false p.template (nominal_adaptive_pixels p.template)) p.skip_mask
+module _ (p : GrayScale) where
+  -- a plane is a generic region without typical prediction
+  abbrev pub plane_coding : Coding
+  plane_coding = skipping_coding (template_pixels false p.template (nominal_adaptive_pixels p.template)) p.skip_mask
 
--- the plane after the k highest ones, the highest ones, and all of them
-abbrev pub coded_plane : GrayScale → List ℕ → ℕ → Grid
-coded_plane p bytes k = so_far p.width p.height (after_planes p bytes (k + 1)).pixels
+  -- the plane after the k highest ones, the highest ones, and all of them
+  abbrev pub coded_plane : List ℕ → ℕ → Grid
+  coded_plane bytes k = so_far p.width p.height (after_planes p bytes (k + 1)).pixels
 
-abbrev pub coded_planes : GrayScale → List ℕ → ℕ → List Grid
-coded_planes p bytes count = map (coded_plane p bytes) (range_with_len 0 count)
+  abbrev pub coded_planes : List ℕ → ℕ → List Grid
+  coded_planes bytes count = map (coded_plane bytes) (range_with_len 0 count)
 
-abbrev pub planes_by_coder : GrayScale → List ℕ → Result (List Grid) DecodeError
-planes_by_coder p bytes = Ok (coded_planes p bytes p.bits_per_pixel)
+  abbrev pub planes_by_coder : List ℕ → Result (List Grid) DecodeError
+  planes_by_coder bytes = Ok (coded_planes bytes p.bits_per_pixel)
 
--- all planes, with MMR
-abbrev pub planes_by_mmr : GrayScale → List ℕ → Result (List Grid) DecodeError
-planes_by_mmr p bytes = mmr_planes p bytes p.bits_per_pixel
+  -- all planes, with MMR
+  abbrev pub planes_by_mmr : List ℕ → Result (List Grid) DecodeError
+  planes_by_mmr bytes = mmr_planes p bytes p.bits_per_pixel
 
--- the contexts after all planes; MMR leaves them as they were
-abbrev pub planes_contexts : GrayScale → List ℕ → List Context → List Context
-planes_contexts p bytes contexts = if p.use_mmr then contexts else (after_planes p bytes p.bits_per_pixel).contexts
+  -- the contexts after all planes; MMR leaves them as they were
+  abbrev pub planes_contexts : List ℕ → List Context → List Context
+  planes_contexts bytes contexts = if p.use_mmr then contexts else (after_planes p bytes p.bits_per_pixel).contexts
 
 -- ---- the skip mask
 -- the pattern of cell (m, n) would lie wholly outside the region
 abbrev pub lies_outside : HalftoneHeader → Patterns → ℕ → ℕ → Bool
-lies_outside h d m n = is_beyond (column_of h m n) d.width h.region_info.width || is_beyond (row_of h m n) d.height h.region_info.height
+lies_outside h d m n =
+    is_beyond (column_of h m n) d.width h.region_info.width || is_beyond (row_of h m n) d.height h.region_info.height
 
 -- black where a cell is skipped
 abbrev pub skip_grid : HalftoneHeader → Patterns → Grid
 skip_grid h d = grid_of h.grid_position_and_size.width h.grid_position_and_size.height (λ n m. lies_outside h d m n)
 
 -- ---- steps
--- a plane without skipped pixels, as a generic region
-abbrev pub plane_pixels : GrayScale → List AdaptiveTemplatePixel
-plane_pixels p = template_pixels false p.template (nominal_adaptive_pixels p.template)
+module _ (p : GrayScale) where
+  -- a plane without skipped pixels, as a generic region
+  abbrev pub plane_pixels : List AdaptiveTemplatePixel
+  plane_pixels = template_pixels false p.template (nominal_adaptive_pixels p.template)
 
-abbrev pub plain_coding : GrayScale → Coding
-plain_coding p = coding_of false p.template (plane_pixels p)
+  abbrev pub plain_coding : Coding
+  plain_coding = coding_of false p.template plane_pixels
 
--- where the plane after the k highest ones begins
-abbrev pub plane_start : GrayScale → List ℕ → ℕ → Region
-plane_start p bytes k = no_pixels (after_planes p bytes k).registers (after_planes p bytes k).contexts
+  -- where the plane after the k highest ones begins
+  abbrev pub plane_start : List ℕ → ℕ → Region
+  plane_start bytes k = no_pixels (after_planes p bytes k).registers (after_planes p bytes k).contexts
 
--- one such plane
-abbrev pub CountsPlane : GrayScale → ℕ → ℕ → List ℕ → Region → Counts → Counts → Type 0
-CountsPlane p w h bytes start before after = CountsRegion (plane_pixels p) true 0 (plain_coding p) w h bytes start before after
+  -- one such plane
+  abbrev pub CountsPlane : ℕ → ℕ → List ℕ → Region → Counts → Counts → Type 0
+  CountsPlane w h bytes start before after = CountsRegion plane_pixels true 0 plain_coding w h bytes start before after
 
--- one plane that the arithmetic coder wrote
-pub record CountsOne (p : GrayScale) (w h : ℕ) (bytes : List ℕ) (start : Region) (before after : Counts) : Type 0 where
-  pub plain : p.skip_mask ≡ None → CountsPlane p w h bytes start before after
-  pub masked : is_some p.skip_mask ≡ true → CountsSkipping p.skip_mask w h before after
-  pub lanes : KeepsLanes before after
+  -- one plane that the arithmetic coder wrote
+  pub record CountsOne (w h : ℕ) (bytes : List ℕ) (start : Region) (before after : Counts) : Type 0 where
+    pub plain : p.skip_mask ≡ None → CountsPlane w h bytes start before after
+    pub masked : is_some p.skip_mask ≡ true → CountsSkipping p.skip_mask w h before after
+    pub lanes : KeepsLanes before after
 
--- the highest of them
-pub record CountsCoded (p : GrayScale) (bytes : List ℕ) (count : ℕ) (before after : Counts) : Type 0 where
-  pub plain : p.skip_mask ≡ None → CountsPlanes p bytes count before after
-  pub masked : is_some p.skip_mask ≡ true → CountsMasked p count before after
+  -- the highest of them
+  pub record CountsCoded (bytes : List ℕ) (count : ℕ) (before after : Counts) : Type 0 where
+    pub plain : p.skip_mask ≡ None → CountsPlanes p bytes count before after
+    pub masked : is_some p.skip_mask ≡ true → CountsMasked p count before after
+
+  -- some of these planes, or all
+  abbrev pub StopsCoded : List ℕ → Counts → Counts → Type 0
+  StopsCoded bytes before after = (count : ℕ) × ((count ≤ p.bits_per_pixel) × CountsCoded bytes count before after)
 
 -- This many planes of MMR data are read, and `left` of `all` bytes are left. There are at most three loads and words
 -- together for each word of a plane and each bit of the bytes that were used.
@@ -91,10 +99,6 @@ pub record CountsMmr (words count all left : ℕ) (before after : Counts) : Type
   pub moves : after.loads + after.words + 24 * left ≤ before.loads + before.words + 3 * (count * words + 8 * all)
   pub decisions : after.decisions ≡ before.decisions
   pub run_tests : after.run_tests ≡ before.run_tests
-
--- some of these planes, or all
-abbrev pub StopsCoded : GrayScale → List ℕ → Counts → Counts → Type 0
-StopsCoded p bytes before after = (count : ℕ) × ((count ≤ p.bits_per_pixel) × CountsCoded p bytes count before after)
 
 -- a region whose cells can't be read: no step, or the mask and some planes
 abbrev pub StopsCells : HalftoneHeader → Patterns → Counts → Counts → Type 0
@@ -121,4 +125,7 @@ after_lanes w before = record before {
 abbrev pub StopsRows : HalftoneHeader → Patterns → ℕ → Counts → Counts → Type 0
 StopsRows h d planes before after =
     let grid = h.grid_position_and_size in
-    (rows : ℕ) × ((rows ≤ grid.height) × WritesWithin (words_of_cells h d 0 (grid.height * grid.width)) (after_lane_rows (rows * planes) grid.width before) after)
+    (rows : ℕ)
+    × ((rows ≤ grid.height)
+    × WritesWithin (words_of_cells h d 0 (grid.height * grid.width))
+    (after_lane_rows (rows * planes) grid.width before) after)

@@ -11,7 +11,8 @@ next_value v black = 2 * v + bit_number (differ black (v % 2 == 1))
 
 -- a row of values after it takes row y of a plane
 abbrev pub TakesPlane : Grid → ℕ → List ℕ → List ℕ → Type 0
-TakesPlane plane y old new = (k : ℕ) → k < plane.width → slice_index_or new k 0 ≡ next_value (slice_index_or old k 0) (pixel_at plane k y)
+TakesPlane plane y old new =
+    (k : ℕ) → k < plane.width → slice_index_or new k 0 ≡ next_value (slice_index_or old k 0) (pixel_at plane k y)
 
 -- the values of row y
 unfoldable pub row_values : ℕ → List Grid → ℕ → List ℕ

@@ -1,13 +1,13 @@
 -- What the decoder holds of a region during decoding (our own rule).
 use Rattle.std.specs.Prelude.{◌≡◌, ◌≤◌, ◌^◌, ℕ, Bool, false, List, Option, length}
-use Rattle.jbig2_base.specs.Grid.{Grid, blank}
+use Rattle.jbig2_base.specs.Grid.{Grid, blank, max_side}
 use Rattle.jbig2_coder.specs.Coder.{Coder, Context}
 use Rattle.jbig2_region.specs.Raster.{Coding, Region, so_far, after_ltp, decoded_region, no_pixels}
 
 -- A white bitmap whose sides a region may have, and as many contexts as a number of this many bits has values.
 pub record IsReady (bits : ℕ) (grid : Grid) (states : List Context) : Type 0 where
-  pub columns : grid.width ≤ 65535
-  pub rows : grid.height ≤ 65535
+  pub columns : grid.width ≤ max_side
+  pub rows : grid.height ≤ max_side
   pub white : grid ≡ blank grid.width grid.height false
   pub contexts : length states ≡ 2 ^ bits
 
