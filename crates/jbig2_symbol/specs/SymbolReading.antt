@@ -93,7 +93,8 @@ unfoldable pub first_contexts : SymbolDictionaryFlags → Option BitmapContexts 
 first_contexts flags kept =
     if not flags.bitmap_context_used then Ok (fresh_bitmap_contexts flags)
     else (some_or (errors.Symbol Invalid) kept >>= λ c.
-    let same = is_template c.template flags.template && is_refinement_template c.refinement_template flags.refinement_template in
+    let same = is_template c.template flags.template
+        && is_refinement_template c.refinement_template flags.refinement_template in
     refuse_if (not same) (errors.Symbol Invalid) >>= λ _. Ok c)
 
 -- What is needed to decode a dictionary, besides the state. `ids` are the codes of the ids in aggregate symbols.
@@ -118,7 +119,11 @@ abbrev pub start_contexts : SymbolHeader → BitmapContexts → SymbolContexts
 start_contexts h contexts = record {
   template = contexts.template;
   generic = contexts.generic;
-  refining = record { template = contexts.refinement_template; pixels = h.refinement_at_pixels; contexts = contexts.refinement };
+  refining = record {
+    template = contexts.refinement_template;
+    pixels = h.refinement_at_pixels;
+    contexts = contexts.refinement;
+  };
 }
 
 abbrev pub bitmap_contexts : SymbolContexts → BitmapContexts

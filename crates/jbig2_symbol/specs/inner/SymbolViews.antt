@@ -101,7 +101,10 @@ kept_view kept = option_map (λ contexts. contexts_view contexts.now) kept
 
 -- what a dictionary exports and keeps
 abbrev pub dictionary_view : {A : Type 0} → SymbolDictionary A → Symbols
-dictionary_view d = record { exported = d.exported_symbols.items; kept = option_map (λ contexts. contexts_view contexts) d.retained_contexts }
+dictionary_view d = record {
+  exported = d.exported_symbols.items;
+  kept = option_map (λ contexts. contexts_view contexts) d.retained_contexts;
+}
 
 -- a width that was read, and the total with it
 abbrev pub with_total : ℕ → Option ℕ → Option (ℕ × ℕ)
