@@ -50,7 +50,8 @@ BreaksSymbolFields flags bytes (errors.Huffman huffman.InvalidSelection) =
     (2 ≤ length bytes) × ((flags / 4 % 4 ≡ 2) ⊎ (flags / 16 % 4 ≡ 2))
 BreaksSymbolFields flags bytes (errors.Template InvalidAtPixel) =
     (flags % 2 ≢ 1)
-    × BreaksPixels (adaptive_pixel_count false false (template_of (flags / 1024 % 4))) 2 bytes (errors.Template InvalidAtPixel)
+    × BreaksPixels (adaptive_pixel_count false false (template_of (flags / 1024 % 4))) 2 bytes
+        (errors.Template InvalidAtPixel)
 BreaksSymbolFields flags bytes (errors.Overflow SymbolCount) =
     (counts_place flags + 8 ≤ length bytes)
     × ((1048576 < number_in w32 (counts_place flags) bytes) ⊎ (1048576 < number_in w32 (counts_place flags + 4) bytes))
@@ -74,7 +75,8 @@ abbrev pub BreaksContexts : SymbolDictionaryFlags → Option BitmapContexts → 
 BreaksContexts flags None (errors.Symbol Invalid) = IsTrue flags.bitmap_context_used
 BreaksContexts flags (Some contexts) (errors.Symbol Invalid) =
     IsTrue flags.bitmap_context_used
-    × (IsFalse (is_template contexts.template flags.template) ⊎ IsFalse (is_refinement_template contexts.refinement_template flags.refinement_template))
+    × (IsFalse (is_template contexts.template flags.template)
+    ⊎ IsFalse (is_refinement_template contexts.refinement_template flags.refinement_template))
 BreaksContexts flags kept _ = ⊥
 
 -- The value of a run (6.5.10), where `left` symbols are not covered yet and `empty` runs of length 0 came before.
@@ -88,15 +90,16 @@ BreaksRunValue empty left value _ = ⊥
 -- the run after these runs, which were read
 abbrev pub BreaksRunAfter : {S : Type 0} → List ℕ → ClassReadings S → SymbolInput → ℕ → ℕ → S → DecodeError → Type 0
 BreaksRunAfter [] r d empty left s e =
-    InSteps (r.export_run d s) (IsOf (r.export_run d s) e) (λ value. BreaksRunValue empty left value.0 e)
+    InSteps (r.export_run d s) (IsOf (r.export_run d s) e) (λ (value, _). BreaksRunValue empty left value e)
 BreaksRunAfter {S} (run ∷ runs) r d empty left s e =
-    (next : S) × (next_run r d empty left s ≡ Ok (run, next)) × BreaksRunAfter runs r d (empty + bit_number (run == 0)) (left - run) next e
+    (after : S) × (next_run r d empty left s ≡ Ok (run, after))
+    × BreaksRunAfter runs r d (empty + bit_number (run == 0)) (left - run) after e
 
 -- one of the runs is refused, or they export another number of symbols than the header says
 abbrev pub BreaksExports : {S : Type 0} → ClassReadings S → SymbolInput → List Grid → S → DecodeError → Type 0
 BreaksExports r d grids s e =
-    InSteps (export_runs r d (length grids) s) ((before : List ℕ) × BreaksRunAfter before r d 0 (length grids) s e) (λ runs.
-    (e ≡ errors.Symbol NoSymbols) × (length (exported runs.0 grids) ≢ d.header.num_exported_symbols))
+    InSteps (export_runs r d (length grids) s) ((before : List ℕ) × BreaksRunAfter before r d 0 (length grids) s e)
+    (λ (runs, _). (e ≡ errors.Symbol NoSymbols) × (length (exported runs grids) ≢ d.header.num_exported_symbols))
 
 abbrev pub IsNoSize : ℤ → Type 0  -- a number that isn't an unsigned number of 32 bits
 IsNoSize (pos n) = 4294967296 ≤ n
@@ -105,9 +108,9 @@ IsNoSize (negsuc n) = Unit {0}
 -- The difference of a width (6.5.7), after a symbol of this width and total. At most `room` more symbols may come.
 abbrev pub BreaksNextWidth : {S : Type 0} → SymbolReadings S → SymbolInput → ℕ → ℕ → ℕ → S → DecodeError → Type 0
 BreaksNextWidth r d room width total s e =
-    InSteps (r.width_difference d s) (IsOf (r.width_difference d s) e) (λ value.
-    ((e ≡ errors.Symbol TooManySymbols) × (room ≡ 0) × (value.0 ≢ None))
-    ⊎ ((e ≡ errors.Overflow BitmapDimension) × ((difference : ℤ) × (value.0 ≡ Some difference)
+    InSteps (r.width_difference d s) (IsOf (r.width_difference d s) e) (λ (value, _).
+    ((e ≡ errors.Symbol TooManySymbols) × (room ≡ 0) × (value ≢ None))
+    ⊎ ((e ≡ errors.Overflow BitmapDimension) × ((difference : ℤ) × (value ≡ Some difference)
     × (IsNoSize (pos width +ℤ difference) ⊎ IsNoSize (pos total +ℤ (pos width +ℤ difference))))))
 
 -- the number of instances of a symbol (6.5.8.2.1): it is out of band, or below 1
@@ -117,50 +120,57 @@ BreaksCount value (errors.Symbol Invalid) = (value ≡ Some (pos 0)) ⊎ ((n : �
 BreaksCount value _ = ⊥
 
 -- One instance (6.5.8.2.2): its id, RDX, RDY, symbol, size or bits are refused. Several: the size or a text region.
-abbrev pub BreaksByInstances : {S : Type 0} → ReadingCauses S → Readings S → (S → Result (ℤ × S) DecodeError) → (S → DecodeError → Type 0) → TextParams → ℕ → ℕ → Refining → S → DecodeError → Type 0
+abbrev pub BreaksByInstances : {S : Type 0} → ReadingCauses S → Readings S → (S → Result (ℤ × S) DecodeError)
+    → (S → DecodeError → Type 0) → TextParams → ℕ → ℕ → Refining → S → DecodeError → Type 0
 BreaksByInstances c r alone lacks p width height f s e =
     ((p.count ≡ 1) × (lacks s e
-    ⊎ After (alone s) (λ id. c.x_delta id.1 e
-    ⊎ After (r.x_delta id.1) (λ rdx. c.y_delta rdx.1 e
-    ⊎ After (r.y_delta rdx.1) (λ rdy.
-    ((e ≡ errors.Symbol OutOfRange) × NamesNone p.symbols id.0) ⊎ BreaksSides width height e ⊎ c.refined rdy.1 e)))))
+    ⊎ After (alone s) (λ (id, after_id). c.x_delta after_id e
+    ⊎ After (r.x_delta after_id) (λ (_, after_rdx). c.y_delta after_rdx e
+    ⊎ After (r.y_delta after_rdx) (λ (_, after_rdy).
+    ((e ≡ errors.Symbol OutOfRange) × NamesNone p.symbols id) ⊎ BreaksSides width height e ⊎ c.refined after_rdy e)))))
     ⊎ ((p.count ≢ 1) × (BreaksSides width height e ⊎ BreaksInstances c r p (blank width height false) f s e))
 
 -- The number of instances is refused, or then the instances. The arithmetic coder never refuses an id.
 abbrev pub BreaksCodedAggregate : SymbolInput → List Grid → ℕ → ℕ → SymbolState Coded → DecodeError → Type 0
 BreaksCodedAggregate d new width height s e =
-    After (by_procedure Iaai s) (λ value. BreaksCount value.0 e)
-    ⊎ After (instance_count (by_procedure Iaai s)) (λ count.
-    BreaksByInstances coder_causes by_coder (λ c. Ok (next_id c)) (λ c _. ⊥) (aggregate_params d new count.0) width height count.1.contexts.refining count.1.coding e)
+    After (by_procedure Iaai s) (λ (value, _). BreaksCount value e)
+    ⊎ After (instance_count (by_procedure Iaai s)) (λ (count, after_count).
+    BreaksByInstances coder_causes by_coder (λ c. Ok (next_id c)) (λ c _. ⊥) (aggregate_params d new count) width height
+        after_count.contexts.refining after_count.coding e)
 
 -- by prefix codes, where the id of a single instance may lack bits
 abbrev pub BreaksPrefixedAggregate : SymbolInput → List Grid → ℕ → ℕ → SymbolState Place → DecodeError → Type 0
 BreaksPrefixedAggregate d new width height s e =
     RefusesValue d.tables.counts (bits_left s.coding) e
-    ⊎ After (by_table d.tables.counts s) (λ value. BreaksCount value.0 e)
-    ⊎ After (instance_count (by_table d.tables.counts s)) (λ count.
+    ⊎ After (by_table d.tables.counts s) (λ (value, _). BreaksCount value e)
+    ⊎ After (instance_count (by_table d.tables.counts s)) (λ (count, after_count).
     let bits = max 1 (id_bits d.header (length d.symbols)) in
-    let lacks : Prefixed → DecodeError → Type 0 = λ c err. (err ≡ errors.Parse UnexpectedEof) × (length (bits_left c.place) < bits) in
-    BreaksByInstances prefix_causes by_prefix_codes (plain_id bits) lacks (aggregate_params d new count.0) width height count.1.contexts.refining (prefixed_at d count.1.coding) e)
+    let lacks : Prefixed → DecodeError → Type 0 =
+        λ c err. (err ≡ errors.Parse UnexpectedEof) × (length (bits_left c.place) < bits) in
+    BreaksByInstances prefix_causes by_prefix_codes (plain_id bits) lacks (aggregate_params d new count) width height
+        after_count.contexts.refining (prefixed_at d after_count.coding) e)
 
 -- A collective bitmap (6.5.9), after the value of its size. Only strict mode requires MMR data to be complete.
 abbrev pub BreaksSized : Bool → ℕ → ℕ → Option ℤ → List ℕ → DecodeError → Type 0
 BreaksSized strict width height None bytes e = e ≡ errors.Huffman huffman.UnexpectedOob
 BreaksSized strict width height (Some (negsuc n)) bytes e = e ≡ errors.Overflow BitmapDimension
-BreaksSized strict width height (Some (pos size)) bytes (errors.Parse UnexpectedEof) = length bytes < (if size == 0 then height * raw_stride width else size)
-BreaksSized strict width height (Some (pos size)) bytes (errors.Overflow BitmapDimension) = max_side * max_side < width * height
+BreaksSized strict width height (Some (pos size)) bytes (errors.Parse UnexpectedEof) =
+    length bytes < (if size == 0 then height * raw_stride width else size)
+BreaksSized strict width height (Some (pos size)) bytes (errors.Overflow BitmapDimension) =
+    max_side * max_side < width * height
 BreaksSized strict width height (Some (pos size)) bytes (errors.Region InvalidMmrData) =
     (size ≢ 0) × BreaksMmr strict width height (take size bytes) (errors.Region InvalidMmrData)
 BreaksSized strict width height (Some (pos size)) bytes _ = ⊥
 
 abbrev pub BreaksCollectiveBitmap : SymbolInput → ℕ → ℕ → SymbolState Place → DecodeError → Type 0
 BreaksCollectiveBitmap d width height s e =
-    InSteps (by_table d.tables.sizes s) (IsOf (by_table d.tables.sizes s) e) (λ value.
-    BreaksSized d.header.strict width height value.0 (aligned value.1.coding).bytes e)
+    InSteps (by_table d.tables.sizes s) (IsOf (by_table d.tables.sizes s) e) (λ (value, after_value).
+    BreaksSized d.header.strict width height value (aligned after_value.coding).bytes e)
 
 -- A class that is too high for its symbols: its collective bitmap is refused, or else the first symbol cut from it.
 abbrev pub BreaksTallClass : SymbolInput → ℕ → ℕ → SymbolState Place → DecodeError → Type 0
-BreaksTallClass d width height s e = BreaksCollectiveBitmap d width height s e ⊎ ((e ≡ errors.Overflow BitmapDimension) × (max_side < height))
+BreaksTallClass d width height s e =
+    BreaksCollectiveBitmap d width height s e ⊎ ((e ≡ errors.Overflow BitmapDimension) × (max_side < height))
 
 -- A class without symbols (6.5.5, step 4), after 2^20 classes that had none.
 abbrev pub BreaksEmptyClass : ℕ → ℕ → DecodeError → Type 0
@@ -169,13 +179,15 @@ BreaksEmptyClass count empty _ = ⊥
 
 -- A height class (6.5.6): the difference of its height is out of band, or the height isn't an unsigned number of 32
 -- bits, or the symbols of the class are refused.
-abbrev pub BreaksHeightClass : {S : Type 0} → ClassReadings S → SymbolInput → ℕ → ℕ → List Grid → S → DecodeError → Type 0
+abbrev pub BreaksHeightClass : {S : Type 0} → ClassReadings S → SymbolInput → ℕ → ℕ → List Grid → S → DecodeError
+    → Type 0
 BreaksHeightClass r d before empty new s e =
-    InSteps (r.height_difference d s) (IsOf (r.height_difference d s) e) (λ value.
-    ((e ≡ errors.Symbol UnexpectedOob) × (value.0 ≡ None))
-    ⊎ ((difference : ℤ) × (value.0 ≡ Some difference)
+    InSteps (r.height_difference d s) (IsOf (r.height_difference d s) e) (λ (value, after_value).
+    ((e ≡ errors.Symbol UnexpectedOob) × (value ≡ None))
+    ⊎ ((difference : ℤ) × (value ≡ Some difference)
     × (((e ≡ errors.Overflow BitmapDimension) × IsNoSize (pos before +ℤ difference))
-    ⊎ ((height : ℕ) × (pos before +ℤ difference ≡ pos height) × IsOf (r.class_of_height d height empty new value.1) e))))
+    ⊎ ((height : ℕ) × (pos before +ℤ difference ≡ pos height)
+    × IsOf (r.class_of_height d height empty new after_value) e))))
 
 -- The codes of the ids are never crowded, so only memory can run out.
 abbrev pub BreaksIdCodes : SymbolHeader → ℕ → DecodeError → Type 0

@@ -26,58 +26,66 @@ width_by room width total (Some difference) = do
   all ← size_in_word (pos total +ℤ pos next)
   Ok (Some (next, all))
 
-unfoldable pub next_width : {S : Type 0} → SymbolReadings S → SymbolInput → ℕ → ℕ → ℕ → S → Result (Option (ℕ × ℕ) × S) DecodeError
-next_width r d room width total s = r.width_difference d s >>= λ value. width_by room width total value.0 >>= λ next. Ok (next, value.1)
-
--- the widths of a class after one of this width and total: each is the width before it plus a difference
-unfoldable pub widths_from : {S : Type 0} → SymbolReadings S → SymbolInput → ℕ → ℕ → ℕ → S → Result (List ℕ × S) DecodeError
-widths_from r d zero width total s = next_width r d 0 width total s >>= λ end. Ok ([], end.1)
-widths_from r d (suc room) width total s =
-    next_width r d (suc room) width total s >>= λ next. (elim next.0 [
-      | None ↦ Ok ([], next.1)
-      | Some at ↦ widths_from r d room at.0 at.1 next.1 >>= λ others. Ok (at.0 ∷ others.0, others.1)
-    ])
-
 -- a class without a symbol is refused if 2^20 empty ones came before (our own rule)
 abbrev pub empty_class : ℕ → ℕ → Result (Unit {0}) DecodeError
 empty_class symbols empty = refuse_if (symbols == 0 && nat_le 1048576 empty) (errors.Symbol Invalid)
 
--- the symbols of a class after these new ones and after one of this width and total; each has its own bitmap
-unfoldable pub symbols_from : {S : Type 0} → SymbolReadings S → SymbolInput → ℕ → ℕ → ℕ → ℕ → List Grid → S → Result (List Grid × S) DecodeError
-symbols_from r d zero height width total new s = next_width r d 0 width total s >>= λ end. Ok ([], end.1)
-symbols_from r d (suc room) height width total new s =
-    next_width r d (suc room) width total s >>= λ next. (elim next.0 [
-      | None ↦ Ok ([], next.1)
-      | Some at ↦
-          r.symbol_bitmap d new at.0 height next.1 >>= λ symbol.
-          symbols_from r d room height at.0 at.1 (new ++ symbol.0 ∷ []) symbol.1 >>= λ others. Ok (symbol.0 ∷ others.0, others.1)
-    ])
+module _ {S : Type 0} (r : SymbolReadings S) (d : SymbolInput) where
+  unfoldable pub next_width : ℕ → ℕ → ℕ → S → Result (Option (ℕ × ℕ) × S) DecodeError
+  next_width room width total s = do
+    (difference, after) ← r.width_difference d s
+    next ← width_by room width total difference
+    Ok (next, after)
 
--- a class of such symbols, after these new ones and this many empty classes
-unfoldable pub drawn_class : {S : Type 0} → SymbolReadings S → SymbolInput → ℕ → ℕ → List Grid → S → Result (List Grid × S) DecodeError
-drawn_class r d height empty new s = do
-  symbols ← symbols_from r d (d.header.num_new_symbols - length new) height 0 0 new s
-  few ← empty_class (length symbols.0) empty
-  Ok symbols
+  -- the widths of a class after one of this width and total: each is the width before it plus a difference
+  unfoldable pub widths_from : ℕ → ℕ → ℕ → S → Result (List ℕ × S) DecodeError
+  widths_from zero width total s = next_width 0 width total s >>= λ (_, after). Ok ([], after)
+  widths_from (suc room) width total s =
+      next_width (suc room) width total s >>= λ (next, after_width). (elim next [
+        | None ↦ Ok ([], after_width)
+        | Some (symwidth, totwidth) ↦
+            widths_from room symwidth totwidth after_width >>= λ (others, after). Ok (symwidth ∷ others, after)
+      ])
 
--- the height class after one of this height: its own height (HCHEIGHT), and its symbols, which all have that height
-unfoldable pub height_class : {S : Type 0} → ClassReadings S → SymbolInput → ℕ → ℕ → List Grid → S → Result (ℕ × List Grid × S) DecodeError
-height_class r d before empty new s = do
-  value ← r.height_difference d s
-  difference ← in_band (errors.Symbol UnexpectedOob) value.0
-  height ← size_in_word (pos before +ℤ difference)
-  class ← r.class_of_height d height empty new value.1
-  Ok (height, class.0, class.1)
+  -- the symbols of a class after these new ones and after one of this width and total; each has its own bitmap
+  unfoldable pub symbols_from : ℕ → ℕ → ℕ → ℕ → List Grid → S → Result (List Grid × S) DecodeError
+  symbols_from zero height width total new s = next_width 0 width total s >>= λ (_, after). Ok ([], after)
+  symbols_from (suc room) height width total new s =
+      next_width (suc room) width total s >>= λ (next, after_width). (elim next [
+        | None ↦ Ok ([], after_width)
+        | Some (symwidth, totwidth) ↦
+            r.symbol_bitmap d new symwidth height after_width >>= λ (symbol, after_symbol).
+            symbols_from room height symwidth totwidth (new ++ symbol ∷ []) after_symbol >>= λ (others, after).
+            Ok (symbol ∷ others, after)
+      ])
 
--- The symbols of the classes after one of this height, until there are enough. Each class has a symbol or is one of the
--- 2^20 that may be empty. So n classes are enough if n is at least the number of symbols and empty classes to come.
-unfoldable pub classes_from : {S : Type 0} → ClassReadings S → SymbolInput → ℕ → ℕ → ℕ → List Grid → S → Result (List Grid × S) DecodeError
-classes_from r d zero before empty new s = Ok ([], s)
-classes_from r d (suc n) before empty new s =
-    if nat_le d.header.num_new_symbols (length new) then Ok ([], s)
-    else (height_class r d before empty new s >>= λ (height, symbols, t).
-    classes_from r d n height (empty + bit_number (length symbols == 0)) (new ++ symbols) t >>= λ others.
-    Ok (symbols ++ others.0, others.1))
+  -- a class of such symbols, after these new ones and this many empty classes
+  unfoldable pub drawn_class : ℕ → ℕ → List Grid → S → Result (List Grid × S) DecodeError
+  drawn_class height empty new s = do
+    (symbols, after) ← symbols_from (d.header.num_new_symbols - length new) height 0 0 new s
+    few ← empty_class (length symbols) empty
+    Ok (symbols, after)
 
-abbrev pub new_symbols : {S : Type 0} → ClassReadings S → SymbolInput → S → Result (List Grid × S) DecodeError
-new_symbols r d s = classes_from r d (d.header.num_new_symbols + 1048576) 0 0 [] s
+module _ {S : Type 0} (r : ClassReadings S) (d : SymbolInput) where
+  -- the height class after one of this height: its own height (HCHEIGHT), and its symbols, which all have that height
+  unfoldable pub height_class : ℕ → ℕ → List Grid → S → Result (ℕ × List Grid × S) DecodeError
+  height_class before empty new s = do
+    (value, after_value) ← r.height_difference d s
+    difference ← in_band (errors.Symbol UnexpectedOob) value
+    height ← size_in_word (pos before +ℤ difference)
+    (symbols, after) ← r.class_of_height d height empty new after_value
+    Ok (height, symbols, after)
+
+  -- The symbols of the classes after one of this height, until there are enough. Each class has a symbol or is one of
+  -- the 2^20 that may be empty. So n classes are enough if n is at least the number of symbols and empty classes to
+  -- come.
+  unfoldable pub classes_from : ℕ → ℕ → ℕ → List Grid → S → Result (List Grid × S) DecodeError
+  classes_from zero before empty new s = Ok ([], s)
+  classes_from (suc n) before empty new s =
+      if nat_le d.header.num_new_symbols (length new) then Ok ([], s)
+      else (height_class before empty new s >>= λ (height, symbols, after_class).
+      classes_from n height (empty + bit_number (length symbols == 0)) (new ++ symbols) after_class
+      >>= λ (others, after). Ok (symbols ++ others, after))
+
+  abbrev pub new_symbols : S → Result (List Grid × S) DecodeError
+  new_symbols s = classes_from (d.header.num_new_symbols + 1048576) 0 0 [] s

@@ -45,7 +45,8 @@ coded_symbol h width height s =
     let region = decoded_region coding width height coder.bytes (no_pixels coder.registers s.contexts.generic) in
     let coded : Coded = record s.coding { coder = record coder { registers = region.registers } } in
     let contexts : SymbolContexts = record s.contexts { generic = region.contexts } in
-    fits_symbol width height >>= λ fits. Ok (so_far width height region.pixels, record { coding = coded; contexts = contexts })
+    fits_symbol width height >>= λ fits.
+    Ok (so_far width height region.pixels, record { coding = coded; contexts = contexts })
 
 -- The number of bits of an id (SBSYMCODELEN), enough for all symbols: those referred to and all new ones, also to come.
 abbrev pub id_bits : SymbolHeader → ℕ → ℕ
@@ -66,16 +67,17 @@ some_instances (Some (pos (suc n))) = Ok (suc n)
 some_instances (Some _) = Err (Symbol Invalid)
 
 unfoldable pub instance_count : {S : Type 0} → Result (Option ℤ × S) DecodeError → Result (ℕ × S) DecodeError
-instance_count reading = reading >>= λ value. some_instances value.0 >>= λ count. Ok (count, value.1)
+instance_count reading = reading >>= λ (value, after). some_instances value >>= λ count. Ok (count, after)
 
 -- One instance (6.5.8.2.2): the symbol of the id, refined. RDX and RDY are the offset of the reference.
-unfoldable pub refined_alone : {S : Type 0} → Readings S → List Grid → ℤ → ℕ → ℕ → Refining → S → Result (Grid × Refining × S) DecodeError
+unfoldable pub refined_alone : {S : Type 0} → Readings S → List Grid → ℤ → ℕ → ℕ → Refining → S
+    → Result (Grid × Refining × S) DecodeError
 refined_alone r symbols id width height f s = do
-  rdx ← r.x_delta s
-  rdy ← r.y_delta rdx.1
+  (rdx, after_rdx) ← r.x_delta s
+  (rdy, after_rdy) ← r.y_delta after_rdx
   from ← some_symbol (symbol_of symbols id)
   fits ← fits_symbol width height
-  r.refined (record { grid = from; dx = rdx.0; dy = rdy.0 }) width height f rdy.1
+  r.refined (record { grid = from; dx = rdx; dy = rdy }) width height f after_rdy
 
 -- Several instances (6.5.8.2): a text region of the symbol's size, in strips of one row from the top left (Table 17).
 abbrev pub aggregate_flags : SymbolDictionaryFlags → TextRegionFlags
@@ -100,41 +102,50 @@ aggregate_params d new count = record {
   strict = d.header.strict;
 }
 
-unfoldable pub put_together : {S : Type 0} → Readings S → TextParams → ℕ → ℕ → Refining → S → Result (Grid × Refining × S) DecodeError
+unfoldable pub put_together : {S : Type 0} → Readings S → TextParams → ℕ → ℕ → Refining → S
+    → Result (Grid × Refining × S) DecodeError
 put_together r p width height f s = fits_symbol width height >>= λ fits. text_region r p (blank width height false) f s
 
 -- `alone` reads the id where there is only one instance.
-abbrev pub by_instances : {S : Type 0} → Readings S → (S → Result (ℤ × S) DecodeError) → TextParams → ℕ → ℕ → Refining → S → Result (Grid × Refining × S) DecodeError
+abbrev pub by_instances : {S : Type 0} → Readings S → (S → Result (ℤ × S) DecodeError) → TextParams → ℕ → ℕ → Refining
+    → S → Result (Grid × Refining × S) DecodeError
 by_instances r alone p width height f s =
-    if p.count == 1 then (alone s >>= λ id. refined_alone r p.symbols id.0 width height f id.1)
+    if p.count == 1 then (alone s >>= λ (id, after_id). refined_alone r p.symbols id width height f after_id)
     else put_together r p width height f s
 
 abbrev pub coded_instances : TextParams → ℕ → ℕ → SymbolState Coded → Result (Grid × SymbolState Coded) DecodeError
 coded_instances p width height s = do
-  symbol ← by_instances by_coder (λ c. Ok (next_id c)) p width height s.contexts.refining s.coding
-  Ok (symbol.0, record { coding = symbol.2; contexts = record s.contexts { refining = symbol.1 } })
+  (symbol, refining, after) ← by_instances by_coder (λ c. Ok (next_id c)) p width height s.contexts.refining s.coding
+  Ok (symbol, record { coding = after; contexts = record s.contexts { refining = refining } })
 
 -- A symbol of this width and height, after these new ones; IAAI gives the number of its instances.
-unfoldable pub coded_aggregate : SymbolInput → List Grid → ℕ → ℕ → SymbolState Coded → Result (Grid × SymbolState Coded) DecodeError
+unfoldable pub coded_aggregate : SymbolInput → List Grid → ℕ → ℕ → SymbolState Coded
+    → Result (Grid × SymbolState Coded) DecodeError
 coded_aggregate d new width height s =
-    instance_count (by_procedure Iaai s) >>= λ count. coded_instances (aggregate_params d new count.0) width height count.1
+    instance_count (by_procedure Iaai s) >>= λ (count, after_count).
+    coded_instances (aggregate_params d new count) width height after_count
 
 -- by prefix codes: the id of a single instance is plain bits, not a code
 abbrev pub plain_id : ℕ → Prefixed → Result (ℤ × Prefixed) DecodeError
-plain_id bits s = prefixed_bits end_of_bytes bits s >>= λ id. Ok (pos id.0, id.1)
+plain_id bits s = prefixed_bits end_of_bytes bits s >>= λ (id, after). Ok (pos id, after)
 
 abbrev pub prefixed_at : SymbolInput → Place → Prefixed
 prefixed_at d place = record { place = place; tables = aggregate_tables; ids = d.ids }
 
-abbrev pub prefixed_instances : SymbolInput → TextParams → ℕ → ℕ → SymbolState Place → Result (Grid × SymbolState Place) DecodeError
+abbrev pub prefixed_instances : SymbolInput → TextParams → ℕ → ℕ → SymbolState Place
+    → Result (Grid × SymbolState Place) DecodeError
 prefixed_instances d p width height s = do
-  symbol ← by_instances by_prefix_codes (plain_id (max 1 (id_bits d.header (length d.symbols)))) p width height s.contexts.refining (prefixed_at d s.coding)
-  Ok (symbol.0, record { coding = symbol.2.place; contexts = record s.contexts { refining = symbol.1 } })
+  let alone = plain_id (max 1 (id_bits d.header (length d.symbols)))
+  (symbol, refining, after) ←
+      by_instances by_prefix_codes alone p width height s.contexts.refining (prefixed_at d s.coding)
+  Ok (symbol, record { coding = after.place; contexts = record s.contexts { refining = refining } })
 
 -- The same by prefix codes; the table that SDHUFFAGGINST names gives the number of its instances.
-unfoldable pub prefixed_aggregate : SymbolInput → List Grid → ℕ → ℕ → SymbolState Place → Result (Grid × SymbolState Place) DecodeError
+unfoldable pub prefixed_aggregate : SymbolInput → List Grid → ℕ → ℕ → SymbolState Place
+    → Result (Grid × SymbolState Place) DecodeError
 prefixed_aggregate d new width height s =
-    instance_count (by_table d.tables.counts s) >>= λ count. prefixed_instances d (aggregate_params d new count.0) width height count.1
+    instance_count (by_table d.tables.counts s) >>= λ (count, after_count).
+    prefixed_instances d (aggregate_params d new count) width height after_count
 
 -- a pixel of rows that are not coded: each row begins with a byte, and the high bit of a byte comes first
 abbrev pub raw_pixel : List ℕ → ℕ → ℕ → ℕ → Bool
@@ -146,32 +157,35 @@ raw_stride width = (width + 7) / 8
 unfoldable pub raw_rows : ℕ → ℕ → List ℕ → Result (Grid × List ℕ) DecodeError
 raw_rows width height bytes = do
   fits ← wide_or_overflow width height
-  rows ← bytes_at (height * raw_stride width) bytes
-  Ok (grid_of width height (raw_pixel rows.0 (raw_stride width)), rows.1)
+  (rows, rest) ← bytes_at (height * raw_stride width) bytes
+  Ok (grid_of width height (raw_pixel rows (raw_stride width)), rest)
 
 -- or MMR data of this many bytes; both give the bytes after them
 unfoldable pub mmr_bytes : Bool → ℕ → ℕ → ℕ → List ℕ → Result (Grid × List ℕ) DecodeError
 mmr_bytes strict size width height bytes = do
-  coded ← bytes_at size bytes
+  (coded, rest) ← bytes_at size bytes
   fits ← wide_or_overflow width height
-  rows ← mmr_rows strict width height coded.0
-  Ok (rows.grid, coded.1)
+  rows ← mmr_rows strict width height coded
+  Ok (rows.grid, rest)
 
 abbrev pub rows_of_size : Bool → ℕ → ℕ → ℕ → List ℕ → Result (Grid × List ℕ) DecodeError
-rows_of_size strict size width height bytes = if size == 0 then raw_rows width height bytes else mmr_bytes strict size width height bytes
+rows_of_size strict size width height bytes =
+    if size == 0 then raw_rows width height bytes else mmr_bytes strict size width height bytes
 
 -- The collective bitmap (6.5.9): its size, and then its rows from the next whole byte on. At size 0 they are not coded.
-unfoldable pub collective_bitmap : SymbolInput → ℕ → ℕ → SymbolState Place → Result (Grid × SymbolState Place) DecodeError
+unfoldable pub collective_bitmap : SymbolInput → ℕ → ℕ → SymbolState Place
+    → Result (Grid × SymbolState Place) DecodeError
 collective_bitmap d width height s = do
-  value ← by_table d.tables.sizes s
-  number ← in_band (Huffman huffman.UnexpectedOob) value.0
+  (value, after_value) ← by_table d.tables.sizes s
+  number ← in_band (Huffman huffman.UnexpectedOob) value
   size ← not_negative (Overflow BitmapDimension) number
-  rows ← rows_of_size d.header.strict size width height (aligned value.1.coding).bytes
-  Ok (rows.0, record value.1 { coding = start_of rows.1 })
+  (collective, rest) ← rows_of_size d.header.strict size width height (aligned after_value.coding).bytes
+  Ok (collective, record after_value { coding = start_of rest })
 
 -- this many columns of a collective bitmap, from column `from` on
 unfoldable pub symbol_cut : Grid → ℕ → ℕ → ℕ → Result Grid DecodeError
-symbol_cut collective from width height = part_or_overflow collective (record { left = from; top = 0; width = width; height = height })
+symbol_cut collective from width height =
+    part_or_overflow collective (record { left = from; top = 0; width = width; height = height })
 
 -- the symbols of these widths, which lie side by side from column `from` on
 unfoldable pub symbols_cut : Grid → ℕ → ℕ → List ℕ → Result (List Grid) DecodeError

@@ -21,7 +21,8 @@ coder_start d contexts = record {
 }
 
 -- a symbol's bitmap: refined or aggregated from the symbols so far (SDREFAGG), or else coded by itself
-unfoldable pub coded_bitmap : SymbolInput → List Grid → ℕ → ℕ → SymbolState Coded → Result (Grid × SymbolState Coded) DecodeError
+unfoldable pub coded_bitmap : SymbolInput → List Grid → ℕ → ℕ → SymbolState Coded
+    → Result (Grid × SymbolState Coded) DecodeError
 coded_bitmap d new width height s =
     if d.header.flags.use_refagg then coded_aggregate d new width height s else coded_symbol d.header width height s
 
@@ -41,16 +42,20 @@ prefix_codes_start d contexts = record { coding = start_of d.header.bytes; conte
 
 -- a symbol that is decoded by itself is refined or aggregated from the symbols so far
 abbrev pub symbols_by_prefix_codes : SymbolReadings (SymbolState Place)
-symbols_by_prefix_codes = record { width_difference = λ d. by_table d.tables.widths; symbol_bitmap = prefixed_aggregate }
+symbols_by_prefix_codes = record {
+  width_difference = λ d. by_table d.tables.widths;
+  symbol_bitmap = prefixed_aggregate;
+}
 
 -- the symbols of a class, cut out of its collective bitmap, whose width is the sum of theirs (6.5.5, step 4 d)
-unfoldable pub collective_class : SymbolInput → ℕ → ℕ → List Grid → SymbolState Place → Result (List Grid × SymbolState Place) DecodeError
+unfoldable pub collective_class : SymbolInput → ℕ → ℕ → List Grid → SymbolState Place
+    → Result (List Grid × SymbolState Place) DecodeError
 collective_class d height empty new s = do
-  widths ← widths_from symbols_by_prefix_codes d (d.header.num_new_symbols - length new) 0 0 s
-  few ← empty_class (length widths.0) empty
-  collective ← collective_bitmap d (sum widths.0) height widths.1
-  symbols ← symbols_cut collective.0 height 0 widths.0
-  Ok (symbols, collective.1)
+  (widths, after_widths) ← widths_from symbols_by_prefix_codes d (d.header.num_new_symbols - length new) 0 0 s
+  few ← empty_class (length widths) empty
+  (collective, after) ← collective_bitmap d (sum widths) height after_widths
+  symbols ← symbols_cut collective height 0 widths
+  Ok (symbols, after)
 
 -- symbols are decoded one by one where they are refined or aggregated (SDREFAGG), and else cut
 abbrev pub classes_by_prefix_codes : ClassReadings (SymbolState Place)

@@ -28,7 +28,8 @@ pub record SymbolHeader : Type 0 where  -- what is needed to decode a dictionary
 -- one of two tables or a custom one, by two bits of the flags (SDHUFFDH and SDHUFFDW; 7.4.2.1.6)
 abbrev pub selection_of : HuffmanTableSelection → HuffmanTableSelection → ℕ → Result HuffmanTableSelection DecodeError
 selection_of first second n =
-    if n == 0 then Ok first else if n == 1 then Ok second else if n == 3 then Ok UserSupplied else Err (Huffman InvalidSelection)
+    if n == 0 then Ok first else if n == 1 then Ok second
+    else if n == 3 then Ok UserSupplied else Err (Huffman InvalidSelection)
 
 abbrev pub other_selection_of : Bool → HuffmanTableSelection  -- by one bit (SDHUFFBMSIZE and SDHUFFAGGINST)
 other_selection_of user_supplied = if user_supplied then UserSupplied else TableB1
@@ -59,27 +60,28 @@ coded_pixels_at flags bytes =
 
 -- the adaptive pixels of refinements (7.4.2.1.3), where symbols are refined with template 0
 abbrev pub refined_pixels_at : SymbolDictionaryFlags → List ℕ → Result (List AdaptiveTemplatePixel × List ℕ) DecodeError
-refined_pixels_at flags bytes = if flags.use_refagg then refinement_pixels_at flags.refinement_template bytes else Ok ([], bytes)
+refined_pixels_at flags bytes =
+    if flags.use_refagg then refinement_pixels_at flags.refinement_template bytes else Ok ([], bytes)
 
 -- The whole header, and the coded bytes. More than 2^20 symbols of either kind are refused (our own rule).
 unfoldable pub symbol_header_at : Bool → List ℕ → Result (SymbolHeader × List ℕ) DecodeError
 symbol_header_at strict bytes = do
-  number ← number_at w16 bytes
-  flags ← symbol_flags_of number.0
-  pixels ← coded_pixels_at flags number.1
-  refined ← refined_pixels_at flags pixels.1
-  exported ← number_at w32 refined.1
-  fresh ← number_at w32 exported.1
-  few ← refuse_if (nat_lt 1048576 exported.0 || nat_lt 1048576 fresh.0) (Overflow SymbolCount)
+  (number, after_flags) ← number_at w16 bytes
+  flags ← symbol_flags_of number
+  (pixels, after_pixels) ← coded_pixels_at flags after_flags
+  (refined, after_refined) ← refined_pixels_at flags after_pixels
+  (exported, after_exported) ← number_at w32 after_refined
+  (fresh, coded) ← number_at w32 after_exported
+  few ← refuse_if (nat_lt 1048576 exported || nat_lt 1048576 fresh) (Overflow SymbolCount)
   Ok (
     record {
       flags = flags;
-      adaptive_template_pixels = pixels.0;
-      refinement_at_pixels = refined.0;
-      num_exported_symbols = exported.0;
-      num_new_symbols = fresh.0;
-      bytes = fresh.1;
+      adaptive_template_pixels = pixels;
+      refinement_at_pixels = refined;
+      num_exported_symbols = exported;
+      num_new_symbols = fresh;
+      bytes = coded;
       strict = strict;
     },
-    fresh.1,
+    coded,
   )

@@ -36,7 +36,8 @@ pub record SymbolTables : Type 0 where  -- the tables of prefix codes of a dicti
   pub runs : List Member
 
 -- the table that a selection names, and the custom tables that are left
-unfoldable pub table_for : HuffmanTableSelection → List (List Member) → Result (List Member × List (List Member)) DecodeError
+unfoldable pub table_for : HuffmanTableSelection → List (List Member)
+    → Result (List Member × List (List Member)) DecodeError
 table_for TableB1 customs = standard (prefix_code lines_a) customs
 table_for TableB2 customs = standard (prefix_code lines_b) customs
 table_for TableB3 customs = standard (prefix_code lines_c) customs
@@ -48,15 +49,15 @@ table_for UserSupplied customs = next_custom customs
 -- coding (our own rule).
 unfoldable pub symbol_tables : SymbolDictionaryFlags → List (List Member) → Result SymbolTables DecodeError
 symbol_tables flags customs = do
-  heights ← table_for flags.delta_height_table customs
-  widths ← table_for flags.delta_width_table heights.1
-  sizes ← table_for flags.collective_bitmap_size_table widths.1
-  counts ← table_for flags.aggregate_instance_table sizes.1
+  (heights, left) ← table_for flags.delta_height_table customs
+  (widths, left) ← table_for flags.delta_width_table left
+  (sizes, left) ← table_for flags.collective_bitmap_size_table left
+  (counts, left) ← table_for flags.aggregate_instance_table left
   Ok (record {
-    heights = heights.0;
-    widths = widths.0;
-    sizes = sizes.0;
-    counts = counts.0;
+    heights = heights;
+    widths = widths;
+    sizes = sizes;
+    counts = counts;
     runs = prefix_code lines_a;
   })
 
@@ -92,7 +93,8 @@ unfoldable pub first_contexts : SymbolDictionaryFlags → Option BitmapContexts 
 first_contexts flags kept =
     if not flags.bitmap_context_used then Ok (fresh_bitmap_contexts flags)
     else (some_or (errors.Symbol Invalid) kept >>= λ c.
-    let same = is_template c.template flags.template && is_refinement_template c.refinement_template flags.refinement_template in
+    let same = is_template c.template flags.template
+        && is_refinement_template c.refinement_template flags.refinement_template in
     refuse_if (not same) (errors.Symbol Invalid) >>= λ _. Ok c)
 
 -- What is needed to decode a dictionary, besides the state. `ids` are the codes of the ids in aggregate symbols.
@@ -117,7 +119,11 @@ abbrev pub start_contexts : SymbolHeader → BitmapContexts → SymbolContexts
 start_contexts h contexts = record {
   template = contexts.template;
   generic = contexts.generic;
-  refining = record { template = contexts.refinement_template; pixels = h.refinement_at_pixels; contexts = contexts.refinement };
+  refining = record {
+    template = contexts.refinement_template;
+    pixels = h.refinement_at_pixels;
+    contexts = contexts.refinement;
+  };
 }
 
 abbrev pub bitmap_contexts : SymbolContexts → BitmapContexts
@@ -149,7 +155,8 @@ by_table table s =
 
 -- a value of an integer procedure, or out of band
 abbrev pub by_procedure : IntegerProcedure → SymbolState Coded → Result (Option ℤ × SymbolState Coded) DecodeError
-by_procedure procedure s = let i = next_integer procedure s.coding in Ok (i.0, record s { coding = i.1 })
+by_procedure procedure s =
+    let (value, after) = next_integer procedure s.coding in Ok (value, record s { coding = after })
 
 abbrev pub not_negative : DecodeError → ℤ → Result ℕ DecodeError
 not_negative e (pos n) = Ok n

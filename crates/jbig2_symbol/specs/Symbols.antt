@@ -29,55 +29,63 @@ ended_runs from (r ∷ runs) i = bit_number (nat_le (from + r) i) + ended_runs (
 unfoldable pub exported_from : List ℕ → ℕ → List Grid → List Grid
 exported_from runs from [] = []
 exported_from runs from (g ∷ grids) =
-    if ended_runs 0 runs from % 2 == 1 then g ∷ exported_from runs (from + 1) grids else exported_from runs (from + 1) grids
+    if ended_runs 0 runs from % 2 == 1 then g ∷ exported_from runs (from + 1) grids
+    else exported_from runs (from + 1) grids
 
 abbrev pub exported : List ℕ → List Grid → List Grid
 exported runs grids = exported_from runs 0 grids
 
--- A run, where `left` symbols are not covered yet and `empty` runs of length 0 came before. At most 2^20 runs may be
--- empty (our own rule).
-unfoldable pub next_run : {S : Type 0} → ClassReadings S → SymbolInput → ℕ → ℕ → S → Result (ℕ × S) DecodeError
-next_run r d empty left s = do
-  value ← r.export_run d s
-  number ← in_band (Huffman UnexpectedOob) value.0
-  run ← not_negative (Huffman InvalidCode) number
-  few ← refuse_if (run == 0 && nat_le 1048576 empty) (Symbol Invalid)
-  within ← refuse_if (nat_lt left run) (Symbol OutOfRange)
-  Ok (run, value.1)
+module _ {S : Type 0} (r : ClassReadings S) (d : SymbolInput) where
+  -- A run, where `left` symbols are not covered yet and `empty` runs of length 0 came before. At most 2^20 runs may be
+  -- empty (our own rule).
+  unfoldable pub next_run : ℕ → ℕ → S → Result (ℕ × S) DecodeError
+  next_run empty left s = do
+    (value, after) ← r.export_run d s
+    number ← in_band (Huffman UnexpectedOob) value
+    run ← not_negative (Huffman InvalidCode) number
+    few ← refuse_if (run == 0 && nat_le 1048576 empty) (Symbol Invalid)
+    within ← refuse_if (nat_lt left run) (Symbol OutOfRange)
+    Ok (run, after)
 
--- The runs, until all symbols are covered. Each covers a symbol or is one of the 2^20 that may be empty. So n runs are
--- enough if n is at least `left` and the empty runs still to come.
-unfoldable pub runs_from : {S : Type 0} → ClassReadings S → SymbolInput → ℕ → ℕ → ℕ → S → Result (List ℕ × S) DecodeError
-runs_from r d zero empty left s = Ok ([], s)
-runs_from r d (suc n) empty left s =
-    if left == 0 then Ok ([], s)
-    else (next_run r d empty left s >>= λ run.
-    runs_from r d n (empty + bit_number (run.0 == 0)) (left - run.0) run.1 >>= λ others. Ok (run.0 ∷ others.0, others.1))
+  -- The runs, until all symbols are covered. Each covers a symbol or is one of the 2^20 that may be empty. So n runs
+  -- are enough if n is at least `left` and the empty runs still to come.
+  unfoldable pub runs_from : ℕ → ℕ → ℕ → S → Result (List ℕ × S) DecodeError
+  runs_from zero empty left s = Ok ([], s)
+  runs_from (suc n) empty left s =
+      if left == 0 then Ok ([], s)
+      else (next_run empty left s >>= λ (run, after_run).
+      runs_from n (empty + bit_number (run == 0)) (left - run) after_run
+      >>= λ (others, after). Ok (run ∷ others, after))
 
-abbrev pub export_runs : {S : Type 0} → ClassReadings S → SymbolInput → ℕ → S → Result (List ℕ × S) DecodeError
-export_runs r d count s = runs_from r d (count + 1048576) 0 count s
+  abbrev pub export_runs : ℕ → S → Result (List ℕ × S) DecodeError
+  export_runs count s = runs_from (count + 1048576) 0 count s
 
--- The exported symbols among all of these. Their number must be the one in the header (our own rule).
-unfoldable pub exports : {S : Type 0} → ClassReadings S → SymbolInput → List Grid → S → Result (List Grid × S) DecodeError
-exports r d grids s = do
-  runs ← export_runs r d (length grids) s
-  right ← refuse_if (not (length (exported runs.0 grids) == d.header.num_exported_symbols)) (Symbol NoSymbols)
-  Ok (exported runs.0 grids, runs.1)
+  -- The exported symbols among all of these. Their number must be the one in the header (our own rule).
+  unfoldable pub exports : List Grid → S → Result (List Grid × S) DecodeError
+  exports grids s = do
+    (runs, after) ← export_runs (length grids) s
+    right ← refuse_if (not (length (exported runs grids) == d.header.num_exported_symbols)) (Symbol NoSymbols)
+    Ok (exported runs grids, after)
+
+  abbrev pub symbols_exported : S → Result (List Grid × S) DecodeError
+  symbols_exported s = new_symbols r d s >>= λ (new, after). exports (d.symbols ++ new) after
 
 -- ---- the dictionary
 pub record Symbols : Type 0 where  -- a dictionary: the symbols that it exports, and the contexts that it keeps
   pub exported : List Grid
   pub kept : Option BitmapContexts
 
-abbrev pub symbols_exported : {S : Type 0} → ClassReadings S → SymbolInput → S → Result (List Grid × S) DecodeError
-symbols_exported r d s = new_symbols r d s >>= λ new. exports r d (d.symbols ++ new.0) new.1
-
 -- the dictionary, with the contexts at its end, which it keeps if the header says so
 abbrev pub dictionary_of : SymbolHeader → List Grid → SymbolContexts → Symbols
-dictionary_of h exported contexts = record { exported = exported; kept = (if h.flags.bitmap_context_retained then Some (bitmap_contexts contexts) else None) }
+dictionary_of h exported contexts = record {
+  exported = exported;
+  kept = (if h.flags.bitmap_context_retained then Some (bitmap_contexts contexts) else None);
+}
 
-abbrev pub dictionary_by : {C : Type 0} → ClassReadings (SymbolState C) → SymbolInput → SymbolState C → Result Symbols DecodeError
-dictionary_by r d s = symbols_exported r d s >>= λ exported. Ok (dictionary_of d.header exported.0 exported.1.contexts)
+abbrev pub dictionary_by : {C : Type 0} → ClassReadings (SymbolState C) → SymbolInput → SymbolState C
+    → Result Symbols DecodeError
+dictionary_by r d s =
+    symbols_exported r d s >>= λ (exported, after). Ok (dictionary_of d.header exported after.contexts)
 
 -- by the coding that the header names (SDHUFF), beginning with these contexts
 abbrev pub dictionary_from : SymbolInput → BitmapContexts → Result Symbols DecodeError
@@ -86,7 +94,8 @@ dictionary_from d contexts =
     else dictionary_by classes_by_coder d (coder_start d contexts)
 
 -- the whole dictionary; `kept` are the contexts of the last dictionary that it refers to, if that kept any
-unfoldable pub symbols_decoded : SymbolHeader → List Grid → List (List Member) → Option BitmapContexts → Result Symbols DecodeError
+unfoldable pub symbols_decoded : SymbolHeader → List Grid → List (List Member) → Option BitmapContexts
+    → Result Symbols DecodeError
 symbols_decoded h symbols referred kept = do
   contexts ← first_contexts h.flags kept
   tables ← symbol_tables h.flags referred

@@ -56,7 +56,8 @@ BreaksRun (negsuc n) so_far p = Unit {0}
 -- There are too few lengths after some runs, and this holds for the runcodes, the lengths so far and the place.
 abbrev pub ARun : ℕ → Place → (List Member → List ℕ → Place → Type 0) → Type 0
 ARun count p Q =
-    After (runcodes_at p) (λ (runcodes, after). (k : ℕ) × After (runs_at k count runcodes [] after) (λ (lens, rest).
+    After (runcodes_at p) (λ (runcodes, after_runcodes).
+    (k : ℕ) × After (runs_at k count runcodes [] after_runcodes) (λ (lens, rest).
     (length lens < count) × Q runcodes lens rest))
 
 -- One of the 35 short lengths is missing, or they are crowded. Or a run is faulty. Or the runs have more lengths than
@@ -67,7 +68,8 @@ BreaksSymbolCodes count p e =
     ((k : ℕ) × (k < 35) × After (short_lengths k [] p) (λ (_, rest). length (bits_left rest) < 4))
     ⊎ After (short_lengths 35 [] p) (λ (lens, _). AreCrowded (lines_from 0 lens))
     ⊎ ARun count p (λ runcodes so_far q. After (value_at runcodes q) (λ (code, rest). BreaksRun code so_far rest))
-    ⊎ After (runcodes_at p) (λ (runcodes, after). After (runs_at count count runcodes [] after) (λ (lens, _).
+    ⊎ After (runcodes_at p) (λ (runcodes, after_runcodes).
+    After (runs_at count count runcodes [] after_runcodes) (λ (lens, _).
     (count < length lens) ⊎ AreCrowded (lines_from 0 lens)))))
     ⊎ ARun count p (λ runcodes so_far q. RefusesNumber runcodes q e)
 
@@ -161,8 +163,10 @@ APlaceLeaves flags g curs ti =
     let other_end : ℤ = curs +ℤ (pos (if flags.transposed then g.height else g.width) -ℤ pos 1) in
     let si : ℤ = if is_last_along_s flags then other_end else curs in
     LeavesWord other_end
-    ⊎ ((is_right flags.reference_corner ≡ true) × LeavesWord ((if flags.transposed then ti else si) -ℤ (pos g.width -ℤ pos 1)))
-    ⊎ ((is_bottom flags.reference_corner ≡ true) × LeavesWord ((if flags.transposed then si else ti) -ℤ (pos g.height -ℤ pos 1)))
+    ⊎ ((is_right flags.reference_corner ≡ true)
+        × LeavesWord ((if flags.transposed then ti else si) -ℤ (pos g.width -ℤ pos 1)))
+    ⊎ ((is_bottom flags.reference_corner ≡ true)
+        × LeavesWord ((if flags.transposed then si else ti) -ℤ (pos g.height -ℤ pos 1)))
 
 -- one of the four numbers of a refinement is refused, or the bits of the symbol after them
 abbrev pub ARefinementIsRefused : {S : Type 0} → ReadingCauses S → Readings S → S → DecodeError → Type 0
@@ -233,9 +237,11 @@ customs_if is_custom = if is_custom then 1 else 0
 abbrev pub BreaksTextTables : TextRegionHuffmanFlags → List (List Member) → DecodeError → Type 0
 BreaksTextTables flags customs e =
     ((e ≡ Huffman InvalidSelection) × (HasNoMeaning flags.first_s_table ⊎ HasNoMeaning flags.refinement_width_table
-    ⊎ HasNoMeaning flags.refinement_height_table ⊎ HasNoMeaning flags.refinement_x_table ⊎ HasNoMeaning flags.refinement_y_table))
+    ⊎ HasNoMeaning flags.refinement_height_table ⊎ HasNoMeaning flags.refinement_x_table
+    ⊎ HasNoMeaning flags.refinement_y_table))
     ⊎ ((e ≡ Huffman MissingTables) × (length customs
-    < customs_if (flags.first_s_table == 3) + customs_if (nat_lt 2 flags.delta_s_table) + customs_if (nat_lt 2 flags.delta_t_table)
+    < customs_if (flags.first_s_table == 3) + customs_if (nat_lt 2 flags.delta_s_table)
+    + customs_if (nat_lt 2 flags.delta_t_table)
     + customs_if (flags.refinement_width_table == 3) + customs_if (flags.refinement_height_table == 3)
     + customs_if (flags.refinement_x_table == 3) + customs_if (flags.refinement_y_table == 3)
     + customs_if (nat_lt 0 flags.refinement_size_table)))

@@ -28,11 +28,12 @@ lines_from n (len ∷ lens) = line len 0 (pos n) ∷ lines_from (n + 1) lens
 -- `count` lengths of four bits each, after those so far
 unfoldable pub short_lengths : ℕ → List ℕ → Place → Result (List ℕ × Place) DecodeError
 short_lengths zero so_far p = Ok (so_far, p)
-short_lengths (suc count) so_far p = 
+short_lengths (suc count) so_far p =
     bits_at invalid_code 4 p >>= λ (len, rest). short_lengths count (so_far ++ len ∷ []) rest
 
 abbrev pub repeated : List ℕ → ℕ → Result (List ℕ) DecodeError  -- with the last length repeated this many more times
-repeated so_far count = some_or invalid_code (slice_get so_far (length so_far - 1)) >>= λ len. Ok (so_far ++ replicate count len)
+repeated so_far count =
+    some_or invalid_code (slice_get so_far (length so_far - 1)) >>= λ len. Ok (so_far ++ replicate count len)
 
 -- The lengths that a runcode means: itself, or the last length 3 to 6 times, or 3 to 10 or 11 to 138 zeros.
 abbrev pub run_at : ℤ → List ℕ → Place → Result (List ℕ × Place) DecodeError

@@ -18,4 +18,4 @@ joined (run ∷ runs) = joined_from run runs
 
 -- the runs that were read
 abbrev pub joined_runs : {S : Type 0} → Result (List ℕ × S) DecodeError → Result (List ℕ × S) DecodeError
-joined_runs read = read >>= λ runs. Ok (joined runs.0, runs.1)
+joined_runs read = read >>= λ (runs, after). Ok (joined runs, after)

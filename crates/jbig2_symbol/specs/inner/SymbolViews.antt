@@ -60,10 +60,10 @@ bytes_of_rows width height bytes = wide_or_overflow width height >>= λ _. bytes
 -- the number of bytes of a collective bitmap, and the state at the first of them
 abbrev pub size_of_rows : SymbolInput → SymbolState Place → Result (ℕ × SymbolState Place) DecodeError
 size_of_rows d s = do
-  value ← by_table d.tables.sizes s
-  number ← in_band (Huffman UnexpectedOob) value.0
+  (value, after_value) ← by_table d.tables.sizes s
+  number ← in_band (Huffman UnexpectedOob) value
   size ← not_negative (Overflow BitmapDimension) number
-  Ok (size, record value.1 { coding = aligned value.1.coding })
+  Ok (size, record after_value { coding = aligned after_value.coding })
 
 -- the error of a class that is too high for its symbols: that of its collective bitmap, or else of its first symbol
 abbrev pub tall_class : SymbolInput → ℕ → ℕ → SymbolState Place → Result (Unit {0}) DecodeError
@@ -71,7 +71,7 @@ tall_class d width height s = collective_bitmap d width height s >>= λ _. Err (
 
 -- all that was read, where these came before
 abbrev pub concat : {X S : Type 0} → List X → Result (List X × S) DecodeError → Result (List X × S) DecodeError
-concat before result = result >>= λ more. Ok (before ++ more.0, more.1)
+concat before result = result >>= λ (more, after). Ok (before ++ more, after)
 
 -- all symbols, where these came before
 abbrev pub symbols_after : List Grid → Result (List Grid) DecodeError → Result (List Grid) DecodeError
@@ -86,8 +86,10 @@ abbrev pub empty_with : List Grid → ℕ → ℕ
 empty_with symbols empty = empty + bit_number (length symbols == 0)
 
 -- a class after others: all symbols so far, its height, and the number of empty classes
-abbrev pub class_after : {S : Type 0} → List Grid → ℕ → Result (ℕ × List Grid × S) DecodeError → Result (List Grid × (ℕ × (ℕ × S))) DecodeError
-class_after before empty result = result >>= λ class. Ok (before ++ class.1, (class.0, (empty_with class.1 empty, class.2)))
+abbrev pub class_after : {S : Type 0} → List Grid → ℕ → Result (ℕ × List Grid × S) DecodeError
+    → Result (List Grid × (ℕ × (ℕ × S))) DecodeError
+class_after before empty result =
+    result >>= λ (height, symbols, after). Ok (before ++ symbols, (height, (empty_with symbols empty, after)))
 
 -- the symbols that are referred to, and then the new ones
 abbrev pub all_symbols : List (Bor Grid) → List Grid → List Grid
@@ -99,7 +101,10 @@ kept_view kept = option_map (λ contexts. contexts_view contexts.now) kept
 
 -- what a dictionary exports and keeps
 abbrev pub dictionary_view : {A : Type 0} → SymbolDictionary A → Symbols
-dictionary_view d = record { exported = d.exported_symbols.items; kept = option_map (λ contexts. contexts_view contexts) d.retained_contexts }
+dictionary_view d = record {
+  exported = d.exported_symbols.items;
+  kept = option_map (λ contexts. contexts_view contexts) d.retained_contexts;
+}
 
 -- a width that was read, and the total with it
 abbrev pub with_total : ℕ → Option ℕ → Option (ℕ × ℕ)
