@@ -27,6 +27,7 @@ use Rattle.jbig2_region.specs.Causes.{BreaksOffset, BreaksRefinementHeader}
 use Rattle.jbig2_region.specs.RegionInfo.{PlacedRegion}
 use Rattle.jbig2_region.specs.RefinementHeader.{refinement_header_at}
 use Rattle.jbig2_text.specs.Causes.{After}
+use Rattle.jbig2_symbol.specs.SymbolHeader.{max_new_symbols}
 use Rattle.hayro_jbig2.specs.Files.{ReadFile, book_at, by_pages, ends_of, needs_page}
 use Rattle.hayro_jbig2.specs.Names.{globals_at, Names, first_kept, kept_of}
 use Rattle.hayro_jbig2.specs.Page.{ReadPage, drawing_of_page, embedded}
@@ -55,7 +56,7 @@ BreaksFirstPage book _ = ⊥
 -- There are too many symbols together, or a number names neither a symbol dictionary nor a custom table.
 abbrev pub BreaksReferred : Bool → Names → Names → List ℕ → DecodeError → Type 0
 BreaksReferred strict own shared numbers (Overflow SymbolCount) =
-    1048576 < length (flat_map (λ n. option_map_or (λ s. s.exported) (kept_of n own.symbols shared.symbols) []) numbers)
+    max_new_symbols < length (flat_map (λ n. option_map_or (λ s. s.exported) (kept_of n own.symbols shared.symbols) []) numbers)
 BreaksReferred strict own shared numbers (Segment InvalidReference) =
     IsTrue strict × Any (λ n. (kept_of n own.symbols shared.symbols ≡ None) × (kept_of n own.codes shared.codes ≡ None)) numbers
 BreaksReferred strict own shared numbers _ = ⊥

@@ -23,7 +23,7 @@ use Rattle.jbig2_coder.specs.CustomTable.{result_of, custom_table}
 use Rattle.jbig2_coder.specs.PrefixCode.{Member}
 use Rattle.jbig2_halftone.specs.PatternHeader.{pattern_header_at}
 use Rattle.jbig2_halftone.specs.Patterns.{Patterns, patterns_decoded}
-use Rattle.jbig2_symbol.specs.SymbolHeader.{symbol_header_at}
+use Rattle.jbig2_symbol.specs.SymbolHeader.{symbol_header_at, max_new_symbols}
 use Rattle.jbig2_symbol.specs.SymbolReading.{BitmapContexts}
 use Rattle.jbig2_symbol.specs.Symbols.{Symbols, symbols_decoded}
 use Rattle.hayro_jbig2.specs.declared.kept.Kept.{Kept}
@@ -60,7 +60,7 @@ pub record Referred : Type 0 where
 -- More than 2^20 symbols together are refused (our own rule).
 abbrev pub with_dictionary : Symbols → Referred → Result Referred DecodeError
 with_dictionary s r =
-    refuse_if (nat_lt 1048576 (length (r.symbols ++ s.exported))) (Overflow SymbolCount)
+    refuse_if (nat_lt max_new_symbols (length (r.symbols ++ s.exported))) (Overflow SymbolCount)
     >>= λ few. Ok (record r { symbols = r.symbols ++ s.exported; kept = s.kept })
 
 -- Adds the code of a custom table. Where the number names none, strict reading refuses, and other readings add nothing.

@@ -27,7 +27,7 @@ use Rattle.jbig2_text.specs.TextCoding.{Coded, Prefixed, by_coder, by_prefix_cod
 use Rattle.jbig2_symbol.specs.Symbols.{export_runs, exported, next_run}
 use Rattle.jbig2_symbol.specs.SymbolBitmaps.{aggregate_params, id_bits, instance_count, plain_id, prefixed_at}
 use Rattle.jbig2_symbol.specs.SymbolBitmaps.{raw_stride}
-use Rattle.jbig2_symbol.specs.SymbolHeader.{SymbolHeader}
+use Rattle.jbig2_symbol.specs.SymbolHeader.{SymbolHeader, max_empty, max_new_symbols}
 use Rattle.jbig2_symbol.specs.SymbolReading.{BitmapContexts, ClassReadings, SymbolInput, SymbolReadings, SymbolState}
 use Rattle.jbig2_symbol.specs.SymbolReading.{by_procedure, by_table, is_refinement_template, is_template}
 use Rattle.jbig2_symbol.specs.declared.header.HuffmanTableSelection.{HuffmanTableSelection}
@@ -54,7 +54,7 @@ BreaksSymbolFields flags bytes (errors.Template InvalidAtPixel) =
         (errors.Template InvalidAtPixel)
 BreaksSymbolFields flags bytes (errors.Overflow SymbolCount) =
     (counts_place flags + 8 ≤ length bytes)
-    × ((1048576 < number_in w32 (counts_place flags) bytes) ⊎ (1048576 < number_in w32 (counts_place flags + 4) bytes))
+    × ((max_new_symbols < number_in w32 (counts_place flags) bytes) ⊎ (max_new_symbols < number_in w32 (counts_place flags + 4) bytes))
 BreaksSymbolFields flags bytes _ = ⊥
 
 abbrev pub BreaksSymbolHeader : List ℕ → DecodeError → Type 0
@@ -83,7 +83,7 @@ BreaksContexts flags kept _ = ⊥
 abbrev pub BreaksRunValue : ℕ → ℕ → Option ℤ → DecodeError → Type 0
 BreaksRunValue empty left value (errors.Huffman huffman.UnexpectedOob) = value ≡ None
 BreaksRunValue empty left value (errors.Huffman huffman.InvalidCode) = (n : ℕ) × (value ≡ Some (negsuc n))
-BreaksRunValue empty left value (errors.Symbol Invalid) = (value ≡ Some (pos 0)) × (1048576 ≤ empty)
+BreaksRunValue empty left value (errors.Symbol Invalid) = (value ≡ Some (pos 0)) × (max_empty ≤ empty)
 BreaksRunValue empty left value (errors.Symbol OutOfRange) = (run : ℕ) × (value ≡ Some (pos run)) × (left < run)
 BreaksRunValue empty left value _ = ⊥
 
@@ -174,7 +174,7 @@ BreaksTallClass d width height s e =
 
 -- A class without symbols (6.5.5, step 4), after 2^20 classes that had none.
 abbrev pub BreaksEmptyClass : ℕ → ℕ → DecodeError → Type 0
-BreaksEmptyClass count empty (errors.Symbol Invalid) = (count ≡ 0) × (1048576 ≤ empty)
+BreaksEmptyClass count empty (errors.Symbol Invalid) = (count ≡ 0) × (max_empty ≤ empty)
 BreaksEmptyClass count empty _ = ⊥
 
 -- A height class (6.5.6): the difference of its height is out of band, or the height isn't an unsigned number of 32

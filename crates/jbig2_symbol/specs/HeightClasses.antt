@@ -8,6 +8,7 @@ use Rattle.jbig2_base.specs.declared.error.DecodeError.{DecodeError}
 use Rattle.jbig2_base.specs.declared.error.OverflowError.TheVariants.{BitmapDimension}
 use Rattle.jbig2_base.specs.declared.error.SymbolError.TheVariants.{Invalid, TooManySymbols, UnexpectedOob}
 use Rattle.jbig2_text.specs.TextCoding.{in_band}
+use Rattle.jbig2_symbol.specs.SymbolHeader.{max_empty}
 use Rattle.jbig2_symbol.specs.SymbolReading.{ClassReadings, SymbolInput, SymbolReadings}
 use Rattle.jbig2_base.specs.declared.error.DecodeError.TheVariants as errors
 
@@ -28,7 +29,7 @@ width_by room width total (Some difference) = do
 
 -- a class without a symbol is refused if 2^20 empty ones came before (our own rule)
 abbrev pub empty_class : ℕ → ℕ → Result (Unit {0}) DecodeError
-empty_class symbols empty = refuse_if (symbols == 0 && nat_le 1048576 empty) (errors.Symbol Invalid)
+empty_class symbols empty = refuse_if (symbols == 0 && nat_le max_empty empty) (errors.Symbol Invalid)
 
 module _ {S : Type 0} (r : SymbolReadings S) (d : SymbolInput) where
   unfoldable pub next_width : ℕ → ℕ → ℕ → S → Result (Option (ℕ × ℕ) × S) DecodeError
@@ -88,4 +89,4 @@ module _ {S : Type 0} (r : ClassReadings S) (d : SymbolInput) where
       >>= λ (others, after). Ok (symbols ++ others, after))
 
   abbrev pub new_symbols : S → Result (List Grid × S) DecodeError
-  new_symbols s = classes_from (d.header.num_new_symbols + 1048576) 0 0 [] s
+  new_symbols s = classes_from (d.header.num_new_symbols + max_empty) 0 0 [] s

@@ -16,6 +16,12 @@ use Rattle.jbig2_symbol.specs.declared.header.HuffmanTableSelection.TheVariants.
 use Rattle.jbig2_symbol.specs.declared.header.HuffmanTableSelection.TheVariants.{TableB4, TableB5, UserSupplied}
 use Rattle.jbig2_symbol.specs.declared.header.SymbolDictionaryFlags.{SymbolDictionaryFlags}
 
+abbrev pub max_new_symbols : ℕ  -- how many symbols a dictionary may add, or export (our own rule)
+max_new_symbols = 1048576
+
+abbrev pub max_empty : ℕ  -- how many height classes, or runs of exports, may be empty (our own rule)
+max_empty = 1048576
+
 pub record SymbolHeader : Type 0 where  -- what is needed to decode a dictionary's coded bytes
   pub flags : SymbolDictionaryFlags
   pub adaptive_template_pixels : List AdaptiveTemplatePixel
@@ -72,7 +78,7 @@ symbol_header_at strict bytes = do
   (refined, after_refined) ← refined_pixels_at flags after_pixels
   (exported, after_exported) ← number_at w32 after_refined
   (fresh, coded) ← number_at w32 after_exported
-  few ← refuse_if (nat_lt 1048576 exported || nat_lt 1048576 fresh) (Overflow SymbolCount)
+  few ← refuse_if (nat_lt max_new_symbols exported || nat_lt max_new_symbols fresh) (Overflow SymbolCount)
   Ok (
     record {
       flags = flags;

@@ -13,7 +13,7 @@ use Rattle.jbig2_coder.specs.PrefixCode.{Member}
 use Rattle.jbig2_symbol.specs.SymbolBitmaps.{id_codes}
 use Rattle.jbig2_symbol.specs.HeightClasses.{new_symbols}
 use Rattle.jbig2_symbol.specs.SymbolCoding.{classes_by_coder, classes_by_prefix_codes, coder_start, prefix_codes_start}
-use Rattle.jbig2_symbol.specs.SymbolHeader.{SymbolHeader}
+use Rattle.jbig2_symbol.specs.SymbolHeader.{SymbolHeader, max_empty}
 use Rattle.jbig2_symbol.specs.SymbolReading.{BitmapContexts, ClassReadings, SymbolContexts, SymbolInput, SymbolState}
 use Rattle.jbig2_symbol.specs.SymbolReading.{first_contexts, bitmap_contexts, symbol_tables, not_negative}
 use Rattle.jbig2_text.specs.TextCoding.{in_band}
@@ -43,7 +43,7 @@ module _ {S : Type 0} (r : ClassReadings S) (d : SymbolInput) where
     (value, after) ← r.export_run d s
     number ← in_band (Huffman UnexpectedOob) value
     run ← not_negative (Huffman InvalidCode) number
-    few ← refuse_if (run == 0 && nat_le 1048576 empty) (Symbol Invalid)
+    few ← refuse_if (run == 0 && nat_le max_empty empty) (Symbol Invalid)
     within ← refuse_if (nat_lt left run) (Symbol OutOfRange)
     Ok (run, after)
 
@@ -58,7 +58,7 @@ module _ {S : Type 0} (r : ClassReadings S) (d : SymbolInput) where
       >>= λ (others, after). Ok (run ∷ others, after))
 
   abbrev pub export_runs : ℕ → S → Result (List ℕ × S) DecodeError
-  export_runs count s = runs_from (count + 1048576) 0 count s
+  export_runs count s = runs_from (count + max_empty) 0 count s
 
   -- The exported symbols among all of these. Their number must be the one in the header (our own rule).
   unfoldable pub exports : List Grid → S → Result (List Grid × S) DecodeError

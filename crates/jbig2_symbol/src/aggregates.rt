@@ -2,7 +2,9 @@
 ghost use Rattle.std.specs.Prelude.{◌≡◌, ◌+◌, ◌*◌, ◌≤◌, length, max};
 ghost use Rattle.jbig2_base.specs.Results.{Returns, Gives};
 ghost use Rattle.jbig2_steps.specs.Work.{Paid, PaidBut};
+ghost use Rattle.jbig2_text.specs.SymbolCodes.{max_symbols};
 ghost use Rattle.jbig2_text.specs.Paying.{number_steps};
+ghost use Rattle.jbig2_symbol.specs.SymbolHeader.{max_new_symbols};
 ghost use Rattle.jbig2_symbol.specs.SymbolBitmaps.{aggregate_flags, aggregate_params, id_bits, id_codes, put_together, refined_alone, some_instances, state_bits};
 ghost use Rattle.jbig2_base.specs.Causes.{HasCauseOrNoMemory};
 ghost use Rattle.jbig2_symbol.specs.Causes.{BreaksIdCodes};
@@ -32,8 +34,8 @@ pub struct SymbolSize {
 
 /// The number of bits of a symbol's id. It is enough for all symbols, also the new ones.
 pub fn id_bits(header: &SymbolDictionaryHeader<'_>, symbols: usize) -> u32
-    requires symbols { symbols ≤ 2097152 }
-    requires fresh { header.now.num_new_symbols ≤ 1048576 }
+    requires symbols { symbols ≤ max_symbols }
+    requires fresh { header.now.num_new_symbols ≤ max_new_symbols }
     ensures value { result ≡ id_bits (header_view header.now) symbols }
     ensures small { result ≤ 30 }
 {
@@ -42,8 +44,8 @@ pub fn id_bits(header: &SymbolDictionaryHeader<'_>, symbols: usize) -> u32
 
 /// The number of bits of the ids that a dictionary's coder reads; 0 without SDREFAGG.
 pub fn state_bits(header: &SymbolDictionaryHeader<'_>, symbols: usize) -> u32
-    requires symbols { symbols ≤ 2097152 }
-    requires fresh { header.now.num_new_symbols ≤ 1048576 }
+    requires symbols { symbols ≤ max_symbols }
+    requires fresh { header.now.num_new_symbols ≤ max_new_symbols }
     ensures value { result ≡ state_bits (header_view header.now) symbols }
     ensures small { result ≤ 30 }
 {
@@ -61,8 +63,8 @@ pub fn id_codes<A: Allocator + Clone>(
     header: &SymbolDictionaryHeader<'_>,
     symbols: usize,
 ) -> Result<HuffmanTable<A>>
-    requires symbols { symbols ≤ 2097152 }
-    requires fresh { header.now.num_new_symbols ≤ 1048576 }
+    requires symbols { symbols ≤ max_symbols }
+    requires fresh { header.now.num_new_symbols ≤ max_new_symbols }
     ensures value { Gives (λ codes. codes) result (id_codes (header_view header.now) symbols) }
     ensures causes { HasCauseOrNoMemory result (BreaksIdCodes (header_view header.now) symbols) }
 {

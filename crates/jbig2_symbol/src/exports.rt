@@ -5,6 +5,7 @@ ghost use Rattle.jbig2_base.specs.Grid.{blank};
 ghost use Rattle.jbig2_base.specs.Causes.{HasCauseOrNoMemory};
 ghost use Rattle.jbig2_steps.specs.Work.{Paid, PaidBut};
 ghost use Rattle.jbig2_text.specs.Paying.{number_steps};
+ghost use Rattle.jbig2_symbol.specs.SymbolHeader.{max_empty};
 ghost use Rattle.jbig2_symbol.specs.Causes.{BreaksExports};
 ghost use Rattle.jbig2_symbol.specs.Symbols.{export_runs, exported, exports, next_run};
 ghost use Rattle.jbig2_symbol.specs.inner.JoinedRuns.{joined_runs};
@@ -37,7 +38,7 @@ fn read_run<R: ReadClasses<A>, A: Allocator + Clone, L: Ledger>(
         let meant = next_run R.readings d empty left (R.state readings.old) in
         Returns (λ run. (run, R.state readings.new)) result meant }
     ensures within { IfOk result (λ run. run ≤ left) }
-    ensures few { IfOk result (λ run. run ≡ 0 → empty < 1048576) }
+    ensures few { IfOk result (λ run. run ≡ 0 → empty < max_empty) }
     ensures paid { PaidBut (number_steps 1) work.old work.new }
 {
     let Some(number) = readings.export_run(input, work)? else {

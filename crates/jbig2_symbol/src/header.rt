@@ -4,7 +4,7 @@ ghost use Rattle.jbig2_base.specs.Results.{Returns};
 ghost use Rattle.jbig2_base.specs.Bits.{IsAligned};
 ghost use Rattle.jbig2_region.specs.inner.PixelArrays.{filled};
 ghost use Rattle.jbig2_text.specs.inner.TextViews.{some_pixels};
-ghost use Rattle.jbig2_symbol.specs.SymbolHeader.{selection_of, other_selection_of, symbol_flags_of, coded_pixels_at, refined_pixels_at, symbol_header_at};
+ghost use Rattle.jbig2_symbol.specs.SymbolHeader.{selection_of, other_selection_of, symbol_flags_of, coded_pixels_at, refined_pixels_at, symbol_header_at, max_new_symbols};
 ghost use Rattle.jbig2_symbol.specs.declared.header.HuffmanTableSelection.TheVariants.{TableB2, TableB3, TableB4, TableB5};
 ghost use Rattle.jbig2_symbol.specs.inner.HeaderViews.{coded_pixels, header_view, refined_pixels};
 ghost use Rattle.jbig2_base.specs.Causes.{HasCause};
@@ -202,8 +202,8 @@ pub fn parse<'a>(reader: &mut Reader<'a>, strict: bool) -> Result<SymbolDictiona
     ensures value { let meant = symbol_header_at strict reader.old.bytes in
         Returns (λ h. (header_view h, reader.new.bytes)) result meant }
     ensures aligned { IsAligned reader.new }
-    ensures exported { IfOk result (λ h. h.num_exported_symbols ≤ 1048576) }
-    ensures fresh { IfOk result (λ h. h.num_new_symbols ≤ 1048576) }
+    ensures exported { IfOk result (λ h. h.num_exported_symbols ≤ max_new_symbols) }
+    ensures fresh { IfOk result (λ h. h.num_new_symbols ≤ max_new_symbols) }
     ensures unused { IfOk result (λ h. h.adaptive_template_pixels
         ≡ filled 4 (header_view h).adaptive_template_pixels) }
     ensures unrefined { IfOk result (λ h. h.refinement_at_pixels

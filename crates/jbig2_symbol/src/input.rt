@@ -1,5 +1,7 @@
 //! What is needed to decode a symbol dictionary (T.88, 6.5).
 ghost use Rattle.std.specs.Prelude.{◌≤◌, length};
+ghost use Rattle.jbig2_text.specs.SymbolCodes.{max_symbols};
+ghost use Rattle.jbig2_symbol.specs.SymbolHeader.{max_new_symbols};
 
 use crate::header::SymbolDictionaryHeader;
 use jbig2_base::bitmap::Bitmap;
@@ -26,6 +28,6 @@ pub struct SymbolInput<'a, A: Allocator> {
     /// The codes of the ids in symbols that are aggregated from others.
     pub ids: &'a HuffmanTable<A>,
     pub standard: &'a StandardHuffmanTables<A>,
-    ghost few: { length symbols.now ≤ 2097152 },
-    ghost fresh: { header.now.num_new_symbols ≤ 1048576 },
+    ghost few: { length symbols.now ≤ max_symbols },
+    ghost fresh: { header.now.num_new_symbols ≤ max_new_symbols },
 }

@@ -4,7 +4,9 @@
 ghost use Rattle.std.specs.Prelude.{◌≡◌, ◌*◌, ◌≤◌, length, map};
 ghost use Rattle.jbig2_base.specs.Results.{Gives};
 ghost use Rattle.jbig2_steps.specs.Work.{PaidBut};
+ghost use Rattle.jbig2_text.specs.SymbolCodes.{max_symbols};
 ghost use Rattle.jbig2_text.specs.Paying.{number_steps};
+ghost use Rattle.jbig2_symbol.specs.SymbolHeader.{max_new_symbols};
 ghost use Rattle.jbig2_symbol.specs.inner.HeaderViews.{contexts_view, header_view};
 ghost use Rattle.jbig2_coder.specs.inner.TableViews.{customs_view};
 ghost use Rattle.jbig2_symbol.specs.inner.SymbolViews.{dictionary_view, input_view, kept_view};
@@ -120,8 +122,8 @@ pub fn decode<A: Allocator + Clone, L: Ledger>(
     retained_contexts: Option<&RetainedContexts<A>>,
     work: &mut Work<L>,
 ) -> Result<SymbolDictionary<A>>
-    requires few { length symbols.now ≤ 2097152 }
-    requires fresh { header.now.num_new_symbols ≤ 1048576 }
+    requires few { length symbols.now ≤ max_symbols }
+    requires fresh { header.now.num_new_symbols ≤ max_new_symbols }
     ensures value { let h = header_view header.now in
         let grids = map (λ b. b.now) symbols.now in
         let referred = customs_view referred_tables.now in

@@ -3,6 +3,7 @@ ghost use Rattle.std.specs.Prelude.{◌≡◌, ◌≤◌, ◌%◌, ◌^◌, IfOk
 ghost use Rattle.jbig2_base.specs.Results.{Returns, Gives};
 ghost use Rattle.jbig2_base.specs.Bits.{IsAligned};
 ghost use Rattle.jbig2_region.specs.inner.PixelArrays.{filled};
+ghost use Rattle.jbig2_text.specs.SymbolCodes.{max_symbols};
 ghost use Rattle.jbig2_text.specs.declared.header.TextFields.{TextFields};
 ghost use Rattle.jbig2_text.specs.TextHeader.{corner_of, signed_5, text_flags_at, table_numbers, table_numbers_at, text_fields_at, coding_at, text_header_at};
 ghost use Rattle.jbig2_text.specs.inner.TextViews.{coding_view, header_view, text_pixels};
@@ -238,7 +239,7 @@ fn parse_coding<A: Allocator + Clone>(
     num_symbols: u32,
 ) -> Result<TextRegionCoding<A>>
     requires aligned { IsAligned reader.old }
-    requires few { num_symbols ≤ 2 ^ 21 }
+    requires few { num_symbols ≤ max_symbols }
     ensures value { let meant = coding_at table_numbers num_symbols reader.old.bytes in
         Gives (λ c. (coding_view c, reader.new.bytes)) result meant }
     ensures aligned { OnOk result (IsAligned reader.new) }
@@ -266,7 +267,7 @@ pub fn parse<'a, A: Allocator + Clone>(
     strict: bool,
 ) -> Result<TextRegionHeader<'a, A>>
     requires aligned { IsAligned reader.old }
-    requires few { num_symbols ≤ 2 ^ 21 }
+    requires few { num_symbols ≤ max_symbols }
     ensures value { let meant = text_header_at num_symbols strict reader.old.bytes in
         Gives (λ h. (header_view h, reader.new.bytes)) result meant }
     ensures aligned { IsAligned reader.new }

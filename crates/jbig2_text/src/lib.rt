@@ -5,6 +5,7 @@ ghost use Rattle.std.specs.Prelude.{◌≡◌, ◌≤◌, ◌^◌, length, Ok, O
 ghost use Rattle.jbig2_base.specs.Results.{Returns, Gives};
 ghost use Rattle.jbig2_base.specs.Grid.{blank};
 ghost use Rattle.jbig2_steps.specs.Work.{Paid, PaidBut};
+ghost use Rattle.jbig2_text.specs.SymbolCodes.{max_symbols};
 ghost use Rattle.jbig2_text.specs.Paying.{number_steps};
 ghost use Rattle.jbig2_region.specs.inner.RegionViews.{region_view};
 ghost use Rattle.jbig2_text.specs.inner.TextViews.{some_pixels, header_view, text_pixels, coded_view, params_view, prefixed_view, symbols_view};
@@ -100,7 +101,7 @@ fn start_coded<'a, A: Allocator + Clone>(
     header: &TextRegionHeader<'a, A>,
     symbols: &[&Bitmap<A>],
 ) -> Result<CodedReadings<'a, A>>
-    requires { length symbols.now ≤ 2 ^ 21 }
+    requires { length symbols.now ≤ max_symbols }
     ensures { let meant = coder_of (header_view header.now) (symbols_view symbols.now) in
         Gives (λ r. coded_view r) result (Ok meant) }
 {
@@ -176,7 +177,7 @@ pub fn decode_into<A: Allocator + Clone, L: Ledger>(
     work: &mut Work<L>,
 ) -> Result<()>
     requires strips { header.now.flags.log_strip_size ≤ 3 }
-    requires few { length symbols.now ≤ 2 ^ 21 }
+    requires few { length symbols.now ≤ max_symbols }
     requires coloured { let info = header.now.region_info in
         bitmap.old ≡ blank info.width info.height header.now.flags.default_pixel }
     ensures value { let customs = customs_view referred_tables.now in
@@ -220,7 +221,7 @@ pub fn decode<A: Allocator + Clone, L: Ledger>(
     work: &mut Work<L>,
 ) -> Result<DecodedRegion<A>>
     requires strips { header.now.flags.log_strip_size ≤ 3 }
-    requires few { length symbols.now ≤ 2 ^ 21 }
+    requires few { length symbols.now ≤ max_symbols }
     ensures value { let customs = customs_view referred_tables.now in
         let meant = text_decoded (header_view header.now) (symbols_view symbols.now) customs in
         Gives (λ region. region_view region) result meant }

@@ -3,7 +3,7 @@ ghost use Rattle.std.specs.Prelude.{◌≡◌, ◌≤◌, ◌^◌, ◌++◌, [],
 ghost use Rattle.jbig2_base.specs.Results.{Gives};
 ghost use Rattle.jbig2_base.specs.Bits.{IsAligned, start_of};
 ghost use Rattle.jbig2_coder.specs.PrefixCode.{AreShort, table_of};
-ghost use Rattle.jbig2_text.specs.SymbolCodes.{invalid_code, lines_from, short_lengths, repeated, run_at, next_runcode, runs_at, runcodes_at, symbol_lengths_at, symbol_codes_at, symbol_codes_from};
+ghost use Rattle.jbig2_text.specs.SymbolCodes.{invalid_code, lines_from, short_lengths, repeated, run_at, next_runcode, runs_at, runcodes_at, symbol_lengths_at, symbol_codes_at, symbol_codes_from, max_symbols};
 ghost use Rattle.jbig2_base.specs.Causes.{HasCauseOrNoMemory};
 ghost use Rattle.jbig2_text.specs.Causes.{BreaksSymbolCodes};
 
@@ -64,7 +64,7 @@ fn read_short_lengths<A: Allocator>(alloc: A, reader: &mut Reader<'_>) -> Result
 
 /// Adds this many times a length.
 fn push_lengths<A: Allocator>(lengths: &mut Vec<u8, A>, value: u8, count: u32) -> Result<()>
-    requires { length lengths.old.items ≤ 2 ^ 21 }
+    requires { length lengths.old.items ≤ max_symbols }
     ensures { let meant = Ok (lengths.old.items ++ replicate count value) in
         Gives (λ _. lengths.new.items) result meant }
 {
@@ -75,7 +75,7 @@ fn push_lengths<A: Allocator>(lengths: &mut Vec<u8, A>, value: u8, count: u32) -
 
 /// Adds this many times the last length.
 fn repeat_last<A: Allocator>(lengths: &mut Vec<u8, A>, count: u32) -> Result<()>
-    requires { length lengths.old.items ≤ 2 ^ 21 }
+    requires { length lengths.old.items ≤ max_symbols }
     ensures { Gives (λ _. lengths.new.items) result (repeated lengths.old.items count) }
 {
     let Some(last) = lengths.last() else {
@@ -91,7 +91,7 @@ fn push_run<A: Allocator>(
     reader: &mut Reader<'_>,
     lengths: &mut Vec<u8, A>,
 ) -> Result<()>
-    requires { length lengths.old.items ≤ 2 ^ 21 }
+    requires { length lengths.old.items ≤ max_symbols }
     ensures { let meant = run_at runcode lengths.old.items reader.old in
         Gives (λ _. (lengths.new.items, reader.new)) result meant }
 {
@@ -120,7 +120,7 @@ fn read_run<A: Allocator>(
     reader: &mut Reader<'_>,
     lengths: &mut Vec<u8, A>,
 ) -> Result<()>
-    requires { length lengths.old.items ≤ 2 ^ 21 }
+    requires { length lengths.old.items ≤ max_symbols }
     ensures { let meant = next_runcode runcodes.now lengths.old.items reader.old in
         Gives (λ _. (lengths.new.items, reader.new)) result meant }
 {
@@ -144,7 +144,7 @@ fn read_lengths<A: Allocator>(
     runcodes: &HuffmanTable<A>,
     reader: &mut Reader<'_>,
 ) -> Result<Vec<u8, A>>
-    requires { count ≤ 2 ^ 21 }
+    requires { count ≤ max_symbols }
     ensures { let meant = runs_at count count runcodes.now [] reader.old in
         Gives (λ lens. (lens.items, reader.new)) result meant }
 {
@@ -170,7 +170,7 @@ fn read_symbol_lengths<A: Allocator>(
     runcodes: &HuffmanTable<A>,
     reader: &mut Reader<'_>,
 ) -> Result<Vec<u8, A>>
-    requires { count ≤ 2 ^ 21 }
+    requires { count ≤ max_symbols }
     ensures value { let meant = symbol_lengths_at count runcodes.now reader.old in
         Gives (λ lens. (lens.items, reader.new)) result meant }
     ensures few { IfOk result (λ lens. length lens.items ≤ count) }
@@ -189,7 +189,7 @@ fn read_symbol_codes<A: Allocator + Clone>(
     reader: &mut Reader<'_>,
     count: u32,
 ) -> Result<HuffmanTable<A>>
-    requires { count ≤ 2 ^ 21 }
+    requires { count ≤ max_symbols }
     ensures value { let meant = symbol_codes_from count reader.old in
         Gives (λ table. (table, reader.new)) result meant }
     ensures aligned { OnOk result (IsAligned reader.new) }
@@ -213,7 +213,7 @@ pub fn parse_symbol_codes<A: Allocator + Clone>(
     count: u32,
 ) -> Result<HuffmanTable<A>>
     requires aligned { IsAligned reader.old }
-    requires few { count ≤ 2 ^ 21 }
+    requires few { count ≤ max_symbols }
     ensures value { let meant = symbol_codes_at count reader.old.bytes in
         Gives (λ table. (table, reader.new.bytes)) result meant }
     ensures aligned { OnOk result (IsAligned reader.new) }

@@ -2,6 +2,7 @@
 ghost use Rattle.std.specs.Prelude.{◌≡◌, ◌≤◌, ◌+◌, ◌*◌, ◌++◌, length, map, Ok, OnOk, IfErr, IfOk};
 ghost use Rattle.jbig2_base.specs.Results.{Gives};
 ghost use Rattle.jbig2_base.specs.Causes.{HasCauseOrNoMemory};
+ghost use Rattle.jbig2_symbol.specs.SymbolHeader.{max_new_symbols};
 ghost use Rattle.hayro_jbig2.specs.Causes.{BreaksReferred};
 ghost use Rattle.hayro_jbig2.specs.Names.{with_dictionary, with_table, with_number, with_numbers, referred_by};
 ghost use Rattle.hayro_jbig2.specs.inner.KeptViews.{found, symbols_view};
@@ -46,7 +47,7 @@ impl<'a, A: Allocator> Model for ReferredSegments<'a, A> {
       kept = kept_view r.retained_contexts;
     } };
 
-    ghost invariant = { λ r. length r.symbols.items ≤ 1048576 };
+    ghost invariant = { λ r. length r.symbols.items ≤ max_new_symbols };
 }
 
 fn push_symbols<'a, A: Allocator>(
