@@ -43,7 +43,7 @@ differ true b = not b
 differ false b = b
 
 abbrev pub max_side : ℕ  -- no bitmap that is asked for by its sides has a longer one (our own rule)
-max_side = max_side
+max_side = 65535
 
 abbrev pub check_sides : ℕ → ℕ → Result (Unit {0}) DecodeError
 check_sides width height = refuse_if (nat_lt max_side width || nat_lt max_side height) (Overflow BitmapDimension)
