@@ -1,10 +1,11 @@
 //! Files of pages (T.88, Annex D): a file's segments, sorted into its pages.
-ghost use Rattle.std.specs.Prelude.{◌≡◌, ◌++◌, ℕ, Ok, OnOk, IfErr, length, slice_get};
+ghost use Rattle.std.specs.Prelude.{◌≡◌, ◌++◌, ◌*◌, ℕ, Ok, OnOk, IfErr, IfOk, length, slice_get};
 ghost use Rattle.std.specs.Map.Iter.{GivesInOrder};
 ghost use Rattle.jbig2_base.specs.Results.{Returns, Gives};
 ghost use Rattle.jbig2_base.specs.inner.SegmentViews.{header_view, segment_views};
 ghost use Rattle.hayro_jbig2.specs.inner.ByPages.{pages_view};
-ghost use Rattle.hayro_jbig2.specs.Files.{needs_page, lacks_page, associated, is_end_of_page, ends_of, page_in_file, pages_in_file, left_out_of, miscounts, book_at, shared_by, page_of, pages_of, PagesStandAlone};
+ghost use Rattle.hayro_jbig2.specs.Files.{needs_page, lacks_page, associated, is_end_of_page, ends_of, page_in_file, pages_in_file, left_out_of, miscounts, book_at, shared_by, page_of, of_page, pages_of, PagesStandAlone};
+ghost use Rattle.jbig2_base.specs.File.{file_at};
 ghost use Rattle.jbig2_base.specs.Reading.{is_strict, reading_of};
 ghost use Rattle.jbig2_base.specs.declared.reading.Reading.TheVariants.{Salvage};
 ghost use Rattle.hayro_jbig2.specs.Names.{names_of};
@@ -13,7 +14,7 @@ ghost use Rattle.hayro_jbig2.specs.Page.{ReadPage};
 ghost use Rattle.hayro_jbig2.specs.Returned.{IsReturned};
 ghost use Rattle.hayro_jbig2.specs.inner.PageViews.{kept_names};
 ghost use Rattle.hayro_jbig2.specs.Causes.{BreaksBook};
-ghost use Rattle.hayro_jbig2.specs.WorkLimit.{Takes};
+ghost use Rattle.hayro_jbig2.specs.WorkLimit.{Takes, TakesShared, shared_count};
 ghost use Rattle.jbig2_base.specs.Causes.{HasCauseOrNoMemory};
 
 pub(crate) mod pages;
@@ -201,6 +202,8 @@ fn kept_globals<A: Allocator + Clone>(
     ensures value { Gives (λ kept. kept) result
         (Ok (shared_by reading pages.now (segment_views shared.now))) }
     ensures limit { Takes 0 work.old work.new }
+    ensures taken { IfOk result (λ kept. IfOk kept (λ _.
+        Takes (1024 * shared_count pages.now (segment_views shared.now)) work.old work.new)) }
 {
     if pages.is_empty() {
         return Ok(Ok(Globals::empty(alloc, None)?));
@@ -239,6 +242,8 @@ impl<'a, A: Allocator + Clone> File<'a, A> {
             (BreaksBook (reading_of settings.now.strict) bytes.now) }
         ensures errors { IfErr result IsReturned }
         ensures limit { Takes 0 work.old work.new }
+        ensures taken { let read = file_at (reading_of settings.now.strict) bytes.now in
+            IfOk result (λ file. TakesShared read file work.old work.new) }
     {
         File::read(alloc, bytes, settings.reading(), work)
     }
@@ -254,6 +259,8 @@ impl<'a, A: Allocator + Clone> File<'a, A> {
         ensures causes { HasCauseOrNoMemory result (BreaksBook Salvage bytes.now) }
         ensures errors { IfErr result IsReturned }
         ensures limit { Takes 0 work.old work.new }
+        ensures taken { let read = file_at Salvage bytes.now in
+            IfOk result (λ file. TakesShared read file work.old work.new) }
     {
         File::read(alloc, bytes, Reading::Salvage, work)
     }
@@ -270,6 +277,8 @@ impl<'a, A: Allocator + Clone> File<'a, A> {
         ensures causes { HasCauseOrNoMemory result (BreaksBook reading bytes.now) }
         ensures errors { IfErr result IsReturned }
         ensures limit { Takes 0 work.old work.new }
+        ensures taken { let read = file_at reading bytes.now in
+            IfOk result (λ file. TakesShared read file work.old work.new) }
     {
         let strict = reading.is_strict();
         let fault = file_fault(alloc.clone()?, bytes, reading)?;
