@@ -25,7 +25,9 @@ singles (b ∷ bs) = Pixel b ∷ singles bs
 
 -- A whole byte of one colour is joined with the chunk after it, if that has the same colour.
 abbrev pub with_whole : Bool → List Call → List Call
-with_whole black (Chunk other n ∷ calls) = if same_colour black other then Chunk black (n + 1) ∷ calls else Chunk black 1 ∷ (Chunk other n ∷ calls)
+with_whole black (Chunk other n ∷ calls) =
+    if same_colour black other then Chunk black (n + 1) ∷ calls
+    else Chunk black 1 ∷ (Chunk other n ∷ calls)
 with_whole black calls = Chunk black 1 ∷ calls
 
 abbrev pub with_byte : List Bool → List Call → List Call
@@ -54,7 +56,8 @@ calls_of g = flat_map (line_calls g) (range_with_len 0 g.height)
 abbrev pub rows_after : Option (List Bool) → List Call → List (List Bool)
 rows_after begun [] = option_to_list begun
 rows_after begun (Pixel black ∷ calls) = rows_after (Some (unwrap_or begun [] ++ black ∷ [])) calls
-rows_after begun (Chunk black bytes ∷ calls) = rows_after (Some (unwrap_or begun [] ++ replicate (8 * bytes) black)) calls
+rows_after begun (Chunk black bytes ∷ calls) =
+    rows_after (Some (unwrap_or begun [] ++ replicate (8 * bytes) black)) calls
 rows_after begun (Line ∷ calls) = unwrap_or begun [] ∷ rows_after None calls
 
 abbrev pub is_line : Call → Bool
@@ -72,7 +75,8 @@ pub record DrawsGrid (calls : List Call) (g : Grid) : Type 0 where
 abbrev pub ChunksFit : ℕ → ℕ → List Call → Type 0
 ChunksFit width x [] = Unit {0}
 ChunksFit width x (Pixel black ∷ calls) = ChunksFit width (x + 1) calls
-ChunksFit width x (Chunk black bytes ∷ calls) = (x % 8 ≡ 0) × (1 ≤ bytes) × (x + 8 * bytes ≤ width) × ChunksFit width (x + 8 * bytes) calls
+ChunksFit width x (Chunk black bytes ∷ calls) =
+    (x % 8 ≡ 0) × (1 ≤ bytes) × (x + 8 * bytes ≤ width) × ChunksFit width (x + 8 * bytes) calls
 ChunksFit width x (Line ∷ calls) = ChunksFit width 0 calls
 
 -- There is at most one call for each pixel, and one for each row.
@@ -88,41 +92,44 @@ pub record Conduct (S : Type 0) : Type 1 where
   pub refuses : Picture → Call → DecodeError → Type 0
   pub refusals : S → ℕ
 
-abbrev pub IsCountable : {S : Type 0} → Conduct S → S → Type 0
-IsCountable d s = d.refusals s < 2 ^ 64 - 1
-
--- One call: a refused one leaves the picture as it was, and returns an error that it may be refused with.
-abbrev pub Takes : {S : Type 0} → Conduct S → Call → Result (Unit {0}) DecodeError → S → S → Type 0
-Takes d call (Ok u) old new = (d.picture new ≡ d.step (d.picture old) call) × (d.refusals new ≡ d.refusals old)
-Takes d call (Err e) old new = (d.picture new ≡ d.picture old) × (d.refusals new ≡ d.refusals old + 1) × d.refuses (d.picture old) call e
-
 abbrev pub after_calls : {P : Type 0} → (P → Call → P) → P → List Call → P
 after_calls step p [] = p
 after_calls step p (call ∷ calls) = after_calls step (step p call) calls
 
-abbrev pub Makes : {S : Type 0} → Conduct S → List Call → S → S → Type 0  -- exactly these calls were made
-Makes d calls old new = (d.picture new ≡ after_calls d.step (d.picture old) calls) × (d.refusals new ≡ d.refusals old)
+module _ {S : Type 0} (d : Conduct S) where
+  abbrev pub IsCountable : S → Type 0
+  IsCountable s = d.refusals s < 2 ^ 64 - 1
 
--- The first calls of the list were made, and the call after them was refused with this error, the Decoder's own.
-pub record Stopped {S : Type 0} (d : Conduct S) (calls : List Call) (e : DecodeError) (old new : S) : Type 0 where
-  pub made : List Call
-  pub refused : Call
-  pub others : List Call
-  pub split : calls ≡ made ++ refused ∷ others
-  pub picture : d.picture new ≡ after_calls d.step (d.picture old) made
-  pub counted : d.refusals new ≡ d.refusals old + 1
-  pub own : d.refuses (d.picture new) refused e
+  -- One call: a refused one leaves the picture as it was, and returns an error that it may be refused with.
+  abbrev pub Takes : Call → Result (Unit {0}) DecodeError → S → S → Type 0
+  Takes call (Ok u) old new = (d.picture new ≡ d.step (d.picture old) call) × (d.refusals new ≡ d.refusals old)
+  Takes call (Err e) old new =
+      (d.picture new ≡ d.picture old) × (d.refusals new ≡ d.refusals old + 1) × d.refuses (d.picture old) call e
 
--- All of the calls were made, or one was refused, and its error is returned.
-abbrev pub Sends : {S : Type 0} → Conduct S → List Call → Result (Unit {0}) DecodeError → S → S → Type 0
-Sends d calls (Ok u) old new = Makes d calls old new
-Sends d calls (Err e) old new = Stopped d calls e old new
+  abbrev pub Makes : List Call → S → S → Type 0  -- exactly these calls were made
+  Makes calls old new =
+      (d.picture new ≡ after_calls d.step (d.picture old) calls) × (d.refusals new ≡ d.refusals old)
 
--- What decoding does, where the page's definition gives a grid or an error: it makes exactly the calls that draw the
--- grid, or returns that error and makes no call. Besides, the Decoder may refuse a call, or memory may run out before
--- any.
-abbrev pub Decodes : {S : Type 0} → Conduct S → Result Grid DecodeError → Result (Unit {0}) DecodeError → S → S → Type 0
-Decodes d (Ok g) (Ok u) old new = Makes d (calls_of g) old new
-Decodes d (Ok g) (Err e) old new = Stopped d (calls_of g) e old new ⊎ ((e ≡ OutOfMemory) × Makes d [] old new)
-Decodes d (Err f) (Ok u) old new = ⊥
-Decodes d (Err f) (Err e) old new = ((e ≡ f) ⊎ (e ≡ OutOfMemory)) × Makes d [] old new
+  -- The first calls of the list were made, and the call after them was refused with this error, the Decoder's own.
+  pub record Stopped (calls : List Call) (e : DecodeError) (old new : S) : Type 0 where
+    pub made : List Call
+    pub refused : Call
+    pub others : List Call
+    pub split : calls ≡ made ++ refused ∷ others
+    pub picture : d.picture new ≡ after_calls d.step (d.picture old) made
+    pub counted : d.refusals new ≡ d.refusals old + 1
+    pub own : d.refuses (d.picture new) refused e
+
+  -- All of the calls were made, or one was refused, and its error is returned.
+  abbrev pub Sends : List Call → Result (Unit {0}) DecodeError → S → S → Type 0
+  Sends calls (Ok u) old new = Makes calls old new
+  Sends calls (Err e) old new = Stopped calls e old new
+
+  -- What decoding does, where the page's definition gives a grid or an error: it makes exactly the calls that draw the
+  -- grid, or returns that error and makes no call. Besides, the Decoder may refuse a call, or memory may run out before
+  -- any.
+  abbrev pub Decodes : Result Grid DecodeError → Result (Unit {0}) DecodeError → S → S → Type 0
+  Decodes (Ok g) (Ok u) old new = Makes (calls_of g) old new
+  Decodes (Ok g) (Err e) old new = Stopped (calls_of g) e old new ⊎ ((e ≡ OutOfMemory) × Makes [] old new)
+  Decodes (Err f) (Ok u) old new = ⊥
+  Decodes (Err f) (Err e) old new = ((e ≡ f) ⊎ (e ≡ OutOfMemory)) × Makes [] old new

@@ -39,14 +39,19 @@ use Rattle.hayro_jbig2.specs.declared.kept.Kept.{Kept}
 -- other error is that of a page's beginning; salvage leaves out such a page instead.
 abbrev pub BreaksPages : Reading → FileHeader → List SegmentView → DecodeError → Type 0
 BreaksPages reading h ps (Segment MissingPageAssociation) =
-    IsTrue (is_strict reading) × Any (λ p. (p.header.page_association ≡ 0) × IsTrue (needs_page p.header.segment_type)) ps
-BreaksPages reading h ps (Format PageCountMismatch) = IsTrue (is_strict reading) × (told : ℕ) × (h.number_of_pages ≡ Some told) × (told ≢ length (by_pages ps))
-BreaksPages reading h ps (Format InvalidEndOfPage) = IsTrue (is_strict reading) × Any (λ own. ends_of own ≢ 1) (by_pages ps)
+    IsTrue (is_strict reading)
+    × Any (λ p. (p.header.page_association ≡ 0) × IsTrue (needs_page p.header.segment_type)) ps
+BreaksPages reading h ps (Format PageCountMismatch) =
+    IsTrue (is_strict reading)
+    × (told : ℕ) × (h.number_of_pages ≡ Some told) × (told ≢ length (by_pages ps))
+BreaksPages reading h ps (Format InvalidEndOfPage) =
+    IsTrue (is_strict reading) × Any (λ own. ends_of own ≢ 1) (by_pages ps)
 BreaksPages reading h ps e = IsFalse (is_salvaged reading e) × Any (λ own. BreaksInitialPage own e) (by_pages ps)
 
 -- A file whose bytes hold a header and segments. Where they don't, the calls that read those say why.
 abbrev pub BreaksBook : Reading → List ℕ → DecodeError → Type 0
-BreaksBook reading bytes e = InSteps (file_at reading bytes) (Unit {0}) (λ file. BreaksPages reading file.0 file.1 e)
+BreaksBook reading bytes e =
+    InSteps (file_at reading bytes) (Unit {0}) (λ (header, segments). BreaksPages reading header segments e)
 
 abbrev pub BreaksFirstPage : ReadFile → DecodeError → Type 0  -- the first page of a file that has none
 BreaksFirstPage book (Format MissingPageInfo) = book.pages ≡ []
@@ -58,7 +63,8 @@ abbrev pub BreaksReferred : Bool → Names → Names → List ℕ → DecodeErro
 BreaksReferred strict own shared numbers (Overflow SymbolCount) =
     max_new_symbols < length (flat_map (λ n. option_map_or (λ s. s.exported) (kept_of n own.symbols shared.symbols) []) numbers)
 BreaksReferred strict own shared numbers (Segment InvalidReference) =
-    IsTrue strict × Any (λ n. (kept_of n own.symbols shared.symbols ≡ None) × (kept_of n own.codes shared.codes ≡ None)) numbers
+    IsTrue strict
+    × Any (λ n. (kept_of n own.symbols shared.symbols ≡ None) × (kept_of n own.codes shared.codes ≡ None)) numbers
 BreaksReferred strict own shared numbers _ = ⊥
 
 -- The patterns of a halftone region: its first number names no pattern dictionary, or it has no number.
@@ -74,8 +80,8 @@ BreaksRefinement strict is_intermediate page regions p e =
     let reference = option_and_then (λ number. first_kept number regions) (slice_get numbers 0) in
     ((e ≡ Segment InvalidReference) × IsTrue strict × (reference ≡ None) × (IsTrue is_intermediate ⊎ (numbers ≢ [])))
     ⊎ BreaksRefinementHeader p.bytes e
-    ⊎ After (refinement_header_at p.bytes) (λ header.
-    BreaksOffset (unwrap_or reference (page_area page header.0.region_info)) header.0.region_info e)
+    ⊎ After (refinement_header_at p.bytes) (λ (header, rest).
+    BreaksOffset (unwrap_or reference (page_area page header.region_info)) header.region_info e)
 
 -- ---- extensions (7.4.14)
 -- Strict reading alone refuses an extension: one without a type, or one whose type has its highest bit set.
@@ -99,5 +105,6 @@ pub record ErrorsAreAnswered : Type 0 where
   pub globals : (reading : Reading) (bytes : List ℕ) → IfErr (globals_at reading bytes) IsAnswered
   pub page : (reading : Reading) (globals : Names) (bytes : List ℕ) → IfErr (embedded reading globals bytes) IsAnswered
   pub file : (reading : Reading) (bytes : List ℕ) → IfErr (book_at reading bytes) IsAnswered
-  pub file_globals : (reading : Reading) (bytes : List ℕ) → IfOk (book_at reading bytes) (λ book. IfErr book.globals IsAnswered)
+  pub file_globals : (reading : Reading) (bytes : List ℕ)
+      → IfOk (book_at reading bytes) (λ book. IfErr book.globals IsAnswered)
   pub drawing : (page : ReadPage) → IfErr page.globals IsAnswered → IfErr (drawing_of_page page) IsAnswered

@@ -47,7 +47,8 @@ lacks_page strict h = strict && h.page_association == 0 && needs_page h.segment_
 
 abbrev pub associated : Bool → List SegmentView → Result (Unit {0}) DecodeError
 associated strict [] = Ok tt
-associated strict (p ∷ ps) = if lacks_page strict p.header then Err (Segment MissingPageAssociation) else associated strict ps
+associated strict (p ∷ ps) =
+    if lacks_page strict p.header then Err (Segment MissingPageAssociation) else associated strict ps
 
 -- These numbers, and after them the other numbers of pages in the order in which they first occur. 0 is no page.
 abbrev pub numbers_after : List ℕ → List SegmentView → List ℕ
@@ -70,47 +71,56 @@ abbrev pub ends_of : List SegmentView → ℕ
 ends_of [] = 0
 ends_of (p ∷ ps) = (if is_end_of_page p.header.segment_type then 1 else 0) + ends_of ps
 
--- The page that these segments make up. Strict reading requires exactly one end of page (7.4.9).
-unfoldable pub page_in_file : Reading → List SegmentView → Result PageInFile DecodeError
-page_in_file reading own = do
-  ended ← refuse_if (is_strict reading && not (ends_of own == 1)) (Format InvalidEndOfPage)
-  initial_page ← beginning_of reading own
-  Ok (record { initial_page = initial_page; segments = own })
-
--- A page before the others. Salvage leaves out one whose beginning fails.
-abbrev pub before_pages : Reading → Result PageInFile DecodeError → Result (List PageInFile) DecodeError → Result (List PageInFile) DecodeError
-before_pages reading (Ok page) others = others >>= λ pages. Ok (page ∷ pages)
-before_pages reading (Err e) others = if is_salvaged reading e then others else Err e
-
-abbrev pub pages_in_file : Reading → List (List SegmentView) → Result (List PageInFile) DecodeError
-pages_in_file reading [] = Ok []
-pages_in_file reading (own ∷ others) = before_pages reading (page_in_file reading own) (pages_in_file reading others)
-
 abbrev pub error_of : {A : Type 0} → Result A DecodeError → List DecodeError
 error_of (Ok x) = []
 error_of (Err e) = e ∷ []
-
--- why pages are left out: an error for each
-abbrev pub left_out_of : Reading → List (List SegmentView) → List DecodeError
-left_out_of reading all = flat_map (λ own. error_of (page_in_file reading own)) all
 
 abbrev pub miscounts : Option ℕ → ℕ → Bool  -- the file's header gives another number of pages (D.4.3)
 miscounts None n = false
 miscounts (Some told) n = not (told == n)
 
--- What these pages share: the names that segments of no page keep. It is empty without pages, since nothing shows it.
-abbrev pub shared_by : Reading → List PageInFile → List SegmentView → Result Shared DecodeError
-shared_by reading [] shared = Ok (nothing_shared None)
-shared_by reading (page ∷ pages) shared = shared_from reading shared (nothing_shared None)
+module _ (reading : Reading) where
+  -- The page that these segments make up. Strict reading requires exactly one end of page (7.4.9).
+  unfoldable pub page_in_file : List SegmentView → Result PageInFile DecodeError
+  page_in_file own = do
+    ended ← refuse_if (is_strict reading && not (ends_of own == 1)) (Format InvalidEndOfPage)
+    initial_page ← beginning_of reading own
+    Ok (record { initial_page = initial_page; segments = own })
 
--- A file's pages, and what they share.
-unfoldable pub book_at : Reading → List ℕ → Result ReadFile DecodeError
-book_at reading bytes = do
-  file ← file_at reading bytes
-  known ← associated (is_strict reading) file.1
-  counted ← refuse_if (is_strict reading && miscounts file.0.number_of_pages (length (by_pages file.1))) (Format PageCountMismatch)
-  pages ← pages_in_file reading (by_pages file.1)
-  Ok (record { reading = reading; pages = pages; globals = shared_by reading pages (of_page 0 file.1); left_out = left_out_of reading (by_pages file.1); fault = fault_of reading (file_at Lenient bytes) })
+  -- A page before the others. Salvage leaves out one whose beginning fails.
+  abbrev pub before_pages : Result PageInFile DecodeError → Result (List PageInFile) DecodeError
+      → Result (List PageInFile) DecodeError
+  before_pages (Ok page) others = others >>= λ pages. Ok (page ∷ pages)
+  before_pages (Err e) others = if is_salvaged reading e then others else Err e
+
+  abbrev pub pages_in_file : List (List SegmentView) → Result (List PageInFile) DecodeError
+  pages_in_file [] = Ok []
+  pages_in_file (own ∷ others) = before_pages (page_in_file own) (pages_in_file others)
+
+  -- why pages are left out: an error for each
+  abbrev pub left_out_of : List (List SegmentView) → List DecodeError
+  left_out_of all = flat_map (λ own. error_of (page_in_file own)) all
+
+  -- What these pages share: the names that segments of no page keep. It is empty without pages, since nothing shows it.
+  abbrev pub shared_by : List PageInFile → List SegmentView → Result Shared DecodeError
+  shared_by [] shared = Ok (nothing_shared None)
+  shared_by (page ∷ pages) shared = shared_from reading shared (nothing_shared None)
+
+  -- A file's pages, and what they share.
+  unfoldable pub book_at : List ℕ → Result ReadFile DecodeError
+  book_at bytes = do
+    (header, segments) ← file_at reading bytes
+    known ← associated (is_strict reading) segments
+    let own = by_pages segments
+    counted ← refuse_if (is_strict reading && miscounts header.number_of_pages (length own)) (Format PageCountMismatch)
+    pages ← pages_in_file own
+    Ok (record {
+      reading = reading;
+      pages = pages;
+      globals = shared_by pages (of_page 0 segments);
+      left_out = left_out_of own;
+      fault = fault_of reading (file_at Lenient bytes);
+    })
 
 abbrev pub page_in : ReadFile → PageInFile → ReadPage
 page_in book page = record {
@@ -129,7 +139,15 @@ pages_of book = map (page_in book) book.pages
 
 -- Each page of a file depends only on the segments whose association is its number or 0, the reading and its fault.
 abbrev pub PagesStandAlone : Type 0
-PagesStandAlone = (reading : Reading) (bytes : List ℕ) (file : FileHeader × List SegmentView) (book : ReadFile) (index : ℕ) (page : ReadPage)
+PagesStandAlone = (reading : Reading) (bytes : List ℕ) (file : FileHeader × List SegmentView) (book : ReadFile)
+    (index : ℕ) (page : ReadPage)
     → file_at reading bytes ≡ Ok file → book_at reading bytes ≡ Ok book → page_of book index ≡ Some page
-    → let own = of_page page.initial_page.number file.1 in
-    (beginning_of reading own >>= λ begun. Ok (record { reading = reading; initial_page = begun; segments = own; globals = names_of (shared_from reading (of_page 0 file.1) (nothing_shared None)); fault = fault_of reading (file_at Lenient bytes) })) ≡ Ok page
+    → let segments = file.1 in
+    let own = of_page page.initial_page.number segments in
+    (beginning_of reading own >>= λ begun. Ok (record {
+      reading = reading;
+      initial_page = begun;
+      segments = own;
+      globals = names_of (shared_from reading (of_page 0 segments) (nothing_shared None));
+      fault = fault_of reading (file_at Lenient bytes);
+    })) ≡ Ok page

@@ -40,7 +40,8 @@ packed_byte g k y = value_of_bits (map (λ i. pixel_at g (8 * k + i) y) (range_w
 
 -- `count` bytes of all the packed rows, from the top, beginning with byte `start`.
 unfoldable pub packed_part : ℕ → Grid → ℕ → ℕ → List ℕ
-packed_part width g start count = map (λ n. packed_byte g (n % row_bytes width) (n / row_bytes width)) (range_with_len start count)
+packed_part width g start count =
+    map (λ n. packed_byte g (n % row_bytes width) (n / row_bytes width)) (range_with_len start count)
 
 unfoldable pub packed_of : ℕ → ℕ → Grid → List ℕ
 packed_of width height g = packed_part width g 0 (packed_size width height)
@@ -51,7 +52,8 @@ packed_of_page page = grid_of_page page >>= λ g. Ok (packed_of page.initial_pag
 -- The packed rows and the image agree: the bit of column x of row y has the shade that its byte in the image has.
 abbrev pub PackedBitsAreBytes : Type 0
 PackedBitsAreBytes = (width height : ℕ) (g : Grid) (x y : ℕ) → x < width → y < height
-    → slice_index (image_of width height g) (y * width + x) ≡ shade (bit (slice_index (packed_of width height g) (y * row_bytes width + x / 8)) (7 - x % 8))
+    → slice_index (image_of width height g) (y * width + x)
+    ≡ shade (bit (slice_index (packed_of width height g) (y * row_bytes width + x / 8)) (7 - x % 8))
 
 unfoldable pub first_page : List ℕ → Result ReadPage DecodeError  -- a file without pages has no page information
 first_page bytes = book_at Lenient bytes >>= λ book. some_or (Format MissingPageInfo) (page_of book 0)

@@ -26,11 +26,14 @@ IsSameUnder {A = A} one other read = IfOk (read one) (λ (x : A). read other ≡
 -- for the drawing of each. Drawings are equal as a whole: their grids, and what was passed over.
 pub record ReadingsAgree (one other : Reading) : Type 0 where
   pub globals : (bytes : List ℕ) → IsSameUnder one other (λ reading. globals_at reading bytes)
-  pub page : (names : Names) (bytes : List ℕ) → IsSameUnder one other (λ reading. embedded reading names bytes >>= λ page. Ok page.initial_page)
-  pub drawing : (names : Names) (bytes : List ℕ) → IsSameUnder one other (λ reading. embedded reading names bytes >>= λ page. drawing_of_page page)
+  pub page : (names : Names) (bytes : List ℕ) → IsSameUnder one other (λ reading.
+      embedded reading names bytes >>= λ page. Ok page.initial_page)
+  pub drawing : (names : Names) (bytes : List ℕ) → IsSameUnder one other (λ reading.
+      embedded reading names bytes >>= λ page. drawing_of_page page)
   pub pages : (bytes : List ℕ) → IsSameUnder one other (λ reading. book_at reading bytes >>= λ book. Ok book.pages)
   pub drawings : (bytes : List ℕ) (index : ℕ) → IsSameUnder one other (λ reading.
-      book_at reading bytes >>= λ book. some_or (Format MissingPageInfo) (page_of book index) >>= λ page. drawing_of_page page)
+      book_at reading bytes >>= λ book.
+      some_or (Format MissingPageInfo) (page_of book index) >>= λ page. drawing_of_page page)
 
 abbrev pub LenientReadingAgrees : Type 0
 LenientReadingAgrees = ReadingsAgree Strict Lenient
@@ -54,11 +57,14 @@ pub record HasBeginning (ps : List SegmentView) : Type 0 where
 -- each page whose globals weren't refused; the globals of a file never are.
 pub record SalvageRefusesLittle : Type 0 where
   pub globals : (bytes : List ℕ) → IsTrue (is_ok (globals_at Salvage bytes))
-  pub drawing : (page : ReadPage) → page.reading ≡ Salvage → IsTrue (is_ok page.globals) → IsTrue (is_ok (drawing_of_page page))
+  pub drawing : (page : ReadPage)
+      → page.reading ≡ Salvage → IsTrue (is_ok page.globals) → IsTrue (is_ok (drawing_of_page page))
   pub page : (names : Names) (bytes : List ℕ) (ps : List SegmentView)
-      → sorted_segments Salvage bytes ≡ Ok ps → HasBeginning ps → IsTrue (is_ok (embedded Salvage names bytes >>= λ page. drawing_of_page page))
+      → sorted_segments Salvage bytes ≡ Ok ps → HasBeginning ps
+      → IsTrue (is_ok (embedded Salvage names bytes >>= λ page. drawing_of_page page))
   pub file : (bytes : List ℕ) → IsTrue (is_ok (file_header_at bytes)) → IsTrue (is_ok (book_at Salvage bytes))
   pub pages : (bytes : List ℕ) (file : FileHeader × List SegmentView) (book : ReadFile) (n : ℕ)
-      → file_at Salvage bytes ≡ Ok file → book_at Salvage bytes ≡ Ok book → 1 ≤ n → HasBeginning (of_page n file.1) → Any (λ page. page.initial_page.number ≡ n) book.pages
+      → file_at Salvage bytes ≡ Ok file → book_at Salvage bytes ≡ Ok book → 1 ≤ n → HasBeginning (of_page n file.1)
+      → Any (λ page. page.initial_page.number ≡ n) book.pages
   pub drawings : (bytes : List ℕ) (book : ReadFile) (index : ℕ) (page : ReadPage)
       → book_at Salvage bytes ≡ Ok book → page_of book index ≡ Some page → IsTrue (is_ok (drawing_of_page page))

@@ -9,4 +9,5 @@ pub mod Order
 pub mod Page
 pub mod Regions
 pub mod Returned
+pub mod WorkLimit
 pub mod inner

@@ -68,27 +68,28 @@ abbrev pub with_table : Bool → Option (List Member) → Referred → Result Re
 with_table strict (Some code) r = Ok (record r { codes = r.codes ++ code ∷ [] })
 with_table strict None r = refuse_if strict (Segment InvalidReference) >>= λ known. Ok r
 
--- A number means a symbol dictionary if it names one, and else a custom table.
-abbrev pub with_number : Bool → Names → Names → ℕ → Referred → Result Referred DecodeError
-with_number strict own shared number r =
-    option_map_or (λ s. with_dictionary s r) (kept_of number own.symbols shared.symbols)
-    (with_table strict (kept_of number own.codes shared.codes) r)
+module _ (strict : Bool) (own shared : Names) where
+  -- A number means a symbol dictionary if it names one, and else a custom table.
+  abbrev pub with_number : ℕ → Referred → Result Referred DecodeError
+  with_number number r =
+      option_map_or (λ s. with_dictionary s r) (kept_of number own.symbols shared.symbols)
+      (with_table strict (kept_of number own.codes shared.codes) r)
 
-abbrev pub with_numbers : Bool → Names → Names → List ℕ → Referred → Result Referred DecodeError
-with_numbers strict own shared [] r = Ok r
-with_numbers strict own shared (number ∷ numbers) r = with_number strict own shared number r >>= λ more. with_numbers strict own shared numbers more
+  abbrev pub with_numbers : List ℕ → Referred → Result Referred DecodeError
+  with_numbers [] r = Ok r
+  with_numbers (number ∷ numbers) r = with_number number r >>= λ more. with_numbers numbers more
 
--- What a symbol dictionary or a text region refers to (7.3.1, 7.4.2.1.6, 7.4.3.1.6).
-abbrev pub referred_by : Bool → Names → Names → List ℕ → Result Referred DecodeError
-referred_by strict own shared numbers = with_numbers strict own shared numbers (record { symbols = []; codes = []; kept = None })
+  -- What a symbol dictionary or a text region refers to (7.3.1, 7.4.2.1.6, 7.4.3.1.6).
+  abbrev pub referred_by : List ℕ → Result Referred DecodeError
+  referred_by numbers = with_numbers numbers (record { symbols = []; codes = []; kept = None })
 
--- A symbol dictionary (7.4.2), after what it refers to. Only salvage passes over it where it fails. The same holds for
--- pattern dictionaries and custom tables.
-unfoldable pub symbol_dictionary_at : Bool → Names → Names → SegmentView → Result Symbols DecodeError
-symbol_dictionary_at strict own shared p = do
-  referred ← referred_by strict own shared p.header.referred_to_segments
-  header ← symbol_header_at strict p.bytes
-  symbols_decoded header.0 referred.symbols referred.codes referred.kept
+  -- A symbol dictionary (7.4.2), after what it refers to. Only salvage passes over it where it fails. The same holds
+  -- for pattern dictionaries and custom tables.
+  unfoldable pub symbol_dictionary_at : SegmentView → Result Symbols DecodeError
+  symbol_dictionary_at p = do
+    referred ← referred_by p.header.referred_to_segments
+    (header, rest) ← symbol_header_at strict p.bytes
+    symbols_decoded header referred.symbols referred.codes referred.kept
 
 unfoldable pub with_symbols : Bool → Names → SegmentView → Names → Result Names DecodeError
 with_symbols strict shared p own =
@@ -96,7 +97,7 @@ with_symbols strict shared p own =
     >>= λ symbols. Ok (record own { symbols = kept_under p.header.segment_number symbols own.symbols })
 
 unfoldable pub pattern_dictionary_at : Bool → List ℕ → Result Patterns DecodeError  -- a pattern dictionary (7.4.4)
-pattern_dictionary_at strict bytes = pattern_header_at strict bytes >>= λ header. patterns_decoded header.0
+pattern_dictionary_at strict bytes = pattern_header_at strict bytes >>= λ (header, rest). patterns_decoded header
 
 unfoldable pub with_patterns : Bool → SegmentView → Names → Result Names DecodeError
 with_patterns strict p own =
@@ -107,11 +108,12 @@ abbrev pub code_at : List ℕ → Result (List Member) DecodeError  -- a custom 
 code_at bytes = result_of (custom_table (start_of bytes))
 
 unfoldable pub with_code : SegmentView → Names → Result Names DecodeError
-with_code p own = code_at p.bytes >>= λ code. Ok (record own { codes = kept_under p.header.segment_number code own.codes })
+with_code p own =
+    code_at p.bytes >>= λ code. Ok (record own { codes = kept_under p.header.segment_number code own.codes })
 
 -- An extension (7.4.14): strict reading refuses one that a decoder must know.
 abbrev pub extension : Bool → List ℕ → Result (Unit {0}) DecodeError
-extension true bytes = number_at w32 bytes >>= λ kind. refuse_if (nat_le 2147483648 kind.0) Unsupported
+extension true bytes = number_at w32 bytes >>= λ (kind, rest). refuse_if (nat_le 2147483648 kind) Unsupported
 extension false bytes = Ok tt
 
 -- The names after a segment that draws nothing: one of a page, or one of the globals, for which `shared` is empty.
@@ -148,20 +150,24 @@ nothing_shared fault = record { names = no_names; passed_over = nothing_passed; 
 abbrev pub names_of : Result Shared DecodeError → Result Names DecodeError
 names_of shared = shared >>= λ s. Ok s.names
 
--- Salvage passes over a segment that fails. Nothing is kept under its number then.
-abbrev pub or_shared_without : Reading → ℕ → Shared → Result Names DecodeError → Result Shared DecodeError
-or_shared_without reading number shared (Ok names) = Ok (record shared { names = names })
-or_shared_without reading number shared (Err e) =
-    if is_salvaged reading e then Ok (record shared { passed_over = with_passed number e shared.passed_over }) else Err e
+module _ (reading : Reading) where
+  -- Salvage passes over a segment that fails. Nothing is kept under its number then.
+  abbrev pub or_shared_without : ℕ → Shared → Result Names DecodeError → Result Shared DecodeError
+  or_shared_without number shared (Ok names) = Ok (record shared { names = names })
+  or_shared_without number shared (Err e) =
+      if is_salvaged reading e then Ok (record shared { passed_over = with_passed number e shared.passed_over })
+      else Err e
 
--- Globals: segments that several pages share, kept separately from the pages, as in PDF. Each may refer to those before
--- it. Regions and page information among them have no effect.
-abbrev pub shared_from : Reading → List SegmentView → Shared → Result Shared DecodeError
-shared_from reading [] shared = Ok shared
-shared_from reading (p ∷ ps) shared =
-    or_shared_without reading p.header.segment_number shared (kept_by (is_strict reading) no_names p shared.names)
-    >>= λ more. shared_from reading ps more
+  -- Globals: segments that several pages share, kept separately from the pages, as in PDF. Each may refer to those
+  -- before it. Regions and page information among them have no effect.
+  abbrev pub shared_from : List SegmentView → Shared → Result Shared DecodeError
+  shared_from [] shared = Ok shared
+  shared_from (p ∷ ps) shared = do
+    more ← or_shared_without p.header.segment_number shared (kept_by (is_strict reading) no_names p shared.names)
+    shared_from ps more
 
--- The globals in these bytes: the segments lie one after the other, and are sorted before they are decoded.
-unfoldable pub globals_at : Reading → List ℕ → Result Shared DecodeError
-globals_at reading bytes = sorted_segments reading bytes >>= λ segments. shared_from reading segments (nothing_shared (fault_of reading (sequential Lenient bytes)))
+  -- The globals in these bytes: the segments lie one after the other, and are sorted before they are decoded.
+  unfoldable pub globals_at : List ℕ → Result Shared DecodeError
+  globals_at bytes = do
+    segments ← sorted_segments reading bytes
+    shared_from segments (nothing_shared (fault_of reading (sequential Lenient bytes)))

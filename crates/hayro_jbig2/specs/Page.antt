@@ -80,16 +80,13 @@ ends_page types.EndOfPage = true
 ends_page types.EndOfFile = true
 ends_page _ = false
 
-abbrev pub region_at : Bool → Names → RegionKind → Bool → SegmentView → Drawing → Result PlacedRegion DecodeError
-region_at strict globals kinds.Text is_intermediate p d = text_at strict d.names globals p
-region_at strict globals kinds.Halftone is_intermediate p d = halftone_at strict d.names globals p
-region_at strict globals kinds.Generic is_intermediate p d = generic_at strict is_intermediate p
-region_at strict globals kinds.GenericRefinement is_intermediate p d = refinement_at strict is_intermediate d.grid d.regions p
-
 -- An immediate region is combined with the page at its location, which is read as two signed numbers (7.4.1).
 abbrev pub shown : Drawing → Result PlacedRegion DecodeError → Result Drawing DecodeError
-shown d region =
-    region >>= λ r. Ok (record d { grid = combined r.combination_operator d.grid r.grid (cast_signed w32 r.x_location) (cast_signed w32 r.y_location); untouched = false })
+shown d region = do
+  r ← region
+  let x = cast_signed w32 r.x_location
+  let y = cast_signed w32 r.y_location
+  Ok (record d { grid = combined r.combination_operator d.grid r.grid x y; untouched = false })
 
 -- A segment that is passed over draws nothing, but it counts as a region that came before (our own rule).
 abbrev pub passing : ℕ → DecodeError → Drawing → Drawing
@@ -100,60 +97,83 @@ abbrev pub or_passed_over : Bool → ℕ → Drawing → Result Drawing DecodeEr
 or_passed_over strict number d (Ok e) = Ok e
 or_passed_over strict number d (Err e) = if strict then Err e else Ok (passing number e d)
 
-unfoldable pub immediate : Bool → Names → RegionKind → SegmentView → Drawing → Result Drawing DecodeError
-immediate strict globals kind p d =
-    or_passed_over strict p.header.segment_number d (shown d (region_at strict globals kind false p d))
-
 -- An intermediate region is kept under its segment's number.
 abbrev pub with_region : ℕ → Drawing → PlacedRegion → Drawing
 with_region number d region = record d { regions = kept_under number region d.regions }
-
-unfoldable pub intermediate : Bool → Names → RegionKind → SegmentView → Drawing → Result Drawing DecodeError
-intermediate strict globals kind p d =
-    region_at strict globals kind true p d >>= λ region. Ok (with_region p.header.segment_number d region)
 
 -- A segment that draws nothing changes only the names.
 abbrev pub with_names : Drawing → Result Names DecodeError → Result Drawing DecodeError
 with_names d kept = kept >>= λ names. Ok (record d { names = names })
 
--- One segment. These change nothing here: page information, stripes, profiles, palettes, types without a meaning, and
--- the ends of pages and files.
-abbrev pub segment_by : Bool → Names → SegmentView → Drawing → Result Drawing DecodeError
-segment_by strict globals p d = on (region_type p.header.segment_type)
-  where
-    on : Option (RegionKind × Bool) → Result Drawing DecodeError
-    on (Some (kind, true)) = intermediate strict globals kind p d
-    on (Some (kind, false)) = immediate strict globals kind p d
-    on None = with_names d (kept_by strict globals p d.names)
+module _ (strict : Bool) (globals : Names) where
+  abbrev pub region_at : RegionKind → Bool → SegmentView → Drawing → Result PlacedRegion DecodeError
+  region_at kinds.Text is_intermediate p d = text_at strict d.names globals p
+  region_at kinds.Halftone is_intermediate p d = halftone_at strict d.names globals p
+  region_at kinds.Generic is_intermediate p d = generic_at strict is_intermediate p
+  region_at kinds.GenericRefinement is_intermediate p d = refinement_at strict is_intermediate d.grid d.regions p
+
+  unfoldable pub immediate : RegionKind → SegmentView → Drawing → Result Drawing DecodeError
+  immediate kind p d = or_passed_over strict p.header.segment_number d (shown d (region_at kind false p d))
+
+  unfoldable pub intermediate : RegionKind → SegmentView → Drawing → Result Drawing DecodeError
+  intermediate kind p d = region_at kind true p d >>= λ region. Ok (with_region p.header.segment_number d region)
+
+  -- One segment. These change nothing here: page information, stripes, profiles, palettes, types without a meaning, and
+  -- the ends of pages and files.
+  abbrev pub segment_by : SegmentView → Drawing → Result Drawing DecodeError
+  segment_by p d = on (region_type p.header.segment_type)
+    where
+      on : Option (RegionKind × Bool) → Result Drawing DecodeError
+      on (Some (kind, true)) = intermediate kind p d
+      on (Some (kind, false)) = immediate kind p d
+      on None = with_names d (kept_by strict globals p d.names)
 
 -- Salvage passes over any segment that fails. Nothing is kept under its number then.
 abbrev pub or_left_out : Reading → ℕ → Drawing → Result Drawing DecodeError → Result Drawing DecodeError
 or_left_out reading number d (Ok e) = Ok e
 or_left_out reading number d (Err e) = if is_salvaged reading e then Ok (passing number e d) else Err e
 
-abbrev pub segment_on : Reading → Names → SegmentView → Drawing → Result Drawing DecodeError
-segment_on reading globals p d = or_left_out reading p.header.segment_number d (segment_by (is_strict reading) globals p d)
+module _ (reading : Reading) (globals : Names) where
+  abbrev pub segment_on : SegmentView → Drawing → Result Drawing DecodeError
+  segment_on p d =
+      or_left_out reading p.header.segment_number d (segment_by (is_strict reading) globals p d)
 
--- The segments in order, up to an end of page or an end of file.
-abbrev pub segments_drawn : Reading → Names → List SegmentView → Drawing → Result Drawing DecodeError
-segments_drawn reading globals [] d = Ok d
-segments_drawn reading globals (p ∷ ps) d = if ends_page p.header.segment_type then Ok d else (segment_on reading globals p d >>= λ e. segments_drawn reading globals ps e)
+  -- The segments in order, up to an end of page or an end of file.
+  abbrev pub segments_drawn : List SegmentView → Drawing → Result Drawing DecodeError
+  segments_drawn [] d = Ok d
+  segments_drawn (p ∷ ps) d =
+      if ends_page p.header.segment_type then Ok d else (segment_on p d >>= λ e. segments_drawn ps e)
 
 abbrev pub empty_drawing : Drawing  -- a page of no pixels
-empty_drawing = record { grid = blank 0 0 false; regions = []; names = no_names; untouched = true; passed_over = nothing_passed }
+empty_drawing = record {
+  grid = blank 0 0 false;
+  regions = [];
+  names = no_names;
+  untouched = true;
+  passed_over = nothing_passed;
+}
 
 abbrev pub blank_page : InitialPage → Drawing  -- the page before its first segment, all in its default pixel
-blank_page initial_page = record { grid = blank initial_page.width initial_page.height initial_page.default_pixel; regions = []; names = no_names; untouched = true; passed_over = nothing_passed }
+blank_page initial_page = record {
+  grid = blank initial_page.width initial_page.height initial_page.default_pixel;
+  regions = [];
+  names = no_names;
+  untouched = true;
+  passed_over = nothing_passed;
+}
 
 abbrev pub drawing_of_page : ReadPage → Result Drawing DecodeError
-drawing_of_page page = page.globals >>= λ globals. segments_drawn page.reading globals page.segments (blank_page page.initial_page)
+drawing_of_page page = do
+  globals ← page.globals
+  segments_drawn page.reading globals page.segments (blank_page page.initial_page)
 
 unfoldable pub grid_of_page : ReadPage → Result Grid DecodeError
 grid_of_page page = drawing_of_page page >>= λ d. Ok d.grid
 
 -- The row below the lowest row of a region at this place. The place's y is read as a signed number (7.4.1).
 abbrev pub end_of : RegionSegmentInfo → ℕ
-end_of info = if is_far info.y_location then info.height - (4294967296 - info.y_location) else info.y_location + info.height
+end_of info =
+    if is_far info.y_location then info.height - (4294967296 - info.y_location) else info.y_location + info.height
 
 -- How high a page is that ends with this region: an immediate one whose information can be read, and that isn't too
 -- large to be drawn. It is at most 65535, and 0 for any other segment.
@@ -161,7 +181,7 @@ abbrev pub region_height : SegmentView → ℕ
 region_height p = if is_immediate (region_type p.header.segment_type) then on (region_info_at p.bytes) else 0
   where
     on : Result (RegionSegmentInfo × List ℕ) DecodeError → ℕ
-    on (Ok info) = if nat_lt max_side info.0.width || nat_lt max_side info.0.height then 0 else min max_side (end_of info.0)
+    on (Ok (info, rest)) = if nat_lt max_side info.width || nat_lt max_side info.height then 0 else min max_side (end_of info)
     on (Err e) = 0
 
 abbrev pub regions_height : List SegmentView → ℕ
@@ -182,7 +202,13 @@ unfoldable pub embedded : Reading → Names → List ℕ → Result ReadPage Dec
 embedded reading globals bytes = do
   segments ← sorted_segments reading bytes
   initial_page ← beginning_of reading segments
-  Ok (record { reading = reading; initial_page = initial_page; segments = segments; globals = Ok globals; fault = fault_of reading (sequential Lenient bytes) })
+  Ok (record {
+    reading = reading;
+    initial_page = initial_page;
+    segments = segments;
+    globals = Ok globals;
+    fault = fault_of reading (sequential Lenient bytes);
+  })
 
 -- On a page that is all of this colour, the operator gives the region's own pixels.
 abbrev pub draws_over : CombinationOperator → Bool → Bool
@@ -194,7 +220,8 @@ draws_over Xnor black = black
 
 -- A page on which no immediate region was drawn is all of the colour that it began in.
 abbrev pub UntouchedIsBlank : Type 0
-UntouchedIsBlank = (reading : Reading) (globals : Names) (segments : List SegmentView) (initial_page : InitialPage) (d : Drawing)
+UntouchedIsBlank = (reading : Reading) (globals : Names) (segments : List SegmentView) (initial_page : InitialPage)
+    (d : Drawing)
     → segments_drawn reading globals segments (blank_page initial_page) ≡ Ok d → IsTrue d.untouched
     → d.grid ≡ blank initial_page.width initial_page.height initial_page.default_pixel
 
@@ -205,4 +232,5 @@ PagesKeepTheirSize = (page : ReadPage)
 
 -- Strict reading passes over nothing.
 abbrev pub StrictPassesNothing : Type 0
-StrictPassesNothing = (page : ReadPage) → IsTrue (is_strict page.reading) → IfOk (drawing_of_page page) (λ d. d.passed_over ≡ nothing_passed)
+StrictPassesNothing = (page : ReadPage) → IsTrue (is_strict page.reading)
+    → IfOk (drawing_of_page page) (λ d. d.passed_over ≡ nothing_passed)

@@ -25,8 +25,8 @@ use Rattle.hayro_jbig2.specs.declared.kept.Kept.{Kept}
 unfoldable pub text_at : Bool → Names → Names → SegmentView → Result PlacedRegion DecodeError
 text_at strict own shared p = do
   referred ← referred_by strict own shared p.header.referred_to_segments
-  header ← text_header_at (length referred.symbols) strict p.bytes
-  text_decoded header.0 referred.symbols referred.codes
+  (header, rest) ← text_header_at (length referred.symbols) strict p.bytes
+  text_decoded header referred.symbols referred.codes
 
 -- The pattern dictionary that the first of a halftone region's numbers names (7.4.5).
 abbrev pub patterns_for : Names → Names → List ℕ → Option Patterns
@@ -37,15 +37,15 @@ patterns_for own shared (number ∷ numbers) = kept_of number own.patterns share
 unfoldable pub halftone_at : Bool → Names → Names → SegmentView → Result PlacedRegion DecodeError
 halftone_at strict own shared p = do
   patterns ← some_or (Segment MissingPatternDictionary) (patterns_for own shared p.header.referred_to_segments)
-  header ← halftone_header_at strict p.bytes
-  halftone_decoded header.0 patterns
+  (header, rest) ← halftone_header_at strict p.bytes
+  halftone_decoded header patterns
 
 -- A generic region (7.4.6). Where an immediate one has an unknown length, its last four bytes are the number of its
 -- rows. An intermediate one is no special case: the row count stays in its data.
 unfoldable pub generic_at : Bool → Bool → SegmentView → Result PlacedRegion DecodeError
 generic_at strict is_intermediate p = do
-  header ← generic_header_at (not is_intermediate && is_none p.header.data_length) strict p.bytes
-  generic_decoded header.0
+  (header, rest) ← generic_header_at (not is_intermediate && is_none p.header.data_length) strict p.bytes
+  generic_decoded header
 
 -- The region that a refinement's first number names, if it has one. Strict reading refuses a number that names none.
 abbrev pub referred_region : Bool → List ℕ → List (Kept PlacedRegion) → Result (Option PlacedRegion) DecodeError
@@ -57,13 +57,19 @@ referred_region strict (number ∷ others) regions = do
 -- The area of the page that a region covers, white outside the page.
 abbrev pub page_area : Grid → RegionSegmentInfo → PlacedRegion
 page_area page info =
-    placed info (part_of page (record { left = info.x_location; top = info.y_location; width = info.width; height = info.height }))
+    placed info (part_of page (record {
+      left = info.x_location;
+      top = info.y_location;
+      width = info.width;
+      height = info.height;
+    }))
 
 -- A refinement (7.4.7) of the region that it refers to, or else of the page's area (7.4.7.4). Strict reading refuses an
 -- intermediate one that refers to no region.
-unfoldable pub refinement_at : Bool → Bool → Grid → List (Kept PlacedRegion) → SegmentView → Result PlacedRegion DecodeError
+unfoldable pub refinement_at : Bool → Bool → Grid → List (Kept PlacedRegion) → SegmentView
+    → Result PlacedRegion DecodeError
 refinement_at strict is_intermediate page regions p = do
   referred ← referred_region strict p.header.referred_to_segments regions
   known ← refuse_if (strict && is_intermediate && is_none referred) (Segment InvalidReference)
-  header ← refinement_header_at p.bytes
-  refined_decoded header.0 (unwrap_or referred (page_area page header.0.region_info))
+  (header, rest) ← refinement_header_at p.bytes
+  refined_decoded header (unwrap_or referred (page_area page header.region_info))

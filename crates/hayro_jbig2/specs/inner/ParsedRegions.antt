@@ -53,7 +53,10 @@ drawn (PageRefinement header area) = refined_result (refinements.header_view hea
 
 -- the grid at its place, unless a side of the region is too large
 abbrev pub placed_region : {A : Type 0} → ParsedRegion A → Result PlacedRegion DecodeError
-placed_region r = check_sides (info_of r).width (info_of r).height >>= λ fits. drawn r >>= λ g. Ok (placed (info_of r) g)
+placed_region r = do
+  fits ← check_sides (info_of r).width (info_of r).height
+  g ← drawn r
+  Ok (placed (info_of r) g)
 
 -- the limits of a halftone's grid
 pub record HasCells (header : HalftoneHeader) : Type 0 where
@@ -75,4 +78,10 @@ DecodesTo (Err e) meant = (e ≡ OutOfMemory) ⊎ (meant ≡ Err e)
 
 -- the page as the references see it
 abbrev pub drawing_of : {A : Type 0} → References A → Drawing
-drawing_of r = record { grid = r.page.now; regions = seen region_view r.regions.now; names = r.names.own.now; untouched = false; passed_over = nothing_passed }
+drawing_of r = record {
+  grid = r.page.now;
+  regions = seen region_view r.regions.now;
+  names = r.names.own.now;
+  untouched = false;
+  passed_over = nothing_passed;
+}

@@ -16,9 +16,9 @@ IsColourOf bits (Some black) = is_all black bits ≡ true
 -- the number of bytes of a run, if there is one
 abbrev pub bytes_of_run : Option (Bool × ℕ) → ℕ
 bytes_of_run None = 0
-bytes_of_run (Some run) = run.1
+bytes_of_run (Some (black, count)) = count
 
 -- Either the pixels begin with no byte of one colour, or with a run of whole bytes of one colour.
 abbrev pub IsRunAt : ℕ → List Bool → Option (Bool × ℕ) → Type 0
 IsRunAt n bits None = (run_of n true bits ≡ 0) × (run_of n false bits ≡ 0)
-IsRunAt n bits (Some run) = (run_of n run.0 bits ≡ run.1) × (0 < run.1) × (run.1 ≤ n)
+IsRunAt n bits (Some (black, count)) = (run_of n black bits ≡ count) × (0 < count) × (count ≤ n)

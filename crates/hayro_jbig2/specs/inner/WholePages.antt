@@ -18,7 +18,9 @@ pub record IsWhole (info : RegionSegmentInfo) (initial_pixel : Bool) (page : Gri
   pub columns : info.width ≤ max_side
   pub rows : info.height ≤ max_side
   pub coloured : page ≡ blank info.width info.height initial_pixel
-  pub over : (g : Grid) → IsTable g → g.width ≡ info.width → g.height ≡ info.height → combined info.combination_operator page g (cast_signed w32 info.x_location) (cast_signed w32 info.y_location) ≡ g
+  pub over : (g : Grid) → IsTable g → g.width ≡ info.width → g.height ≡ info.height
+      → combined info.combination_operator page g (cast_signed w32 info.x_location) (cast_signed w32 info.y_location)
+      ≡ g
 
 -- the drawing after any immediate region
 abbrev pub after_immediate : Drawing → Drawing

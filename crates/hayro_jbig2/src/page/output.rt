@@ -243,7 +243,7 @@ impl<'a, A: Allocator + Clone> Page<'a, A> {
         ensures paid { Paid work.old work.new }
         ensures ahead { let page = self.now.initial_page in
             let price = price_of_bitmap page.width page.height in
-            IfOk result (λ _. worth work.new + 32 * price ≤ worth work.old) }
+            IfOk result (λ _. worth work.new + 64 * price ≤ worth work.old) }
     {
         let _globals = &self.globals;
         let drawn = self.draw_onto(&mut context.canvas, work);
@@ -257,7 +257,7 @@ impl<'a, A: Allocator + Clone> Page<'a, A> {
         ensures paid { Paid work.old work.new }
         ensures ahead { let page = self.now.initial_page in
             let price = price_of_bitmap page.width page.height in
-            IfOk result (λ _. worth work.new + 32 * price ≤ worth work.old) }
+            IfOk result (λ _. worth work.new + 64 * price ≤ worth work.old) }
     {
         let mut canvas = Canvas::new(self.segments.as_vec().allocator().clone()?)?;
         self.draw_onto(&mut canvas, work)?;
@@ -347,7 +347,7 @@ impl<'a, A: Allocator + Clone> Page<'a, A> {
         ensures paid { Paid work.old work.new }
         ensures ahead { let page = self.now.initial_page in
             let price = price_of_bitmap page.width page.height in
-            IfOk result (λ _. worth work.new + 32 * price ≤ worth work.old) }
+            IfOk result (λ _. worth work.new + 64 * price ≤ worth work.old) }
     {
         match &self.globals {
             Ok(Some(globals)) => self.draw_with(globals.names(), canvas, work),
@@ -372,7 +372,7 @@ impl<'a, A: Allocator + Clone> Page<'a, A> {
         ensures paid { Paid work.old work.new }
         ensures ahead { let page = self.now.initial_page in
             let price = price_of_bitmap page.width page.height in
-            IfOk result (λ _. worth work.new + 32 * price ≤ worth work.old) }
+            IfOk result (λ _. worth work.new + 64 * price ≤ worth work.old) }
     {
         // One bitmap for clearing the page, one for handing it out.
         let (width, height) = self.dimensions();

@@ -4,7 +4,7 @@ use Rattle.std.specs.Prelude.{IfErr}
 use Rattle.hayro_jbig2.specs.Causes.{IsAnswered}
 use Rattle.hayro_jbig2.proofs.Answering.{grid-returned}
 use Rattle.jbig2_base.proofs.Prices.{price-same}
-use Rattle.jbig2_steps.proofs.WorkLemmas.{paid-limit}
+use Rattle.jbig2_steps.proofs.WorkLemmas.{counts-worth, paid-limit}
 use Rattle.hayro_jbig2.specs.Page.{ReadPage}
 use Rattle.hayro_jbig2.proofs.Paying.{counts-paid}
 use Rattle.hayro_jbig2.proofs.page.Page.read_within.Goals as goal
@@ -18,6 +18,14 @@ returns-clause-paid g c =
     let inside = c.self.inside.initial_page in
     let same = price-same inside.width page.width inside.height page.height (ap (λ (p : ReadPage). p.initial_page.width) c.self.view_is) (ap (λ (p : ReadPage). p.initial_page.height) c.self.view_is) in
     counts-paid c.args.work.now c.drawn.new.work c.write_image.new.steps _ (omega (arith, c.in_ok-canvas.ensures.ahead, same)) c.write_image.ensures.paid
+
+pub returns-clause-taken : goal.returns-clause-taken
+returns-clause-taken g c =
+    let page = c.args.self.now.initial_page in
+    let inside = c.self.inside.initial_page in
+    let same = price-same inside.width page.width inside.height page.height (ap (λ (p : ReadPage). p.initial_page.width) c.self.view_is) (ap (λ (p : ReadPage). p.initial_page.height) c.self.view_is) in
+    let counted = counts-worth c.drawn.new.work c.write_image.new.steps _ c.write_image.ensures.paid in
+    omega (arith, c.in_ok-canvas.ensures.ahead, same, counted)
 
 pub returns-clause-limit : goal.returns-clause-limit
 returns-clause-limit g c = paid-limit c.args.work.now _ (returns-clause-paid g c)

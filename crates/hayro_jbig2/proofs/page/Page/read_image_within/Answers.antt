@@ -3,7 +3,7 @@ use Rattle.std.specs.Prelude.{IfErr}
 use Rattle.hayro_jbig2.specs.Causes.{IsAnswered}
 use Rattle.hayro_jbig2.specs.Page.{ReadPage}
 use Rattle.hayro_jbig2.proofs.Answering.{image-returned}
-use Rattle.hayro_jbig2.proofs.page.Page.read_image_limited.Goals as goal
+use Rattle.hayro_jbig2.proofs.page.Page.read_image_within.Goals as goal
 
 pub returns-clause-errors : goal.returns-clause-errors
 returns-clause-errors g c =
