@@ -1,5 +1,6 @@
 //! Decodes bitmaps that are coded in two dimensions by T.6 (MMR; T.88, 6.2.6).
 ghost use Rattle.std.specs.Prelude.{◌≡◌, if◌then◌else◌, false, Ok, Err, Bool, ℕ, ◌+◌, ◌*◌, length};
+ghost use Rattle.jbig2_base.specs.declared.error.{DecodeError.TheVariants.{Region}, RegionError.TheVariants.{InvalidMmrData}};
 ghost use Rattle.jbig2_base.specs.Results.{Returns};
 ghost use Rattle.jbig2_base.specs.Counts.{KeepsLanes, words_of};
 ghost use Rattle.jbig2_base.specs.Grid.{blank};
@@ -18,7 +19,7 @@ use crate::mmr::bits::CodeReader;
 use crate::mmr::row::read_row;
 use jbig2_base::bitmap::Bitmap;
 use jbig2_base::bitmap::steps::Steps;
-use jbig2_base::error::{DecodeError, RegionError, Result};
+use jbig2_base::error::{RegionError, Result};
 use std::alloc::Allocator;
 use std::sync::ledger::Ledger;
 
@@ -65,11 +66,10 @@ pub fn decode<A: Allocator, L: Ledger>(
 
 /// The result if not all rows are there.
 fn missing_rows(strict: bool, used: usize) -> Result<usize>
-    ensures { result ≡
-        (if strict then Err (DecodeError.Region RegionError.InvalidMmrData) else Ok used) }
+    ensures { result ≡ (if strict then Err (Region InvalidMmrData) else Ok used) }
 {
     if strict {
-        return Err(DecodeError::Region(RegionError::InvalidMmrData));
+        return Err(RegionError::InvalidMmrData.into());
     }
     Ok(used)
 }
