@@ -221,8 +221,8 @@ fn referred_numbers<A: Allocator>(
     ensures shorter { OnOk result (length reader.new.bytes ≤ length reader.old.bytes) }
 {
     let count = referred_count(reader)?;
-    let coded = bytes_field(reader, count as usize * number_size(own))?;
-    let numbers = numbers_in(alloc, own, count, coded)?;
+    let bytes = bytes_field(reader, count as usize * number_size(own))?;
+    let numbers = numbers_in(alloc, own, count, bytes)?;
     if is_any_later(&numbers, own) {
         return Err(SegmentError::InvalidReference.into());
     }

@@ -37,7 +37,7 @@ pub fn decode<A: Allocator, L: Ledger>(
     steps: &mut Steps<L>,
 ) -> Result<usize>
     requires { bitmap.old ≡ blank bitmap.old.width bitmap.old.height false }
-    ensures value { Returns (λ used. record { grid = bitmap.new; used = used }) result
+    ensures value { Returns (λ count. record { grid = bitmap.new; used = count }) result
         (mmr_rows strict bitmap.old.width bitmap.old.height bytes.now) }
     ensures grid { bitmap.new ≡ grid_of_rows bitmap.old.width bitmap.old.height
         (rows_of bitmap.old.width bitmap.old.height bytes.now).rows }
@@ -65,11 +65,11 @@ pub fn decode<A: Allocator, L: Ledger>(
 }
 
 /// The result if not all rows are there.
-fn missing_rows(strict: bool, used: usize) -> Result<usize>
-    ensures { result ≡ (if strict then Err (Region InvalidMmrData) else Ok used) }
+fn missing_rows(strict: bool, count: usize) -> Result<usize>
+    ensures { result ≡ (if strict then Err (Region InvalidMmrData) else Ok count) }
 {
     if strict {
         return Err(RegionError::InvalidMmrData.into());
     }
-    Ok(used)
+    Ok(count)
 }
