@@ -16,7 +16,7 @@ pub mod part;
 mod rows;
 pub mod steps;
 
-use crate::error::{DecodeError, OverflowError, Result};
+use crate::error::{OverflowError, Result};
 pub use operator::CombinationOperator;
 use rows::PackedRows;
 pub use rows::words::Words;
@@ -70,7 +70,7 @@ impl<A: Allocator> Bitmap<A> {
         ensures causes { HasCauseOrNoMemory result (BreaksArea width height) }
     {
         if u64::from(width) * u64::from(height) > MAX_AREA {
-            return Err(DecodeError::Overflow(OverflowError::BitmapDimension));
+            return Err(OverflowError::BitmapDimension.into());
         }
         let mut rows = PackedRows::new(alloc);
         rows.refill(width, height, false)?;
@@ -111,7 +111,7 @@ impl<A: Allocator> Bitmap<A> {
         ensures err { OnErr result (self.new ≡ self.old) }
     {
         if width > MAX_DIMENSION || height > MAX_DIMENSION {
-            return Err(DecodeError::Overflow(OverflowError::BitmapDimension));
+            return Err(OverflowError::BitmapDimension.into());
         }
         self.rows.refill(width, height, default_pixel)
     }

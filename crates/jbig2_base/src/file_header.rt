@@ -7,7 +7,7 @@ ghost use Rattle.jbig2_base.specs.Causes.{HasCause, BreaksFileHeader};
 ghost use Rattle.jbig2_base.specs.File.{identification, page_count_at, file_header_at};
 ghost use Rattle.jbig2_base.specs.declared.file_header.FileOrganization.TheVariants.{Sequential, RandomAccess};
 
-use crate::error::{DecodeError, FormatError, Result};
+use crate::error::{FormatError, Result};
 use crate::field::{byte_field, bytes_field, u32_field};
 use crate::reader::Reader;
 
@@ -73,11 +73,11 @@ pub(crate) fn parse_file_header(reader: &mut Reader<'_>) -> Result<FileHeader>
 {
     let front = bytes_field(reader, 8)?;
     if !is_identification(front) {
-        return Err(DecodeError::Format(FormatError::InvalidHeader));
+        return Err(FormatError::InvalidHeader.into());
     }
     let flags = byte_field(reader)?;
     if flags / 16 != 0 {
-        return Err(DecodeError::Format(FormatError::ReservedBits));
+        return Err(FormatError::ReservedBits.into());
     }
     let number_of_pages = page_count(reader, flags / 2 % 2 == 1)?;
     Ok(FileHeader {

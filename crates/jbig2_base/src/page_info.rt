@@ -10,7 +10,7 @@ ghost use Rattle.jbig2_base.specs.inner.SegmentViews.{segment_view, segment_view
 
 use crate::bitmap::MAX_DIMENSION;
 use crate::bitmap::operator::CombinationOperator;
-use crate::error::{DecodeError, FormatError, OverflowError, Result};
+use crate::error::{FormatError, OverflowError, Result};
 use crate::field::{byte_field, u16_field, u32_field};
 use crate::reader::Reader;
 use crate::segment::{Segment, SegmentType};
@@ -206,7 +206,7 @@ fn first_information<'s, 'a, A: Allocator>(
             return Ok(segment);
         }
     }
-    Err(DecodeError::Format(FormatError::MissingPageInfo))
+    Err(FormatError::MissingPageInfo.into())
 }
 
 fn stripe_height<A: Allocator>(segment: &Segment<'_, A>) -> u32
@@ -241,7 +241,7 @@ fn page_height(stated: u32, known_height: u32) -> Result<u32>
         return Ok(stated);
     }
     if known_height == 0 {
-        return Err(DecodeError::Format(FormatError::UnknownPageHeight));
+        return Err(FormatError::UnknownPageHeight.into());
     }
     Ok(known_height)
 }
@@ -254,10 +254,10 @@ fn initial_page_with(number: u32, information: &PageInformation, height: u32) ->
 {
     let width = information.width;
     if width == 0 || height == 0 {
-        return Err(DecodeError::Format(FormatError::EmptyPage));
+        return Err(FormatError::EmptyPage.into());
     }
     if width > MAX_DIMENSION || height > MAX_DIMENSION {
-        return Err(DecodeError::Overflow(OverflowError::BitmapDimension));
+        return Err(OverflowError::BitmapDimension.into());
     }
     Ok(InitialPage {
         number,

@@ -13,7 +13,7 @@ ghost use Rattle.jbig2_base.specs.inner.SegmentViews.{header_view, segment_view}
 
 mod end_marker;
 
-use crate::error::{DecodeError, Result, SegmentError};
+use crate::error::{Result, SegmentError};
 use crate::field::{byte_field, bytes_field, u32_field};
 use crate::reader::Reader;
 use end_marker::unknown_length;
@@ -157,7 +157,7 @@ fn referred_count(reader: &mut Reader<'_>) -> Result<u32>
 {
     let first = byte_field(reader)?;
     if first / 32 == 5 || first / 32 == 6 {
-        return Err(DecodeError::Segment(SegmentError::InvalidReferredCount));
+        return Err(SegmentError::InvalidReferredCount.into());
     }
     short_or_long_count(reader, first)
 }
@@ -221,10 +221,10 @@ fn referred_numbers<A: Allocator>(
     ensures shorter { OnOk result (length reader.new.bytes ≤ length reader.old.bytes) }
 {
     let count = referred_count(reader)?;
-    let coded = bytes_field(reader, count as usize * number_size(own))?;
-    let numbers = numbers_in(alloc, own, count, coded)?;
+    let bytes = bytes_field(reader, count as usize * number_size(own))?;
+    let numbers = numbers_in(alloc, own, count, bytes)?;
     if is_any_later(&numbers, own) {
-        return Err(DecodeError::Segment(SegmentError::InvalidReference));
+        return Err(SegmentError::InvalidReference.into());
     }
     Ok(numbers)
 }
@@ -251,7 +251,7 @@ fn data_length(strict: bool, kind: SegmentType, number: u32) -> Result<Option<u3
         return Ok(Some(number));
     }
     if strict && !kind.is_immediate_generic() {
-        return Err(DecodeError::Segment(SegmentError::InvalidUnknownLength));
+        return Err(SegmentError::InvalidUnknownLength.into());
     }
     Ok(None)
 }
@@ -278,7 +278,7 @@ pub fn parse_segment_header<A: Allocator>(
     let flags = byte_field(&mut ahead)?;
     let segment_type = SegmentType::from_type_value(flags % 64);
     if strict && segment_type.is_reserved() {
-        return Err(DecodeError::Segment(SegmentError::UnknownType));
+        return Err(SegmentError::UnknownType.into());
     }
     let referred_to_segments = referred_numbers(alloc, &mut ahead, segment_number)?;
     let page_association = page_association(&mut ahead, flags / 64 % 2 == 1)?;

@@ -16,7 +16,7 @@ mod standard;
 
 use custom::read_lines;
 use first_table::FirstTable;
-use jbig2_base::error::{DecodeError, HuffmanError, Result};
+use jbig2_base::error::{HuffmanError, Result};
 use jbig2_base::reader::Reader;
 use levels::{Level, longest, push_level};
 pub use line::TableLine;
@@ -63,13 +63,13 @@ impl<A: Allocator + Clone> HuffmanTable<A> {
         ensures causes { HasCauseOrNoMemory result (BreaksTable lines.now) }
     {
         let depths = longest(lines);
-        let mut sorted = Vec::with_capacity(alloc.clone()?, lines.len())?;
+        let mut by_length = Vec::with_capacity(alloc.clone()?, lines.len())?;
         let mut levels = Vec::with_capacity(alloc, usize::from(depths))?;
         let mut nodes = 0;
         for depth in (0..depths).rev() {
-            let first = sorted.len();
-            push_level(lines, depth + 1, &mut sorted)?;
-            let count = sorted.len() - first;
+            let first = by_length.len();
+            push_level(lines, depth + 1, &mut by_length)?;
+            let count = by_length.len() - first;
             levels.push(Level {
                 first,
                 count,
@@ -78,12 +78,12 @@ impl<A: Allocator + Clone> HuffmanTable<A> {
             nodes = (count + nodes).div_ceil(2);
         }
         if nodes > ROOTS {
-            return Err(DecodeError::Huffman(HuffmanError::InvalidCode));
+            return Err(HuffmanError::InvalidCode.into());
         }
         levels.reverse();
-        let first = FirstTable::new(&sorted, &levels);
+        let first = FirstTable::new(&by_length, &levels);
         Ok(HuffmanTable {
-            lines: sorted,
+            lines: by_length,
             levels,
             first,
         })
@@ -155,7 +155,7 @@ impl<A: Allocator> HuffmanTable<A> {
         ensures causes { HasCause result (BreaksNumber self.now (bits_left reader.old)) }
     {
         let Some(value) = self.decode(reader)? else {
-            return Err(DecodeError::Huffman(HuffmanError::UnexpectedOob));
+            return Err(HuffmanError::UnexpectedOob.into());
         };
         Ok(value)
     }

@@ -92,11 +92,11 @@ fn following(prev: u32, bit: u32) -> u32
     ensures below { result < 512 }
     ensures value { (b : Bool) → bit ≡ bit_number b → result ≡ prev_next prev b }
 {
-    let grown = 2 * prev + bit;
+    let next = 2 * prev + bit;
     if prev < 256 {
-        return grown;
+        return next;
     }
-    256 + grown % 256
+    256 + next % 256
 }
 
 // The value of an integer, from its sign and its sum.

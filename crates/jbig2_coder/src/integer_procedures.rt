@@ -101,9 +101,9 @@ impl<A: Allocator> IntegerProcedures<A> {
         ensures value { result ≡ (asked procedure decoder.old self.old).value }
         ensures coder { decoder.new ≡ (asked procedure decoder.old self.old).coder }
         ensures procedures { self.new ≡ (asked procedure decoder.old self.old).procedures }
-        ensures steps { let taken = length
+        ensures steps { let count = length
             (asked_integer procedure decoder.old self.old).reading.bits in
-            steps.new ≡ record steps.old { decisions = steps.old.decisions + taken } }
+            steps.new ≡ record steps.old { decisions = steps.old.decisions + count } }
     {
         self.decoders[procedure.index()].decode(decoder, steps)
     }

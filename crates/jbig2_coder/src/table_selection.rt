@@ -6,7 +6,7 @@ ghost use Rattle.jbig2_base.specs.Causes.{HasCause};
 ghost use Rattle.jbig2_coder.specs.Causes.{BreaksSelection};
 
 use crate::huffman_table::HuffmanTable;
-use jbig2_base::error::{DecodeError, HuffmanError, Result};
+use jbig2_base::error::{HuffmanError, Result};
 use std::alloc::Allocator;
 
 /// The next custom table, and those after it, or `HuffmanError::MissingTables` if there is none.
@@ -19,7 +19,7 @@ pub fn next_custom<'a, T: Allocator>(
     ensures causes { HasCause result (BreaksSelection (customs_view customs.now)) }
 {
     if customs.is_empty() {
-        return Err(DecodeError::Huffman(HuffmanError::MissingTables));
+        return Err(HuffmanError::MissingTables.into());
     }
     Ok((customs[0], &customs[1..]))
 }

@@ -47,7 +47,7 @@ run_from zero black bits = None
 run_from (suc most) black bits = do
   (part, left) ← read_code (runs_of black) bits
   if nat_lt part 64 then Some (part, left)
-    else (run_from most black left >>= λ (others, left). Some (part + others, left))
+      else (run_from most black left >>= λ (others, left). Some (part + others, left))
 
 abbrev pub run : Bool → List ℕ → Option (ℕ × List ℕ)
 run black bits = run_from (length bits) black bits

@@ -1,5 +1,6 @@
 //! Decodes bitmaps that are coded in two dimensions by T.6 (MMR; T.88, 6.2.6).
 ghost use Rattle.std.specs.Prelude.{◌≡◌, if◌then◌else◌, false, Ok, Err, Bool, ℕ, ◌+◌, ◌*◌, length};
+ghost use Rattle.jbig2_base.specs.declared.error.{DecodeError.TheVariants.{Region}, RegionError.TheVariants.{InvalidMmrData}};
 ghost use Rattle.jbig2_base.specs.Results.{Returns};
 ghost use Rattle.jbig2_base.specs.Counts.{KeepsLanes, words_of};
 ghost use Rattle.jbig2_base.specs.Grid.{blank};
@@ -18,7 +19,7 @@ use crate::mmr::bits::CodeReader;
 use crate::mmr::row::read_row;
 use jbig2_base::bitmap::Bitmap;
 use jbig2_base::bitmap::steps::Steps;
-use jbig2_base::error::{DecodeError, RegionError, Result};
+use jbig2_base::error::{RegionError, Result};
 use std::alloc::Allocator;
 use std::sync::ledger::Ledger;
 
@@ -36,7 +37,7 @@ pub fn decode<A: Allocator, L: Ledger>(
     steps: &mut Steps<L>,
 ) -> Result<usize>
     requires { bitmap.old ≡ blank bitmap.old.width bitmap.old.height false }
-    ensures value { Returns (λ used. record { grid = bitmap.new; used = used }) result
+    ensures value { Returns (λ count. record { grid = bitmap.new; used = count }) result
         (mmr_rows strict bitmap.old.width bitmap.old.height bytes.now) }
     ensures grid { bitmap.new ≡ grid_of_rows bitmap.old.width bitmap.old.height
         (rows_of bitmap.old.width bitmap.old.height bytes.now).rows }
@@ -64,12 +65,11 @@ pub fn decode<A: Allocator, L: Ledger>(
 }
 
 /// The result if not all rows are there.
-fn missing_rows(strict: bool, used: usize) -> Result<usize>
-    ensures { result ≡
-        (if strict then Err (DecodeError.Region RegionError.InvalidMmrData) else Ok used) }
+fn missing_rows(strict: bool, count: usize) -> Result<usize>
+    ensures { result ≡ (if strict then Err (Region InvalidMmrData) else Ok count) }
 {
     if strict {
-        return Err(DecodeError::Region(RegionError::InvalidMmrData));
+        return Err(RegionError::InvalidMmrData.into());
     }
-    Ok(used)
+    Ok(count)
 }

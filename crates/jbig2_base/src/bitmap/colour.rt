@@ -48,10 +48,10 @@ fn leading_others(pixels: u64, count: u32, black: bool) -> u32
     ensures before { (k : ℕ) → k < result → bit pixels (count - 1 - k) ≡ not black }
     ensures found { result < count → bit pixels (count - 1 - result) ≡ black }
 {
-    let wanted = if black {
+    let of_colour = if black {
         pixels
     } else {
         pixels ^ (u64::MAX >> (64 - count))
     };
-    wanted.leading_zeros() - (64 - count)
+    of_colour.leading_zeros() - (64 - count)
 }

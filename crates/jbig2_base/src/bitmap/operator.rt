@@ -4,7 +4,7 @@ ghost use Rattle.jbig2_base.specs.Results.{Returns};
 ghost use Rattle.jbig2_base.specs.Causes.{HasCause, BreaksOperator};
 ghost use Rattle.jbig2_base.specs.Combination.{operator_of};
 
-use crate::error::{DecodeError, RegionError, Result};
+use crate::error::{RegionError, Result};
 
 /// The new colour of a pixel under a region's pixel. The default is `Or`.
 #[derive(Clone, Copy, Debug, PartialEq, Eq)]
@@ -43,7 +43,7 @@ impl CombinationOperator {
             2 => Ok(CombinationOperator::Xor),
             3 => Ok(CombinationOperator::Xnor),
             4 => Ok(CombinationOperator::Replace),
-            _ => Err(DecodeError::Region(RegionError::InvalidCombinationOperator)),
+            _ => Err(RegionError::InvalidCombinationOperator.into()),
         }
     }
 }

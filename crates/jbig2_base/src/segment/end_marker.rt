@@ -7,7 +7,7 @@ ghost use Rattle.jbig2_base.specs.Causes.{HasCause, BreaksData};
 ghost use Rattle.jbig2_base.specs.Segment.{adaptive_bytes, is_end_marker, first_end_marker, unknown_length_of};
 ghost use Rattle.jbig2_base.specs.inner.Fronts.{coded_front_at};
 
-use crate::error::{DecodeError, Result, SegmentError};
+use crate::error::{Result, SegmentError};
 use crate::field::{byte_field, bytes_field};
 use crate::reader::Reader;
 
@@ -47,7 +47,7 @@ fn first_end_marker(flags: u8, bytes: &[u8]) -> Result<usize>
             return Ok(place);
         }
     }
-    Err(DecodeError::Segment(SegmentError::MissingEndMarker))
+    Err(SegmentError::MissingEndMarker.into())
 }
 
 /// A generic region's flags. The reader is then after its adaptive pixels.

@@ -71,12 +71,12 @@ fn next_low(low: i32, range_length: u32) -> Result<i32>
     ensures short { IfOk result (λ _. range_length ≤ 31) }
 {
     if range_length >= 32 {
-        return Err(DecodeError::Huffman(HuffmanError::InvalidCode));
+        return Err(HuffmanError::InvalidCode.into());
     }
     let range = 1_u32 << range_length;
     match i32::try_from(i64::from(low) + i64::from(range)) {
         Ok(next) => Ok(next),
-        Err(_) => Err(DecodeError::Huffman(HuffmanError::InvalidCode)),
+        Err(_) => Err(HuffmanError::InvalidCode.into()),
     }
 }
 

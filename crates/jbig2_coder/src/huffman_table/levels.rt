@@ -1,11 +1,12 @@
 //! The levels of a table: the lines of each prefix length, and the inner nodes of the code's tree.
 ghost use Rattle.std.specs.Prelude.{◌≡◌, ◌++◌, OnOk, IfErr, IfOk, ◌≤◌, length};
+ghost use Rattle.jbig2_base.specs.declared.error.DecodeError.TheVariants.{OutOfMemory};
 ghost use Rattle.jbig2_base.specs.Bits.{bits_left};
 ghost use Rattle.jbig2_coder.specs.PrefixCode.{longest, level, AreShort, Reads};
 ghost use Rattle.jbig2_coder.specs.inner.PrefixLevels.{walk_of, AreLevels};
 
 use super::line::TableLine;
-use jbig2_base::error::{DecodeError, HuffmanError, ParseError, Result};
+use jbig2_base::error::{HuffmanError, ParseError, Result};
 use jbig2_base::reader::Reader;
 use std::alloc::Allocator;
 
@@ -32,18 +33,18 @@ pub(super) fn longest(lines: &[TableLine]) -> u8
     longest
 }
 
-/// Adds the lines with this prefix length at the end of `sorted`.
+/// Adds the lines with this prefix length at the end of `by_length`.
 pub(super) fn push_level<A: Allocator>(
     lines: &[TableLine],
     length: u8,
-    sorted: &mut Vec<TableLine, A>,
+    by_length: &mut Vec<TableLine, A>,
 ) -> Result<()>
-    ensures items { OnOk result (sorted.new.items ≡ sorted.old.items ++ level length lines.now) }
-    ensures memory { IfErr result (λ e. e ≡ DecodeError.OutOfMemory) }
+    ensures items { OnOk result (by_length.new.items ≡ by_length.old.items ++ level length lines.now) }
+    ensures memory { IfErr result (λ e. e ≡ OutOfMemory) }
 {
     for line in lines {
         if line.prefix_length == length {
-            sorted.push(*line)?;
+            by_length.push(*line)?;
         }
     }
     Ok(())
@@ -68,7 +69,7 @@ pub(super) fn read_line(
     let mut node = node;
     for level in levels {
         let Some(bit) = reader.read_bit() else {
-            return Err(DecodeError::Parse(ParseError::UnexpectedEof));
+            return Err(ParseError::UnexpectedEof.into());
         };
         let child = 2 * node + usize::from(bit);
         if child < level.count {
@@ -76,11 +77,11 @@ pub(super) fn read_line(
         }
         node = child - level.count;
         if node >= level.nodes {
-            return Err(DecodeError::Huffman(HuffmanError::InvalidCode));
+            return Err(HuffmanError::InvalidCode.into());
         }
     }
     match reader.read_bit() {
-        Some(_) => Err(DecodeError::Huffman(HuffmanError::InvalidCode)),
-        None => Err(DecodeError::Parse(ParseError::UnexpectedEof)),
+        Some(_) => Err(HuffmanError::InvalidCode.into()),
+        None => Err(ParseError::UnexpectedEof.into()),
     }
 }

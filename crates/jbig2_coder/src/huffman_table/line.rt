@@ -5,7 +5,7 @@ ghost use Rattle.std.specs.Int.{w64};
 ghost use Rattle.std.specs.Prelude.{FitsSigned};
 ghost use Rattle.jbig2_base.specs.Bits.{bits_left, bits_on, bits_next};
 
-use jbig2_base::error::{DecodeError, HuffmanError, Result};
+use jbig2_base::error::{HuffmanError, Result};
 use jbig2_base::reader::Reader;
 
 /// A line of a table: the length of its prefix code, and the values after that code.
@@ -87,11 +87,11 @@ impl TableLine {
         ensures { result ≡ in_word (moved self.now offset) }
     {
         let Some(value) = self.moved(offset) else {
-            return Err(DecodeError::Huffman(HuffmanError::InvalidCode));
+            return Err(HuffmanError::InvalidCode.into());
         };
         match i32::try_from(value) {
             Ok(value) => Ok(value),
-            Err(_) => Err(DecodeError::Huffman(HuffmanError::InvalidCode)),
+            Err(_) => Err(HuffmanError::InvalidCode.into()),
         }
     }
 
@@ -107,7 +107,7 @@ impl TableLine {
         ensures causes { HasCause result (BreaksRange self.now (bits_left reader.old)) }
     {
         let Some(offset) = reader.read_bits(self.range_length) else {
-            return Err(DecodeError::Huffman(HuffmanError::InvalidCode));
+            return Err(HuffmanError::InvalidCode.into());
         };
         Ok(Some(self.value(offset)?))
     }

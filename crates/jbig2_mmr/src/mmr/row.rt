@@ -147,13 +147,13 @@ fn pass<A: Allocator, L: Ledger>(
     if b1 >= bitmap.width() {
         return passed(b1, place.black);
     }
-    let turned = Place {
+    let at_b1 = Place {
         a0: b1,
         past_start: true,
         black: !place.black,
     };
     let word = word.at(bitmap, above, b1, steps);
-    passed(find_b1(bitmap, above, word, turned, steps), place.black)
+    passed(find_b1(bitmap, above, word, at_b1, steps), place.black)
 }
 
 /// The result of a pass mode, in which the colour stays up to b2.

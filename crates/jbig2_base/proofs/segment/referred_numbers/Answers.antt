@@ -6,8 +6,8 @@ use Rattle.jbig2_base.proofs.segment.referred_numbers.Goals as goal
 
 pub returns-then-is_any_later-clause-value : goal.returns-then-is_any_later-clause-value
 returns-then-is_any_later-clause-value g c =
-    inr (referred_by c.args.own _ _ _ _ _ _ _ true c.in_ok-count.ensures.value c.number_size.ensures c.in_ok-coded.ensures.parses.value c.in_ok-numbers.ensures (c.if-is_any_later.ensures ∙ ap (λ (ns : List ℕ). list_any (λ n. nat_le c.args.own n) ns) c.deref.ensures.value))
+    rw c.into.ensures (inr (referred_by c.args.own _ _ _ _ _ _ _ true c.in_ok-count.ensures.value c.number_size.ensures c.in_ok-bytes.ensures.parses.value c.in_ok-numbers.ensures (c.if-is_any_later.ensures ∙ ap (λ (ns : List ℕ). list_any (λ n. nat_le c.args.own n) ns) c.deref.ensures.value)))
 
 pub returns-clause-value : goal.returns-clause-value
 returns-clause-value g c =
-    referred_by c.args.own _ _ _ _ _ _ _ false c.in_ok-count.ensures.value c.number_size.ensures c.in_ok-coded.ensures.parses.value c.in_ok-numbers.ensures (c.if-is_any_later.ensures ∙ ap (λ (ns : List ℕ). list_any (λ n. nat_le c.args.own n) ns) c.deref.ensures.value)
+    referred_by c.args.own _ _ _ _ _ _ _ false c.in_ok-count.ensures.value c.number_size.ensures c.in_ok-bytes.ensures.parses.value c.in_ok-numbers.ensures (c.if-is_any_later.ensures ∙ ap (λ (ns : List ℕ). list_any (λ n. nat_le c.args.own n) ns) c.deref.ensures.value)

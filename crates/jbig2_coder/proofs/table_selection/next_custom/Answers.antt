@@ -15,4 +15,4 @@ none-left (table ∷ others) is = absurd (omega (arith, eqb-true (length (table 
 
 pub returns-then-is_empty-clause-causes : goal.returns-then-is_empty-clause-causes
 returns-then-is_empty-clause-causes g c =
-    selection_cause (customs_view c.args.customs.now) _ (none-left c.args.customs.now (sym c.is_empty.ensures ∙ c.if-is_empty.true))
+    rw c.into.ensures (selection_cause (customs_view c.args.customs.now) _ (none-left c.args.customs.now (sym c.is_empty.ensures ∙ c.if-is_empty.true)))

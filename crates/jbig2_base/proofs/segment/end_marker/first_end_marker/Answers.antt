@@ -37,6 +37,6 @@ returns c =
     let test : ℕ → Bool = λ j. is_end_marker c.args.flags (drop j bytes) in
     let none : place_from test 0 n ≡ n = place-is test 0 n n (omega arith) (omega arith) (omega arith) (λ j _ below. c.loop-place.invariant j (omega arith)) (λ past. absurd (omega arith)) in
     record {
-      value = ap (λ (place : ℕ). found n place) none ∙ cond-false (ltb n n) (Ok n) (Err (Segment MissingEndMarker)) (le-ltb n n (omega arith));
+      value = rw c.into.ensures (ap (λ (place : ℕ). found n place) none ∙ cond-false (ltb n n) (Ok n) (Err (Segment MissingEndMarker)) (le-ltb n n (omega arith)));
       inside = tt;
     }

@@ -10,8 +10,8 @@ use Rattle.jbig2_coder.proofs.huffman_table.HuffmanTable.build.Goals as goal
 pub loop-depth-preserved : goal.loop-depth-preserved
 loop-depth-preserved g c =
     let lines = c.args.lines.now in
-    let sorted = c.loop-depth.sorted.items in
-    let more = c.push_level.new.sorted.items in
+    let sorted = c.loop-depth.by_length.items in
+    let more = c.push_level.new.by_length.items in
     let levels = c.loop-depth.levels.items in
     let depth = c.loop-depth.depth - 1 in
     let n = c.loop-depth.nodes in
@@ -33,18 +33,18 @@ loop-depth-preserved g c =
 
 pub returns-then-nodes-gt-ROOTS-clause-table : goal.returns-then-nodes-gt-ROOTS-clause-table
 returns-then-nodes-gt-ROOTS-clause-table g c =
-    let P : ℕ → Type 0 = λ d. Built c.args.lines.now c.loop-depth.sorted.items c.loop-depth.levels.items c.loop-depth.nodes d in
+    let P : ℕ → Type 0 = λ d. Built c.args.lines.now c.loop-depth.by_length.items c.loop-depth.levels.items c.loop-depth.nodes d in
     let end : c.loop-depth.depth ≡ 0 = omega arith in
-    inr (built-crowded c.args.lines.now c.loop-depth.sorted.items c.loop-depth.levels.items c.loop-depth.nodes (subst P end c.loop-depth.invariant) c.if-nodes-gt-ROOTS.true)
+    rw c.into.ensures (inr (built-crowded c.args.lines.now c.loop-depth.by_length.items c.loop-depth.levels.items c.loop-depth.nodes (subst P end c.loop-depth.invariant) c.if-nodes-gt-ROOTS.true))
 
 pub returns-then-nodes-gt-ROOTS-clause-causes : goal.returns-then-nodes-gt-ROOTS-clause-causes
 returns-then-nodes-gt-ROOTS-clause-causes g c = table_cause c.args.lines.now _ (returns-then-nodes-gt-ROOTS-clause-table g c)
 
 pub returns-clause-table : goal.returns-clause-table
 returns-clause-table g c =
-    let P : ℕ → Type 0 = λ d. Built c.args.lines.now c.loop-depth.sorted.items c.loop-depth.levels.items c.loop-depth.nodes d in
+    let P : ℕ → Type 0 = λ d. Built c.args.lines.now c.loop-depth.by_length.items c.loop-depth.levels.items c.loop-depth.nodes d in
     let end : c.loop-depth.depth ≡ 0 = omega arith in
-    built-table c.args.lines.now c.loop-depth.sorted.items c.loop-depth.levels.items c.reverse.new.self.items c.loop-depth.nodes (subst P end c.loop-depth.invariant) c.if-nodes-gt-ROOTS.false c.reverse.ensures.items
+    built-table c.args.lines.now c.loop-depth.by_length.items c.loop-depth.levels.items c.reverse.new.self.items c.loop-depth.nodes (subst P end c.loop-depth.invariant) c.if-nodes-gt-ROOTS.false c.reverse.ensures.items
 
 pub returns-clause-free : goal.returns-clause-free
-returns-clause-free g c = free-codes 0 0 (groups_of c.loop-depth.sorted.items c.reverse.new.self.items)
+returns-clause-free g c = free-codes 0 0 (groups_of c.loop-depth.by_length.items c.reverse.new.self.items)

@@ -14,7 +14,7 @@ returns-then-child-level-clause-reads c =
 pub returns-then-node-level-clause-reads : goal.returns-then-node-level-clause-reads
 returns-then-node-level-clause-reads c =
     let bit : Some c.from.result ≡ bits_next 1 (bits_left c.loop-level.reader) = ap (λ (b : ℕ). Some b) c.from.ensures ∙ c.in-Some.ensures.value in
-    leaves-refused c.args.lines.now c.args.levels.now c.args.node c.loop-level.level-index c.loop-level.node c.from.result c.args.reader.now c.loop-level.reader c.read_bit.new.self (record { first = 0; count = 0; nodes = 0 }) c.loop-level.invariant c.read_bit.ensures.place c.read_bit.ensures.rest bit (omega arith) c.if-child-level.false c.if-node-level.true
+    rw c.into-then-node-level.ensures (leaves-refused c.args.lines.now c.args.levels.now c.args.node c.loop-level.level-index c.loop-level.node c.from.result c.args.reader.now c.loop-level.reader c.read_bit.new.self (record { first = 0; count = 0; nodes = 0 }) c.loop-level.invariant c.read_bit.ensures.place c.read_bit.ensures.rest bit (omega arith) c.if-child-level.false c.if-node-level.true)
 
 pub loop-level-preserved : goal.loop-level-preserved
 loop-level-preserved c =
@@ -23,4 +23,4 @@ loop-level-preserved c =
 
 pub returns-in-Some-read_bit-clause-reads : goal.returns-in-Some-read_bit-clause-reads
 returns-in-Some-read_bit-clause-reads c =
-    leaves-past c.args.lines.now c.args.levels.now c.args.node c.loop-level.level-index c.loop-level.node c.in-Some-read_bit.field-0 c.args.reader.now c.loop-level.reader c.read_bit-2.new.self c.loop-level.invariant c.read_bit-2.ensures.place c.read_bit-2.ensures.rest c.in-Some-read_bit.ensures.value c.loop-level-test.false
+    rw c.into-in-Some-read_bit.ensures (leaves-past c.args.lines.now c.args.levels.now c.args.node c.loop-level.level-index c.loop-level.node c.in-Some-read_bit.field-0 c.args.reader.now c.loop-level.reader c.read_bit-2.new.self c.loop-level.invariant c.read_bit-2.ensures.place c.read_bit-2.ensures.rest c.in-Some-read_bit.ensures.value c.loop-level-test.false)
