@@ -8,7 +8,7 @@ use Rattle.jbig2_region.specs.inner.Stretches.{rest_of}
 use Rattle.jbig2_region.specs.Steps.{CountsDecided}
 use Rattle.jbig2_region.specs.inner.RowCounts.{decided_pixels, decided_rows}
 use Rattle.jbig2_region.specs.inner.DecodedPixels.{DecodesPart, CountsPart}
-use Rattle.jbig2_region.specs.inner.RegionStates.{HasDecoded, BeginsRow}
+use Rattle.jbig2_region.specs.inner.RegionStates.{HasDecoded, BeginsRow, region_state}
 use Rattle.jbig2_region.specs.Raster.{Coding, Region, after_ltp, row_decisions}
 use Rattle.jbig2_region.specs.inner.Rows.{after_rows}
 use Rattle.jbig2_region.proofs.PlaceCounts.{decisions-by-rows}
@@ -22,7 +22,7 @@ plus n = omega arith
 pub codes-row : (coding : Coding) (y : ℕ) (p q : Bool) (g1 : Grid) (c1 : Coder) (s1 : List Context) (c2 : Coder) (s2 : List Context) (g3 : Grid) (c3 : Coder) (s3 : List Context) (start : Region) (w h : ℕ) (input : List ℕ)
     → c1.bytes ≡ input → c2.bytes ≡ c1.bytes → length start.pixels ≡ 0
     → ((w h : ℕ) (g : Grid) (r : Region) → r.predicted ≡ p → HasDecoded w h c1.bytes r g c1 s1 → BeginsRow w h coding.row_context r q g c1 c2 s2)
-    → DecodesPart coding q 0 y w g1 c2 s2 g3 c3 s3
+    → DecodesPart coding q 0 y w (region_state g1 c2 s2) (region_state g3 c3 s3)
     → HasDecoded w h input (after_rows coding w h input y start) g1 c1 s1 → (after_rows coding w h input y start).predicted ≡ p
     → HasDecoded w h input (after_rows coding w h input (y + 1) start) g3 c3 s3 × ((after_rows coding w h input (y + 1) start).predicted ≡ q)
 codes-row coding y p q g1 c1 s1 c2 s2 g3 c3 s3 start w h input same after none begin codes holds predicted =
@@ -45,7 +45,7 @@ decided-row coding w h input y start = rw add-one refl
 pub decided-next : (coding : Coding) (y : ℕ) (p q : Bool) (g1 : Grid) (c1 : Coder) (s1 : List Context) (c2 : Coder) (s2 : List Context) (start : Region) (w h : ℕ) (input : List ℕ) (d0 d1 d2 d3 : ℕ)
     → c1.bytes ≡ input → length start.pixels ≡ 0 → ((w h : ℕ) (g : Grid) (r : Region) → r.predicted ≡ p → HasDecoded w h c1.bytes r g c1 s1 → BeginsRow w h coding.row_context r q g c1 c2 s2)
     → HasDecoded w h input (after_rows coding w h input y start) g1 c1 s1 → (after_rows coding w h input y start).predicted ≡ p
-    → Decided coding w h input y start d0 d1 → d2 ≡ d1 + row_decisions coding.row_context → CountsPart coding q 0 y w g1 c2 s2 d2 d3
+    → Decided coding w h input y start d0 d1 → d2 ≡ d1 + row_decisions coding.row_context → CountsPart coding q 0 y w (region_state g1 c2 s2) d2 d3
     → Decided coding w h input (y + 1) start d0 d3
 decided-next coding y p q g1 c1 s1 c2 s2 start w h input d0 d1 d2 d3 same none begin holds predicted before more row =
     let at = begin-region coding y p q g1 c1 s1 c2 s2 start w h input same none begin holds predicted in

@@ -4,7 +4,7 @@ use Rattle.jbig2_base.specs.Counts.{Counts, KeepsLanes}
 use Rattle.jbig2_base.proofs.LaneCounts.{lanes-none}
 use Rattle.jbig2_base.specs.Grid.{Grid}
 use Rattle.jbig2_coder.specs.Coder.{Coder, Context}
-use Rattle.jbig2_region.specs.inner.RegionStates.{HasDecoded, BeginsRow}
+use Rattle.jbig2_region.specs.inner.RegionStates.{HasDecoded, BeginsRow, region_state}
 use Rattle.jbig2_region.specs.inner.Neighbours.{DecodesPixels}
 use Rattle.jbig2_region.specs.Raster.{Coding, Region, after_ltp, row_decisions}
 use Rattle.jbig2_region.specs.inner.Rows.{after_rows}
@@ -58,7 +58,7 @@ more-total false d0 d1 d2 d3 rd runs coded w row y one two three = omega arith
 pub counted-next : (template : List AdaptiveTemplatePixel) (nominal : Bool) (coding : Coding) (y : ℕ) (p q : Bool) (g1 : Grid) (c1 : Coder) (s1 : List Context) (c2 : Coder) (s2 : List Context) (start : Region) (w h : ℕ) (input : List ℕ) (d0 d1 d2 d3 : ℕ)
     → c1.bytes ≡ input → length start.pixels ≡ 0 → ((w h : ℕ) (g : Grid) (r : Region) → r.predicted ≡ p → HasDecoded w h c1.bytes r g c1 s1 → BeginsRow w h coding.row_context r q g c1 c2 s2)
     → HasDecoded w h input (after_rows coding w h input y start) g1 c1 s1 → (after_rows coding w h input y start).predicted ≡ p
-    → Counted template nominal coding w h input y start d0 d1 → d2 ≡ d1 + row_decisions coding.row_context → CountsRow template nominal q y g1 c2 s2 d2 d3
+    → Counted template nominal coding w h input y start d0 d1 → d2 ≡ d1 + row_decisions coding.row_context → CountsRow template nominal q y (region_state g1 c2 s2) d2 d3
     → Counted template nominal coding w h input (y + 1) start d0 d3
 counted-next template nominal coding y p q g1 c1 s1 c2 s2 start w h input d0 d1 d2 d3 same none begin holds predicted counted more row =
     let begun : Region = after_ltp coding.row_context input (after_rows coding w h input y start) in
@@ -84,7 +84,7 @@ loads-next false l0 l1 l2 row w coded a y one two = omega arith
 pub layout-step : (template : List AdaptiveTemplatePixel) (row_context : Option ℕ) (y : ℕ) (p q : Bool) (g1 : Grid) (c1 : Coder) (s1 : List Context) (c2 : Coder) (s2 : List Context) (g3 : Grid) (c3 : Coder) (s3 : List Context) (start : Region) (w h : ℕ) (input : List ℕ)
     → c1.bytes ≡ input → c2.bytes ≡ c1.bytes → length start.pixels ≡ 0
     → ((w h : ℕ) (g : Grid) (r : Region) → r.predicted ≡ p → HasDecoded w h c1.bytes r g c1 s1 → BeginsRow w h row_context r q g c1 c2 s2)
-    → DecodesPixels template q 0 y w g1 c2 s2 g3 c3 s3
+    → DecodesPixels template q 0 y w (region_state g1 c2 s2) (region_state g3 c3 s3)
     → HasDecoded w h input (after_rows (coding_with template row_context) w h input y start) g1 c1 s1 → (after_rows (coding_with template row_context) w h input y start).predicted ≡ p
     → HasDecoded w h input (after_rows (coding_with template row_context) w h input (y + 1) start) g3 c3 s3 × ((after_rows (coding_with template row_context) w h input (y + 1) start).predicted ≡ q)
 layout-step template row_context y p q g1 c1 s1 c2 s2 g3 c3 s3 start w h input same after none begin decodes holds predicted =

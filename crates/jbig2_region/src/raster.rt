@@ -5,7 +5,7 @@ ghost use Rattle.jbig2_base.specs.Results.{Gives};
 ghost use Rattle.jbig2_base.specs.Grid.{Grid, pixel, bit_number, max_side};
 ghost use Rattle.jbig2_region.specs.Steps.{CountsDecided};
 ghost use Rattle.jbig2_region.specs.Raster.{Coding, Region, row_decisions, no_pixels, fresh_contexts};
-ghost use Rattle.jbig2_region.specs.inner.RegionStates.{HasDecoded, BeginsRow, DecodesRegion, IsReady};
+ghost use Rattle.jbig2_region.specs.inner.RegionStates.{HasDecoded, BeginsRow, DecodesRegion, IsReady, counted_region};
 ghost use Rattle.jbig2_region.specs.inner.Stretches.{DecodesPixels};
 
 use jbig2_base::bitmap::Bitmap;
@@ -118,8 +118,8 @@ fn decode_pixel<C: PixelCoding, A: Allocator, L: Ledger>(
     requires rows { bitmap.old.height ≤ max_side }
     requires contexts { length contexts.old ≡ 2 ^ C.bits coding.now }
     ensures decoded { DecodesPixels (C.coding coding.now) row.predicted x row.y 1
-        bitmap.old decoder.old contexts.old steps.old
-        bitmap.new decoder.new contexts.new steps.new }
+        (counted_region bitmap.old decoder.old contexts.old steps.old)
+        (counted_region bitmap.new decoder.new contexts.new steps.new) }
     ensures words { steps.new.words ≡ steps.old.words + 1 }
     ensures loads { steps.new.loads
         ≤ steps.old.loads + (C.bits coding.now + C.known_loads coding.now) }
@@ -146,9 +146,9 @@ fn decode_row<C: PixelCoding, A: Allocator, L: Ledger>(
     requires columns { bitmap.old.width ≤ max_side }
     requires rows { bitmap.old.height ≤ max_side }
     requires contexts { length contexts.old ≡ 2 ^ C.bits coding.now }
-    ensures decoded { DecodesPixels (C.coding coding.now) row.predicted 0 row.y
-        bitmap.old.width bitmap.old decoder.old contexts.old steps.old
-        bitmap.new decoder.new contexts.new steps.new }
+    ensures decoded { DecodesPixels (C.coding coding.now) row.predicted 0 row.y bitmap.old.width
+        (counted_region bitmap.old decoder.old contexts.old steps.old)
+        (counted_region bitmap.new decoder.new contexts.new steps.new) }
     ensures words { steps.new.words ≡ steps.old.words + bitmap.old.width }
     ensures loads { steps.new.loads ≤ steps.old.loads
         + bitmap.old.width * (C.bits coding.now + C.known_loads coding.now) }

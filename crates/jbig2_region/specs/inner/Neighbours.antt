@@ -4,9 +4,8 @@ use Rattle.std.specs.Prelude.{List, [], ◌∷◌, ◌++◌, length, Bool, true,
 use Rattle.std.specs.Prelude.{min}
 use Rattle.jbig2_base.specs.Grid.{Grid, pixel, pixel_at}
 use Rattle.jbig2_base.specs.Bits.{bit}
-use Rattle.jbig2_coder.specs.Coder.{Coder, Context}
 use Rattle.jbig2_region.specs.Generic.{context_at, known_colour}
-use Rattle.jbig2_region.specs.inner.RegionStates.{HasDecoded}
+use Rattle.jbig2_region.specs.inner.RegionStates.{HasDecoded, RegionState}
 use Rattle.jbig2_region.specs.inner.Rows.{after_pixels}
 use Rattle.jbig2_region.specs.Raster.{Coding, Region}
 use Rattle.jbig2_region.specs.declared.template.neighbours.Adaptives.{Adaptives}
@@ -107,13 +106,12 @@ IsLeft g x y left = (k : ℕ) → k < 4 → bit left k ≡ pixel g (pos x -ℤ p
 abbrev pub row_coding : List AdaptiveTemplatePixel → Coding
 row_coding template = record { context = context_at template; known = known_colour None; row_context = None }
 
--- A bitmap, a coder and contexts before and after n pixels of row y, from column x on.
-abbrev pub DecodesPixels : List AdaptiveTemplatePixel → Bool → ℕ → ℕ → ℕ
-    → Grid → Coder → List Context → Grid → Coder → List Context → Type 0
-DecodesPixels template predicted x y n grid coder states grid' coder' states' =
+-- A region before and after n pixels of row y, from column x on.
+abbrev pub DecodesPixels : List AdaptiveTemplatePixel → Bool → ℕ → ℕ → ℕ → RegionState → RegionState → Type 0
+DecodesPixels template predicted x y n start end =
     (w h : ℕ) (input : List ℕ) (r : Region) → length r.pixels ≡ y * w + x → r.predicted ≡ predicted
-    → HasDecoded w h input r grid coder states
-    → HasDecoded w h input (after_pixels (row_coding template) w h input n r) grid' coder' states'
+    → HasDecoded w h input r start.grid start.coder start.contexts
+    → HasDecoded w h input (after_pixels (row_coding template) w h input n r) end.grid end.coder end.contexts
 
 -- the part of a context that a window has for a stretch, seen from `offset` columns right of the window's column
 abbrev pub stretch_bits : Stretch → ℕ → ℕ → ℕ

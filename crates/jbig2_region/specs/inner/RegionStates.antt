@@ -1,9 +1,53 @@
 -- What the decoder holds of a region during decoding (our own rule).
 use Rattle.std.specs.Prelude.{◌≡◌, ◌≤◌, ◌^◌, ℕ, Bool, false, List, Option, length}
+use Rattle.jbig2_base.specs.Counts.{Counts}
 use Rattle.jbig2_base.specs.Grid.{Grid, blank}
 use Rattle.jbig2_coder.specs.Coder.{Coder, Context}
 use Rattle.jbig2_region.specs.Raster.{Coding, Region, so_far, after_ltp, decoded_region, no_pixels}
 
+-- ---- what is in progress, as one value
+-- an arithmetic decoder: its coder and its contexts
+pub record DecoderState : Type 0 where
+  pub coder : Coder
+  pub contexts : List Context
+
+-- the same, with the steps counted so far
+pub record CountedDecoder : Type 0 where
+  pub coder : Coder
+  pub contexts : List Context
+  pub counts : Counts
+
+-- a bitmap, and the arithmetic decoder by which it is decoded
+pub record RegionState : Type 0 where
+  pub grid : Grid
+  pub coder : Coder
+  pub contexts : List Context
+
+-- the same, with the steps counted so far
+pub record CountedRegion : Type 0 where
+  pub grid : Grid
+  pub coder : Coder
+  pub contexts : List Context
+  pub counts : Counts
+
+abbrev pub decoder_state : Coder → List Context → DecoderState
+decoder_state coder contexts = record { coder = coder; contexts = contexts }
+
+abbrev pub counted_decoder : Coder → List Context → Counts → CountedDecoder
+counted_decoder coder contexts counts = record { coder = coder; contexts = contexts; counts = counts }
+
+abbrev pub region_state : Grid → Coder → List Context → RegionState
+region_state grid coder contexts = record { grid = grid; coder = coder; contexts = contexts }
+
+abbrev pub counted_region : Grid → Coder → List Context → Counts → CountedRegion
+counted_region grid coder contexts counts =
+    record { grid = grid; coder = coder; contexts = contexts; counts = counts }
+
+-- the region without its counts
+abbrev pub uncounted : CountedRegion → RegionState
+uncounted s = region_state s.grid s.coder s.contexts
+
+-- ---- what it holds
 -- A white bitmap whose sides a region may have, and as many contexts as a number of this many bits has values.
 pub record IsReady (bits : ℕ) (grid : Grid) (states : List Context) : Type 0 where
   pub columns : grid.width ≤ 65535

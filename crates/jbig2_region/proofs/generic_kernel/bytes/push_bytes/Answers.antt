@@ -3,7 +3,7 @@ use Rattle.jbig2_base.specs.Counts.{Counts}
 use Rattle.jbig2_base.specs.Grid.{Grid}
 use Rattle.jbig2_base.specs.Writes.{with_pixels}
 use Rattle.jbig2_coder.specs.Coder.{Coder}
-use Rattle.jbig2_region.specs.inner.RegionStates.{HasDecoded}
+use Rattle.jbig2_region.specs.inner.RegionStates.{HasDecoded, region_state}
 use Rattle.jbig2_region.specs.inner.LongRuns.{is_run_for}
 use Rattle.jbig2_region.specs.inner.Neighbours.{DecodesPixels, nominal_pixels, row_coding}
 use Rattle.jbig2_region.specs.inner.Rows.{after_pixels}
@@ -49,7 +49,7 @@ push_pixels-pixels-requires-clause-contexts g c = c.requires.contexts
 pub returns-clause-holds : goal.returns-clause-holds
 returns-clause-holds g c = λ grid x y stands.
     let same = no-run c.args.decoder.now c.take_runs-bytes.new.decoder c.take_runs-bytes.result _ (omega (arith, c.if-bytes-gt0.false)) c.take_runs-bytes.ensures.coder in
-    subst (λ (d : Coder). DecodesPixels (nominal_pixels c.args.neighbours) false x y 8 grid d c.args.contexts.now (with_pixels grid x y 8 c.push_pixels-pixels.result) c.push_pixels-pixels.new.decoder c.push_pixels-pixels.new.contexts) same
+    subst (λ (d : Coder). DecodesPixels (nominal_pixels c.args.neighbours) false x y 8 (region_state grid d c.args.contexts.now) (region_state (with_pixels grid x y 8 c.push_pixels-pixels.result) c.push_pixels-pixels.new.decoder c.push_pixels-pixels.new.contexts)) same
     (c.push_pixels-pixels.ensures.holds grid x y (record { columns = omega (arith, stands.columns, c.requires.some); row = stands.row; shows = shows-less grid x y (8 * min c.args.most 4 + 12) 20 c.args.windows.first (omega (arith, c.requires.some)) stands.shows.first; beside = stands.beside }))
 
 pub returns-clause-decisions : goal.returns-clause-decisions
