@@ -16,12 +16,12 @@ use Rattle.jbig2_region.proofs.StoreLemmas.{Pushes, none-stored, white-next, wid
 
 -- ---- no pixel
 pub codes-none : (coding : Coding) (p : Bool) (x y : ℕ) (g : Grid) (d : Coder) (s : List Context) → DecodesPart coding p x y 0 (region_state g d s) (region_state g d s)
-codes-none coding p x y g d s = λ w h input r len predicted holds. subst (λ (n : Region). HasDecoded w h input n g d s) (sym (after_pixels-none coding w h input r)) holds
+codes-none coding p x y g d s = λ w h input r len predicted holds. subst (λ (n : Region). HasDecoded w h input n (region_state g d s)) (sym (after_pixels-none coding w h input r)) holds
 
 pub codes-start : (coding : Coding) (p : Bool) (x y b : ℕ) (g : Grid) (d : Coder) (s : List Context) → DecodesPart coding p x y 0 (region_state g d s) (region_state (with_pixels g x y 0 b) d s)
 codes-start coding p x y b g d s = λ w h input r len predicted holds.
-    subst (λ (n : Region). HasDecoded w h input n (with_pixels g x y 0 b) d s) (sym (after_pixels-none coding w h input r))
-    (subst (λ (q : Grid). HasDecoded w h input r q d s) (sym (none-stored w h r.pixels g x y b holds.pixels)) holds)
+    subst (λ (n : Region). HasDecoded w h input n (region_state (with_pixels g x y 0 b) d s)) (sym (after_pixels-none coding w h input r))
+    (subst (λ (q : Grid). HasDecoded w h input r (region_state q d s)) (sym (none-stored w h r.pixels g x y b holds.pixels)) holds)
 
 pub counts-none : (coding : Coding) (p : Bool) (x y : ℕ) (g : Grid) (d : Coder) (s : List Context) (count : ℕ) → CountsPart coding p x y 0 (region_state g d s) count count
 unfolding decided_pixels
@@ -34,10 +34,10 @@ record Next (w h : ℕ) (input : List ℕ) (made : Region) (x y : ℕ) (p : Bool
   pub predicted : made.predicted ≡ p
   pub left : x < w
   pub above : y < h
-  pub holds : HasDecoded w h input made g d s
+  pub holds : HasDecoded w h input made (region_state g d s)
 
 next-of : (coding : Coding) (p : Bool) (x y k : ℕ) (g0 g : Grid) (d0 d : Coder) (s0 s : List Context) → DecodesPart coding p x y k (region_state g0 d0 s0) (region_state g d s) → x + k < g.width → y < g.height
-    → (w h : ℕ) (input : List ℕ) (r : Region) → length r.pixels ≡ y * w + x → r.predicted ≡ p → HasDecoded w h input r g0 d0 s0 → Next w h input (after_pixels coding w h input k r) (x + k) y p g d s
+    → (w h : ℕ) (input : List ℕ) (r : Region) → length r.pixels ≡ y * w + x → r.predicted ≡ p → HasDecoded w h input r (region_state g0 d0 s0) → Next w h input (after_pixels coding w h input k r) (x + k) y p g d s
 next-of coding p x y k g0 g d0 d s0 s before left above w h input r len predicted holds =
     let at = before w h input r len predicted holds in
     let made : Region = after_pixels coding w h input k r in
@@ -124,7 +124,7 @@ pub codes-then : (coding : Coding) (p : Bool) (x x' y n m k : ℕ) (g0 g1 g2 : G
 codes-then coding p x x' y n m k g0 g1 g2 d0 d1 d2 s0 s1 s2 one two place sum = λ w h input r len predicted holds.
     let made : Region = after_pixels coding w h input n r in
     let size : length made.pixels ≡ y * w + x' = after_pixels-length coding w h input n r ∙ omega arith in
-    subst (λ (q : Region). HasDecoded w h input q g2 d2 s2) (sym (ap (λ (i : ℕ). after_pixels coding w h input i r) sum ∙ after_pixels-add coding w h input n m r))
+    subst (λ (q : Region). HasDecoded w h input q (region_state g2 d2 s2)) (sym (ap (λ (i : ℕ). after_pixels coding w h input i r) sum ∙ after_pixels-add coding w h input n m r))
     (two w h input made size (after_pixels-predicted coding w h input n r ∙ predicted) (one w h input r len predicted holds))
 
 decided-add : (coding : Coding) (w h : ℕ) (input : List ℕ) (n m : ℕ) (r : Region) → decided_pixels coding w h input (n + m) r ≡ decided_pixels coding w h input n r + decided_pixels coding w h input m (after_pixels coding w h input n r)
@@ -155,7 +155,7 @@ pub pixel-known : (coding : Coding) (p : Bool) (x y : ℕ) (g g' : Grid) (d : Co
 pixel-known coding p x y g g' d s c left above is_known written = λ w h input r len predicted holds.
     let wide : g.width ≡ w = ap (λ (q : Grid). q.width) holds.pixels ∙ width-so_far w h r.pixels in
     let high : g.height ≡ h = ap (λ (q : Grid). q.height) holds.pixels ∙ height-so_far w h r.pixels in
-    subst (λ (q : Region). HasDecoded w h input q g' d s) (sym (after-one coding w h input r))
+    subst (λ (q : Region). HasDecoded w h input q (region_state g' d s)) (sym (after-one coding w h input r))
     (HasDecoded-known coding w h input r g g' d s x y p c len (omega arith) (omega arith) predicted is_known written holds)
 
 pub pixel-decided : (coding : Coding) (p : Bool) (x y k : ℕ) (g g' : Grid) (d d' : Coder) (s : List Context) (old new : Context) → x < g.width → y < g.height → coding.known p g x y ≡ None → k ≡ coding.context g x y → old ≡ get_or s k fresh
@@ -164,7 +164,7 @@ pub pixel-decided : (coding : Coding) (p : Bool) (x y k : ℕ) (g g' : Grid) (d 
 pixel-decided coding p x y k g g' d d' s old new left above is_open is_context is_old written is_next is_new = λ w h input r len predicted holds.
     let wide : g.width ≡ w = ap (λ (q : Grid). q.width) holds.pixels ∙ width-so_far w h r.pixels in
     let high : g.height ≡ h = ap (λ (q : Grid). q.height) holds.pixels ∙ height-so_far w h r.pixels in
-    subst (λ (q : Region). HasDecoded w h input q g' d' (set s k new)) (sym (after-one coding w h input r))
+    subst (λ (q : Region). HasDecoded w h input q (region_state g' d' (set s k new))) (sym (after-one coding w h input r))
     (HasDecoded-decided coding w h input r g g' d d' s x y k p old new len (omega arith) (omega arith) predicted is_open is_context is_old written is_next is_new holds)
 
 pub pixel-counts : (coding : Coding) (p : Bool) (x y : ℕ) (g : Grid) (d : Coder) (s : List Context) (known : Option Bool) (before after : ℕ) → x < g.width → y < g.height → coding.known p g x y ≡ known → after ≡ before + bit_number (is_none known) → CountsPart coding p x y 1 (region_state g d s) before after

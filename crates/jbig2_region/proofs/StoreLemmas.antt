@@ -226,12 +226,12 @@ unfolding so_far
 height-so_far w h bits = refl
 
 pub decodes-none : (template : List AdaptiveTemplatePixel) (p : Bool) (x y : ℕ) (g : Grid) (d : Coder) (s : List Context) → DecodesPixels template p x y 0 (region_state g d s) (region_state g d s)
-decodes-none template p x y g d s = λ w h input r len predicted holds. subst (λ (n : Region). HasDecoded w h input n g d s) (sym (after_pixels-none (row_coding template) w h input r)) holds
+decodes-none template p x y g d s = λ w h input r len predicted holds. subst (λ (n : Region). HasDecoded w h input n (region_state g d s)) (sym (after_pixels-none (row_coding template) w h input r)) holds
 
 pub decodes-start : (template : List AdaptiveTemplatePixel) (p : Bool) (x y b : ℕ) (g : Grid) (d : Coder) (s : List Context) → DecodesPixels template p x y 0 (region_state g d s) (region_state (with_pixels g x y 0 b) d s)
 decodes-start template p x y b g d s = λ w h input r len predicted holds.
-    subst (λ (n : Region). HasDecoded w h input n (with_pixels g x y 0 b) d s) (sym (after_pixels-none (row_coding template) w h input r))
-    (subst (λ (q : Grid). HasDecoded w h input r q d s) (sym (none-stored w h r.pixels g x y b holds.pixels)) holds)
+    subst (λ (n : Region). HasDecoded w h input n (region_state (with_pixels g x y 0 b) d s)) (sym (after_pixels-none (row_coding template) w h input r))
+    (subst (λ (q : Grid). HasDecoded w h input r (region_state q d s)) (sym (none-stored w h r.pixels g x y b holds.pixels)) holds)
 
 pub decodes-decided : (template : List AdaptiveTemplatePixel) (x y k : ℕ) (g0 g g' : Grid) (d0 d d' : Coder) (s0 s : List Context) (n : ℕ) (old new : Context)
     → DecodesPixels template false x y k (region_state g0 d0 s0) (region_state g d s) → x + k < g.width → y < g.height → n ≡ context_at template g (x + k) y → old ≡ get_or s n fresh
@@ -244,7 +244,7 @@ decodes-decided template x y k g0 g g' d0 d d' s0 s n old new before left above 
     let wide : g.width ≡ w = ap (λ (q : Grid). q.width) at.pixels ∙ width-so_far w h made.pixels in
     let high : g.height ≡ h = ap (λ (q : Grid). q.height) at.pixels ∙ height-so_far w h made.pixels in
     let white = white-next w h made.pixels g (x + k) y at.pixels size (omega arith) (omega arith) in
-    subst (λ (q : Region). HasDecoded w h input q g' d' (set s n new)) (sym (after_pixels-one (row_coding template) w h input k r))
+    subst (λ (q : Region). HasDecoded w h input q (region_state g' d' (set s n new))) (sym (after_pixels-one (row_coding template) w h input k r))
     (HasDecoded-decided (row_coding template) w h input made g g' d d' s (x + k) y n false old new size (omega arith) (omega arith) (after_pixels-predicted (row_coding template) w h input k r ∙ predicted) refl is_context is_old (pushes white) is_next is_new at)
 
 -- ---- the loops of the kernels
@@ -308,7 +308,7 @@ pub decodes-then : (template : List AdaptiveTemplatePixel) (p : Bool) (x x' y n 
 decodes-then template p x x' y n m k g0 g1 g2 d0 d1 d2 s0 s1 s2 one two place sum = λ w h input r len predicted holds.
     let made : Region = after_pixels (row_coding template) w h input n r in
     let size : length made.pixels ≡ y * w + x' = after_pixels-length (row_coding template) w h input n r ∙ omega arith in
-    subst (λ (q : Region). HasDecoded w h input q g2 d2 s2) (sym (ap (λ (i : ℕ). after_pixels (row_coding template) w h input i r) sum ∙ after_pixels-add (row_coding template) w h input n m r))
+    subst (λ (q : Region). HasDecoded w h input q (region_state g2 d2 s2)) (sym (ap (λ (i : ℕ). after_pixels (row_coding template) w h input i r) sum ∙ after_pixels-add (row_coding template) w h input n m r))
     (two w h input made size (after_pixels-predicted (row_coding template) w h input n r ∙ predicted) (one w h input r len predicted holds))
 
 -- ---- copied pixels
@@ -321,7 +321,7 @@ decodes-known template x y k g0 g g' d0 d s0 s c before left above is pushes = �
     let wide : g.width ≡ w = ap (λ (q : Grid). q.width) at.pixels ∙ width-so_far w h made.pixels in
     let high : g.height ≡ h = ap (λ (q : Grid). q.height) at.pixels ∙ height-so_far w h made.pixels in
     let white = white-next w h made.pixels g (x + k) y at.pixels size (omega arith) (omega arith) in
-    subst (λ (q : Region). HasDecoded w h input q g' d s) (sym (after_pixels-one (row_coding template) w h input k r))
+    subst (λ (q : Region). HasDecoded w h input q (region_state g' d s)) (sym (after_pixels-one (row_coding template) w h input k r))
     (HasDecoded-known (row_coding template) w h input made g g' d s (x + k) y true c size (omega arith) (omega arith) (after_pixels-predicted (row_coding template) w h input k r ∙ predicted) (ap (λ (b : Bool). Some b) is) (pushes white) at)
 
 -- the first k of n pixels

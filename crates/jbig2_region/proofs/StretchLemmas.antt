@@ -53,7 +53,7 @@ pub record RowsDecoded (coding : Coding) (g0 : Grid) (d0 : Coder) (s0 : List Con
   pub width : g.width ≡ g0.width
   pub height : g.height ≡ g0.height
   pub bytes : d.bytes ≡ d0.bytes
-  pub holds : HasDecoded g0.width g0.height d0.bytes (after_rows coding g0.width g0.height d0.bytes y (no_pixels d0.registers s0)) g d s
+  pub holds : HasDecoded g0.width g0.height d0.bytes (after_rows coding g0.width g0.height d0.bytes y (no_pixels d0.registers s0)) (region_state g d s)
   pub predicted : (after_rows coding g0.width g0.height d0.bytes y (no_pixels d0.registers s0)).predicted ≡ p
   pub decisions : Decided coding g0.width g0.height d0.bytes y (no_pixels d0.registers s0) c0.decisions c.decisions
   pub rest : rest_of c ≡ rest_of c0
@@ -66,7 +66,7 @@ rows-none coding g d s c white =
       width = refl;
       height = refl;
       bytes = refl;
-      holds = subst (λ (r : Region). HasDecoded g.width g.height d.bytes r g d s) (sym none) (region-start g.width g.height g d s white);
+      holds = subst (λ (r : Region). HasDecoded g.width g.height d.bytes r (region_state g d s)) (sym none) (region-start g.width g.height g d s white);
       predicted = ap (λ (r : Region). r.predicted) none;
       decisions = decided-none coding g.width g.height d.bytes start c.decisions;
       rest = refl;
@@ -75,7 +75,7 @@ rows-none coding g d s c white =
 -- a row is begun, at d1, s1 and c1, and decoded
 pub rows-next : {coding : Coding} {g0 : Grid} {d0 : Coder} {s0 : List Context} {c0 : Counts} {y : ℕ} {p : Bool} (q : Bool) {g : Grid} {d : Coder} {s : List Context} {c : Counts} (d1 : Coder) (s1 : List Context) (c1 : Counts) (g' : Grid) (d' : Coder) (s' : List Context) (c' : Counts)
     → RowsDecoded coding g0 d0 s0 c0 y p g d s c
-    → ((w h : ℕ) (grid : Grid) (r : Region) → r.predicted ≡ p → HasDecoded w h d.bytes r grid d s → BeginsRow w h coding.row_context r q grid d d1 s1)
+    → ((w h : ℕ) (grid : Grid) (r : Region) → r.predicted ≡ p → HasDecoded w h d.bytes r (region_state grid d s) → BeginsRow w h coding.row_context r q d (region_state grid d1 s1))
     → d1.bytes ≡ d.bytes → c1.decisions ≡ c.decisions + row_decisions coding.row_context → rest_of c1 ≡ rest_of c
     → DecodesPixels coding q 0 y g.width (counted_region g d1 s1 c1) (counted_region g' d' s' c')
     → RowsDecoded coding g0 d0 s0 c0 (y + 1) q g' d' s' c'

@@ -4,9 +4,9 @@ ghost use Rattle.std.specs.Prelude.{◌≡◌, ℕ, ◌+◌, ◌-◌, ◌*◌, �
 ghost use Rattle.jbig2_base.specs.Counts.{KeepsLanes};
 ghost use Rattle.jbig2_base.specs.Grid.{blank, max_side};
 ghost use Rattle.jbig2_coder.specs.Coder.{Coder, Context};
-ghost use Rattle.jbig2_region.specs.inner.RegionStates.{DecodesRegion, region_state};
+ghost use Rattle.jbig2_region.specs.inner.RegionStates.{DecodesRegion, region_state, source_of};
 ghost use Rattle.jbig2_region.specs.inner.Neighbours.{DecodesPixels, IsLayout, is_nominal_layout, layout_coding, layout_count, layout_loads, layout_pixels};
-ghost use Rattle.jbig2_region.specs.Raster.{decoded_region, no_pixels};
+ghost use Rattle.jbig2_region.specs.Raster.{decoded_region};
 ghost use Rattle.jbig2_region.specs.Steps.{CountsRegion, row_loads, row_tests, row_words};
 ghost use Rattle.jbig2_region.specs.inner.RowCounts.{CountsRow};
 ghost use Rattle.jbig2_region.specs.declared.template.AdaptiveTemplatePixel.{AdaptiveTemplatePixel};
@@ -152,12 +152,12 @@ pub fn decode_layout<A: Allocator, L: Ledger>(
     requires columns { bitmap.old.width ≤ max_side }
     requires rows { bitmap.old.height ≤ max_side }
     requires white { bitmap.old ≡ blank bitmap.old.width bitmap.old.height false }
-    ensures holds { DecodesRegion (layout_coding layout.now row_context) bitmap.old decoder.old
-        contexts.old bitmap.new decoder.new contexts.new }
+    ensures holds { DecodesRegion (layout_coding layout.now row_context)
+        (region_state bitmap.old decoder.old contexts.old)
+        (region_state bitmap.new decoder.new contexts.new) }
     ensures steps { CountsRegion (layout_pixels layout.now) (is_nominal_layout layout.now.adaptive)
-        (layout_loads layout.now.adaptive) (layout_coding layout.now row_context) bitmap.old.width
-        bitmap.old.height decoder.old.bytes (no_pixels decoder.old.registers contexts.old) steps.old
-        steps.new }
+        (layout_loads layout.now.adaptive) (layout_coding layout.now row_context)
+        (source_of (region_state bitmap.old decoder.old contexts.old)) steps.old steps.new }
 {
     if bitmap.width() == 0 {
         return;

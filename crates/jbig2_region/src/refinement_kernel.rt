@@ -4,10 +4,9 @@ ghost use Rattle.std.specs.Prelude.{◌≡◌, ℕ, ◌+◌, ◌-◌, ◌*◌, �
 ghost use Rattle.jbig2_base.specs.Grid.{pixel_at, max_side};
 ghost use Rattle.jbig2_base.specs.Bits.{bit};
 ghost use Rattle.jbig2_region.specs.Steps.{CountsDecided, window_loads};
-ghost use Rattle.jbig2_region.specs.Raster.{no_pixels};
 ghost use Rattle.jbig2_region.specs.RefinementTemplates.{refinement_bits};
 ghost use Rattle.jbig2_region.specs.inner.DecodedPixels.{Takes};
-ghost use Rattle.jbig2_region.specs.inner.RegionStates.{DecodesRegion, IsReady, counted_decoder, counted_region};
+ghost use Rattle.jbig2_region.specs.inner.RegionStates.{DecodesRegion, IsReady, counted_decoder, counted_region, region_state, source_of};
 ghost use Rattle.jbig2_region.specs.inner.Neighbours.{IsLeft};
 ghost use Rattle.jbig2_region.specs.inner.RefinementBlocks.{MovesBlock};
 ghost use Rattle.jbig2_region.specs.inner.RefinementViews.{reference_view};
@@ -252,10 +251,11 @@ fn decode_narrow<A: Allocator, B: Allocator, L: Ledger>(
     requires few { bitmap.old.width ≤ 32 }
     requires rows { 1 ≤ bitmap.old.height }
     ensures holds { DecodesRegion (windowed_coding coding.now)
-        bitmap.old decoder.old contexts.old bitmap.new decoder.new contexts.new }
+        (region_state bitmap.old decoder.old contexts.old)
+        (region_state bitmap.new decoder.new contexts.new) }
     ensures steps { CountsDecided (windowed_coding coding.now)
-        (window_loads bitmap.old.width) bitmap.old.width bitmap.old.height decoder.old.bytes
-        (no_pixels decoder.old.registers contexts.old) steps.old steps.new }
+        (window_loads bitmap.old.width)
+        (source_of (region_state bitmap.old decoder.old contexts.old)) steps.old steps.new }
 {
     let width = bitmap.width();
     let row_context = typical_context(coding.template, coding.typical);
@@ -287,10 +287,11 @@ pub fn decode_windowed<A: Allocator, B: Allocator, L: Ledger>(
 )
     requires { IsReady (refinement_bits coding.now.template) bitmap.old contexts.old }
     ensures holds { DecodesRegion (windowed_coding coding.now)
-        bitmap.old decoder.old contexts.old bitmap.new decoder.new contexts.new }
+        (region_state bitmap.old decoder.old contexts.old)
+        (region_state bitmap.new decoder.new contexts.new) }
     ensures steps { CountsDecided (windowed_coding coding.now)
-        (window_loads bitmap.old.width) bitmap.old.width bitmap.old.height decoder.old.bytes
-        (no_pixels decoder.old.registers contexts.old) steps.old steps.new }
+        (window_loads bitmap.old.width)
+        (source_of (region_state bitmap.old decoder.old contexts.old)) steps.old steps.new }
 {
     if bitmap.width() == 0 {
         return;

@@ -13,15 +13,13 @@ module _ (coding : Coding) (predicted : Bool) (x y n : ℕ) (start : RegionState
   abbrev pub DecodesPart : RegionState → Type 0
   DecodesPart end =
       (w h : ℕ) (input : List ℕ) (r : Region) → length r.pixels ≡ y * w + x → r.predicted ≡ predicted
-      → HasDecoded w h input r start.grid start.coder start.contexts
-      → HasDecoded w h input (after_pixels coding w h input n r) end.grid end.coder end.contexts
+      → HasDecoded w h input r start → HasDecoded w h input (after_pixels coding w h input n r) end
 
   -- The decisions taken for these pixels: one for each pixel that takes one.
   abbrev pub CountsPart : ℕ → ℕ → Type 0
   CountsPart before after =
       (w h : ℕ) (input : List ℕ) (r : Region) → length r.pixels ≡ y * w + x → r.predicted ≡ predicted
-      → HasDecoded w h input r start.grid start.coder start.contexts
-      → after ≡ before + decided_pixels coding w h input n r
+      → HasDecoded w h input r start → after ≡ before + decided_pixels coding w h input n r
 
 -- what one decision leaves
 pub record Decides (e : Decision) (k : ℕ) (before : CountedDecoder) (n : ℕ) (after : CountedDecoder) : Type 0 where

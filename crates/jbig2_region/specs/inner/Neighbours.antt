@@ -110,8 +110,7 @@ row_coding template = record { context = context_at template; known = known_colo
 abbrev pub DecodesPixels : List AdaptiveTemplatePixel → Bool → ℕ → ℕ → ℕ → RegionState → RegionState → Type 0
 DecodesPixels template predicted x y n start end =
     (w h : ℕ) (input : List ℕ) (r : Region) → length r.pixels ≡ y * w + x → r.predicted ≡ predicted
-    → HasDecoded w h input r start.grid start.coder start.contexts
-    → HasDecoded w h input (after_pixels (row_coding template) w h input n r) end.grid end.coder end.contexts
+    → HasDecoded w h input r start → HasDecoded w h input (after_pixels (row_coding template) w h input n r) end
 
 -- the part of a context that a window has for a stretch, seen from `offset` columns right of the window's column
 abbrev pub stretch_bits : Stretch → ℕ → ℕ → ℕ

@@ -4,10 +4,9 @@ use Rattle.std.specs.Prelude.{◌≡◌, ℕ, ◌+◌, ◌-◌, ◌*◌, ◌/◌
 use Rattle.jbig2_base.specs.Counts.{Counts, KeepsLanes}
 use Rattle.jbig2_base.specs.Grid.{Grid, blank}
 use Rattle.jbig2_coder.specs.Coder.{Context}
-use Rattle.jbig2_region.specs.Raster.{no_pixels}
 use Rattle.jbig2_region.specs.Steps.{CountsRegion}
 use Rattle.jbig2_region.specs.inner.Neighbours.{DecodesPixels, IsNear, neighbour_count, nominal_pixels, row_coding}
-use Rattle.jbig2_region.specs.inner.RegionStates.{CountedRegion, RegionState, uncounted}
+use Rattle.jbig2_region.specs.inner.RegionStates.{CountedRegion, RegionState, source_of, uncounted}
 use Rattle.jbig2_region.specs.inner.RowCounts.{CountsRuns}
 use Rattle.jbig2_region.specs.declared.template.neighbours.Neighbours.{Neighbours}
 
@@ -41,5 +40,4 @@ pub record FitsNarrow (n : Neighbours) (g : Grid) (s : List Context) : Type 0 wh
 
 abbrev pub CountsNarrow : Neighbours → RegionState → Counts → Counts → Type 0
 CountsNarrow n start before after =
-    CountsRegion (nominal_pixels n) true 0 (row_coding (nominal_pixels n)) start.grid.width start.grid.height
-    start.coder.bytes (no_pixels start.coder.registers start.contexts) before after
+    CountsRegion (nominal_pixels n) true 0 (row_coding (nominal_pixels n)) (source_of start) before after

@@ -42,14 +42,13 @@ module _ (template : List AdaptiveTemplatePixel) where
   abbrev pub CountsRuns : ℕ → ℕ → ℕ → RegionState → ℕ → ℕ → Type 0
   CountsRuns x y n start before after =
       (w h : ℕ) (input : List ℕ) (r : Region) → length r.pixels ≡ y * w + x → r.predicted ≡ false
-      → HasDecoded w h input r start.grid start.coder start.contexts
-      → after + 8 * run_bytes w h input n r ≡ before + n
+      → HasDecoded w h input r start → after + 8 * run_bytes w h input n r ≡ before + n
 
   -- The same for the whole row y, in a template with run bytes or without. A predicted row takes no decision.
   abbrev pub CountsRow : Bool → Bool → ℕ → RegionState → ℕ → ℕ → Type 0
   CountsRow nominal predicted y start before after =
       (w h : ℕ) (input : List ℕ) (r : Region) → length r.pixels ≡ y * w → r.predicted ≡ predicted
-      → HasDecoded w h input r start.grid start.coder start.contexts
+      → HasDecoded w h input r start
       → after + 8 * (if predicted then 0 else if nominal then run_bytes w h input w r else 0)
       ≡ before + (if predicted then 0 else w)
 

@@ -123,8 +123,9 @@ fn decode_rows<A: Allocator, L: Ledger>(
     steps: &mut Steps<L>,
 )
     requires { FitsNarrow neighbours bitmap.old contexts.old }
-    ensures holds { DecodesRegion (row_coding (nominal_pixels neighbours)) bitmap.old decoder.old
-        contexts.old bitmap.new decoder.new contexts.new }
+    ensures holds { DecodesRegion (row_coding (nominal_pixels neighbours))
+        (region_state bitmap.old decoder.old contexts.old)
+        (region_state bitmap.new decoder.new contexts.new) }
     ensures steps { CountsNarrow neighbours (region_state bitmap.old decoder.old contexts.old)
         steps.old steps.new }
 {
@@ -148,8 +149,9 @@ fn decode_constant_rows<A: Allocator, L: Ledger, const TEMPLATE: u8>(
 )
     requires same { neighbours ≡ nominal_neighbours (template_of (TEMPLATE % 4)) }
     requires fits { FitsNarrow neighbours bitmap.old contexts.old }
-    ensures holds { DecodesRegion (row_coding (nominal_pixels neighbours)) bitmap.old decoder.old
-        contexts.old bitmap.new decoder.new contexts.new }
+    ensures holds { DecodesRegion (row_coding (nominal_pixels neighbours))
+        (region_state bitmap.old decoder.old contexts.old)
+        (region_state bitmap.new decoder.new contexts.new) }
     ensures steps { CountsNarrow neighbours (region_state bitmap.old decoder.old contexts.old)
         steps.old steps.new }
 {
@@ -166,8 +168,9 @@ pub fn decode_narrow<A: Allocator, L: Ledger>(
     steps: &mut Steps<L>,
 )
     requires { FitsNarrow neighbours bitmap.old contexts.old }
-    ensures holds { DecodesRegion (row_coding (nominal_pixels neighbours)) bitmap.old decoder.old
-        contexts.old bitmap.new decoder.new contexts.new }
+    ensures holds { DecodesRegion (row_coding (nominal_pixels neighbours))
+        (region_state bitmap.old decoder.old contexts.old)
+        (region_state bitmap.new decoder.new contexts.new) }
     ensures steps { CountsNarrow neighbours (region_state bitmap.old decoder.old contexts.old)
         steps.old steps.new }
 {

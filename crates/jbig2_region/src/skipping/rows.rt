@@ -7,7 +7,7 @@ ghost use Rattle.jbig2_region.specs.Steps.{CountsSkipping, skipping_loads, skipp
 ghost use Rattle.jbig2_region.specs.inner.RegionViews.{skip_of};
 ghost use Rattle.jbig2_region.specs.Generic.{skipping_coding};
 ghost use Rattle.jbig2_region.specs.inner.DecodedPixels.{Takes};
-ghost use Rattle.jbig2_region.specs.inner.RegionStates.{DecodesRegion, IsReady, counted_decoder, counted_region};
+ghost use Rattle.jbig2_region.specs.inner.RegionStates.{DecodesRegion, IsReady, counted_decoder, counted_region, region_state};
 ghost use Rattle.jbig2_region.specs.inner.Neighbours.{IsLeft, IsNear, neighbour_count, nominal_pixels};
 ghost use Rattle.jbig2_region.specs.inner.Masks.{IsMask, plain_context};
 ghost use Rattle.jbig2_region.specs.inner.Stretches.{DecodesPixels};
@@ -166,7 +166,8 @@ pub fn decode_rows<M: Allocator, A: Allocator, L: Ledger>(
     requires near { IsNear neighbours }
     requires ready { IsReady (neighbour_count neighbours) bitmap.old contexts.old }
     ensures holds { DecodesRegion (skipping_coding (nominal_pixels neighbours) (skip_of skip.entry))
-        bitmap.old decoder.old contexts.old bitmap.new decoder.new contexts.new }
+        (region_state bitmap.old decoder.old contexts.old)
+        (region_state bitmap.new decoder.new contexts.new) }
     ensures steps { CountsSkipping (skip_of skip.entry) bitmap.old.width bitmap.old.height
         steps.old steps.new }
 {

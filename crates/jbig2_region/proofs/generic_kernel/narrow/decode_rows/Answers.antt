@@ -30,7 +30,7 @@ loop-y-init g c =
       width = refl;
       height = refl;
       bytes = refl;
-      holds = subst (λ (n : Region). HasDecoded w h input n c.args.bitmap.now c.args.decoder.now c.args.contexts.now) (sym none) (region-start w h c.args.bitmap.now c.args.decoder.now c.args.contexts.now c.requires.white);
+      holds = subst (λ (n : Region). HasDecoded w h input n (region_state c.args.bitmap.now c.args.decoder.now c.args.contexts.now)) (sym none) (region-start w h c.args.bitmap.now c.args.decoder.now c.args.contexts.now c.requires.white);
       predicted = ap (λ (n : Region). n.predicted) none;
       none = λ _. refl;
       decisions = counted-none (nominal_pixels c.args.neighbours) true (row_coding (nominal_pixels c.args.neighbours)) w h input start c.args.steps.now.decisions;
@@ -59,7 +59,7 @@ loop-y-preserved g c =
     subst (λ (q : Grid). DecodesPixels template false 0 y w (region_state c.loop-y.bitmap c.loop-y.decoder c.loop-y.contexts) (region_state q c.push_row-pixels.new.decoder c.push_row-pixels.new.contexts)) stored
     (subst (λ (n : ℕ). DecodesPixels template false 0 y n (region_state c.loop-y.bitmap c.loop-y.decoder c.loop-y.contexts) (region_state (with_pixels c.loop-y.bitmap 0 y c.width-width.result pixels) c.push_row-pixels.new.decoder c.push_row-pixels.new.contexts)) whole
     (c.push_row-pixels.ensures.holds c.loop-y.bitmap y row)) in
-    let begin : (w h : ℕ) (grid : Grid) (r : Region) → r.predicted ≡ false → HasDecoded w h c.loop-y.decoder.bytes r grid c.loop-y.decoder c.loop-y.contexts → BeginsRow w h None r false grid c.loop-y.decoder c.loop-y.decoder c.loop-y.contexts = λ w h grid r is holds. begins-plain w h grid r c.loop-y.decoder c.loop-y.contexts is holds in
+    let begin : (w h : ℕ) (grid : Grid) (r : Region) → r.predicted ≡ false → HasDecoded w h c.loop-y.decoder.bytes r (region_state grid c.loop-y.decoder c.loop-y.contexts) → BeginsRow w h None r false c.loop-y.decoder (region_state grid c.loop-y.decoder c.loop-y.contexts) = λ w h grid r is holds. begins-plain w h grid r c.loop-y.decoder c.loop-y.contexts is holds in
     let next =
     layout-step template None y false false c.loop-y.bitmap c.loop-y.decoder c.loop-y.contexts c.loop-y.decoder c.loop-y.contexts c.store_pixels.new.self c.push_row-pixels.new.decoder c.push_row-pixels.new.contexts start w h input
     c.loop-y.invariant.bytes refl refl begin decodes c.loop-y.invariant.holds c.loop-y.invariant.predicted in
