@@ -43,6 +43,10 @@ abbrev pub counted_region : Grid → Coder → List Context → Counts → Count
 counted_region grid coder contexts counts =
     record { grid = grid; coder = coder; contexts = contexts; counts = counts }
 
+-- this bitmap, with the decoder
+abbrev pub region_with : Grid → DecoderState → RegionState
+region_with grid d = region_state grid d.coder d.contexts
+
 -- the region without its counts
 abbrev pub uncounted : CountedRegion → RegionState
 uncounted s = region_state s.grid s.coder s.contexts
