@@ -11,7 +11,7 @@ use Rattle.jbig2_coder.specs.Coder.{Coder, Context, Registers}
 use Rattle.jbig2_mmr.specs.Steps.{MovesWithin}
 use Rattle.jbig2_region.specs.Generic.{coding_of}
 use Rattle.jbig2_region.specs.GenericSteps.{read_pixels}
-use Rattle.jbig2_region.specs.Raster.{Coding, Region, at_pixel, no_pixels}
+use Rattle.jbig2_region.specs.Raster.{Coding, Region, at_pixel, no_pixels, source}
 use Rattle.jbig2_region.specs.Steps.{CountsRegion, coded_pixels, coded_runs, row_loads, row_tests, row_words}
 use Rattle.jbig2_region.specs.{Steps.{CountsSkipping, kept_pixels, skipping_loads, skipping_words}, inner.RegionViews.{skip_of}}
 use Rattle.jbig2_region.specs.Templates.{is_nominal, template_pixels, nominal_adaptive_pixels}
@@ -40,12 +40,12 @@ none-read t = rw (nominal t) refl
 
 -- what a generic region says of a plane
 pub plain-counts : (p : GrayScale) (adaptive : List AdaptiveTemplatePixel) (w h : ℕ) (bytes : List ℕ) (start : Region) (before after : Counts) → adaptive ≡ nominal_adaptive_pixels p.template
-    → CountsRegion (template_pixels false p.template adaptive) (is_nominal p.template adaptive) (read_pixels p.template adaptive) (coding_of false p.template (template_pixels false p.template adaptive)) w h bytes start before after
+    → CountsRegion (template_pixels false p.template adaptive) (is_nominal p.template adaptive) (read_pixels p.template adaptive) (coding_of false p.template (template_pixels false p.template adaptive)) (source w h bytes start) before after
     → CountsPlane p w h bytes start before after
 plain-counts p adaptive w h bytes start before after at counts =
-    let here = subst (λ (a : List AdaptiveTemplatePixel). CountsRegion (template_pixels false p.template a) (is_nominal p.template a) (read_pixels p.template a) (coding_of false p.template (template_pixels false p.template a)) w h bytes start before after) at counts in
-    let none = subst (λ (n : ℕ). CountsRegion (plane_pixels p) (is_nominal p.template (nominal_adaptive_pixels p.template)) n (plain_coding p) w h bytes start before after) (none-read p.template) here in
-    subst (λ (b : Bool). CountsRegion (plane_pixels p) b 0 (plain_coding p) w h bytes start before after) (nominal p.template) none
+    let here = subst (λ (a : List AdaptiveTemplatePixel). CountsRegion (template_pixels false p.template a) (is_nominal p.template a) (read_pixels p.template a) (coding_of false p.template (template_pixels false p.template a)) (source w h bytes start) before after) at counts in
+    let none = subst (λ (n : ℕ). CountsRegion (plane_pixels p) (is_nominal p.template (nominal_adaptive_pixels p.template)) n (plain_coding p) (source w h bytes start) before after) (none-read p.template) here in
+    subst (λ (b : Bool). CountsRegion (plane_pixels p) b 0 (plain_coding p) (source w h bytes start) before after) (nominal p.template) none
 
 -- every row of a plane is coded
 all-coded : (pixels : List AdaptiveTemplatePixel) (t : Template) (w h : ℕ) (bytes : List ℕ) (start : Region) → start.predicted ≡ false → coded_pixels (coding_of false t pixels) w h bytes start ≡ w * h

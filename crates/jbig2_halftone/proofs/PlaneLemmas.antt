@@ -11,7 +11,7 @@ use Rattle.jbig2_base.specs.Grid.{Grid, blank}
 use Rattle.jbig2_base.specs.declared.error.DecodeError.{DecodeError}
 use Rattle.jbig2_coder.specs.Coder.{Coder, Context, Registers, initial_registers}
 use Rattle.jbig2_region.specs.Generic.{coding_of}
-use Rattle.jbig2_region.specs.inner.RegionStates.{DecodesRegion, HasDecoded}
+use Rattle.jbig2_region.specs.inner.RegionStates.{DecodesRegion, HasDecoded, region_state}
 use Rattle.jbig2_region.specs.Raster.{so_far, decoded_region, no_pixels, fresh_contexts}
 use Rattle.jbig2_region.specs.{Generic.{skipping_coding}, inner.RegionViews.{skip_of}}
 use Rattle.jbig2_mmr.specs.T6.{Decoded, Rows, mmr_rows, grid_of_rows, rows_of}
@@ -44,11 +44,11 @@ plane-height w h bits grid e = ap (λ (g : Grid). g.height) e
 
 -- ---- a plane without skipped pixels is a generic region without typical prediction
 pub unskipped : (p : GrayScale) (adaptive : List AdaptiveTemplatePixel) (old : Grid) (coder : Coder) (states : List Context) (grid : Grid) (next : Coder) (after : List Context) → p.skip_mask ≡ None → adaptive ≡ nominal_adaptive_pixels p.template
-    → DecodesRegion (coding_of false p.template (template_pixels false p.template adaptive)) old coder states grid next after → DecodesRegion (plane_coding p) old coder states grid next after
+    → DecodesRegion (coding_of false p.template (template_pixels false p.template adaptive)) (region_state old coder states) (region_state grid next after) → DecodesRegion (plane_coding p) (region_state old coder states) (region_state grid next after)
 unskipped p adaptive old coder states grid next after none nominal holds =
     let pixels : List AdaptiveTemplatePixel = template_pixels false p.template adaptive in
-    let masked = subst (λ (m : Option Grid). HasDecoded old.width old.height coder.bytes (decoded_region (skipping_coding pixels m) old.width old.height coder.bytes (no_pixels coder.registers states)) grid next after) (sym none) holds in
-    subst (λ (a : List AdaptiveTemplatePixel). HasDecoded old.width old.height coder.bytes (decoded_region (skipping_coding (template_pixels false p.template a) p.skip_mask) old.width old.height coder.bytes (no_pixels coder.registers states)) grid next after) nominal masked
+    let masked = subst (λ (m : Option Grid). HasDecoded old.width old.height coder.bytes (decoded_region (skipping_coding pixels m) old.width old.height coder.bytes (no_pixels coder.registers states)) (region_state grid next after)) (sym none) holds in
+    subst (λ (a : List AdaptiveTemplatePixel). HasDecoded old.width old.height coder.bytes (decoded_region (skipping_coding (template_pixels false p.template a) p.skip_mask) old.width old.height coder.bytes (no_pixels coder.registers states)) (region_state grid next after)) nominal masked
 
 -- what a mask is that isn't there
 pub no-mask : (mask : Option (Bor Grid)) → is_some mask ≡ false → skip_of mask ≡ None
@@ -68,18 +68,18 @@ unfolding after_planes
 behind-none p input planes coder states none bytes registers contexts = record { done = none; bytes = bytes; registers = registers; contexts = contexts }
 
 pub coded-holds : (p : GrayScale) (input : List ℕ) (i : ℕ) (planes : List Grid) (before grid : Grid) (coder next : Coder) (states after : List Context) → before ≡ blank p.width p.height false
-    → HasDecoded before.width before.height coder.bytes (decoded_region (plane_coding p) before.width before.height coder.bytes (no_pixels coder.registers states)) grid next after
+    → HasDecoded before.width before.height coder.bytes (decoded_region (plane_coding p) before.width before.height coder.bytes (no_pixels coder.registers states)) (region_state grid next after)
     → AfterPlanes p input i planes coder states
-    → HasDecoded p.width p.height input (after_planes p input (i + 1)) grid next after
+    → HasDecoded p.width p.height input (after_planes p input (i + 1)) (region_state grid next after)
 unfolding after_planes
 coded-holds p input i planes before grid coder next states after white holds behind =
-    let two = subst (λ (b : List ℕ). HasDecoded before.width before.height b (decoded_region (plane_coding p) before.width before.height b (no_pixels coder.registers states)) grid next after) behind.bytes holds in
-    let three = subst (λ (g : Grid). HasDecoded g.width g.height input (decoded_region (plane_coding p) g.width g.height input (no_pixels coder.registers states)) grid next after) white two in
-    let four = subst (λ (r : Registers). HasDecoded p.width p.height input (decoded_region (plane_coding p) p.width p.height input (no_pixels r states)) grid next after) behind.registers three in
-    let five = subst (λ (s : List Context). HasDecoded p.width p.height input (decoded_region (plane_coding p) p.width p.height input (no_pixels (after_planes p input i).registers s)) grid next after) behind.contexts four in
+    let two = subst (λ (b : List ℕ). HasDecoded before.width before.height b (decoded_region (plane_coding p) before.width before.height b (no_pixels coder.registers states)) (region_state grid next after)) behind.bytes holds in
+    let three = subst (λ (g : Grid). HasDecoded g.width g.height input (decoded_region (plane_coding p) g.width g.height input (no_pixels coder.registers states)) (region_state grid next after)) white two in
+    let four = subst (λ (r : Registers). HasDecoded p.width p.height input (decoded_region (plane_coding p) p.width p.height input (no_pixels r states)) (region_state grid next after)) behind.registers three in
+    let five = subst (λ (s : List Context). HasDecoded p.width p.height input (decoded_region (plane_coding p) p.width p.height input (no_pixels (after_planes p input i).registers s)) (region_state grid next after)) behind.contexts four in
     rw add-one five
 
-pub coded-next : (p : GrayScale) (input : List ℕ) (i : ℕ) (old new : List Grid) (grid : Grid) (coder next : Coder) (states after : List Context) → HasDecoded p.width p.height input (after_planes p input (i + 1)) grid next after
+pub coded-next : (p : GrayScale) (input : List ℕ) (i : ℕ) (old new : List Grid) (grid : Grid) (coder next : Coder) (states after : List Context) → HasDecoded p.width p.height input (after_planes p input (i + 1)) (region_state grid next after)
     → new ≡ old ++ grid ∷ [] → AfterPlanes p input i old coder states → AfterPlanes p input (i + 1) new next after
 coded-next p input i old new grid coder next states after holds pushed behind = record {
   done =

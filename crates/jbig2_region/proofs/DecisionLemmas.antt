@@ -8,8 +8,8 @@ use Rattle.jbig2_region.specs.inner.Stretches.{rest_of}
 use Rattle.jbig2_region.specs.Steps.{CountsDecided}
 use Rattle.jbig2_region.specs.inner.RowCounts.{decided_pixels, decided_rows}
 use Rattle.jbig2_region.specs.inner.DecodedPixels.{DecodesPart, CountsPart}
-use Rattle.jbig2_region.specs.inner.RegionStates.{HasDecoded, BeginsRow}
-use Rattle.jbig2_region.specs.Raster.{Coding, Region, after_ltp, row_decisions}
+use Rattle.jbig2_region.specs.inner.RegionStates.{HasDecoded, BeginsRow, region_state}
+use Rattle.jbig2_region.specs.Raster.{Coding, Region, after_ltp, row_decisions, source}
 use Rattle.jbig2_region.specs.inner.Rows.{after_rows}
 use Rattle.jbig2_region.proofs.PlaceCounts.{decisions-by-rows}
 use Rattle.jbig2_region.proofs.RasterLemmas.{region-step, no-rows}
@@ -21,10 +21,10 @@ plus n = omega arith
 -- ---- a row more
 pub codes-row : (coding : Coding) (y : ℕ) (p q : Bool) (g1 : Grid) (c1 : Coder) (s1 : List Context) (c2 : Coder) (s2 : List Context) (g3 : Grid) (c3 : Coder) (s3 : List Context) (start : Region) (w h : ℕ) (input : List ℕ)
     → c1.bytes ≡ input → c2.bytes ≡ c1.bytes → length start.pixels ≡ 0
-    → ((w h : ℕ) (g : Grid) (r : Region) → r.predicted ≡ p → HasDecoded w h c1.bytes r g c1 s1 → BeginsRow w h coding.row_context r q g c1 c2 s2)
-    → DecodesPart coding q 0 y w g1 c2 s2 g3 c3 s3
-    → HasDecoded w h input (after_rows coding w h input y start) g1 c1 s1 → (after_rows coding w h input y start).predicted ≡ p
-    → HasDecoded w h input (after_rows coding w h input (y + 1) start) g3 c3 s3 × ((after_rows coding w h input (y + 1) start).predicted ≡ q)
+    → ((w h : ℕ) (g : Grid) (r : Region) → r.predicted ≡ p → HasDecoded w h c1.bytes r (region_state g c1 s1) → BeginsRow w h coding.row_context r q c1 (region_state g c2 s2))
+    → DecodesPart coding q 0 y w (region_state g1 c2 s2) (region_state g3 c3 s3)
+    → HasDecoded w h input (after_rows coding w h input y start) (region_state g1 c1 s1) → (after_rows coding w h input y start).predicted ≡ p
+    → HasDecoded w h input (after_rows coding w h input (y + 1) start) (region_state g3 c3 s3) × ((after_rows coding w h input (y + 1) start).predicted ≡ q)
 codes-row coding y p q g1 c1 s1 c2 s2 g3 c3 s3 start w h input same after none begin codes holds predicted =
     region-step coding y p q g1 c1 s1 c2 s2 g3 c3 s3 start w h input w h refl refl same after none begin
     (λ r len is held. codes w h c2.bytes r (len ∙ plus (y * w)) is held)
@@ -43,9 +43,9 @@ unfolding decided_rows
 decided-row coding w h input y start = rw add-one refl
 
 pub decided-next : (coding : Coding) (y : ℕ) (p q : Bool) (g1 : Grid) (c1 : Coder) (s1 : List Context) (c2 : Coder) (s2 : List Context) (start : Region) (w h : ℕ) (input : List ℕ) (d0 d1 d2 d3 : ℕ)
-    → c1.bytes ≡ input → length start.pixels ≡ 0 → ((w h : ℕ) (g : Grid) (r : Region) → r.predicted ≡ p → HasDecoded w h c1.bytes r g c1 s1 → BeginsRow w h coding.row_context r q g c1 c2 s2)
-    → HasDecoded w h input (after_rows coding w h input y start) g1 c1 s1 → (after_rows coding w h input y start).predicted ≡ p
-    → Decided coding w h input y start d0 d1 → d2 ≡ d1 + row_decisions coding.row_context → CountsPart coding q 0 y w g1 c2 s2 d2 d3
+    → c1.bytes ≡ input → length start.pixels ≡ 0 → ((w h : ℕ) (g : Grid) (r : Region) → r.predicted ≡ p → HasDecoded w h c1.bytes r (region_state g c1 s1) → BeginsRow w h coding.row_context r q c1 (region_state g c2 s2))
+    → HasDecoded w h input (after_rows coding w h input y start) (region_state g1 c1 s1) → (after_rows coding w h input y start).predicted ≡ p
+    → Decided coding w h input y start d0 d1 → d2 ≡ d1 + row_decisions coding.row_context → CountsPart coding q 0 y w (region_state g1 c2 s2) d2 d3
     → Decided coding w h input (y + 1) start d0 d3
 decided-next coding y p q g1 c1 s1 c2 s2 start w h input d0 d1 d2 d3 same none begin holds predicted before more row =
     let at = begin-region coding y p q g1 c1 s1 c2 s2 start w h input same none begin holds predicted in
@@ -58,7 +58,7 @@ decided-next coding y p q g1 c1 s1 c2 s2 start w h input d0 d1 d2 d3 same none b
     sum d0 d1 d2 d3 rd rows row y one two three = omega arith
 
 -- ---- whole regions
-pub decided-empty : (coding : Coding) (loads w h : ℕ) (input : List ℕ) (start : Region) (steps : Counts) → w ≡ 0 → CountsDecided coding loads w h input start steps steps
+pub decided-empty : (coding : Coding) (loads w h : ℕ) (input : List ℕ) (start : Region) (steps : Counts) → w ≡ 0 → CountsDecided coding loads (source w h input start) steps steps
 decided-empty coding loads w h input start steps none = record {
   empty = λ _. refl;
   decisions = λ some. absurd (omega arith);
@@ -70,7 +70,7 @@ decided-empty coding loads w h input start steps none = record {
 
 pub decided-region : (coding : Coding) (loads w h y : ℕ) (input : List ℕ) (start : Region) (before after : Counts) → length start.pixels ≡ 0 → (w ≡ 0 → ⊥) → y ≡ h → (y ≡ 0 → after ≡ before)
     → Decided coding w h input y start before.decisions after.decisions → rest_of after ≡ rest_of before → after.words ≤ before.words + y * w → after.loads ≤ before.loads + y * loads
-    → CountsDecided coding loads w h input start before after
+    → CountsDecided coding loads (source w h input start) before after
 decided-region coding loads w h y input start before after empty some all none counted untouched words loaded = record {
   empty = λ product. none (no-rows w h y some all product);
   decisions = λ _.

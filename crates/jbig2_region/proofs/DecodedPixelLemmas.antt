@@ -8,22 +8,22 @@ use Rattle.jbig2_coder.specs.Coder.{Coder, Context, decision, fresh}
 use Rattle.jbig2_region.specs.Steps.{takes_decision}
 use Rattle.jbig2_region.specs.inner.RowCounts.{decided_pixels}
 use Rattle.jbig2_region.specs.inner.DecodedPixels.{DecodesPart, CountsPart, Takes}
-use Rattle.jbig2_region.specs.inner.RegionStates.{HasDecoded}
+use Rattle.jbig2_region.specs.inner.RegionStates.{HasDecoded, counted_decoder, region_state}
 use Rattle.jbig2_region.specs.Raster.{Coding, Region, after_pixel}
 use Rattle.jbig2_region.specs.inner.Rows.{after_pixels}
 use Rattle.jbig2_region.proofs.RasterLemmas.{HasDecoded-known, HasDecoded-decided, after_pixels-length, after_pixels-predicted, after_pixels-one, after_pixels-none, after_pixels-add}
 use Rattle.jbig2_region.proofs.StoreLemmas.{Pushes, none-stored, white-next, width-so_far, height-so_far}
 
 -- ---- no pixel
-pub codes-none : (coding : Coding) (p : Bool) (x y : ℕ) (g : Grid) (d : Coder) (s : List Context) → DecodesPart coding p x y 0 g d s g d s
-codes-none coding p x y g d s = λ w h input r len predicted holds. subst (λ (n : Region). HasDecoded w h input n g d s) (sym (after_pixels-none coding w h input r)) holds
+pub codes-none : (coding : Coding) (p : Bool) (x y : ℕ) (g : Grid) (d : Coder) (s : List Context) → DecodesPart coding p x y 0 (region_state g d s) (region_state g d s)
+codes-none coding p x y g d s = λ w h input r len predicted holds. subst (λ (n : Region). HasDecoded w h input n (region_state g d s)) (sym (after_pixels-none coding w h input r)) holds
 
-pub codes-start : (coding : Coding) (p : Bool) (x y b : ℕ) (g : Grid) (d : Coder) (s : List Context) → DecodesPart coding p x y 0 g d s (with_pixels g x y 0 b) d s
+pub codes-start : (coding : Coding) (p : Bool) (x y b : ℕ) (g : Grid) (d : Coder) (s : List Context) → DecodesPart coding p x y 0 (region_state g d s) (region_state (with_pixels g x y 0 b) d s)
 codes-start coding p x y b g d s = λ w h input r len predicted holds.
-    subst (λ (n : Region). HasDecoded w h input n (with_pixels g x y 0 b) d s) (sym (after_pixels-none coding w h input r))
-    (subst (λ (q : Grid). HasDecoded w h input r q d s) (sym (none-stored w h r.pixels g x y b holds.pixels)) holds)
+    subst (λ (n : Region). HasDecoded w h input n (region_state (with_pixels g x y 0 b) d s)) (sym (after_pixels-none coding w h input r))
+    (subst (λ (q : Grid). HasDecoded w h input r (region_state q d s)) (sym (none-stored w h r.pixels g x y b holds.pixels)) holds)
 
-pub counts-none : (coding : Coding) (p : Bool) (x y : ℕ) (g : Grid) (d : Coder) (s : List Context) (count : ℕ) → CountsPart coding p x y 0 g d s count count
+pub counts-none : (coding : Coding) (p : Bool) (x y : ℕ) (g : Grid) (d : Coder) (s : List Context) (count : ℕ) → CountsPart coding p x y 0 (region_state g d s) count count
 unfolding decided_pixels
 counts-none coding p x y g d s count = λ w h input r len predicted holds. omega arith
 
@@ -34,10 +34,10 @@ record Next (w h : ℕ) (input : List ℕ) (made : Region) (x y : ℕ) (p : Bool
   pub predicted : made.predicted ≡ p
   pub left : x < w
   pub above : y < h
-  pub holds : HasDecoded w h input made g d s
+  pub holds : HasDecoded w h input made (region_state g d s)
 
-next-of : (coding : Coding) (p : Bool) (x y k : ℕ) (g0 g : Grid) (d0 d : Coder) (s0 s : List Context) → DecodesPart coding p x y k g0 d0 s0 g d s → x + k < g.width → y < g.height
-    → (w h : ℕ) (input : List ℕ) (r : Region) → length r.pixels ≡ y * w + x → r.predicted ≡ p → HasDecoded w h input r g0 d0 s0 → Next w h input (after_pixels coding w h input k r) (x + k) y p g d s
+next-of : (coding : Coding) (p : Bool) (x y k : ℕ) (g0 g : Grid) (d0 d : Coder) (s0 s : List Context) → DecodesPart coding p x y k (region_state g0 d0 s0) (region_state g d s) → x + k < g.width → y < g.height
+    → (w h : ℕ) (input : List ℕ) (r : Region) → length r.pixels ≡ y * w + x → r.predicted ≡ p → HasDecoded w h input r (region_state g0 d0 s0) → Next w h input (after_pixels coding w h input k r) (x + k) y p g d s
 next-of coding p x y k g0 g d0 d s0 s before left above w h input r len predicted holds =
     let at = before w h input r len predicted holds in
     let made : Region = after_pixels coding w h input k r in
@@ -56,9 +56,9 @@ abbrev pub PushesColour : Grid → Grid → ℕ → ℕ → ℕ → Type 0
 PushesColour g g' x y symbol = (c : Bool) → symbol ≡ bit_number c → Pushes g g' x y c
 
 pub codes-next : (coding : Coding) (p : Bool) (x y k : ℕ) (g0 g g' : Grid) (d0 d d' : Coder) (s0 s s' : List Context) (before after : Counts) (known : Option Bool) (n symbol : ℕ)
-    → DecodesPart coding p x y k g0 d0 s0 g d s → x + k < g.width → y < g.height → coding.known p g (x + k) y ≡ known → n ≡ coding.context g (x + k) y
-    → PushesColour g g' (x + k) y symbol → Takes known n d s before symbol d' s' after
-    → DecodesPart coding p x y (k + 1) g0 d0 s0 g' d' s'
+    → DecodesPart coding p x y k (region_state g0 d0 s0) (region_state g d s) → x + k < g.width → y < g.height → coding.known p g (x + k) y ≡ known → n ≡ coding.context g (x + k) y
+    → PushesColour g g' (x + k) y symbol → Takes known n (counted_decoder d s before) symbol (counted_decoder d' s' after)
+    → DecodesPart coding p x y (k + 1) (region_state g0 d0 s0) (region_state g' d' s')
 codes-next coding p x y k g0 g g' d0 d d' s0 s s' before after (Some c) n symbol made left above is_known is_context pushes takes = λ w h input r len predicted holds.
     let next = next-of coding p x y k g0 g d0 d s0 s made left above w h input r len predicted holds in
     let white = white-next w h (after_pixels coding w h input k r).pixels g (x + k) y next.holds.pixels next.size next.left next.above in
@@ -83,7 +83,7 @@ decided-one : (coding : Coding) (w h : ℕ) (input : List ℕ) (k : ℕ) (r : Re
 unfolding decided_pixels
 decided-one coding w h input k r = rw add-one
 
-taken-steps : (known : Option Bool) (n : ℕ) (d : Coder) (s : List Context) (before : Counts) (symbol : ℕ) (d' : Coder) (s' : List Context) (after : Counts) → Takes known n d s before symbol d' s' after → after ≡ record before { decisions = before.decisions + bit_number (is_none known) }
+taken-steps : (known : Option Bool) (n : ℕ) (d : Coder) (s : List Context) (before : Counts) (symbol : ℕ) (d' : Coder) (s' : List Context) (after : Counts) → Takes known n (counted_decoder d s before) symbol (counted_decoder d' s' after) → after ≡ record before { decisions = before.decisions + bit_number (is_none known) }
 taken-steps (Some c) n d s before symbol d' s' after takes = takes.steps ∙ same before
   where
     same : (t : Counts) → t ≡ record t { decisions = t.decisions + 0 }
@@ -92,25 +92,25 @@ taken-steps (Some c) n d s before symbol d' s' after takes = takes.steps ∙ sam
         ap (λ (k : ℕ). let made : Counts = record t { decisions = k } in made) none
 taken-steps None n d s before symbol d' s' after takes = takes.steps
 
-pub taken-decisions : (known : Option Bool) (n : ℕ) (d : Coder) (s : List Context) (before : Counts) (symbol : ℕ) (d' : Coder) (s' : List Context) (after : Counts) → Takes known n d s before symbol d' s' after → after.decisions ≡ before.decisions + bit_number (is_none known)
+pub taken-decisions : (known : Option Bool) (n : ℕ) (d : Coder) (s : List Context) (before : Counts) (symbol : ℕ) (d' : Coder) (s' : List Context) (after : Counts) → Takes known n (counted_decoder d s before) symbol (counted_decoder d' s' after) → after.decisions ≡ before.decisions + bit_number (is_none known)
 taken-decisions known n d s before symbol d' s' after takes = ap (λ (t : Counts). t.decisions) (taken-steps known n d s before symbol d' s' after takes)
 
-pub taken-others : (known : Option Bool) (n : ℕ) (d : Coder) (s : List Context) (before : Counts) (symbol : ℕ) (d' : Coder) (s' : List Context) (after : Counts) → Takes known n d s before symbol d' s' after → after ≡ record before { decisions = after.decisions }
+pub taken-others : (known : Option Bool) (n : ℕ) (d : Coder) (s : List Context) (before : Counts) (symbol : ℕ) (d' : Coder) (s' : List Context) (after : Counts) → Takes known n (counted_decoder d s before) symbol (counted_decoder d' s' after) → after ≡ record before { decisions = after.decisions }
 taken-others known n d s before symbol d' s' after takes =
     let all = taken-steps known n d s before symbol d' s' after takes in
     all ∙ ap (λ (k : ℕ). let made : Counts = record before { decisions = k } in made) (sym (ap (λ (t : Counts). t.decisions) all))
 
-pub taken-bytes : (known : Option Bool) (n : ℕ) (d : Coder) (s : List Context) (before : Counts) (symbol : ℕ) (d' : Coder) (s' : List Context) (after : Counts) → Takes known n d s before symbol d' s' after → d'.bytes ≡ d.bytes
+pub taken-bytes : (known : Option Bool) (n : ℕ) (d : Coder) (s : List Context) (before : Counts) (symbol : ℕ) (d' : Coder) (s' : List Context) (after : Counts) → Takes known n (counted_decoder d s before) symbol (counted_decoder d' s' after) → d'.bytes ≡ d.bytes
 taken-bytes (Some c) n d s before symbol d' s' after takes = ap (λ (q : Coder). q.bytes) takes.coder
 taken-bytes None n d s before symbol d' s' after takes = ap (λ (q : Coder). q.bytes) takes.coder
 
-pub taken-digit : (known : Option Bool) (n : ℕ) (d : Coder) (s : List Context) (before : Counts) (symbol : ℕ) (d' : Coder) (s' : List Context) (after : Counts) → Takes known n d s before symbol d' s' after → (c : Bool) × (symbol ≡ bit_number c)
+pub taken-digit : (known : Option Bool) (n : ℕ) (d : Coder) (s : List Context) (before : Counts) (symbol : ℕ) (d' : Coder) (s' : List Context) (after : Counts) → Takes known n (counted_decoder d s before) symbol (counted_decoder d' s' after) → (c : Bool) × (symbol ≡ bit_number c)
 taken-digit (Some c) n d s before symbol d' s' after takes = (c, takes.symbol)
 taken-digit None n d s before symbol d' s' after takes = ((decision d.bytes d.registers (get_or s n fresh)).symbol, takes.symbol)
 
 pub counts-next : (coding : Coding) (p : Bool) (x y k : ℕ) (g0 g : Grid) (d0 d : Coder) (s0 s : List Context) (known : Option Bool) (c0 c1 c2 : ℕ)
-    → DecodesPart coding p x y k g0 d0 s0 g d s → CountsPart coding p x y k g0 d0 s0 c0 c1 → x + k < g.width → y < g.height → coding.known p g (x + k) y ≡ known → c2 ≡ c1 + bit_number (is_none known)
-    → CountsPart coding p x y (k + 1) g0 d0 s0 c0 c2
+    → DecodesPart coding p x y k (region_state g0 d0 s0) (region_state g d s) → CountsPart coding p x y k (region_state g0 d0 s0) c0 c1 → x + k < g.width → y < g.height → coding.known p g (x + k) y ≡ known → c2 ≡ c1 + bit_number (is_none known)
+    → CountsPart coding p x y (k + 1) (region_state g0 d0 s0) c0 c2
 counts-next coding p x y k g0 g d0 d s0 s known c0 c1 c2 made counted left above is_known more = λ w h input r len predicted holds.
     let next = next-of coding p x y k g0 g d0 d s0 s made left above w h input r len predicted holds in
     let one = takes-next coding w h input (after_pixels coding w h input k r) (x + k) y p g d s next in
@@ -120,11 +120,11 @@ counts-next coding p x y k g0 g d0 d s0 s known c0 c1 c2 made counted left above
     sum a b c n m one two = omega arith
 
 -- ---- several pixels
-pub codes-then : (coding : Coding) (p : Bool) (x x' y n m k : ℕ) (g0 g1 g2 : Grid) (d0 d1 d2 : Coder) (s0 s1 s2 : List Context) → DecodesPart coding p x y n g0 d0 s0 g1 d1 s1 → DecodesPart coding p x' y m g1 d1 s1 g2 d2 s2 → x' ≡ x + n → k ≡ n + m → DecodesPart coding p x y k g0 d0 s0 g2 d2 s2
+pub codes-then : (coding : Coding) (p : Bool) (x x' y n m k : ℕ) (g0 g1 g2 : Grid) (d0 d1 d2 : Coder) (s0 s1 s2 : List Context) → DecodesPart coding p x y n (region_state g0 d0 s0) (region_state g1 d1 s1) → DecodesPart coding p x' y m (region_state g1 d1 s1) (region_state g2 d2 s2) → x' ≡ x + n → k ≡ n + m → DecodesPart coding p x y k (region_state g0 d0 s0) (region_state g2 d2 s2)
 codes-then coding p x x' y n m k g0 g1 g2 d0 d1 d2 s0 s1 s2 one two place sum = λ w h input r len predicted holds.
     let made : Region = after_pixels coding w h input n r in
     let size : length made.pixels ≡ y * w + x' = after_pixels-length coding w h input n r ∙ omega arith in
-    subst (λ (q : Region). HasDecoded w h input q g2 d2 s2) (sym (ap (λ (i : ℕ). after_pixels coding w h input i r) sum ∙ after_pixels-add coding w h input n m r))
+    subst (λ (q : Region). HasDecoded w h input q (region_state g2 d2 s2)) (sym (ap (λ (i : ℕ). after_pixels coding w h input i r) sum ∙ after_pixels-add coding w h input n m r))
     (two w h input made size (after_pixels-predicted coding w h input n r ∙ predicted) (one w h input r len predicted holds))
 
 decided-add : (coding : Coding) (w h : ℕ) (input : List ℕ) (n m : ℕ) (r : Region) → decided_pixels coding w h input (n + m) r ≡ decided_pixels coding w h input n r + decided_pixels coding w h input m (after_pixels coding w h input n r)
@@ -136,7 +136,7 @@ decided-add coding w h input n (suc m) r =
     let next : n + suc m ≡ suc (n + m) = omega arith in
     ap (λ (k : ℕ). decided_pixels coding w h input k r) next ∙ rw (decided-add coding w h input n m r, after_pixels-add coding w h input n m r) (omega arith)
 
-pub counts-then : (coding : Coding) (p : Bool) (x x' y n m k : ℕ) (g0 g1 : Grid) (d0 d1 : Coder) (s0 s1 : List Context) (c0 c1 c2 : ℕ) → DecodesPart coding p x y n g0 d0 s0 g1 d1 s1 → CountsPart coding p x y n g0 d0 s0 c0 c1 → CountsPart coding p x' y m g1 d1 s1 c1 c2 → x' ≡ x + n → k ≡ n + m → CountsPart coding p x y k g0 d0 s0 c0 c2
+pub counts-then : (coding : Coding) (p : Bool) (x x' y n m k : ℕ) (g0 g1 : Grid) (d0 d1 : Coder) (s0 s1 : List Context) (c0 c1 c2 : ℕ) → DecodesPart coding p x y n (region_state g0 d0 s0) (region_state g1 d1 s1) → CountsPart coding p x y n (region_state g0 d0 s0) c0 c1 → CountsPart coding p x' y m (region_state g1 d1 s1) c1 c2 → x' ≡ x + n → k ≡ n + m → CountsPart coding p x y k (region_state g0 d0 s0) c0 c2
 counts-then coding p x x' y n m k g0 g1 d0 d1 s0 s1 c0 c1 c2 made one two place sum = λ w h input r len predicted holds.
     let region : Region = after_pixels coding w h input n r in
     let size : length region.pixels ≡ y * w + x' = after_pixels-length coding w h input n r ∙ omega arith in
@@ -151,23 +151,23 @@ counts-then coding p x x' y n m k g0 g1 d0 d1 s0 s1 c0 c1 c2 made one two place 
 after-one : (coding : Coding) (w h : ℕ) (input : List ℕ) (r : Region) → after_pixels coding w h input 1 r ≡ after_pixel coding w h input r
 after-one coding w h input r = after_pixels-one coding w h input 0 r ∙ ap (λ (q : Region). after_pixel coding w h input q) (after_pixels-none coding w h input r)
 
-pub pixel-known : (coding : Coding) (p : Bool) (x y : ℕ) (g g' : Grid) (d : Coder) (s : List Context) (c : Bool) → x < g.width → y < g.height → coding.known p g x y ≡ Some c → g' ≡ with_pixel g x y c → DecodesPart coding p x y 1 g d s g' d s
+pub pixel-known : (coding : Coding) (p : Bool) (x y : ℕ) (g g' : Grid) (d : Coder) (s : List Context) (c : Bool) → x < g.width → y < g.height → coding.known p g x y ≡ Some c → g' ≡ with_pixel g x y c → DecodesPart coding p x y 1 (region_state g d s) (region_state g' d s)
 pixel-known coding p x y g g' d s c left above is_known written = λ w h input r len predicted holds.
     let wide : g.width ≡ w = ap (λ (q : Grid). q.width) holds.pixels ∙ width-so_far w h r.pixels in
     let high : g.height ≡ h = ap (λ (q : Grid). q.height) holds.pixels ∙ height-so_far w h r.pixels in
-    subst (λ (q : Region). HasDecoded w h input q g' d s) (sym (after-one coding w h input r))
+    subst (λ (q : Region). HasDecoded w h input q (region_state g' d s)) (sym (after-one coding w h input r))
     (HasDecoded-known coding w h input r g g' d s x y p c len (omega arith) (omega arith) predicted is_known written holds)
 
 pub pixel-decided : (coding : Coding) (p : Bool) (x y k : ℕ) (g g' : Grid) (d d' : Coder) (s : List Context) (old new : Context) → x < g.width → y < g.height → coding.known p g x y ≡ None → k ≡ coding.context g x y → old ≡ get_or s k fresh
     → g' ≡ with_pixel g x y (decision d.bytes d.registers old).symbol → d' ≡ record d { registers = (decision d.bytes d.registers old).registers } → new ≡ (decision d.bytes d.registers old).context
-    → DecodesPart coding p x y 1 g d s g' d' (set s k new)
+    → DecodesPart coding p x y 1 (region_state g d s) (region_state g' d' (set s k new))
 pixel-decided coding p x y k g g' d d' s old new left above is_open is_context is_old written is_next is_new = λ w h input r len predicted holds.
     let wide : g.width ≡ w = ap (λ (q : Grid). q.width) holds.pixels ∙ width-so_far w h r.pixels in
     let high : g.height ≡ h = ap (λ (q : Grid). q.height) holds.pixels ∙ height-so_far w h r.pixels in
-    subst (λ (q : Region). HasDecoded w h input q g' d' (set s k new)) (sym (after-one coding w h input r))
+    subst (λ (q : Region). HasDecoded w h input q (region_state g' d' (set s k new))) (sym (after-one coding w h input r))
     (HasDecoded-decided coding w h input r g g' d d' s x y k p old new len (omega arith) (omega arith) predicted is_open is_context is_old written is_next is_new holds)
 
-pub pixel-counts : (coding : Coding) (p : Bool) (x y : ℕ) (g : Grid) (d : Coder) (s : List Context) (known : Option Bool) (before after : ℕ) → x < g.width → y < g.height → coding.known p g x y ≡ known → after ≡ before + bit_number (is_none known) → CountsPart coding p x y 1 g d s before after
+pub pixel-counts : (coding : Coding) (p : Bool) (x y : ℕ) (g : Grid) (d : Coder) (s : List Context) (known : Option Bool) (before after : ℕ) → x < g.width → y < g.height → coding.known p g x y ≡ known → after ≡ before + bit_number (is_none known) → CountsPart coding p x y 1 (region_state g d s) before after
 pixel-counts coding p x y g d s known before after left above is_known more =
     let same : x + 0 ≡ x = omega arith in
     counts-next coding p x y 0 g g d d s s known before before after (codes-none coding p x y g d s) (counts-none coding p x y g d s before) (omega arith) above

@@ -6,7 +6,7 @@ use Rattle.jbig2_base.specs.Counts.{Counts}
 use Rattle.jbig2_steps.specs.Work.{counted, price_of_bitmap, words_of_row}
 use Rattle.jbig2_steps.proofs.WorkLemmas.{row-paid}
 use Rattle.jbig2_region.specs.GenericSteps.{CountsCoded, read_pixels}
-use Rattle.jbig2_region.specs.Raster.{Coding, Region, row_decisions}
+use Rattle.jbig2_region.specs.Raster.{Coding, Region, row_decisions, source}
 use Rattle.jbig2_region.specs.Steps.{CountsRegion, coded_pixels, row_loads, row_tests, row_words}
 use Rattle.jbig2_region.specs.Templates.{adaptive_pixel_count, context_bits, is_nominal}
 use Rattle.jbig2_region.specs.declared.template.AdaptiveTemplatePixel.{AdaptiveTemplatePixel}
@@ -43,11 +43,11 @@ rows-few w h m row pixels tests words loads adaptive wide some begun coded teste
     let e : pixels * adaptive ≤ pixels * 4 = mul-le-mul_left pixels few in
     omega (arith, across, high, a, b, c, d, e)
 
-counted-more : (template : List AdaptiveTemplatePixel) (nominal : Bool) (adaptive : ℕ) (coding : Coding) (w h : ℕ) (bytes : List ℕ) (start : Region) (before after : Counts) → 1 ≤ w → CountsRegion template nominal adaptive coding w h bytes start before after → (n : ℕ) → h * row_decisions coding.row_context + coded_pixels coding w h bytes start + h * row_tests nominal w + h * row_words nominal w + (h * row_loads nominal w + coded_pixels coding w h bytes start * adaptive) ≤ n → counted after ≤ counted before + n
+counted-more : (template : List AdaptiveTemplatePixel) (nominal : Bool) (adaptive : ℕ) (coding : Coding) (w h : ℕ) (bytes : List ℕ) (start : Region) (before after : Counts) → 1 ≤ w → CountsRegion template nominal adaptive coding (source w h bytes start) before after → (n : ℕ) → h * row_decisions coding.row_context + coded_pixels coding w h bytes start + h * row_tests nominal w + h * row_words nominal w + (h * row_loads nominal w + coded_pixels coding w h bytes start * adaptive) ≤ n → counted after ≤ counted before + n
 counted-more template nominal adaptive coding w h bytes start before after some counts n all =
     omega (arith, counts.decisions some, counts.run_tests, counts.words, counts.loads, counts.lanes.groups, counts.lanes.pixels)
 
-pub region-paid : (template : List AdaptiveTemplatePixel) (nominal : Bool) (adaptive : ℕ) (coding : Coding) (w h : ℕ) (bytes : List ℕ) (start : Region) (before after : Counts) → adaptive ≤ 4 → CountsRegion template nominal adaptive coding w h bytes start before after → counted after ≤ counted before + 32 * price_of_bitmap w h
+pub region-paid : (template : List AdaptiveTemplatePixel) (nominal : Bool) (adaptive : ℕ) (coding : Coding) (w h : ℕ) (bytes : List ℕ) (start : Region) (before after : Counts) → adaptive ≤ 4 → CountsRegion template nominal adaptive coding (source w h bytes start) before after → counted after ≤ counted before + 32 * price_of_bitmap w h
 region-paid template nominal adaptive coding zero h bytes start before after few counts =
     let none : counted after ≡ counted before = ap (λ (c : Counts). counted c) (counts.empty (omega arith)) in
     omega (arith, none)
@@ -81,6 +81,6 @@ all-read w bits most =
     let each : w * (bits + 1) ≤ w * 17 = mul-le-mul_left w (omega arith) in
     omega (arith, each)
 
-pub coded-paid : (extended : Bool) (template : Template) (a : List AdaptiveTemplatePixel) (coding : Coding) (w h : ℕ) (bytes : List ℕ) (start : Region) (before after : Counts) → CountsCoded extended template a coding w h bytes start before after → counted after ≤ counted before + 32 * price_of_bitmap w h
+pub coded-paid : (extended : Bool) (template : Template) (a : List AdaptiveTemplatePixel) (coding : Coding) (w h : ℕ) (bytes : List ℕ) (start : Region) (before after : Counts) → CountsCoded extended template a coding (source w h bytes start) before after → counted after ≤ counted before + 32 * price_of_bitmap w h
 coded-paid true template a coding w h bytes start before after counts = decided-paid coding (w * (context_bits template + 1)) w h bytes start before after (all-read w (context_bits template) (bits-most template)) counts
 coded-paid false template a coding w h bytes start before after counts = region-paid _ (is_nominal template a) (read_pixels template a) coding w h bytes start before after (read_pixels-few template a) counts

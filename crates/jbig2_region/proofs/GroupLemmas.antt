@@ -7,7 +7,7 @@ use Rattle.jbig2_base.specs.Grid.{Grid}
 use Rattle.jbig2_base.specs.Bits.{bit}
 use Rattle.jbig2_base.specs.Writes.{with_pixels}
 use Rattle.jbig2_coder.specs.Coder.{Coder, Context}
-use Rattle.jbig2_region.specs.inner.RegionStates.{HasDecoded}
+use Rattle.jbig2_region.specs.inner.RegionStates.{HasDecoded, region_state}
 use Rattle.jbig2_region.specs.inner.Neighbours.{nominal_pixels, neighbours_stay, is_field, IsNear, IsLeft, SameAbove, Shows, ShowsByte, ShowsGroup, ShowsRun}
 use Rattle.jbig2_region.specs.Raster.{Region, so_far}
 use Rattle.jbig2_region.specs.Steps.{has_all, stays}
@@ -51,7 +51,7 @@ second-stays n c left v near is =
 
 -- 64 pixels, by both windows
 both-stay : (n : Neighbours) (c : Bool) (left : ℕ) (v : WideWindows) (w h x y : ℕ) (r : Region) (grid : Grid) (d : Coder) (s : List Context) → IsNear n → length r.pixels ≡ y * w + x → x + 64 < w → y < h
-    → Shows grid x y 44 v.first → Shows grid (x + 32) y 44 v.second → IsLeft grid x y left → HasDecoded w h d.bytes r grid d s → neighbours_stay n 32 c left v.first ≡ true → neighbours_stay n 32 c left v.second ≡ true → stays (nominal_pixels n) w h c 64 r.pixels ≡ true
+    → Shows grid x y 44 v.first → Shows grid (x + 32) y 44 v.second → IsLeft grid x y left → HasDecoded w h d.bytes r (region_state grid d s) → neighbours_stay n 32 c left v.first ≡ true → neighbours_stay n 32 c left v.second ≡ true → stays (nominal_pixels n) w h c 64 r.pixels ≡ true
 both-stay n c left v w h x y r grid d s near len within above first second before holds one two =
     let now : Grid = so_far w h r.pixels in
     let then : Grid = so_far w h (r.pixels ++ replicate 32 c) in
@@ -69,7 +69,7 @@ both-stay n c left v w h x y r grid d s near len within above first second befor
 
 -- the kernel's test of this many bytes: one, four or eight
 pub group-stays : (n : Neighbours) (c : Bool) (left most staying : ℕ) (v : WideWindows) (w h x y : ℕ) (r : Region) (grid : Grid) (d : Coder) (s : List Context) → IsNear n → 1 ≤ staying → staying ≤ most → length r.pixels ≡ y * w + x → x + 8 * most < w → y < h
-    → ShowsRun grid x y most v → IsLeft grid x y left → HasDecoded w h d.bytes r grid d s → neighbours_stay n (8 * min staying 4) c left v.first ≡ true → (5 ≤ staying → (staying ≡ 8) × (neighbours_stay n 32 c left v.second ≡ true)) → stays (nominal_pixels n) w h c (8 * staying) r.pixels ≡ true
+    → ShowsRun grid x y most v → IsLeft grid x y left → HasDecoded w h d.bytes r (region_state grid d s) → neighbours_stay n (8 * min staying 4) c left v.first ≡ true → (5 ≤ staying → (staying ≡ 8) × (neighbours_stay n 32 c left v.second ≡ true)) → stays (nominal_pixels n) w h c (8 * staying) r.pixels ≡ true
 group-stays n c left most staying v w h x y r grid d s near some within len columns above shows before holds one two =
     ⊎_elim
     (λ (few : staying < 5).

@@ -5,7 +5,7 @@ use Rattle.std.proofs.lemmas.Nat.{mod-mul-add}
 use Rattle.jbig2_base.specs.Grid.{Grid, blank}
 use Rattle.jbig2_coder.specs.Coder.{Coder, Context}
 use Rattle.jbig2_region.specs.Raster.{Coding, Region, after_pixel, at_next, at_pixel, decoded_region, first_pixels, no_pixels, after_ltp}
-use Rattle.jbig2_region.specs.inner.RegionStates.{HasDecoded}
+use Rattle.jbig2_region.specs.inner.RegionStates.{HasDecoded, region_state}
 use Rattle.jbig2_region.specs.inner.Rows.{after_pixels, after_rows, rows_region}
 use Rattle.jbig2_region.proofs.RasterLemmas.{region-start, after_ltp-pixels, with_next-length, with_next-predicted}
 
@@ -116,10 +116,10 @@ decoded-empty coding w h input start none empty = decoded-by-rows coding w h inp
 decoded-rows : (coding : Coding) (w h : ℕ) (input : List ℕ) (start : Region) → length start.pixels ≡ 0 → eqb w 0 ≡ false → decoded_region coding w h input start ≡ after_rows coding w h input h start
 decoded-rows coding w h input start none some = decoded-by-rows coding w h input start none ∙ some-rows coding w h input start some
 
-pub region-empty : (coding : Coding) (w h : ℕ) (grid : Grid) (coder : Coder) (states : List Context) → w ≡ 0 → grid ≡ blank w h false → HasDecoded w h coder.bytes (decoded_region coding w h coder.bytes (no_pixels coder.registers states)) grid coder states
+pub region-empty : (coding : Coding) (w h : ℕ) (grid : Grid) (coder : Coder) (states : List Context) → w ≡ 0 → grid ≡ blank w h false → HasDecoded w h coder.bytes (decoded_region coding w h coder.bytes (no_pixels coder.registers states)) (region_state grid coder states)
 region-empty coding w h grid coder states empty white =
-    subst (λ (n : Region). HasDecoded w h coder.bytes n grid coder states) (sym (decoded-empty coding w h coder.bytes (no_pixels coder.registers states) refl empty)) (region-start w h grid coder states white)
+    subst (λ (n : Region). HasDecoded w h coder.bytes n (region_state grid coder states)) (sym (decoded-empty coding w h coder.bytes (no_pixels coder.registers states) refl empty)) (region-start w h grid coder states white)
 
-pub region-whole : (coding : Coding) (w h n : ℕ) (input : List ℕ) (start : Region) (grid : Grid) (coder : Coder) (states : List Context) → length start.pixels ≡ 0 → (w ≡ 0 → ⊥) → n ≡ h → HasDecoded w h input (after_rows coding w h input n start) grid coder states → HasDecoded w h input (decoded_region coding w h input start) grid coder states
+pub region-whole : (coding : Coding) (w h n : ℕ) (input : List ℕ) (start : Region) (grid : Grid) (coder : Coder) (states : List Context) → length start.pixels ≡ 0 → (w ≡ 0 → ⊥) → n ≡ h → HasDecoded w h input (after_rows coding w h input n start) (region_state grid coder states) → HasDecoded w h input (decoded_region coding w h input start) (region_state grid coder states)
 region-whole coding w h n input start grid coder states none some all holds =
-    subst (λ (r : Region). HasDecoded w h input r grid coder states) (ap (λ (k : ℕ). after_rows coding w h input k start) all ∙ sym (decoded-rows coding w h input start none (ne_eqb w 0 some))) holds
+    subst (λ (r : Region). HasDecoded w h input r (region_state grid coder states)) (ap (λ (k : ℕ). after_rows coding w h input k start) all ∙ sym (decoded-rows coding w h input start none (ne_eqb w 0 some))) holds

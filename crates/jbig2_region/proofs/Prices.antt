@@ -6,7 +6,7 @@ use Rattle.jbig2_base.specs.Counts.{Counts}
 use Rattle.jbig2_base.specs.Grid.{bit_number}
 use Rattle.jbig2_steps.specs.Work.{counted, price_of_bitmap, words_of_row}
 use Rattle.jbig2_steps.proofs.WorkLemmas.{row-paid}
-use Rattle.jbig2_region.specs.Raster.{Coding, Region, row_decisions}
+use Rattle.jbig2_region.specs.Raster.{Coding, Region, row_decisions, source}
 use Rattle.jbig2_region.specs.RefinementTemplates.{is_nominal, refinement_bits}
 use Rattle.jbig2_region.specs.Steps.{CountsDecided, how_many, pixel_decisions, refinement_loads, window_loads}
 use Rattle.jbig2_region.specs.declared.template.AdaptiveTemplatePixel.{AdaptiveTemplatePixel}
@@ -65,11 +65,11 @@ row-wide w = omega arith
 pub row-some : (w : ℕ) → 1 ≤ words_of_row w
 row-some w = omega arith
 
-counted-more : (coding : Coding) (loads w h : ℕ) (bytes : List ℕ) (start : Region) (before after : Counts) → 1 ≤ w → CountsDecided coding loads w h bytes start before after → (n : ℕ) → h * row_decisions coding.row_context + pixel_decisions coding w h bytes start + h * w + h * loads ≤ n → counted after ≤ counted before + n
+counted-more : (coding : Coding) (loads w h : ℕ) (bytes : List ℕ) (start : Region) (before after : Counts) → 1 ≤ w → CountsDecided coding loads (source w h bytes start) before after → (n : ℕ) → h * row_decisions coding.row_context + pixel_decisions coding w h bytes start + h * w + h * loads ≤ n → counted after ≤ counted before + n
 counted-more coding loads w h bytes start before after some counts n all =
     omega (arith, counts.decisions some, counts.run_tests, counts.words, counts.loads, counts.lanes.groups, counts.lanes.pixels)
 
-pub decided-paid : (coding : Coding) (loads w h : ℕ) (bytes : List ℕ) (start : Region) (before after : Counts) → loads ≤ 1408 * words_of_row w → CountsDecided coding loads w h bytes start before after → counted after ≤ counted before + 32 * price_of_bitmap w h
+pub decided-paid : (coding : Coding) (loads w h : ℕ) (bytes : List ℕ) (start : Region) (before after : Counts) → loads ≤ 1408 * words_of_row w → CountsDecided coding loads (source w h bytes start) before after → counted after ≤ counted before + 32 * price_of_bitmap w h
 decided-paid coding loads zero h bytes start before after few counts =
     let none : counted after ≡ counted before = ap (λ (c : Counts). counted c) (counts.empty (omega arith)) in
     omega (arith, none)

@@ -12,7 +12,7 @@ use Rattle.jbig2_base.proofs.GridLemmas.{grid_of-ext, pixel_at-right}
 use Rattle.jbig2_base.proofs.WriteLemmas.{in_field, before_field, after_field, other_row}
 use Rattle.jbig2_coder.specs.Coder.{Coder, Context}
 use Rattle.jbig2_region.specs.Raster.{Region, after_ltp}
-use Rattle.jbig2_region.specs.inner.RegionStates.{BeginsRow, HasDecoded}
+use Rattle.jbig2_region.specs.inner.RegionStates.{BeginsRow, HasDecoded, region_state}
 use Rattle.jbig2_region.specs.inner.PushedPixels.{IsAtPixels, IsAtRow}
 use Rattle.jbig2_region.specs.inner.Neighbours.{IsLeft, SameAbove, Shows, ShowsRun}
 use Rattle.jbig2_region.specs.declared.generic_kernel.windows.Windows.{Windows}
@@ -190,6 +190,6 @@ no-run d d' n qe none is =
     is ∙ ap (λ (a : ℕ). let made : Coder = record d { registers = record d.registers { a = a } } in made) same
 
 -- a row that no decision begins
-pub begins-plain : (w h : ℕ) (g : Grid) (r : Region) (c : Coder) (s : List Context) → r.predicted ≡ false → HasDecoded w h c.bytes r g c s → BeginsRow w h None r false g c c s
+pub begins-plain : (w h : ℕ) (g : Grid) (r : Region) (c : Coder) (s : List Context) → r.predicted ≡ false → HasDecoded w h c.bytes r (region_state g c s) → BeginsRow w h None r false c (region_state g c s)
 unfolding after_ltp
 begins-plain w h g r c s is holds = record { holds = holds; predicted = is }

@@ -10,7 +10,7 @@ use Rattle.jbig2_base.specs.Writes.{with_pixel}
 use Rattle.jbig2_base.proofs.GridLemmas.{grid_of-ext, pixel_at-grid_of}
 use Rattle.jbig2_region.specs.Raster.{Coding, Region, so_far, with_next, after_pixel, after_ltp, no_pixels}
 use Rattle.jbig2_region.specs.inner.Rows.{after_pixels, after_rows}
-use Rattle.jbig2_region.specs.inner.RegionStates.{HasDecoded, BeginsRow}
+use Rattle.jbig2_region.specs.inner.RegionStates.{HasDecoded, BeginsRow, region_state}
 use Rattle.jbig2_coder.specs.Coder.{Coder, Context, Decision, fresh, decision}
 
 not_here : (b p q : Bool) → (p && q) ≡ false → (b && p && q) ≡ false
@@ -69,12 +69,12 @@ after_pixel-at coding w h input r grid p x y len left predicted same =
     let row : length r.pixels / w ≡ y = ap (λ (n : ℕ). n / w) len ∙ div-mul-add y w x left in
     rw (column, row, predicted, ← same)
 
-pub HasDecoded-known : (coding : Coding) (w h : ℕ) (input : List ℕ) (r : Region) (grid after : Grid) (coder : Coder) (states : List Context) (x y : ℕ) (p colour : Bool) → length r.pixels ≡ y * w + x → x < w → y < h → r.predicted ≡ p → coding.known p grid x y ≡ Some colour → after ≡ with_pixel grid x y colour → HasDecoded w h input r grid coder states → HasDecoded w h input (after_pixel coding w h input r) after coder states
+pub HasDecoded-known : (coding : Coding) (w h : ℕ) (input : List ℕ) (r : Region) (grid after : Grid) (coder : Coder) (states : List Context) (x y : ℕ) (p colour : Bool) → length r.pixels ≡ y * w + x → x < w → y < h → r.predicted ≡ p → coding.known p grid x y ≡ Some colour → after ≡ with_pixel grid x y colour → HasDecoded w h input r (region_state grid coder states) → HasDecoded w h input (after_pixel coding w h input r) (region_state after coder states)
 unfolding with_next
 HasDecoded-known coding w h input r grid after coder states x y p colour len left above predicted is_known written holds =
     let made : after_pixel coding w h input r ≡ with_next input r (coding.context grid x y) (Some colour) =
     after_pixel-at coding w h input r grid p x y len left predicted holds.pixels ∙ ap (λ (k : Option Bool). with_next input r (coding.context grid x y) k) is_known in
-    subst (λ (n : Region). HasDecoded w h input n after coder states) (sym made)
+    subst (λ (n : Region). HasDecoded w h input n (region_state after coder states)) (sym made)
     (record {
       pixels = written ∙ ap (λ (g : Grid). with_pixel g x y colour) holds.pixels ∙ so_far-push w h r.pixels x y colour len left above;
       bytes = holds.bytes;
@@ -82,7 +82,7 @@ HasDecoded-known coding w h input r grid after coder states x y p colour len lef
       contexts = holds.contexts;
     })
 
-pub HasDecoded-decided : (coding : Coding) (w h : ℕ) (input : List ℕ) (r : Region) (grid after : Grid) (coder next : Coder) (states : List Context) (x y k : ℕ) (p : Bool) (old new : Context) → length r.pixels ≡ y * w + x → x < w → y < h → r.predicted ≡ p → coding.known p grid x y ≡ None → k ≡ coding.context grid x y → old ≡ get_or states k fresh → after ≡ with_pixel grid x y (decision coder.bytes coder.registers old).symbol → next ≡ record coder { registers = (decision coder.bytes coder.registers old).registers } → new ≡ (decision coder.bytes coder.registers old).context → HasDecoded w h input r grid coder states → HasDecoded w h input (after_pixel coding w h input r) after next (set states k new)
+pub HasDecoded-decided : (coding : Coding) (w h : ℕ) (input : List ℕ) (r : Region) (grid after : Grid) (coder next : Coder) (states : List Context) (x y k : ℕ) (p : Bool) (old new : Context) → length r.pixels ≡ y * w + x → x < w → y < h → r.predicted ≡ p → coding.known p grid x y ≡ None → k ≡ coding.context grid x y → old ≡ get_or states k fresh → after ≡ with_pixel grid x y (decision coder.bytes coder.registers old).symbol → next ≡ record coder { registers = (decision coder.bytes coder.registers old).registers } → new ≡ (decision coder.bytes coder.registers old).context → HasDecoded w h input r (region_state grid coder states) → HasDecoded w h input (after_pixel coding w h input r) (region_state after next (set states k new))
 unfolding with_next
 HasDecoded-decided coding w h input r grid after coder next states x y k p old new len left above predicted is_open is_context is_old written is_next is_new holds =
     let made : after_pixel coding w h input r ≡ with_next input r (coding.context grid x y) None =
@@ -91,7 +91,7 @@ HasDecoded-decided coding w h input r grid after coder next states x y k p old n
     let e : Decision = decision input r.registers (get_or r.contexts (coding.context grid x y) fresh) in
     let context : old ≡ get_or r.contexts (coding.context grid x y) fresh = is_old ∙ ap (λ (n : ℕ). get_or states n fresh) is_context ∙ ap (λ (s : List Context). get_or s (coding.context grid x y) fresh) holds.contexts in
     let same : d ≡ e = ap (λ (b : List ℕ). decision b coder.registers old) holds.bytes ∙ ap (λ q. decision input q old) holds.registers ∙ ap (λ (c : Context). decision input r.registers c) context in
-    subst (λ (n : Region). HasDecoded w h input n after next (set states k new)) (sym made)
+    subst (λ (n : Region). HasDecoded w h input n (region_state after next (set states k new))) (sym made)
     (record {
       pixels = written ∙ ap (λ (g : Grid). with_pixel g x y d.symbol) holds.pixels ∙ so_far-push w h r.pixels x y d.symbol len left above ∙ ap (λ (q : Decision). so_far w h (r.pixels ++ q.symbol ∷ [])) same;
       bytes = ap (λ (c : Coder). c.bytes) is_next ∙ holds.bytes;
@@ -105,7 +105,7 @@ digit-colour true n e = rw e
 digit-colour false n e = rw e
 
 -- ---- the decision that begins a row
-pub begun-plainly : (w h : ℕ) (row_context : Option ℕ) (r : Region) (p : Bool) (grid : Grid) (coder : Coder) (states : List Context) → row_context ≡ None → r.predicted ≡ p → HasDecoded w h coder.bytes r grid coder states → BeginsRow w h row_context r p grid coder coder states
+pub begun-plainly : (w h : ℕ) (row_context : Option ℕ) (r : Region) (p : Bool) (grid : Grid) (coder : Coder) (states : List Context) → row_context ≡ None → r.predicted ≡ p → HasDecoded w h coder.bytes r (region_state grid coder states) → BeginsRow w h row_context r p coder (region_state grid coder states)
 unfolding after_ltp
 begun-plainly w h row_context r p grid coder states none predicted holds = rw none (record { holds = holds; predicted = predicted })
 
@@ -113,7 +113,7 @@ turned : (symbol p : Bool) → differ symbol p ≡ cond symbol (not p) p
 turned true p = refl
 turned false p = refl
 
-pub begun-decided : (w h : ℕ) (row_context : Option ℕ) (r : Region) (p symbol after : Bool) (grid : Grid) (coder next : Coder) (states : List Context) (k : ℕ) (old new : Context) → row_context ≡ Some k → r.predicted ≡ p → old ≡ get_or states k fresh → (decision coder.bytes coder.registers old).symbol ≡ symbol → after ≡ cond symbol (not p) p → next ≡ record coder { registers = (decision coder.bytes coder.registers old).registers } → new ≡ (decision coder.bytes coder.registers old).context → HasDecoded w h coder.bytes r grid coder states → BeginsRow w h row_context r after grid coder next (set states k new)
+pub begun-decided : (w h : ℕ) (row_context : Option ℕ) (r : Region) (p symbol after : Bool) (grid : Grid) (coder next : Coder) (states : List Context) (k : ℕ) (old new : Context) → row_context ≡ Some k → r.predicted ≡ p → old ≡ get_or states k fresh → (decision coder.bytes coder.registers old).symbol ≡ symbol → after ≡ cond symbol (not p) p → next ≡ record coder { registers = (decision coder.bytes coder.registers old).registers } → new ≡ (decision coder.bytes coder.registers old).context → HasDecoded w h coder.bytes r (region_state grid coder states) → BeginsRow w h row_context r after coder (region_state grid next (set states k new))
 unfolding after_ltp
 begun-decided w h row_context r p symbol after grid coder next states k old new some predicted is_old is_symbol is_after is_next is_new holds =
     let d : Decision = decision coder.bytes coder.registers old in
@@ -202,28 +202,28 @@ digit-white false n e other = refl
 -- steps of this many pixels, and what they make of a bitmap of another size's name
 abbrev PixelSteps : Coding → ℕ → ℕ → Bool → Grid → Coder → List Context → Grid → Coder → List Context → ℕ → ℕ → List ℕ → Type 0
 PixelSteps coding n y p grid coder states grid' coder' states' w h input =
-    (r : Region) → length r.pixels ≡ y * w → r.predicted ≡ p → HasDecoded w h input r grid coder states → HasDecoded w h input (after_pixels coding w h input n r) grid' coder' states'
+    (r : Region) → length r.pixels ≡ y * w → r.predicted ≡ p → HasDecoded w h input r (region_state grid coder states) → HasDecoded w h input (after_pixels coding w h input n r) (region_state grid' coder' states')
 
 pub region-step : (coding : Coding) (y : ℕ) (p q : Bool) (g1 : Grid) (c1 : Coder) (s1 : List Context) (c2 : Coder) (s2 : List Context) (g3 : Grid) (c3 : Coder) (s3 : List Context) (start : Region) (w h : ℕ) (input : List ℕ) (w' h' : ℕ)
     → w' ≡ w → h' ≡ h → c1.bytes ≡ input → c2.bytes ≡ c1.bytes → length start.pixels ≡ 0
-    → ((w h : ℕ) (g : Grid) (r : Region) → r.predicted ≡ p → HasDecoded w h c1.bytes r g c1 s1 → BeginsRow w h coding.row_context r q g c1 c2 s2)
+    → ((w h : ℕ) (g : Grid) (r : Region) → r.predicted ≡ p → HasDecoded w h c1.bytes r (region_state g c1 s1) → BeginsRow w h coding.row_context r q c1 (region_state g c2 s2))
     → PixelSteps coding w' y q g1 c2 s2 g3 c3 s3 w' h' c2.bytes
-    → HasDecoded w h input (after_rows coding w h input y start) g1 c1 s1 → (after_rows coding w h input y start).predicted ≡ p
-    → HasDecoded w h input (after_rows coding w h input (y + 1) start) g3 c3 s3 × ((after_rows coding w h input (y + 1) start).predicted ≡ q)
+    → HasDecoded w h input (after_rows coding w h input y start) (region_state g1 c1 s1) → (after_rows coding w h input y start).predicted ≡ p
+    → HasDecoded w h input (after_rows coding w h input (y + 1) start) (region_state g3 c3 s3) × ((after_rows coding w h input (y + 1) start).predicted ≡ q)
 region-step coding y p q g1 c1 s1 c2 s2 g3 c3 s3 start w h input w' h' ew eh ei es none begin steps holds predicted =
     let made : Region = after_rows coding w h input y start in
     let begun : Region = after_ltp coding.row_context input made in
-    let row : BeginsRow w h coding.row_context made q g1 c1 c2 s2 = begin w h g1 made predicted (subst (λ (v : List ℕ). HasDecoded w h v made g1 c1 s1) (sym ei) holds) in
-    let begun_holds : HasDecoded w h input begun g1 c2 s2 = subst (λ (v : List ℕ). HasDecoded w h v (after_ltp coding.row_context v made) g1 c2 s2) ei row.holds in
+    let row : BeginsRow w h coding.row_context made q c1 (region_state g1 c2 s2) = begin w h g1 made predicted (subst (λ (v : List ℕ). HasDecoded w h v made (region_state g1 c1 s1)) (sym ei) holds) in
+    let begun_holds : HasDecoded w h input begun (region_state g1 c2 s2) = subst (λ (v : List ℕ). HasDecoded w h v (after_ltp coding.row_context v made) (region_state g1 c2 s2)) ei row.holds in
     let begun_predicted : begun.predicted ≡ q = subst (λ (v : List ℕ). (after_ltp coding.row_context v made).predicted ≡ q) ei row.predicted in
     let one = subst (λ (v : ℕ). PixelSteps coding v y q g1 c2 s2 g3 c3 s3 v h' c2.bytes) ew steps in
     let two = subst (λ (v : ℕ). PixelSteps coding w y q g1 c2 s2 g3 c3 s3 w v c2.bytes) eh one in
     let here = subst (λ (v : List ℕ). PixelSteps coding w y q g1 c2 s2 g3 c3 s3 w h v) (es ∙ ei) two in (
-      subst (λ (n : Region). HasDecoded w h input n g3 c3 s3) (sym (after_rows-one coding w h input y start)) (here begun (after_rows-length coding w h input y start none) begun_predicted begun_holds),
+      subst (λ (n : Region). HasDecoded w h input n (region_state g3 c3 s3)) (sym (after_rows-one coding w h input y start)) (here begun (after_rows-length coding w h input y start none) begun_predicted begun_holds),
       ap (λ (n : Region). n.predicted) (after_rows-one coding w h input y start) ∙ after_pixels-predicted coding w h input w begun ∙ begun_predicted,
     )
 
-pub region-start : (w h : ℕ) (grid : Grid) (coder : Coder) (states : List Context) → grid ≡ blank w h false → HasDecoded w h coder.bytes (no_pixels coder.registers states) grid coder states
+pub region-start : (w h : ℕ) (grid : Grid) (coder : Coder) (states : List Context) → grid ≡ blank w h false → HasDecoded w h coder.bytes (no_pixels coder.registers states) (region_state grid coder states)
 region-start w h grid coder states white = record { pixels = white ∙ blank-so_far w h; bytes = refl; registers = refl; contexts = refl }
 
 pub after_rows-none : (coding : Coding) (w h : ℕ) (input : List ℕ) (r : Region) → after_rows coding w h input 0 r ≡ r

@@ -16,6 +16,7 @@ use Rattle.jbig2_region.proofs.DecodedPixelLemmas.{codes-next, codes-start, coun
 use Rattle.jbig2_region.proofs.RefinementWindowLemmas.{windows-colour, windows-context}
 use Rattle.jbig2_region.proofs.RegisterLemmas.{left-few, left-whole}
 use Rattle.jbig2_region.proofs.StoreLemmas.{left-bit, left-start, stored-above, stored-push}
+use Rattle.jbig2_region.specs.inner.RegionStates.{counted_decoder, counted_region, region_state}
 
 -- ---- a block
 pub more : (pixels symbol k : ℕ) (c : Bool) → symbol ≡ bit_number c → pixels < 16 * 2 ^ k → pixels * 2 + symbol < 16 * 2 ^ (k + 1)
@@ -26,9 +27,9 @@ more pixels symbol k c is few = rw (add-one k, pow-suc) (step c is)
     step false is = omega arith
 
 pub block-next : (template : RefinementTemplate) (typical p : Bool) (r : Reference) (x y k : ℕ) (g : Grid) (w : RefinementWindows) (d0 d d' : Coder) (s0 s s' : List Context) (t0 t t' : Counts) (pixels nine four symbol : ℕ)
-    → Block (refinement_coding template typical corners r) p x y k g d0 s0 t0 pixels d s t → SeesRows g r x y w → k < 32 → x + (k + 1) ≤ g.width → y < g.height
-    → nine ≡ nine_of w k → four ≡ four_of w pixels k → Takes (known_of p nine) (context_of template nine four) d s t symbol d' s' t'
-    → Block (refinement_coding template typical corners r) p x y (k + 1) g d0 s0 t0 (pixels * 2 + symbol) d' s' t'
+    → Block (refinement_coding template typical corners r) p x y k (counted_region g d0 s0 t0) pixels (counted_decoder d s t) → SeesRows g r x y w → k < 32 → x + (k + 1) ≤ g.width → y < g.height
+    → nine ≡ nine_of w k → four ≡ four_of w pixels k → Takes (known_of p nine) (context_of template nine four) (counted_decoder d s t) symbol (counted_decoder d' s' t')
+    → Block (refinement_coding template typical corners r) p x y (k + 1) (counted_region g d0 s0 t0) (pixels * 2 + symbol) (counted_decoder d' s' t')
 block-next template typical p r x y k g w d0 d d' s0 s s' t0 t t' pixels nine four symbol block sees few wide above is_nine is_four takes =
     let coding : Coding = refinement_coding template typical corners r in
     let shown : Grid = with_pixels g x y k pixels in
@@ -51,7 +52,7 @@ block-next template typical p r x y k g w d0 d d' s0 s s' t0 t t' pixels nine fo
       steps = taken-others (known_of p nine) (context_of template nine four) d s t symbol d' s' t' takes ∙ ap (λ (q : Counts). let made : Counts = record q { decisions = t'.decisions } in made) block.steps;
     }
 
-pub block-none : (coding : Coding) (p : Bool) (x y left pixels : ℕ) (g : Grid) (d : Coder) (s : List Context) (t : Counts) → IsLeft g x y left → left < 16 → pixels ≡ left → Block coding p x y 0 g d s t pixels d s t
+pub block-none : (coding : Coding) (p : Bool) (x y left pixels : ℕ) (g : Grid) (d : Coder) (s : List Context) (t : Counts) → IsLeft g x y left → left < 16 → pixels ≡ left → Block coding p x y 0 (counted_region g d s t) pixels (counted_decoder d s t)
 block-none coding p x y left pixels g d s t before small is = record {
   bytes = refl;
   few = omega arith;
@@ -64,15 +65,15 @@ block-none coding p x y left pixels g d s t before small is = record {
 -- what a stored block leaves
 pub record Stored (coding : Coding) (p : Bool) (x y n : ℕ) (g : Grid) (d0 : Coder) (s0 : List Context) (count : ℕ) (pixels : ℕ) (g' : Grid) (d : Coder) (s : List Context) (count' : ℕ) : Type 0 where
   pub left : IsLeft g' (x + n) y (pixels % 16)
-  pub holds : DecodesPart coding p x y n g d0 s0 g' d s
-  pub decisions : CountsPart coding p x y n g d0 s0 count count'
+  pub holds : DecodesPart coding p x y n (region_state g d0 s0) (region_state g' d s)
+  pub decisions : CountsPart coding p x y n (region_state g d0 s0) count count'
 
-pub block-whole : (coding : Coding) (p : Bool) (x y k n : ℕ) (g g' : Grid) (d0 d : Coder) (s0 s : List Context) (t0 t : Counts) (pixels : ℕ) → Block coding p x y k g d0 s0 t0 pixels d s t → k ≡ n → g' ≡ with_pixels g x y n pixels
+pub block-whole : (coding : Coding) (p : Bool) (x y k n : ℕ) (g g' : Grid) (d0 d : Coder) (s0 s : List Context) (t0 t : Counts) (pixels : ℕ) → Block coding p x y k (counted_region g d0 s0 t0) pixels (counted_decoder d s t) → k ≡ n → g' ≡ with_pixels g x y n pixels
     → Stored coding p x y n g d0 s0 t0.decisions pixels g' d s t.decisions
 block-whole coding p x y k n g g' d0 d s0 s t0 t pixels block all stored =
     let same : with_pixels g x y k pixels ≡ g' = ap (λ (m : ℕ). with_pixels g x y m pixels) all ∙ sym stored in
     record {
       left = left-few g' (x + n) y pixels (subst (λ (q : Grid). IsLeft q (x + n) y pixels) same (subst (λ (m : ℕ). IsLeft (with_pixels g x y k pixels) (x + m) y pixels) all block.left));
-      holds = subst (λ (q : Grid). DecodesPart coding p x y n g d0 s0 q d s) same (subst (λ (m : ℕ). DecodesPart coding p x y m g d0 s0 (with_pixels g x y k pixels) d s) all block.holds);
-      decisions = subst (λ (m : ℕ). CountsPart coding p x y m g d0 s0 t0.decisions t.decisions) all block.decisions;
+      holds = subst (λ (q : Grid). DecodesPart coding p x y n (region_state g d0 s0) (region_state q d s)) same (subst (λ (m : ℕ). DecodesPart coding p x y m (region_state g d0 s0) (region_state (with_pixels g x y k pixels) d s)) all block.holds);
+      decisions = subst (λ (m : ℕ). CountsPart coding p x y m (region_state g d0 s0) t0.decisions t.decisions) all block.decisions;
     }

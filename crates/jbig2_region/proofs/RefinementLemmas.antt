@@ -12,8 +12,8 @@ use Rattle.jbig2_region.specs.Refinement.{Reference, reference_pixel, refined_co
 use Rattle.jbig2_region.specs.RefinementHeader.{RefinementHeader}
 use Rattle.jbig2_region.specs.Steps.{CountsDecided, CountsRefined, refinement_loads}
 use Rattle.jbig2_region.specs.RefinementTemplates.{refinement_bits}
-use Rattle.jbig2_region.specs.inner.RegionStates.{HasDecoded}
-use Rattle.jbig2_region.specs.Raster.{Coding, decoded_region, no_pixels, fresh_contexts}
+use Rattle.jbig2_region.specs.inner.RegionStates.{HasDecoded, region_state}
+use Rattle.jbig2_region.specs.Raster.{Coding, decoded_region, no_pixels, fresh_contexts, source}
 use Rattle.jbig2_coder.specs.Coder.{Coder, Context, Registers, initial_registers}
 use Rattle.jbig2_base.specs.Results.{◌>>=◌, refuse_if}
 use Rattle.jbig2_base.specs.declared.error.DecodeError.{DecodeError}
@@ -145,14 +145,14 @@ common-none r x y n e full none =
 
 -- a region that a coder and contexts that stand at the start refine
 pub refined-decoded : (h : RefinementHeader) (from : PlacedRegion) (r : Reference) (before grid : Grid) (first coder : Coder) (fresh states : List Context) → r ≡ reference_of h from → before ≡ blank h.region_info.width h.region_info.height false → first.bytes ≡ h.bytes → first.registers ≡ initial_registers h.bytes → fresh ≡ fresh_contexts (refinement_bits h.template)
-    → HasDecoded before.width before.height first.bytes (decoded_region (refinement_coding h.template h.tpgron h.adaptive_template_pixels r) before.width before.height first.bytes (no_pixels first.registers fresh)) grid coder states
-    → HasDecoded h.region_info.width h.region_info.height h.bytes (refined_region h from) grid coder states
+    → HasDecoded before.width before.height first.bytes (decoded_region (refinement_coding h.template h.tpgron h.adaptive_template_pixels r) before.width before.height first.bytes (no_pixels first.registers fresh)) (region_state grid coder states)
+    → HasDecoded h.region_info.width h.region_info.height h.bytes (refined_region h from) (region_state grid coder states)
 unfolding refined_region
 refined-decoded h from r before grid first coder fresh states place white bytes registers contexts holds =
-    let placed = subst (λ (q : Reference). HasDecoded before.width before.height first.bytes (decoded_region (refinement_coding h.template h.tpgron h.adaptive_template_pixels q) before.width before.height first.bytes (no_pixels first.registers fresh)) grid coder states) place holds in
+    let placed = subst (λ (q : Reference). HasDecoded before.width before.height first.bytes (decoded_region (refinement_coding h.template h.tpgron h.adaptive_template_pixels q) before.width before.height first.bytes (no_pixels first.registers fresh)) (region_state grid coder states)) place holds in
     fresh-decoded (refinement_coding h.template h.tpgron h.adaptive_template_pixels (reference_of h from)) h.region_info.width h.region_info.height (refinement_bits h.template) h.bytes before grid first coder fresh states white bytes registers contexts placed
 
-pub refined-result : (h : RefinementHeader) (from : PlacedRegion) (d : ℤ × ℤ) (grid : Grid) (coder : Coder) (states : List Context) → offset from h.region_info ≡ Ok d → HasDecoded h.region_info.width h.region_info.height h.bytes (refined_region h from) grid coder states → refined_result h from ≡ Ok grid
+pub refined-result : (h : RefinementHeader) (from : PlacedRegion) (d : ℤ × ℤ) (grid : Grid) (coder : Coder) (states : List Context) → offset from h.region_info ≡ Ok d → HasDecoded h.region_info.width h.region_info.height h.bytes (refined_region h from) (region_state grid coder states) → refined_result h from ≡ Ok grid
 unfolding refined_grid
 refined-result h from d grid coder states near holds =
     ap (λ (r : Result (ℤ × ℤ) DecodeError). r >>= λ d. Ok (refined_grid h from)) near ∙ ap (λ (g : Grid). Ok g) (sym holds.pixels)
@@ -176,12 +176,12 @@ offset-value h from d dx dy is_dx is_dy near =
 
 -- ---- steps
 pub refined-steps : (h : RefinementHeader) (from : PlacedRegion) (r : Reference) (before : Grid) (first : Coder) (fresh : List Context) (t t' : Counts) → r ≡ reference_of h from → before ≡ blank h.region_info.width h.region_info.height false → first.bytes ≡ h.bytes → first.registers ≡ initial_registers h.bytes → fresh ≡ fresh_contexts (refinement_bits h.template)
-    → CountsDecided (refinement_coding h.template h.tpgron h.adaptive_template_pixels r) (refinement_loads h.template h.adaptive_template_pixels before.width) before.width before.height first.bytes (no_pixels first.registers fresh) t t'
+    → CountsDecided (refinement_coding h.template h.tpgron h.adaptive_template_pixels r) (refinement_loads h.template h.adaptive_template_pixels before.width) (source before.width before.height first.bytes (no_pixels first.registers fresh)) t t'
     → CountsRefined h from t t'
 refined-steps h from r before first fresh t t' place white bytes registers contexts steps =
     let coding : Reference → Coding = λ q. refinement_coding h.template h.tpgron h.adaptive_template_pixels q in
-    let one = subst (λ (q : Reference). CountsDecided (coding q) (refinement_loads h.template h.adaptive_template_pixels before.width) before.width before.height first.bytes (no_pixels first.registers fresh) t t') place steps in
-    let two = subst (λ (q : Grid). CountsDecided (coding (reference_of h from)) (refinement_loads h.template h.adaptive_template_pixels q.width) q.width q.height first.bytes (no_pixels first.registers fresh) t t') white one in
-    let three = subst (λ (b : List ℕ). CountsDecided (coding (reference_of h from)) (refinement_loads h.template h.adaptive_template_pixels h.region_info.width) h.region_info.width h.region_info.height b (no_pixels first.registers fresh) t t') bytes two in
-    let four = subst (λ (q : Registers). CountsDecided (coding (reference_of h from)) (refinement_loads h.template h.adaptive_template_pixels h.region_info.width) h.region_info.width h.region_info.height h.bytes (no_pixels q fresh) t t') registers three in
-    subst (λ (s : List Context). CountsDecided (coding (reference_of h from)) (refinement_loads h.template h.adaptive_template_pixels h.region_info.width) h.region_info.width h.region_info.height h.bytes (no_pixels (initial_registers h.bytes) s) t t') contexts four
+    let one = subst (λ (q : Reference). CountsDecided (coding q) (refinement_loads h.template h.adaptive_template_pixels before.width) (source before.width before.height first.bytes (no_pixels first.registers fresh)) t t') place steps in
+    let two = subst (λ (q : Grid). CountsDecided (coding (reference_of h from)) (refinement_loads h.template h.adaptive_template_pixels q.width) (source q.width q.height first.bytes (no_pixels first.registers fresh)) t t') white one in
+    let three = subst (λ (b : List ℕ). CountsDecided (coding (reference_of h from)) (refinement_loads h.template h.adaptive_template_pixels h.region_info.width) (source h.region_info.width h.region_info.height b (no_pixels first.registers fresh)) t t') bytes two in
+    let four = subst (λ (q : Registers). CountsDecided (coding (reference_of h from)) (refinement_loads h.template h.adaptive_template_pixels h.region_info.width) (source h.region_info.width h.region_info.height h.bytes (no_pixels q fresh)) t t') registers three in
+    subst (λ (s : List Context). CountsDecided (coding (reference_of h from)) (refinement_loads h.template h.adaptive_template_pixels h.region_info.width) (source h.region_info.width h.region_info.height h.bytes (no_pixels (initial_registers h.bytes) s)) t t') contexts four

@@ -19,6 +19,7 @@ use Rattle.jbig2_region.proofs.RefinementKernelLemmas.{block-next}
 use Rattle.jbig2_region.proofs.RefinementKnownLemmas.{copied-next}
 use Rattle.jbig2_region.proofs.RefinementLaneLemmas.{lanes-nine, lanes-region}
 use Rattle.jbig2_region.proofs.RefinementWindowLemmas.{three-bits}
+use Rattle.jbig2_region.specs.inner.RegionStates.{counted_decoder, counted_region}
 
 -- ---- windows
 pub three-white : (word k : ℕ) → word / 2 ^ 30 ≡ 0 → k < 32 → three_of word k ≡ 0
@@ -40,50 +41,50 @@ context-white Template1 = refl
 -- ---- a block
 -- one pixel more, whose colour is not known
 pub block-pushed : (template : RefinementTemplate) (typical p : Bool) (r : Reference) (x y k j : ℕ) (g : Grid) (w : RefinementWindows) (d0 d d' : Coder) (s0 s s' : List Context) (t0 t t' : Counts) (pixels context symbol : ℕ)
-    → SeesRows g r x y w → k + (j + 1) ≤ 32 → x + (k + (j + 1)) ≤ g.width → y < g.height → known_of p (nine_of w (k + j)) ≡ None → context ≡ context_of template (nine_of w (k + j)) (four_of w pixels (k + j)) → Takes None context d s t symbol d' s' t'
-    → Block (refinement_coding template typical corners r) p x y (k + j) g d0 s0 t0 pixels d s t
-    → Block (refinement_coding template typical corners r) p x y (k + (j + 1)) g d0 s0 t0 (pixels * 2 + symbol) d' s' t'
+    → SeesRows g r x y w → k + (j + 1) ≤ 32 → x + (k + (j + 1)) ≤ g.width → y < g.height → known_of p (nine_of w (k + j)) ≡ None → context ≡ context_of template (nine_of w (k + j)) (four_of w pixels (k + j)) → Takes None context (counted_decoder d s t) symbol (counted_decoder d' s' t')
+    → Block (refinement_coding template typical corners r) p x y (k + j) (counted_region g d0 s0 t0) pixels (counted_decoder d s t)
+    → Block (refinement_coding template typical corners r) p x y (k + (j + 1)) (counted_region g d0 s0 t0) (pixels * 2 + symbol) (counted_decoder d' s' t')
 block-pushed template typical p r x y k j g w d0 d d' s0 s s' t0 t t' pixels context symbol sees few wide above unknown is takes block =
     let coding : Coding = refinement_coding template typical corners r in
     let place : k + j + 1 ≡ k + (j + 1) = omega arith in
-    let decided : Takes None (context_of template (nine_of w (k + j)) (four_of w pixels (k + j))) d s t symbol d' s' t' = subst (λ (n : ℕ). Takes None n d s t symbol d' s' t') is takes in
-    subst (λ (n : ℕ). Block coding p x y n g d0 s0 t0 (pixels * 2 + symbol) d' s' t') place
+    let decided : Takes None (context_of template (nine_of w (k + j)) (four_of w pixels (k + j))) (counted_decoder d s t) symbol (counted_decoder d' s' t') = subst (λ (n : ℕ). Takes None n (counted_decoder d s t) symbol (counted_decoder d' s' t')) is takes in
+    subst (λ (n : ℕ). Block coding p x y n (counted_region g d0 s0 t0) (pixels * 2 + symbol) (counted_decoder d' s' t')) place
     (block-next template typical p r x y (k + j) g w d0 d d' s0 s s' t0 t t' pixels (nine_of w (k + j)) (four_of w pixels (k + j)) symbol
     block sees (omega arith) (omega arith) above refl refl
-    (subst (λ (known : Option Bool). Takes known (context_of template (nine_of w (k + j)) (four_of w pixels (k + j))) d s t symbol d' s' t') (sym unknown) decided))
+    (subst (λ (known : Option Bool). Takes known (context_of template (nine_of w (k + j)) (four_of w pixels (k + j))) (counted_decoder d s t) symbol (counted_decoder d' s' t')) (sym unknown) decided))
 
-pub block-begun : (coding : Coding) (p : Bool) (x y k : ℕ) (g : Grid) (d0 d : Coder) (s0 s : List Context) (t0 t : Counts) (pixels : ℕ) → Block coding p x y k g d0 s0 t0 pixels d s t → Block coding p x y (k + 0) g d0 s0 t0 pixels d s t
+pub block-begun : (coding : Coding) (p : Bool) (x y k : ℕ) (g : Grid) (d0 d : Coder) (s0 s : List Context) (t0 t : Counts) (pixels : ℕ) → Block coding p x y k (counted_region g d0 s0 t0) pixels (counted_decoder d s t) → Block coding p x y (k + 0) (counted_region g d0 s0 t0) pixels (counted_decoder d s t)
 block-begun coding p x y k g d0 d s0 s t0 t pixels block =
     let same : k ≡ k + 0 = omega arith in
-    subst (λ (n : ℕ). Block coding p x y n g d0 s0 t0 pixels d s t) same block
+    subst (λ (n : ℕ). Block coding p x y n (counted_region g d0 s0 t0) pixels (counted_decoder d s t)) same block
 
 -- n pixels more, which are the reference's
 pub block-copied : (template : RefinementTemplate) (typical p : Bool) (r : Reference) (x y k n : ℕ) (g : Grid) (w : RefinementWindows) (d0 d : Coder) (s0 s : List Context) (t0 t : Counts) (pixels : ℕ)
     → SeesRows g r x y w → k + n ≤ 32 → x + (k + n) ≤ g.width → y < g.height → ((i : ℕ) → i < n → known_of p (nine_of w (k + i)) ≡ Some (bit w.here (62 - (k + i))))
-    → Block (refinement_coding template typical corners r) p x y k g d0 s0 t0 pixels d s t
-    → Block (refinement_coding template typical corners r) p x y (k + n) g d0 s0 t0 (pixels * 2 ^ n + w.here / 2 ^ (63 - (k + n)) % 2 ^ n) d s t
+    → Block (refinement_coding template typical corners r) p x y k (counted_region g d0 s0 t0) pixels (counted_decoder d s t)
+    → Block (refinement_coding template typical corners r) p x y (k + n) (counted_region g d0 s0 t0) (pixels * 2 ^ n + w.here / 2 ^ (63 - (k + n)) % 2 ^ n) (counted_decoder d s t)
 block-copied template typical p r x y k zero g w d0 d s0 s t0 t pixels sees few wide above known block =
     let none : pixels ≡ pixels * 2 ^ 0 + w.here / 2 ^ (63 - (k + 0)) % 2 ^ 0 = omega arith in
-    subst (λ (m : ℕ). Block (refinement_coding template typical corners r) p x y (k + 0) g d0 s0 t0 m d s t) none (block-begun (refinement_coding template typical corners r) p x y k g d0 d s0 s t0 t pixels block)
+    subst (λ (m : ℕ). Block (refinement_coding template typical corners r) p x y (k + 0) (counted_region g d0 s0 t0) m (counted_decoder d s t)) none (block-begun (refinement_coding template typical corners r) p x y k g d0 d s0 s t0 t pixels block)
 block-copied template typical p r x y k (suc n) g w d0 d s0 s t0 t pixels sees few wide above known block =
     let coding : Coding = refinement_coding template typical corners r in
     let so_far : ℕ = pixels * 2 ^ n + w.here / 2 ^ (63 - (k + n)) % 2 ^ n in
     let colour : Bool = bit w.here (62 - (k + n)) in
-    let before : Block coding p x y (k + n) g d0 s0 t0 so_far d s t = block-copied template typical p r x y k n g w d0 d s0 s t0 t pixels sees (omega arith) (omega arith) above (λ i inside. known i (omega arith)) block in
-    let takes : Takes (Some colour) (context_of template (nine_of w (k + n)) (four_of w so_far (k + n))) d s t (bit_number colour) d s t = record {
+    let before : Block coding p x y (k + n) (counted_region g d0 s0 t0) so_far (counted_decoder d s t) = block-copied template typical p r x y k n g w d0 d s0 s t0 t pixels sees (omega arith) (omega arith) above (λ i inside. known i (omega arith)) block in
+    let takes : Takes (Some colour) (context_of template (nine_of w (k + n)) (four_of w so_far (k + n))) (counted_decoder d s t) (bit_number colour) (counted_decoder d s t) = record {
       symbol = refl;
       coder = refl;
       states = refl;
       steps = refl;
     } in
-    let next : Block coding p x y (k + n + 1) g d0 s0 t0 (so_far * 2 + bit_number colour) d s t =
+    let next : Block coding p x y (k + n + 1) (counted_region g d0 s0 t0) (so_far * 2 + bit_number colour) (counted_decoder d s t) =
     block-next template typical p r x y (k + n) g w d0 d d s0 s s t0 t t so_far (nine_of w (k + n)) (four_of w so_far (k + n)) (bit_number colour)
     before sees (omega arith) (omega arith) above refl refl
-    (subst (λ (told : Option Bool). Takes told (context_of template (nine_of w (k + n)) (four_of w so_far (k + n))) d s t (bit_number colour) d s t) (sym (known n (omega arith))) takes) in
+    (subst (λ (told : Option Bool). Takes told (context_of template (nine_of w (k + n)) (four_of w so_far (k + n))) (counted_decoder d s t) (bit_number colour) (counted_decoder d s t)) (sym (known n (omega arith))) takes) in
     let place : k + n + 1 ≡ k + (n + 1) = omega arith in
-    subst (λ (m : ℕ). Block coding p x y (k + m) g d0 s0 t0 (pixels * 2 ^ m + w.here / 2 ^ (63 - (k + m)) % 2 ^ m) d s t) (add-one n)
-    (subst (λ (m : ℕ). Block coding p x y (k + (n + 1)) g d0 s0 t0 m d s t) (copied-next pixels w.here k n (omega arith))
-    (subst (λ (m : ℕ). Block coding p x y m g d0 s0 t0 (so_far * 2 + bit_number colour) d s t) place next))
+    subst (λ (m : ℕ). Block coding p x y (k + m) (counted_region g d0 s0 t0) (pixels * 2 ^ m + w.here / 2 ^ (63 - (k + m)) % 2 ^ m) (counted_decoder d s t)) (add-one n)
+    (subst (λ (m : ℕ). Block coding p x y (k + (n + 1)) (counted_region g d0 s0 t0) m (counted_decoder d s t)) (copied-next pixels w.here k n (omega arith))
+    (subst (λ (m : ℕ). Block coding p x y m (counted_region g d0 s0 t0) (so_far * 2 + bit_number colour) (counted_decoder d s t)) place next))
 
 -- there is room for one pixel more
 pub pixels-room : (pixels k : ℕ) → pixels < 16 * 2 ^ k → k < 32 → pixels < 2 ^ 36

@@ -11,7 +11,7 @@ use Rattle.jbig2_base.proofs.GridLemmas.{pixel_at-grid_of, pixel_at-right, pixel
 use Rattle.jbig2_region.specs.Generic.{context_at}
 use Rattle.jbig2_region.specs.inner.Neighbours.{left_pixels, stretch_pixels, nominal_pixels, neighbours_stay, stretch_stays, is_field, neighbour_count, IsNear, IsLeft, IsWindow, Shows, SameAbove}
 use Rattle.jbig2_coder.specs.Coder.{Coder, Context, Registers, fresh, all_quiet}
-use Rattle.jbig2_region.specs.inner.RegionStates.{HasDecoded}
+use Rattle.jbig2_region.specs.inner.RegionStates.{HasDecoded, region_state}
 use Rattle.jbig2_region.specs.Raster.{Region, so_far}
 use Rattle.jbig2_region.specs.Steps.{all_of, has_all, stays, is_run_of}
 use Rattle.jbig2_region.specs.inner.LongRuns.{is_run_for}
@@ -234,7 +234,7 @@ stays-is n m c left v w h x y seen bits near most wide len within above shows be
     (stretch-all n.top m c v.top g grids x y 2 seen near.top_reach near.top_count (omega arith) most wide (λ k. more-above w h bits (replicate k c) x y len) shows.top (λ k i le inside. (each k le).top i inside))))
 
 -- a run, by what the kernel knows of it
-pub run-parts : (n : Neighbours) (m : ℕ) (c : Bool) (left : ℕ) (v : Windows) (w h x y seen : ℕ) (r : Region) (grid : Grid) (d : Coder) (s : List Context) → IsNear n → m ≤ 32 → m + 12 ≤ seen → length r.pixels ≡ y * w + x → x + m < w → y < h → Shows grid x y seen v → IsLeft grid x y left → HasDecoded w h d.bytes r grid d s
+pub run-parts : (n : Neighbours) (m : ℕ) (c : Bool) (left : ℕ) (v : Windows) (w h x y seen : ℕ) (r : Region) (grid : Grid) (d : Coder) (s : List Context) → IsNear n → m ≤ 32 → m + 12 ≤ seen → length r.pixels ≡ y * w + x → x + m < w → y < h → Shows grid x y seen v → IsLeft grid x y left → HasDecoded w h d.bytes r (region_state grid d s)
     → is_run_for (nominal_pixels n) w h d.bytes r c m ≡ (neighbours_stay n m c left v && (same_colour c (get_or s (all_of (nominal_pixels n) c) fresh).likely && all_quiet m d.bytes d.registers (get_or s (all_of (nominal_pixels n) c) fresh)))
 unfolding is_run_for
 run-parts n m c left v w h x y seen r grid d s near most wide len within above shows before holds =
@@ -248,7 +248,7 @@ unfolding is_run_of is_run_for
 run-of template w h input r c = refl
 
 -- a run as long as the next contexts stay, or shorter
-pub run-made : (n : Neighbours) (m all : ℕ) (c : Bool) (w h : ℕ) (r : Region) (grid : Grid) (d : Coder) (s : List Context) → m ≤ all → HasDecoded w h d.bytes r grid d s → stays (nominal_pixels n) w h c all r.pixels ≡ true
+pub run-made : (n : Neighbours) (m all : ℕ) (c : Bool) (w h : ℕ) (r : Region) (grid : Grid) (d : Coder) (s : List Context) → m ≤ all → HasDecoded w h d.bytes r (region_state grid d s) → stays (nominal_pixels n) w h c all r.pixels ≡ true
     → same_colour c (get_or s (all_of (nominal_pixels n) c) fresh).likely ≡ true → all_quiet m d.bytes d.registers (get_or s (all_of (nominal_pixels n) c) fresh) ≡ true → is_run_for (nominal_pixels n) w h d.bytes r c m ≡ true
 unfolding is_run_for
 run-made n m all c w h r grid d s few holds whole colour quiet =
@@ -278,7 +278,7 @@ pub uniform-number : (n : Neighbours) (size : ℕ) (c : Bool) → size ≡ 2 ^ n
 uniform-number n size true all = context-black n size all
 uniform-number n size false all = context-white n
 
-pub not-staying : (n : Neighbours) (c : Bool) (left : ℕ) (v : Windows) (w h x y seen : ℕ) (r : Region) (grid : Grid) (d : Coder) (s : List Context) → neighbours_stay n 8 c left v ≡ false → IsNear n → 20 ≤ seen → length r.pixels ≡ y * w + x → x + 8 < w → y < h → Shows grid x y seen v → IsLeft grid x y left → HasDecoded w h d.bytes r grid d s
+pub not-staying : (n : Neighbours) (c : Bool) (left : ℕ) (v : Windows) (w h x y seen : ℕ) (r : Region) (grid : Grid) (d : Coder) (s : List Context) → neighbours_stay n 8 c left v ≡ false → IsNear n → 20 ≤ seen → length r.pixels ≡ y * w + x → x + 8 < w → y < h → Shows grid x y seen v → IsLeft grid x y left → HasDecoded w h d.bytes r (region_state grid d s)
     → is_run_of (nominal_pixels n) w h d.bytes r c ≡ false
 not-staying n c left v w h x y seen r grid d s other near wide len within above shows before holds =
     run-of (nominal_pixels n) w h d.bytes r c ∙ run-parts n 8 c left v w h x y seen r grid d s near (omega arith) (omega arith) len within above shows before holds ∙ and_left _ _ other

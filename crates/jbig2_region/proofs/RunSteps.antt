@@ -11,7 +11,7 @@ use Rattle.jbig2_coder.specs.Coder.{Coder, Context, Decision, Registers, decisio
 use Rattle.jbig2_coder.specs.Table.{row_of}
 use Rattle.jbig2_coder.proofs.Runs.{is_quiet-decision}
 use Rattle.jbig2_region.specs.Generic.{context_at}
-use Rattle.jbig2_region.specs.inner.RegionStates.{HasDecoded}
+use Rattle.jbig2_region.specs.inner.RegionStates.{HasDecoded, region_state}
 use Rattle.jbig2_region.specs.inner.LongRuns.{is_run_for}
 use Rattle.jbig2_region.specs.inner.Neighbours.{IsLeft, row_coding}
 use Rattle.jbig2_region.specs.Raster.{Region, so_far, with_next, after_pixel}
@@ -161,13 +161,13 @@ run-region template c w h input x y (suc k) m r few len left above predicted is 
     ∙ ap (λ (n : ℕ). with_next input at n None) context
     ∙ ran-next template c input k r (quiet-at m input r.registers (get_or r.contexts (all_of template c) fresh) k parts.1.1 (omega arith)) parts.1.0
 
-pub run-holds : (template : List AdaptiveTemplatePixel) (c : Bool) (g : Grid) (d d' : Coder) (s : List Context) (w h : ℕ) (input : List ℕ) (x y m : ℕ) (r : Region) → length r.pixels ≡ y * w + x → x + m < w → y < h → r.predicted ≡ false → HasDecoded w h input r g d s
+pub run-holds : (template : List AdaptiveTemplatePixel) (c : Bool) (g : Grid) (d d' : Coder) (s : List Context) (w h : ℕ) (input : List ℕ) (x y m : ℕ) (r : Region) → length r.pixels ≡ y * w + x → x + m < w → y < h → r.predicted ≡ false → HasDecoded w h input r (region_state g d s)
     → is_run_for template w h d.bytes r c m ≡ true → d' ≡ record d { registers = record d.registers { a = d.registers.a - m * (row_of (get_or s (all_of template c) fresh).row).qe } }
-    → HasDecoded w h input (after_pixels (row_coding template) w h input m r) (with_pixels g x y m (full m c)) d' s
+    → HasDecoded w h input (after_pixels (row_coding template) w h input m r) (region_state (with_pixels g x y m (full m c)) d' s)
 run-holds template c g d d' s w h input x y m r len left above predicted holds is after =
     let same : get_or s (all_of template c) fresh ≡ get_or r.contexts (all_of template c) fresh = ap (λ (l : List Context). get_or l (all_of template c) fresh) holds.contexts in
     let run : is_run_for template w h input r c m ≡ true = subst (λ (l : List ℕ). is_run_for template w h l r c m ≡ true) holds.bytes is in
-    subst (λ (q : Region). HasDecoded w h input q (with_pixels g x y m (full m c)) d' s) (sym (run-region template c w h input x y m m r (omega arith) len left above predicted run))
+    subst (λ (q : Region). HasDecoded w h input q (region_state (with_pixels g x y m (full m c)) d' s)) (sym (run-region template c w h input x y m m r (omega arith) len left above predicted run))
     (record {
       pixels = run-grid w h r.pixels g c x y m holds.pixels len (omega arith) above;
       bytes = ap (λ (q : Coder). q.bytes) after ∙ holds.bytes;

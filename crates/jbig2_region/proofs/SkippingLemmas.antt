@@ -28,6 +28,7 @@ use Rattle.jbig2_region.proofs.RefinementKernelLemmas.{more}
 use Rattle.jbig2_region.proofs.RegisterLemmas.{left-few, left-whole}
 use Rattle.jbig2_region.proofs.StoreLemmas.{left-bit, stored-above, stored-push}
 use Rattle.jbig2_region.proofs.WindowLemmas.{left-context, stretch-context}
+use Rattle.jbig2_region.specs.inner.RegionStates.{counted_decoder, counted_region}
 
 -- ---- a mask
 pub no-mask : (skip : Option Grid) (x y : ℕ) → skip ≡ None → IsMask skip x y 0
@@ -52,9 +53,9 @@ abbrev colour_of : Bool → Option Bool
 colour_of skipped = cond skipped (Some false) None
 
 pub skipping-next : (n : Neighbours) (skip : Option Grid) (x y k : ℕ) (g : Grid) (w : Windows) (mask : ℕ) (d0 d d' : Coder) (s0 s s' : List Context) (t0 t t' : Counts) (pixels context symbol : ℕ) (skipped : Bool)
-    → Block (skipping_coding (nominal_pixels n) skip) false x y k g d0 s0 t0 pixels d s t → IsNear n → Shows g x y 64 w → IsMask skip x y mask → k < 32 → x + (k + 1) ≤ g.width → y < g.height
-    → context ≡ plain_context n w (pixels % 16) k → skipped ≡ bit mask (31 - k) → Takes (colour_of skipped) context d s t symbol d' s' t'
-    → Block (skipping_coding (nominal_pixels n) skip) false x y (k + 1) g d0 s0 t0 (pixels * 2 + symbol) d' s' t'
+    → Block (skipping_coding (nominal_pixels n) skip) false x y k (counted_region g d0 s0 t0) pixels (counted_decoder d s t) → IsNear n → Shows g x y 64 w → IsMask skip x y mask → k < 32 → x + (k + 1) ≤ g.width → y < g.height
+    → context ≡ plain_context n w (pixels % 16) k → skipped ≡ bit mask (31 - k) → Takes (colour_of skipped) context (counted_decoder d s t) symbol (counted_decoder d' s' t')
+    → Block (skipping_coding (nominal_pixels n) skip) false x y (k + 1) (counted_region g d0 s0 t0) (pixels * 2 + symbol) (counted_decoder d' s' t')
 skipping-next n skip x y k g w mask d0 d d' s0 s s' t0 t t' pixels context symbol skipped block near shows masks few wide above is_context is_skip takes =
     let coding : Coding = skipping_coding (nominal_pixels n) skip in
     let shown : Grid = with_pixels g x y k pixels in

@@ -12,7 +12,7 @@ use Rattle.jbig2_base.proofs.GridLemmas.{grid_of-ext, pixel_at-grid_of, pixel_at
 use Rattle.jbig2_base.proofs.WriteLemmas.{in_field, before_field, after_field, other_row}
 use Rattle.jbig2_coder.specs.Coder.{Coder, Context, decision, fresh}
 use Rattle.jbig2_region.specs.Generic.{context_at}
-use Rattle.jbig2_region.specs.inner.RegionStates.{HasDecoded}
+use Rattle.jbig2_region.specs.inner.RegionStates.{HasDecoded, region_state}
 use Rattle.jbig2_region.specs.inner.Neighbours.{DecodesPixels, IsLeft, row_coding, SameAbove}
 use Rattle.jbig2_region.specs.Raster.{Region, so_far}
 use Rattle.jbig2_region.specs.inner.Rows.{after_pixels}
@@ -225,18 +225,18 @@ pub height-so_far : (w h : ℕ) (bits : List Bool) → (so_far w h bits).height 
 unfolding so_far
 height-so_far w h bits = refl
 
-pub decodes-none : (template : List AdaptiveTemplatePixel) (p : Bool) (x y : ℕ) (g : Grid) (d : Coder) (s : List Context) → DecodesPixels template p x y 0 g d s g d s
-decodes-none template p x y g d s = λ w h input r len predicted holds. subst (λ (n : Region). HasDecoded w h input n g d s) (sym (after_pixels-none (row_coding template) w h input r)) holds
+pub decodes-none : (template : List AdaptiveTemplatePixel) (p : Bool) (x y : ℕ) (g : Grid) (d : Coder) (s : List Context) → DecodesPixels template p x y 0 (region_state g d s) (region_state g d s)
+decodes-none template p x y g d s = λ w h input r len predicted holds. subst (λ (n : Region). HasDecoded w h input n (region_state g d s)) (sym (after_pixels-none (row_coding template) w h input r)) holds
 
-pub decodes-start : (template : List AdaptiveTemplatePixel) (p : Bool) (x y b : ℕ) (g : Grid) (d : Coder) (s : List Context) → DecodesPixels template p x y 0 g d s (with_pixels g x y 0 b) d s
+pub decodes-start : (template : List AdaptiveTemplatePixel) (p : Bool) (x y b : ℕ) (g : Grid) (d : Coder) (s : List Context) → DecodesPixels template p x y 0 (region_state g d s) (region_state (with_pixels g x y 0 b) d s)
 decodes-start template p x y b g d s = λ w h input r len predicted holds.
-    subst (λ (n : Region). HasDecoded w h input n (with_pixels g x y 0 b) d s) (sym (after_pixels-none (row_coding template) w h input r))
-    (subst (λ (q : Grid). HasDecoded w h input r q d s) (sym (none-stored w h r.pixels g x y b holds.pixels)) holds)
+    subst (λ (n : Region). HasDecoded w h input n (region_state (with_pixels g x y 0 b) d s)) (sym (after_pixels-none (row_coding template) w h input r))
+    (subst (λ (q : Grid). HasDecoded w h input r (region_state q d s)) (sym (none-stored w h r.pixels g x y b holds.pixels)) holds)
 
 pub decodes-decided : (template : List AdaptiveTemplatePixel) (x y k : ℕ) (g0 g g' : Grid) (d0 d d' : Coder) (s0 s : List Context) (n : ℕ) (old new : Context)
-    → DecodesPixels template false x y k g0 d0 s0 g d s → x + k < g.width → y < g.height → n ≡ context_at template g (x + k) y → old ≡ get_or s n fresh
+    → DecodesPixels template false x y k (region_state g0 d0 s0) (region_state g d s) → x + k < g.width → y < g.height → n ≡ context_at template g (x + k) y → old ≡ get_or s n fresh
     → Pushes g g' (x + k) y (decision d.bytes d.registers old).symbol → d' ≡ record d { registers = (decision d.bytes d.registers old).registers } → new ≡ (decision d.bytes d.registers old).context
-    → DecodesPixels template false x y (k + 1) g0 d0 s0 g' d' (set s n new)
+    → DecodesPixels template false x y (k + 1) (region_state g0 d0 s0) (region_state g' d' (set s n new))
 decodes-decided template x y k g0 g g' d0 d d' s0 s n old new before left above is_context is_old pushes is_next is_new = λ w h input r len predicted holds.
     let at = before w h input r len predicted holds in
     let made : Region = after_pixels (row_coding template) w h input k r in
@@ -244,23 +244,23 @@ decodes-decided template x y k g0 g g' d0 d d' s0 s n old new before left above 
     let wide : g.width ≡ w = ap (λ (q : Grid). q.width) at.pixels ∙ width-so_far w h made.pixels in
     let high : g.height ≡ h = ap (λ (q : Grid). q.height) at.pixels ∙ height-so_far w h made.pixels in
     let white = white-next w h made.pixels g (x + k) y at.pixels size (omega arith) (omega arith) in
-    subst (λ (q : Region). HasDecoded w h input q g' d' (set s n new)) (sym (after_pixels-one (row_coding template) w h input k r))
+    subst (λ (q : Region). HasDecoded w h input q (region_state g' d' (set s n new))) (sym (after_pixels-one (row_coding template) w h input k r))
     (HasDecoded-decided (row_coding template) w h input made g g' d d' s (x + k) y n false old new size (omega arith) (omega arith) (after_pixels-predicted (row_coding template) w h input k r ∙ predicted) refl is_context is_old (pushes white) is_next is_new at)
 
 -- ---- the loops of the kernels
 -- a pixel into a number
 pub decodes-bit : (template : List AdaptiveTemplatePixel) (x y k : ℕ) (g : Grid) (d0 d d' : Coder) (s0 s : List Context) (n byte symbol : ℕ) (read new : Context)
-    → DecodesPixels template false x y k g d0 s0 (with_pixels g x y k byte) d s → x + (k + 1) ≤ g.width → y < g.height → n ≡ context_at template (with_pixels g x y k byte) (x + k) y → n < length s
+    → DecodesPixels template false x y k (region_state g d0 s0) (region_state (with_pixels g x y k byte) d s) → x + (k + 1) ≤ g.width → y < g.height → n ≡ context_at template (with_pixels g x y k byte) (x + k) y → n < length s
     → symbol ≡ bit_number (decision d.bytes d.registers (get_or s n read)).symbol → d' ≡ record d { registers = (decision d.bytes d.registers (get_or s n read)).registers } → new ≡ (decision d.bytes d.registers (get_or s n read)).context
-    → DecodesPixels template false x y (k + 1) g d0 s0 (with_pixels g x y (k + 1) (byte * 2 + symbol)) d' (set s n new)
+    → DecodesPixels template false x y (k + 1) (region_state g d0 s0) (region_state (with_pixels g x y (k + 1) (byte * 2 + symbol)) d' (set s n new))
 decodes-bit template x y k g d0 d d' s0 s n byte symbol read new before left above is_context inside is_symbol is_next is_new =
     decodes-decided template x y k g (with_pixels g x y k byte) (with_pixels g x y (k + 1) (byte * 2 + symbol)) d0 d d' s0 s n (get_or s n read) new before (omega arith) above is_context (get_or_default s n read fresh inside)
     (stored-push g x y k byte symbol _ is_symbol (omega arith) above) is_next is_new
 
 pub decodes-pixel : (template : List AdaptiveTemplatePixel) (x y k : ℕ) (g0 g g' : Grid) (d0 d d' : Coder) (s0 s : List Context) (n symbol : ℕ) (read new : Context)
-    → DecodesPixels template false x y k g0 d0 s0 g d s → x + (k + 1) ≤ g.width → y < g.height → n ≡ context_at template g (x + k) y → n < length s → g' ≡ with_pixels g (x + k) y 1 symbol
+    → DecodesPixels template false x y k (region_state g0 d0 s0) (region_state g d s) → x + (k + 1) ≤ g.width → y < g.height → n ≡ context_at template g (x + k) y → n < length s → g' ≡ with_pixels g (x + k) y 1 symbol
     → symbol ≡ bit_number (decision d.bytes d.registers (get_or s n read)).symbol → d' ≡ record d { registers = (decision d.bytes d.registers (get_or s n read)).registers } → new ≡ (decision d.bytes d.registers (get_or s n read)).context
-    → DecodesPixels template false x y (k + 1) g0 d0 s0 g' d' (set s n new)
+    → DecodesPixels template false x y (k + 1) (region_state g0 d0 s0) (region_state g' d' (set s n new))
 decodes-pixel template x y k g0 g g' d0 d d' s0 s n symbol read new before left above is_context inside stored is_symbol is_next is_new =
     decodes-decided template x y k g0 g g' d0 d d' s0 s n (get_or s n read) new before (omega arith) above is_context (get_or_default s n read fresh inside)
     (λ white. stored ∙ stored-one g (x + k) y symbol _ is_symbol (omega arith) above white) is_next is_new
@@ -304,16 +304,16 @@ pub inside-states : (n size size' few : ℕ) → n < 2 ^ few → size ≡ 2 ^ fe
 inside-states n size size' few less all same = omega arith
 
 -- ---- several pixels
-pub decodes-then : (template : List AdaptiveTemplatePixel) (p : Bool) (x x' y n m k : ℕ) (g0 g1 g2 : Grid) (d0 d1 d2 : Coder) (s0 s1 s2 : List Context) → DecodesPixels template p x y n g0 d0 s0 g1 d1 s1 → DecodesPixels template p x' y m g1 d1 s1 g2 d2 s2 → x' ≡ x + n → k ≡ n + m → DecodesPixels template p x y k g0 d0 s0 g2 d2 s2
+pub decodes-then : (template : List AdaptiveTemplatePixel) (p : Bool) (x x' y n m k : ℕ) (g0 g1 g2 : Grid) (d0 d1 d2 : Coder) (s0 s1 s2 : List Context) → DecodesPixels template p x y n (region_state g0 d0 s0) (region_state g1 d1 s1) → DecodesPixels template p x' y m (region_state g1 d1 s1) (region_state g2 d2 s2) → x' ≡ x + n → k ≡ n + m → DecodesPixels template p x y k (region_state g0 d0 s0) (region_state g2 d2 s2)
 decodes-then template p x x' y n m k g0 g1 g2 d0 d1 d2 s0 s1 s2 one two place sum = λ w h input r len predicted holds.
     let made : Region = after_pixels (row_coding template) w h input n r in
     let size : length made.pixels ≡ y * w + x' = after_pixels-length (row_coding template) w h input n r ∙ omega arith in
-    subst (λ (q : Region). HasDecoded w h input q g2 d2 s2) (sym (ap (λ (i : ℕ). after_pixels (row_coding template) w h input i r) sum ∙ after_pixels-add (row_coding template) w h input n m r))
+    subst (λ (q : Region). HasDecoded w h input q (region_state g2 d2 s2)) (sym (ap (λ (i : ℕ). after_pixels (row_coding template) w h input i r) sum ∙ after_pixels-add (row_coding template) w h input n m r))
     (two w h input made size (after_pixels-predicted (row_coding template) w h input n r ∙ predicted) (one w h input r len predicted holds))
 
 -- ---- copied pixels
 decodes-known : (template : List AdaptiveTemplatePixel) (x y k : ℕ) (g0 g g' : Grid) (d0 d : Coder) (s0 s : List Context) (c : Bool)
-    → DecodesPixels template true x y k g0 d0 s0 g d s → x + k < g.width → y < g.height → pixel g (pos (x + k)) (pos y +ℤ negsuc 0) ≡ c → Pushes g g' (x + k) y c → DecodesPixels template true x y (k + 1) g0 d0 s0 g' d s
+    → DecodesPixels template true x y k (region_state g0 d0 s0) (region_state g d s) → x + k < g.width → y < g.height → pixel g (pos (x + k)) (pos y +ℤ negsuc 0) ≡ c → Pushes g g' (x + k) y c → DecodesPixels template true x y (k + 1) (region_state g0 d0 s0) (region_state g' d s)
 decodes-known template x y k g0 g g' d0 d s0 s c before left above is pushes = λ w h input r len predicted holds.
     let at = before w h input r len predicted holds in
     let made : Region = after_pixels (row_coding template) w h input k r in
@@ -321,12 +321,12 @@ decodes-known template x y k g0 g g' d0 d s0 s c before left above is pushes = �
     let wide : g.width ≡ w = ap (λ (q : Grid). q.width) at.pixels ∙ width-so_far w h made.pixels in
     let high : g.height ≡ h = ap (λ (q : Grid). q.height) at.pixels ∙ height-so_far w h made.pixels in
     let white = white-next w h made.pixels g (x + k) y at.pixels size (omega arith) (omega arith) in
-    subst (λ (q : Region). HasDecoded w h input q g' d s) (sym (after_pixels-one (row_coding template) w h input k r))
+    subst (λ (q : Region). HasDecoded w h input q (region_state g' d s)) (sym (after_pixels-one (row_coding template) w h input k r))
     (HasDecoded-known (row_coding template) w h input made g g' d s (x + k) y true c size (omega arith) (omega arith) (after_pixels-predicted (row_coding template) w h input k r ∙ predicted) (ap (λ (b : Bool). Some b) is) (pushes white) at)
 
 -- the first k of n pixels
 copied-some : (template : List AdaptiveTemplatePixel) (x y n k bits : ℕ) (g : Grid) (d : Coder) (s : List Context) → k ≤ n → ((i : ℕ) → i < n → bit bits (n - 1 - i) ≡ pixel g (pos (x + i)) (pos y +ℤ negsuc 0)) → x + n ≤ g.width → y < g.height
-    → DecodesPixels template true x y k g d s (with_pixels g x y k (bits / 2 ^ (n - k))) d s
+    → DecodesPixels template true x y k (region_state g d s) (region_state (with_pixels g x y k (bits / 2 ^ (n - k))) d s)
 copied-some template x y n zero bits g d s few each left above = decodes-start template true x y (bits / 2 ^ (n - 0)) g d s
 copied-some template x y n (suc k) bits g d s few each left above =
     let before = copied-some template x y n k bits g d s (omega arith) each left above in
@@ -338,8 +338,8 @@ copied-some template x y n (suc k) bits g d s few each left above =
     ap (λ (z : ℤ). pixel old (pos (x + k)) z) row ∙ sym (same-above g old (pos (x + k)) y 1 (omega arith) (stored-above g x y k (bits / 2 ^ (n - k)))) ∙ ap (λ (z : ℤ). pixel g (pos (x + k)) z) (sym row) ∙ sym (each k (omega arith)) in
     let step = decodes-known template x y k g old (with_pixels g x y (k + 1) (bits / 2 ^ (n - k) * 2 + bit_number c)) d d s s c before (omega arith) above colour (stored-push g x y k (bits / 2 ^ (n - k)) (bit_number c) c refl (omega arith) above) in
     let number : bits / 2 ^ (n - k) * 2 + bit_number c ≡ bits / 2 ^ (n - suc k) = one-more bits n k (omega arith) in
-    subst (λ (i : ℕ). DecodesPixels template true x y i g d s (with_pixels g x y i (bits / 2 ^ (n - suc k))) d s) next
-    (subst (λ (b : ℕ). DecodesPixels template true x y (k + 1) g d s (with_pixels g x y (k + 1) b) d s) number step)
+    subst (λ (i : ℕ). DecodesPixels template true x y i (region_state g d s) (region_state (with_pixels g x y i (bits / 2 ^ (n - suc k))) d s)) next
+    (subst (λ (b : ℕ). DecodesPixels template true x y (k + 1) (region_state g d s) (region_state (with_pixels g x y (k + 1) b) d s)) number step)
   where
     one-more : (bits n k : ℕ) → k < n → bits / 2 ^ (n - k) * 2 + bit_number (bit bits (n - 1 - k)) ≡ bits / 2 ^ (n - suc k)
     one-more bits n k less =
@@ -350,10 +350,10 @@ copied-some template x y n (suc k) bits g d s few each left above =
         ∙ rw (bit_number-bit bits (n - suc k), up, ← half) (omega arith)
 
 pub decodes-copied : (template : List AdaptiveTemplatePixel) (x y n bits : ℕ) (g : Grid) (d : Coder) (s : List Context) → ((i : ℕ) → i < n → bit bits (n - 1 - i) ≡ pixel g (pos (x + i)) (pos y +ℤ negsuc 0)) → x + n ≤ g.width → y < g.height
-    → DecodesPixels template true x y n g d s (with_pixels g x y n bits) d s
+    → DecodesPixels template true x y n (region_state g d s) (region_state (with_pixels g x y n bits) d s)
 decodes-copied template x y n bits g d s each left above =
     let all : bits / 2 ^ (n - n) ≡ bits = whole bits n in
-    subst (λ (b : ℕ). DecodesPixels template true x y n g d s (with_pixels g x y n b) d s) all (copied-some template x y n n bits g d s (omega arith) each left above)
+    subst (λ (b : ℕ). DecodesPixels template true x y n (region_state g d s) (region_state (with_pixels g x y n b) d s)) all (copied-some template x y n n bits g d s (omega arith) each left above)
   where
     whole : (bits n : ℕ) → bits / 2 ^ (n - n) ≡ bits
     whole bits n =

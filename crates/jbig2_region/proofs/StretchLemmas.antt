@@ -5,26 +5,26 @@ use Rattle.jbig2_base.specs.Grid.{Grid, blank}
 use Rattle.jbig2_coder.specs.Coder.{Coder, Context}
 use Rattle.jbig2_region.specs.Raster.{Coding, Region, no_pixels, row_decisions}
 use Rattle.jbig2_region.specs.inner.DecodedPixels.{DecodesPart, CountsPart}
-use Rattle.jbig2_region.specs.inner.RegionStates.{HasDecoded, BeginsRow}
+use Rattle.jbig2_region.specs.inner.RegionStates.{HasDecoded, BeginsRow, counted_region, region_state}
 use Rattle.jbig2_region.specs.inner.Rows.{after_rows}
 use Rattle.jbig2_region.specs.inner.Stretches.{DecodesPixels, rest_of}
 use Rattle.jbig2_region.proofs.DecodedPixelLemmas.{codes-none, codes-then, counts-none, counts-then}
 use Rattle.jbig2_region.proofs.DecisionLemmas.{Decided, codes-row, decided-none, decided-next}
 use Rattle.jbig2_region.proofs.RasterLemmas.{after_rows-none, region-start}
 
-pub pixels-none : (coding : Coding) (p : Bool) (x y n : ℕ) (g : Grid) (d : Coder) (s : List Context) (c : Counts) → 0 ≡ n → DecodesPixels coding p x y n g d s c g d s c
+pub pixels-none : (coding : Coding) (p : Bool) (x y n : ℕ) (g : Grid) (d : Coder) (s : List Context) (c : Counts) → 0 ≡ n → DecodesPixels coding p x y n (counted_region g d s c) (counted_region g d s c)
 pixels-none coding p x y n g d s c none = record {
-  holds = subst (λ (k : ℕ). DecodesPart coding p x y k g d s g d s) none (codes-none coding p x y g d s);
+  holds = subst (λ (k : ℕ). DecodesPart coding p x y k (region_state g d s) (region_state g d s)) none (codes-none coding p x y g d s);
   width = refl;
   height = refl;
   bytes = refl;
-  decisions = subst (λ (k : ℕ). CountsPart coding p x y k g d s c.decisions c.decisions) none (counts-none coding p x y g d s c.decisions);
+  decisions = subst (λ (k : ℕ). CountsPart coding p x y k (region_state g d s) c.decisions c.decisions) none (counts-none coding p x y g d s c.decisions);
   rest = refl;
 }
 
 pub pixels-then : {coding : Coding} {p : Bool} {x x' y n m : ℕ} (k : ℕ) {g0 g1 g2 : Grid} {d0 d1 d2 : Coder} {s0 s1 s2 : List Context} {c0 c1 c2 : Counts}
-    → DecodesPixels coding p x y n g0 d0 s0 c0 g1 d1 s1 c1 → DecodesPixels coding p x' y m g1 d1 s1 c1 g2 d2 s2 c2 → x' ≡ x + n → k ≡ n + m
-    → DecodesPixels coding p x y k g0 d0 s0 c0 g2 d2 s2 c2
+    → DecodesPixels coding p x y n (counted_region g0 d0 s0 c0) (counted_region g1 d1 s1 c1) → DecodesPixels coding p x' y m (counted_region g1 d1 s1 c1) (counted_region g2 d2 s2 c2) → x' ≡ x + n → k ≡ n + m
+    → DecodesPixels coding p x y k (counted_region g0 d0 s0 c0) (counted_region g2 d2 s2 c2)
 pixels-then {coding = coding} {p = p} {x = x} {x' = x'} {y = y} {n = n} {m = m} k {g0 = g0} {g1 = g1} {g2 = g2} {d0 = d0} {d1 = d1} {d2 = d2} {s0 = s0} {s1 = s1} {s2 = s2} {c0 = c0} {c1 = c1} {c2 = c2} one two place sum = record {
   holds = codes-then coding p x x' y n m k g0 g1 g2 d0 d1 d2 s0 s1 s2 one.holds two.holds place sum;
   width = two.width ∙ one.width;
@@ -36,14 +36,14 @@ pixels-then {coding = coding} {p = p} {x = x} {x' = x'} {y = y} {n = n} {m = m} 
 
 -- other steps before, which are no decisions, no tests and no lanes
 pub pixels-since : {coding : Coding} {p : Bool} {x y n : ℕ} {g g' : Grid} {d d' : Coder} {s s' : List Context} (b c c' : Counts)
-    → DecodesPixels coding p x y n g d s c g' d' s' c' → c.decisions ≡ b.decisions → rest_of c ≡ rest_of b
-    → DecodesPixels coding p x y n g d s b g' d' s' c'
+    → DecodesPixels coding p x y n (counted_region g d s c) (counted_region g' d' s' c') → c.decisions ≡ b.decisions → rest_of c ≡ rest_of b
+    → DecodesPixels coding p x y n (counted_region g d s b) (counted_region g' d' s' c')
 pixels-since {coding = coding} {p = p} {x = x} {y = y} {n = n} {g = g} {d = d} {s = s} b c c' decoded decided untouched = record {
   holds = decoded.holds;
   width = decoded.width;
   height = decoded.height;
   bytes = decoded.bytes;
-  decisions = subst (λ (k : ℕ). CountsPart coding p x y n g d s k c'.decisions) decided decoded.decisions;
+  decisions = subst (λ (k : ℕ). CountsPart coding p x y n (region_state g d s) k c'.decisions) decided decoded.decisions;
   rest = decoded.rest ∙ untouched;
 }
 
@@ -53,7 +53,7 @@ pub record RowsDecoded (coding : Coding) (g0 : Grid) (d0 : Coder) (s0 : List Con
   pub width : g.width ≡ g0.width
   pub height : g.height ≡ g0.height
   pub bytes : d.bytes ≡ d0.bytes
-  pub holds : HasDecoded g0.width g0.height d0.bytes (after_rows coding g0.width g0.height d0.bytes y (no_pixels d0.registers s0)) g d s
+  pub holds : HasDecoded g0.width g0.height d0.bytes (after_rows coding g0.width g0.height d0.bytes y (no_pixels d0.registers s0)) (region_state g d s)
   pub predicted : (after_rows coding g0.width g0.height d0.bytes y (no_pixels d0.registers s0)).predicted ≡ p
   pub decisions : Decided coding g0.width g0.height d0.bytes y (no_pixels d0.registers s0) c0.decisions c.decisions
   pub rest : rest_of c ≡ rest_of c0
@@ -66,7 +66,7 @@ rows-none coding g d s c white =
       width = refl;
       height = refl;
       bytes = refl;
-      holds = subst (λ (r : Region). HasDecoded g.width g.height d.bytes r g d s) (sym none) (region-start g.width g.height g d s white);
+      holds = subst (λ (r : Region). HasDecoded g.width g.height d.bytes r (region_state g d s)) (sym none) (region-start g.width g.height g d s white);
       predicted = ap (λ (r : Region). r.predicted) none;
       decisions = decided-none coding g.width g.height d.bytes start c.decisions;
       rest = refl;
@@ -75,14 +75,14 @@ rows-none coding g d s c white =
 -- a row is begun, at d1, s1 and c1, and decoded
 pub rows-next : {coding : Coding} {g0 : Grid} {d0 : Coder} {s0 : List Context} {c0 : Counts} {y : ℕ} {p : Bool} (q : Bool) {g : Grid} {d : Coder} {s : List Context} {c : Counts} (d1 : Coder) (s1 : List Context) (c1 : Counts) (g' : Grid) (d' : Coder) (s' : List Context) (c' : Counts)
     → RowsDecoded coding g0 d0 s0 c0 y p g d s c
-    → ((w h : ℕ) (grid : Grid) (r : Region) → r.predicted ≡ p → HasDecoded w h d.bytes r grid d s → BeginsRow w h coding.row_context r q grid d d1 s1)
+    → ((w h : ℕ) (grid : Grid) (r : Region) → r.predicted ≡ p → HasDecoded w h d.bytes r (region_state grid d s) → BeginsRow w h coding.row_context r q d (region_state grid d1 s1))
     → d1.bytes ≡ d.bytes → c1.decisions ≡ c.decisions + row_decisions coding.row_context → rest_of c1 ≡ rest_of c
-    → DecodesPixels coding q 0 y g.width g d1 s1 c1 g' d' s' c'
+    → DecodesPixels coding q 0 y g.width (counted_region g d1 s1 c1) (counted_region g' d' s' c')
     → RowsDecoded coding g0 d0 s0 c0 (y + 1) q g' d' s' c'
 rows-next {coding = coding} {g0 = g0} {d0 = d0} {s0 = s0} {c0 = c0} {y = y} {p = p} q {g = g} {d = d} {s = s} {c = c} d1 s1 c1 g' d' s' c' rows begin same more untouched row =
     let start : Region = no_pixels d0.registers s0 in
-    let codes = subst (λ (n : ℕ). DecodesPart coding q 0 y n g d1 s1 g' d' s') rows.width row.holds in
-    let counted = subst (λ (n : ℕ). CountsPart coding q 0 y n g d1 s1 c1.decisions c'.decisions) rows.width row.decisions in
+    let codes = subst (λ (n : ℕ). DecodesPart coding q 0 y n (region_state g d1 s1) (region_state g' d' s')) rows.width row.holds in
+    let counted = subst (λ (n : ℕ). CountsPart coding q 0 y n (region_state g d1 s1) c1.decisions c'.decisions) rows.width row.decisions in
     let next = codes-row coding y p q g d s d1 s1 g' d' s' start g0.width g0.height d0.bytes rows.bytes same refl begin codes rows.holds rows.predicted in
     record {
       width = row.width ∙ rows.width;

@@ -6,7 +6,7 @@ use Rattle.jbig2_base.specs.Counts.{Counts}
 use Rattle.jbig2_coder.specs.Coder.{initial_registers}
 use Rattle.jbig2_region.specs.Generic.{generic_coding}
 use Rattle.jbig2_region.specs.GenericHeader.{GenericHeader}
-use Rattle.jbig2_region.specs.Raster.{Coding, Region, no_pixels, fresh_contexts}
+use Rattle.jbig2_region.specs.Raster.{Coding, Source, no_pixels, fresh_contexts, source}
 use Rattle.jbig2_region.specs.Steps.{CountsDecided, CountsRegion}
 use Rattle.jbig2_region.specs.Templates.{adaptive_pixel_count, context_bits, is_nominal, template_pixels}
 use Rattle.jbig2_region.specs.declared.template.AdaptiveTemplatePixel.{AdaptiveTemplatePixel}
@@ -16,21 +16,20 @@ abbrev pub read_pixels : Template → List AdaptiveTemplatePixel → ℕ
 read_pixels template a = if is_nominal template a then 0 else adaptive_pixel_count false false template
 
 -- The steps of a region. The extended template has no run bytes, and all its pixels are read one by one.
-abbrev pub CountsCoded : Bool → Template → List AdaptiveTemplatePixel → Coding
-    → ℕ → ℕ → List ℕ → Region → Counts → Counts → Type 0
-CountsCoded true template a coding w h bytes start before after =
-    CountsDecided coding (w * (context_bits template + 1)) w h bytes start before after
-CountsCoded false template a coding w h bytes start before after =
+abbrev pub CountsCoded : Bool → Template → List AdaptiveTemplatePixel → Coding → Source → Counts → Counts → Type 0
+CountsCoded true template a coding s before after =
+    CountsDecided coding (s.columns * (context_bits template + 1)) s before after
+CountsCoded false template a coding s before after =
     CountsRegion (template_pixels false template a) (is_nominal template a) (read_pixels template a)
-    coding w h bytes start before after
+    coding s before after
 
 -- the same for a region whose header is read; with MMR its steps are not counted
 abbrev pub CountsGeneric : GenericHeader → Counts → Counts → Type 0
 CountsGeneric h before after =
     h.mmr ≡ false →
     CountsCoded h.extended h.template h.adaptive_template_pixels (generic_coding h)
-    h.region_info.width h.region_info.height h.bytes
-    (no_pixels (initial_registers h.bytes) (fresh_contexts (context_bits h.template))) before after
+    (source h.region_info.width h.region_info.height h.bytes
+    (no_pixels (initial_registers h.bytes) (fresh_contexts (context_bits h.template)))) before after
 
 -- the units that pay for a region: those of a bitmap of its size, and one for each coded byte
 abbrev pub price_of_region : GenericHeader → ℕ

@@ -56,6 +56,16 @@ at_next coding w bytes r = if length r.pixels % w == 0 then after_ltp coding.row
 abbrev pub no_pixels : Registers → List Context → Region
 no_pixels registers contexts = record { pixels = []; predicted = false; registers = registers; contexts = contexts }
 
+-- what a region is decoded from: its size, its coded bytes, and the state before its first pixel
+pub record Source : Type 0 where
+  pub columns : ℕ
+  pub rows : ℕ
+  pub bytes : List ℕ
+  pub start : Region
+
+abbrev pub source : ℕ → ℕ → List ℕ → Region → Source
+source w h bytes start = record { columns = w; rows = h; bytes = bytes; start = start }
+
 -- a region of w columns and h rows
 module _ (coding : Coding) (w h : ℕ) (bytes : List ℕ) where
   -- one pixel more

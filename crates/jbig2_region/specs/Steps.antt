@@ -1,12 +1,13 @@
 -- The step bounds of regions (our own rule): decisions, run bytes, words and loads. Each `Counts..` takes how a region
--- is coded, its size and its coded bytes, and the counts before and after it.
+-- is coded, what it is decoded from, and the counts before and after it.
 use Rattle.std.specs.Prelude.{◌≡◌, ℕ, zero, suc, ◌+◌, ◌-◌, ◌*◌, ◌/◌, ◌%◌, ◌≤◌, ◌==◌, Bool, false, true, not, ◌&&◌, ◌||◌}
 use Rattle.std.specs.Prelude.{nat_lt, if◌then◌else◌, List, ◌++◌, length, replicate, slice_index_or, is_none, Option}
 use Rattle.jbig2_base.specs.Counts.{Counts, KeepsLanes}
 use Rattle.jbig2_base.specs.Grid.{bit_number, same_colour, Grid}
 use Rattle.jbig2_coder.specs.Coder.{fresh, all_quiet, initial_registers}
 use Rattle.jbig2_region.specs.Generic.{context_at, number_of, is_skipped}
-use Rattle.jbig2_region.specs.Raster.{Coding, Region, so_far, at_pixel, fresh_contexts, no_pixels, row_decisions}
+use Rattle.jbig2_region.specs.Raster.{Coding, Region, Source, source, so_far, at_pixel, fresh_contexts, no_pixels}
+use Rattle.jbig2_region.specs.Raster.{row_decisions}
 use Rattle.jbig2_region.specs.Refinement.{reference_of, refinement_coding}
 use Rattle.jbig2_region.specs.RefinementHeader.{RefinementHeader}
 use Rattle.jbig2_region.specs.RefinementTemplates.{is_nominal, refinement_bits}
@@ -31,15 +32,15 @@ pixel_decisions coding w h bytes start =
 
 -- One decision for each pixel that takes one, and for each row that begins with one. No run test and no lanes. At most
 -- one word a pixel, and this many loads a row. An empty region takes no step.
-pub record CountsDecided (coding : Coding) (row_loads : ℕ) (w h : ℕ) (bytes : List ℕ) (start : Region)
-    (before after : Counts) : Type 0 where
-  pub empty : w * h ≡ 0 → after ≡ before
-  pub decisions : 1 ≤ w →
+pub record CountsDecided (coding : Coding) (row_loads : ℕ) (s : Source) (before after : Counts) : Type 0 where
+  pub empty : s.columns * s.rows ≡ 0 → after ≡ before
+  pub decisions : 1 ≤ s.columns →
       after.decisions
-      ≡ before.decisions + (h * row_decisions coding.row_context + pixel_decisions coding w h bytes start)
+      ≡ before.decisions
+      + (s.rows * row_decisions coding.row_context + pixel_decisions coding s.columns s.rows s.bytes s.start)
   pub run_tests : after.run_tests ≡ before.run_tests
-  pub words : after.words ≤ before.words + h * w
-  pub loads : after.loads ≤ before.loads + h * row_loads
+  pub words : after.words ≤ before.words + s.rows * s.columns
+  pub loads : after.loads ≤ before.loads + s.rows * row_loads
   pub lanes : KeepsLanes before after
 
 -- the loads of a row of a refinement, if its pixels are taken from windows of 64 pixels
@@ -54,8 +55,8 @@ abbrev pub CountsRefined : RefinementHeader → PlacedRegion → Counts → Coun
 CountsRefined h from before after =
     CountsDecided (refinement_coding h.template h.tpgron h.adaptive_template_pixels (reference_of h from))
     (refinement_loads h.template h.adaptive_template_pixels h.region_info.width)
-    h.region_info.width h.region_info.height h.bytes
-    (no_pixels (initial_registers h.bytes) (fresh_contexts (refinement_bits h.template))) before after
+    (source h.region_info.width h.region_info.height h.bytes
+    (no_pixels (initial_registers h.bytes) (fresh_contexts (refinement_bits h.template)))) before after
 
 -- ---- run bytes of generic regions: eight likely pixels, for which the coder only lowers A
 module _ (template : List AdaptiveTemplatePixel) where
@@ -109,14 +110,18 @@ row_words nominal w = if nominal then (w - 1) / 8 + 1 else w
 -- One decision for each coded pixel, less eight for each run byte, and one for each row that begins with one. No lanes.
 -- An empty region takes no step.
 pub record CountsRegion (template : List AdaptiveTemplatePixel) (nominal : Bool) (adaptive : ℕ) (coding : Coding)
-    (w h : ℕ) (bytes : List ℕ) (start : Region) (before after : Counts) : Type 0 where
-  pub empty : w * h ≡ 0 → after ≡ before
-  pub decisions : 1 ≤ w →
-      after.decisions + 8 * coded_runs template nominal coding w h bytes start
-      ≡ before.decisions + (h * row_decisions coding.row_context + coded_pixels coding w h bytes start)
-  pub run_tests : after.run_tests ≤ before.run_tests + h * row_tests nominal w
-  pub words : after.words ≤ before.words + h * row_words nominal w
-  pub loads : after.loads ≤ before.loads + (h * row_loads nominal w + coded_pixels coding w h bytes start * adaptive)
+    (s : Source) (before after : Counts) : Type 0 where
+  pub empty : s.columns * s.rows ≡ 0 → after ≡ before
+  pub decisions : 1 ≤ s.columns →
+      after.decisions + 8 * coded_runs template nominal coding s.columns s.rows s.bytes s.start
+      ≡ before.decisions
+      + (s.rows * row_decisions coding.row_context + coded_pixels coding s.columns s.rows s.bytes s.start)
+  pub run_tests : after.run_tests ≤ before.run_tests + s.rows * row_tests nominal s.columns
+  pub words : after.words ≤ before.words + s.rows * row_words nominal s.columns
+  pub loads :
+      after.loads
+      ≤ before.loads
+      + (s.rows * row_loads nominal s.columns + coded_pixels coding s.columns s.rows s.bytes s.start * adaptive)
   pub lanes : KeepsLanes before after
 
 -- ---- steps (our own rule), if the adaptive pixels are nominal: the pixels that are not skipped

@@ -2,8 +2,7 @@
 //! decision.
 ghost use Rattle.std.specs.Prelude.{◌≡◌, ◌+◌, ◌*◌, ◌^◌, ◌<◌, ◌≤◌, length, pos, negsuc, ◌+ℤ◌, false};
 ghost use Rattle.jbig2_base.specs.Grid.{pixel, bit_number};
-ghost use Rattle.jbig2_region.specs.inner.RegionStates.{DecodesRegion, IsReady};
-ghost use Rattle.jbig2_region.specs.Raster.{no_pixels};
+ghost use Rattle.jbig2_region.specs.inner.RegionStates.{DecodesRegion, IsReady, region_state, source_of};
 ghost use Rattle.jbig2_region.specs.Generic.{context_at, coding_of, white_if_skipped};
 ghost use Rattle.jbig2_region.specs.inner.RegionViews.{skip_of};
 ghost use Rattle.jbig2_region.specs.GenericSteps.{CountsCoded, read_pixels};
@@ -174,13 +173,13 @@ pub fn decode_coded<A: Allocator, L: Ledger>(
     ensures holds { let extended = is_extended adaptive.now in
         let pixels = template_pixels extended template (pixels_view false template adaptive.now) in
         DecodesRegion (coding_of typical template pixels)
-        bitmap.old decoder.old contexts.old bitmap.new decoder.new contexts.new }
+        (region_state bitmap.old decoder.old contexts.old)
+        (region_state bitmap.new decoder.new contexts.new) }
     ensures steps { let extended = is_extended adaptive.now in
         let used = pixels_view false template adaptive.now in
         let pixels = template_pixels extended template used in
         CountsCoded extended template used (coding_of typical template pixels)
-        bitmap.old.width bitmap.old.height decoder.old.bytes
-        (no_pixels decoder.old.registers contexts.old) steps.old steps.new }
+        (source_of (region_state bitmap.old decoder.old contexts.old)) steps.old steps.new }
 {
     match adaptive {
         GenericTemplatePixels::Extended(a) => {

@@ -4,9 +4,9 @@ ghost use Rattle.std.specs.Prelude.{◌≡◌, ℕ, ◌+◌, ◌-◌, ◌*◌, �
 ghost use Rattle.jbig2_base.specs.Counts.{KeepsLanes};
 ghost use Rattle.jbig2_base.specs.Grid.{blank, max_side};
 ghost use Rattle.jbig2_coder.specs.Coder.{Coder, Context};
-ghost use Rattle.jbig2_region.specs.inner.RegionStates.{DecodesRegion};
+ghost use Rattle.jbig2_region.specs.inner.RegionStates.{DecodesRegion, region_state, source_of};
 ghost use Rattle.jbig2_region.specs.inner.Neighbours.{DecodesPixels, IsLayout, is_nominal_layout, layout_coding, layout_count, layout_loads, layout_pixels};
-ghost use Rattle.jbig2_region.specs.Raster.{decoded_region, no_pixels};
+ghost use Rattle.jbig2_region.specs.Raster.{decoded_region};
 ghost use Rattle.jbig2_region.specs.Steps.{CountsRegion, row_loads, row_tests, row_words};
 ghost use Rattle.jbig2_region.specs.inner.RowCounts.{CountsRow};
 ghost use Rattle.jbig2_region.specs.declared.template.AdaptiveTemplatePixel.{AdaptiveTemplatePixel};
@@ -57,8 +57,8 @@ use std::sync::ledger::Ledger;
 fn copy_row<A: Allocator, L: Ledger>(bitmap: &mut Bitmap<A>, y: u32, steps: &mut Steps<L>)
     requires row { y < bitmap.old.height }
     ensures holds { (template : List AdaptiveTemplatePixel) (coder : Coder)
-        (states : List Context) → DecodesPixels template true 0 y bitmap.old.width bitmap.old coder
-        states bitmap.new coder states }
+        (states : List Context) → DecodesPixels template true 0 y bitmap.old.width
+        (region_state bitmap.old coder states) (region_state bitmap.new coder states) }
     ensures width { bitmap.new.width ≡ bitmap.old.width }
     ensures height { bitmap.new.height ≡ bitmap.old.height }
     ensures loads { steps.new.loads ≡ steps.old.loads + (bitmap.old.width + 63) / 64 }
@@ -95,13 +95,15 @@ fn decode_row<A: Allocator, L: Ledger>(
     requires columns { bitmap.old.width ≤ max_side }
     requires rows { bitmap.old.height ≤ max_side }
     ensures holds { DecodesPixels (layout_pixels layout.now) predicted 0 y bitmap.old.width
-        bitmap.old decoder.old contexts.old bitmap.new decoder.new contexts.new }
+        (region_state bitmap.old decoder.old contexts.old)
+        (region_state bitmap.new decoder.new contexts.new) }
     ensures width { bitmap.new.width ≡ bitmap.old.width }
     ensures height { bitmap.new.height ≡ bitmap.old.height }
     ensures bytes { decoder.new.bytes ≡ decoder.old.bytes }
     ensures contexts { length contexts.new ≡ length contexts.old }
-    ensures decisions { CountsRow (layout_pixels layout.now) (is_nominal_layout layout.now.adaptive)
-        predicted y bitmap.old decoder.old contexts.old steps.old.decisions steps.new.decisions }
+    ensures decisions { CountsRow (layout_pixels layout.now)
+        (is_nominal_layout layout.now.adaptive) predicted y
+        (region_state bitmap.old decoder.old contexts.old) steps.old.decisions steps.new.decisions }
     ensures run_tests { steps.new.run_tests ≤
         steps.old.run_tests + row_tests (is_nominal_layout layout.now.adaptive) bitmap.old.width }
     ensures words { steps.new.words ≤ steps.old.words +
@@ -150,12 +152,12 @@ pub fn decode_layout<A: Allocator, L: Ledger>(
     requires columns { bitmap.old.width ≤ max_side }
     requires rows { bitmap.old.height ≤ max_side }
     requires white { bitmap.old ≡ blank bitmap.old.width bitmap.old.height false }
-    ensures holds { DecodesRegion (layout_coding layout.now row_context) bitmap.old decoder.old
-        contexts.old bitmap.new decoder.new contexts.new }
+    ensures holds { DecodesRegion (layout_coding layout.now row_context)
+        (region_state bitmap.old decoder.old contexts.old)
+        (region_state bitmap.new decoder.new contexts.new) }
     ensures steps { CountsRegion (layout_pixels layout.now) (is_nominal_layout layout.now.adaptive)
-        (layout_loads layout.now.adaptive) (layout_coding layout.now row_context) bitmap.old.width
-        bitmap.old.height decoder.old.bytes (no_pixels decoder.old.registers contexts.old) steps.old
-        steps.new }
+        (layout_loads layout.now.adaptive) (layout_coding layout.now row_context)
+        (source_of (region_state bitmap.old decoder.old contexts.old)) steps.old steps.new }
 {
     if bitmap.width() == 0 {
         return;

@@ -4,8 +4,8 @@ ghost use Rattle.std.specs.Prelude.{◌≡◌, ℕ, ◌+◌, ◌*◌, ◌^◌, �
 ghost use Rattle.jbig2_base.specs.Results.{Gives};
 ghost use Rattle.jbig2_base.specs.Grid.{Grid, pixel, bit_number, max_side};
 ghost use Rattle.jbig2_region.specs.Steps.{CountsDecided};
-ghost use Rattle.jbig2_region.specs.Raster.{Coding, Region, row_decisions, no_pixels, fresh_contexts};
-ghost use Rattle.jbig2_region.specs.inner.RegionStates.{HasDecoded, BeginsRow, DecodesRegion, IsReady};
+ghost use Rattle.jbig2_region.specs.Raster.{Coding, Region, row_decisions, fresh_contexts};
+ghost use Rattle.jbig2_region.specs.inner.RegionStates.{HasDecoded, BeginsRow, DecodesRegion, IsReady, counted_region, region_state, source_of};
 ghost use Rattle.jbig2_region.specs.inner.Stretches.{DecodesPixels};
 
 use jbig2_base::bitmap::Bitmap;
@@ -118,8 +118,8 @@ fn decode_pixel<C: PixelCoding, A: Allocator, L: Ledger>(
     requires rows { bitmap.old.height ≤ max_side }
     requires contexts { length contexts.old ≡ 2 ^ C.bits coding.now }
     ensures decoded { DecodesPixels (C.coding coding.now) row.predicted x row.y 1
-        bitmap.old decoder.old contexts.old steps.old
-        bitmap.new decoder.new contexts.new steps.new }
+        (counted_region bitmap.old decoder.old contexts.old steps.old)
+        (counted_region bitmap.new decoder.new contexts.new steps.new) }
     ensures words { steps.new.words ≡ steps.old.words + 1 }
     ensures loads { steps.new.loads
         ≤ steps.old.loads + (C.bits coding.now + C.known_loads coding.now) }
@@ -146,9 +146,9 @@ fn decode_row<C: PixelCoding, A: Allocator, L: Ledger>(
     requires columns { bitmap.old.width ≤ max_side }
     requires rows { bitmap.old.height ≤ max_side }
     requires contexts { length contexts.old ≡ 2 ^ C.bits coding.now }
-    ensures decoded { DecodesPixels (C.coding coding.now) row.predicted 0 row.y
-        bitmap.old.width bitmap.old decoder.old contexts.old steps.old
-        bitmap.new decoder.new contexts.new steps.new }
+    ensures decoded { DecodesPixels (C.coding coding.now) row.predicted 0 row.y bitmap.old.width
+        (counted_region bitmap.old decoder.old contexts.old steps.old)
+        (counted_region bitmap.new decoder.new contexts.new steps.new) }
     ensures words { steps.new.words ≡ steps.old.words + bitmap.old.width }
     ensures loads { steps.new.loads ≤ steps.old.loads
         + bitmap.old.width * (C.bits coding.now + C.known_loads coding.now) }
@@ -170,8 +170,9 @@ fn decide_row<L: Ledger>(
 ) -> bool
     requires context { context < length contexts.old }
     ensures row { (w h : ℕ) (grid : Grid) (r : Region) → r.predicted ≡ predicted
-        → HasDecoded w h decoder.old.bytes r grid decoder.old contexts.old
-        → BeginsRow w h (Some context) r result grid decoder.old decoder.new contexts.new }
+        → HasDecoded w h decoder.old.bytes r (region_state grid decoder.old contexts.old)
+        → BeginsRow w h (Some context) r result decoder.old
+        (region_state grid decoder.new contexts.new) }
     ensures bytes { decoder.new.bytes ≡ decoder.old.bytes }
     ensures steps { steps.new
         ≡ record steps.old { decisions = steps.old.decisions + row_decisions (Some context) } }
@@ -194,8 +195,9 @@ pub fn begin_row<L: Ledger>(
 ) -> bool
     requires context { IfSome row_context (λ k. k < length contexts.old) }
     ensures row { (w h : ℕ) (grid : Grid) (r : Region) → r.predicted ≡ predicted
-        → HasDecoded w h decoder.old.bytes r grid decoder.old contexts.old
-        → BeginsRow w h row_context r result grid decoder.old decoder.new contexts.new }
+        → HasDecoded w h decoder.old.bytes r (region_state grid decoder.old contexts.old)
+        → BeginsRow w h row_context r result decoder.old
+        (region_state grid decoder.new contexts.new) }
     ensures bytes { decoder.new.bytes ≡ decoder.old.bytes }
     ensures steps { steps.new
         ≡ record steps.old { decisions = steps.old.decisions + row_decisions row_context } }
@@ -216,12 +218,12 @@ pub fn decode_region<C: PixelCoding, A: Allocator, L: Ledger>(
 )
     requires { IsReady (C.bits coding.now) bitmap.old contexts.old }
     ensures holds { DecodesRegion (C.coding coding.now)
-        bitmap.old decoder.old contexts.old bitmap.new decoder.new contexts.new }
+        (region_state bitmap.old decoder.old contexts.old)
+        (region_state bitmap.new decoder.new contexts.new) }
     ensures empty { bitmap.old.width * bitmap.old.height ≡ 0 → steps.new ≡ steps.old }
     ensures steps { CountsDecided (C.coding coding.now)
         (bitmap.old.width * (C.bits coding.now + C.known_loads coding.now))
-        bitmap.old.width bitmap.old.height decoder.old.bytes
-        (no_pixels decoder.old.registers contexts.old) steps.old steps.new }
+        (source_of (region_state bitmap.old decoder.old contexts.old)) steps.old steps.new }
 {
     if bitmap.width() == 0 {
         return;

@@ -3,9 +3,8 @@ ghost use Rattle.std.specs.Prelude.{◌≡◌, ◌+◌, ◌^◌, ◌<◌, ◌≤
 ghost use Rattle.jbig2_base.specs.Grid.{pixel, bit_number};
 ghost use Rattle.jbig2_region.specs.Steps.{CountsDecided};
 ghost use Rattle.jbig2_region.specs.Generic.{number_of};
-ghost use Rattle.jbig2_region.specs.Raster.{no_pixels};
 ghost use Rattle.jbig2_region.specs.Steps.{refinement_loads};
-ghost use Rattle.jbig2_region.specs.inner.RegionStates.{DecodesRegion, IsReady};
+ghost use Rattle.jbig2_region.specs.inner.RegionStates.{DecodesRegion, IsReady, region_state, source_of};
 ghost use Rattle.jbig2_region.specs.inner.RefinementViews.{reference_view};
 ghost use Rattle.jbig2_region.specs.Refinement.{nine, common_colour, reference_pixel, refinement_coding};
 ghost use Rattle.jbig2_region.specs.RefinementTemplates.{refinement_bits};
@@ -198,12 +197,12 @@ pub fn decode_bitmap<A: Allocator, B: Allocator, L: Ledger>(
     requires { IsReady (refinement_bits template) bitmap.old contexts.old }
     ensures holds { let from = reference_view reference.now in
         DecodesRegion (refinement_coding template typical (two_pixels template adaptive.now) from)
-        bitmap.old decoder.old contexts.old bitmap.new decoder.new contexts.new }
+        (region_state bitmap.old decoder.old contexts.old)
+        (region_state bitmap.new decoder.new contexts.new) }
     ensures steps { let pixels = two_pixels template adaptive.now in
         CountsDecided (refinement_coding template typical pixels (reference_view reference.now))
-        (refinement_loads template pixels bitmap.old.width) bitmap.old.width bitmap.old.height
-        decoder.old.bytes
-        (no_pixels decoder.old.registers contexts.old) steps.old steps.new }
+        (refinement_loads template pixels bitmap.old.width)
+        (source_of (region_state bitmap.old decoder.old contexts.old)) steps.old steps.new }
 {
     let windowed = WindowedCoding {
         template,

@@ -4,10 +4,9 @@ ghost use Rattle.std.specs.Prelude.{◌≡◌, ℕ, ◌+◌, ◌-◌, ◌*◌, �
 ghost use Rattle.jbig2_base.specs.Grid.{pixel_at, max_side};
 ghost use Rattle.jbig2_base.specs.Bits.{bit};
 ghost use Rattle.jbig2_region.specs.Steps.{CountsDecided, window_loads};
-ghost use Rattle.jbig2_region.specs.Raster.{no_pixels};
 ghost use Rattle.jbig2_region.specs.RefinementTemplates.{refinement_bits};
 ghost use Rattle.jbig2_region.specs.inner.DecodedPixels.{Takes};
-ghost use Rattle.jbig2_region.specs.inner.RegionStates.{DecodesRegion, IsReady};
+ghost use Rattle.jbig2_region.specs.inner.RegionStates.{DecodesRegion, IsReady, counted_decoder, counted_region, region_state, source_of};
 ghost use Rattle.jbig2_region.specs.inner.Neighbours.{IsLeft};
 ghost use Rattle.jbig2_region.specs.inner.RefinementBlocks.{MovesBlock};
 ghost use Rattle.jbig2_region.specs.inner.RefinementViews.{reference_view};
@@ -49,8 +48,8 @@ fn decide_pixel<L: Ledger>(
     steps: &mut Steps<L>,
 ) -> u32
     requires context { context < length contexts.old }
-    ensures takes { Takes None context
-        decoder.old contexts.old steps.old result decoder.new contexts.new steps.new }
+    ensures takes { Takes None context (counted_decoder decoder.old contexts.old steps.old) result
+        (counted_decoder decoder.new contexts.new steps.new) }
     ensures digit { result < 2 }
     ensures contexts { length contexts.new ≡ length contexts.old }
 {
@@ -75,8 +74,9 @@ fn push_pixels<L: Ledger>(
     requires within { offset + count ≤ 32 }
     requires room { pixels < 16 * 2 ^ offset }
     requires contexts { length contexts.old ≡ 2 ^ refinement_bits template }
-    ensures block { MovesBlock template windows offset count
-        pixels decoder.old contexts.old steps.old result decoder.new contexts.new steps.new }
+    ensures block { MovesBlock template windows offset count pixels
+        (counted_decoder decoder.old contexts.old steps.old) result
+        (counted_decoder decoder.new contexts.new steps.new) }
     ensures contexts { length contexts.new ≡ length contexts.old }
 {
     let mut lanes = lanes_at(windows, offset);
@@ -154,8 +154,8 @@ fn decode_block<A: Allocator, B: Allocator, L: Ledger>(
     requires sees { let reference = reference_view coding.now.reference.now in
         SeesRows bitmap.old reference stretch.x row.y stretch.windows }
     ensures decoded { DecodesPixels (windowed_coding coding.now) row.predicted
-        stretch.x row.y stretch.count bitmap.old decoder.old contexts.old steps.old
-        bitmap.new decoder.new contexts.new steps.new }
+        stretch.x row.y stretch.count (counted_region bitmap.old decoder.old contexts.old steps.old)
+        (counted_region bitmap.new decoder.new contexts.new steps.new) }
     ensures left { IsLeft bitmap.new (stretch.x + stretch.count) row.y (result % 16) }
     ensures value { (k : ℕ) → k < stretch.count
         → bit result (stretch.count - 1 - k) ≡ pixel_at bitmap.new (stretch.x + k) row.y }
@@ -212,8 +212,8 @@ fn decode_row<A: Allocator, B: Allocator, L: Ledger>(
     requires widths { bitmap.old.width ≤ max_side }
     requires heights { bitmap.old.height ≤ max_side }
     ensures decoded { DecodesPixels (windowed_coding coding.now) row.predicted 0 row.y
-        bitmap.old.width bitmap.old decoder.old contexts.old steps.old
-        bitmap.new decoder.new contexts.new steps.new }
+        bitmap.old.width (counted_region bitmap.old decoder.old contexts.old steps.old)
+        (counted_region bitmap.new decoder.new contexts.new steps.new) }
     ensures contexts { length contexts.new ≡ length contexts.old }
     ensures loads { steps.new.loads ≤ steps.old.loads + window_loads bitmap.old.width }
     ensures words { steps.new.words ≤ steps.old.words + bitmap.old.width }
@@ -251,10 +251,11 @@ fn decode_narrow<A: Allocator, B: Allocator, L: Ledger>(
     requires few { bitmap.old.width ≤ 32 }
     requires rows { 1 ≤ bitmap.old.height }
     ensures holds { DecodesRegion (windowed_coding coding.now)
-        bitmap.old decoder.old contexts.old bitmap.new decoder.new contexts.new }
+        (region_state bitmap.old decoder.old contexts.old)
+        (region_state bitmap.new decoder.new contexts.new) }
     ensures steps { CountsDecided (windowed_coding coding.now)
-        (window_loads bitmap.old.width) bitmap.old.width bitmap.old.height decoder.old.bytes
-        (no_pixels decoder.old.registers contexts.old) steps.old steps.new }
+        (window_loads bitmap.old.width)
+        (source_of (region_state bitmap.old decoder.old contexts.old)) steps.old steps.new }
 {
     let width = bitmap.width();
     let row_context = typical_context(coding.template, coding.typical);
@@ -286,10 +287,11 @@ pub fn decode_windowed<A: Allocator, B: Allocator, L: Ledger>(
 )
     requires { IsReady (refinement_bits coding.now.template) bitmap.old contexts.old }
     ensures holds { DecodesRegion (windowed_coding coding.now)
-        bitmap.old decoder.old contexts.old bitmap.new decoder.new contexts.new }
+        (region_state bitmap.old decoder.old contexts.old)
+        (region_state bitmap.new decoder.new contexts.new) }
     ensures steps { CountsDecided (windowed_coding coding.now)
-        (window_loads bitmap.old.width) bitmap.old.width bitmap.old.height decoder.old.bytes
-        (no_pixels decoder.old.registers contexts.old) steps.old steps.new }
+        (window_loads bitmap.old.width)
+        (source_of (region_state bitmap.old decoder.old contexts.old)) steps.old steps.new }
 {
     if bitmap.width() == 0 {
         return;

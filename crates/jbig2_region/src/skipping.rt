@@ -1,7 +1,7 @@
 //! Decodes generic regions with skipped pixels (T.88, 6.2.5.7), such as planes of a gray-scale
 //! image.
 ghost use Rattle.std.specs.Prelude.{◌≡◌, false, true};
-ghost use Rattle.jbig2_region.specs.inner.RegionStates.{DecodesRegion, IsReady};
+ghost use Rattle.jbig2_region.specs.inner.RegionStates.{DecodesRegion, IsReady, region_state};
 ghost use Rattle.jbig2_region.specs.Steps.{CountsSkipping};
 ghost use Rattle.jbig2_region.specs.inner.RegionViews.{skip_of};
 ghost use Rattle.jbig2_region.specs.Generic.{skipping_coding};
@@ -39,7 +39,8 @@ pub fn decode_skipping<M: Allocator, A: Allocator, L: Ledger>(
     ensures holds { let used = four_pixels template adaptive.now in
         let pixels = template_pixels false template used in
         DecodesRegion (skipping_coding pixels (skip_of skip.entry))
-        bitmap.old decoder.old contexts.old bitmap.new decoder.new contexts.new }
+        (region_state bitmap.old decoder.old contexts.old)
+        (region_state bitmap.new decoder.new contexts.new) }
     ensures steps { is_nominal template (four_pixels template adaptive.now) ≡ true
         → CountsSkipping (skip_of skip.entry) bitmap.old.width bitmap.old.height steps.old
         steps.new }

@@ -2,7 +2,7 @@
 use Rattle.std.proofs.Common.{◌≡◌, ℕ, List, [], ◌∷◌, take, false, ◌∙◌, ap, refl, subst}
 use Rattle.jbig2_base.specs.Grid.{Grid}
 use Rattle.jbig2_coder.specs.Coder.{Coder, Context, Registers}
-use Rattle.jbig2_region.specs.inner.RegionStates.{HasDecoded}
+use Rattle.jbig2_region.specs.inner.RegionStates.{HasDecoded, region_state}
 use Rattle.jbig2_region.specs.Raster.{Coding, decoded_region, no_pixels}
 use Rattle.jbig2_region.specs.Refinement.{Reference, refinement_coding}
 use Rattle.jbig2_region.specs.inner.PixelArrays.{two_pixels}
@@ -26,14 +26,14 @@ same-coding Template0 (p ∷ []) from = refl
 same-coding Template0 (p ∷ q ∷ a) from = refl
 same-coding Template1 a from = refl
 
-refined-holds : (f : Refining) (from : Reference) (w h : ℕ) (bytes : List ℕ) (registers : Registers) (grid : Grid) (coder : Coder) (states : List Context) → HasDecoded w h bytes (decoded_region (refinement_coding f.template false f.pixels from) w h bytes (no_pixels registers f.contexts)) grid coder states → HasDecoded w h bytes (refined_by f from w h bytes registers) grid coder states
+refined-holds : (f : Refining) (from : Reference) (w h : ℕ) (bytes : List ℕ) (registers : Registers) (grid : Grid) (coder : Coder) (states : List Context) → HasDecoded w h bytes (decoded_region (refinement_coding f.template false f.pixels from) w h bytes (no_pixels registers f.contexts)) (region_state grid coder states) → HasDecoded w h bytes (refined_by f from w h bytes registers) (region_state grid coder states)
 unfolding refined_by
 refined-holds f from w h bytes registers grid coder states holds = holds
 
-pub filled-holds : (f : Refining) (from : Reference) (w h : ℕ) (bytes : List ℕ) (registers : Registers) (grid : Grid) (coder : Coder) (states : List Context) → HasDecoded w h bytes (decoded_region (refinement_coding f.template false (two_pixels f.template (filled 2 f.pixels)) from) w h bytes (no_pixels registers f.contexts)) grid coder states → HasDecoded w h bytes (refined_by f from w h bytes registers) grid coder states
+pub filled-holds : (f : Refining) (from : Reference) (w h : ℕ) (bytes : List ℕ) (registers : Registers) (grid : Grid) (coder : Coder) (states : List Context) → HasDecoded w h bytes (decoded_region (refinement_coding f.template false (two_pixels f.template (filled 2 f.pixels)) from) w h bytes (no_pixels registers f.contexts)) (region_state grid coder states) → HasDecoded w h bytes (refined_by f from w h bytes registers) (region_state grid coder states)
 filled-holds f from w h bytes registers grid coder states holds =
     refined-holds f from w h bytes registers grid coder states
-    (subst (λ (coding : Coding). HasDecoded w h bytes (decoded_region coding w h bytes (no_pixels registers f.contexts)) grid coder states) (same-coding f.template f.pixels from) holds)
+    (subst (λ (coding : Coding). HasDecoded w h bytes (decoded_region coding w h bytes (no_pixels registers f.contexts)) (region_state grid coder states)) (same-coding f.template f.pixels from) holds)
 
 pub coder-is : (c : Coder) (bytes : List ℕ) (registers : Registers) → c.bytes ≡ bytes → c.registers ≡ registers → c ≡ record { bytes = bytes; registers = registers }
 coder-is c bytes registers same moved = ap (λ (b : List ℕ). record { bytes = b; registers = c.registers }) same ∙ ap (λ (r : Registers). record { bytes = bytes; registers = r }) moved

@@ -2,7 +2,6 @@
 ghost use Rattle.std.specs.Prelude.{◌≡◌, ◌≤◌, ◌+◌, ◌*◌, ◌++◌, length, map, Ok, OnOk, IfErr, IfOk};
 ghost use Rattle.jbig2_base.specs.Results.{Gives};
 ghost use Rattle.jbig2_base.specs.Causes.{HasCauseOrNoMemory};
-ghost use Rattle.jbig2_symbol.specs.SymbolHeader.{max_new_symbols};
 ghost use Rattle.hayro_jbig2.specs.Causes.{BreaksReferred};
 ghost use Rattle.hayro_jbig2.specs.Names.{with_dictionary, with_table, with_number, with_numbers, referred_by};
 ghost use Rattle.hayro_jbig2.specs.inner.KeptViews.{found, symbols_view};
@@ -37,6 +36,7 @@ pub(crate) struct ReferredSegments<'a, A: Allocator> {
 impl<'a, A: Allocator> Model for ReferredSegments<'a, A> {
     ghost use Rattle.std.specs.Prelude.{◌≤◌, length, map};
     ghost use Rattle.hayro_jbig2.specs.Names.{Referred};
+    ghost use Rattle.jbig2_symbol.specs.SymbolHeader.{max_new_symbols};
     ghost use Rattle.jbig2_symbol.specs.inner.SymbolViews.{kept_view};
 
     ghost Value = { Referred };

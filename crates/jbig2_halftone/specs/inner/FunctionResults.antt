@@ -7,7 +7,7 @@ use Rattle.jbig2_base.specs.Grid.{Grid, grid_of, part_of}
 use Rattle.jbig2_base.specs.declared.error.DecodeError.{DecodeError}
 use Rattle.jbig2_coder.specs.Coder.{Context}
 use Rattle.jbig2_region.specs.Generic.{coding_of, skipping_coding}
-use Rattle.jbig2_region.specs.Raster.{Coding, Region, so_far, no_pixels}
+use Rattle.jbig2_region.specs.Raster.{Coding, Region, so_far, no_pixels, source}
 use Rattle.jbig2_region.specs.Steps.{CountsRegion, CountsSkipping}
 use Rattle.jbig2_region.specs.Templates.{template_pixels, nominal_adaptive_pixels}
 use Rattle.jbig2_region.specs.declared.template.AdaptiveTemplatePixel.{AdaptiveTemplatePixel}
@@ -76,7 +76,8 @@ module _ (p : GrayScale) where
 
   -- one such plane
   abbrev pub CountsPlane : ℕ → ℕ → List ℕ → Region → Counts → Counts → Type 0
-  CountsPlane w h bytes start before after = CountsRegion plane_pixels true 0 plain_coding w h bytes start before after
+  CountsPlane w h bytes start before after =
+      CountsRegion plane_pixels true 0 plain_coding (source w h bytes start) before after
 
   -- one plane that the arithmetic coder wrote
   pub record CountsOne (w h : ℕ) (bytes : List ℕ) (start : Region) (before after : Counts) : Type 0 where

@@ -6,7 +6,7 @@ ghost use Rattle.jbig2_base.specs.Grid.{blank, max_side};
 ghost use Rattle.jbig2_mmr.specs.Steps.{MovesWithin};
 ghost use Rattle.jbig2_region.specs.Raster.{fresh_contexts, no_pixels};
 ghost use Rattle.jbig2_region.specs.Templates.{context_bits};
-ghost use Rattle.jbig2_region.specs.inner.RegionStates.{DecodesRegion};
+ghost use Rattle.jbig2_region.specs.inner.RegionStates.{DecodesRegion, region_state};
 ghost use Rattle.jbig2_halftone.specs.GrayScale.{planes_of, after_planes, image_is_too_large, mmr_plane};
 ghost use Rattle.jbig2_halftone.specs.Steps.{CountsRead, StopsImage, words_of_plane};
 ghost use Rattle.jbig2_halftone.specs.inner.HalftoneViews.{gray_view};
@@ -37,8 +37,9 @@ fn decode_plane<M: Allocator, A: Allocator, L: Ledger>(
     requires rows { plane.old.height ≤ max_side }
     requires white { plane.old ≡ blank plane.old.width plane.old.height false }
     requires contexts { length contexts.old ≡ 2 ^ context_bits params.now.template }
-    ensures holds { DecodesRegion (plane_coding (gray_view params.now)) plane.old decoder.old
-        contexts.old plane.new decoder.new contexts.new }
+    ensures holds { DecodesRegion (plane_coding (gray_view params.now))
+        (region_state plane.old decoder.old contexts.old)
+        (region_state plane.new decoder.new contexts.new) }
     ensures steps { CountsOne (gray_view params.now) plane.old.width plane.old.height
         decoder.old.bytes (no_pixels decoder.old.registers contexts.old) steps.old steps.new }
 {

@@ -4,9 +4,8 @@ use Rattle.std.specs.Prelude.{List, [], ◌∷◌, ◌++◌, length, Bool, true,
 use Rattle.std.specs.Prelude.{min}
 use Rattle.jbig2_base.specs.Grid.{Grid, pixel, pixel_at}
 use Rattle.jbig2_base.specs.Bits.{bit}
-use Rattle.jbig2_coder.specs.Coder.{Coder, Context}
 use Rattle.jbig2_region.specs.Generic.{context_at, known_colour}
-use Rattle.jbig2_region.specs.inner.RegionStates.{HasDecoded}
+use Rattle.jbig2_region.specs.inner.RegionStates.{HasDecoded, RegionState}
 use Rattle.jbig2_region.specs.inner.Rows.{after_pixels}
 use Rattle.jbig2_region.specs.Raster.{Coding, Region}
 use Rattle.jbig2_region.specs.declared.template.neighbours.Adaptives.{Adaptives}
@@ -58,42 +57,45 @@ pub record IsNear (n : Neighbours) : Type 0 where
   pub top_count : n.top.count ≤ 7
   pub few : neighbour_count n ≤ 16
 
--- A window on a row around column x: bit 55 is the pixel at x, and pixels to the right of it are in lower bits. It
--- shows this many columns, the first of them eight left of x.
-abbrev pub IsWindow : Grid → ℕ → ℤ → ℕ → ℕ → Type 0
-IsWindow g x row seen word = (k : ℕ) → k < seen → bit word (63 - k) ≡ pixel g (pos (x + k) -ℤ pos 8) row
+module _ (g : Grid) (x : ℕ) where
+  -- A window on a row around column x: bit 55 is the pixel at x, and pixels to the right of it are in lower bits. It
+  -- shows this many columns, the first of them eight left of x.
+  abbrev pub IsWindow : ℤ → ℕ → ℕ → Type 0
+  IsWindow row seen word = (k : ℕ) → k < seen → bit word (63 - k) ≡ pixel g (pos (x + k) -ℤ pos 8) row
 
--- windows on the two rows above row y
-pub record Shows (g : Grid) (x y seen : ℕ) (w : Windows) : Type 0 where
-  pub above : IsWindow g x (pos y -ℤ pos 1) seen w.above
-  pub top : IsWindow g x (pos y -ℤ pos 2) seen w.top
+  -- a word whose lowest eight bits are the pixels of a row left of column x
+  abbrev pub IsBefore : ℤ → ℕ → Type 0
+  IsBefore row word = (k : ℕ) → k < 8 → bit word (7 - k) ≡ pixel g (pos (x + k) -ℤ pos 8) row
 
--- words on the two rows above row y, whose lowest eight bits are the pixels left of column x
-abbrev pub IsBefore : Grid → ℕ → ℤ → ℕ → Type 0
-IsBefore g x row word = (k : ℕ) → k < 8 → bit word (7 - k) ≡ pixel g (pos (x + k) -ℤ pos 8) row
+  -- windows, and such words, on the two rows above row y
+  module _ (y : ℕ) where
+    pub record Shows (seen : ℕ) (w : Windows) : Type 0 where
+      pub above : IsWindow (pos y -ℤ pos 1) seen w.above
+      pub top : IsWindow (pos y -ℤ pos 2) seen w.top
 
-pub record ShowsBefore (g : Grid) (x y : ℕ) (w : Windows) : Type 0 where
-  pub above : IsBefore g x (pos y -ℤ pos 1) w.above
-  pub top : IsBefore g x (pos y -ℤ pos 2) w.top
+    pub record ShowsBefore (w : Windows) : Type 0 where
+      pub above : IsBefore (pos y -ℤ pos 1) w.above
+      pub top : IsBefore (pos y -ℤ pos 2) w.top
 
--- Windows around column x that serve this many bytes, at most eight. The second is needed only for more than four.
-pub record ShowsGroup (g : Grid) (x y bytes : ℕ) (w : WideWindows) : Type 0 where
-  pub first : Shows g x y 64 w.first
-  pub second : 5 ≤ bytes → Shows g (x + 32) y 64 w.second
+module _ (g : Grid) (x y : ℕ) where
+  -- Windows around column x that serve this many bytes, at most eight. The second is needed only for more than four.
+  pub record ShowsGroup (bytes : ℕ) (w : WideWindows) : Type 0 where
+    pub first : Shows g x y 64 w.first
+    pub second : 5 ≤ bytes → Shows g (x + 32) y 64 w.second
 
--- the windows at byte `done` of a group; the second ones stay the same
-pub record ShowsByte (g : Grid) (x y done : ℕ) (group w : WideWindows) : Type 0 where
-  pub first : Shows g (x + 8 * done) y (64 - 8 * (done % 4)) w.first
-  pub second : w.second ≡ group.second
+  -- the windows at byte `done` of a group; the second ones stay the same
+  pub record ShowsByte (done : ℕ) (group w : WideWindows) : Type 0 where
+    pub first : Shows g (x + 8 * done) y (64 - 8 * (done % 4)) w.first
+    pub second : w.second ≡ group.second
 
--- the same, whenever the group's windows serve this many bytes
+  -- windows around column x, with the pixels by which a run of `most` bytes is tested
+  pub record ShowsRun (most : ℕ) (w : WideWindows) : Type 0 where
+    pub first : Shows g x y (8 * min most 4 + 12) w.first
+    pub second : 5 ≤ most → Shows g (x + 32) y 44 w.second
+
+-- a byte's windows, whenever the group's windows serve this many bytes
 abbrev pub AreAtByte : ℕ → ℕ → WideWindows → WideWindows → Type 0
 AreAtByte bytes done group w = (g : Grid) (x y : ℕ) → ShowsGroup g x y bytes group → ShowsByte g x y done group w
-
--- windows around column x, with the pixels by which a run of `most` bytes is tested
-pub record ShowsRun (g : Grid) (x y most : ℕ) (w : WideWindows) : Type 0 where
-  pub first : Shows g x y (8 * min most 4 + 12) w.first
-  pub second : 5 ≤ most → Shows g (x + 32) y 44 w.second
 
 -- the same pixels in all rows above row y
 abbrev pub SameAbove : Grid → Grid → ℕ → Type 0
@@ -107,13 +109,11 @@ IsLeft g x y left = (k : ℕ) → k < 4 → bit left k ≡ pixel g (pos x -ℤ p
 abbrev pub row_coding : List AdaptiveTemplatePixel → Coding
 row_coding template = record { context = context_at template; known = known_colour None; row_context = None }
 
--- A bitmap, a coder and contexts before and after n pixels of row y, from column x on.
-abbrev pub DecodesPixels : List AdaptiveTemplatePixel → Bool → ℕ → ℕ → ℕ
-    → Grid → Coder → List Context → Grid → Coder → List Context → Type 0
-DecodesPixels template predicted x y n grid coder states grid' coder' states' =
+-- A region before and after n pixels of row y, from column x on.
+abbrev pub DecodesPixels : List AdaptiveTemplatePixel → Bool → ℕ → ℕ → ℕ → RegionState → RegionState → Type 0
+DecodesPixels template predicted x y n start end =
     (w h : ℕ) (input : List ℕ) (r : Region) → length r.pixels ≡ y * w + x → r.predicted ≡ predicted
-    → HasDecoded w h input r grid coder states
-    → HasDecoded w h input (after_pixels (row_coding template) w h input n r) grid' coder' states'
+    → HasDecoded w h input r start → HasDecoded w h input (after_pixels (row_coding template) w h input n r) end
 
 -- the part of a context that a window has for a stretch, seen from `offset` columns right of the window's column
 abbrev pub stretch_bits : Stretch → ℕ → ℕ → ℕ

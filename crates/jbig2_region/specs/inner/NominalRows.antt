@@ -3,10 +3,10 @@
 use Rattle.std.specs.Prelude.{◌≡◌, ℕ, ◌+◌, ◌-◌, ◌*◌, ◌/◌, ◌^◌, ◌<◌, ◌≤◌, true, false, List, length}
 use Rattle.jbig2_base.specs.Counts.{Counts, KeepsLanes}
 use Rattle.jbig2_base.specs.Grid.{Grid, blank}
-use Rattle.jbig2_coder.specs.Coder.{Coder, Context}
-use Rattle.jbig2_region.specs.Raster.{no_pixels}
+use Rattle.jbig2_coder.specs.Coder.{Context}
 use Rattle.jbig2_region.specs.Steps.{CountsRegion}
 use Rattle.jbig2_region.specs.inner.Neighbours.{DecodesPixels, IsNear, neighbour_count, nominal_pixels, row_coding}
+use Rattle.jbig2_region.specs.inner.RegionStates.{CountedRegion, RegionState, source_of, uncounted}
 use Rattle.jbig2_region.specs.inner.RowCounts.{CountsRuns}
 use Rattle.jbig2_region.specs.declared.template.neighbours.Neighbours.{Neighbours}
 
@@ -17,18 +17,18 @@ pub record FitsRow (n : Neighbours) (y : ℕ) (g : Grid) (s : List Context) : Ty
   pub some : 1 ≤ g.width
   pub row : y < g.height
 
-pub record DecodesRow (n : Neighbours) (y : ℕ) (g : Grid) (d : Coder) (s : List Context) (before : Counts)
-    (g' : Grid) (d' : Coder) (s' : List Context) (after : Counts) : Type 0 where
-  pub holds : DecodesPixels (nominal_pixels n) false 0 y g.width g d s g' d' s'
-  pub width : g'.width ≡ g.width
-  pub height : g'.height ≡ g.height
-  pub bytes : d'.bytes ≡ d.bytes
-  pub contexts : length s' ≡ length s
-  pub decisions : CountsRuns (nominal_pixels n) 0 y g.width g d s before.decisions after.decisions
-  pub run_tests : after.run_tests ≤ before.run_tests + (g.width - 1) / 8
-  pub loads : after.loads ≤ before.loads + 2 * ((g.width - 1) / 64 + 2)
-  pub words : after.words ≤ before.words + ((g.width - 1) / 8 + 1)
-  pub lanes : KeepsLanes before after
+pub record DecodesRow (n : Neighbours) (y : ℕ) (start end : CountedRegion) : Type 0 where
+  pub holds : DecodesPixels (nominal_pixels n) false 0 y start.grid.width (uncounted start) (uncounted end)
+  pub width : end.grid.width ≡ start.grid.width
+  pub height : end.grid.height ≡ start.grid.height
+  pub bytes : end.coder.bytes ≡ start.coder.bytes
+  pub contexts : length end.contexts ≡ length start.contexts
+  pub decisions :
+      CountsRuns (nominal_pixels n) 0 y start.grid.width (uncounted start) start.counts.decisions end.counts.decisions
+  pub run_tests : end.counts.run_tests ≤ start.counts.run_tests + (start.grid.width - 1) / 8
+  pub loads : end.counts.loads ≤ start.counts.loads + 2 * ((start.grid.width - 1) / 64 + 2)
+  pub words : end.counts.words ≤ start.counts.words + ((start.grid.width - 1) / 8 + 1)
+  pub lanes : KeepsLanes start.counts end.counts
 
 -- ---- a region of few columns
 pub record FitsNarrow (n : Neighbours) (g : Grid) (s : List Context) : Type 0 where
@@ -38,7 +38,6 @@ pub record FitsNarrow (n : Neighbours) (g : Grid) (s : List Context) : Type 0 wh
   pub few : g.width ≤ 48
   pub white : g ≡ blank g.width g.height false
 
-abbrev pub CountsNarrow : Neighbours → Grid → Coder → List Context → Counts → Counts → Type 0
-CountsNarrow n g d s before after =
-    CountsRegion (nominal_pixels n) true 0 (row_coding (nominal_pixels n))
-    g.width g.height d.bytes (no_pixels d.registers s) before after
+abbrev pub CountsNarrow : Neighbours → RegionState → Counts → Counts → Type 0
+CountsNarrow n start before after =
+    CountsRegion (nominal_pixels n) true 0 (row_coding (nominal_pixels n)) (source_of start) before after

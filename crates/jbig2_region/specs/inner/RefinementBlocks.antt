@@ -1,27 +1,28 @@
 -- What the code holds in the middle of a block of a row, before it stores the block: in a refinement, or where pixels
 -- are skipped (our own rule).
-use Rattle.std.specs.Prelude.{◌≡◌, ℕ, ◌+◌, ◌*◌, ◌^◌, ◌<◌, ◌≤◌, Bool, List, None}
-use Rattle.jbig2_base.specs.Counts.{Counts}
-use Rattle.jbig2_base.specs.Grid.{Grid}
+use Rattle.std.specs.Prelude.{◌≡◌, ℕ, ◌+◌, ◌*◌, ◌^◌, ◌<◌, ◌≤◌, Bool, None}
 use Rattle.jbig2_base.specs.Writes.{with_pixels}
-use Rattle.jbig2_coder.specs.Coder.{Coder, Context}
 use Rattle.jbig2_region.specs.Raster.{Coding}
 use Rattle.jbig2_region.specs.Refinement.{Reference, refinement_coding}
 use Rattle.jbig2_region.specs.inner.DecodedPixels.{DecodesPart, CountsPart}
 use Rattle.jbig2_region.specs.inner.Neighbours.{IsLeft}
+use Rattle.jbig2_region.specs.inner.RegionStates.{CountedDecoder, CountedRegion, region_state, uncounted}
 use Rattle.jbig2_region.specs.inner.RefinementWindows.{SeesRows, corners, known_of, nine_of}
 use Rattle.jbig2_region.specs.declared.refinement_kernel.windows.RefinementWindows.{RefinementWindows}
 use Rattle.jbig2_region.specs.declared.template.RefinementTemplate.{RefinementTemplate}
 
--- what the code holds after k pixels of a block: the pixels as a number, after the four on the left
-pub record Block (coding : Coding) (p : Bool) (x y k : ℕ) (g : Grid) (d0 : Coder) (s0 : List Context) (t0 : Counts)
-    (pixels : ℕ) (d : Coder) (s : List Context) (t : Counts) : Type 0 where
-  pub bytes : d.bytes ≡ d0.bytes
+-- What the code holds after k pixels of a block: the pixels as a number, after the four on the left. They are not in
+-- the bitmap yet.
+pub record Block (coding : Coding) (p : Bool) (x y k : ℕ) (start : CountedRegion) (pixels : ℕ) (d : CountedDecoder)
+    : Type 0 where
+  pub bytes : d.coder.bytes ≡ start.coder.bytes
   pub few : pixels < 16 * 2 ^ k
-  pub left : IsLeft (with_pixels g x y k pixels) (x + k) y pixels
-  pub holds : DecodesPart coding p x y k g d0 s0 (with_pixels g x y k pixels) d s
-  pub decisions : CountsPart coding p x y k g d0 s0 t0.decisions t.decisions
-  pub steps : t ≡ record t0 { decisions = t.decisions }
+  pub left : IsLeft (with_pixels start.grid x y k pixels) (x + k) y pixels
+  pub holds :
+      DecodesPart coding p x y k (uncounted start)
+      (region_state (with_pixels start.grid x y k pixels) d.coder d.contexts)
+  pub decisions : CountsPart coding p x y k (uncounted start) start.counts.decisions d.counts.decisions
+  pub steps : d.counts ≡ record start.counts { decisions = d.counts.decisions }
 
 -- the colour of n pixels, from the k-th on, is not known
 abbrev pub IsUnknown : Bool → RefinementWindows → ℕ → ℕ → Type 0
@@ -29,9 +30,10 @@ IsUnknown p w k n = (i : ℕ) → i < n → known_of p (nine_of w (k + i)) ≡ N
 
 -- a block before and after n more pixels, from the k-th on, none of whose colours is known
 abbrev pub MovesBlock : RefinementTemplate → RefinementWindows → ℕ → ℕ
-    → ℕ → Coder → List Context → Counts → ℕ → Coder → List Context → Counts → Type 0
-MovesBlock template w k n pixels d s t pixels' d' s' t' =
-    (typical p : Bool) (r : Reference) (x y : ℕ) (g : Grid) (d0 : Coder) (s0 : List Context) (t0 : Counts)
-    → SeesRows g r x y w → k + n ≤ 32 → x + (k + n) ≤ g.width → y < g.height → IsUnknown p w k n
-    → Block (refinement_coding template typical corners r) p x y k g d0 s0 t0 pixels d s t
-    → Block (refinement_coding template typical corners r) p x y (k + n) g d0 s0 t0 pixels' d' s' t'
+    → ℕ → CountedDecoder → ℕ → CountedDecoder → Type 0
+MovesBlock template w k n pixels d pixels' d' =
+    (typical p : Bool) (r : Reference) (x y : ℕ) (start : CountedRegion)
+    → SeesRows start.grid r x y w → k + n ≤ 32 → x + (k + n) ≤ start.grid.width → y < start.grid.height
+    → IsUnknown p w k n
+    → Block (refinement_coding template typical corners r) p x y k start pixels d
+    → Block (refinement_coding template typical corners r) p x y (k + n) start pixels' d'

@@ -1,10 +1,9 @@
 -- Decisions and run bytes as the decoder counts them, by the pixels of a row and by whole rows (our own rule).
 use Rattle.std.specs.Prelude.{◌≡◌, ℕ, zero, suc, ◌+◌, ◌*◌, Bool, false, if◌then◌else◌, List, length}
-use Rattle.jbig2_base.specs.Grid.{Grid, bit_number}
-use Rattle.jbig2_coder.specs.Coder.{Coder, Context}
+use Rattle.jbig2_base.specs.Grid.{bit_number}
 use Rattle.jbig2_region.specs.Steps.{takes_decision, is_run_byte}
 use Rattle.jbig2_region.specs.Raster.{Coding, Region, after_ltp}
-use Rattle.jbig2_region.specs.inner.RegionStates.{HasDecoded}
+use Rattle.jbig2_region.specs.inner.RegionStates.{HasDecoded, RegionState}
 use Rattle.jbig2_region.specs.inner.Neighbours.{row_coding}
 use Rattle.jbig2_region.specs.inner.Rows.{after_pixels, after_rows}
 use Rattle.jbig2_region.specs.declared.template.AdaptiveTemplatePixel.{AdaptiveTemplatePixel}
@@ -40,16 +39,16 @@ module _ (template : List AdaptiveTemplatePixel) where
       + bit_number (is_run_byte template w h bytes (after_pixels (row_coding template) w h bytes n r))
 
   -- the decisions taken for n pixels of row y, from column x on: one for each, less eight for each run byte
-  abbrev pub CountsRuns : ℕ → ℕ → ℕ → Grid → Coder → List Context → ℕ → ℕ → Type 0
-  CountsRuns x y n grid coder states before after =
+  abbrev pub CountsRuns : ℕ → ℕ → ℕ → RegionState → ℕ → ℕ → Type 0
+  CountsRuns x y n start before after =
       (w h : ℕ) (input : List ℕ) (r : Region) → length r.pixels ≡ y * w + x → r.predicted ≡ false
-      → HasDecoded w h input r grid coder states → after + 8 * run_bytes w h input n r ≡ before + n
+      → HasDecoded w h input r start → after + 8 * run_bytes w h input n r ≡ before + n
 
   -- The same for the whole row y, in a template with run bytes or without. A predicted row takes no decision.
-  abbrev pub CountsRow : Bool → Bool → ℕ → Grid → Coder → List Context → ℕ → ℕ → Type 0
-  CountsRow nominal predicted y grid coder states before after =
+  abbrev pub CountsRow : Bool → Bool → ℕ → RegionState → ℕ → ℕ → Type 0
+  CountsRow nominal predicted y start before after =
       (w h : ℕ) (input : List ℕ) (r : Region) → length r.pixels ≡ y * w → r.predicted ≡ predicted
-      → HasDecoded w h input r grid coder states
+      → HasDecoded w h input r start
       → after + 8 * (if predicted then 0 else if nominal then run_bytes w h input w r else 0)
       ≡ before + (if predicted then 0 else w)
 

@@ -4,6 +4,7 @@ ghost use Rattle.jbig2_base.specs.Counts.{KeepsLanes};
 ghost use Rattle.jbig2_region.specs.inner.Neighbours.{IsNear, neighbour_count};
 ghost use Rattle.jbig2_region.specs.inner.NominalRows.{DecodesRow, FitsRow};
 ghost use Rattle.jbig2_region.specs.inner.PushedPixels.{CountsBytes, CountsGroup, PushesBytes, PushesGroup, PushesPixels};
+ghost use Rattle.jbig2_region.specs.inner.RegionStates.{counted_region, decoder_state};
 
 use crate::generic_kernel::runs::take_runs;
 use crate::generic_kernel::windows::{
@@ -46,7 +47,7 @@ pub fn push_pixels<L: Ledger>(
     requires byte { count ≤ 8 }
     requires small { left < 16 }
     ensures holds { PushesPixels neighbours count left windows count result
-        decoder.old contexts.old decoder.new contexts.new }
+        (decoder_state decoder.old contexts.old) (decoder_state decoder.new contexts.new) }
     ensures bound { result < 2 ^ count }
     ensures bytes { decoder.new.bytes ≡ decoder.old.bytes }
     ensures contexts { length contexts.new ≡ length contexts.old }
@@ -95,9 +96,9 @@ pub fn push_bytes<L: Ledger>(
     ensures some { 1 ≤ result.bytes }
     ensures most { result.bytes ≤ most }
     ensures holds { PushesBytes neighbours most left windows result.bytes result.pixels
-        decoder.old contexts.old decoder.new contexts.new }
+        (decoder_state decoder.old contexts.old) (decoder_state decoder.new contexts.new) }
     ensures decisions { CountsBytes neighbours most left windows result.bytes
-        decoder.old contexts.old steps.old.decisions steps.new.decisions }
+        (decoder_state decoder.old contexts.old) steps.old.decisions steps.new.decisions }
     ensures bound { result.pixels < 2 ^ (8 * result.bytes) }
     ensures bytes { decoder.new.bytes ≡ decoder.old.bytes }
     ensures contexts { length contexts.new ≡ length contexts.old }
@@ -165,9 +166,9 @@ fn push_group<L: Ledger>(
     requires few { bytes ≤ 8 }
     requires small { left < 16 }
     ensures holds { PushesGroup neighbours bytes left windows bytes result
-        decoder.old contexts.old decoder.new contexts.new }
+        (decoder_state decoder.old contexts.old) (decoder_state decoder.new contexts.new) }
     ensures decisions { CountsGroup neighbours bytes left windows bytes
-        decoder.old contexts.old steps.old.decisions steps.new.decisions }
+        (decoder_state decoder.old contexts.old) steps.old.decisions steps.new.decisions }
     ensures bytes { decoder.new.bytes ≡ decoder.old.bytes }
     ensures contexts { length contexts.new ≡ length contexts.old }
     ensures run_tests { steps.new.run_tests ≤ steps.old.run_tests + bytes }
@@ -201,8 +202,9 @@ pub fn decode_row_by_bytes<A: Allocator, L: Ledger>(
     steps: &mut Steps<L>,
 )
     requires { FitsRow neighbours y bitmap.old contexts.old }
-    ensures { DecodesRow neighbours y bitmap.old decoder.old contexts.old steps.old
-        bitmap.new decoder.new contexts.new steps.new }
+    ensures { DecodesRow neighbours y
+        (counted_region bitmap.old decoder.old contexts.old steps.old)
+        (counted_region bitmap.new decoder.new contexts.new steps.new) }
 {
     let width = bitmap.width();
     let whole = (width - 1) / 8;

@@ -4,7 +4,7 @@ ghost use Rattle.std.specs.Prelude.{◌≡◌, ℕ, ◌+◌, ◌-◌, ◌*◌, �
 ghost use Rattle.jbig2_base.specs.Counts.{KeepsLanes};
 ghost use Rattle.jbig2_base.specs.Grid.{Grid, pixel_at};
 ghost use Rattle.jbig2_base.specs.Bits.{bit};
-ghost use Rattle.jbig2_region.specs.inner.RegionStates.{DecodesRegion};
+ghost use Rattle.jbig2_region.specs.inner.RegionStates.{DecodesRegion, decoder_state, region_state};
 ghost use Rattle.jbig2_region.specs.Templates.{template_of};
 ghost use Rattle.jbig2_region.specs.inner.Layouts.{nominal_neighbours};
 ghost use Rattle.jbig2_region.specs.inner.NominalRows.{CountsNarrow, FitsNarrow};
@@ -37,9 +37,9 @@ fn push_byte<L: Ledger>(
     requires contexts { length contexts.old ≡ 2 ^ neighbour_count neighbours }
     requires small { left < 16 }
     ensures holds { PushesPixels neighbours 9 left windows 8 result
-        decoder.old contexts.old decoder.new contexts.new }
+        (decoder_state decoder.old contexts.old) (decoder_state decoder.new contexts.new) }
     ensures decisions { CountsByte neighbours left windows
-        decoder.old contexts.old steps.old.decisions steps.new.decisions }
+        (decoder_state decoder.old contexts.old) steps.old.decisions steps.new.decisions }
     ensures bound { result < 256 }
     ensures bytes { decoder.new.bytes ≡ decoder.old.bytes }
     ensures contexts { length contexts.new ≡ length contexts.old }
@@ -71,9 +71,9 @@ fn push_row<L: Ledger>(
     requires some { 1 ≤ width }
     requires few { width ≤ 48 }
     ensures holds { PushesRow neighbours width windows width result
-        decoder.old contexts.old decoder.new contexts.new }
+        (decoder_state decoder.old contexts.old) (decoder_state decoder.new contexts.new) }
     ensures decisions { CountsRowPixels neighbours width windows width
-        decoder.old contexts.old steps.old.decisions steps.new.decisions }
+        (decoder_state decoder.old contexts.old) steps.old.decisions steps.new.decisions }
     ensures bound { result < 2 ^ width }
     ensures bytes { decoder.new.bytes ≡ decoder.old.bytes }
     ensures contexts { length contexts.new ≡ length contexts.old }
@@ -123,9 +123,10 @@ fn decode_rows<A: Allocator, L: Ledger>(
     steps: &mut Steps<L>,
 )
     requires { FitsNarrow neighbours bitmap.old contexts.old }
-    ensures holds { DecodesRegion (row_coding (nominal_pixels neighbours)) bitmap.old decoder.old
-        contexts.old bitmap.new decoder.new contexts.new }
-    ensures steps { CountsNarrow neighbours bitmap.old decoder.old contexts.old
+    ensures holds { DecodesRegion (row_coding (nominal_pixels neighbours))
+        (region_state bitmap.old decoder.old contexts.old)
+        (region_state bitmap.new decoder.new contexts.new) }
+    ensures steps { CountsNarrow neighbours (region_state bitmap.old decoder.old contexts.old)
         steps.old steps.new }
 {
     let width = bitmap.width();
@@ -148,9 +149,10 @@ fn decode_constant_rows<A: Allocator, L: Ledger, const TEMPLATE: u8>(
 )
     requires same { neighbours ≡ nominal_neighbours (template_of (TEMPLATE % 4)) }
     requires fits { FitsNarrow neighbours bitmap.old contexts.old }
-    ensures holds { DecodesRegion (row_coding (nominal_pixels neighbours)) bitmap.old decoder.old
-        contexts.old bitmap.new decoder.new contexts.new }
-    ensures steps { CountsNarrow neighbours bitmap.old decoder.old contexts.old
+    ensures holds { DecodesRegion (row_coding (nominal_pixels neighbours))
+        (region_state bitmap.old decoder.old contexts.old)
+        (region_state bitmap.new decoder.new contexts.new) }
+    ensures steps { CountsNarrow neighbours (region_state bitmap.old decoder.old contexts.old)
         steps.old steps.new }
 {
     let constant = nominal_neighbours(Template::from_byte(TEMPLATE));
@@ -166,9 +168,10 @@ pub fn decode_narrow<A: Allocator, L: Ledger>(
     steps: &mut Steps<L>,
 )
     requires { FitsNarrow neighbours bitmap.old contexts.old }
-    ensures holds { DecodesRegion (row_coding (nominal_pixels neighbours)) bitmap.old decoder.old
-        contexts.old bitmap.new decoder.new contexts.new }
-    ensures steps { CountsNarrow neighbours bitmap.old decoder.old contexts.old
+    ensures holds { DecodesRegion (row_coding (nominal_pixels neighbours))
+        (region_state bitmap.old decoder.old contexts.old)
+        (region_state bitmap.new decoder.new contexts.new) }
+    ensures steps { CountsNarrow neighbours (region_state bitmap.old decoder.old contexts.old)
         steps.old steps.new }
 {
     by_template!(

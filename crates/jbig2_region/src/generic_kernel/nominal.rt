@@ -4,6 +4,7 @@ ghost use Rattle.std.specs.Prelude.{◌≡◌, ◌%◌};
 ghost use Rattle.jbig2_region.specs.Templates.{template_of};
 ghost use Rattle.jbig2_region.specs.inner.Layouts.{nominal_neighbours};
 ghost use Rattle.jbig2_region.specs.inner.NominalRows.{DecodesRow, FitsRow};
+ghost use Rattle.jbig2_region.specs.inner.RegionStates.{counted_region};
 
 use crate::generic_kernel::bytes::decode_row_by_bytes;
 use crate::template::Template;
@@ -27,8 +28,9 @@ fn decode_constant_row<A: Allocator, L: Ledger, const TEMPLATE: u8>(
 )
     requires same { neighbours ≡ nominal_neighbours (template_of (TEMPLATE % 4)) }
     requires fits { FitsRow neighbours y bitmap.old contexts.old }
-    ensures { DecodesRow neighbours y bitmap.old decoder.old contexts.old steps.old
-        bitmap.new decoder.new contexts.new steps.new }
+    ensures { DecodesRow neighbours y
+        (counted_region bitmap.old decoder.old contexts.old steps.old)
+        (counted_region bitmap.new decoder.new contexts.new steps.new) }
 {
     let constant = nominal_neighbours(Template::from_byte(TEMPLATE));
     decode_row_by_bytes(constant, bitmap, y, decoder, contexts, steps);
@@ -44,8 +46,9 @@ pub fn decode_nominal_row<A: Allocator, L: Ledger>(
     steps: &mut Steps<L>,
 )
     requires { FitsRow neighbours y bitmap.old contexts.old }
-    ensures { DecodesRow neighbours y bitmap.old decoder.old contexts.old steps.old
-        bitmap.new decoder.new contexts.new steps.new }
+    ensures { DecodesRow neighbours y
+        (counted_region bitmap.old decoder.old contexts.old steps.old)
+        (counted_region bitmap.new decoder.new contexts.new steps.new) }
 {
     by_template!(
         neighbours,

@@ -4,6 +4,7 @@ ghost use Rattle.jbig2_base.specs.Grid.{max_side};
 ghost use Rattle.jbig2_base.specs.Counts.{KeepsLanes};
 ghost use Rattle.jbig2_region.specs.Generic.{context_at};
 ghost use Rattle.jbig2_region.specs.inner.Neighbours.{DecodesPixels, IsLeft, IsMixed, Shows, adaptive_count, mixed_count, mixed_pixels};
+ghost use Rattle.jbig2_region.specs.inner.RegionStates.{region_state};
 
 use crate::generic_coding::context_at;
 use crate::generic_kernel::windows::{Place, Windows, stretch_bits, windows_at};
@@ -74,8 +75,8 @@ fn decode_pixels<A: Allocator, L: Ledger>(
     requires left { IsLeft bitmap.old place.x place.y place.left }
     requires small { place.left < 16 }
     ensures holds { DecodesPixels (mixed_pixels neighbours adaptive.now) false
-        place.x place.y place.count bitmap.old decoder.old contexts.old
-        bitmap.new decoder.new contexts.new }
+        place.x place.y place.count (region_state bitmap.old decoder.old contexts.old)
+        (region_state bitmap.new decoder.new contexts.new) }
     ensures left { IsLeft bitmap.new (place.x + place.count) place.y result }
     ensures small { result < 16 }
     ensures width { bitmap.new.width ≡ bitmap.old.width }
@@ -118,7 +119,8 @@ pub fn decode_row_by_pixels<A: Allocator, L: Ledger>(
     requires widths { bitmap.old.width ≤ max_side }
     requires heights { bitmap.old.height ≤ max_side }
     ensures holds { DecodesPixels (mixed_pixels neighbours adaptive.now) false 0 y bitmap.old.width
-        bitmap.old decoder.old contexts.old bitmap.new decoder.new contexts.new }
+        (region_state bitmap.old decoder.old contexts.old)
+        (region_state bitmap.new decoder.new contexts.new) }
     ensures width { bitmap.new.width ≡ bitmap.old.width }
     ensures height { bitmap.new.height ≡ bitmap.old.height }
     ensures bytes { decoder.new.bytes ≡ decoder.old.bytes }

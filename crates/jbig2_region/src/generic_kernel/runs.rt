@@ -3,7 +3,7 @@ ghost use Rattle.std.specs.Prelude.{◌≡◌, ◌==◌, ℕ, ◌+◌, ◌-◌, 
 ghost use Rattle.jbig2_base.specs.Grid.{Grid, same_colour};
 ghost use Rattle.jbig2_coder.specs.Coder.{fresh};
 ghost use Rattle.jbig2_coder.specs.Table.{row_of};
-ghost use Rattle.jbig2_region.specs.inner.RegionStates.{HasDecoded};
+ghost use Rattle.jbig2_region.specs.inner.RegionStates.{HasDecoded, region_state};
 ghost use Rattle.jbig2_region.specs.inner.LongRuns.{is_run_for};
 ghost use Rattle.jbig2_region.specs.inner.Neighbours.{IsLeft, IsNear, ShowsRun, is_field, neighbour_count, neighbours_stay, nominal_pixels, stretch_stays, stretches_stay};
 ghost use Rattle.jbig2_region.specs.Raster.{Region};
@@ -161,11 +161,12 @@ pub fn take_runs<L: Ledger>(
     ensures most { result ≤ most }
     ensures none { (w h x y : ℕ) (r : Region) (grid : Grid) → length r.pixels ≡ y * w + x →
         x + 8 * most < w → y < h → ShowsRun grid x y most windows → IsLeft grid x y left →
-        HasDecoded w h decoder.old.bytes r grid decoder.old contexts.now → result ≡ 0 →
-        is_run_of (nominal_pixels neighbours) w h decoder.old.bytes r black ≡ false }
+        HasDecoded w h decoder.old.bytes r (region_state grid decoder.old contexts.now) →
+        result ≡ 0 → is_run_of (nominal_pixels neighbours) w h decoder.old.bytes r black ≡ false }
     ensures run { (w h x y : ℕ) (r : Region) (grid : Grid) → length r.pixels ≡ y * w + x →
         x + 8 * most < w → y < h → ShowsRun grid x y most windows → IsLeft grid x y left →
-        HasDecoded w h decoder.old.bytes r grid decoder.old contexts.now → 1 ≤ result →
+        HasDecoded w h decoder.old.bytes r (region_state grid decoder.old contexts.now) →
+        1 ≤ result →
         is_run_for (nominal_pixels neighbours) w h decoder.old.bytes r black (8 * result) ≡ true }
     ensures coder { decoder.new ≡
         record decoder.old {

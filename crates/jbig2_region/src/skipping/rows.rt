@@ -7,7 +7,7 @@ ghost use Rattle.jbig2_region.specs.Steps.{CountsSkipping, skipping_loads, skipp
 ghost use Rattle.jbig2_region.specs.inner.RegionViews.{skip_of};
 ghost use Rattle.jbig2_region.specs.Generic.{skipping_coding};
 ghost use Rattle.jbig2_region.specs.inner.DecodedPixels.{Takes};
-ghost use Rattle.jbig2_region.specs.inner.RegionStates.{DecodesRegion, IsReady};
+ghost use Rattle.jbig2_region.specs.inner.RegionStates.{DecodesRegion, IsReady, counted_decoder, counted_region, region_state};
 ghost use Rattle.jbig2_region.specs.inner.Neighbours.{IsLeft, IsNear, neighbour_count, nominal_pixels};
 ghost use Rattle.jbig2_region.specs.inner.Masks.{IsMask, plain_context};
 ghost use Rattle.jbig2_region.specs.inner.Stretches.{DecodesPixels};
@@ -64,7 +64,8 @@ fn decode_pixel<L: Ledger>(
 ) -> u32
     requires context { context < length contexts.old }
     ensures takes { Takes (if skipped then Some false else None) context
-        decoder.old contexts.old steps.old result decoder.new contexts.new steps.new }
+        (counted_decoder decoder.old contexts.old steps.old) result
+        (counted_decoder decoder.new contexts.new steps.new) }
     ensures digit { result < 2 }
     ensures contexts { length contexts.new ≡ length contexts.old }
 {
@@ -96,8 +97,8 @@ fn decode_block<M: Allocator, A: Allocator, L: Ledger>(
     requires small { place.left < 16 }
     ensures decoded { DecodesPixels
         (skipping_coding (nominal_pixels neighbours) (skip_of skip.entry)) false
-        place.x place.y place.count bitmap.old decoder.old contexts.old steps.old
-        bitmap.new decoder.new contexts.new steps.new }
+        place.x place.y place.count (counted_region bitmap.old decoder.old contexts.old steps.old)
+        (counted_region bitmap.new decoder.new contexts.new steps.new) }
     ensures left { IsLeft bitmap.new (place.x + place.count) place.y result }
     ensures small { result < 16 }
     ensures contexts { length contexts.new ≡ length contexts.old }
@@ -136,8 +137,8 @@ fn decode_row<M: Allocator, A: Allocator, L: Ledger>(
     requires widths { bitmap.old.width ≤ max_side }
     ensures decoded { DecodesPixels
         (skipping_coding (nominal_pixels neighbours) (skip_of skip.entry)) false 0 y
-        bitmap.old.width bitmap.old decoder.old contexts.old steps.old
-        bitmap.new decoder.new contexts.new steps.new }
+        bitmap.old.width (counted_region bitmap.old decoder.old contexts.old steps.old)
+        (counted_region bitmap.new decoder.new contexts.new steps.new) }
     ensures contexts { length contexts.new ≡ length contexts.old }
     ensures loads { steps.new.loads ≤ steps.old.loads + skipping_loads bitmap.old.width }
     ensures words { steps.new.words ≤ steps.old.words + skipping_words bitmap.old.width }
@@ -165,7 +166,8 @@ pub fn decode_rows<M: Allocator, A: Allocator, L: Ledger>(
     requires near { IsNear neighbours }
     requires ready { IsReady (neighbour_count neighbours) bitmap.old contexts.old }
     ensures holds { DecodesRegion (skipping_coding (nominal_pixels neighbours) (skip_of skip.entry))
-        bitmap.old decoder.old contexts.old bitmap.new decoder.new contexts.new }
+        (region_state bitmap.old decoder.old contexts.old)
+        (region_state bitmap.new decoder.new contexts.new) }
     ensures steps { CountsSkipping (skip_of skip.entry) bitmap.old.width bitmap.old.height
         steps.old steps.new }
 {

@@ -1,9 +1,9 @@
 use Rattle.std.proofs.Common.{◌≡◌, ℕ, ◌+◌, ◌*◌, Bool, List, Result, sym, ap, ◌∙◌, length, drop, arith}
 use Rattle.jbig2_region.specs.inner.GenericViews.{header_view}
 use Rattle.jbig2_region.specs.Generic.{coding_of, generic_region}
-use Rattle.jbig2_region.specs.inner.RegionStates.{DecodesRegion, HasDecoded}
+use Rattle.jbig2_region.specs.inner.RegionStates.{DecodesRegion, HasDecoded, region_state}
 use Rattle.jbig2_region.specs.GenericSteps.{CountsCoded}
-use Rattle.jbig2_region.specs.Raster.{fresh_contexts, no_pixels}
+use Rattle.jbig2_region.specs.Raster.{fresh_contexts, no_pixels, source}
 use Rattle.jbig2_region.specs.Templates.{context_bits, template_pixels}
 use Rattle.jbig2_region.specs.inner.PixelArrays.{is_extended}
 use Rattle.jbig2_region.specs.declared.template.AdaptiveTemplatePixel.{AdaptiveTemplatePixel}
@@ -26,7 +26,7 @@ use Rattle.jbig2_region.proofs.generic.decode_into.Goals as goal
 pub returns-clause-value : goal.returns-clause-value
 returns-clause-value g c =
     let h = c.args.header.now in
-    let decoded = as-coded h (λ (a : List AdaptiveTemplatePixel). DecodesRegion (coding_of h.tpgdon h.template (template_pixels (is_extended h.adaptive_template_pixels) h.template a)) c.args.bitmap.now c.new-decoder.result c.deref_mut.result.now c.decode_coded.new.bitmap c.decode_coded.new.decoder c.decode_coded.new.contexts) c.if-header.false c.decode_coded.ensures.holds in
+    let decoded = as-coded h (λ (a : List AdaptiveTemplatePixel). DecodesRegion (coding_of h.tpgdon h.template (template_pixels (is_extended h.adaptive_template_pixels) h.template a)) (region_state c.args.bitmap.now c.new-decoder.result c.deref_mut.result.now) (region_state c.decode_coded.new.bitmap c.decode_coded.new.decoder c.decode_coded.new.contexts)) c.if-header.false c.decode_coded.ensures.holds in
     let fresh : c.deref_mut.result.now ≡ fresh_contexts (context_bits c.args.header.now.template) = c.deref_mut.ensures.value ∙ sym (same-ok _ _ c.in_ok-fresh_contexts.ensures) ∙ ap (λ (n : ℕ). fresh_contexts n) c.context_bits.ensures in
     result-decoded (header_view c.args.header.now) c.decode_coded.new.bitmap c.decode_coded.new.decoder c.decode_coded.new.contexts c.if-header.false
     (region-decoded (header_view c.args.header.now) c.args.bitmap.now c.decode_coded.new.bitmap c.new-decoder.result c.decode_coded.new.decoder c.deref_mut.result.now c.decode_coded.new.contexts c.requires.white c.new-decoder.ensures.bytes c.new-decoder.ensures.registers fresh decoded)
@@ -34,9 +34,9 @@ returns-clause-value g c =
 pub returns-clause-contexts : goal.returns-clause-contexts
 returns-clause-contexts g c =
     let h = c.args.header.now in
-    let decoded = as-coded h (λ (a : List AdaptiveTemplatePixel). DecodesRegion (coding_of h.tpgdon h.template (template_pixels (is_extended h.adaptive_template_pixels) h.template a)) c.args.bitmap.now c.new-decoder.result c.deref_mut.result.now c.decode_coded.new.bitmap c.decode_coded.new.decoder c.decode_coded.new.contexts) c.if-header.false c.decode_coded.ensures.holds in
+    let decoded = as-coded h (λ (a : List AdaptiveTemplatePixel). DecodesRegion (coding_of h.tpgdon h.template (template_pixels (is_extended h.adaptive_template_pixels) h.template a)) (region_state c.args.bitmap.now c.new-decoder.result c.deref_mut.result.now) (region_state c.decode_coded.new.bitmap c.decode_coded.new.decoder c.decode_coded.new.contexts)) c.if-header.false c.decode_coded.ensures.holds in
     let fresh : c.deref_mut.result.now ≡ fresh_contexts (context_bits c.args.header.now.template) = c.deref_mut.ensures.value ∙ sym (same-ok _ _ c.in_ok-fresh_contexts.ensures) ∙ ap (λ (n : ℕ). fresh_contexts n) c.context_bits.ensures in
-    let holds : HasDecoded c.args.header.now.region_info.width c.args.header.now.region_info.height c.args.header.now.bytes.now (generic_region (header_view c.args.header.now)) c.decode_coded.new.bitmap c.decode_coded.new.decoder c.decode_coded.new.contexts =
+    let holds : HasDecoded c.args.header.now.region_info.width c.args.header.now.region_info.height c.args.header.now.bytes.now (generic_region (header_view c.args.header.now)) (region_state c.decode_coded.new.bitmap c.decode_coded.new.decoder c.decode_coded.new.contexts) =
     region-decoded (header_view c.args.header.now) c.args.bitmap.now c.decode_coded.new.bitmap c.new-decoder.result c.decode_coded.new.decoder c.deref_mut.result.now c.decode_coded.new.contexts c.requires.white c.new-decoder.ensures.bytes c.new-decoder.ensures.registers fresh decoded in
     contexts-decoded (header_view c.args.header.now) c.args.contexts.now.items _ c.if-header.false
     (whole-slice c.fresh_contexts.new.contexts.len c.decode_coded.new.contexts (drop (length c.decode_coded.new.contexts) c.fresh_contexts.new.contexts.items) (c.decode_coded.auto.contexts ∙ c.deref_mut.ensures.len) ∙ holds.contexts)
@@ -44,7 +44,7 @@ returns-clause-contexts g c =
 pub returns-clause-steps : goal.returns-clause-steps
 returns-clause-steps g c =
     let h = c.args.header.now in
-    let counted = as-coded h (λ (a : List AdaptiveTemplatePixel). CountsCoded (is_extended h.adaptive_template_pixels) h.template a (coding_of h.tpgdon h.template (template_pixels (is_extended h.adaptive_template_pixels) h.template a)) c.args.bitmap.now.width c.args.bitmap.now.height c.new-decoder.result.bytes (no_pixels c.new-decoder.result.registers c.deref_mut.result.now) c.args.steps.now c.decode_coded.new.steps) c.if-header.false c.decode_coded.ensures.steps in
+    let counted = as-coded h (λ (a : List AdaptiveTemplatePixel). CountsCoded (is_extended h.adaptive_template_pixels) h.template a (coding_of h.tpgdon h.template (template_pixels (is_extended h.adaptive_template_pixels) h.template a)) (source c.args.bitmap.now.width c.args.bitmap.now.height c.new-decoder.result.bytes (no_pixels c.new-decoder.result.registers c.deref_mut.result.now)) c.args.steps.now c.decode_coded.new.steps) c.if-header.false c.decode_coded.ensures.steps in
     let fresh : c.deref_mut.result.now ≡ fresh_contexts (context_bits c.args.header.now.template) = c.deref_mut.ensures.value ∙ sym (same-ok _ _ c.in_ok-fresh_contexts.ensures) ∙ ap (λ (n : ℕ). fresh_contexts n) c.context_bits.ensures in
     counts-decoded (header_view c.args.header.now) c.args.bitmap.now c.new-decoder.result c.deref_mut.result.now c.args.steps.now c.decode_coded.new.steps c.requires.white c.new-decoder.ensures.bytes c.new-decoder.ensures.registers fresh counted
 

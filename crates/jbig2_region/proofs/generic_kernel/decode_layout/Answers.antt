@@ -1,7 +1,7 @@
 use Rattle.std.proofs.Common.{arith, refl, ◌≡◌, ◌≤◌, ◌+◌, ◌*◌, ◌∙◌, ℕ, sym, ap, subst, cond}
 use Rattle.jbig2_base.proofs.LaneCounts.{lanes-none, lanes-then}
 use Rattle.jbig2_base.specs.Counts.{Counts}
-use Rattle.jbig2_region.specs.inner.RegionStates.{HasDecoded}
+use Rattle.jbig2_region.specs.inner.RegionStates.{HasDecoded, region_state}
 use Rattle.jbig2_region.specs.inner.Neighbours.{DecodesPixels, is_nominal_layout, layout_coding, layout_loads, layout_pixels}
 use Rattle.jbig2_region.specs.Raster.{Region, no_pixels}
 use Rattle.jbig2_region.specs.inner.Rows.{after_rows}
@@ -26,7 +26,7 @@ loop-y-init g c =
       width = refl;
       height = refl;
       bytes = refl;
-      holds = subst (λ (n : Region). HasDecoded c.args.bitmap.now.width c.args.bitmap.now.height c.args.decoder.now.bytes n c.args.bitmap.now c.args.decoder.now c.args.contexts.now) (sym none) (region-start c.args.bitmap.now.width c.args.bitmap.now.height c.args.bitmap.now c.args.decoder.now c.args.contexts.now c.requires.white);
+      holds = subst (λ (n : Region). HasDecoded c.args.bitmap.now.width c.args.bitmap.now.height c.args.decoder.now.bytes n (region_state c.args.bitmap.now c.args.decoder.now c.args.contexts.now)) (sym none) (region-start c.args.bitmap.now.width c.args.bitmap.now.height c.args.bitmap.now c.args.decoder.now c.args.contexts.now c.requires.white);
       predicted = ap (λ (n : Region). n.predicted) none;
       none = λ _. refl;
       decisions = counted-none (layout_pixels c.args.layout.now) (is_nominal_layout c.args.layout.now.adaptive) (layout_coding c.args.layout.now c.args.row_context) c.args.bitmap.now.width c.args.bitmap.now.height c.args.decoder.now.bytes start c.args.steps.now.decisions;
@@ -45,7 +45,7 @@ loop-y-preserved g c =
     let w : ℕ = c.args.bitmap.now.width in
     let h : ℕ = c.args.bitmap.now.height in
     let input = c.args.decoder.now.bytes in
-    let decodes = subst (λ (n : ℕ). DecodesPixels template c.begin_row-predicted.result 0 c.loop-y.y n c.loop-y.bitmap c.begin_row-predicted.new.decoder c.begin_row-predicted.new.contexts c.decode_row.new.bitmap c.decode_row.new.decoder c.decode_row.new.contexts) c.loop-y.invariant.width c.decode_row.ensures.holds in
+    let decodes = subst (λ (n : ℕ). DecodesPixels template c.begin_row-predicted.result 0 c.loop-y.y n (region_state c.loop-y.bitmap c.begin_row-predicted.new.decoder c.begin_row-predicted.new.contexts) (region_state c.decode_row.new.bitmap c.decode_row.new.decoder c.decode_row.new.contexts)) c.loop-y.invariant.width c.decode_row.ensures.holds in
     let next =
     layout-step template c.args.row_context c.loop-y.y c.loop-y.predicted c.begin_row-predicted.result c.loop-y.bitmap c.loop-y.decoder c.loop-y.contexts c.begin_row-predicted.new.decoder c.begin_row-predicted.new.contexts c.decode_row.new.bitmap c.decode_row.new.decoder c.decode_row.new.contexts start w h input
     c.loop-y.invariant.bytes c.begin_row-predicted.ensures.bytes refl c.begin_row-predicted.ensures.row decodes c.loop-y.invariant.holds c.loop-y.invariant.predicted in

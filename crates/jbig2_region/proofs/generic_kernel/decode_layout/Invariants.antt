@@ -1,6 +1,6 @@
 use Rattle.std.proofs.Common.{◌≡◌, ◌≤◌, ◌+◌, ◌*◌}
 use Rattle.jbig2_base.specs.Counts.{KeepsLanes}
-use Rattle.jbig2_region.specs.inner.RegionStates.{HasDecoded}
+use Rattle.jbig2_region.specs.inner.RegionStates.{HasDecoded, region_state}
 use Rattle.jbig2_region.specs.inner.Neighbours.{is_nominal_layout, layout_coding, layout_loads, layout_pixels}
 use Rattle.jbig2_region.specs.Raster.{no_pixels}
 use Rattle.jbig2_region.specs.inner.Rows.{after_rows}
@@ -14,7 +14,7 @@ invariant-loop-y g l = record {
   width : l.bitmap.width ≡ l.initial.bitmap.width;
   height : l.bitmap.height ≡ l.initial.bitmap.height;
   bytes : l.decoder.bytes ≡ l.initial.decoder.bytes;
-  holds : HasDecoded l.initial.bitmap.width l.initial.bitmap.height l.initial.decoder.bytes (after_rows (layout_coding l.fn.layout l.fn.row_context) l.initial.bitmap.width l.initial.bitmap.height l.initial.decoder.bytes l.y (no_pixels l.initial.decoder.registers l.initial.contexts)) l.bitmap l.decoder l.contexts;
+  holds : HasDecoded l.initial.bitmap.width l.initial.bitmap.height l.initial.decoder.bytes (after_rows (layout_coding l.fn.layout l.fn.row_context) l.initial.bitmap.width l.initial.bitmap.height l.initial.decoder.bytes l.y (no_pixels l.initial.decoder.registers l.initial.contexts)) (region_state l.bitmap l.decoder l.contexts);
   predicted : (after_rows (layout_coding l.fn.layout l.fn.row_context) l.initial.bitmap.width l.initial.bitmap.height l.initial.decoder.bytes l.y (no_pixels l.initial.decoder.registers l.initial.contexts)).predicted ≡ l.predicted;
   none : l.y ≡ 0 → l.steps ≡ l.initial.steps;
   decisions : Counted (layout_pixels l.fn.layout) (is_nominal_layout l.fn.layout.adaptive) (layout_coding l.fn.layout l.fn.row_context) l.initial.bitmap.width l.initial.bitmap.height l.initial.decoder.bytes l.y (no_pixels l.initial.decoder.registers l.initial.contexts) l.initial.steps.decisions l.steps.decisions;

@@ -5,7 +5,7 @@ use Rattle.jbig2_region.specs.inner.RefinedViews.{header_view}
 use Rattle.jbig2_region.specs.Refinement.{refined_region}
 use Rattle.jbig2_region.specs.RefinementTemplates.{refinement_bits}
 use Rattle.jbig2_region.specs.inner.RegionViews.{region_view}
-use Rattle.jbig2_region.specs.inner.RegionStates.{HasDecoded}
+use Rattle.jbig2_region.specs.inner.RegionStates.{HasDecoded, region_state}
 use Rattle.jbig2_region.specs.Raster.{fresh_contexts}
 use Rattle.jbig2_base.proofs.Causes.{same-ok}
 use Rattle.jbig2_region.proofs.Prices.{decided-paid, refinement_loads-few}
@@ -30,7 +30,7 @@ returns-clause-contexts g c =
     let fits_dx : SFits w32 c.in_ok-dx.dx = search rules in
     let fits_dy : SFits w32 c.in_ok-dx.dy = search rules in
     let place = offset-value (header_view c.args.header.now) (region_view c.args.reference.now) (c.in_ok-dx.dx, c.in_ok-dx.dy) (to_z w32 (of_z w32 c.in_ok-dx.dx)) (to_z w32 (of_z w32 c.in_ok-dx.dy)) (to_z-of_z w32 c.in_ok-dx.dx fits_dx) (to_z-of_z w32 c.in_ok-dx.dy fits_dy) near in
-    let holds : HasDecoded c.args.header.now.region_info.width c.args.header.now.region_info.height c.args.header.now.bytes.now (refined_region (header_view c.args.header.now) (region_view c.args.reference.now)) c.decode_bitmap.new.bitmap c.decode_bitmap.new.decoder c.decode_bitmap.new.contexts =
+    let holds : HasDecoded c.args.header.now.region_info.width c.args.header.now.region_info.height c.args.header.now.bytes.now (refined_region (header_view c.args.header.now) (region_view c.args.reference.now)) (region_state c.decode_bitmap.new.bitmap c.decode_bitmap.new.decoder c.decode_bitmap.new.contexts) =
     refined-decoded (header_view c.args.header.now) (region_view c.args.reference.now) _ c.args.bitmap.now c.decode_bitmap.new.bitmap c.new-decoder.result c.decode_bitmap.new.decoder c.deref_mut.result.now c.decode_bitmap.new.contexts place c.requires.white c.new-decoder.ensures.bytes c.new-decoder.ensures.registers fresh c.decode_bitmap.ensures.holds in
     refined-contexts (header_view c.args.header.now) (region_view c.args.reference.now) (c.in_ok-dx.dx, c.in_ok-dx.dy) c.args.contexts.now.items _ near
     (whole-slice c.fresh_contexts.new.contexts.len c.decode_bitmap.new.contexts (drop (length c.decode_bitmap.new.contexts) c.fresh_contexts.new.contexts.items) (c.decode_bitmap.auto.contexts ∙ c.deref_mut.ensures.len) ∙ holds.contexts)

@@ -1,5 +1,5 @@
 use Rattle.std.proofs.Common.{rules, subst, sym, ℕ, Option}
-use Rattle.jbig2_region.specs.inner.RegionStates.{BeginsRow}
+use Rattle.jbig2_region.specs.inner.RegionStates.{BeginsRow, region_state}
 use Rattle.jbig2_region.proofs.RasterLemmas.{begun-plainly}
 use Rattle.jbig2_region.proofs.raster.begin_row.Goals as goal
 
@@ -8,4 +8,4 @@ returns-in_default-clause-row g c = λ w h grid r predicted holds. begun-plainly
 
 pub returns-clause-row : goal.returns-clause-row
 returns-clause-row g c = λ w h grid r predicted holds.
-    subst (λ (o : Option ℕ). BeginsRow w h o r c.decide_row.result grid c.args.decoder.now c.decide_row.new.decoder c.decide_row.new.contexts) (sym c.in-Some.is) (c.decide_row.ensures.row w h grid r predicted holds)
+    subst (λ (o : Option ℕ). BeginsRow w h o r c.decide_row.result c.args.decoder.now (region_state grid c.decide_row.new.decoder c.decide_row.new.contexts)) (sym c.in-Some.is) (c.decide_row.ensures.row w h grid r predicted holds)

@@ -12,6 +12,7 @@ use Rattle.jbig2_region.proofs.RefinementKnownLemmas.{copied-known, decided-unkn
 use Rattle.jbig2_region.proofs.RefinementPushLemmas.{block-copied, context-white, four-white}
 use Rattle.jbig2_region.proofs.StoreLemmas.{stored-inside}
 use Rattle.jbig2_region.proofs.refinement_kernel.decode_block.Goals as goal
+use Rattle.jbig2_region.specs.inner.RegionStates.{counted_decoder, counted_region, region_state}
 
 pub loop-done-init : goal.loop-done-init
 loop-done-init g c = record {
@@ -29,12 +30,12 @@ loop-done-preserved g c =
     record {
       within = omega arith;
       block =
-          subst (λ (n : ℕ). Block (windowed_coding c.args.coding.now) c.args.row.predicted c.args.stretch.x c.args.row.y (c.loop-done.done + 1) c.args.bitmap.now c.args.decoder.now c.args.contexts.now c.args.steps.now (c.loop-done.pixels * 2 + n) c.decide_pixel-symbol.new.decoder c.decide_pixel-symbol.new.contexts c.decide_pixel-symbol.new.steps) (sym c.from.ensures)
+          subst (λ (n : ℕ). Block (windowed_coding c.args.coding.now) c.args.row.predicted c.args.stretch.x c.args.row.y (c.loop-done.done + 1) (counted_region c.args.bitmap.now c.args.decoder.now c.args.contexts.now c.args.steps.now) (c.loop-done.pixels * 2 + n) (counted_decoder c.decide_pixel-symbol.new.decoder c.decide_pixel-symbol.new.contexts c.decide_pixel-symbol.new.steps)) (sym c.from.ensures)
           (block-next c.args.coding.now.template c.args.coding.now.typical c.args.row.predicted (reference_view c.args.coding.now.reference.now) c.args.stretch.x c.args.row.y c.loop-done.done c.args.bitmap.now c.args.stretch.windows
           c.args.decoder.now c.loop-done.decoder c.decide_pixel-symbol.new.decoder c.args.contexts.now c.loop-done.contexts c.decide_pixel-symbol.new.contexts c.args.steps.now c.loop-done.steps c.decide_pixel-symbol.new.steps
           c.loop-done.pixels 0 0 c.decide_pixel-symbol.result
-          c.loop-done.invariant.block c.requires.sees (omega arith) (omega arith) c.requires.row (sym (c.looked_for-white.ensures.nine (omega arith) c.loop-done.done (omega arith))) (four-white c.args.stretch.windows c.loop-done.pixels c.loop-done.done left region) (subst (λ (q : Bool). Takes (known_of q 0) (context_of c.args.coding.now.template 0 0) c.loop-done.decoder c.loop-done.contexts c.loop-done.steps c.decide_pixel-symbol.result c.decide_pixel-symbol.new.decoder c.decide_pixel-symbol.new.contexts c.decide_pixel-symbol.new.steps) (sym plain)
-          (subst (λ (n : ℕ). Takes None n c.loop-done.decoder c.loop-done.contexts c.loop-done.steps c.decide_pixel-symbol.result c.decide_pixel-symbol.new.decoder c.decide_pixel-symbol.new.contexts c.decide_pixel-symbol.new.steps) (sym (context-white c.args.coding.now.template)) c.decide_pixel-symbol.ensures.takes)));
+          c.loop-done.invariant.block c.requires.sees (omega arith) (omega arith) c.requires.row (sym (c.looked_for-white.ensures.nine (omega arith) c.loop-done.done (omega arith))) (four-white c.args.stretch.windows c.loop-done.pixels c.loop-done.done left region) (subst (λ (q : Bool). Takes (known_of q 0) (context_of c.args.coding.now.template 0 0) (counted_decoder c.loop-done.decoder c.loop-done.contexts c.loop-done.steps) c.decide_pixel-symbol.result (counted_decoder c.decide_pixel-symbol.new.decoder c.decide_pixel-symbol.new.contexts c.decide_pixel-symbol.new.steps)) (sym plain)
+          (subst (λ (n : ℕ). Takes None n (counted_decoder c.loop-done.decoder c.loop-done.contexts c.loop-done.steps) c.decide_pixel-symbol.result (counted_decoder c.decide_pixel-symbol.new.decoder c.decide_pixel-symbol.new.contexts c.decide_pixel-symbol.new.steps)) (sym (context-white c.args.coding.now.template)) c.decide_pixel-symbol.ensures.takes)));
     }
 
 pub push_pixels-pixels-requires-clause-room : goal.push_pixels-pixels-requires-clause-room
@@ -47,7 +48,7 @@ loop-done-2-preserved g c =
     record {
       within = omega arith;
       block =
-          c.push_pixels-pixels.ensures.block c.args.coding.now.typical c.args.row.predicted (reference_view c.args.coding.now.reference.now) c.args.stretch.x c.args.row.y c.args.bitmap.now c.args.decoder.now c.args.contexts.now c.args.steps.now
+          c.push_pixels-pixels.ensures.block c.args.coding.now.typical c.args.row.predicted (reference_view c.args.coding.now.reference.now) c.args.stretch.x c.args.row.y (counted_region c.args.bitmap.now c.args.decoder.now c.args.contexts.now c.args.steps.now)
           c.requires.sees few (omega arith) c.requires.row (λ i inside. ap (λ (q : Bool). known_of q (nine_of c.args.stretch.windows (c.loop-done-2.done + i))) plain) c.loop-done-2.invariant.block;
     }
 
@@ -77,10 +78,10 @@ loop-done-3-preserved g c =
     record {
       within = omega arith;
       block =
-          c.push_pixels-pixels-in-loop-done-3.ensures.block c.args.coding.now.typical c.args.row.predicted (reference_view c.args.coding.now.reference.now) c.args.stretch.x c.args.row.y c.args.bitmap.now c.args.decoder.now c.args.contexts.now c.args.steps.now
+          c.push_pixels-pixels-in-loop-done-3.ensures.block c.args.coding.now.typical c.args.row.predicted (reference_view c.args.coding.now.reference.now) c.args.stretch.x c.args.row.y (counted_region c.args.bitmap.now c.args.decoder.now c.args.contexts.now c.args.steps.now)
           c.requires.sees few (omega arith) c.requires.row
           (decided-unknown c.args.row.predicted c.args.stretch.windows c.known_columns-known.result (done + n) more c.known_columns-known.ensures few (λ i inside. c.leading_zeros.ensures.before i (omega arith)))
-          (subst (λ (m : ℕ). Block (windowed_coding c.args.coding.now) c.args.row.predicted c.args.stretch.x c.args.row.y (done + n) c.args.bitmap.now c.args.decoder.now c.args.contexts.now c.args.steps.now m c.loop-done-3.decoder c.loop-done-3.contexts c.loop-done-3.steps) (sym c.copied_pixels-pixels.ensures) copied);
+          (subst (λ (m : ℕ). Block (windowed_coding c.args.coding.now) c.args.row.predicted c.args.stretch.x c.args.row.y (done + n) (counted_region c.args.bitmap.now c.args.decoder.now c.args.contexts.now c.args.steps.now) m (counted_decoder c.loop-done-3.decoder c.loop-done-3.contexts c.loop-done-3.steps)) (sym c.copied_pixels-pixels.ensures) copied);
     }
 
 pub returns-clause-decoded : goal.returns-clause-decoded
@@ -94,7 +95,7 @@ returns-clause-decoded g c =
       width = ap (λ (b : Grid). b.width) c.store_pixels.ensures.value;
       height = ap (λ (b : Grid). b.height) c.store_pixels.ensures.value;
       bytes = c.loop-done-3.invariant.block.bytes;
-      decisions = subst (λ (n : ℕ). CountsPart (windowed_coding c.args.coding.now) c.args.row.predicted c.args.stretch.x c.args.row.y c.args.stretch.count c.args.bitmap.now c.args.decoder.now c.args.contexts.now c.args.steps.now.decisions n) after whole.decisions;
+      decisions = subst (λ (n : ℕ). CountsPart (windowed_coding c.args.coding.now) c.args.row.predicted c.args.stretch.x c.args.row.y c.args.stretch.count (region_state c.args.bitmap.now c.args.decoder.now c.args.contexts.now) c.args.steps.now.decisions n) after whole.decisions;
       rest = ap (λ (t : Counts). rest_of t) c.store_pixels.ensures.steps ∙ ap (λ (t : Counts). rest_of t) c.loop-done-3.invariant.block.steps;
     }
 

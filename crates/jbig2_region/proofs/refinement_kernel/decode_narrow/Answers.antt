@@ -2,7 +2,7 @@ use Rattle.std.proofs.Common.{◌*◌, arith, refl, ◌≡◌, ◌≤◌, ◌+�
 use Rattle.std.proofs.Math.Nat.{mul-le-mul}
 use Rattle.jbig2_base.specs.Counts.{Counts}
 use Rattle.jbig2_base.specs.Grid.{Grid, pixel_at}
-use Rattle.jbig2_region.specs.inner.RegionStates.{HasDecoded, BeginsRow}
+use Rattle.jbig2_region.specs.inner.RegionStates.{HasDecoded, BeginsRow, counted_region, region_state}
 use Rattle.jbig2_region.specs.inner.RefinementWindows.{windowed_coding}
 use Rattle.jbig2_region.specs.Raster.{Region, no_pixels, row_decisions}
 use Rattle.jbig2_region.specs.inner.Stretches.{DecodesPixels, rest_of}
@@ -31,8 +31,8 @@ loop-y-preserved g c =
     let w : ℕ = c.args.bitmap.now.width in
     let whole : c.width-width.result ≡ w = c.width-width.ensures.value in
     let begin =
-    subst (λ (k : Option ℕ). (w h : ℕ) (grid : Grid) (r : Region) → r.predicted ≡ c.loop-y.predicted → HasDecoded w h c.loop-y.decoder.bytes r grid c.loop-y.decoder c.loop-y.contexts → BeginsRow w h k r c.begin_row-predicted.result grid c.loop-y.decoder c.begin_row-predicted.new.decoder c.begin_row-predicted.new.contexts) c.typical_context-row_context.ensures.value c.begin_row-predicted.ensures.row in
-    let decoded = subst (λ (n : ℕ). DecodesPixels coding c.begin_row-predicted.result 0 c.loop-y.y n c.loop-y.bitmap c.begin_row-predicted.new.decoder c.begin_row-predicted.new.contexts c.begin_row-predicted.new.steps c.decode_block-pixels.new.bitmap c.decode_block-pixels.new.decoder c.decode_block-pixels.new.contexts c.decode_block-pixels.new.steps) (whole ∙ sym c.loop-y.invariant.rows.width) c.decode_block-pixels.ensures.decoded in
+    subst (λ (k : Option ℕ). (w h : ℕ) (grid : Grid) (r : Region) → r.predicted ≡ c.loop-y.predicted → HasDecoded w h c.loop-y.decoder.bytes r (region_state grid c.loop-y.decoder c.loop-y.contexts) → BeginsRow w h k r c.begin_row-predicted.result c.loop-y.decoder (region_state grid c.begin_row-predicted.new.decoder c.begin_row-predicted.new.contexts)) c.typical_context-row_context.ensures.value c.begin_row-predicted.ensures.row in
+    let decoded = subst (λ (n : ℕ). DecodesPixels coding c.begin_row-predicted.result 0 c.loop-y.y n (counted_region c.loop-y.bitmap c.begin_row-predicted.new.decoder c.begin_row-predicted.new.contexts c.begin_row-predicted.new.steps) (counted_region c.decode_block-pixels.new.bitmap c.decode_block-pixels.new.decoder c.decode_block-pixels.new.contexts c.decode_block-pixels.new.steps)) (whole ∙ sym c.loop-y.invariant.rows.width) c.decode_block-pixels.ensures.decoded in
     let lowered = c.lowered-windows.ensures.steps in
     let decided : c.decode_block-pixels.new.steps.decisions ≡ c.lowered-windows.new.steps.decisions = sym (ap (λ (t : Counts). t.decisions) lowered) in
     let untouched : rest_of c.lowered-windows.new.steps ≡ rest_of c.decode_block-pixels.new.steps = ap (λ (t : Counts). rest_of t) lowered in

@@ -6,11 +6,12 @@ use Rattle.jbig2_region.specs.inner.RefinementWindows.{context_of, corners, four
 use Rattle.jbig2_region.proofs.RefinementLaneLemmas.{lanes-next}
 use Rattle.jbig2_region.proofs.RefinementPushLemmas.{block-begun, block-pushed, context-shown, pixels-more}
 use Rattle.jbig2_region.proofs.refinement_kernel.push_pixels.Goals as goal
+use Rattle.jbig2_region.specs.inner.RegionStates.{counted_decoder}
 
 pub loop-init : goal.loop-init
 loop-init g c = record {
-  block = λ typical p r x y grid d0 s0 t0 sees few wide above unknown block.
-      block-begun (refinement_coding c.args.template typical corners r) p x y c.args.offset grid d0 c.args.decoder.now s0 c.args.contexts.now t0 c.args.steps.now c.args.pixels block;
+  block = λ typical p r x y start sees few wide above unknown block.
+      block-begun (refinement_coding c.args.template typical corners r) p x y c.args.offset start.grid start.coder c.args.decoder.now start.contexts c.args.contexts.now start.counts c.args.steps.now c.args.pixels block;
   room = subst (λ (n : ℕ). c.args.pixels < 16 * 2 ^ n) (omega arith) c.requires.room;
   bound = c.lanes_context-context.ensures.bound;
   lanes = λ more.
@@ -31,11 +32,11 @@ loop-preserved g c =
     (lanes-next c.args.windows (c.args.offset + k) (12 - k) (12 - (k + 1)) c.loop.lanes (omega arith) (omega arith) (omega arith) (c.loop.invariant.lanes (omega arith))) in
     let digit : c.decide_pixel-symbol.result ≡ (c.loop.pixels * 2 + c.from.result) % 2 = omega (arith, c.from.ensures, c.decide_pixel-symbol.ensures.digit) in
     record {
-      block = λ typical p r x y grid d0 s0 t0 sees few wide above unknown block.
-          subst (λ (n : ℕ). Block (refinement_coding c.args.template typical corners r) p x y (c.args.offset + (k + 1)) grid d0 s0 t0 (c.loop.pixels * 2 + n) c.decide_pixel-symbol.new.decoder c.decide_pixel-symbol.new.contexts c.decide_pixel-symbol.new.steps) (sym c.from.ensures)
-          (block-pushed c.args.template typical p r x y c.args.offset k grid c.args.windows d0 c.loop.decoder c.decide_pixel-symbol.new.decoder s0 c.loop.contexts c.decide_pixel-symbol.new.contexts t0 c.loop.steps c.decide_pixel-symbol.new.steps c.loop.pixels c.loop.context c.decide_pixel-symbol.result
+      block = λ typical p r x y start sees few wide above unknown block.
+          subst (λ (n : ℕ). Block (refinement_coding c.args.template typical corners r) p x y (c.args.offset + (k + 1)) start (c.loop.pixels * 2 + n) (counted_decoder c.decide_pixel-symbol.new.decoder c.decide_pixel-symbol.new.contexts c.decide_pixel-symbol.new.steps)) (sym c.from.ensures)
+          (block-pushed c.args.template typical p r x y c.args.offset k start.grid c.args.windows start.coder c.loop.decoder c.decide_pixel-symbol.new.decoder start.contexts c.loop.contexts c.decide_pixel-symbol.new.contexts start.counts c.loop.steps c.decide_pixel-symbol.new.steps c.loop.pixels c.loop.context c.decide_pixel-symbol.result
           sees few wide above (unknown k (omega arith)) (c.loop.invariant.context (omega arith)) c.decide_pixel-symbol.ensures.takes
-          (c.loop.invariant.block typical p r x y grid d0 s0 t0 sees (omega arith) (omega arith) above (λ i inside. unknown i (omega arith)) block));
+          (c.loop.invariant.block typical p r x y start sees (omega arith) (omega arith) above (λ i inside. unknown i (omega arith)) block));
       room = pixels-more c.loop.pixels c.from.result c.args.offset k c.loop.invariant.room (omega arith);
       bound = c.lanes_context-context-in-loop.ensures.bound;
       lanes = shown;
@@ -46,4 +47,4 @@ loop-preserved g c =
 pub returns-clause-block : goal.returns-clause-block
 returns-clause-block g c =
     let all : c.loop.counter ≡ c.args.count = omega arith in
-    subst (λ (n : ℕ). MovesBlock c.args.template c.args.windows c.args.offset n c.args.pixels c.args.decoder.now c.args.contexts.now c.args.steps.now c.loop.pixels c.loop.decoder c.loop.contexts c.loop.steps) all c.loop.invariant.block
+    subst (λ (n : ℕ). MovesBlock c.args.template c.args.windows c.args.offset n c.args.pixels (counted_decoder c.args.decoder.now c.args.contexts.now c.args.steps.now) c.loop.pixels (counted_decoder c.loop.decoder c.loop.contexts c.loop.steps)) all c.loop.invariant.block

@@ -4,10 +4,11 @@ use Rattle.jbig2_region.specs.inner.RefinementLanes.{Lanes}
 use Rattle.jbig2_region.specs.inner.RefinementWindows.{context_of, four_of, nine_of}
 use Rattle.jbig2_region.specs.RefinementTemplates.{refinement_bits}
 use Rattle.jbig2_region.proofs.refinement_kernel.push_pixels.Given as goal
+use Rattle.jbig2_region.specs.inner.RegionStates.{counted_decoder}
 
 abbrev pub invariant-loop : goal.invariant-loop
 invariant-loop g l = record {
-  block : MovesBlock l.fn.template l.fn.windows l.fn.offset l.counter l.fn.pixels l.initial.decoder l.initial.contexts l.initial.steps l.pixels l.decoder l.contexts l.steps;
+  block : MovesBlock l.fn.template l.fn.windows l.fn.offset l.counter l.fn.pixels (counted_decoder l.initial.decoder l.initial.contexts l.initial.steps) l.pixels (counted_decoder l.decoder l.contexts l.steps);
   room : l.pixels < 16 * 2 ^ (l.fn.offset + l.counter);
   bound : l.context < 2 ^ refinement_bits l.fn.template;
   lanes : l.counter < l.fn.count → Lanes l.fn.windows (l.fn.offset + l.counter) (12 - l.counter) l.lanes;

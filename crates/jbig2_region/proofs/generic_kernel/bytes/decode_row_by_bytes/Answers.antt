@@ -12,6 +12,7 @@ use Rattle.jbig2_region.proofs.PushLemmas.{left-stored}
 use Rattle.jbig2_region.proofs.StoreLemmas.{decodes-none, decodes-then, left-none, stored-above}
 use Rattle.jbig2_region.proofs.WindowLemmas.{shows-less, shows-same}
 use Rattle.jbig2_region.proofs.generic_kernel.bytes.decode_row_by_bytes.Goals as goal
+use Rattle.jbig2_region.specs.inner.RegionStates.{region_state}
 
 pub loop-group-init : goal.loop-group-init
 loop-group-init g c =
@@ -24,9 +25,9 @@ loop-group-init g c =
       bytes = refl;
       few = omega arith;
       left = subst (λ (n : ℕ). IsLeft c.args.bitmap.now n c.args.y 0) start (left-none c.args.bitmap.now c.args.y);
-      holds = subst (λ (n : ℕ). DecodesPixels (nominal_pixels c.args.neighbours) false 0 c.args.y n c.args.bitmap.now c.args.decoder.now c.args.contexts.now c.args.bitmap.now c.args.decoder.now c.args.contexts.now) start
+      holds = subst (λ (n : ℕ). DecodesPixels (nominal_pixels c.args.neighbours) false 0 c.args.y n (region_state c.args.bitmap.now c.args.decoder.now c.args.contexts.now) (region_state c.args.bitmap.now c.args.decoder.now c.args.contexts.now)) start
           (decodes-none (nominal_pixels c.args.neighbours) false 0 c.args.y c.args.bitmap.now c.args.decoder.now c.args.contexts.now);
-      decisions = subst (λ (n : ℕ). CountsRuns (nominal_pixels c.args.neighbours) 0 c.args.y n c.args.bitmap.now c.args.decoder.now c.args.contexts.now c.words_at-here.new.steps.decisions c.words_at-here.new.steps.decisions) start
+      decisions = subst (λ (n : ℕ). CountsRuns (nominal_pixels c.args.neighbours) 0 c.args.y n (region_state c.args.bitmap.now c.args.decoder.now c.args.contexts.now) c.words_at-here.new.steps.decisions c.words_at-here.new.steps.decisions) start
           (counts-none (nominal_pixels c.args.neighbours) 0 c.args.y c.args.bitmap.now c.args.decoder.now c.args.contexts.now c.words_at-here.new.steps.decisions);
       run_tests = omega arith;
       before = shows-none_before c.args.bitmap.now c.args.y _ refl refl;
@@ -77,14 +78,14 @@ loop-group-preserved g c =
           decodes-then (nominal_pixels c.args.neighbours) false 0 (64 * c.loop-group.group) c.args.y (8 * here) (8 * bytes) (8 * then)
           c.args.bitmap.now mid made c.args.decoder.now c.loop-group.decoder c.push_group-pixels.new.decoder c.args.contexts.now c.loop-group.contexts c.push_group-pixels.new.contexts
           c.loop-group.invariant.holds
-          (subst (λ (q : Grid). DecodesPixels (nominal_pixels c.args.neighbours) false (64 * c.loop-group.group) c.args.y (8 * bytes) mid c.loop-group.decoder c.loop-group.contexts q c.push_group-pixels.new.decoder c.push_group-pixels.new.contexts) (sym c.store_pixels.ensures.value)
+          (subst (λ (q : Grid). DecodesPixels (nominal_pixels c.args.neighbours) false (64 * c.loop-group.group) c.args.y (8 * bytes) (region_state mid c.loop-group.decoder c.loop-group.contexts) (region_state q c.push_group-pixels.new.decoder c.push_group-pixels.new.contexts)) (sym c.store_pixels.ensures.value)
           (c.push_group-pixels.ensures.holds mid (64 * c.loop-group.group) c.args.y stands)) start sum;
       decisions =
-          subst (λ (b : ℕ). CountsRuns (nominal_pixels c.args.neighbours) 0 c.args.y (8 * then) c.args.bitmap.now c.args.decoder.now c.args.contexts.now c.words_at-here.new.steps.decisions b) decided
+          subst (λ (b : ℕ). CountsRuns (nominal_pixels c.args.neighbours) 0 c.args.y (8 * then) (region_state c.args.bitmap.now c.args.decoder.now c.args.contexts.now) c.words_at-here.new.steps.decisions b) decided
           (counts-then (nominal_pixels c.args.neighbours) 0 (64 * c.loop-group.group) c.args.y (8 * here) (8 * bytes) (8 * then)
           c.args.bitmap.now mid c.args.decoder.now c.loop-group.decoder c.args.contexts.now c.loop-group.contexts c.words_at-here.new.steps.decisions c.loop-group.steps.decisions c.push_group-pixels.new.steps.decisions
           c.loop-group.invariant.decisions c.loop-group.invariant.holds
-          (subst (λ (b : ℕ). CountsRuns (nominal_pixels c.args.neighbours) (64 * c.loop-group.group) c.args.y (8 * bytes) mid c.loop-group.decoder c.loop-group.contexts b c.push_group-pixels.new.steps.decisions) same (c.push_group-pixels.ensures.decisions mid (64 * c.loop-group.group) c.args.y (omega arith) stands)) start sum);
+          (subst (λ (b : ℕ). CountsRuns (nominal_pixels c.args.neighbours) (64 * c.loop-group.group) c.args.y (8 * bytes) (region_state mid c.loop-group.decoder c.loop-group.contexts) b c.push_group-pixels.new.steps.decisions) same (c.push_group-pixels.ensures.decisions mid (64 * c.loop-group.group) c.args.y (omega arith) stands)) start sum);
       run_tests = omega (arith, next, ap (λ (s : Counts). s.run_tests) c.words_after-after.ensures.steps, ap (λ (s : Counts). s.run_tests) c.store_pixels.ensures.steps, c.push_group-pixels.ensures.run_tests, c.loop-group.invariant.run_tests);
       before = subst (λ (n : ℕ). ShowsBefore made n c.args.y c.loop-group.here) on
           (shows-before made (64 * c.loop-group.group) c.args.y c.loop-group.here
@@ -137,8 +138,8 @@ returns g c = record {
       } in
       decodes-then (nominal_pixels c.args.neighbours) false 0 x c.args.y x n c.args.bitmap.now.width
       c.args.bitmap.now c.loop-group.bitmap c.store_pixels-2.new.self c.args.decoder.now c.loop-group.decoder c.push_pixels-last.new.decoder c.args.contexts.now c.loop-group.contexts c.push_pixels-last.new.contexts
-      (subst (λ (k : ℕ). DecodesPixels (nominal_pixels c.args.neighbours) false 0 c.args.y (8 * k) c.args.bitmap.now c.args.decoder.now c.args.contexts.now c.loop-group.bitmap c.loop-group.decoder c.loop-group.contexts) all c.loop-group.invariant.holds)
-      (subst (λ (q : Grid). DecodesPixels (nominal_pixels c.args.neighbours) false x c.args.y n c.loop-group.bitmap c.loop-group.decoder c.loop-group.contexts q c.push_pixels-last.new.decoder c.push_pixels-last.new.contexts) (sym c.store_pixels-2.ensures.value)
+      (subst (λ (k : ℕ). DecodesPixels (nominal_pixels c.args.neighbours) false 0 c.args.y (8 * k) (region_state c.args.bitmap.now c.args.decoder.now c.args.contexts.now) (region_state c.loop-group.bitmap c.loop-group.decoder c.loop-group.contexts)) all c.loop-group.invariant.holds)
+      (subst (λ (q : Grid). DecodesPixels (nominal_pixels c.args.neighbours) false x c.args.y n (region_state c.loop-group.bitmap c.loop-group.decoder c.loop-group.contexts) (region_state q c.push_pixels-last.new.decoder c.push_pixels-last.new.contexts)) (sym c.store_pixels-2.ensures.value)
       (c.push_pixels-last.ensures.holds c.loop-group.bitmap x c.args.y stands)) (omega arith) sum;
   width = search rules;
   height = search rules;
@@ -153,9 +154,9 @@ returns g c = record {
       let same : c.words_at-here.new.steps.decisions ≡ c.args.steps.now.decisions = ap (λ (s : Counts). s.decisions) c.words_at-here.ensures.steps in
       counts-then (nominal_pixels c.args.neighbours) 0 x c.args.y x n c.args.bitmap.now.width
       c.args.bitmap.now c.loop-group.bitmap c.args.decoder.now c.loop-group.decoder c.args.contexts.now c.loop-group.contexts c.args.steps.now.decisions c.loop-group.steps.decisions c.store_pixels-2.new.steps.decisions
-      (subst (λ (b : ℕ). CountsRuns (nominal_pixels c.args.neighbours) 0 c.args.y (8 * whole) c.args.bitmap.now c.args.decoder.now c.args.contexts.now b c.loop-group.steps.decisions) same
-      (subst (λ (k : ℕ). CountsRuns (nominal_pixels c.args.neighbours) 0 c.args.y (8 * k) c.args.bitmap.now c.args.decoder.now c.args.contexts.now c.words_at-here.new.steps.decisions c.loop-group.steps.decisions) all c.loop-group.invariant.decisions))
-      (subst (λ (k : ℕ). DecodesPixels (nominal_pixels c.args.neighbours) false 0 c.args.y (8 * k) c.args.bitmap.now c.args.decoder.now c.args.contexts.now c.loop-group.bitmap c.loop-group.decoder c.loop-group.contexts) all c.loop-group.invariant.holds)
+      (subst (λ (b : ℕ). CountsRuns (nominal_pixels c.args.neighbours) 0 c.args.y (8 * whole) (region_state c.args.bitmap.now c.args.decoder.now c.args.contexts.now) b c.loop-group.steps.decisions) same
+      (subst (λ (k : ℕ). CountsRuns (nominal_pixels c.args.neighbours) 0 c.args.y (8 * k) (region_state c.args.bitmap.now c.args.decoder.now c.args.contexts.now) c.words_at-here.new.steps.decisions c.loop-group.steps.decisions) all c.loop-group.invariant.decisions))
+      (subst (λ (k : ℕ). DecodesPixels (nominal_pixels c.args.neighbours) false 0 c.args.y (8 * k) (region_state c.args.bitmap.now c.args.decoder.now c.args.contexts.now) (region_state c.loop-group.bitmap c.loop-group.decoder c.loop-group.contexts)) all c.loop-group.invariant.holds)
       (counts-last (nominal_pixels c.args.neighbours) x c.args.y n c.loop-group.bitmap c.loop-group.decoder c.loop-group.contexts c.loop-group.steps.decisions c.store_pixels-2.new.steps.decisions (search rules) (omega (arith, c.width-width.ensures.value, c.loop-group.invariant.width)) (omega (arith, c.width-width.ensures.value, c.loop-group.invariant.width)))
       (omega arith) sum;
   run_tests = search rules;

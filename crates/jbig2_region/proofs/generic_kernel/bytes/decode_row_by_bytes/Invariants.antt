@@ -3,6 +3,7 @@ use Rattle.jbig2_base.specs.Counts.{KeepsLanes}
 use Rattle.jbig2_region.specs.inner.Neighbours.{DecodesPixels, IsLeft, Shows, ShowsBefore, nominal_pixels}
 use Rattle.jbig2_region.specs.inner.RowCounts.{CountsRuns}
 use Rattle.jbig2_region.proofs.generic_kernel.bytes.decode_row_by_bytes.Given as goal
+use Rattle.jbig2_region.specs.inner.RegionStates.{region_state}
 
 abbrev pub invariant-loop-group : goal.invariant-loop-group
 invariant-loop-group g l = record {
@@ -11,8 +12,8 @@ invariant-loop-group g l = record {
   bytes : l.decoder.bytes ≡ l.initial.decoder.bytes;
   few : l.left < 16;
   left : IsLeft l.bitmap (8 * min (8 * l.group) l.whole) l.fn.y l.left;
-  holds : DecodesPixels (nominal_pixels l.fn.neighbours) false 0 l.fn.y (8 * min (8 * l.group) l.whole) l.initial.bitmap l.initial.decoder l.initial.contexts l.bitmap l.decoder l.contexts;
-  decisions : CountsRuns (nominal_pixels l.fn.neighbours) 0 l.fn.y (8 * min (8 * l.group) l.whole) l.initial.bitmap l.initial.decoder l.initial.contexts l.initial.steps.decisions l.steps.decisions;
+  holds : DecodesPixels (nominal_pixels l.fn.neighbours) false 0 l.fn.y (8 * min (8 * l.group) l.whole) (region_state l.initial.bitmap l.initial.decoder l.initial.contexts) (region_state l.bitmap l.decoder l.contexts);
+  decisions : CountsRuns (nominal_pixels l.fn.neighbours) 0 l.fn.y (8 * min (8 * l.group) l.whole) (region_state l.initial.bitmap l.initial.decoder l.initial.contexts) l.initial.steps.decisions l.steps.decisions;
   run_tests : l.steps.run_tests ≤ l.initial.steps.run_tests + min (8 * l.group) l.whole;
   before : ShowsBefore l.bitmap (64 * l.group) l.fn.y l.before;
   last : 1 ≤ l.group → Shows l.bitmap (64 * (l.group - 1) + 8) l.fn.y 64 l.before;

@@ -3,7 +3,7 @@ use Rattle.jbig2_base.specs.Counts.{Counts}
 use Rattle.jbig2_base.specs.Grid.{Grid}
 use Rattle.jbig2_base.specs.Writes.{with_pixels}
 use Rattle.jbig2_coder.specs.Coder.{Coder}
-use Rattle.jbig2_region.specs.inner.RegionStates.{HasDecoded}
+use Rattle.jbig2_region.specs.inner.RegionStates.{HasDecoded, region_state}
 use Rattle.jbig2_region.specs.inner.LongRuns.{is_run_for}
 use Rattle.jbig2_region.specs.inner.Neighbours.{DecodesPixels, nominal_pixels, row_coding}
 use Rattle.jbig2_region.specs.inner.Rows.{after_pixels}
@@ -23,10 +23,10 @@ returns-then-bytes-gt0-clause-holds g c = λ grid x y stands w h input r len pre
     let count : ℕ = 8 * c.take_runs-bytes.result in
     let wide : grid.width ≡ w = ap (λ (q : Grid). q.width) holds.pixels ∙ width-so_far w h r.pixels in
     let high : grid.height ≡ h = ap (λ (q : Grid). q.height) holds.pixels ∙ height-so_far w h r.pixels in
-    let here : HasDecoded w h c.args.decoder.now.bytes r grid c.args.decoder.now c.args.contexts.now = record { pixels = holds.pixels; bytes = refl; registers = holds.registers; contexts = holds.contexts } in
+    let here : HasDecoded w h c.args.decoder.now.bytes r (region_state grid c.args.decoder.now c.args.contexts.now) = record { pixels = holds.pixels; bytes = refl; registers = holds.registers; contexts = holds.contexts } in
     let run : is_run_for (nominal_pixels c.args.neighbours) w h c.args.decoder.now.bytes r black count ≡ true = c.take_runs-bytes.ensures.run w h x y r grid len (omega (arith, stands.columns)) (omega (arith, stands.row)) stands.shows stands.beside here (omega (arith, c.if-bytes-gt0.true)) in
     let bits : full count black ≡ c.uniform-pixels.result = full-cond count black ∙ sym c.uniform-pixels.ensures.value in
-    subst (λ (b : ℕ). HasDecoded w h input (after_pixels (row_coding (nominal_pixels c.args.neighbours)) w h input count r) (with_pixels grid x y count b) c.take_runs-bytes.new.decoder c.args.contexts.now) bits
+    subst (λ (b : ℕ). HasDecoded w h input (after_pixels (row_coding (nominal_pixels c.args.neighbours)) w h input count r) (region_state (with_pixels grid x y count b) c.take_runs-bytes.new.decoder c.args.contexts.now)) bits
     (run-holds (nominal_pixels c.args.neighbours) black grid c.args.decoder.now c.take_runs-bytes.new.decoder c.args.contexts.now w h input x y count r len (omega (arith, stands.columns, c.take_runs-bytes.ensures.most)) (omega (arith, stands.row)) predicted holds run c.take_runs-bytes.ensures.coder)
 
 pub returns-then-bytes-gt0-clause-decisions : goal.returns-then-bytes-gt0-clause-decisions
@@ -35,7 +35,7 @@ returns-then-bytes-gt0-clause-decisions g c = λ grid x y aligned stands w h inp
     let count : ℕ = 8 * c.take_runs-bytes.result in
     let wide : grid.width ≡ w = ap (λ (q : Grid). q.width) holds.pixels ∙ width-so_far w h r.pixels in
     let high : grid.height ≡ h = ap (λ (q : Grid). q.height) holds.pixels ∙ height-so_far w h r.pixels in
-    let here : HasDecoded w h c.args.decoder.now.bytes r grid c.args.decoder.now c.args.contexts.now = record { pixels = holds.pixels; bytes = refl; registers = holds.registers; contexts = holds.contexts } in
+    let here : HasDecoded w h c.args.decoder.now.bytes r (region_state grid c.args.decoder.now c.args.contexts.now) = record { pixels = holds.pixels; bytes = refl; registers = holds.registers; contexts = holds.contexts } in
     let run : is_run_for (nominal_pixels c.args.neighbours) w h c.args.decoder.now.bytes r black count ≡ true = c.take_runs-bytes.ensures.run w h x y r grid len (omega (arith, stands.columns)) (omega (arith, stands.row)) stands.shows stands.beside here (omega (arith, c.if-bytes-gt0.true)) in
     let same : is_run_for (nominal_pixels c.args.neighbours) w h input r black count ≡ true = subst (λ (l : List ℕ). is_run_for (nominal_pixels c.args.neighbours) w h l r black count ≡ true) holds.bytes run in
     let some : 1 ≤ length (nominal_pixels c.args.neighbours) = omega (arith, nominal-length c.args.neighbours, c.requires.near.some) in
@@ -49,7 +49,7 @@ push_pixels-pixels-requires-clause-contexts g c = c.requires.contexts
 pub returns-clause-holds : goal.returns-clause-holds
 returns-clause-holds g c = λ grid x y stands.
     let same = no-run c.args.decoder.now c.take_runs-bytes.new.decoder c.take_runs-bytes.result _ (omega (arith, c.if-bytes-gt0.false)) c.take_runs-bytes.ensures.coder in
-    subst (λ (d : Coder). DecodesPixels (nominal_pixels c.args.neighbours) false x y 8 grid d c.args.contexts.now (with_pixels grid x y 8 c.push_pixels-pixels.result) c.push_pixels-pixels.new.decoder c.push_pixels-pixels.new.contexts) same
+    subst (λ (d : Coder). DecodesPixels (nominal_pixels c.args.neighbours) false x y 8 (region_state grid d c.args.contexts.now) (region_state (with_pixels grid x y 8 c.push_pixels-pixels.result) c.push_pixels-pixels.new.decoder c.push_pixels-pixels.new.contexts)) same
     (c.push_pixels-pixels.ensures.holds grid x y (record { columns = omega (arith, stands.columns, c.requires.some); row = stands.row; shows = shows-less grid x y (8 * min c.args.most 4 + 12) 20 c.args.windows.first (omega (arith, c.requires.some)) stands.shows.first; beside = stands.beside }))
 
 pub returns-clause-decisions : goal.returns-clause-decisions
@@ -57,7 +57,7 @@ returns-clause-decisions g c = λ grid x y aligned stands w h input r len predic
     let black : Bool = eqb (c.args.left % 2) 1 in
     let wide : grid.width ≡ w = ap (λ (q : Grid). q.width) holds.pixels ∙ width-so_far w h r.pixels in
     let high : grid.height ≡ h = ap (λ (q : Grid). q.height) holds.pixels ∙ height-so_far w h r.pixels in
-    let here : HasDecoded w h c.args.decoder.now.bytes r grid c.args.decoder.now c.args.contexts.now = record { pixels = holds.pixels; bytes = refl; registers = holds.registers; contexts = holds.contexts } in
+    let here : HasDecoded w h c.args.decoder.now.bytes r (region_state grid c.args.decoder.now c.args.contexts.now) = record { pixels = holds.pixels; bytes = refl; registers = holds.registers; contexts = holds.contexts } in
     let run : is_run_of (nominal_pixels c.args.neighbours) w h c.args.decoder.now.bytes r black ≡ false = c.take_runs-bytes.ensures.none w h x y r grid len (omega (arith, stands.columns)) (omega (arith, stands.row)) stands.shows stands.beside here (omega (arith, c.if-bytes-gt0.false)) in
     let none = not-staying c.args.neighbours (not black) c.args.left c.args.windows.first w h x y (8 * min c.args.most 4 + 12) r grid c.args.decoder.now c.args.contexts.now (run-colour c.args.neighbours 8 (not black) black c.args.left c.args.windows.first c.requires.near (lowest-bit c.args.left) (other-colour black)) c.requires.near (omega (arith, c.requires.some)) len (omega (arith, stands.columns, c.requires.some)) (omega (arith, stands.row)) stands.shows.first stands.beside here in
     let before = ap (λ (s : Counts). s.decisions) c.take_runs-bytes.ensures.steps in

@@ -8,6 +8,7 @@ use Rattle.jbig2_region.proofs.RegisterLemmas.{beside-fits, beside-next, left-wh
 use Rattle.jbig2_region.proofs.StepLemmas.{no-decisions, more-decisions}
 use Rattle.jbig2_region.proofs.StoreLemmas.{decodes-start, decodes-bit, left-start, left-bit, stored-above, inside-states}
 use Rattle.jbig2_region.proofs.generic_kernel.bytes.push_pixels.Goals as goal
+use Rattle.jbig2_region.specs.inner.RegionStates.{decoder_state, region_state}
 
 pub loop-init : goal.loop-init
 loop-init g c = record {
@@ -42,7 +43,7 @@ loop-preserved g c =
           let is_context =
           c.loop.invariant.context
           ∙ register-context c.args.neighbours grid shown x y k 20 c.loop.register b c.args.windows c.requires.near (omega arith) (omega arith) c.loop.invariant.moved (stored-above grid x y k byte) stands.shows (c.loop.invariant.left grid x y stands) in
-          subst (λ (n : ℕ). DecodesPixels (nominal_pixels c.args.neighbours) false x y (k + 1) grid c.args.decoder.now c.args.contexts.now (with_pixels grid x y (k + 1) n) c.decode-symbol.new.self (set c.loop.contexts c.loop.context c.decode-symbol.new.context)) (sym next.0)
+          subst (λ (n : ℕ). DecodesPixels (nominal_pixels c.args.neighbours) false x y (k + 1) (region_state grid c.args.decoder.now c.args.contexts.now) (region_state (with_pixels grid x y (k + 1) n) c.decode-symbol.new.self (set c.loop.contexts c.loop.context c.decode-symbol.new.context))) (sym next.0)
           (decodes-bit (nominal_pixels c.args.neighbours) x y k grid c.args.decoder.now c.loop.decoder c.decode-symbol.new.self c.args.contexts.now c.loop.contexts c.loop.context byte symbol c.index-contexts-context.result c.decode-symbol.new.context
           (c.loop.invariant.holds grid x y stands) (omega (arith, stands.columns)) stands.row is_context inside c.decode-symbol.ensures.value c.decode-symbol.ensures.coder c.decode-symbol.ensures.context);
       steps = more-decisions c.args.steps.now c.loop.steps c.decode-symbol.new.steps k 1 (k + 1) c.loop.invariant.steps c.decode-symbol.ensures.steps refl;
@@ -67,8 +68,8 @@ pub returns-clause-holds : goal.returns-clause-holds
 returns-clause-holds g c =
     let all : c.loop.counter ≡ c.args.count = omega arith in
     let bits : c.loop.beside % 2 ^ c.loop.counter ≡ c.from.result % (1 * 2 ^ c.args.count % 2 ^ 64) = rw (all, c.from.ensures) (sym (low-bits c.loop.beside c.args.count (omega arith))) in
-    subst (λ (b : ℕ). PushesPixels c.args.neighbours c.args.count c.args.left c.args.windows c.args.count b c.args.decoder.now c.args.contexts.now c.loop.decoder c.loop.contexts) bits
-    (subst (λ (n : ℕ). PushesPixels c.args.neighbours c.args.count c.args.left c.args.windows n (c.loop.beside % 2 ^ c.loop.counter) c.args.decoder.now c.args.contexts.now c.loop.decoder c.loop.contexts) all c.loop.invariant.holds)
+    subst (λ (b : ℕ). PushesPixels c.args.neighbours c.args.count c.args.left c.args.windows c.args.count b (decoder_state c.args.decoder.now c.args.contexts.now) (decoder_state c.loop.decoder c.loop.contexts)) bits
+    (subst (λ (n : ℕ). PushesPixels c.args.neighbours c.args.count c.args.left c.args.windows n (c.loop.beside % 2 ^ c.loop.counter) (decoder_state c.args.decoder.now c.args.contexts.now) (decoder_state c.loop.decoder c.loop.contexts)) all c.loop.invariant.holds)
 
 pub returns-clause-bound : goal.returns-clause-bound
 returns-clause-bound g c = rw (low-bits c.from.result c.args.count (omega arith)) (mod_below c.from.result (2 ^ c.args.count) (pow_pos c.args.count))

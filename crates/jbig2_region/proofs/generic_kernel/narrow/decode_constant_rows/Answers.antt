@@ -1,5 +1,5 @@
 use Rattle.std.proofs.Common.{◌∙◌, ap, subst, sym}
-use Rattle.jbig2_region.specs.inner.RegionStates.{DecodesRegion}
+use Rattle.jbig2_region.specs.inner.RegionStates.{DecodesRegion, region_state}
 use Rattle.jbig2_region.specs.inner.Layouts.{nominal_neighbours}
 use Rattle.jbig2_region.specs.inner.Neighbours.{nominal_pixels, row_coding}
 use Rattle.jbig2_region.specs.inner.NominalRows.{CountsNarrow, FitsNarrow}
@@ -12,10 +12,10 @@ decode_rows-requires g c = subst (λ (n : Neighbours). FitsNarrow n c.args.bitma
 
 pub returns-clause-holds : goal.returns-clause-holds
 returns-clause-holds g c =
-    subst (λ (n : Neighbours). DecodesRegion (row_coding (nominal_pixels n)) c.args.bitmap.now c.args.decoder.now c.args.contexts.now c.decode_rows.new.bitmap c.decode_rows.new.decoder c.decode_rows.new.contexts) (c.nominal_neighbours-constant.ensures ∙ ap (λ (t : Template). nominal_neighbours t) c.from_byte.ensures ∙ sym c.requires.same)
+    subst (λ (n : Neighbours). DecodesRegion (row_coding (nominal_pixels n)) (region_state c.args.bitmap.now c.args.decoder.now c.args.contexts.now) (region_state c.decode_rows.new.bitmap c.decode_rows.new.decoder c.decode_rows.new.contexts)) (c.nominal_neighbours-constant.ensures ∙ ap (λ (t : Template). nominal_neighbours t) c.from_byte.ensures ∙ sym c.requires.same)
     c.decode_rows.ensures.holds
 
 pub returns-clause-steps : goal.returns-clause-steps
 returns-clause-steps g c =
-    subst (λ (n : Neighbours). CountsNarrow n c.args.bitmap.now c.args.decoder.now c.args.contexts.now c.args.steps.now c.decode_rows.new.steps) (c.nominal_neighbours-constant.ensures ∙ ap (λ (t : Template). nominal_neighbours t) c.from_byte.ensures ∙ sym c.requires.same)
+    subst (λ (n : Neighbours). CountsNarrow n (region_state c.args.bitmap.now c.args.decoder.now c.args.contexts.now) c.args.steps.now c.decode_rows.new.steps) (c.nominal_neighbours-constant.ensures ∙ ap (λ (t : Template). nominal_neighbours t) c.from_byte.ensures ∙ sym c.requires.same)
     c.decode_rows.ensures.steps

@@ -4,7 +4,7 @@ use Rattle.jbig2_base.specs.Counts.{Counts}
 use Rattle.jbig2_base.specs.Grid.{Grid, pixel_at}
 use Rattle.jbig2_base.specs.Bits.{bit}
 use Rattle.jbig2_base.specs.Writes.{with_pixels}
-use Rattle.jbig2_region.specs.inner.RegionStates.{BeginsRow, HasDecoded}
+use Rattle.jbig2_region.specs.inner.RegionStates.{BeginsRow, HasDecoded, region_state}
 use Rattle.jbig2_region.specs.inner.PushedPixels.{IsAtRow}
 use Rattle.jbig2_region.specs.inner.Neighbours.{DecodesPixels, SameAbove, nominal_pixels, row_coding}
 use Rattle.jbig2_region.specs.inner.RowCounts.{CountsRow, CountsRuns}
@@ -30,7 +30,7 @@ loop-y-init g c =
       width = refl;
       height = refl;
       bytes = refl;
-      holds = subst (λ (n : Region). HasDecoded w h input n c.args.bitmap.now c.args.decoder.now c.args.contexts.now) (sym none) (region-start w h c.args.bitmap.now c.args.decoder.now c.args.contexts.now c.requires.white);
+      holds = subst (λ (n : Region). HasDecoded w h input n (region_state c.args.bitmap.now c.args.decoder.now c.args.contexts.now)) (sym none) (region-start w h c.args.bitmap.now c.args.decoder.now c.args.contexts.now c.requires.white);
       predicted = ap (λ (n : Region). n.predicted) none;
       none = λ _. refl;
       decisions = counted-none (nominal_pixels c.args.neighbours) true (row_coding (nominal_pixels c.args.neighbours)) w h input start c.args.steps.now.decisions;
@@ -55,19 +55,19 @@ loop-y-preserved g c =
     let wide : c.loop-y.bitmap.width ≡ c.width-width.result = c.loop-y.invariant.width ∙ sym whole in
     let row : IsAtRow c.loop-y.bitmap y c.width-width.result c.loop-y.windows = record { wide = wide; row = omega (arith, c.loop-y.invariant.height); shows = c.loop-y.invariant.shows } in
     let stored : with_pixels c.loop-y.bitmap 0 y c.width-width.result pixels ≡ c.store_pixels.new.self = sym c.store_pixels.ensures.value in
-    let decodes : DecodesPixels template false 0 y w c.loop-y.bitmap c.loop-y.decoder c.loop-y.contexts c.store_pixels.new.self c.push_row-pixels.new.decoder c.push_row-pixels.new.contexts =
-    subst (λ (q : Grid). DecodesPixels template false 0 y w c.loop-y.bitmap c.loop-y.decoder c.loop-y.contexts q c.push_row-pixels.new.decoder c.push_row-pixels.new.contexts) stored
-    (subst (λ (n : ℕ). DecodesPixels template false 0 y n c.loop-y.bitmap c.loop-y.decoder c.loop-y.contexts (with_pixels c.loop-y.bitmap 0 y c.width-width.result pixels) c.push_row-pixels.new.decoder c.push_row-pixels.new.contexts) whole
+    let decodes : DecodesPixels template false 0 y w (region_state c.loop-y.bitmap c.loop-y.decoder c.loop-y.contexts) (region_state c.store_pixels.new.self c.push_row-pixels.new.decoder c.push_row-pixels.new.contexts) =
+    subst (λ (q : Grid). DecodesPixels template false 0 y w (region_state c.loop-y.bitmap c.loop-y.decoder c.loop-y.contexts) (region_state q c.push_row-pixels.new.decoder c.push_row-pixels.new.contexts)) stored
+    (subst (λ (n : ℕ). DecodesPixels template false 0 y n (region_state c.loop-y.bitmap c.loop-y.decoder c.loop-y.contexts) (region_state (with_pixels c.loop-y.bitmap 0 y c.width-width.result pixels) c.push_row-pixels.new.decoder c.push_row-pixels.new.contexts)) whole
     (c.push_row-pixels.ensures.holds c.loop-y.bitmap y row)) in
-    let begin : (w h : ℕ) (grid : Grid) (r : Region) → r.predicted ≡ false → HasDecoded w h c.loop-y.decoder.bytes r grid c.loop-y.decoder c.loop-y.contexts → BeginsRow w h None r false grid c.loop-y.decoder c.loop-y.decoder c.loop-y.contexts = λ w h grid r is holds. begins-plain w h grid r c.loop-y.decoder c.loop-y.contexts is holds in
+    let begin : (w h : ℕ) (grid : Grid) (r : Region) → r.predicted ≡ false → HasDecoded w h c.loop-y.decoder.bytes r (region_state grid c.loop-y.decoder c.loop-y.contexts) → BeginsRow w h None r false c.loop-y.decoder (region_state grid c.loop-y.decoder c.loop-y.contexts) = λ w h grid r is holds. begins-plain w h grid r c.loop-y.decoder c.loop-y.contexts is holds in
     let next =
     layout-step template None y false false c.loop-y.bitmap c.loop-y.decoder c.loop-y.contexts c.loop-y.decoder c.loop-y.contexts c.store_pixels.new.self c.push_row-pixels.new.decoder c.push_row-pixels.new.contexts start w h input
     c.loop-y.invariant.bytes refl refl begin decodes c.loop-y.invariant.holds c.loop-y.invariant.predicted in
-    let counts : CountsRuns template 0 y c.loop-y.bitmap.width c.loop-y.bitmap c.loop-y.decoder c.loop-y.contexts c.loop-y.steps.decisions c.push_row-pixels.new.steps.decisions =
-    subst (λ (n : ℕ). CountsRuns template 0 y n c.loop-y.bitmap c.loop-y.decoder c.loop-y.contexts c.loop-y.steps.decisions c.push_row-pixels.new.steps.decisions) (sym wide) (c.push_row-pixels.ensures.decisions c.loop-y.bitmap y row) in
+    let counts : CountsRuns template 0 y c.loop-y.bitmap.width (region_state c.loop-y.bitmap c.loop-y.decoder c.loop-y.contexts) c.loop-y.steps.decisions c.push_row-pixels.new.steps.decisions =
+    subst (λ (n : ℕ). CountsRuns template 0 y n (region_state c.loop-y.bitmap c.loop-y.decoder c.loop-y.contexts) c.loop-y.steps.decisions c.push_row-pixels.new.steps.decisions) (sym wide) (c.push_row-pixels.ensures.decisions c.loop-y.bitmap y row) in
     let decided : c.push_row-pixels.new.steps.decisions ≡ c.store_pixels.new.steps.decisions = sym (ap (λ (t : Counts). t.decisions) c.store_pixels.ensures.steps) in
-    let counted : CountsRow template true false y c.loop-y.bitmap c.loop-y.decoder c.loop-y.contexts c.loop-y.steps.decisions c.store_pixels.new.steps.decisions =
-    subst (λ (n : ℕ). CountsRow template true false y c.loop-y.bitmap c.loop-y.decoder c.loop-y.contexts c.loop-y.steps.decisions n) decided
+    let counted : CountsRow template true false y (region_state c.loop-y.bitmap c.loop-y.decoder c.loop-y.contexts) c.loop-y.steps.decisions c.store_pixels.new.steps.decisions =
+    subst (λ (n : ℕ). CountsRow template true false y (region_state c.loop-y.bitmap c.loop-y.decoder c.loop-y.contexts) c.loop-y.steps.decisions n) decided
     (row-nominal c.args.neighbours None false y c.loop-y.bitmap c.loop-y.decoder c.loop-y.contexts c.loop-y.steps.decisions c.push_row-pixels.new.steps.decisions refl refl counts) in
     let tested : c.store_pixels.new.steps.run_tests ≡ c.push_row-pixels.new.steps.run_tests = ap (λ (t : Counts). t.run_tests) c.store_pixels.ensures.steps in
     let written : c.store_pixels.new.steps.words ≡ c.push_row-pixels.new.steps.words + 1 = ap (λ (t : Counts). t.words) c.store_pixels.ensures.steps in

@@ -9,6 +9,7 @@ use Rattle.jbig2_region.proofs.CountLemmas.{counts-last, counts-none, counts-the
 use Rattle.jbig2_region.proofs.PushLemmas.{few-next, one-shifted, row-fits, stands-next, stored-next}
 use Rattle.jbig2_region.proofs.StoreLemmas.{decodes-start, decodes-then}
 use Rattle.jbig2_region.proofs.generic_kernel.narrow.push_row.Goals as goal
+use Rattle.jbig2_region.specs.inner.RegionStates.{region_state}
 
 pub loop-init : goal.loop-init
 loop-init g c = record {
@@ -46,7 +47,7 @@ loop-preserved g c =
           let stored : with_pixels mid (8 * k) y 8 byte ≡ made = stored-next grid y (8 * k) 8 (8 * (k + 1)) pixels byte c.push_byte-byte.ensures.bound sum (omega (arith, row.wide)) row.row in
           decodes-then (nominal_pixels c.args.neighbours) false 0 (8 * k) y (8 * k) 8 (8 * (k + 1)) grid mid made c.args.decoder.now c.loop.decoder c.push_byte-byte.new.decoder c.args.contexts.now c.loop.contexts c.push_byte-byte.new.contexts
           (c.loop.invariant.holds grid y row)
-          (subst (λ (q : Grid). DecodesPixels (nominal_pixels c.args.neighbours) false (8 * k) y 8 mid c.loop.decoder c.loop.contexts q c.push_byte-byte.new.decoder c.push_byte-byte.new.contexts) stored (c.push_byte-byte.ensures.holds mid (8 * k) y (stands grid y row)))
+          (subst (λ (q : Grid). DecodesPixels (nominal_pixels c.args.neighbours) false (8 * k) y 8 (region_state mid c.loop.decoder c.loop.contexts) (region_state q c.push_byte-byte.new.decoder c.push_byte-byte.new.contexts)) stored (c.push_byte-byte.ensures.holds mid (8 * k) y (stands grid y row)))
           place sum;
       decisions = λ grid y row.
           counts-then (nominal_pixels c.args.neighbours) 0 (8 * k) y (8 * k) 8 (8 * (k + 1)) grid (with_pixels grid 0 y (8 * k) pixels) c.args.decoder.now c.loop.decoder c.args.contexts.now c.loop.contexts c.args.steps.now.decisions c.loop.steps.decisions c.push_byte-byte.new.steps.decisions
@@ -86,10 +87,10 @@ returns-clause-holds g c = λ grid y row.
     let made : Grid = with_pixels grid 0 y c.args.width (pixels * 2 ^ count + last) in
     let stored : with_pixels mid (8 * k) y count last ≡ made = stored-next grid y (8 * k) count c.args.width pixels last c.push_pixels-last.ensures.bound sum (omega (arith, row.wide)) row.row in
     let shifted : pixels * 2 ^ count + last ≡ pixels * (1 * 2 ^ count % 2 ^ 64) + last = ap (λ (n : ℕ). pixels * n + last) (sym (one-shifted count (omega arith))) in
-    subst (λ (b : ℕ). DecodesPixels (nominal_pixels c.args.neighbours) false 0 y c.args.width grid c.args.decoder.now c.args.contexts.now (with_pixels grid 0 y c.args.width b) c.push_pixels-last.new.decoder c.push_pixels-last.new.contexts) shifted
+    subst (λ (b : ℕ). DecodesPixels (nominal_pixels c.args.neighbours) false 0 y c.args.width (region_state grid c.args.decoder.now c.args.contexts.now) (region_state (with_pixels grid 0 y c.args.width b) c.push_pixels-last.new.decoder c.push_pixels-last.new.contexts)) shifted
     (decodes-then (nominal_pixels c.args.neighbours) false 0 (8 * k) y (8 * k) count c.args.width grid mid made c.args.decoder.now c.loop.decoder c.push_pixels-last.new.decoder c.args.contexts.now c.loop.contexts c.push_pixels-last.new.contexts
     (c.loop.invariant.holds grid y row)
-    (subst (λ (q : Grid). DecodesPixels (nominal_pixels c.args.neighbours) false (8 * k) y count mid c.loop.decoder c.loop.contexts q c.push_pixels-last.new.decoder c.push_pixels-last.new.contexts) stored (c.push_pixels-last.ensures.holds mid (8 * k) y stands))
+    (subst (λ (q : Grid). DecodesPixels (nominal_pixels c.args.neighbours) false (8 * k) y count (region_state mid c.loop.decoder c.loop.contexts) (region_state q c.push_pixels-last.new.decoder c.push_pixels-last.new.contexts)) stored (c.push_pixels-last.ensures.holds mid (8 * k) y stands))
     place sum)
 
 pub returns-clause-decisions : goal.returns-clause-decisions

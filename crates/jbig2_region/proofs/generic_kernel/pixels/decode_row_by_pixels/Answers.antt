@@ -4,6 +4,7 @@ use Rattle.jbig2_region.specs.inner.Neighbours.{DecodesPixels, IsLeft, mixed_pix
 use Rattle.jbig2_region.proofs.StepLemmas.{block-loads, none-loads}
 use Rattle.jbig2_region.proofs.StoreLemmas.{decodes-none, decodes-then, left-none}
 use Rattle.jbig2_region.proofs.generic_kernel.pixels.decode_row_by_pixels.Goals as goal
+use Rattle.jbig2_region.specs.inner.RegionStates.{region_state}
 
 pub loop-index-init : goal.loop-index-init
 loop-index-init g c =
@@ -15,7 +16,7 @@ loop-index-init g c =
       few = omega arith;
       left = subst (λ (n : ℕ). IsLeft c.args.bitmap.now n c.args.y 0) none (left-none c.args.bitmap.now c.args.y);
       holds =
-          subst (λ (n : ℕ). DecodesPixels (mixed_pixels c.args.neighbours c.args.adaptive.now) false 0 c.args.y n c.args.bitmap.now c.args.decoder.now c.args.contexts.now c.args.bitmap.now c.args.decoder.now c.args.contexts.now) none
+          subst (λ (n : ℕ). DecodesPixels (mixed_pixels c.args.neighbours c.args.adaptive.now) false 0 c.args.y n (region_state c.args.bitmap.now c.args.decoder.now c.args.contexts.now) (region_state c.args.bitmap.now c.args.decoder.now c.args.contexts.now)) none
           (decodes-none (mixed_pixels c.args.neighbours c.args.adaptive.now) false 0 c.args.y c.args.bitmap.now c.args.decoder.now c.args.contexts.now);
       decisions = omega arith;
       words = omega arith;

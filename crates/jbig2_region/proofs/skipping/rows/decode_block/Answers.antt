@@ -10,6 +10,7 @@ use Rattle.jbig2_region.specs.inner.RefinementBlocks.{Block}
 use Rattle.jbig2_region.proofs.RefinementKernelLemmas.{block-none, block-whole}
 use Rattle.jbig2_region.proofs.SkippingLemmas.{skipping-next}
 use Rattle.jbig2_region.proofs.skipping.rows.decode_block.Goals as goal
+use Rattle.jbig2_region.specs.inner.RegionStates.{counted_decoder, counted_region, region_state}
 
 pub loop-offset-init : goal.loop-offset-init
 loop-offset-init g c =
@@ -19,7 +20,7 @@ loop-offset-init g c =
 pub loop-offset-preserved : goal.loop-offset-preserved
 unfolding bit
 loop-offset-preserved g c =
-    subst (λ (n : ℕ). Block (skipping_coding (nominal_pixels c.args.neighbours) (skip_of c.args.skip)) false c.args.place.x c.args.place.y (c.loop-offset.offset + 1) c.args.bitmap.now c.args.decoder.now c.args.contexts.now c.mask_at-mask.new.steps (c.loop-offset.pixels * 2 + n) c.decode_pixel-symbol.new.decoder c.decode_pixel-symbol.new.contexts c.decode_pixel-symbol.new.steps) (sym c.from.ensures)
+    subst (λ (n : ℕ). Block (skipping_coding (nominal_pixels c.args.neighbours) (skip_of c.args.skip)) false c.args.place.x c.args.place.y (c.loop-offset.offset + 1) (counted_region c.args.bitmap.now c.args.decoder.now c.args.contexts.now c.mask_at-mask.new.steps) (c.loop-offset.pixels * 2 + n) (counted_decoder c.decode_pixel-symbol.new.decoder c.decode_pixel-symbol.new.contexts c.decode_pixel-symbol.new.steps)) (sym c.from.ensures)
     (skipping-next c.args.neighbours (skip_of c.args.skip) c.args.place.x c.args.place.y c.loop-offset.offset c.args.bitmap.now c.windows_at-windows.result c.mask_at-mask.result
     c.args.decoder.now c.loop-offset.decoder c.decode_pixel-symbol.new.decoder c.args.contexts.now c.loop-offset.contexts c.decode_pixel-symbol.new.contexts c.mask_at-mask.new.steps c.loop-offset.steps c.decode_pixel-symbol.new.steps
     c.loop-offset.pixels c.plain_context-context.result c.decode_pixel-symbol.result (bit c.mask_at-mask.result (31 - c.loop-offset.offset))
@@ -37,7 +38,7 @@ returns-clause-decoded g c =
       width = ap (λ (b : Grid). b.width) c.store_pixels.ensures.value;
       height = ap (λ (b : Grid). b.height) c.store_pixels.ensures.value;
       bytes = c.loop-offset.invariant.bytes;
-      decisions = subst (λ (n : ℕ). CountsPart (skipping_coding (nominal_pixels c.args.neighbours) (skip_of c.args.skip)) false c.args.place.x c.args.place.y c.args.place.count c.args.bitmap.now c.args.decoder.now c.args.contexts.now c.args.steps.now.decisions n) after (subst (λ (n : ℕ). CountsPart (skipping_coding (nominal_pixels c.args.neighbours) (skip_of c.args.skip)) false c.args.place.x c.args.place.y c.args.place.count c.args.bitmap.now c.args.decoder.now c.args.contexts.now n c.loop-offset.steps.decisions) before whole.decisions);
+      decisions = subst (λ (n : ℕ). CountsPart (skipping_coding (nominal_pixels c.args.neighbours) (skip_of c.args.skip)) false c.args.place.x c.args.place.y c.args.place.count (region_state c.args.bitmap.now c.args.decoder.now c.args.contexts.now) c.args.steps.now.decisions n) after (subst (λ (n : ℕ). CountsPart (skipping_coding (nominal_pixels c.args.neighbours) (skip_of c.args.skip)) false c.args.place.x c.args.place.y c.args.place.count (region_state c.args.bitmap.now c.args.decoder.now c.args.contexts.now) n c.loop-offset.steps.decisions) before whole.decisions);
       rest = ap (λ (t : Counts). rest_of t) c.store_pixels.ensures.steps ∙ ap (λ (t : Counts). rest_of t) c.loop-offset.invariant.steps ∙ ap (λ (t : Counts). rest_of t) c.mask_at-mask.ensures.steps ∙ ap (λ (t : Counts). rest_of t) c.windows_at-windows.ensures.steps;
     }
 

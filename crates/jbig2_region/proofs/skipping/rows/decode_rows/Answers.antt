@@ -3,7 +3,7 @@ use Rattle.jbig2_base.proofs.LaneCounts.{lanes-none, lanes-then}
 use Rattle.jbig2_base.specs.Grid.{Grid}
 use Rattle.jbig2_region.specs.Raster.{Coding, Region, no_pixels}
 use Rattle.jbig2_region.specs.{inner.RegionViews.{skip_of}, Steps.{skipping_loads, skipping_words}, Generic.{skipping_coding}}
-use Rattle.jbig2_region.specs.inner.RegionStates.{BeginsRow, HasDecoded}
+use Rattle.jbig2_region.specs.inner.RegionStates.{BeginsRow, HasDecoded, region_state}
 use Rattle.jbig2_region.specs.inner.Neighbours.{nominal_pixels}
 use Rattle.jbig2_region.proofs.PlaceLemmas.{region-empty, region-whole}
 use Rattle.jbig2_region.proofs.RasterLemmas.{begun-plainly}
@@ -32,7 +32,7 @@ pub loop-y-preserved : goal.loop-y-preserved
 loop-y-preserved g c =
     let coding : Coding = skipping_coding (nominal_pixels c.args.neighbours) (skip_of c.args.skip) in
     let w : ℕ = c.args.bitmap.now.width in
-    let begin : (w h : ℕ) (grid : Grid) (r : Region) → r.predicted ≡ false → HasDecoded w h c.loop-y.decoder.bytes r grid c.loop-y.decoder c.loop-y.contexts → BeginsRow w h coding.row_context r false grid c.loop-y.decoder c.loop-y.decoder c.loop-y.contexts =
+    let begin : (w h : ℕ) (grid : Grid) (r : Region) → r.predicted ≡ false → HasDecoded w h c.loop-y.decoder.bytes r (region_state grid c.loop-y.decoder c.loop-y.contexts) → BeginsRow w h coding.row_context r false c.loop-y.decoder (region_state grid c.loop-y.decoder c.loop-y.contexts) =
     λ w h grid r plain holds. begun-plainly w h None r false grid c.loop-y.decoder c.loop-y.contexts refl plain holds in
     let more : c.loop-y.steps.decisions ≡ c.loop-y.steps.decisions + 0 = omega arith in
     let written : c.decode_row.new.steps.words ≤ c.loop-y.steps.words + skipping_words w = subst (λ (n : ℕ). c.decode_row.new.steps.words ≤ c.loop-y.steps.words + skipping_words n) c.loop-y.invariant.rows.width c.decode_row.ensures.words in
