@@ -16,8 +16,8 @@ pub(crate) mod rows;
 
 use crate::gray_scale::planes::read_planes;
 use crate::gray_scale::rows::gray_rows;
-use jbig2_base::bitmap::{Bitmap, MAX_DIMENSION};
 use jbig2_base::bitmap::steps::Steps;
+use jbig2_base::bitmap::{Bitmap, MAX_DIMENSION};
 use jbig2_base::error::{DecodeError, OverflowError, Result};
 use jbig2_coder::arithmetic_decoder::ArithmeticDecoderContext;
 use jbig2_region::template::Template;

@@ -22,10 +22,10 @@ ghost use Rattle.jbig2_halftone.specs.Causes.{BreaksPatternHeader, BreaksPattern
 mod dictionary;
 
 pub use dictionary::PatternDictionary;
-use jbig2_base::bitmap::{Bitmap, MAX_DIMENSION};
 use jbig2_base::bitmap::operator::CombinationOperator;
 use jbig2_base::bitmap::part::Area;
 use jbig2_base::bitmap::steps::Steps;
+use jbig2_base::bitmap::{Bitmap, MAX_DIMENSION};
 use jbig2_base::error::{DecodeError, OverflowError, ParseError, Result};
 use jbig2_base::field::{byte_field, u32_field};
 use jbig2_base::reader::Reader;

@@ -60,10 +60,20 @@ impl Template {
                 [AdaptiveTemplatePixel { x: 3, y: -1 }, second, third, fourth]
             }
             Template::Template1 => {
-                [AdaptiveTemplatePixel { x: 3, y: -1 }, unused, unused, unused]
+                [
+                    AdaptiveTemplatePixel { x: 3, y: -1 },
+                    unused,
+                    unused,
+                    unused,
+                ]
             }
             Template::Template2 | Template::Template3 => {
-                [AdaptiveTemplatePixel { x: 2, y: -1 }, unused, unused, unused]
+                [
+                    AdaptiveTemplatePixel { x: 2, y: -1 },
+                    unused,
+                    unused,
+                    unused,
+                ]
             }
         }
     }

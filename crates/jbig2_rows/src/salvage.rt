@@ -3,7 +3,9 @@ use crate::case::{Answer, refused_as};
 use crate::drawing::drawing_holds;
 use crate::file_case::{FilePage, all_pages_hold};
 use crate::spelling::spelled;
-use hayro_jbig2::{DecodeError, DecoderContext, File, Globals, Page, PassedOver, Result, WorkLimit};
+use hayro_jbig2::{
+    DecodeError, DecoderContext, File, Globals, Page, PassedOver, Result, WorkLimit,
+};
 use std::alloc::Allocator;
 
 /// One case of salvage. `spelling::spelled` reads its bytes.
@@ -62,7 +64,11 @@ pub fn salvage_holds<A: Allocator + Clone>(
             let (Some(globals), Some(bytes)) = (globals, bytes) else {
                 return Ok(false);
             };
-            let globals = match Globals::salvaged(alloc.clone()?, &globals, &mut WorkLimit::new(None)) {
+            let globals = match Globals::salvaged(
+                alloc.clone()?,
+                &globals,
+                &mut WorkLimit::new(None),
+            ) {
                 Ok(globals) => globals,
                 Err(error) => return refused_as(error, None),
             };

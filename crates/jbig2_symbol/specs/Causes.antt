@@ -51,7 +51,7 @@ BreaksSymbolFields flags bytes (errors.Huffman huffman.InvalidSelection) =
 BreaksSymbolFields flags bytes (errors.Template InvalidAtPixel) =
     (flags % 2 ≢ 1)
     × BreaksPixels (adaptive_pixel_count false false (template_of (flags / 1024 % 4))) 2 bytes
-        (errors.Template InvalidAtPixel)
+    (errors.Template InvalidAtPixel)
 BreaksSymbolFields flags bytes (errors.Overflow SymbolCount) =
     (counts_place flags + 8 ≤ length bytes)
     × ((max_new_symbols < number_in w32 (counts_place flags) bytes) ⊎ (max_new_symbols < number_in w32 (counts_place flags + 4) bytes))
@@ -136,7 +136,7 @@ BreaksCodedAggregate d new width height s e =
     After (by_procedure Iaai s) (λ (value, _). BreaksCount value e)
     ⊎ After (instance_count (by_procedure Iaai s)) (λ (count, after_count).
     BreaksByInstances coder_causes by_coder (λ c. Ok (next_id c)) (λ c _. ⊥) (aggregate_params d new count) width height
-        after_count.contexts.refining after_count.coding e)
+    after_count.contexts.refining after_count.coding e)
 
 -- by prefix codes, where the id of a single instance may lack bits
 abbrev pub BreaksPrefixedAggregate : SymbolInput → List Grid → ℕ → ℕ → SymbolState Place → DecodeError → Type 0
@@ -146,9 +146,9 @@ BreaksPrefixedAggregate d new width height s e =
     ⊎ After (instance_count (by_table d.tables.counts s)) (λ (count, after_count).
     let bits = max 1 (id_bits d.header (length d.symbols)) in
     let lacks : Prefixed → DecodeError → Type 0 =
-        λ c err. (err ≡ errors.Parse UnexpectedEof) × (length (bits_left c.place) < bits) in
+    λ c err. (err ≡ errors.Parse UnexpectedEof) × (length (bits_left c.place) < bits) in
     BreaksByInstances prefix_causes by_prefix_codes (plain_id bits) lacks (aggregate_params d new count) width height
-        after_count.contexts.refining (prefixed_at d after_count.coding) e)
+    after_count.contexts.refining (prefixed_at d after_count.coding) e)
 
 -- A collective bitmap (6.5.9), after the value of its size. Only strict mode requires MMR data to be complete.
 abbrev pub BreaksSized : Bool → ℕ → ℕ → Option ℤ → List ℕ → DecodeError → Type 0

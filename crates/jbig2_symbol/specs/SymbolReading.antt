@@ -94,7 +94,7 @@ first_contexts flags kept =
     if not flags.bitmap_context_used then Ok (fresh_bitmap_contexts flags)
     else (some_or (errors.Symbol Invalid) kept >>= λ c.
     let same = is_template c.template flags.template
-        && is_refinement_template c.refinement_template flags.refinement_template in
+    && is_refinement_template c.refinement_template flags.refinement_template in
     refuse_if (not same) (errors.Symbol Invalid) >>= λ _. Ok c)
 
 -- What is needed to decode a dictionary, besides the state. `ids` are the codes of the ids in aggregate symbols.

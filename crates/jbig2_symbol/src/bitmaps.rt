@@ -11,9 +11,9 @@ ghost use Rattle.jbig2_symbol.specs.SymbolBitmaps.{symbols_cut, raw_pixel, raw_s
 ghost use Rattle.jbig2_symbol.specs.inner.SymbolViews.{bytes_of_rows, symbols_after, with_no_value};
 
 use crate::aggregates::SymbolSize;
-use jbig2_base::bitmap::{Bitmap, MAX_AREA};
 use jbig2_base::bitmap::part::Area;
 use jbig2_base::bitmap::steps::{Steps, Work};
+use jbig2_base::bitmap::{Bitmap, MAX_AREA};
 use jbig2_base::error::{OverflowError, RegionError, Result};
 use jbig2_base::field::bytes_field;
 use jbig2_base::reader::Reader;

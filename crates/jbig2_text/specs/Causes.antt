@@ -131,7 +131,7 @@ module _ {S : Type 0} (c : ReadingCauses S) (r : Readings S) (flags : TextRegion
   abbrev pub BreaksStrip : ℤ → ℤ → S → DecodeError → Type 0
   BreaksStrip stript firsts s e =
       ((e ≡ Symbol InvalidStripDelta)
-          × After (r.delta_t s) (λ (strips, _). LeavesWord (strips *ℤ pos (2 ^ flags.log_strip_size))))
+      × After (r.delta_t s) (λ (strips, _). LeavesWord (strips *ℤ pos (2 ^ flags.log_strip_size))))
       ⊎ ((e ≡ Overflow PlacementCoordinate) × After (strip_delta r flags s) (λ (dt, after).
       LeavesWord (stript +ℤ dt) ⊎ After (r.first_s after) (λ (dfs, _). LeavesWord (firsts +ℤ dfs))))
       ⊎ c.delta_t s e
@@ -164,9 +164,9 @@ APlaceLeaves flags g curs ti =
     let si : ℤ = if is_last_along_s flags then other_end else curs in
     LeavesWord other_end
     ⊎ ((is_right flags.reference_corner ≡ true)
-        × LeavesWord ((if flags.transposed then ti else si) -ℤ (pos g.width -ℤ pos 1)))
+    × LeavesWord ((if flags.transposed then ti else si) -ℤ (pos g.width -ℤ pos 1)))
     ⊎ ((is_bottom flags.reference_corner ≡ true)
-        × LeavesWord ((if flags.transposed then si else ti) -ℤ (pos g.height -ℤ pos 1)))
+    × LeavesWord ((if flags.transposed then si else ti) -ℤ (pos g.height -ℤ pos 1)))
 
 -- one of the four numbers of a refinement is refused, or the bits of the symbol after them
 abbrev pub ARefinementIsRefused : {S : Type 0} → ReadingCauses S → Readings S → S → DecodeError → Type 0
@@ -217,7 +217,7 @@ BreaksInstances c r p region f s e =
     ((e ≡ Symbol TooManyInstances) × ((32 * p.data_length < p.count)
     ⊎ AtEnd r p region f s (λ u. After (r.delta_s u) (λ ids. (n : ℤ) × (ids ≡ Some n)))))
     ⊎ ((e ≡ Symbol InvalidStripDelta)
-        × After (r.delta_t s) (λ (strips, _). LeavesWord (strips *ℤ pos (2 ^ p.flags.log_strip_size))))
+    × After (r.delta_t s) (λ (strips, _). LeavesWord (strips *ℤ pos (2 ^ p.flags.log_strip_size))))
     ⊎ ((e ≡ Overflow PlacementCoordinate) × After (strip_delta r p.flags s) (λ (dt, _). LeavesWord (pos 0 -ℤ dt)))
     ⊎ c.delta_t s e
     ⊎ After (strip_delta r p.flags s) (λ (dt, after). BreaksStrip c r p.flags (pos 0 -ℤ dt) (pos 0) after e)

@@ -12,10 +12,10 @@ ghost use Rattle.hayro_jbig2.specs.Returned.{IsReturned};
 ghost use Rattle.hayro_jbig2.specs.inner.KeptViews.{found};
 ghost use Rattle.jbig2_steps.specs.Work.{IsWithinLimit, Paid, worth};
 
-use crate::drawing::work_limit::WorkLimit;
 use crate::drawing::dictionaries::{extension, keep_patterns, keep_symbols, keep_table};
 use crate::drawing::passed_over::PassedOver;
 use crate::drawing::pay_segment;
+use crate::drawing::work_limit::WorkLimit;
 use crate::drawing::workspace::Workspace;
 use crate::kept::names::KeptNames;
 use crate::settings::DecodeSettings;
@@ -128,12 +128,7 @@ impl<A: Allocator + Clone> Globals<A> {
 
     /// The globals in `bytes`.
     #[tactic(auto, unfolding(crate::specs::Names::globals_at))]
-    fn read(
-        alloc: A,
-        bytes: &[u8],
-        reading: Reading,
-        work: &mut WorkLimit,
-    ) -> Result<Globals<A>>
+    fn read(alloc: A, bytes: &[u8], reading: Reading, work: &mut WorkLimit) -> Result<Globals<A>>
         ensures value { Gives (λ globals. globals) result (globals_at reading bytes.now) }
         ensures errors { IfErr result IsReturned }
         ensures limit { Takes 0 work.old work.new }

@@ -38,7 +38,9 @@ fn end_of(info: &RegionSegmentInfo) -> u32
     if info.y_location >= 0x8000_0000 {
         return info.height.saturating_sub(above).min(MAX_DIMENSION);
     }
-    info.y_location.saturating_add(info.height).min(MAX_DIMENSION)
+    info.y_location
+        .saturating_add(info.height)
+        .min(MAX_DIMENSION)
 }
 
 /// How high a page is that ends with this region. It is 0 for all but an immediate region that can be read and drawn.
