@@ -52,29 +52,15 @@ impl Template {
         ensures used { four_pixels self result ≡ nominal_adaptive_pixels self }
     {
         let unused = AdaptiveTemplatePixel { x: 0, y: 0 };
+        let near = AdaptiveTemplatePixel { x: 2, y: -1 };
+        let far = AdaptiveTemplatePixel { x: 3, y: -1 };
         let second = AdaptiveTemplatePixel { x: -3, y: -1 };
         let third = AdaptiveTemplatePixel { x: 2, y: -2 };
         let fourth = AdaptiveTemplatePixel { x: -2, y: -2 };
         match self {
-            Template::Template0 => {
-                [AdaptiveTemplatePixel { x: 3, y: -1 }, second, third, fourth]
-            }
-            Template::Template1 => {
-                [
-                    AdaptiveTemplatePixel { x: 3, y: -1 },
-                    unused,
-                    unused,
-                    unused,
-                ]
-            }
-            Template::Template2 | Template::Template3 => {
-                [
-                    AdaptiveTemplatePixel { x: 2, y: -1 },
-                    unused,
-                    unused,
-                    unused,
-                ]
-            }
+            Template::Template0 => [far, second, third, fourth],
+            Template::Template1 => [far, unused, unused, unused],
+            Template::Template2 | Template::Template3 => [near, unused, unused, unused],
         }
     }
 }
