@@ -211,3 +211,31 @@ fn pages_take_units_of_a_counter(rt: HostRuntime) {
     }
     assert!(rt; left == Ok([8_720, 7_440, 6_160]));
 }
+
+/// How many of 10,000 units are left after a white page of 8 by 1 pixels is written as bytes, and then as packed rows.
+fn left_by_images(alloc: Global) -> Result<[Option<u64>; 2]> {
+    let bytes = bytes_of(alloc, "P")?;
+    let page = Page::new_embedded(alloc, &bytes, None, &LENIENT)?;
+    if page.dimensions() != (8, 1) {
+        return Err(DecodeError::Unsupported);
+    }
+    let mut limit = WorkLimit::new(Some(10_000));
+    let mut image = [7; 8];
+    page.read_image_within(&mut image, &mut limit)?;
+    let read = limit.left();
+    let mut rows = [7; 1];
+    page.read_packed_within(&mut rows, &mut limit)?;
+    if image != [255; 8] || rows != [0] || WorkLimit::new(None).left().is_some() {
+        return Err(DecodeError::Unsupported);
+    }
+    Ok([read, limit.left()])
+}
+
+#[test]
+fn images_take_units_of_a_limit(rt: HostRuntime) {
+    let mut left = left_by_images(rt.alloc());
+    if left == Err(DecodeError::OutOfMemory) {
+        left = left_by_images(rt.alloc());
+    }
+    assert!(rt; left == Ok([Some(8_720), Some(7_440)]));
+}
