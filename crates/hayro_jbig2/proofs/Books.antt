@@ -22,6 +22,7 @@ use Rattle.jbig2_base.specs.declared.reading.Reading.TheVariants.{Lenient}
 use Rattle.hayro_jbig2.specs.Files.{PageInFile, ReadFile, of_page, by_pages, ends_of, error_of, before_pages, page_in_file, pages_in_file, left_out_of, numbers_after, miscounts, associated, book_at, page_in, shared_by, PagesStandAlone}
 use Rattle.hayro_jbig2.specs.Names.{shared_from, names_of, nothing_shared}
 use Rattle.hayro_jbig2.specs.Page.{ReadPage, beginning_of, known_height}
+use Rattle.hayro_jbig2.specs.WorkLimit.{shared_count}
 
 from_front : {X Y : Type 0} (f : X → Y) (xs : List X) (i : ℕ) → i < length xs → TakesFirst (λ (y : Y). y) (map f (drop i xs)) (option_map f (slice_get xs i)) (map f (drop (suc i) xs))
 from_front f [] i h = absurd (omega arith)
@@ -191,6 +192,15 @@ shares_none reading (p ∷ pages) shared none = absurd (let long : length (p ∷
 pub shares_some : (reading : Reading) (pages : List PageInFile) (shared : List SegmentView) → (length pages == 0) ≡ false → shared_by reading pages shared ≡ shared_from reading shared (nothing_shared None)
 shares_some reading [] shared some = absurd (cc)
 shares_some reading (p ∷ pages) shared some = refl
+
+-- how many segments are decoded for what the pages share
+pub counts_none : (pages : List PageInFile) (shared : List SegmentView) → (length pages == 0) ≡ true → shared_count pages shared ≡ 0
+counts_none [] shared none = refl
+counts_none (p ∷ pages) shared none = absurd (let long : length (p ∷ pages) ≡ 0 = eqb-true (length (p ∷ pages)) 0 none in omega arith)
+
+pub counts_some : (pages : List PageInFile) (shared : List SegmentView) → (length pages == 0) ≡ false → shared_count pages shared ≡ length shared
+counts_some [] shared some = absurd (cc)
+counts_some (p ∷ pages) shared some = refl
 
 pub record Mapped {X Y : Type 0} (f : X → Y) (o : Option X) (y : Y) : Type 0 where
   pub from : X

@@ -10,8 +10,9 @@ use Rattle.jbig2_base.specs.declared.error.DecodeError.{DecodeError}
 use Rattle.jbig2_base.specs.declared.error.DecodeError.TheVariants.{OutOfMemory}
 use Rattle.jbig2_steps.proofs.WorkLemmas.{counts-worth, price-least, row-paid}
 use Rattle.jbig2_steps.specs.declared.work.Work.{Work}
-use Rattle.jbig2_steps.specs.Counts.{Counts}
-use Rattle.jbig2_steps.specs.Work.{CountsWithin, Paid, PaidBut, price_of_bitmap, words_of_row, worth}
+use Rattle.jbig2_steps.specs.Counts.{Counts, no_steps}
+use Rattle.jbig2_steps.specs.Work.{CountsWithin, counted, Paid, PaidBut, price_of_bitmap, words_of_row, worth}
+use Rattle.hayro_jbig2.specs.WorkLimit.{Limit, Takes, after_call}
 use Rattle.hayro_jbig2.specs.Page.{Drawing, ReadPage, drawing_of_page}
 use Rattle.hayro_jbig2.specs.declared.region.parsed_region.ParsedRegion.{ParsedRegion}
 use Rattle.hayro_jbig2.specs.declared.region.parsed_region.ParsedRegion.TheVariants.{Text, Halftone, Generic, Refinement, PageRefinement}
@@ -26,6 +27,18 @@ pub counts-paid : {L : Type 0} (w0 w1 : Work L) (steps : Counts) (price : ℕ) �
 counts-paid w0 w1 steps price taken counts =
     let more : PaidBut (32 * price) w1 (record w1 { steps = steps }) = counts-worth w1 steps (32 * price) counts in
     omega (arith, more, taken)
+
+-- what a call takes from a limit, by what its counter was worth
+pub limit-taken : {L : Type 0} (limit after : Limit) (old new : Work L) (units : ℕ) → after ≡ after_call new limit → old.steps ≡ no_steps → old.left ≡ limit.left → worth new + 32 * units ≤ worth old → Takes units limit after
+unfolding worth
+limit-taken {L} limit after old new units is none left paid =
+    let nothing : counted old.steps ≡ 0 = ap (λ (s : Counts). counted s) none in
+    subst (λ (l : Limit). Takes units limit l) (sym is) (refl, omega (arith, nothing, left, paid))
+
+-- the same where the call succeeds
+pub limit-taken-by : {L T E : Type 0} (result : Result T E) (limit after : Limit) (old new : Work L) (units : ℕ) → after ≡ after_call new limit → old.steps ≡ no_steps → old.left ≡ limit.left → IfOk result (λ _. worth new + 32 * units ≤ worth old) → IfOk result (λ _. Takes units limit after)
+limit-taken-by (Ok x) limit after old new units is none left paid = limit-taken limit after old new units is none left paid
+limit-taken-by (Err e) limit after old new units is none left paid = tt
 
 -- ---- regions
 -- one bitmap of its size, and what it takes besides, pay for a region

@@ -146,3 +146,10 @@ returns-then-miscounts-clause-causes g c =
     ap (λ (b : Bool). b && miscounts file.0.number_of_pages (length parts.1)) (sym mode ∙ c.if-strict.true)
     ∙ ap (λ (n : ℕ). miscounts file.0.number_of_pages n) (length_is ∙ sym (c.len.ensures ∙ c.in_ok-segments.segments.pages.ok.0)) ∙ sym c.miscounts.ensures ∙ c.if-miscounts.true in
     file_cause reading c.args.bytes.now _ (inr (book-miscounted reading c.args.bytes.now file parts c.in_ok-file.ensures.value known split.1 counted))
+
+pub returns-clause-taken : goal.returns-clause-taken
+returns-clause-taken g c =
+    let file : FileHeader × List SegmentView = file_view c.in_ok-file.file in
+    let parts : List SegmentView × List (List SegmentView) = by_page_view c.in_ok-segments.segments in
+    let split = parts-are (of_page 0 file.1) (by_pages file.1) parts c.in_ok-segments.ensures in
+    rw (c.in_ok-file.ensures.value, split.0, sym c.deref-2.ensures.value, sym c.deref-3.ensures.value) c.in_ok-globals.ensures.taken

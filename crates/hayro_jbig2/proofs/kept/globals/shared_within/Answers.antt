@@ -71,4 +71,4 @@ pub returns-in-Err-clause-limit : goal.returns-in-Err-clause-limit
 returns-in-Err-clause-limit g c = paid-limit c.args.work.now c.add.new.work (omega (arith, c.loop-segment.invariant.paid, c.in_ok-pay_segment.ensures.paid, c.add.ensures.paid))
 
 pub returns-clause-limit : goal.returns-clause-limit
-returns-clause-limit g c = paid-limit c.args.work.now c.loop-segment.work c.loop-segment.invariant.paid
+returns-clause-limit g c = paid-limit c.args.work.now c.loop-segment.work (omega (arith, c.loop-segment.invariant.paid))
