@@ -4,7 +4,7 @@ use Rattle.jbig2_base.specs.Grid.{Grid}
 use Rattle.jbig2_base.specs.Writes.{with_pixels}
 use Rattle.jbig2_region.specs.inner.Neighbours.{IsLeft, AreAtByte}
 use Rattle.jbig2_region.specs.inner.PushedPixels.{CountsGroup, PushesGroup, IsAtGroup}
-use Rattle.jbig2_region.proofs.generic_kernel.bytes.push_group.Given as goal
+use Rattle.jbig2_region.proofs.generic_kernel.nominal.push_group.Given as goal
 use Rattle.jbig2_region.specs.inner.RegionStates.{decoder_state}
 
 abbrev pub invariant-loop-done : goal.invariant-loop-done

@@ -11,7 +11,7 @@ use Rattle.jbig2_region.proofs.CountLemmas.{counts-none, counts-then, counts-las
 use Rattle.jbig2_region.proofs.PushLemmas.{left-stored}
 use Rattle.jbig2_region.proofs.StoreLemmas.{decodes-none, decodes-then, left-none, stored-above}
 use Rattle.jbig2_region.proofs.WindowLemmas.{shows-less, shows-same}
-use Rattle.jbig2_region.proofs.generic_kernel.bytes.decode_row_by_bytes.Goals as goal
+use Rattle.jbig2_region.proofs.generic_kernel.nominal.decode_row_by_bytes.Goals as goal
 use Rattle.jbig2_region.specs.inner.RegionStates.{region_state}
 
 pub loop-group-init : goal.loop-group-init

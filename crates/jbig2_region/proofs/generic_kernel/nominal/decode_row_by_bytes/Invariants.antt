@@ -2,7 +2,7 @@ use Rattle.std.proofs.Common.{◌≡◌, ◌<◌, ◌≤◌, ◌+◌, ◌-◌, �
 use Rattle.jbig2_base.specs.Counts.{KeepsLanes}
 use Rattle.jbig2_region.specs.inner.Neighbours.{DecodesPixels, IsLeft, Shows, ShowsBefore, nominal_pixels}
 use Rattle.jbig2_region.specs.inner.RowCounts.{CountsRuns}
-use Rattle.jbig2_region.proofs.generic_kernel.bytes.decode_row_by_bytes.Given as goal
+use Rattle.jbig2_region.proofs.generic_kernel.nominal.decode_row_by_bytes.Given as goal
 use Rattle.jbig2_region.specs.inner.RegionStates.{region_state}
 
 abbrev pub invariant-loop-group : goal.invariant-loop-group

@@ -9,7 +9,7 @@ use Rattle.jbig2_region.proofs.CountLemmas.{counts-none, counts-then}
 use Rattle.jbig2_region.proofs.GroupLemmas.{byte-first, byte-run, group-same}
 use Rattle.jbig2_region.proofs.PushLemmas.{few-next, left-stored, stored-bytes}
 use Rattle.jbig2_region.proofs.StoreLemmas.{decodes-start, decodes-then, left-start, stored-above}
-use Rattle.jbig2_region.proofs.generic_kernel.bytes.push_group.Goals as goal
+use Rattle.jbig2_region.proofs.generic_kernel.nominal.push_group.Goals as goal
 use Rattle.jbig2_region.specs.inner.RegionStates.{decoder_state, region_state}
 
 pub loop-done-init : goal.loop-done-init
