@@ -45,7 +45,7 @@ use crate::generic_kernel::narrow::decode_narrow;
 use crate::generic_kernel::nominal::decode_nominal_row;
 use crate::generic_kernel::pixels::decode_row_by_pixels;
 use crate::generic_kernel::windows::pixels_above;
-use crate::raster::begin_row;
+use crate::row_decision::begin_row;
 use crate::template::neighbours::Layout;
 use jbig2_base::bitmap::Bitmap;
 use jbig2_base::bitmap::steps::Steps;

@@ -9,5 +9,6 @@ pub mod raster;
 mod refinement_coding;
 mod refinement_kernel;
 pub mod region_info;
+mod row_decision;
 pub mod skipping;
 pub mod template;

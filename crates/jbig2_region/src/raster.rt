@@ -1,13 +1,14 @@
 //! Decodes regions pixel by pixel (T.88, 6.2.5 and 6.3.5): the common part of generic regions and
 //! refinements.
-ghost use Rattle.std.specs.Prelude.{◌≡◌, ℕ, ◌+◌, ◌*◌, ◌^◌, ◌<◌, ◌≤◌, [], length, IfSome, false, Ok, Some, pos, ◌<ℤ◌};
+ghost use Rattle.std.specs.Prelude.{◌≡◌, ℕ, ◌+◌, ◌*◌, ◌^◌, ◌<◌, ◌≤◌, length, IfSome, false, Ok, Some, pos, ◌<ℤ◌};
 ghost use Rattle.jbig2_base.specs.Results.{Gives};
-ghost use Rattle.jbig2_base.specs.Grid.{Grid, pixel, bit_number, max_side};
+ghost use Rattle.jbig2_base.specs.Grid.{pixel, bit_number, max_side};
 ghost use Rattle.jbig2_region.specs.Steps.{CountsDecided};
-ghost use Rattle.jbig2_region.specs.Raster.{Coding, Region, row_decisions, fresh_contexts};
-ghost use Rattle.jbig2_region.specs.inner.RegionStates.{HasDecoded, BeginsRow, DecodesRegion, IsReady, counted_region, region_state, source_of};
+ghost use Rattle.jbig2_region.specs.Raster.{Coding, fresh_contexts};
+ghost use Rattle.jbig2_region.specs.inner.RegionStates.{DecodesRegion, IsReady, counted_region, region_state, source_of};
 ghost use Rattle.jbig2_region.specs.inner.Stretches.{DecodesPixels};
 
+use crate::row_decision::begin_row;
 use jbig2_base::bitmap::Bitmap;
 use jbig2_base::bitmap::steps::Steps;
 use jbig2_base::error::Result;
@@ -156,56 +157,6 @@ fn decode_row<C: PixelCoding, A: Allocator, L: Ledger>(
     for x in 0..bitmap.width() {
         decode_pixel(coding, row, x, bitmap, decoder, contexts, steps);
     }
-}
-
-/// Decodes the decision that begins a row, in the context with this number. Returns whether the row
-/// is predicted; `predicted` says whether the row above was.
-#[inline(never)]
-fn decide_row<L: Ledger>(
-    context: u32,
-    predicted: bool,
-    decoder: &mut ArithmeticDecoder<'_>,
-    contexts: &mut [ArithmeticDecoderContext],
-    steps: &mut Steps<L>,
-) -> bool
-    requires context { context < length contexts.old }
-    ensures row { (w h : ℕ) (grid : Grid) (r : Region) → r.predicted ≡ predicted
-        → HasDecoded w h decoder.old.bytes r (region_state grid decoder.old contexts.old)
-        → BeginsRow w h (Some context) r result decoder.old
-        (region_state grid decoder.new contexts.new) }
-    ensures bytes { decoder.new.bytes ≡ decoder.old.bytes }
-    ensures steps { steps.new
-        ≡ record steps.old { decisions = steps.old.decisions + row_decisions (Some context) } }
-{
-    let turned = decoder.decode(&mut contexts[context as usize], steps) == 1;
-    if turned {
-        return !predicted;
-    }
-    predicted
-}
-
-/// The same, or `predicted` if no decision begins a row.
-#[inline(always)]
-pub fn begin_row<L: Ledger>(
-    row_context: Option<u32>,
-    predicted: bool,
-    decoder: &mut ArithmeticDecoder<'_>,
-    contexts: &mut [ArithmeticDecoderContext],
-    steps: &mut Steps<L>,
-) -> bool
-    requires context { IfSome row_context (λ k. k < length contexts.old) }
-    ensures row { (w h : ℕ) (grid : Grid) (r : Region) → r.predicted ≡ predicted
-        → HasDecoded w h decoder.old.bytes r (region_state grid decoder.old contexts.old)
-        → BeginsRow w h row_context r result decoder.old
-        (region_state grid decoder.new contexts.new) }
-    ensures bytes { decoder.new.bytes ≡ decoder.old.bytes }
-    ensures steps { steps.new
-        ≡ record steps.old { decisions = steps.old.decisions + row_decisions row_context } }
-{
-    let Some(context) = row_context else {
-        return predicted;
-    };
-    decide_row(context, predicted, decoder, contexts, steps)
 }
 
 /// Decodes a whole region into a white bitmap of its size.

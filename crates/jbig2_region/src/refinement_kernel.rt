@@ -17,11 +17,12 @@ mod lanes;
 mod windows;
 
 use crate::generic_refinement::ReferenceBitmap;
-use crate::raster::{Row, begin_row};
+use crate::raster::Row;
 use crate::refinement_kernel::lanes::{lanes_at, lanes_context};
 use crate::refinement_kernel::windows::{
     RefinementWindows, leading_ones, leading_zeros, windows_at,
 };
+use crate::row_decision::begin_row;
 use crate::template::RefinementTemplate;
 use crate::template::refinement::typical_context;
 use jbig2_base::bitmap::Bitmap;

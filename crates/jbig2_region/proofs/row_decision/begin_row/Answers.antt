@@ -1,7 +1,7 @@
 use Rattle.std.proofs.Common.{rules, subst, sym, ℕ, Option}
 use Rattle.jbig2_region.specs.inner.RegionStates.{BeginsRow, region_state}
 use Rattle.jbig2_region.proofs.RasterLemmas.{begun-plainly}
-use Rattle.jbig2_region.proofs.raster.begin_row.Goals as goal
+use Rattle.jbig2_region.proofs.row_decision.begin_row.Goals as goal
 
 pub returns-in_default-clause-row : goal.returns-in_default-clause-row
 returns-in_default-clause-row g c = λ w h grid r predicted holds. begun-plainly w h _ r _ grid c.args.decoder.now c.args.contexts.now (search rules) predicted holds

@@ -2,7 +2,7 @@ use Rattle.std.proofs.Common.{get_or, true, false, refl}
 use Rattle.std.proofs.lemmas.List.{get_or_default}
 use Rattle.jbig2_coder.specs.Coder.{fresh}
 use Rattle.jbig2_region.proofs.RasterLemmas.{begun-decided, digit-black, digit-white}
-use Rattle.jbig2_region.proofs.raster.decide_row.Goals as goal
+use Rattle.jbig2_region.proofs.row_decision.decide_row.Goals as goal
 
 pub returns-then-turned-clause-row : goal.returns-then-turned-clause-row
 returns-then-turned-clause-row g c = λ w h grid r predicted holds.
