@@ -40,6 +40,7 @@ mod nominal;
 mod pixels;
 mod runs;
 pub(crate) mod windows;
+mod words;
 
 use crate::generic_kernel::narrow::decode_narrow;
 use crate::generic_kernel::nominal::decode_nominal_row;

@@ -10,9 +10,8 @@ ghost use Rattle.jbig2_region.specs.inner.Neighbours.{IsNear, neighbour_count};
 ghost use Rattle.jbig2_region.specs.inner.PushedPixels.{CountsGroup, PushesGroup};
 
 use crate::generic_kernel::bytes::{PushedBytes, push_bytes, push_pixels};
-use crate::generic_kernel::windows::{
-    WideWindows, Windows, last_windows, windows_between, words_after, words_at,
-};
+use crate::generic_kernel::windows::{WideWindows, Windows};
+use crate::generic_kernel::words::{last_windows, windows_between, words_after, words_at};
 use crate::template::Template;
 use crate::template::layouts::nominal_neighbours;
 use crate::template::neighbours::Neighbours;

@@ -1,6 +1,6 @@
 use Rattle.std.proofs.Common.{pos, ◌-ℤ◌, arith}
 use Rattle.jbig2_region.proofs.CarriedLemmas.{window-first_carried, window-second_carried}
-use Rattle.jbig2_region.proofs.generic_kernel.windows.windows_between.Goals as goal
+use Rattle.jbig2_region.proofs.generic_kernel.words.windows_between.Goals as goal
 
 pub returns : goal.returns
 returns c = λ g x y bytes before here after. record {

@@ -1,6 +1,6 @@
 use Rattle.std.proofs.Common.{pos, ◌-ℤ◌}
 use Rattle.jbig2_region.proofs.WindowLemmas.{window-word}
-use Rattle.jbig2_region.proofs.generic_kernel.windows.words_at.Goals as goal
+use Rattle.jbig2_region.proofs.generic_kernel.words.words_at.Goals as goal
 
 pub returns-clause-value : goal.returns-clause-value
 returns-clause-value g c = record {

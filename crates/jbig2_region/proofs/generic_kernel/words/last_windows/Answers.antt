@@ -2,7 +2,7 @@ use Rattle.std.proofs.Common.{arith, subst, ◌+◌, ◌*◌, ◌%◌, ℕ}
 use Rattle.jbig2_region.specs.declared.generic_kernel.windows.Windows.{Windows}
 use Rattle.jbig2_region.specs.inner.Neighbours.{Shows}
 use Rattle.jbig2_region.proofs.CarriedLemmas.{shows-alone, shows-cut}
-use Rattle.jbig2_region.proofs.generic_kernel.windows.last_windows.Goals as goal
+use Rattle.jbig2_region.proofs.generic_kernel.words.last_windows.Goals as goal
 
 pub returns-clause-alone : goal.returns-clause-alone
 returns-clause-alone c = λ g y none before after. shows-alone g y (8 * ((c.args.whole + 7) % 8)) c.args.words c.args.after _ (omega arith) (omega arith) (omega arith) c.cut.ensures c.cut-2.ensures before after
