@@ -105,7 +105,7 @@ pub fn push_pixels<L: Ledger>(
     requires contexts { length contexts.old ≡ 2 ^ neighbour_count neighbours }
     requires byte { count ≤ 8 }
     requires small { left < 16 }
-    ensures holds { PushesPixels neighbours count left windows count result
+    ensures pixels { PushesPixels neighbours count left windows count result
         (decoder_state decoder.old contexts.old) (decoder_state decoder.new contexts.new) }
     ensures bound { result < 2 ^ count }
     ensures bytes { decoder.new.bytes ≡ decoder.old.bytes }
@@ -154,7 +154,7 @@ pub fn push_bytes<L: Ledger>(
     requires small { left < 16 }
     ensures some { 1 ≤ result.bytes }
     ensures most { result.bytes ≤ most }
-    ensures holds { PushesBytes neighbours most left windows result.bytes result.pixels
+    ensures pixels { PushesBytes neighbours most left windows result.bytes result.pixels
         (decoder_state decoder.old contexts.old) (decoder_state decoder.new contexts.new) }
     ensures decisions { CountsBytes neighbours most left windows result.bytes
         (decoder_state decoder.old contexts.old) steps.old.decisions steps.new.decisions }
