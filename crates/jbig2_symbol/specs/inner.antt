@@ -1,3 +1,4 @@
+pub mod ClassWork
 pub mod HeaderViews
 pub mod JoinedRuns
 pub mod SymbolViews

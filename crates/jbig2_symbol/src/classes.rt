@@ -4,14 +4,14 @@ ghost use Rattle.jbig2_base.specs.Results.{Returns, Gives};
 ghost use Rattle.jbig2_base.specs.Causes.{HasCause, HasCauseOrNoMemory};
 ghost use Rattle.jbig2_steps.specs.Work.{PaidBut};
 ghost use Rattle.jbig2_text.specs.Paying.{number_steps};
-ghost use Rattle.jbig2_symbol.specs.Paying.{PaidButSymbols, PaysSymbols};
 ghost use Rattle.jbig2_symbol.specs.Causes.{BreaksEmptyClass, BreaksHeightClass};
 ghost use Rattle.jbig2_symbol.specs.HeightClasses.{drawn_class, empty_class, height_class, new_symbols, symbols_from};
-ghost use Rattle.jbig2_symbol.specs.inner.SymbolViews.{concat, class_after, input_view};
+ghost use Rattle.jbig2_symbol.specs.inner.ClassWork.{HasRoom, PaidButClass, PaysClass};
+ghost use Rattle.jbig2_symbol.specs.inner.SymbolViews.{concat, class_after, input_view, room_after};
 
 use crate::aggregates::SymbolSize;
 use crate::input::SymbolInput;
-use crate::readings::{ReadClasses, ReadSymbols};
+use crate::readings::{HeightClass, ReadClasses, ReadSymbols};
 use crate::widths::{RunningWidths, next_size};
 use jbig2_base::bitmap::Bitmap;
 use jbig2_base::bitmap::steps::Work;
@@ -51,23 +51,22 @@ pub fn check_class(symbols: usize, empty: u32) -> Result<()>
 fn read_symbols<R: ReadSymbols<A>, A: Allocator + Clone, L: Ledger>(
     alloc: A,
     input: &SymbolInput<'_, A>,
-    room: u32,
     height: u32,
     bitmaps: &mut Vec<Bitmap<A>, A>,
     readings: &mut R,
     work: &mut Work<L>,
 ) -> Result<()>
+    requires room { HasRoom input.now bitmaps.old.items }
     ensures value { let d = input_view input.now in
         let before = bitmaps.old.items in
         let state = R.state readings.old in
-        let meant = concat before (symbols_from R.readings d room height 0 0 before state) in
-        Gives (λ _. (bitmaps.new.items, R.state readings.new)) result meant }
-    ensures paid { let before = length bitmaps.old.items in
-        PaidButSymbols before (before + room) 1 work.old work.new }
-    ensures exact { let before = length bitmaps.old.items in
-        let after = length bitmaps.new.items in
-        OnOk result (PaysSymbols before after (before + room) 1 work.old work.new) }
+        let read = symbols_from R.readings d (room_after d before) height 0 0 before state in
+        Gives (λ _. (bitmaps.new.items, R.state readings.new)) result (concat before read) }
+    ensures paid { PaidButClass input.now bitmaps.old.items 1 work.old work.new }
+    ensures exact { let before = bitmaps.old.items in
+        OnOk result (PaysClass input.now before bitmaps.new.items 1 work.old work.new) }
 {
+    let room = input.header.num_new_symbols - bitmaps.len() as u32;
     let mut widths = RunningWidths::new(room);
     loop {
         let width = match widths.read_next(input, readings, work) {
@@ -84,34 +83,29 @@ fn read_symbols<R: ReadSymbols<A>, A: Allocator + Clone, L: Ledger>(
     }
 }
 
-/// Reads such a class, after this many empty classes, and adds its symbols to `bitmaps`.
+/// Reads such a class, and adds its symbols to `bitmaps`.
 #[tactic(auto, unfolding(crate::specs::HeightClasses::drawn_class))]
 pub fn read_drawn_class<R: ReadSymbols<A>, A: Allocator + Clone, L: Ledger>(
     alloc: A,
     input: &SymbolInput<'_, A>,
-    height: u32,
-    empty: u32,
+    class: HeightClass,
     bitmaps: &mut Vec<Bitmap<A>, A>,
     readings: &mut R,
     work: &mut Work<L>,
 ) -> Result<()>
-    requires room { length bitmaps.old.items ≤ input.now.header.now.num_new_symbols }
+    requires room { HasRoom input.now bitmaps.old.items }
     ensures value { let d = input_view input.now in
         let before = bitmaps.old.items in
-        let class = drawn_class R.readings d height empty before (R.state readings.old) in
-        Gives (λ _. (bitmaps.new.items, R.state readings.new)) result (concat before class) }
-    ensures paid { let before = length bitmaps.old.items in
-        let most = input.now.header.now.num_new_symbols in
-        PaidButSymbols before most 1 work.old work.new }
-    ensures exact { let before = length bitmaps.old.items in
-        let after = length bitmaps.new.items in
-        let most = input.now.header.now.num_new_symbols in
-        OnOk result (PaysSymbols before after most 1 work.old work.new) }
+        let state = R.state readings.old in
+        let read = drawn_class R.readings d class.height class.empty before state in
+        Gives (λ _. (bitmaps.new.items, R.state readings.new)) result (concat before read) }
+    ensures paid { PaidButClass input.now bitmaps.old.items 1 work.old work.new }
+    ensures exact { let before = bitmaps.old.items in
+        OnOk result (PaysClass input.now before bitmaps.new.items 1 work.old work.new) }
 {
     let before = bitmaps.len();
-    let room = input.header.num_new_symbols - before as u32;
-    read_symbols(alloc, input, room, height, bitmaps, readings, work)?;
-    check_class(bitmaps.len() - before, empty)
+    read_symbols(alloc, input, class.height, bitmaps, readings, work)?;
+    check_class(bitmaps.len() - before, class.empty)
 }
 
 /// Reads one more height class.
@@ -123,7 +117,7 @@ fn read_height_class<R: ReadClasses<A>, A: Allocator + Clone, L: Ledger>(
     readings: &mut R,
     work: &mut Work<L>,
 ) -> Result<()>
-    requires room { length symbols.old.bitmaps.items ≤ input.now.header.now.num_new_symbols }
+    requires room { HasRoom input.now symbols.old.bitmaps.items }
     requires few { symbols.old.empty < 4294967295 }
     ensures value { let d = input_view input.now in
         let before = symbols.old in
@@ -141,13 +135,10 @@ fn read_height_class<R: ReadClasses<A>, A: Allocator + Clone, L: Ledger>(
         HasCauseOrNoMemory result
         (BreaksHeightClass R.readings d before.height before.empty new state) }
     ensures few { OnOk result (symbols.new.empty ≤ symbols.old.empty + 1) }
-    ensures paid { let before = length symbols.old.bitmaps.items in
-        let most = input.now.header.now.num_new_symbols in
-        PaidButSymbols before most 0 work.old work.new }
-    ensures exact { let before = length symbols.old.bitmaps.items in
-        let after = length symbols.new.bitmaps.items in
-        let most = input.now.header.now.num_new_symbols in
-        OnOk result (PaysSymbols before after most 0 work.old work.new) }
+    ensures paid { PaidButClass input.now symbols.old.bitmaps.items 0 work.old work.new }
+    ensures exact { let before = symbols.old.bitmaps.items in
+        let after = symbols.new.bitmaps.items in
+        OnOk result (PaysClass input.now before after 0 work.old work.new) }
 {
     work.pay(CLASS)?;
     let Some(difference) = readings.height_difference(input, work)? else {
@@ -155,8 +146,9 @@ fn read_height_class<R: ReadClasses<A>, A: Allocator + Clone, L: Ledger>(
     };
     let height = next_size(symbols.height, difference)?;
     let before = symbols.bitmaps.len();
-    let bitmaps = &mut symbols.bitmaps;
-    match readings.class_of_height(alloc, input, height, symbols.empty, bitmaps, work) {
+    let empty = symbols.empty;
+    let class = HeightClass { height, empty };
+    match readings.class_of_height(alloc, input, class, &mut symbols.bitmaps, work) {
         Ok(()) => {}
         Err(error) => return Err(error),
     }

@@ -21,7 +21,7 @@ use crate::contexts::WorkingContexts;
 use crate::dictionary::RetainedContexts;
 use crate::header::SymbolDictionaryHeader;
 use crate::input::SymbolInput;
-use crate::readings::{ReadClasses, ReadSymbols};
+use crate::readings::{HeightClass, ReadClasses, ReadSymbols};
 use jbig2_base::bitmap::Bitmap;
 use jbig2_base::bitmap::steps::Work;
 use jbig2_base::error::Result;
@@ -225,12 +225,11 @@ impl<A: Allocator + Clone> ReadClasses<A> for CodedSymbols<'_, A> {
         &mut self,
         alloc: A,
         input: &SymbolInput<'_, A>,
-        height: u32,
-        empty: u32,
+        class: HeightClass,
         bitmaps: &mut Vec<Bitmap<A>, A>,
         work: &mut Work<L>,
     ) -> Result<()> {
-        read_drawn_class(alloc, input, height, empty, bitmaps, self, work)
+        read_drawn_class(alloc, input, class, bitmaps, self, work)
     }
 
     fn export_run<L: Ledger>(

@@ -7,11 +7,11 @@ ghost use Rattle.jbig2_text.specs.TextCoding.{by_prefix_codes};
 ghost use Rattle.jbig2_text.specs.inner.TextViews as texts;
 ghost use Rattle.jbig2_steps.specs.Work.{Paid, PaidBut};
 ghost use Rattle.jbig2_text.specs.Paying.{number_steps};
-ghost use Rattle.jbig2_symbol.specs.Paying.{PaidButSymbols, PaysSymbols};
 ghost use Rattle.jbig2_symbol.specs.Causes.{BreaksCollectiveBitmap, BreaksPrefixedAggregate, BreaksTallClass};
 ghost use Rattle.jbig2_symbol.specs.SymbolBitmaps.{by_instances, collective_bitmap, plain_id, prefixed_aggregate, prefixed_instances};
 ghost use Rattle.jbig2_symbol.specs.SymbolCoding.{collective_class, prefix_codes_start};
 ghost use Rattle.jbig2_symbol.specs.SymbolReading.{SymbolState, by_table};
+ghost use Rattle.jbig2_symbol.specs.inner.ClassWork.{HasRoom, PaidButClass, PaysClass};
 ghost use Rattle.jbig2_symbol.specs.inner.HeaderViews.{contexts_view};
 ghost use Rattle.jbig2_symbol.specs.inner.SymbolViews.{concat, input_view, prefixed_view, size_of_rows, tall_class};
 ghost use Rattle.jbig2_base.specs.Causes.{HasCauseOrNoMemory};
@@ -24,7 +24,7 @@ use crate::classes::{check_class, read_drawn_class};
 use crate::contexts::WorkingContexts;
 use crate::dictionary::RetainedContexts;
 use crate::input::SymbolInput;
-use crate::readings::{ReadClasses, ReadSymbols};
+use crate::readings::{HeightClass, ReadClasses, ReadSymbols};
 use crate::widths::read_widths;
 use jbig2_base::bitmap::steps::Work;
 use jbig2_base::bitmap::{Bitmap, MAX_DIMENSION};
@@ -232,27 +232,24 @@ impl<'a, A: Allocator + Clone> PrefixedSymbols<'a, A> {
         &mut self,
         alloc: A,
         input: &SymbolInput<'_, A>,
-        height: u32,
-        empty: u32,
+        class: HeightClass,
         bitmaps: &mut Vec<Bitmap<A>, A>,
         work: &mut Work<L>,
     ) -> Result<()>
-        requires { length bitmaps.old.items ≤ input.now.header.now.num_new_symbols }
+        requires { HasRoom input.now bitmaps.old.items }
         ensures value { let d = input_view input.now in
             let before = bitmaps.old.items in
-            let class = collective_class d height empty before (prefixed_view self.old) in
-            Gives (λ _. (bitmaps.new.items, prefixed_view self.new)) result (concat before class) }
-        ensures paid { let before = length bitmaps.old.items in
-            let most = input.now.header.now.num_new_symbols in
-            PaidButSymbols before most 1 work.old work.new }
-        ensures exact { let before = length bitmaps.old.items in
-            let after = length bitmaps.new.items in
-            let most = input.now.header.now.num_new_symbols in
-            OnOk result (PaysSymbols before after most 1 work.old work.new) }
+            let state = prefixed_view self.old in
+            let read = collective_class d class.height class.empty before state in
+            Gives (λ _. (bitmaps.new.items, prefixed_view self.new)) result (concat before read) }
+        ensures paid { PaidButClass input.now bitmaps.old.items 1 work.old work.new }
+        ensures exact { let before = bitmaps.old.items in
+            OnOk result (PaysClass input.now before bitmaps.new.items 1 work.old work.new) }
     {
         let room = input.header.num_new_symbols - bitmaps.len() as u32;
         let widths = read_widths(alloc.clone()?, input, room, self, work)?;
-        check_class(widths.each.len(), empty)?;
+        check_class(widths.each.len(), class.empty)?;
+        let height = class.height;
         let total = widths.total;
         if height > MAX_DIMENSION && !widths.each.is_empty() {
             return self.refuse_tall_class(alloc, input, total, height, work);
@@ -318,15 +315,14 @@ impl<A: Allocator + Clone> ReadClasses<A> for PrefixedSymbols<'_, A> {
         &mut self,
         alloc: A,
         input: &SymbolInput<'_, A>,
-        height: u32,
-        empty: u32,
+        class: HeightClass,
         bitmaps: &mut Vec<Bitmap<A>, A>,
         work: &mut Work<L>,
     ) -> Result<()> {
         if input.header.flags.use_refagg {
-            return read_drawn_class(alloc, input, height, empty, bitmaps, self, work);
+            return read_drawn_class(alloc, input, class, bitmaps, self, work);
         }
-        self.read_collective_class(alloc, input, height, empty, bitmaps, work)
+        self.read_collective_class(alloc, input, class, bitmaps, work)
     }
 
     fn export_run<L: Ledger>(

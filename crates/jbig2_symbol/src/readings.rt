@@ -3,8 +3,8 @@ ghost use Rattle.std.specs.Prelude.{◌+◌, ◌*◌, ◌≤◌, length, OnOk};
 ghost use Rattle.jbig2_base.specs.Results.{Returns, Gives};
 ghost use Rattle.jbig2_steps.specs.Work.{PaidBut};
 ghost use Rattle.jbig2_text.specs.Paying.{number_steps};
-ghost use Rattle.jbig2_symbol.specs.Paying.{PaidButSymbols, PaysSymbols};
 ghost use Rattle.jbig2_symbol.specs.SymbolReading.{ClassReadings, SymbolReadings};
+ghost use Rattle.jbig2_symbol.specs.inner.ClassWork.{HasRoom, PaidButClass, PaysClass};
 ghost use Rattle.jbig2_symbol.specs.inner.SymbolViews.{concat, input_view};
 
 use crate::aggregates::SymbolSize;
@@ -15,7 +15,16 @@ use jbig2_base::error::Result;
 use std::alloc::Allocator;
 use std::sync::ledger::Ledger;
 
-/// Reads the symbols of a height class one by one. The caller has already paid for five numbers for each symbol.
+/// A height class that is read next.
+#[derive(Clone, Copy, Debug)]
+pub struct HeightClass {
+    pub height: u32,
+    /// How many classes without a symbol came before it.
+    pub empty: u32,
+}
+
+/// Reads the symbols of a height class one by one. The caller has already paid for five numbers for
+/// each symbol.
 pub trait ReadSymbols<A: Allocator + Clone> {
     ghost State: { Type 0 };
 
@@ -50,8 +59,8 @@ pub trait ReadSymbols<A: Allocator + Clone> {
         ensures paid { PaidBut (number_steps 4) work.old work.new };
 }
 
-/// Reads a dictionary, one height class after the other, and what it exports. The caller has already taken the work of
-/// five numbers for each symbol, and of one more number for each call.
+/// Reads a dictionary, one height class after the other, and what it exports. The caller has
+/// already taken the work of five numbers for each symbol, and of one more number for each call.
 pub trait ReadClasses<A: Allocator + Clone> {
     ghost State: { Type 0 };
 
@@ -70,29 +79,24 @@ pub trait ReadClasses<A: Allocator + Clone> {
             Returns (λ value. (value, state self.new)) result meant }
         ensures paid { PaidBut (number_steps 1) work.old work.new };
 
-    /// Reads a class of this height, after this many empty classes, and adds its symbols to
-    /// `bitmaps` (T.88, 6.5.5, step 4).
+    /// Reads a class, and adds its symbols to `bitmaps` (T.88, 6.5.5, step 4).
     fn class_of_height<L: Ledger>(
         &mut self,
         alloc: A,
         input: &SymbolInput<'_, A>,
-        height: u32,
-        empty: u32,
+        class: HeightClass,
         bitmaps: &mut Vec<Bitmap<A>, A>,
         work: &mut Work<L>,
     ) -> Result<()>
-        requires room { length bitmaps.old.items ≤ input.now.header.now.num_new_symbols }
+        requires room { HasRoom input.now bitmaps.old.items }
         ensures value { let d = input_view input.now in
             let before = bitmaps.old.items in
-            let class = readings.class_of_height d height empty before (state self.old) in
-            Gives (λ _. (bitmaps.new.items, state self.new)) result (concat before class) }
-        ensures paid { let before = length bitmaps.old.items in
-            let most = input.now.header.now.num_new_symbols in
-            PaidButSymbols before most 1 work.old work.new }
-        ensures exact { let before = length bitmaps.old.items in
-            let after = length bitmaps.new.items in
-            let most = input.now.header.now.num_new_symbols in
-            OnOk result (PaysSymbols before after most 1 work.old work.new) };
+            let s = state self.old in
+            let read = readings.class_of_height d class.height class.empty before s in
+            Gives (λ _. (bitmaps.new.items, state self.new)) result (concat before read) }
+        ensures paid { PaidButClass input.now bitmaps.old.items 1 work.old work.new }
+        ensures exact { let before = bitmaps.old.items in
+            OnOk result (PaysClass input.now before bitmaps.new.items 1 work.old work.new) };
 
     /// Reads a run of symbols, all exported or all not, or out of band (T.88, 6.5.10).
     fn export_run<L: Ledger>(

@@ -1,4 +1,4 @@
-use Rattle.std.proofs.Common.{◌≡◌, ◌+◌, ◌*◌, ◌≤◌, length}
+use Rattle.std.proofs.Common.{◌≡◌, ◌+◌, ◌-◌, ◌*◌, ◌≤◌, length}
 use Rattle.jbig2_symbol.specs.HeightClasses.{symbols_from}
 use Rattle.jbig2_symbol.specs.inner.SymbolViews.{concat, input_view}
 use Rattle.jbig2_steps.specs.Work.{worth}
@@ -11,8 +11,8 @@ invariant-loop-width g l =
     record {
       reads :
           concat l.bitmaps.items (symbols_from r.readings (input_view l.input) l.widths.left l.height l.widths.width l.widths.total l.bitmaps.items (r.state l.readings))
-          ≡ concat l.fn.bitmaps.items (symbols_from r.readings (input_view l.input) l.room l.height 0 0 l.fn.bitmaps.items (r.state l.fn.readings));
-      all : length l.bitmaps.items + l.widths.left ≡ length l.fn.bitmaps.items + l.room;
+          ≡ concat l.fn.bitmaps.items (symbols_from r.readings (input_view l.input) (l.input.header.now.num_new_symbols - length l.fn.bitmaps.items) l.height 0 0 l.fn.bitmaps.items (r.state l.fn.readings));
+      all : length l.bitmaps.items + l.widths.left ≡ l.input.header.now.num_new_symbols;
       paid : worth l.work + number_steps (5 * length l.fn.bitmaps.items) ≤ worth l.fn.work + number_steps (5 * length l.bitmaps.items);
     }
 
