@@ -1,6 +1,7 @@
 //! The bitmaps of symbols by prefix codes: those of a height class lie side by side in one
 //! collective bitmap (T.88, 6.5.9).
 ghost use Rattle.std.specs.Prelude.{◌≡◌, ◌+◌, ◌*◌, ◌/◌, ◌<◌, ◌≤◌, false, length, sum, OnOk};
+ghost use Rattle.jbig2_base.specs.Bits.{start_of};
 ghost use Rattle.jbig2_base.specs.Results.{Returns, Gives};
 ghost use Rattle.jbig2_base.specs.Counts.{WritesWithin};
 ghost use Rattle.jbig2_base.specs.Grid.{blank, wide_or_overflow};
@@ -61,6 +62,7 @@ fn check_pixels(width: u32, height: u32) -> Result<()>
 fn raw_bytes<'a>(width: u32, height: u32, reader: &mut Reader<'a>) -> Result<&'a [u8]>
     ensures value { let meant = bytes_of_rows width height reader.old.bytes in
         Returns (λ rows. (rows.now, reader.new.bytes)) result meant }
+    ensures place { OnOk result (reader.new ≡ start_of reader.new.bytes) }
 {
     check_pixels(width, height)?;
     let stride = width.div_ceil(8) as usize;
@@ -78,6 +80,7 @@ fn read_raw_rows<A: Allocator, L: Ledger>(
 ) -> Result<Bitmap<A>>
     ensures value { let meant = raw_rows width height reader.old.bytes in
         Gives (λ bitmap. (bitmap, reader.new.bytes)) result meant }
+    ensures place { OnOk result (reader.new ≡ start_of reader.new.bytes) }
     ensures paid { Paid work.old work.new }
 {
     let bytes = raw_bytes(width, height, reader)?;
@@ -105,6 +108,7 @@ fn read_mmr_rows<A: Allocator, L: Ledger>(
 ) -> Result<Bitmap<A>>
     ensures value { let meant = mmr_bytes strict size sides.width sides.height reader.old.bytes in
         Gives (λ bitmap. (bitmap, reader.new.bytes)) result meant }
+    ensures place { OnOk result (reader.new ≡ start_of reader.new.bytes) }
     ensures paid { Paid work.old work.new }
 {
     let bytes = bytes_field(reader, size)?;
@@ -129,6 +133,7 @@ pub fn read_rows<A: Allocator, L: Ledger>(
     ensures value { let bytes = reader.old.bytes in
         let meant = rows_of_size strict size sides.width sides.height bytes in
         Gives (λ bitmap. (bitmap, reader.new.bytes)) result meant }
+    ensures place { OnOk result (reader.new ≡ start_of reader.new.bytes) }
     ensures paid { Paid work.old work.new }
 {
     if size == 0 {

@@ -1,5 +1,5 @@
 //! Headers of text regions (T.88, 7.4.3.1).
-ghost use Rattle.std.specs.Prelude.{◌≡◌, ◌≤◌, ◌%◌, ◌^◌, IfOk, OnErr, OnOk};
+ghost use Rattle.std.specs.Prelude.{◌≡◌, ◌≤◌, ◌%◌, ◌^◌, IfOk, OnErr};
 ghost use Rattle.jbig2_base.specs.Results.{Returns, Gives};
 ghost use Rattle.jbig2_region.specs.inner.PixelArrays.{filled};
 ghost use Rattle.jbig2_text.specs.SymbolCodes.{max_symbols};

@@ -1,5 +1,5 @@
 //! The prefix codes of the symbols' ids (T.88, 7.4.3.1.7).
-ghost use Rattle.std.specs.Prelude.{◌≡◌, ◌≤◌, ◌^◌, ◌++◌, [], length, replicate, IfOk, Ok, OnOk};
+ghost use Rattle.std.specs.Prelude.{◌≡◌, ◌≤◌, ◌^◌, ◌++◌, [], length, replicate, IfOk, Ok};
 ghost use Rattle.jbig2_base.specs.Results.{Gives};
 ghost use Rattle.jbig2_base.specs.Bits.{start_of};
 ghost use Rattle.jbig2_coder.specs.PrefixCode.{AreShort, table_of};
