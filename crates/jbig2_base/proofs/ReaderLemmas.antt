@@ -1,10 +1,11 @@
--- One bit on, and n bits on.
-use Rattle.std.proofs.Common.{◌≡◌, ℕ, ◌+◌, ◌-◌, ◌/◌, ◌%◌, ◌^◌, ◌<◌, ◌≤◌, suc, zero, List, [], ◌∷◌, ◌++◌, length, take, drop, get_or, Option, Some, None, nat_lt, refl, sym, ◌∙◌, ap, arith, bit_and}
+-- One bit on, n bits on, and bytes on.
+use Rattle.std.proofs.Common.{◌≡◌, ℕ, ◌+◌, ◌-◌, ◌/◌, ◌%◌, ◌^◌, ◌<◌, ◌≤◌, suc, zero, List, [], ◌∷◌, ◌++◌, length, take, drop, get_or, Option, Some, None, Result, Ok, Err, OnOk, nat_lt, refl, sym, ◌∙◌, ap, arith, bit_and}
 use Rattle.std.specs.List.{flat_map}
 use Rattle.std.proofs.lemmas.List.{drop_more, drop_all, drop-drop}
 use Rattle.std.proofs.lemmas.Nat.Bits.{shr_and_one}
 use Rattle.std.proofs.lemmas.Bool.{cond-true, cond-false, cond_both, lt-ltb, le-ltb, ltb-false}
-use Rattle.jbig2_base.specs.Bits.{Place, start_of, byte_bits, bits_left, bits_next, bits_on, number_after}
+use Rattle.jbig2_base.specs.Bits.{Place, start_of, byte_bits, bits_left, bits_next, bits_on, bytes_on, number_after}
+use Rattle.jbig2_base.specs.declared.error.DecodeError.{DecodeError}
 
 -- the place at byte i and bit k of xs
 abbrev pub place_in : List ℕ → ℕ → ℕ → Place
@@ -99,3 +100,13 @@ unfolding bits_on
 end-on n = sym (cond_both (nat_lt (length (bits_left (start_of []))) n) (start_of []) (record { bytes = drop ((0 + n) / 8) []; bit = (0 + n) % 8 }) (λ q. q ≡ start_of []) (λ _. refl)
     (λ e. let none : n ≡ 0 = omega (arith, ltb-false (length (bits_left (start_of []))) n e, ap length end-bits) in
     ap (λ (m : ℕ). record { bytes = drop ((0 + m) / 8) []; bit = (0 + m) % 8 }) none))
+
+-- bytes that are read leave the place at the beginning of a byte
+bytes_on-start : (count : ℕ) (p q : Place) → q ≡ bytes_on count p → length q.bytes + count ≡ length p.bytes → q ≡ start_of q.bytes
+bytes_on-start count p q on taken =
+    let there : q ≡ start_of (drop count p.bytes) = on ∙ cond-false (nat_lt (length p.bytes) count) p (start_of (drop count p.bytes)) (le-ltb (length p.bytes) count (omega arith)) in
+    there ∙ sym (ap (λ (r : Place). start_of r.bytes) there)
+
+pub bytes_read-start : {X : Type 0} (r : Result X DecodeError) (count : ℕ) (p q : Place) → q ≡ bytes_on count p → OnOk r (length q.bytes + count ≡ length p.bytes) → OnOk r (q ≡ start_of q.bytes)
+bytes_read-start (Ok x) count p q on taken = bytes_on-start count p q on taken
+bytes_read-start (Err e) count p q on taken = tt

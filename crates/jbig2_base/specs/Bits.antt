@@ -1,6 +1,7 @@
 -- Bytes as a list of bits, high bit first, and a place in it (T.88, 7.1: big-endian). `_next` is what comes next, `_on`
--- is the place after it. A refused read of bits moves to the end. A refused read of bytes does not move.
-use Rattle.std.specs.Prelude.{◌≡◌, ℕ, ◌+◌, ◌*◌, ◌/◌, ◌%◌, nat_lt, ◌==◌, List, [], ◌∷◌, length, take, drop, Option, Some}
+-- is the place after it. A refused read of bits moves to the end. A read of bytes begins with the current byte, whole,
+-- and leaves the place at the beginning of a byte. A refused read of bytes does not move.
+use Rattle.std.specs.Prelude.{ℕ, ◌+◌, ◌*◌, ◌/◌, ◌%◌, nat_lt, ◌==◌, List, [], ◌∷◌, length, take, drop, Option, Some}
 use Rattle.std.specs.Prelude.{None, if◌then◌else◌, ◌^◌, Bool}
 use Rattle.std.specs.List.{flat_map}
 use Rattle.std.specs.Int.{Width, byte_len, from_be_bytes}
@@ -11,9 +12,6 @@ pub record Place : Type 0 where  -- the bytes from the current one on, and how m
 
 abbrev pub start_of : List ℕ → Place
 start_of bytes = record { bytes = bytes; bit = 0 }
-
-abbrev pub IsAligned : Place → Type 0
-IsAligned p = p.bit ≡ 0
 
 abbrev pub byte_bits : ℕ → List ℕ  -- the eight bits of a byte, high bit first
 byte_bits b = b / 128 % 2 ∷ b / 64 % 2 ∷ b / 32 % 2 ∷ b / 16 % 2 ∷ b / 8 % 2 ∷ b / 4 % 2 ∷ b / 2 % 2 ∷ b / 1 % 2 ∷ []
@@ -43,7 +41,7 @@ abbrev pub number_next : Width → Place → Option ℕ  -- the same as a number
 number_next w p = if nat_lt (length p.bytes) (byte_len w) then None else Some (from_be_bytes w (take (byte_len w) p.bytes))
 
 abbrev pub bytes_on : ℕ → Place → Place  -- the place after them; the same place if there are fewer
-bytes_on count p = if nat_lt (length p.bytes) count then p else record p { bytes = drop count p.bytes }
+bytes_on count p = if nat_lt (length p.bytes) count then p else start_of (drop count p.bytes)
 
 abbrev pub nonzero : ℕ → Option ℕ
 nonzero b = if b == 0 then None else Some b

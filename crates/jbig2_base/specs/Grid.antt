@@ -42,9 +42,11 @@ abbrev pub differ : Bool → Bool → Bool
 differ true b = not b
 differ false b = b
 
-abbrev pub max_side : ℕ  -- no bitmap that is asked for by its sides has a longer one (our own rule)
+-- No bitmap that is asked for by its sides has a longer one (our own rule). The code calls it `MAX_DIMENSION`.
+abbrev pub max_side : ℕ
 max_side = 65535
 
+-- Whether a bitmap may have these sides: a width or a height above `max_side` is refused.
 abbrev pub check_sides : ℕ → ℕ → Result (Unit {0}) DecodeError
 check_sides width height = refuse_if (nat_lt max_side width || nat_lt max_side height) (Overflow BitmapDimension)
 

@@ -2,7 +2,7 @@
 ghost use Rattle.std.specs.Prelude.{◌≡◌, ◌+◌, ◌^◌, ◌<◌, ◌≤◌, drop, length, IfOk, OnOk};
 ghost use Rattle.std.specs.Int.{w8, w16, w32};
 ghost use Rattle.jbig2_base.specs.Results.{Returns, some_or};
-ghost use Rattle.jbig2_base.specs.Bits.{IsAligned, bits_left, bits_next, bits_on};
+ghost use Rattle.jbig2_base.specs.Bits.{bits_left, bits_next, bits_on, bytes_on};
 ghost use Rattle.jbig2_base.specs.Fields.{Parses, bits_at, bytes_at, number_at, signed_at};
 
 use crate::error::{DecodeError, ParseError, Result};
@@ -10,8 +10,8 @@ use crate::reader::Reader;
 
 /// The next byte, or `ParseError::UnexpectedEof`.
 pub fn byte_field(reader: &mut Reader<'_>) -> Result<u8>
-    requires { IsAligned reader.old }
     ensures parses { Parses reader.old reader.new result (λ x. x) (number_at w8 reader.old.bytes) }
+    ensures place { reader.new ≡ bytes_on 1 reader.old }
     ensures taken { OnOk result (length reader.new.bytes + 1 ≡ length reader.old.bytes) }
 {
     reader
@@ -21,8 +21,8 @@ pub fn byte_field(reader: &mut Reader<'_>) -> Result<u8>
 
 /// The next two bytes as a number, or `ParseError::UnexpectedEof`.
 pub fn u16_field(reader: &mut Reader<'_>) -> Result<u16>
-    requires { IsAligned reader.old }
     ensures parses { Parses reader.old reader.new result (λ x. x) (number_at w16 reader.old.bytes) }
+    ensures place { reader.new ≡ bytes_on 2 reader.old }
     ensures taken { OnOk result (length reader.new.bytes + 2 ≡ length reader.old.bytes) }
 {
     reader
@@ -32,8 +32,8 @@ pub fn u16_field(reader: &mut Reader<'_>) -> Result<u16>
 
 /// The next four bytes as a number, or `ParseError::UnexpectedEof`.
 pub fn u32_field(reader: &mut Reader<'_>) -> Result<u32>
-    requires { IsAligned reader.old }
     ensures parses { Parses reader.old reader.new result (λ x. x) (number_at w32 reader.old.bytes) }
+    ensures place { reader.new ≡ bytes_on 4 reader.old }
     ensures taken { OnOk result (length reader.new.bytes + 4 ≡ length reader.old.bytes) }
 {
     reader
@@ -43,8 +43,8 @@ pub fn u32_field(reader: &mut Reader<'_>) -> Result<u32>
 
 /// The next byte as a signed number, or `ParseError::UnexpectedEof`.
 pub fn i8_field(reader: &mut Reader<'_>) -> Result<i8>
-    requires { IsAligned reader.old }
     ensures parses { Parses reader.old reader.new result (λ x. x) (signed_at w8 reader.old.bytes) }
+    ensures place { reader.new ≡ bytes_on 1 reader.old }
     ensures taken { OnOk result (length reader.new.bytes + 1 ≡ length reader.old.bytes) }
 {
     let number = byte_field(reader)?;
@@ -53,8 +53,8 @@ pub fn i8_field(reader: &mut Reader<'_>) -> Result<i8>
 
 /// The next four bytes as a signed number, or `ParseError::UnexpectedEof`.
 pub fn i32_field(reader: &mut Reader<'_>) -> Result<i32>
-    requires { IsAligned reader.old }
     ensures parses { Parses reader.old reader.new result (λ x. x) (signed_at w32 reader.old.bytes) }
+    ensures place { reader.new ≡ bytes_on 4 reader.old }
     ensures taken { OnOk result (length reader.new.bytes + 4 ≡ length reader.old.bytes) }
 {
     let number = u32_field(reader)?;
@@ -63,9 +63,9 @@ pub fn i32_field(reader: &mut Reader<'_>) -> Result<i32>
 
 /// The next `count` bytes, or `ParseError::UnexpectedEof`.
 pub fn bytes_field<'a>(reader: &mut Reader<'a>, count: usize) -> Result<&'a [u8]>
-    requires { IsAligned reader.old }
     ensures parses { Parses reader.old reader.new result (λ x. x.now)
         (bytes_at count reader.old.bytes) }
+    ensures place { reader.new ≡ bytes_on count reader.old }
     ensures taken { OnOk result (length reader.new.bytes + count ≡ length reader.old.bytes) }
 {
     reader

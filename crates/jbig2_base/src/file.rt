@@ -1,7 +1,6 @@
 //! Reads files and lists of segments (T.88, Annex D).
 ghost use Rattle.std.specs.Prelude.{◌≡◌, List, length, map, Ok};
 ghost use Rattle.jbig2_base.specs.Results.{Gives};
-ghost use Rattle.jbig2_base.specs.Bits.{IsAligned};
 ghost use Rattle.jbig2_base.specs.File.{headers_in, gathered, segments_by, file_at, Spelled, SpellsFile};
 ghost use Rattle.jbig2_base.specs.Reading.{fault_of};
 ghost use Rattle.jbig2_base.specs.declared.file_header.FileHeader.{FileHeader};
@@ -80,10 +79,8 @@ fn parse_segment_headers<A: Allocator + Clone>(
     reader: &mut Reader<'_>,
     reading: Reading,
 ) -> Result<Vec<SegmentHeader<A>, A>>
-    requires { IsAligned reader.old }
-    ensures value { Gives (λ v. (header_views v.items, reader.new.bytes)) result
+    ensures { Gives (λ v. (header_views v.items, reader.new.bytes)) result
         (headers_in (length reader.old.bytes) reading reader.old.bytes) }
-    ensures aligned { IsAligned reader.new }
 {
     let mut headers = Vec::new(alloc.clone()?);
     while !reader.at_end() {
@@ -114,7 +111,6 @@ fn gather_segments<'a, A: Allocator>(
     headers: Vec<SegmentHeader<A>, A>,
     reading: Reading,
 ) -> Result<Vec<Segment<'a, A>, A>>
-    requires { IsAligned reader.old }
     ensures { Gives (λ v. segment_views v.items) result
         (gathered reading (header_views headers.items) reader.old.bytes) }
 {

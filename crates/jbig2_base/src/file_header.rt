@@ -2,7 +2,6 @@
 ghost use Rattle.std.specs.Prelude.{◌≡◌, ◌+◌, ◌%◌, ◌==◌, if◌then◌else◌, length, OnOk, ◌≤◌};
 ghost use Rattle.std.specs.Str.{bytes_eq};
 ghost use Rattle.jbig2_base.specs.Results.{Returns};
-ghost use Rattle.jbig2_base.specs.Bits.{IsAligned};
 ghost use Rattle.jbig2_base.specs.Causes.{HasCause, BreaksFileHeader};
 ghost use Rattle.jbig2_base.specs.File.{identification, page_count_at, file_header_at};
 ghost use Rattle.jbig2_base.specs.declared.file_header.FileOrganization.TheVariants.{Sequential, RandomAccess};
@@ -48,10 +47,8 @@ fn organization(flags: u8) -> FileOrganization
 }
 
 fn page_count(reader: &mut Reader<'_>, unknown: bool) -> Result<Option<u32>>
-    requires { IsAligned reader.old }
     ensures value { Returns (λ x. (x, reader.new.bytes)) result
         (page_count_at unknown reader.old.bytes) }
-    ensures aligned { IsAligned reader.new }
 {
     if unknown {
         return Ok(None);
@@ -66,9 +63,7 @@ fn page_count(reader: &mut Reader<'_>, unknown: bool) -> Result<Option<u32>>
 /// and `FormatError::ReservedBits` if a reserved bit of the flags is set. Takes no memory.
 #[tactic(auto, using(crate::proofs::Causes::file_header_cause), unfolding(crate::specs::File::file_header_at))]
 pub(crate) fn parse_file_header(reader: &mut Reader<'_>) -> Result<FileHeader>
-    requires { IsAligned reader.old }
     ensures value { Returns (λ h. (h, reader.new.bytes)) result (file_header_at reader.old.bytes) }
-    ensures aligned { IsAligned reader.new }
     ensures causes { HasCause result (BreaksFileHeader reader.old.bytes) }
 {
     let front = bytes_field(reader, 8)?;

@@ -2,7 +2,7 @@
 ghost use Rattle.std.specs.Prelude.{◌≡◌, ◌+◌, ◌/◌, ◌%◌, ◌==◌, ◌<◌, ◌≤◌, Ok, IfOk, None, OnErr, OnOk, Option, false, length};
 ghost use Rattle.jbig2_base.specs.Grid.{max_side};
 ghost use Rattle.jbig2_base.specs.Results.{Returns};
-ghost use Rattle.jbig2_base.specs.Bits.{IsAligned, nonzero};
+ghost use Rattle.jbig2_base.specs.Bits.{nonzero};
 ghost use Rattle.jbig2_base.specs.Causes.{HasCause, BreaksInformation, BreaksInitialPage, BreaksInitialPageBy};
 ghost use Rattle.jbig2_base.specs.PageInfo.{default_operator_of, flags_of, information_at, is_page_information, is_end_of_stripe, first_information, stripe_height, stripes_height, height_of, initial_page_with, initial_page_by, initial_page_of};
 ghost use Rattle.jbig2_base.specs.Fields.{Parses};
@@ -160,7 +160,6 @@ fn resolution(number: u32) -> Option<u32>
 /// was. Takes no memory.
 #[tactic(auto, using(crate::proofs::PageCauses::information_cause), unfolding(crate::specs::PageInfo::information_at))]
 pub fn parse_page_information(reader: &mut Reader<'_>) -> Result<PageInformation>
-    requires { IsAligned reader.old }
     ensures causes { HasCause result (BreaksInformation reader.old.bytes) }
     ensures parses { Parses reader.old reader.new result (λ p. p)
         (information_at reader.old.bytes) }

@@ -2,15 +2,15 @@
 ghost use Rattle.std.specs.Prelude.{◌≡◌, ◌+◌, ◌<◌, ◌≤◌, ◌==◌, drop, length, take, min, IfSome, Option, option_map, option_and_then, Some, None, if◌then◌else◌};
 ghost use Rattle.std.specs.Int.{w8, w16, w32, cast_signed};
 ghost use Rattle.std.specs.List.{flat_map};
-ghost use Rattle.jbig2_base.specs.Bits.{IsAligned, start_of, bits_left, bits_next, bits_on, aligned, bytes_next, bytes_on, number_next, number_after, byte_bits, nonzero};
+ghost use Rattle.jbig2_base.specs.Bits.{start_of, bits_left, bits_next, bits_on, aligned, bytes_next, bytes_on, number_next, number_after, byte_bits, nonzero};
 
 use std::marker::Model;
 
 /// Bytes and a place in them. The place has a byte and a bit, so that no length overflows.
 ///
+/// A byte read begins with the current byte, whole, and leaves the place at the beginning of a byte.
 /// `None` means that the bytes end too early. A refused byte read does not move the place, and a
-/// refused bit read moves it to the end. Byte reads need a place at the beginning of a byte. No call
-/// takes memory.
+/// refused bit read moves it to the end. No call takes memory.
 #[derive(Drop)]
 pub struct Reader<'a> {
     bytes: &'a [u8],
@@ -79,7 +79,6 @@ impl<'a> Reader<'a> {
 
     /// The next `count` bytes; the place stays.
     pub fn peek_bytes(&self, count: usize) -> Option<&'a [u8]>
-        requires { IsAligned self.now }
         ensures { option_map (λ s. s.now) result ≡ bytes_next count self.now }
     {
         if count > self.bytes.len() - self.byte {
@@ -90,7 +89,6 @@ impl<'a> Reader<'a> {
 
     /// The next `count` bytes.
     pub fn read_bytes(&mut self, count: usize) -> Option<&'a [u8]>
-        requires { IsAligned self.old }
         ensures value { option_map (λ s. s.now) result ≡ bytes_next count self.old }
         ensures place { self.new ≡ bytes_on count self.old }
     {
@@ -99,12 +97,12 @@ impl<'a> Reader<'a> {
         }
         let start = self.byte;
         self.byte += count;
+        self.bit = 0;
         Some(&self.bytes[start..start + count])
     }
 
     /// The next byte.
     pub fn read_byte(&mut self) -> Option<u8>
-        requires { IsAligned self.old }
         ensures value { result ≡ number_next w8 self.old }
         ensures place { self.new ≡ bytes_on 1 self.old }
     {
@@ -114,7 +112,6 @@ impl<'a> Reader<'a> {
 
     /// The next byte; `None` also if it is 0, but the place moves on.
     pub fn read_nonzero_byte(&mut self) -> Option<u8>
-        requires { IsAligned self.old }
         ensures value { result ≡ option_and_then nonzero (number_next w8 self.old) }
         ensures place { self.new ≡ bytes_on 1 self.old }
     {
@@ -124,7 +121,6 @@ impl<'a> Reader<'a> {
 
     /// The next two bytes as a number.
     pub fn read_u16(&mut self) -> Option<u16>
-        requires { IsAligned self.old }
         ensures value { result ≡ number_next w16 self.old }
         ensures place { self.new ≡ bytes_on 2 self.old }
     {
@@ -134,7 +130,6 @@ impl<'a> Reader<'a> {
 
     /// The next four bytes as a number.
     pub fn read_u32(&mut self) -> Option<u32>
-        requires { IsAligned self.old }
         ensures value { result ≡ number_next w32 self.old }
         ensures place { self.new ≡ bytes_on 4 self.old }
     {
@@ -144,7 +139,6 @@ impl<'a> Reader<'a> {
 
     /// The next four bytes as a signed number in two's complement.
     pub fn read_i32(&mut self) -> Option<i32>
-        requires { IsAligned self.old }
         ensures value { result ≡ option_map (cast_signed w32) (number_next w32 self.old) }
         ensures place { self.new ≡ bytes_on 4 self.old }
     {

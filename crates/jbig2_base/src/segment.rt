@@ -5,7 +5,6 @@ ghost use Rattle.std.specs.List.{list_any};
 ghost use Rattle.std.specs.Option.{ForSome};
 ghost use Rattle.std.specs.Bool.{OnTrue};
 ghost use Rattle.jbig2_base.specs.Results.{Returns, Gives};
-ghost use Rattle.jbig2_base.specs.Bits.{IsAligned};
 ghost use Rattle.jbig2_base.specs.Causes.{HasCause, HasCauseOrNoMemory, BreaksHeader, BreaksData};
 ghost use Rattle.jbig2_base.specs.Fields.{number_at, Parses, Takes};
 ghost use Rattle.jbig2_base.specs.Segment.{Header, type_of, is_reserved, is_immediate_generic, long_count_at, count_at, number_width, numbers_in, referred_at, length_of, header_at, data_at, segment_data_at, segment_at};
@@ -117,11 +116,9 @@ pub struct Segment<'a, A: Allocator> {
 
 #[tactic(auto, unfolding(crate::specs::Segment::long_count_at))]
 fn long_count(reader: &mut Reader<'_>, high: u8) -> Result<u32>
-    requires aligned { IsAligned reader.old }
     requires small { high < 32 }
     ensures value { Returns (λ x. (x, reader.new.bytes)) result
         (long_count_at high reader.old.bytes) }
-    ensures aligned { IsAligned reader.new }
     ensures bound { IfOk result (λ n. n < 2 ^ 29) }
     ensures shorter { OnOk result (length reader.new.bytes ≤ length reader.old.bytes) }
 {
@@ -132,11 +129,9 @@ fn long_count(reader: &mut Reader<'_>, high: u8) -> Result<u32>
 }
 
 fn short_or_long_count(reader: &mut Reader<'_>, first: u8) -> Result<u32>
-    requires { IsAligned reader.old }
     ensures value { Returns (λ x. (x, reader.new.bytes)) result
         (if first / 32 == 7 then long_count_at (first % 32) reader.old.bytes
         else Ok (first / 32, reader.old.bytes)) }
-    ensures aligned { IsAligned reader.new }
     ensures bound { IfOk result (λ n. n < 2 ^ 29) }
     ensures shorter { OnOk result (length reader.new.bytes ≤ length reader.old.bytes) }
 {
@@ -149,9 +144,7 @@ fn short_or_long_count(reader: &mut Reader<'_>, first: u8) -> Result<u32>
 /// The count of referred segments (T.88, 7.2.4).
 #[tactic(auto, unfolding(crate::specs::Segment::count_at))]
 fn referred_count(reader: &mut Reader<'_>) -> Result<u32>
-    requires { IsAligned reader.old }
     ensures value { Returns (λ x. (x, reader.new.bytes)) result (count_at reader.old.bytes) }
-    ensures aligned { IsAligned reader.new }
     ensures bound { IfOk result (λ n. n < 2 ^ 29) }
     ensures shorter { OnOk result (length reader.new.bytes ≤ length reader.old.bytes) }
 {
@@ -214,10 +207,8 @@ fn referred_numbers<A: Allocator>(
     reader: &mut Reader<'_>,
     own: u32,
 ) -> Result<Vec<u32, A>>
-    requires { IsAligned reader.old }
     ensures value { Gives (λ v. (v.items, reader.new.bytes)) result
         (referred_at own reader.old.bytes) }
-    ensures aligned { IsAligned reader.new }
     ensures shorter { OnOk result (length reader.new.bytes ≤ length reader.old.bytes) }
 {
     let count = referred_count(reader)?;
@@ -231,10 +222,8 @@ fn referred_numbers<A: Allocator>(
 
 /// The page association, in one byte or four (T.88, 7.2.6).
 fn page_association(reader: &mut Reader<'_>, long: bool) -> Result<u32>
-    requires { IsAligned reader.old }
     ensures value { Returns (λ x. (x, reader.new.bytes)) result
         (number_at (if long then w32 else w8) reader.old.bytes) }
-    ensures aligned { IsAligned reader.new }
     ensures shorter { OnOk result (length reader.new.bytes ≤ length reader.old.bytes) }
 {
     if long {
@@ -267,7 +256,6 @@ pub fn parse_segment_header<A: Allocator>(
     reader: &mut Reader<'_>,
     strict: bool,
 ) -> Result<SegmentHeader<A>>
-    requires { IsAligned reader.old }
     ensures causes { HasCauseOrNoMemory result (BreaksHeader strict reader.old.bytes) }
     ensures parses { Takes reader.old reader.new result header_view
         (header_at strict reader.old.bytes) }
@@ -296,7 +284,6 @@ pub fn parse_segment_header<A: Allocator>(
 }
 
 fn segment_bytes<'a>(reader: &mut Reader<'a>, data_length: Option<u32>) -> Result<&'a [u8]>
-    requires { IsAligned reader.old }
     ensures { Parses reader.old reader.new result (λ x. x.now)
         (data_at data_length reader.old.bytes) }
 {
@@ -319,7 +306,6 @@ pub fn parse_segment_data<'a, A: Allocator>(
     reader: &mut Reader<'a>,
     header: SegmentHeader<A>,
 ) -> Result<Segment<'a, A>>
-    requires { IsAligned reader.old }
     ensures causes { HasCause result (BreaksData header.data_length reader.old.bytes) }
     ensures parses { Parses reader.old reader.new result segment_view
         (segment_data_at (header_view header) reader.old.bytes) }
@@ -336,7 +322,6 @@ pub fn parse_segment<'a, A: Allocator>(
     reader: &mut Reader<'a>,
     strict: bool,
 ) -> Result<Segment<'a, A>>
-    requires { IsAligned reader.old }
     ensures parses { Takes reader.old reader.new result segment_view
         (segment_at strict reader.old.bytes) }
     ensures taken { OnOk result (length reader.new.bytes < length reader.old.bytes) }

@@ -3,7 +3,6 @@ ghost use Rattle.std.specs.Prelude.{◌≡◌, ◌+◌, ◌*◌, ◌/◌, ◌≤
 ghost use Rattle.jbig2_steps.specs.Work.{CountsWithin};
 ghost use Rattle.jbig2_base.specs.Grid.{max_side};
 ghost use Rattle.jbig2_base.specs.Results.{Returns, Gives, Leaves};
-ghost use Rattle.jbig2_base.specs.Bits.{IsAligned};
 ghost use Rattle.jbig2_base.specs.Counts.{KeepsLanes, words_copied};
 ghost use Rattle.jbig2_region.specs.Generic.{generic_result, contexts_after};
 ghost use Rattle.jbig2_region.specs.GenericSteps.{CountsGeneric, price_of_region};
@@ -56,9 +55,7 @@ pub struct PatternDictionaryHeader<'a> {
 
 /// Reads a side of a pattern, which must not be 0.
 fn side_field(reader: &mut Reader<'_>) -> Result<u8>
-    requires { IsAligned reader.old }
     ensures value { Returns (λ x. (x, reader.new.bytes)) result (side_at reader.old.bytes) }
-    ensures aligned { IsAligned reader.new }
     ensures some { IfOk result (λ x. 1 ≤ x) }
 {
     let side = byte_field(reader)?;
@@ -75,10 +72,8 @@ fn side_field(reader: &mut Reader<'_>) -> Result<u8>
 /// has no pixels. An error leaves the reader where it was. It takes no memory.
 #[tactic(auto, unfolding(crate::specs::PatternHeader::pattern_header_at))]
 pub fn parse<'a>(reader: &mut Reader<'a>, strict: bool) -> Result<PatternDictionaryHeader<'a>>
-    requires { IsAligned reader.old }
     ensures value { Returns (λ h. (header_view h, reader.new.bytes)) result
         (pattern_header_at strict reader.old.bytes) }
-    ensures aligned { IsAligned reader.new }
     ensures width { IfOk result (λ h. 1 ≤ h.pattern_width) }
     ensures height { IfOk result (λ h. 1 ≤ h.pattern_height) }
     ensures stays { OnErr result (reader.new ≡ reader.old) }

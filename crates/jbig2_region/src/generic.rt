@@ -2,7 +2,6 @@
 ghost use Rattle.std.specs.Prelude.{◌≡◌, ◌≤◌, length, IfOk, OnErr, OnOk, Bool, ℕ, true, false};
 ghost use Rattle.jbig2_steps.specs.Work.{CountsWithin};
 ghost use Rattle.jbig2_base.specs.Results.{Returns, Gives, Leaves};
-ghost use Rattle.jbig2_base.specs.Bits.{IsAligned};
 ghost use Rattle.jbig2_base.specs.Counts.{KeepsLanes};
 ghost use Rattle.jbig2_base.specs.Fields.{Parses};
 ghost use Rattle.jbig2_region.specs.Generic.{contexts_after, generic_result, generic_decoded, refused_grid};
@@ -80,7 +79,6 @@ pub fn parse<'a>(
     unknown_length: bool,
     strict: bool,
 ) -> Result<GenericRegionHeader<'a>>
-    requires { IsAligned reader.old }
     ensures parses { Parses reader.old reader.new result header_view
         (generic_header_at unknown_length strict reader.old.bytes) }
     ensures parsed { IfOk result (λ h. IsParsed (header_view h)) }

@@ -2,7 +2,6 @@
 ghost use Rattle.std.specs.Prelude.{◌≡◌, IfOk, OnErr, OnOk};
 ghost use Rattle.jbig2_steps.specs.Work.{CountsWithin, price_of_bitmap};
 ghost use Rattle.jbig2_base.specs.Results.{Returns, Gives, Leaves};
-ghost use Rattle.jbig2_base.specs.Bits.{IsAligned};
 ghost use Rattle.jbig2_base.specs.Fields.{Parses};
 ghost use Rattle.jbig2_region.specs.RegionInfo.{IsWhiteFor, PlacedRegion};
 ghost use Rattle.jbig2_region.specs.inner.RegionViews.{region_view};
@@ -59,7 +58,6 @@ pub struct ReferenceBitmap<'a, B: Allocator> {
 /// memory.
 #[tactic(auto, using(crate::proofs::HeaderCauses::refinement_header_cause), unfolding(crate::specs::RefinementHeader::refinement_header_at))]
 pub fn parse<'a>(reader: &mut Reader<'a>) -> Result<GenericRefinementRegionHeader<'a>>
-    requires { IsAligned reader.old }
     ensures parses { Parses reader.old reader.new result header_view
         (refinement_header_at reader.old.bytes) }
     ensures parsed { IfOk result (λ h. IsRefinement (header_view h)) }

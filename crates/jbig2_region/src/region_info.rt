@@ -1,6 +1,5 @@
 //! Reads the field that every region segment begins with (T.88, 7.4.1).
 ghost use Rattle.std.specs.Prelude.{◌≡◌};
-ghost use Rattle.jbig2_base.specs.Bits.{IsAligned};
 ghost use Rattle.jbig2_base.specs.Fields.{Parses};
 ghost use Rattle.jbig2_region.specs.RegionInfo.{placed, region_info_at};
 ghost use Rattle.jbig2_region.specs.inner.RegionViews.{region_view};
@@ -35,7 +34,6 @@ pub struct RegionSegmentInfo {
 /// `Unsupported` if they ask for colours. An error leaves the reader where it was. Takes no memory.
 #[tactic(auto, using(crate::proofs::Causes::info_has_cause), unfolding(crate::specs::RegionInfo::region_info_at))]
 pub fn parse_region_segment_info(reader: &mut Reader<'_>) -> Result<RegionSegmentInfo>
-    requires { IsAligned reader.old }
     ensures parses { Parses reader.old reader.new result (λ info. info)
         (region_info_at reader.old.bytes) }
     ensures causes { HasCause result (BreaksRegionInfo reader.old.bytes) }

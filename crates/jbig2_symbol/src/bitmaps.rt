@@ -1,8 +1,8 @@
 //! The bitmaps of symbols by prefix codes: those of a height class lie side by side in one
 //! collective bitmap (T.88, 6.5.9).
 ghost use Rattle.std.specs.Prelude.{◌≡◌, ◌+◌, ◌*◌, ◌/◌, ◌<◌, ◌≤◌, false, length, sum, OnOk};
+ghost use Rattle.jbig2_base.specs.Bits.{start_of};
 ghost use Rattle.jbig2_base.specs.Results.{Returns, Gives};
-ghost use Rattle.jbig2_base.specs.Bits.{IsAligned};
 ghost use Rattle.jbig2_base.specs.Counts.{WritesWithin};
 ghost use Rattle.jbig2_base.specs.Grid.{blank, wide_or_overflow};
 ghost use Rattle.jbig2_base.specs.inner.Filled.{filled};
@@ -60,10 +60,9 @@ fn check_pixels(width: u32, height: u32) -> Result<()>
 
 /// Reads the bytes of rows that are not coded (T.88, 6.5.9).
 fn raw_bytes<'a>(width: u32, height: u32, reader: &mut Reader<'a>) -> Result<&'a [u8]>
-    requires { IsAligned reader.old }
     ensures value { let meant = bytes_of_rows width height reader.old.bytes in
         Returns (λ rows. (rows.now, reader.new.bytes)) result meant }
-    ensures aligned { IsAligned reader.new }
+    ensures place { OnOk result (reader.new ≡ start_of reader.new.bytes) }
 {
     check_pixels(width, height)?;
     let stride = width.div_ceil(8) as usize;
@@ -79,10 +78,9 @@ fn read_raw_rows<A: Allocator, L: Ledger>(
     reader: &mut Reader<'_>,
     work: &mut Work<L>,
 ) -> Result<Bitmap<A>>
-    requires { IsAligned reader.old }
     ensures value { let meant = raw_rows width height reader.old.bytes in
         Gives (λ bitmap. (bitmap, reader.new.bytes)) result meant }
-    ensures aligned { IsAligned reader.new }
+    ensures place { OnOk result (reader.new ≡ start_of reader.new.bytes) }
     ensures paid { Paid work.old work.new }
 {
     let bytes = raw_bytes(width, height, reader)?;
@@ -108,10 +106,9 @@ fn read_mmr_rows<A: Allocator, L: Ledger>(
     reader: &mut Reader<'_>,
     work: &mut Work<L>,
 ) -> Result<Bitmap<A>>
-    requires { IsAligned reader.old }
     ensures value { let meant = mmr_bytes strict size sides.width sides.height reader.old.bytes in
         Gives (λ bitmap. (bitmap, reader.new.bytes)) result meant }
-    ensures aligned { IsAligned reader.new }
+    ensures place { OnOk result (reader.new ≡ start_of reader.new.bytes) }
     ensures paid { Paid work.old work.new }
 {
     let bytes = bytes_field(reader, size)?;
@@ -133,11 +130,10 @@ pub fn read_rows<A: Allocator, L: Ledger>(
     reader: &mut Reader<'_>,
     work: &mut Work<L>,
 ) -> Result<Bitmap<A>>
-    requires { IsAligned reader.old }
     ensures value { let bytes = reader.old.bytes in
         let meant = rows_of_size strict size sides.width sides.height bytes in
         Gives (λ bitmap. (bitmap, reader.new.bytes)) result meant }
-    ensures aligned { IsAligned reader.new }
+    ensures place { OnOk result (reader.new ≡ start_of reader.new.bytes) }
     ensures paid { Paid work.old work.new }
 {
     if size == 0 {
@@ -157,7 +153,6 @@ fn check_mmr_rows<A: Allocator, L: Ledger>(
     reader: &mut Reader<'_>,
     work: &mut Work<L>,
 ) -> Result<()>
-    requires { IsAligned reader.old }
     ensures value { let meant = mmr_bytes strict size sides.width sides.height reader.old.bytes in
         Gives (λ _. tt) result (with_no_value meant) }
     ensures paid { Paid work.old work.new }
@@ -185,7 +180,6 @@ pub fn check_rows<A: Allocator, L: Ledger>(
     reader: &mut Reader<'_>,
     work: &mut Work<L>,
 ) -> Result<()>
-    requires { IsAligned reader.old }
     ensures value { let bytes = reader.old.bytes in
         let meant = rows_of_size strict size sides.width sides.height bytes in
         Gives (λ _. tt) result (with_no_value meant) }

@@ -1,7 +1,6 @@
 //! The header of a symbol dictionary (T.88, 7.4.2.1).
 ghost use Rattle.std.specs.Prelude.{◌≡◌, ◌/◌, ◌%◌, ◌≤◌, IfOk, OnErr};
 ghost use Rattle.jbig2_base.specs.Results.{Returns};
-ghost use Rattle.jbig2_base.specs.Bits.{IsAligned};
 ghost use Rattle.jbig2_region.specs.inner.PixelArrays.{filled};
 ghost use Rattle.jbig2_text.specs.inner.TextViews.{some_pixels};
 ghost use Rattle.jbig2_symbol.specs.SymbolHeader.{selection_of, other_selection_of, symbol_flags_of, coded_pixels_at, refined_pixels_at, symbol_header_at, max_new_symbols};
@@ -159,11 +158,9 @@ fn parse_coded_pixels(
     reader: &mut Reader<'_>,
     flags: &SymbolDictionaryFlags,
 ) -> Result<[AdaptiveTemplatePixel; 4]>
-    requires { IsAligned reader.old }
     ensures value { let meant = coded_pixels_at flags.now reader.old.bytes in
         Returns (λ pixels. (coded_pixels flags.now pixels, reader.new.bytes)) result meant }
     ensures unused { IfOk result (λ pixels. pixels ≡ filled 4 (coded_pixels flags.now pixels)) }
-    ensures aligned { IsAligned reader.new }
 {
     if flags.use_huffman {
         return Ok([AdaptiveTemplatePixel { x: 0, y: 0 }; 4]);
@@ -176,11 +173,9 @@ fn parse_refined_pixels(
     reader: &mut Reader<'_>,
     flags: &SymbolDictionaryFlags,
 ) -> Result<[AdaptiveTemplatePixel; 2]>
-    requires { IsAligned reader.old }
     ensures value { let meant = refined_pixels_at flags.now reader.old.bytes in
         Returns (λ pixels. (refined_pixels flags.now pixels, reader.new.bytes)) result meant }
     ensures unused { IfOk result (λ pixels. pixels ≡ filled 2 (refined_pixels flags.now pixels)) }
-    ensures aligned { IsAligned reader.new }
 {
     if !flags.use_refagg {
         return Ok([AdaptiveTemplatePixel { x: 0, y: 0 }; 2]);
@@ -198,10 +193,8 @@ fn parse_refined_pixels(
 /// or exported. An error leaves the reader where it was. It takes no memory.
 #[tactic(auto, using(crate::proofs::Causes::symbol_header_cause), unfolding(crate::specs::SymbolHeader::symbol_header_at))]
 pub fn parse<'a>(reader: &mut Reader<'a>, strict: bool) -> Result<SymbolDictionaryHeader<'a>>
-    requires { IsAligned reader.old }
     ensures value { let meant = symbol_header_at strict reader.old.bytes in
         Returns (λ h. (header_view h, reader.new.bytes)) result meant }
-    ensures aligned { IsAligned reader.new }
     ensures exported { IfOk result (λ h. h.num_exported_symbols ≤ max_new_symbols) }
     ensures fresh { IfOk result (λ h. h.num_new_symbols ≤ max_new_symbols) }
     ensures unused { IfOk result (λ h. h.adaptive_template_pixels

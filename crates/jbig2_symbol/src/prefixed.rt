@@ -2,7 +2,7 @@
 ghost use Rattle.std.specs.Prelude.{◌≡◌, ◌+◌, ◌*◌, ◌<◌, ◌≤◌, length, OnOk};
 ghost use Rattle.jbig2_base.specs.Grid.{max_side};
 ghost use Rattle.jbig2_base.specs.Results.{Returns, Gives};
-ghost use Rattle.jbig2_base.specs.Bits.{IsAligned, Place};
+ghost use Rattle.jbig2_base.specs.Bits.{Place};
 ghost use Rattle.jbig2_text.specs.TextCoding.{by_prefix_codes};
 ghost use Rattle.jbig2_text.specs.inner.TextViews as texts;
 ghost use Rattle.jbig2_steps.specs.Work.{Paid, PaidBut};
@@ -152,7 +152,6 @@ impl<'a, A: Allocator + Clone> PrefixedSymbols<'a, A> {
         ensures value { let d = input_view input.now in
             let meant = size_of_rows d (prefixed_view self.old) in
             Returns (λ size. (size, prefixed_view self.new)) result meant }
-        ensures aligned { OnOk result (IsAligned self.new.reader) }
     {
         let Some(size) = self.number(input.tables.sizes)? else {
             return Err(HuffmanError::UnexpectedOob.into());

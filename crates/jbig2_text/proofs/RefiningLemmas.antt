@@ -1,6 +1,10 @@
 -- What the code holds of a refined symbol.
-use Rattle.std.proofs.Common.{◌≡◌, ℕ, List, [], ◌∷◌, take, false, ◌∙◌, ap, refl, subst}
+use Rattle.std.proofs.Common.{◌≡◌, ℕ, ℤ, pos, List, [], ◌∷◌, take, false, Result, Ok, Err, OnOk, ◌∙◌, ap, refl, sym, subst}
+use Rattle.jbig2_base.specs.Bits.{Place, aligned, start_of}
+use Rattle.jbig2_base.specs.Fields.{bytes_at}
 use Rattle.jbig2_base.specs.Grid.{Grid}
+use Rattle.jbig2_base.specs.Results.{◌>>=◌, Returns}
+use Rattle.jbig2_base.specs.declared.error.DecodeError.{DecodeError}
 use Rattle.jbig2_coder.specs.Coder.{Coder, Context, Registers}
 use Rattle.jbig2_region.specs.inner.RegionStates.{HasDecoded, region_state}
 use Rattle.jbig2_region.specs.Raster.{Coding, decoded_region, no_pixels}
@@ -12,6 +16,7 @@ use Rattle.jbig2_region.specs.declared.template.AdaptiveTemplatePixel.{AdaptiveT
 use Rattle.jbig2_region.specs.declared.template.RefinementTemplate.{RefinementTemplate}
 use Rattle.jbig2_region.specs.declared.template.RefinementTemplate.TheVariants.{Template0, Template1}
 use Rattle.jbig2_text.specs.Refining.{Refining, refined_by}
+use Rattle.jbig2_text.specs.TextCoding.{sized_bytes}
 
 -- two of a list
 pub two_filled : (a : List AdaptiveTemplatePixel) → adaptive a 0 ∷ adaptive a 1 ∷ [] ≡ filled 2 (take 2 a)
@@ -37,3 +42,19 @@ filled-holds f from w h bytes registers grid coder states holds =
 
 pub coder-is : (c : Coder) (bytes : List ℕ) (registers : Registers) → c.bytes ≡ bytes → c.registers ≡ registers → c ≡ record { bytes = bytes; registers = registers }
 coder-is c bytes registers same moved = ap (λ (b : List ℕ). record { bytes = b; registers = c.registers }) same ∙ ap (λ (r : Registers). record { bytes = bytes; registers = r }) moved
+
+-- the coded bytes of a refined symbol, and the place after them
+after-bytes : Result (List ℕ × List ℕ) DecodeError → Result (List ℕ × Place) DecodeError
+after-bytes result = result >>= λ (coded, rest). Ok (coded, start_of rest)
+
+pub sized-read : {X : Type 0} (r : Result X DecodeError) (view : X → List ℕ) (size : ℕ) (number : ℤ) (p a q : Place) → number ≡ pos size → a ≡ aligned p → Returns (λ x. (view x, q.bytes)) r (bytes_at size a.bytes) → OnOk r (q ≡ start_of q.bytes) → Returns (λ x. (view x, q)) r (sized_bytes number p)
+unfolding after-bytes
+sized-read (Ok x) view size number p a q is at value start =
+    ap (λ (n : ℤ). sized_bytes n p) is
+    ∙ ap (λ (b : Place). after-bytes (bytes_at size b.bytes)) (sym at)
+    ∙ ap after-bytes value
+    ∙ ap (λ (s : Place). Ok (view x, s)) (sym start)
+sized-read (Err e) view size number p a q is at value start =
+    ap (λ (n : ℤ). sized_bytes n p) is
+    ∙ ap (λ (b : Place). after-bytes (bytes_at size b.bytes)) (sym at)
+    ∙ ap after-bytes value

@@ -2,12 +2,12 @@
 use Rattle.std.proofs.Common.{◌≡◌, ℕ, zero, suc, ◌+◌, ◌-◌, ◌<◌, ◌≤◌, List, [], ◌∷◌, ◌++◌, length, Result, Ok, Err, refl, sym, ◌∙◌, ap, arith, inl, inr, ◌⊎◌}
 use Rattle.std.proofs.lemmas.Bool.{cond-true, cond-false, lt-ltb, le-ltb}
 use Rattle.jbig2_base.specs.Results.{◌>>=◌}
-use Rattle.jbig2_base.specs.Bits.{Place, IsAligned, start_of}
+use Rattle.jbig2_base.specs.Bits.{Place}
 use Rattle.jbig2_base.specs.Fields.{bits_at}
 use Rattle.jbig2_base.specs.declared.error.DecodeError.{DecodeError}
 use Rattle.jbig2_base.specs.declared.error.DecodeError.TheVariants.{OutOfMemory}
 use Rattle.jbig2_coder.specs.PrefixCode.{Member}
-use Rattle.jbig2_text.specs.SymbolCodes.{invalid_code, short_lengths, next_runcode, runs_at, symbol_codes_from}
+use Rattle.jbig2_text.specs.SymbolCodes.{invalid_code, short_lengths, next_runcode, runs_at}
 
 -- what is read: lengths, and the place after them
 abbrev pub Lengths : Type 0
@@ -64,10 +64,3 @@ unfolding runs_at
 runs-done k count ms lens p whole done goes =
     let e : count - k ≡ 0 = omega arith in
     sym goes ∙ ap (λ m. runs_at m count ms lens p) e
-
--- a place at the beginning of a byte is known by its bytes
-pub place-start : (p : Place) → IsAligned p → p ≡ start_of p.bytes
-place-start p is = ap (λ (b : ℕ). record { bytes = p.bytes; bit = b }) is
-
-pub codes-there : (count : ℕ) (p : Place) → IsAligned p → symbol_codes_from count (start_of p.bytes) ≡ symbol_codes_from count p
-codes-there count p is = ap (symbol_codes_from count) (sym (place-start p is))

@@ -1,7 +1,6 @@
 //! Headers of text regions (T.88, 7.4.3.1).
-ghost use Rattle.std.specs.Prelude.{◌≡◌, ◌≤◌, ◌%◌, ◌^◌, IfOk, OnErr, OnOk};
+ghost use Rattle.std.specs.Prelude.{◌≡◌, ◌≤◌, ◌%◌, ◌^◌, IfOk, OnErr};
 ghost use Rattle.jbig2_base.specs.Results.{Returns, Gives};
-ghost use Rattle.jbig2_base.specs.Bits.{IsAligned};
 ghost use Rattle.jbig2_region.specs.inner.PixelArrays.{filled};
 ghost use Rattle.jbig2_text.specs.SymbolCodes.{max_symbols};
 ghost use Rattle.jbig2_text.specs.declared.header.TextFields.{TextFields};
@@ -146,10 +145,8 @@ fn other_flags(flags: u16, combination_operator: CombinationOperator) -> TextReg
 /// Reads whether prefix codes are used, and the other flags.
 #[tactic(auto, unfolding(crate::specs::TextHeader::text_flags_at))]
 fn parse_flags(reader: &mut Reader<'_>) -> Result<(bool, TextRegionFlags)>
-    requires { IsAligned reader.old }
     ensures value { let meant = text_flags_at reader.old.bytes in
         Returns (λ flags. (flags, reader.new.bytes)) result meant }
-    ensures aligned { IsAligned reader.new }
     ensures strips { IfOk result (λ flags. flags.1.log_strip_size ≤ 3) }
 {
     let flags = u16_field(reader)?;
@@ -177,10 +174,8 @@ fn parse_table_numbers(
     reader: &mut Reader<'_>,
     use_huffman: bool,
 ) -> Result<Option<TextRegionHuffmanFlags>>
-    requires { IsAligned reader.old }
     ensures value { let meant = table_numbers_at use_huffman reader.old.bytes in
         Returns (λ numbers. (numbers, reader.new.bytes)) result meant }
-    ensures aligned { IsAligned reader.new }
 {
     if !use_huffman {
         return Ok(None);
@@ -194,12 +189,10 @@ fn parse_refinement_pixels(
     reader: &mut Reader<'_>,
     flags: &TextRegionFlags,
 ) -> Result<[AdaptiveTemplatePixel; 2]>
-    requires { IsAligned reader.old }
     ensures value { let meant = text_pixels_at flags.now.use_refinement
         flags.now.refinement_template reader.old.bytes in
         Returns (λ pixels. (text_pixels flags.now pixels, reader.new.bytes)) result meant }
     ensures unused { IfOk result (λ pixels. pixels ≡ filled 2 (text_pixels flags.now pixels)) }
-    ensures aligned { IsAligned reader.new }
 {
     if flags.use_refinement {
         return parse_template_pixels(reader, flags.refinement_template);
@@ -211,10 +204,8 @@ fn parse_refinement_pixels(
 /// Reads the fields after the region information.
 #[tactic(auto, unfolding(crate::specs::TextHeader::text_fields_at))]
 fn parse_fields(reader: &mut Reader<'_>) -> Result<TextFields>
-    requires { IsAligned reader.old }
     ensures value { let meant = text_fields_at reader.old.bytes in
         Returns (λ fields. (fields_view fields, reader.new.bytes)) result meant }
-    ensures aligned { IsAligned reader.new }
     ensures strips { IfOk result (λ fields. fields.flags.log_strip_size ≤ 3) }
     ensures unused { let used = λ (f : TextFields). text_pixels f.flags f.refinement_at_pixels in
         IfOk result (λ fields. fields.refinement_at_pixels ≡ filled 2 (used fields)) }
@@ -238,11 +229,9 @@ fn parse_coding<A: Allocator + Clone>(
     table_numbers: Option<TextRegionHuffmanFlags>,
     num_symbols: u32,
 ) -> Result<TextRegionCoding<A>>
-    requires aligned { IsAligned reader.old }
     requires few { num_symbols ≤ max_symbols }
     ensures value { let meant = coding_at table_numbers num_symbols reader.old.bytes in
         Gives (λ c. (coding_view c, reader.new.bytes)) result meant }
-    ensures aligned { OnOk result (IsAligned reader.new) }
 {
     let Some(tables) = table_numbers else {
         return Ok(TextRegionCoding::Arithmetic);
@@ -266,11 +255,9 @@ pub fn parse<'a, A: Allocator + Clone>(
     num_symbols: u32,
     strict: bool,
 ) -> Result<TextRegionHeader<'a, A>>
-    requires aligned { IsAligned reader.old }
     requires few { num_symbols ≤ max_symbols }
     ensures value { let meant = text_header_at num_symbols strict reader.old.bytes in
         Gives (λ h. (header_view h, reader.new.bytes)) result meant }
-    ensures aligned { IsAligned reader.new }
     ensures strips { IfOk result (λ h. h.flags.log_strip_size ≤ 3) }
     ensures unused { IfOk result (λ h. h.refinement_at_pixels
         ≡ filled 2 (header_view h).refinement_pixels) }

@@ -1,7 +1,7 @@
 //! The prefix codes of the symbols' ids (T.88, 7.4.3.1.7).
-ghost use Rattle.std.specs.Prelude.{◌≡◌, ◌≤◌, ◌^◌, ◌++◌, [], length, replicate, IfOk, Ok, OnOk};
+ghost use Rattle.std.specs.Prelude.{◌≡◌, ◌≤◌, ◌^◌, ◌++◌, [], length, replicate, IfOk, Ok};
 ghost use Rattle.jbig2_base.specs.Results.{Gives};
-ghost use Rattle.jbig2_base.specs.Bits.{IsAligned, start_of};
+ghost use Rattle.jbig2_base.specs.Bits.{start_of};
 ghost use Rattle.jbig2_coder.specs.PrefixCode.{AreShort, table_of};
 ghost use Rattle.jbig2_text.specs.SymbolCodes.{invalid_code, lines_from, short_lengths, repeated, run_at, next_runcode, runs_at, runcodes_at, symbol_lengths_at, symbol_codes_at, symbol_codes_from, max_symbols};
 ghost use Rattle.jbig2_base.specs.Causes.{HasCauseOrNoMemory};
@@ -192,7 +192,6 @@ fn read_symbol_codes<A: Allocator + Clone>(
     requires { count ≤ max_symbols }
     ensures value { let meant = symbol_codes_from count reader.old in
         Gives (λ table. (table, reader.new)) result meant }
-    ensures aligned { OnOk result (IsAligned reader.new) }
 {
     let runcodes = read_runcodes(alloc.clone()?, reader)?;
     let lengths = read_symbol_lengths(alloc.clone()?, count, &runcodes, reader)?;
@@ -201,7 +200,8 @@ fn read_symbol_codes<A: Allocator + Clone>(
     Ok(codes)
 }
 
-/// Reads the codes of this many symbols, at most 2^21. The reader is then at a whole byte.
+/// Reads the codes of this many symbols, at most 2^21. It begins with the current byte, whole, and
+/// the reader is then at the beginning of a byte.
 ///
 /// Returns `ParseError::UnexpectedEof` where the bits end in a runcode; `HuffmanError::InvalidCode`
 /// where they end elsewhere, for codes that do not fit, where no length comes before a repeated
@@ -212,13 +212,12 @@ pub fn parse_symbol_codes<A: Allocator + Clone>(
     reader: &mut Reader<'_>,
     count: u32,
 ) -> Result<HuffmanTable<A>>
-    requires aligned { IsAligned reader.old }
     requires few { count ≤ max_symbols }
     ensures value { let meant = symbol_codes_at count reader.old.bytes in
         Gives (λ table. (table, reader.new.bytes)) result meant }
-    ensures aligned { OnOk result (IsAligned reader.new) }
     ensures causes { HasCauseOrNoMemory result
         (BreaksSymbolCodes count (start_of reader.old.bytes)) }
 {
+    *reader = Reader::new(reader.tail());
     read_symbol_codes(alloc, reader, count)
 }

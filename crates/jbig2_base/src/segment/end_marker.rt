@@ -2,7 +2,6 @@
 ghost use Rattle.std.specs.Prelude.{◌≡◌, ◌+◌, ◌≤◌, length, IfOk, None};
 ghost use Rattle.std.specs.Bool.{OnTrue};
 ghost use Rattle.jbig2_base.specs.Results.{Returns};
-ghost use Rattle.jbig2_base.specs.Bits.{IsAligned};
 ghost use Rattle.jbig2_base.specs.Causes.{HasCause, BreaksData};
 ghost use Rattle.jbig2_base.specs.Segment.{adaptive_bytes, is_end_marker, first_end_marker, unknown_length_of};
 ghost use Rattle.jbig2_base.specs.inner.Fronts.{coded_front_at};
@@ -53,7 +52,6 @@ fn first_end_marker(flags: u8, bytes: &[u8]) -> Result<usize>
 /// A generic region's flags. The reader is then after its adaptive pixels.
 #[tactic(auto, unfolding(crate::specs::inner::Fronts::coded_front_at))]
 fn coded_front(reader: &mut Reader<'_>) -> Result<u8>
-    requires { IsAligned reader.old }
     ensures value { Returns (λ flags. (flags, reader.new.bytes)) result
         (coded_front_at reader.old.bytes) }
     ensures length { IfOk result

@@ -2,7 +2,6 @@
 ghost use Rattle.std.specs.Prelude.{◌≡◌, ◌≤◌, IfOk, OnErr, Bool};
 ghost use Rattle.jbig2_base.specs.Grid.{max_side};
 ghost use Rattle.jbig2_base.specs.Results.{Returns};
-ghost use Rattle.jbig2_base.specs.Bits.{IsAligned};
 ghost use Rattle.jbig2_base.specs.Fields.{signed_at};
 ghost use Rattle.jbig2_halftone.specs.HalftoneHeader.{halftone_flags_at, halftone_grid_at, halftone_header_at};
 ghost use Rattle.jbig2_halftone.specs.inner.HalftoneHeaderViews.{header_view};
@@ -68,10 +67,8 @@ pub struct HalftoneRegionHeader<'a> {
 
 #[tactic(auto, unfolding(crate::specs::HalftoneHeader::halftone_flags_at))]
 fn parse_flags(reader: &mut Reader<'_>) -> Result<HalftoneRegionFlags>
-    requires { IsAligned reader.old }
     ensures value { Returns (λ flags. (flags, reader.new.bytes)) result
         (halftone_flags_at reader.old.bytes) }
-    ensures aligned { IsAligned reader.new }
 {
     let flags = byte_field(reader)?;
     let combination_operator = CombinationOperator::from_value(flags / 16)?;
@@ -86,10 +83,8 @@ fn parse_flags(reader: &mut Reader<'_>) -> Result<HalftoneRegionFlags>
 
 #[tactic(auto, unfolding(crate::specs::HalftoneHeader::halftone_grid_at))]
 fn parse_grid(reader: &mut Reader<'_>) -> Result<HalftoneGridPositionAndSize>
-    requires { IsAligned reader.old }
     ensures value { Returns (λ grid. (grid, reader.new.bytes)) result
         (halftone_grid_at reader.old.bytes) }
-    ensures aligned { IsAligned reader.new }
     ensures columns { IfOk result (λ grid. grid.width ≤ max_side) }
     ensures rows { IfOk result (λ grid. grid.height ≤ max_side) }
 {
@@ -117,10 +112,8 @@ fn parse_grid(reader: &mut Reader<'_>) -> Result<HalftoneGridPositionAndSize>
 /// leaves the reader where it was. It takes no memory.
 #[tactic(auto, unfolding(crate::specs::HalftoneHeader::halftone_header_at))]
 pub fn parse<'a>(reader: &mut Reader<'a>, strict: bool) -> Result<HalftoneRegionHeader<'a>>
-    requires { IsAligned reader.old }
     ensures value { Returns (λ h. (header_view h, reader.new.bytes)) result
         (halftone_header_at strict reader.old.bytes) }
-    ensures aligned { IsAligned reader.new }
     ensures columns { IfOk result (λ h. h.grid_position_and_size.width ≤ max_side) }
     ensures rows { IfOk result (λ h. h.grid_position_and_size.height ≤ max_side) }
     ensures stays { OnErr result (reader.new ≡ reader.old) }

@@ -1,7 +1,6 @@
 //! Reads the adaptive pixels of templates from segments (T.88, 7.4.6.3 and 7.4.7.3).
 ghost use Rattle.std.specs.Prelude.{◌≡◌, ◌≤◌, false, [], ◌∷◌, length, IfOk, OnOk, ℕ};
 ghost use Rattle.jbig2_base.specs.Results.{Returns};
-ghost use Rattle.jbig2_base.specs.Bits.{IsAligned};
 ghost use Rattle.jbig2_base.specs.Fields.{Parses};
 ghost use Rattle.jbig2_region.specs.RefinementTemplates.{refinement_pixels_at};
 ghost use Rattle.jbig2_region.specs.inner.PixelArrays.{two_pixels, IsFilled, filled, four_pixels, is_extended, pixels_view};
@@ -18,10 +17,8 @@ use jbig2_base::reader::Reader;
 /// Reads a pixel that may lie anywhere.
 #[tactic(auto, unfolding(crate::specs::Templates::free_pixel_at))]
 fn parse_free_pixel(reader: &mut Reader<'_>) -> Result<AdaptiveTemplatePixel>
-    requires { IsAligned reader.old }
     ensures value { Returns (λ pixel. (pixel, reader.new.bytes)) result
         (free_pixel_at reader.old.bytes) }
-    ensures aligned { IsAligned reader.new }
     ensures shorter { OnOk result (length reader.new.bytes ≤ length reader.old.bytes) }
 {
     let x = i16::from(i8_field(reader)?);
@@ -39,10 +36,8 @@ fn is_earlier(pixel: AdaptiveTemplatePixel) -> bool
 /// Reads a pixel, which must come before the one that is decoded.
 #[tactic(auto, unfolding(crate::specs::Templates::adaptive_pixel_at))]
 fn parse_adaptive_template_pixel(reader: &mut Reader<'_>) -> Result<AdaptiveTemplatePixel>
-    requires { IsAligned reader.old }
     ensures value { Returns (λ pixel. (pixel, reader.new.bytes)) result
         (adaptive_pixel_at reader.old.bytes) }
-    ensures aligned { IsAligned reader.new }
     ensures shorter { OnOk result (length reader.new.bytes ≤ length reader.old.bytes) }
 {
     let pixel = parse_free_pixel(reader)?;
@@ -53,10 +48,8 @@ fn parse_adaptive_template_pixel(reader: &mut Reader<'_>) -> Result<AdaptiveTemp
 }
 
 fn parse_four(reader: &mut Reader<'_>) -> Result<[AdaptiveTemplatePixel; 4]>
-    requires { IsAligned reader.old }
     ensures value { Returns (λ pixels. (pixels, reader.new.bytes)) result
         (adaptive_pixels_at 4 reader.old.bytes) }
-    ensures aligned { IsAligned reader.new }
     ensures shorter { OnOk result (length reader.new.bytes ≤ length reader.old.bytes) }
 {
     let first = parse_adaptive_template_pixel(reader)?;
@@ -67,10 +60,8 @@ fn parse_four(reader: &mut Reader<'_>) -> Result<[AdaptiveTemplatePixel; 4]>
 }
 
 fn parse_twelve(reader: &mut Reader<'_>) -> Result<[AdaptiveTemplatePixel; 12]>
-    requires { IsAligned reader.old }
     ensures value { Returns (λ pixels. (pixels, reader.new.bytes)) result
         (adaptive_pixels_at 12 reader.old.bytes) }
-    ensures aligned { IsAligned reader.new }
     ensures shorter { OnOk result (length reader.new.bytes ≤ length reader.old.bytes) }
 {
     let [a1, a2, a3, a4] = parse_four(reader)?;
@@ -97,7 +88,6 @@ pub fn parse_adaptive_template_pixels(
     reader: &mut Reader<'_>,
     template: Template,
 ) -> Result<[AdaptiveTemplatePixel; 4]>
-    requires { IsAligned reader.old }
     ensures parses { Parses reader.old reader.new result (four_pixels template)
         (adaptive_pixels_at (adaptive_pixel_count false false template) reader.old.bytes) }
     ensures unused { IfOk result (λ pixels. pixels ≡ filled 4 (four_pixels template pixels)) }
@@ -119,7 +109,6 @@ pub fn parse_generic_template_pixels(
     extended: bool,
     template: Template,
 ) -> Result<GenericTemplatePixels>
-    requires { IsAligned reader.old }
     ensures value { let count = adaptive_pixel_count mmr extended template in
         Returns (λ pixels. (pixels_view mmr template pixels, reader.new.bytes)) result
         (adaptive_pixels_at count reader.old.bytes) }
@@ -127,7 +116,6 @@ pub fn parse_generic_template_pixels(
         IfOk result (λ pixels. is_extended pixels ≡ taken) }
     ensures causes { let count = adaptive_pixel_count mmr extended template in
         HasCause result (BreaksPixels count 0 reader.old.bytes) }
-    ensures aligned { IsAligned reader.new }
     ensures shorter { OnOk result (length reader.new.bytes ≤ length reader.old.bytes) }
     ensures unused { IfOk result (λ pixels. IsFilled pixels (pixels_view mmr template pixels)) }
     ensures fits { IfOk result (λ pixels. FitsTemplate (is_extended pixels) template) }
@@ -152,7 +140,6 @@ pub fn parse_template_pixels(
     reader: &mut Reader<'_>,
     template: RefinementTemplate,
 ) -> Result<[AdaptiveTemplatePixel; 2]>
-    requires { IsAligned reader.old }
     ensures parses { Parses reader.old reader.new result (two_pixels template)
         (refinement_pixels_at template reader.old.bytes) }
     ensures unused { IfOk result (λ pixels. pixels ≡ filled 2 (two_pixels template pixels)) }

@@ -14,7 +14,6 @@ pub loop-header-init : goal.loop-header-init
 loop-header-init g c =
     let bytes = c.args.reader.now.bytes in
     record {
-      aligned = c.requires;
       counted = c.into_iter-header-iterator.ensures.into_iter_gives.1 ∙ c.args.headers.ok.0 ∙ ap (λ (hs : List (SegmentHeader g.row.A.Denot)). length hs) (sym c.into_iter-header-iterator.ensures.into_iter_gives.0);
       gathers =
           ap (λ (ss : List (Segment g.row.A.Denot)). with_front (segment_views ss) (gathered c.args.reading (header_views (into_iter_items c.into_iter-header-iterator.result)) bytes)) c.new-segments.ensures.items
@@ -30,7 +29,6 @@ loop-header-preserved g c =
     let meant = gathered c.args.reading (header_views c.args.headers.items) c.args.reader.now.bytes in
     let rest = c.parse_segment_data.new.reader.bytes in
     record {
-      aligned = c.in-Ok.ensures.parses.aligned;
       counted = omega (arith, c.loop-header.invariant.counted, c.in-Some.ensures.steps.1, ap length c.in-Some.ensures.steps.0);
       gathers =
           ap (λ (ps : List SegmentView). with_front ps (gathered c.args.reading hs rest)) (ap (λ (ss : List (Segment g.row.A.Denot)). segment_views ss) c.in_ok-push-in-Ok.ensures.items ∙ map_push (λ (s : Segment g.row.A.Denot). segment_view s) c.loop-header.segments.items c.in-Ok.segment)

@@ -7,7 +7,6 @@ use Rattle.jbig2_base.proofs.file.gather_segments.Given as goal
 
 abbrev pub invariant-loop-header : goal.invariant-loop-header
 invariant-loop-header g l = record {
-  aligned : l.reader.bit ≡ 0;
   counted : into_iter_len l.header-iterator ≡ length (into_iter_items l.header-iterator);
   gathers : with_front (segment_views l.segments.items) (gathered l.reading (header_views (into_iter_items l.header-iterator)) l.reader.bytes) ≡ gathered l.reading (header_views l.fn.headers.items) l.fn.reader.bytes;
 }

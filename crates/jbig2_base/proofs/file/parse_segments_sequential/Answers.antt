@@ -18,17 +18,14 @@ loop-reader-init g c =
     let bytes = c.args.bytes.now in
     let meant = sequential c.args.reading bytes in
     let begun : c.new-reader.result.bytes ≡ bytes = ap (λ (p : Place). p.bytes) c.new-reader.ensures in
-    record {
-      aligned = ap (λ (p : Place). p.bit) c.new-reader.ensures;
-      reads = subst (λ (left : List ℕ). Reads (segment_views c.new-segments.result.items) c.args.reading left meant) (sym begun)
-          (Reads-as [] (segment_views c.new-segments.result.items) c.args.reading bytes meant (sym (ap (λ (ss : List (Segment g.row.A.Denot)). segment_views ss) c.new-segments.ensures.items)) (begins c.args.reading bytes));
-    }
+    subst (λ (left : List ℕ). Reads (segment_views c.new-segments.result.items) c.args.reading left meant) (sym begun)
+    (Reads-as [] (segment_views c.new-segments.result.items) c.args.reading bytes meant (sym (ap (λ (ss : List (Segment g.row.A.Denot)). segment_views ss) c.new-segments.ensures.items)) (begins c.args.reading bytes))
 
 pub returns-then-last : goal.returns-then-last
 returns-then-last g c =
     let front = segment_views c.loop-reader.segments.items in
     let some : 0 < length c.loop-reader.reader.bytes = omega (arith, c.in-Ok.ensures.taken) in
-    last front c.args.reading c.loop-reader.reader.bytes c.parse_segment.new.reader.bytes (sequential c.args.reading c.args.bytes.now) (segment_view c.in-Ok.segment) c.loop-reader.invariant.reads (read-as c.is_strict.result c.args.reading c.loop-reader.reader.bytes (Ok (segment_view c.in-Ok.segment, c.parse_segment.new.reader.bytes)) c.is_strict.ensures c.in-Ok.ensures.parses.value) some (sym c.if-last.ensures)
+    last front c.args.reading c.loop-reader.reader.bytes c.parse_segment.new.reader.bytes (sequential c.args.reading c.args.bytes.now) (segment_view c.in-Ok.segment) c.loop-reader.invariant (read-as c.is_strict.result c.args.reading c.loop-reader.reader.bytes (Ok (segment_view c.in-Ok.segment, c.parse_segment.new.reader.bytes)) c.is_strict.ensures c.in-Ok.ensures.parses.value) some (sym c.if-last.ensures)
     ∙ ap (λ (ps : List SegmentView). Ok ps) (sym (ap (λ (ss : List (Segment g.row.A.Denot)). segment_views ss) c.in_ok-push-in-Ok.ensures.items ∙ map_push (λ (s : Segment g.row.A.Denot). segment_view s) c.loop-reader.segments.items c.in-Ok.segment))
 
 pub loop-reader-preserved : goal.loop-reader-preserved
@@ -36,12 +33,9 @@ loop-reader-preserved g c =
     let front = segment_views c.loop-reader.segments.items in
     let meant = sequential c.args.reading c.args.bytes.now in
     let p = segment_view c.in-Ok.segment in
-    record {
-      aligned = c.in-Ok.ensures.parses.aligned;
-      reads = Reads-as (front ++ p ∷ []) (segment_views c.push.new.self.items) c.args.reading c.parse_segment.new.reader.bytes meant
-          (sym (ap (λ (ss : List (Segment g.row.A.Denot)). segment_views ss) c.in_ok-push-in-Ok.ensures.items ∙ map_push (λ (s : Segment g.row.A.Denot). segment_view s) c.loop-reader.segments.items c.in-Ok.segment))
-          (next front c.args.reading c.loop-reader.reader.bytes c.parse_segment.new.reader.bytes meant p c.loop-reader.invariant.reads (read-as c.is_strict.result c.args.reading c.loop-reader.reader.bytes (Ok (p, c.parse_segment.new.reader.bytes)) c.is_strict.ensures c.in-Ok.ensures.parses.value) c.in-Ok.ensures.taken (sym c.if-last.ensures));
-    }
+    Reads-as (front ++ p ∷ []) (segment_views c.push.new.self.items) c.args.reading c.parse_segment.new.reader.bytes meant
+    (sym (ap (λ (ss : List (Segment g.row.A.Denot)). segment_views ss) c.in_ok-push-in-Ok.ensures.items ∙ map_push (λ (s : Segment g.row.A.Denot). segment_view s) c.loop-reader.segments.items c.in-Ok.segment))
+    (next front c.args.reading c.loop-reader.reader.bytes c.parse_segment.new.reader.bytes meant p c.loop-reader.invariant (read-as c.is_strict.result c.args.reading c.loop-reader.reader.bytes (Ok (p, c.parse_segment.new.reader.bytes)) c.is_strict.ensures c.in-Ok.ensures.parses.value) c.in-Ok.ensures.taken (sym c.if-last.ensures))
 
 -- an error that cuts off is no want of memory
 given : (reading : Reading) (error : DecodeError) (r : Result (SegmentView × List ℕ) DecodeError) → (error ≡ OutOfMemory) ⊎ (r ≡ Err error) → is_cut_off reading error ≡ true → r ≡ Err error
@@ -56,7 +50,7 @@ given reading error r (inr e) cut = e
 pub returns-then-is_cut_off : goal.returns-then-is_cut_off
 returns-then-is_cut_off g c =
     let some : 0 < length c.loop-reader.reader.bytes = omega (arith, eqb-false (length c.loop-reader.reader.bytes) 0 (sym c.loop-reader-test.ensures)) in
-    drops (segment_views c.loop-reader.segments.items) c.args.reading c.loop-reader.reader.bytes (sequential c.args.reading c.args.bytes.now) c.in-Err.error c.loop-reader.invariant.reads
+    drops (segment_views c.loop-reader.segments.items) c.args.reading c.loop-reader.reader.bytes (sequential c.args.reading c.args.bytes.now) c.in-Err.error c.loop-reader.invariant
     (read-as c.is_strict.result c.args.reading c.loop-reader.reader.bytes (Err c.in-Err.error) c.is_strict.ensures
     (given c.args.reading c.in-Err.error (segment_at c.is_strict.result c.loop-reader.reader.bytes) c.in-Err.ensures.parses.value (sym c.if-is_cut_off.ensures))) some (sym c.if-is_cut_off.ensures)
 
@@ -64,9 +58,9 @@ pub returns-in-Err : goal.returns-in-Err
 returns-in-Err g c =
     let some : 0 < length c.loop-reader.reader.bytes = omega (arith, eqb-false (length c.loop-reader.reader.bytes) 0 (sym c.loop-reader-test.ensures)) in
     ⊎_elim (λ (e : c.in-Err.error ≡ OutOfMemory). inl e)
-    (λ (e : segment_at c.is_strict.result c.loop-reader.reader.bytes ≡ Err c.in-Err.error). inr (gives_up (segment_views c.loop-reader.segments.items) c.args.reading c.loop-reader.reader.bytes (sequential c.args.reading c.args.bytes.now) c.in-Err.error c.loop-reader.invariant.reads (read-as c.is_strict.result c.args.reading c.loop-reader.reader.bytes (Err c.in-Err.error) c.is_strict.ensures e) some (sym c.if-is_cut_off.ensures)))
+    (λ (e : segment_at c.is_strict.result c.loop-reader.reader.bytes ≡ Err c.in-Err.error). inr (gives_up (segment_views c.loop-reader.segments.items) c.args.reading c.loop-reader.reader.bytes (sequential c.args.reading c.args.bytes.now) c.in-Err.error c.loop-reader.invariant (read-as c.is_strict.result c.args.reading c.loop-reader.reader.bytes (Err c.in-Err.error) c.is_strict.ensures e) some (sym c.if-is_cut_off.ensures)))
     c.in-Err.ensures.parses.value
 
 pub returns : goal.returns
 returns g c =
-    ends (segment_views c.loop-reader.segments.items) c.args.reading c.loop-reader.reader.bytes (sequential c.args.reading c.args.bytes.now) c.loop-reader.invariant.reads (eqb-true (length c.loop-reader.reader.bytes) 0 (sym c.loop-reader-test.ensures))
+    ends (segment_views c.loop-reader.segments.items) c.args.reading c.loop-reader.reader.bytes (sequential c.args.reading c.args.bytes.now) c.loop-reader.invariant (eqb-true (length c.loop-reader.reader.bytes) 0 (sym c.loop-reader-test.ensures))

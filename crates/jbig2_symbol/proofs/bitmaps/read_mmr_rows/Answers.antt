@@ -1,5 +1,6 @@
-use Rattle.std.proofs.Common.{arith, rules}
+use Rattle.std.proofs.Common.{Ok, arith, rules}
 use Rattle.jbig2_base.proofs.Prices.{price-same}
+use Rattle.jbig2_base.proofs.ReaderLemmas.{bytes_read-start}
 use Rattle.jbig2_mmr.proofs.Prices.{decode-paid}
 use Rattle.jbig2_steps.proofs.WorkLemmas.{counts-worth}
 use Rattle.jbig2_symbol.proofs.PayingLemmas.{bytes-many}
@@ -18,3 +19,6 @@ returns-clause-paid g c =
     let within = decode-paid c.decode.result b c.decode.new.bitmap c.args.strict c.in_ok-bytes.bytes.now c.pay_bitmap.new.self.steps c.decode.new.steps c.decode.ensures.value c.decode.ensures.lanes c.decode.ensures.work in
     let more = counts-worth c.pay_bitmap.new.self c.decode.new.steps _ within in
     omega (arith, more, c.in_ok-pay.ensures.taken, c.in_ok-pay_bitmap.ensures.taken, bytes-many c.args.size c.args.reader.now.bytes c.in_ok-bytes.bytes.now _ c.in_ok-bytes.ensures.parses.value, price-same b.width c.args.sides.width b.height c.args.sides.height (search rules) (search rules))
+
+pub returns-clause-place : goal.returns-clause-place
+returns-clause-place g c = bytes_read-start (Ok tt) c.args.size c.args.reader.now c.bytes_field.new.reader c.in_ok-bytes.ensures.place c.in_ok-bytes.ensures.taken
