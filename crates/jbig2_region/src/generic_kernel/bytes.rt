@@ -10,7 +10,7 @@
 //! ```
 //!
 //! A context takes the bits from 23 up and from 47 up. Each doubling moves both one column on.
-ghost use Rattle.std.specs.Prelude.{◌≡◌, ◌+◌, ◌-◌, ◌*◌, ◌%◌, ◌^◌, ◌<◌, ◌≤◌, length, if◌then◌else◌};
+ghost use Rattle.std.specs.Prelude.{◌≡◌, ◌+◌, ◌-◌, ◌*◌, ◌^◌, ◌<◌, ◌≤◌, length, if◌then◌else◌};
 ghost use Rattle.jbig2_base.specs.Counts.{KeepsLanes};
 ghost use Rattle.jbig2_region.specs.inner.Neighbours.{IsNear, neighbour_count, cut_of, register_of};
 ghost use Rattle.jbig2_region.specs.inner.PushedPixels.{CountsBytes, PushesBytes, PushesPixels};

@@ -12,6 +12,7 @@ ghost use Rattle.jbig2_region.specs.inner.PushedPixels.{CountsByte, CountsRowPix
 ghost use Rattle.jbig2_region.specs.inner.Neighbours.{IsNear, SameAbove, Shows, neighbour_count, nominal_pixels, row_coding};
 
 use crate::generic_kernel::bytes::{push_bytes, push_pixels};
+use crate::generic_kernel::constant_templates::by_template;
 use crate::generic_kernel::windows::{WideWindows, Windows};
 use crate::template::Template;
 use crate::template::layouts::nominal_neighbours;

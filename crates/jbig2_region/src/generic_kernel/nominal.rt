@@ -1,6 +1,6 @@
 //! Decodes rows of the templates with nominal adaptive pixels, eight bytes at a time. Each template has a loop of its
 //! own, in which the places of its pixels are constants.
-ghost use Rattle.std.specs.Prelude.{◌≡◌, ◌%◌, ◌+◌, ◌-◌, ◌*◌, ◌/◌, ◌^◌, ◌<◌, ◌≤◌, length};
+ghost use Rattle.std.specs.Prelude.{◌≡◌, ◌%◌, ◌+◌, ◌*◌, ◌^◌, ◌<◌, ◌≤◌, length};
 ghost use Rattle.jbig2_region.specs.Templates.{template_of};
 ghost use Rattle.jbig2_region.specs.inner.Layouts.{nominal_neighbours};
 ghost use Rattle.jbig2_region.specs.inner.NominalRows.{DecodesRow, FitsRow};
@@ -10,6 +10,7 @@ ghost use Rattle.jbig2_region.specs.inner.Neighbours.{IsNear, neighbour_count};
 ghost use Rattle.jbig2_region.specs.inner.PushedPixels.{CountsGroup, PushesGroup};
 
 use crate::generic_kernel::bytes::{PushedBytes, push_bytes, push_pixels};
+use crate::generic_kernel::constant_templates::by_template;
 use crate::generic_kernel::windows::{WideWindows, Windows};
 use crate::generic_kernel::words::{last_windows, windows_between, words_after, words_at};
 use crate::template::Template;
