@@ -1,5 +1,5 @@
 -- Places of cells, and the number of a value's bits.
-use Rattle.std.proofs.Common.{◌≡◌, ℕ, suc, ◌+◌, ◌*◌, ◌/◌, ◌^◌, ◌<◌, ◌≤◌, Bool, true, false, ◌&&◌, ◌||◌, length, drop, Ok, Err, List, [], ◌∷◌, ◌++◌, map, get_or, ◌%◌, ℤ, pos, negsuc, ◌+ℤ◌, ◌-ℤ◌, refl, sym, ap, ◌∙◌, ⊎_elim, arith}
+use Rattle.std.proofs.Common.{◌≡◌, ℕ, suc, ◌+◌, ◌*◌, ◌/◌, ◌^◌, ◌<◌, ◌≤◌, Bool, true, false, ◌&&◌, ◌||◌, length, take, drop, Ok, Err, List, [], ◌∷◌, ◌++◌, map, get_or, ◌%◌, ℤ, pos, negsuc, ◌+ℤ◌, ◌-ℤ◌, refl, sym, ap, ◌∙◌, add-mul, ⊎_elim, arith}
 use Rattle.std.proofs.lemmas.Bool.{and_left, and_right, cond-false, le-ltb, or_cases}
 use Rattle.std.proofs.lemmas.Int.{ints}
 use Rattle.std.proofs.Math.Nat.{mul-le-mul_left}
@@ -7,7 +7,7 @@ use Rattle.std.specs.Int.{int_shr, w32, w64}
 use mir.Val.{SFits}
 use Rattle.std.specs.List.{range_with_len}
 use Rattle.std.proofs.lemmas.List.FromFn.{get_or-map-range_with_len, length-map-range_with_len, map-range_with_len_more}
-use Rattle.std.proofs.lemmas.List.{drop_all}
+use Rattle.std.proofs.lemmas.List.{drop-take, drop_all, take-append-drop, take-take, take_all}
 use Rattle.std.proofs.lemmas.Nat.{mul-add-lt, div-mul-add, mod-mul-add}
 use Rattle.std.proofs.Math.Seq.{drop-cons}
 use Rattle.jbig2_base.specs.Grid.{Grid, grid_of, blank, pixel, pixel_at}
@@ -17,14 +17,12 @@ use Rattle.jbig2_base.specs.Writes.{with_pixel}
 use Rattle.jbig2_base.proofs.GridLemmas.{grid_of-ext}
 use Rattle.jbig2_region.specs.Raster.{so_far}
 use Rattle.jbig2_region.proofs.RasterLemmas.{so_far-push, blank-so_far}
-use Rattle.jbig2_halftone.specs.GrayScale.{gray_values}
 use Rattle.jbig2_halftone.specs.Halftone.{column_of, row_of, is_beyond, pattern_for, with_cell, cells_drawn}
 use Rattle.jbig2_halftone.specs.HalftoneHeader.{HalftoneHeader}
 use Rattle.jbig2_halftone.specs.Patterns.{Patterns}
 use Rattle.jbig2_halftone.specs.inner.CellPlaces.{x_of, y_of}
-use Rattle.jbig2_halftone.specs.inner.NextValues.{row_values}
 use Rattle.jbig2_halftone.specs.inner.FunctionResults.{lies_outside, skip_grid}
-use Rattle.jbig2_halftone.proofs.RowLemmas.{values-length, rows-next, first-rows}
+use Rattle.jbig2_halftone.proofs.RowLemmas.{take-some}
 use Rattle.jbig2_base.specs.Results.{◌>>=◌}
 use Rattle.std.specs.Prelude.{Result, int_le}
 use Rattle.jbig2_base.specs.declared.bitmap.operator.CombinationOperator.{CombinationOperator}
@@ -239,22 +237,24 @@ cells-append h d k (value ∷ values) others region = next (pattern_for h.strict
     next (Ok pattern) each = each pattern ∙ ap (λ (n : ℕ). cells_drawn h d (k + 1) values (with_cell h k pattern region) >>= λ drawn. cells_drawn h d n others drawn) more
 
 -- a row more
-pub rows-drawn : (h : HalftoneHeader) (d : Patterns) (m : ℕ) (planes : List Grid) (start region : Grid) (row : List ℕ) → row ≡ row_values h.grid_position_and_size.width planes m → cells_drawn h d 0 (gray_values h.grid_position_and_size.width m planes) start ≡ Ok region
-    → cells_drawn h d 0 (gray_values h.grid_position_and_size.width (m + 1) planes) start ≡ cells_drawn h d (m * h.grid_position_and_size.width) row region
-rows-drawn h d m planes start region row made before =
-    let w : ℕ = h.grid_position_and_size.width in
-    let place : 0 + length (gray_values w m planes) ≡ m * w = omega (arith, values-length w m planes) in
-    ap (λ (vs : List ℕ). cells_drawn h d 0 vs start) (sym (rows-next w m planes) ∙ ap (λ (vs : List ℕ). gray_values w m planes ++ vs) (sym made))
-    ∙ cells-append h d 0 (gray_values w m planes) row start
+pub rows-drawn : (h : HalftoneHeader) (d : Patterns) (w m n : ℕ) (values row : List ℕ) (start region : Grid) → n ≡ w → m * w + w ≤ length values → row ≡ take n (drop (m * w) values) → cells_drawn h d 0 (take (m * w) values) start ≡ Ok region
+    → cells_drawn h d 0 (take ((m + 1) * w) values) start ≡ cells_drawn h d (m * w) row region
+rows-drawn h d w m n values row start region wide inside is before =
+    let sum : (m + 1) * w ≡ m * w + w = omega (arith, add-mul m 1 w) in
+    let place : 0 + length (take (m * w) values) ≡ m * w = omega (arith, take-some (m * w) values (omega arith)) in
+    ap (λ (k : ℕ). cells_drawn h d 0 (take k values) start) sum
+    ∙ ap (λ (vs : List ℕ). cells_drawn h d 0 vs start) (take-then (m * w) w values ∙ ap (λ (k : ℕ). take (m * w) values ++ take k (drop (m * w) values)) (sym wide) ∙ ap (λ (vs : List ℕ). take (m * w) values ++ vs) (sym is))
+    ∙ cells-append h d 0 (take (m * w) values) row start
     ∙ rw (before, place) refl
+  where
+    take-then : (a b : ℕ) (xs : List ℕ) → take (a + b) xs ≡ take a xs ++ take b (drop a xs)
+    take-then a b xs = sym (take-append-drop a (take (a + b) xs)) ∙ ap (λ (vs : List ℕ). vs ++ drop a (take (a + b) xs)) (take-take a (a + b) xs (omega arith)) ∙ ap (λ (vs : List ℕ). take a xs ++ vs) (drop-take a b xs)
 
 -- a fault in a row is the region's
-pub rows-fault : (h : HalftoneHeader) (d : Patterns) (m rows : ℕ) (planes : List Grid) (start : Grid) (error : DecodeError) → m ≤ rows → cells_drawn h d 0 (gray_values h.grid_position_and_size.width m planes) start ≡ Err error
-    → cells_drawn h d 0 (gray_values h.grid_position_and_size.width rows planes) start ≡ Err error
-rows-fault h d m rows planes start error below fault =
-    let w : ℕ = h.grid_position_and_size.width in
-    ap (λ (vs : List ℕ). cells_drawn h d 0 vs start) (first-rows w m rows planes below)
-    ∙ cells-append h d 0 (gray_values w m planes) (drop (w * m) (gray_values w rows planes)) start
+pub rows-fault : (h : HalftoneHeader) (d : Patterns) (k : ℕ) (values : List ℕ) (start : Grid) (error : DecodeError) → cells_drawn h d 0 (take k values) start ≡ Err error → cells_drawn h d 0 values start ≡ Err error
+rows-fault h d k values start error fault =
+    ap (λ (vs : List ℕ). cells_drawn h d 0 vs start) (sym (take-append-drop k values))
+    ∙ cells-append h d 0 (take k values) (drop k values) start
     ∙ rw fault refl
 
 pub cells-first : (h : HalftoneHeader) (d : Patterns) (m : ℕ) (values : List ℕ) (region : Grid) → cells_drawn h d (m * h.grid_position_and_size.width + 0) (drop 0 values) region ≡ cells_drawn h d (m * h.grid_position_and_size.width) values region
@@ -262,8 +262,12 @@ cells-first h d m values region =
     let first : m * h.grid_position_and_size.width + 0 ≡ m * h.grid_position_and_size.width = omega arith in
     rw first refl
 
-pub rows-none : (h : HalftoneHeader) (d : Patterns) (planes : List Grid) (region : Grid) → cells_drawn h d 0 (gray_values h.grid_position_and_size.width 0 planes) region ≡ Ok region
-unfolding cells_drawn gray_values
-rows-none h d planes region =
-    let none : h.grid_position_and_size.width * 0 ≡ 0 = omega arith in
+pub rows-none : (h : HalftoneHeader) (d : Patterns) (w : ℕ) (values : List ℕ) (region : Grid) → cells_drawn h d 0 (take (0 * w) values) region ≡ Ok region
+unfolding cells_drawn
+rows-none h d w values region =
+    let none : 0 * w ≡ 0 = omega arith in
     rw none refl
+
+-- all rows
+pub rows-whole : (h : HalftoneHeader) (d : Patterns) (k : ℕ) (values : List ℕ) (start region : Grid) → length values ≤ k → cells_drawn h d 0 (take k values) start ≡ Ok region → cells_drawn h d 0 values start ≡ Ok region
+rows-whole h d k values start region all drawn = sym (ap (λ (vs : List ℕ). cells_drawn h d 0 vs start) (take_all k values all)) ∙ drawn

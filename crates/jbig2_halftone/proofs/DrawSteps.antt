@@ -1,5 +1,5 @@
 -- What drawing patterns takes.
-use Rattle.std.proofs.Common.{inl, inr, ◌≡◌, ℕ, zero, suc, ◌+◌, ◌-◌, ◌*◌, ◌/◌, ◌%◌, ◌<◌, ◌≤◌, ℤ, add-one, refl, sym, ap, subst, ◌∙◌, add-mul, arith, Bool, Result, Ok, Err}
+use Rattle.std.proofs.Common.{inl, inr, ◌≡◌, ℕ, zero, suc, ◌+◌, ◌-◌, ◌*◌, ◌%◌, ◌<◌, ◌≤◌, ℤ, add-one, refl, sym, ap, subst, ◌∙◌, arith, Bool, Result, Ok, Err}
 use Rattle.std.proofs.lemmas.Nat.{div-mul-add, mod-mul-add}
 use Rattle.jbig2_base.specs.Counts.{overlap, most_words, WritesWithin, Counts}
 use Rattle.std.specs.Prelude.{OnErr, OnOk}
@@ -8,9 +8,8 @@ use Rattle.jbig2_halftone.specs.Halftone.{column_of, gray_params, row_of}
 use Rattle.jbig2_halftone.specs.HalftoneHeader.{HalftoneHeader}
 use Rattle.jbig2_halftone.specs.PatternHeader.{HasSize}
 use Rattle.jbig2_halftone.specs.Patterns.{Patterns}
-use Rattle.jbig2_halftone.specs.Steps.{CountsRead, CountsHalftone, StopsHalftone, after_mask, cell_words, words_of_cells}
-use Rattle.jbig2_halftone.specs.inner.FunctionResults.{StopsCells, StopsRows, after_lane_rows}
-use Rattle.jbig2_halftone.proofs.RowLemmas.{no-counts}
+use Rattle.jbig2_halftone.specs.Steps.{CountsImage, CountsHalftone, StopsHalftone, after_mask, cell_words, words_of_cells}
+use Rattle.jbig2_halftone.specs.inner.FunctionResults.{StopsCells}
 use Rattle.std.proofs.Math.Nat.{mul-le-mul_left}
 
 pub draws-none : (old : Counts) → WritesWithin 0 old old
@@ -101,33 +100,18 @@ words-append h d k (suc n) =
     let first : 0 + (k + n) ≡ k + n = omega arith in
     rw (more, first, words-append h d k n) (omega arith)
 
-pub rows-start : (h : HalftoneHeader) (d : Patterns) (w : ℕ) (old mid : Counts) → old ≡ mid → WritesWithin (words_of_cells h d 0 (0 * w)) mid old
+pub rows-start : (h : HalftoneHeader) (d : Patterns) (w : ℕ) (old : Counts) → WritesWithin (words_of_cells h d 0 (0 * w)) old old
 unfolding words_of_cells
-rows-start h d w old mid same =
+rows-start h d w old =
     let none : 0 * w ≡ 0 = omega arith in
-    rw none (subst (λ (s : Counts). WritesWithin 0 s old) same (draws-none old))
+    rw none (draws-none old)
 
--- a row more, after that row of the planes
-pub rows-more : (h : HalftoneHeader) (d : Patterns) (m planes w : ℕ) (old read mid new : Counts) → WritesWithin (words_of_cells h d 0 (m * w)) (after_lane_rows (m * planes) w old) read → mid ≡ after_lane_rows planes w read
-    → WritesWithin (words_of_cells h d (m * w) w) mid new → WritesWithin (words_of_cells h d 0 ((m + 1) * w)) (after_lane_rows ((m + 1) * planes) w old) new
-rows-more h d m planes w old read mid new before taken one =
+-- a row more
+pub rows-more : (h : HalftoneHeader) (d : Patterns) (m w : ℕ) (old mid new : Counts) → WritesWithin (words_of_cells h d 0 (m * w)) old mid → WritesWithin (words_of_cells h d (m * w) w) mid new → WritesWithin (words_of_cells h d 0 ((m + 1) * w)) old new
+rows-more h d m w old mid new before one =
     let sum : m * w + w ≡ (m + 1) * w = omega arith in
     let words : words_of_cells h d 0 ((m + 1) * w) ≡ words_of_cells h d 0 (m * w) + words_of_cells h d (m * w) w = sym (ap (λ (k : ℕ). words_of_cells h d 0 k) sum) ∙ words-append h d (m * w) w in
-    let here = subst (λ (s : Counts). WritesWithin (words_of_cells h d (m * w) w) s new) taken one in
-    rw words
-    (record {
-      words = omega (arith, before.words, here.words);
-      loads = rw (more m planes (w / 8 + w % 8)) (omega (arith, before.loads, here.loads));
-      decisions = here.decisions ∙ before.decisions;
-      run_tests = here.run_tests ∙ before.run_tests;
-      groups = rw (more m planes (w / 8)) (omega (arith, before.groups, here.groups));
-      pixels = rw (more m planes (w % 8)) (omega (arith, before.pixels, here.pixels));
-    })
-  where
-    more : (m planes v : ℕ) → (m + 1) * planes * v ≡ m * planes * v + planes * v
-    more m planes v =
-        let sum : (m + 1) * planes ≡ m * planes + planes = omega arith in
-        rw sum (add-mul (m * planes) planes v)
+    rw words (draws-then (words_of_cells h d 0 (m * w)) (words_of_cells h d (m * w) w) old mid new before one)
 
 -- ---- the skip mask
 pub mask-start : (w : ℕ) (old : Counts) → old ≡ record old { words = old.words + 0 * w }
@@ -165,26 +149,19 @@ on-any (Err e) P p = p
 pub region-size : (w h : ℕ) (black : Bool) (region : Grid) → region ≡ blank w h black → HasSize w h region
 region-size w h black region e = record { columns = ap (λ (g : Grid). g.width) e; rows = ap (λ (g : Grid). g.height) e }
 
-pub region-steps : (h : HalftoneHeader) (d : Patterns) (planes : ℕ) (old read new : Counts) → planes ≡ (gray_params h d).bits_per_pixel → CountsRead (gray_params h d) h.bytes (gray_params h d).bits_per_pixel (after_mask h d old) read
-    → WritesWithin (words_of_cells h d 0 (h.grid_position_and_size.height * h.grid_position_and_size.width)) (after_lane_rows (h.grid_position_and_size.height * planes) h.grid_position_and_size.width read) new → CountsHalftone h d old new
-region-steps h d planes old read new many reads draws = (
-  after_lane_rows (h.grid_position_and_size.height * planes) h.grid_position_and_size.width read,
-  ((read, (reads, ap (λ (n : ℕ). after_lane_rows (h.grid_position_and_size.height * n) h.grid_position_and_size.width read) many)), draws),
-)
+pub region-steps : (h : HalftoneHeader) (d : Patterns) (old image new : Counts) → CountsImage (gray_params h d) h.bytes (after_mask h d old) image → WritesWithin (words_of_cells h d 0 (h.grid_position_and_size.height * h.grid_position_and_size.width)) image new → CountsHalftone h d old new
+region-steps h d old image new reads draws = (image, (reads, draws))
 
 -- a region with a value that no pattern has
-pub region-stops : (h : HalftoneHeader) (d : Patterns) (planes : ℕ) (old read new : Counts) → planes ≡ (gray_params h d).bits_per_pixel → CountsRead (gray_params h d) h.bytes (gray_params h d).bits_per_pixel (after_mask h d old) read
-    → StopsRows h d planes read new → StopsHalftone h d old new
-region-stops h d planes old read new many reads (rows, (few, draws)) =
-    let w : ℕ = h.grid_position_and_size.width in
-    inr
-    ((gray_params h d).bits_per_pixel, (rows, (omega arith, (few, (after_lane_rows (rows * planes) w read, ((read, (reads, ap (λ (n : ℕ). after_lane_rows (rows * n) w read) many)), draws))))))
+pub region-stops : (h : HalftoneHeader) (d : Patterns) (old image new : Counts) → CountsImage (gray_params h d) h.bytes (after_mask h d old) image → WritesWithin (words_of_cells h d 0 (h.grid_position_and_size.height * h.grid_position_and_size.width)) image new → StopsHalftone h d old new
+region-stops h d old image new reads draws =
+    let all : ℕ = (gray_params h d).bits_per_pixel in
+    inr (all, (omega arith, (all, (omega arith, (image, (reads, draws))))))
 
 -- a region whose cells can't be read
 pub cells-stop : (h : HalftoneHeader) (d : Patterns) (old new : Counts) → StopsCells h d old new → StopsHalftone h d old new
 cells-stop h d old new (inl none) = inl none
-cells-stop h d old new (inr (planes, (few, reads))) =
-    inr (planes, (0, (few, (omega arith, (new, ((new, (reads, no-counts planes h.grid_position_and_size.width new)), draws-nothing _ new))))))
+cells-stop h d old new (inr (count, (few, (taken, (less, reads))))) = inr (count, (few, (taken, (less, (new, (reads, draws-nothing _ new))))))
 
 -- fewer rows of cells
 pub rows-within : (h : HalftoneHeader) (d : Patterns) (m n w : ℕ) (old new : Counts) → m ≤ n → WritesWithin (words_of_cells h d 0 (m * w)) old new → WritesWithin (words_of_cells h d 0 (n * w)) old new

@@ -1,10 +1,9 @@
 -- What the planes of an image take.
-use Rattle.std.proofs.Common.{◌≡◌, ℕ, ◌+◌, ◌-◌, ◌*◌, ◌/◌, ◌%◌, ◌≤◌, Bool, true, false, not, List, drop, length, Option, None, Some, add-one, add-mul, refl, sym, ap, subst, ◌∙◌, arith}
+use Rattle.std.proofs.Common.{◌≡◌, ℕ, zero, suc, ◌+◌, ◌-◌, ◌*◌, ◌/◌, ◌%◌, ◌<◌, ◌≤◌, Bool, true, false, not, List, drop, length, Option, None, Some, add-one, add-mul, refl, sym, ap, subst, ◌∙◌, arith}
 use Rattle.std.specs.Borrow.{Bor}
 use Rattle.std.specs.Prelude.{is_some}
 use Rattle.std.proofs.Math.Nat.{mul-le-mul_left, mul-le-mul_right}
 use Rattle.std.proofs.lemmas.List.{length-drop}
-use Rattle.jbig2_base.proofs.LaneCounts.{lanes-none, lanes-then}
 use Rattle.jbig2_base.specs.Counts.{Counts, KeepsLanes, words_of}
 use Rattle.jbig2_base.specs.Grid.{Grid, blank}
 use Rattle.jbig2_coder.specs.Coder.{Coder, Context, Registers}
@@ -19,9 +18,10 @@ use Rattle.jbig2_region.specs.declared.template.AdaptiveTemplatePixel.{AdaptiveT
 use Rattle.jbig2_region.specs.declared.template.Template.{Template}
 use Rattle.jbig2_region.specs.declared.template.Template.TheVariants.{Template0, Template1, Template2, Template3}
 use Rattle.jbig2_halftone.specs.GrayScale.{GrayScale, after_planes}
-use Rattle.jbig2_halftone.specs.Steps.{CountsImage, CountsLanes, CountsMasked, CountsPlanes, CountsRead, StopsImage, plane_runs, words_of_plane}
-use Rattle.jbig2_halftone.specs.inner.FunctionResults.{CountsCoded, CountsMmr, CountsOne, CountsPlane, StopsCoded, plain_coding, plane_pixels, plane_start, after_lane_rows}
+use Rattle.jbig2_halftone.specs.Steps.{CountsImage, CountsLanes, CountsMasked, CountsPlanes, CountsRead, StopsImage, TakesLanes, plane_runs, taking_loads, words_of_plane}
+use Rattle.jbig2_halftone.specs.inner.FunctionResults.{CountsCoded, CountsMmr, CountsOne, CountsPlane, MovesByMmr, StopsCoded, StopsMmr, plain_coding, plane_pixels, plane_start, after_lane_rows}
 use Rattle.jbig2_halftone.proofs.PlaneLemmas.{AfterPlanes, no-mask}
+use Rattle.jbig2_halftone.proofs.RowLemmas.{counts-start}
 use Rattle.jbig2_region.proofs.PlaceCounts.{how_many-all}
 use Rattle.jbig2_region.proofs.PlaceLemmas.{at_pixel-plain}
 
@@ -54,60 +54,96 @@ all-coded pixels t w h bytes start plain =
     let coding : Coding = coding_of false t pixels in
     how_many-all (λ n. not (at_pixel coding w h bytes start n).predicted) true (w * h) (λ n _. ap not (at_pixel-plain coding w h bytes start n refl plain)) ∙ omega arith
 
-planes-begin : (p : GrayScale) (bytes : List ℕ) (steps : Counts) → CountsPlanes p bytes 0 steps steps
-unfolding plane_runs
-planes-begin p bytes steps = record { empty = λ _. refl; decisions = λ _. omega arith; run_tests = omega arith; words = omega arith; loads = omega arith; lanes = lanes-none steps }
-
+-- ---- planes that are read and taken
 one-more : (n v : ℕ) → (n + 1) * v ≡ n * v + v
 one-more n v = omega (arith, add-mul n 1 v)
 
-planes-more : (p : GrayScale) (bytes : List ℕ) (i : ℕ) (old mid new : Counts) → CountsPlanes p bytes i old mid → CountsPlane p p.width p.height bytes (plane_start p bytes i) mid new → CountsPlanes p bytes (i + 1) old new
+-- taking a plane without pixels takes no step
+taken-empty : (h w : ℕ) (before : Counts) → w * h ≡ 0 → after_lane_rows h w before ≡ before
+taken-empty zero w before none = sym (counts-start w before)
+taken-empty (suc h) zero before none =
+    let rows : suc h * 0 ≡ 0 = omega arith in
+    let loads : before.loads + 0 ≡ before.loads = omega arith in
+    let groups : before.groups + 0 ≡ before.groups = omega arith in
+    let pixels : before.pixels + 0 ≡ before.pixels = omega arith in
+    rw (rows, loads, groups, pixels) refl
+taken-empty (suc h) (suc w) before none = absurd (omega arith)
+
+planes-begin : (p : GrayScale) (bytes : List ℕ) (steps : Counts) → CountsPlanes p bytes 0 (0 * taking_loads p) steps steps
 unfolding plane_runs
-planes-more p bytes i old mid new before one =
+planes-begin p bytes steps = record { empty = λ _. refl; decisions = λ _. omega arith; run_tests = omega arith; words = omega arith; loads = omega arith }
+
+planes-more : (p : GrayScale) (bytes : List ℕ) (i : ℕ) (old mid read new : Counts) → CountsPlanes p bytes i (i * taking_loads p) old mid → CountsPlane p p.width p.height bytes (plane_start p bytes i) mid read → new ≡ after_lane_rows p.height p.width read → CountsPlanes p bytes (i + 1) ((i + 1) * taking_loads p) old new
+unfolding plane_runs
+planes-more p bytes i old mid read new before one taken =
     let runs : plane_runs p bytes (i + 1) ≡ plane_runs p bytes i + coded_runs (plane_pixels p) true (plain_coding p) p.width p.height bytes (plane_start p bytes i) = rw add-one refl in
     let coded = all-coded (plane_pixels p) p.template p.width p.height bytes (plane_start p bytes i) refl in
     let none : p.width * p.height * 0 ≡ 0 = omega arith in
     record {
-      empty = λ none. one.empty none ∙ before.empty none;
+      empty = λ none. taken ∙ taken-empty p.height p.width read none ∙ one.empty none ∙ before.empty none;
       decisions = λ some.
           let here = one.decisions some in
           let plain = rw coded at here in
-          rw (runs, one-more i (p.width * p.height)) (omega (arith, before.decisions some, plain));
-      run_tests = rw (one-more i (p.height * row_tests true p.width)) (omega (arith, before.run_tests, one.run_tests));
-      words = rw (one-more i (p.height * row_words true p.width)) (omega (arith, before.words, one.words));
-      loads = let plain = rw (coded, none) at one.loads in rw (one-more i (p.height * row_loads true p.width)) (omega (arith, before.loads, plain));
-      lanes = lanes-then old mid new before.lanes one.lanes;
+          rw (runs, one-more i (p.width * p.height)) (omega (arith, before.decisions some, plain, ap (λ (c : Counts). c.decisions) taken));
+      run_tests = rw (one-more i (p.height * row_tests true p.width)) (omega (arith, before.run_tests, one.run_tests, ap (λ (c : Counts). c.run_tests) taken));
+      words = rw (one-more i (p.height * row_words true p.width)) (omega (arith, before.words, one.words, ap (λ (c : Counts). c.words) taken));
+      loads =
+          let plain = rw (coded, none) at one.loads in
+          rw (one-more i (p.height * row_loads true p.width), one-more i (taking_loads p)) (omega (arith, before.loads, plain, ap (λ (c : Counts). c.loads) taken));
     }
 
-planes-next : (p : GrayScale) (bytes : List ℕ) (i : ℕ) (plane : Grid) (coder : Coder) (states : List Context) (old mid new : Counts) (planes : List Grid) → plane ≡ blank p.width p.height false → AfterPlanes p bytes i planes coder states
-    → CountsPlanes p bytes i old mid → CountsPlane p plane.width plane.height coder.bytes (no_pixels coder.registers states) mid new → CountsPlanes p bytes (i + 1) old new
-planes-next p bytes i plane coder states old mid new planes white behind before one =
-    let two = subst (λ (b : List ℕ). CountsPlane p plane.width plane.height b (no_pixels coder.registers states) mid new) behind.bytes one in
-    let three = subst (λ (g : Grid). CountsPlane p g.width g.height bytes (no_pixels coder.registers states) mid new) white two in
-    let four = subst (λ (r : Registers). CountsPlane p p.width p.height bytes (no_pixels r states) mid new) behind.registers three in
-    let five = subst (λ (s : List Context). CountsPlane p p.width p.height bytes (no_pixels (after_planes p bytes i).registers s) mid new) behind.contexts four in
-    planes-more p bytes i old mid new before five
+planes-next : (p : GrayScale) (bytes : List ℕ) (i : ℕ) (plane : Grid) (coder : Coder) (states : List Context) (old mid read new : Counts) → plane ≡ blank p.width p.height false → AfterPlanes p bytes i coder states
+    → CountsPlanes p bytes i (i * taking_loads p) old mid → CountsPlane p plane.width plane.height coder.bytes (no_pixels coder.registers states) mid read → new ≡ after_lane_rows p.height p.width read → CountsPlanes p bytes (i + 1) ((i + 1) * taking_loads p) old new
+planes-next p bytes i plane coder states old mid read new white after before one taken =
+    let two = subst (λ (b : List ℕ). CountsPlane p plane.width plane.height b (no_pixels coder.registers states) mid read) after.bytes one in
+    let three = subst (λ (g : Grid). CountsPlane p g.width g.height bytes (no_pixels coder.registers states) mid read) white two in
+    let four = subst (λ (r : Registers). CountsPlane p p.width p.height bytes (no_pixels r states) mid read) after.registers three in
+    let five = subst (λ (s : List Context). CountsPlane p p.width p.height bytes (no_pixels (after_planes p bytes i).registers s) mid read) after.contexts four in
+    planes-more p bytes i old mid read new before five taken
 
--- ---- planes with skipped pixels, or without
-masked-begin : (p : GrayScale) (steps : Counts) → CountsMasked p 0 steps steps
+-- ---- with skipped pixels, or without
+masked-begin : (p : GrayScale) (steps : Counts) → CountsMasked p 0 (0 * taking_loads p) steps steps
 masked-begin p steps = record { decisions = omega arith; run_tests = refl; words = omega arith; loads = omega arith }
 
-masked-more : (p : GrayScale) (i : ℕ) (old mid new : Counts) → CountsMasked p i old mid → CountsSkipping p.skip_mask p.width p.height mid new → CountsMasked p (i + 1) old new
-masked-more p i old mid new before one = record {
-  decisions = rw (one-more i (kept_pixels p.skip_mask p.width p.height)) (omega (arith, before.decisions, one.decisions));
-  run_tests = one.run_tests ∙ before.run_tests;
-  words = rw (one-more i (p.height * skipping_words p.width)) (omega (arith, before.words, one.words));
-  loads = rw (one-more i (p.height * skipping_loads p.width)) (omega (arith, before.loads, one.loads));
+masked-more : (p : GrayScale) (i : ℕ) (old mid read new : Counts) → CountsMasked p i (i * taking_loads p) old mid → CountsSkipping p.skip_mask p.width p.height mid read → new ≡ after_lane_rows p.height p.width read → CountsMasked p (i + 1) ((i + 1) * taking_loads p) old new
+masked-more p i old mid read new before one taken = record {
+  decisions = rw (one-more i (kept_pixels p.skip_mask p.width p.height)) (omega (arith, before.decisions, one.decisions, ap (λ (c : Counts). c.decisions) taken));
+  run_tests = ap (λ (c : Counts). c.run_tests) taken ∙ one.run_tests ∙ before.run_tests;
+  words = rw (one-more i (p.height * skipping_words p.width)) (omega (arith, before.words, one.words, ap (λ (c : Counts). c.words) taken));
+  loads = rw (one-more i (p.height * skipping_loads p.width), one-more i (taking_loads p)) (omega (arith, before.loads, one.loads, ap (λ (c : Counts). c.loads) taken));
 }
 
-pub counts-begin : (p : GrayScale) (bytes : List ℕ) (steps : Counts) → CountsCoded p bytes 0 steps steps
-counts-begin p bytes steps = record { plain = λ _. planes-begin p bytes steps; masked = λ _. masked-begin p steps }
+-- ---- lanes
+pub taken-none : (p : GrayScale) (steps : Counts) → TakesLanes p 0 steps steps
+taken-none p steps =
+    let rows : p.height * 0 ≡ 0 = omega arith in
+    record { groups = rw rows (omega arith); pixels = rw rows (omega arith) }
 
-pub counts-more : (p : GrayScale) (bytes : List ℕ) (i : ℕ) (plane : Grid) (coder : Coder) (states : List Context) (old mid new : Counts) (planes : List Grid) → plane ≡ blank p.width p.height false → AfterPlanes p bytes i planes coder states
-    → CountsCoded p bytes i old mid → CountsOne p plane.width plane.height coder.bytes (no_pixels coder.registers states) mid new → CountsCoded p bytes (i + 1) old new
-counts-more p bytes i plane coder states old mid new planes white behind before one = record {
-  plain = λ none. planes-next p bytes i plane coder states old mid new planes white behind (before.plain none) (one.plain none);
-  masked = λ some. masked-more p i old mid new (before.masked some) (subst (λ (g : Grid). CountsSkipping p.skip_mask g.width g.height mid new) white (one.masked some));
+pub taken-more : (p : GrayScale) (i : ℕ) (old mid read new : Counts) → TakesLanes p i old mid → KeepsLanes mid read → new ≡ after_lane_rows p.height p.width read → TakesLanes p (i + 1) old new
+taken-more p i old mid read new before stays taken = record {
+  groups = rw (rows p.height i (p.width / 8)) (omega (arith, before.groups, stays.groups, ap (λ (c : Counts). c.groups) taken));
+  pixels = rw (rows p.height i (p.width % 8)) (omega (arith, before.pixels, stays.pixels, ap (λ (c : Counts). c.pixels) taken));
+}
+  where
+    rows : (h i v : ℕ) → h * (i + 1) * v ≡ h * i * v + h * v
+    rows h i v =
+        let sum : h * (i + 1) ≡ h * i + h = omega arith in
+        rw sum (add-mul (h * i) h v)
+
+-- a plane that is read and not taken
+taken-kept : (p : GrayScale) (i : ℕ) (old mid new : Counts) → TakesLanes p i old mid → KeepsLanes mid new → TakesLanes p i old new
+taken-kept p i old mid new before stays = record { groups = stays.groups ∙ before.groups; pixels = stays.pixels ∙ before.pixels }
+
+-- ---- planes by the coder
+pub counts-begin : (p : GrayScale) (bytes : List ℕ) (steps : Counts) → CountsCoded p bytes 0 steps steps
+counts-begin p bytes steps = record { plain = λ _. planes-begin p bytes steps; masked = λ _. masked-begin p steps; lanes = taken-none p steps }
+
+pub counts-more : (p : GrayScale) (bytes : List ℕ) (i : ℕ) (plane : Grid) (coder : Coder) (states : List Context) (old mid read new : Counts) → plane ≡ blank p.width p.height false → AfterPlanes p bytes i coder states
+    → CountsCoded p bytes i old mid → CountsOne p plane.width plane.height coder.bytes (no_pixels coder.registers states) mid read → new ≡ after_lane_rows p.height p.width read → CountsCoded p bytes (i + 1) old new
+counts-more p bytes i plane coder states old mid read new white after before one taken = record {
+  plain = λ none. planes-next p bytes i plane coder states old mid read new white after (before.plain none) (one.plain none) taken;
+  masked = λ some. masked-more p i old mid read new (before.masked some) (subst (λ (g : Grid). CountsSkipping p.skip_mask g.width g.height mid read) white (one.masked some)) taken;
+  lanes = taken-more p i old mid read new before.lanes one.lanes taken;
 }
 
 -- nothing moved
@@ -116,68 +152,90 @@ moves-none most steps = record { moves = omega arith; decisions = refl; run_test
 
 -- no plane of those that are asked for
 pub stops-none : (p : GrayScale) (bytes : List ℕ) (steps : Counts) → StopsImage p bytes steps steps
-stops-none p bytes steps = (0, (omega arith, record { plain = λ _ _. planes-begin p bytes steps; masked = λ _ _. masked-begin p steps; mmr = λ _. moves-none _ steps; lanes = lanes-none steps }))
+stops-none p bytes steps = (0, (omega arith, (0, (omega arith, record { plain = λ _ _. planes-begin p bytes steps; masked = λ _ _. masked-begin p steps; mmr = λ _. moves-none _ steps; lanes = taken-none p steps }))))
 
-pub stops-some : (p : GrayScale) (bytes : List ℕ) (count : ℕ) (old new : Counts) → count ≤ p.bits_per_pixel → CountsRead p bytes count old new → StopsImage p bytes old new
-stops-some p bytes count old new few read = (count, (few, read))
-
--- ---- planes that MMR wrote
-pub mmr-begin : (words all : ℕ) (steps : Counts) → CountsMmr words 0 all all steps steps
-mmr-begin words all steps = record { moves = omega arith; decisions = refl; run_tests = refl }
+-- ---- planes by MMR
+pub mmr-begin : (p : GrayScale) (all : ℕ) (steps : Counts) → MovesByMmr (words_of_plane p) 0 all all (0 * taking_loads p) steps steps
+mmr-begin p all steps = record { moves = omega arith; decisions = refl; run_tests = refl }
 
 -- one more, of the bytes that are left
-pub mmr-more : (words i all left rest : ℕ) (old mid new : Counts) → CountsMmr words i all left old mid → CountsMmr words 1 left rest mid new → CountsMmr words (i + 1) all rest old new
-mmr-more words i all left rest old mid new before one = record {
+mmr-then : (words i all left rest loads : ℕ) (old mid new : Counts) → MovesByMmr words i all left loads old mid → MovesByMmr words 1 left rest 0 mid new → MovesByMmr words (i + 1) all rest loads old new
+mmr-then words i all left rest loads old mid new before one = record {
   moves = rw (one-more i words) (omega (arith, before.moves, one.moves));
   decisions = one.decisions ∙ before.decisions;
   run_tests = one.run_tests ∙ before.run_tests;
 }
 
+-- which is taken
+pub mmr-more : (p : GrayScale) (i all left rest : ℕ) (old mid read new : Counts) → MovesByMmr (words_of_plane p) i all left (i * taking_loads p) old mid → MovesByMmr (words_of_plane p) 1 left rest 0 mid read → new ≡ after_lane_rows p.height p.width read
+    → MovesByMmr (words_of_plane p) (i + 1) all rest ((i + 1) * taking_loads p) old new
+mmr-more p i all left rest old mid read new before one taken =
+    let both = mmr-then (words_of_plane p) i all left rest (i * taking_loads p) old mid read before one in
+    record {
+      moves = rw (one-more i (taking_loads p)) (omega (arith, both.moves, ap (λ (c : Counts). c.loads) taken, ap (λ (c : Counts). c.words) taken));
+      decisions = ap (λ (c : Counts). c.decisions) taken ∙ both.decisions;
+      run_tests = ap (λ (c : Counts). c.run_tests) taken ∙ both.run_tests;
+    }
+
 -- no more than all of them
-pub mmr-some : (words i count all left : ℕ) (old new : Counts) → i ≤ count → CountsMmr words i all left old new → MovesWithin (3 * (count * words + 8 * all)) old new
-mmr-some words i count all left old new few counts = record {
-  moves = omega (arith, counts.moves, mul-le-mul_right {m = i} {n = count} words few);
-  decisions = counts.decisions;
-  run_tests = counts.run_tests;
+mmr-some : (p : GrayScale) (bytes : List ℕ) (i left taken : ℕ) (old new : Counts) → i ≤ p.bits_per_pixel → MovesByMmr (words_of_plane p) i (length bytes) left (taken * taking_loads p) old new → TakesLanes p taken old new → CountsMmr p bytes taken old new
+mmr-some p bytes i left taken old new few counts lanes = record {
+  moves = record {
+    moves = omega (arith, counts.moves, mul-le-mul_right {m = i} {n = p.bits_per_pixel} (words_of_plane p) few);
+    decisions = counts.decisions;
+    run_tests = counts.run_tests;
+  };
+  lanes = lanes;
 }
+
+pub mmr-all-counted : (p : GrayScale) (bytes : List ℕ) (i left : ℕ) (old new : Counts) → i ≡ p.bits_per_pixel → MovesByMmr (words_of_plane p) i (length bytes) left (i * taking_loads p) old new → TakesLanes p i old new → CountsMmr p bytes p.bits_per_pixel old new
+mmr-all-counted p bytes i left old new all counts lanes = subst (λ (n : ℕ). CountsMmr p bytes n old new) all (mmr-some p bytes i left i old new (omega arith) counts lanes)
+
+pub mmr-stopped : (p : GrayScale) (bytes : List ℕ) (i left : ℕ) (old new : Counts) → i ≤ p.bits_per_pixel → MovesByMmr (words_of_plane p) i (length bytes) left (i * taking_loads p) old new → TakesLanes p i old new → StopsMmr p bytes old new
+mmr-stopped p bytes i left old new few counts lanes = (i, (few, mmr-some p bytes i left i old new few counts lanes))
+
+-- a plane that is refused isn't taken
+pub mmr-refused-after : (p : GrayScale) (bytes : List ℕ) (i left : ℕ) (old mid new : Counts) → i < p.bits_per_pixel → MovesByMmr (words_of_plane p) i (length bytes) left (i * taking_loads p) old mid → TakesLanes p i old mid → MovesByMmr (words_of_plane p) 1 left 0 0 mid new → KeepsLanes mid new → StopsMmr p bytes old new
+mmr-refused-after p bytes i left old mid new more counts lanes one stays =
+    (i, (omega arith, mmr-some p bytes (i + 1) 0 i old new (omega arith) (mmr-then (words_of_plane p) i (length bytes) left 0 (i * taking_loads p) old mid new counts one) (taken-kept p i old mid new lanes stays)))
 
 -- one plane
 mmr-words : (p : GrayScale) (white : Grid) → white ≡ blank p.width p.height false → words_of white ≡ words_of_plane p
 mmr-words p white is = ap words_of is
 
-pub mmr-one : (p : GrayScale) (white : Grid) (bytes rest : List ℕ) (used : ℕ) (old new : Counts) → white ≡ blank p.width p.height false → used ≤ length bytes → rest ≡ drop used bytes → MovesWithin (3 * (words_of white + 8 * used)) old new → CountsMmr (words_of_plane p) 1 (length bytes) (length rest) old new
+pub mmr-one : (p : GrayScale) (white : Grid) (bytes rest : List ℕ) (used : ℕ) (old new : Counts) → white ≡ blank p.width p.height false → used ≤ length bytes → rest ≡ drop used bytes → MovesWithin (3 * (words_of white + 8 * used)) old new → MovesByMmr (words_of_plane p) 1 (length bytes) (length rest) 0 old new
 mmr-one p white bytes rest used old new is within others moves =
     let left : length rest ≡ length bytes - used = ap (λ (bs : List ℕ). length bs) others ∙ length-drop used bytes in
     record { moves = omega (arith, left, mmr-words p white is, moves.moves); decisions = moves.decisions; run_tests = moves.run_tests }
 
 -- one that is refused
-pub mmr-refused : (p : GrayScale) (white : Grid) (all : ℕ) (old new : Counts) → white ≡ blank p.width p.height false → MovesWithin (3 * (words_of white + 8 * all)) old new → CountsMmr (words_of_plane p) 1 all 0 old new
+pub mmr-refused : (p : GrayScale) (white : Grid) (all : ℕ) (old new : Counts) → white ≡ blank p.width p.height false → MovesWithin (3 * (words_of white + 8 * all)) old new → MovesByMmr (words_of_plane p) 1 all 0 0 old new
 mmr-refused p white all old new is moves = record { moves = omega (arith, mmr-words p white is, moves.moves); decisions = moves.decisions; run_tests = moves.run_tests }
 
 -- planes are written in one way
 clash : (b : Bool) → b ≡ true → b ≡ false → ⊥
 clash b on off = cc
 
--- this many of an image's planes, and at most all of them
-pub mmr-read : (p : GrayScale) (bytes : List ℕ) (count : ℕ) (old new : Counts) → p.use_mmr ≡ true → MovesWithin (3 * (count * words_of_plane p + 8 * length bytes)) old new → KeepsLanes old new → CountsRead p bytes count old new
-mmr-read p bytes count old new is moves lanes = record { plain = λ coded _. absurd (clash p.use_mmr is coded); masked = λ coded _. absurd (clash p.use_mmr is coded); mmr = λ _. moves; lanes = lanes }
+-- ---- images
+mmr-read : (p : GrayScale) (bytes : List ℕ) (taken : ℕ) (old new : Counts) → p.use_mmr ≡ true → CountsMmr p bytes taken old new → CountsRead p bytes p.bits_per_pixel taken old new
+mmr-read p bytes taken old new is counts = record { plain = λ coded _. absurd (clash p.use_mmr is coded); masked = λ coded _. absurd (clash p.use_mmr is coded); mmr = λ _. counts.moves; lanes = counts.lanes }
 
-pub mmr-stops : (p : GrayScale) (bytes : List ℕ) (old new : Counts) → p.use_mmr ≡ true → MovesWithin (3 * (p.bits_per_pixel * words_of_plane p + 8 * length bytes)) old new → KeepsLanes old new → StopsImage p bytes old new
-mmr-stops p bytes old new is moves lanes = (p.bits_per_pixel, (omega arith, mmr-read p bytes p.bits_per_pixel old new is moves lanes))
+pub mmr-image : (p : GrayScale) (bytes : List ℕ) (old new : Counts) → p.use_mmr ≡ true → CountsMmr p bytes p.bits_per_pixel old new → CountsImage p bytes old new
+mmr-image p bytes old new is counts = mmr-read p bytes p.bits_per_pixel old new is counts
+
+pub mmr-stops : (p : GrayScale) (bytes : List ℕ) (old new : Counts) → p.use_mmr ≡ true → StopsMmr p bytes old new → StopsImage p bytes old new
+mmr-stops p bytes old new is (taken, (few, counts)) = (p.bits_per_pixel, (omega arith, (taken, (few, mmr-read p bytes taken old new is counts))))
 
 -- ---- planes that the coder wrote
-pub coded-read : (p : GrayScale) (bytes : List ℕ) (count : ℕ) (old new : Counts) → p.use_mmr ≡ false → CountsCoded p bytes count old new → KeepsLanes old new → CountsRead p bytes count old new
-coded-read p bytes count old new coded counts lanes = record { plain = λ _. counts.plain; masked = λ _. counts.masked; mmr = λ is. absurd (clash p.use_mmr is coded); lanes = lanes }
+pub coded-read : (p : GrayScale) (bytes : List ℕ) (count : ℕ) (old new : Counts) → p.use_mmr ≡ false → CountsCoded p bytes count old new → CountsRead p bytes count count old new
+coded-read p bytes count old new coded counts = record { plain = λ _. counts.plain; masked = λ _. counts.masked; mmr = λ is. absurd (clash p.use_mmr is coded); lanes = counts.lanes }
 
 -- this many of them
 pub coded-some : (p : GrayScale) (bytes : List ℕ) (count : ℕ) (old new : Counts) → count ≤ p.bits_per_pixel → CountsCoded p bytes count old new → StopsCoded p bytes old new
 coded-some p bytes count old new few counts = (count, (few, counts))
 
-pub coded-stops : (p : GrayScale) (bytes : List ℕ) (old new : Counts) → p.use_mmr ≡ false → KeepsLanes old new → StopsCoded p bytes old new → StopsImage p bytes old new
-coded-stops p bytes old new coded lanes (count, (few, counts)) = (count, (few, coded-read p bytes count old new coded counts lanes))
-
-pub stops-lanes : (p : GrayScale) (bytes : List ℕ) (old new : Counts) → StopsImage p bytes old new → KeepsLanes old new
-stops-lanes p bytes old new (planes, (few, read)) = read.lanes
+pub coded-stops : (p : GrayScale) (bytes : List ℕ) (old new : Counts) → p.use_mmr ≡ false → StopsCoded p bytes old new → StopsImage p bytes old new
+coded-stops p bytes old new coded (count, (few, counts)) = (count, (few, (count, (omega arith, coded-read p bytes count old new coded counts))))
 
 -- a plane of which no pixel is skipped
 pub one-plain : (p : GrayScale) (mask : Option (Bor Grid)) (w h : ℕ) (bytes : List ℕ) (start : Region) (before after : Counts) → p.skip_mask ≡ skip_of mask → is_some mask ≡ false → CountsPlane p w h bytes start before after → CountsOne p w h bytes start before after
@@ -204,17 +262,10 @@ one-masked p mask adaptive w h bytes start before after is some at counts =
 
 -- what the values take beside the planes
 pub image-lanes : (p : GrayScale) (bytes : List ℕ) (old new : Counts) → CountsImage p bytes old new → CountsLanes p old new
-image-lanes p bytes old new (read, (reads, taken)) =
-    let lanes = lanes-of (p.height * p.bits_per_pixel) p.width old read new reads.lanes taken in
-    record { groups = lanes.0; pixels = lanes.1; both = lanes.2 }
-  where
-    lanes-of : (rows w : ℕ) (old read new : Counts) → KeepsLanes old read → new ≡ after_lane_rows rows w read
-        → (new.groups ≡ old.groups + rows * (w / 8)) × (new.pixels ≡ old.pixels + rows * (w % 8)) × (new.groups + new.pixels ≤ old.groups + old.pixels + rows * (w / 8 + 7))
-    lanes-of rows w old read new stay taken =
-        let groups = ap (λ (c : Counts). c.groups) taken in
-        let pixels = ap (λ (c : Counts). c.pixels) taken in
-        let rest : rows * (w % 8) ≤ rows * 7 = mul-le-mul_left {m = w % 8} {n = 7} rows (omega arith) in
-        (omega (arith, groups, stay.groups), omega (arith, pixels, stay.pixels), omega (arith, groups, pixels, rest, stay.groups, stay.pixels))
+image-lanes p bytes old new counts =
+    let rows : ℕ = p.height * p.bits_per_pixel in
+    let rest : rows * (p.width % 8) ≤ rows * 7 = mul-le-mul_left {m = p.width % 8} {n = 7} rows (omega arith) in
+    record { taken = counts.lanes; both = omega (arith, counts.lanes.groups, counts.lanes.pixels, rest) }
 
 -- no step before the first plane
 unfoldable pub NoneYet : ℕ → Counts → Counts → Type 0
@@ -231,12 +282,3 @@ none-more count old new = λ never. absurd (omega arith)
 pub none-left : (count : ℕ) (old new : Counts) → NoneYet count old new → count ≡ 0 → new ≡ old
 unfolding NoneYet
 none-left count old new none = none
-
--- no planes
-pub no-lane-rows : (h n w : ℕ) (old new : Counts) → n ≡ 0 → new ≡ after_lane_rows (h * n) w old → new ≡ old
-no-lane-rows h n w old new none taken =
-    let rows : h * n ≡ 0 = rw none (omega arith) in
-    let loads : old.loads + 0 * (w / 8 + w % 8) ≡ old.loads = omega arith in
-    let groups : old.groups + 0 * (w / 8) ≡ old.groups = omega arith in
-    let pixels : old.pixels + 0 * (w % 8) ≡ old.pixels = omega arith in
-    taken ∙ ap (λ (k : ℕ). after_lane_rows k w old) rows ∙ rw (loads, groups, pixels) refl

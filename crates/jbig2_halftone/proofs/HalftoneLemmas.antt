@@ -1,37 +1,52 @@
 -- What decoding a whole halftone region gives: a value for each cell, and in lenient mode never a refusal.
-use Rattle.std.proofs.Common.{◌≡◌, ℕ, zero, suc, ◌+◌, ◌≤◌, Bool, true, false, ltb, List, [], ◌∷◌, length, drop, get_or, ◌-◌, Result, Ok, Err, refl, sym, ap, subst, ◌∙◌, ◌⊎◌, inl, inr, ⊎_elim, arith}
+use Rattle.std.proofs.Common.{◌≡◌, ℕ, zero, suc, ◌+◌, ◌*◌, ◌≤◌, Bool, true, false, ltb, List, [], ◌∷◌, length, drop, get_or, ◌-◌, Result, Ok, Err, refl, sym, ap, subst, ◌∙◌, ◌⊎◌, inl, inr, ⊎_elim, arith}
 use Rattle.std.specs.Prelude.{if◌then◌else◌, IfErr}
 use Rattle.std.proofs.lemmas.Bool.{le-ltb, and_right}
-use Rattle.jbig2_base.specs.Results.{◌>>=◌, Returns, Gives, Leaves}
+use Rattle.jbig2_base.specs.Results.{◌>>=◌, Returns, Gives, Leaves, refuse_if}
 use Rattle.jbig2_base.specs.Grid.{Grid, blank}
 use Rattle.jbig2_base.specs.declared.error.DecodeError.{DecodeError}
-use Rattle.jbig2_base.specs.declared.error.DecodeError.TheVariants.{OutOfMemory, Region}
+use Rattle.jbig2_base.specs.declared.error.DecodeError.TheVariants.{OutOfMemory, Overflow, Region}
+use Rattle.jbig2_base.specs.declared.error.OverflowError.TheVariants.{BitmapDimension}
 use Rattle.jbig2_base.specs.declared.error.RegionError.TheVariants.{GrayScaleOutOfRange}
 use Rattle.jbig2_coder.specs.Coder.{Context}
 use Rattle.jbig2_base.specs.Search.{code_length}
 use Rattle.jbig2_mmr.specs.T6.{mmr_rows}
 use Rattle.jbig2_halftone.specs.GrayScale.{GrayScale, mmr_plane, mmr_planes, planes_of, gray_values, image_is_too_large, gray_scale_image}
-use Rattle.jbig2_halftone.specs.Halftone.{gray_params, pattern_for, with_cell, cells_drawn, halftone_result, halftone_contexts}
+use Rattle.jbig2_halftone.specs.Halftone.{gray_params, pattern_for, with_cell, cells_drawn, halftone_result}
 use Rattle.jbig2_halftone.specs.HalftoneHeader.{HalftoneHeader}
 use Rattle.jbig2_halftone.specs.Patterns.{Patterns}
-use Rattle.jbig2_halftone.specs.inner.FunctionResults.{planes_by_coder, planes_by_mmr, planes_contexts}
+use Rattle.jbig2_halftone.specs.inner.FunctionResults.{planes_by_coder, planes_by_mmr, values_of}
+use Rattle.jbig2_halftone.proofs.RowLemmas.{values-length}
 
 -- an image whose sides fit
 pub image-fits : (p : GrayScale) → p.width ≤ 65535 → p.height ≤ 65535 → image_is_too_large p ≡ false
 image-fits p columns rows = rw (le-ltb 65535 p.width columns, le-ltb 65535 p.height rows, and_right (ltb 0 p.bits_per_pixel) false refl) refl
 
--- what a region is, from its planes
-pub result-of-planes : (h : HalftoneHeader) (d : Patterns) (planes : List Grid) → image_is_too_large (gray_params h d) ≡ false → planes_of (gray_params h d) h.bytes ≡ Ok planes
-    → halftone_result h d ≡ cells_drawn h d 0 (gray_values h.grid_position_and_size.width h.grid_position_and_size.height planes) (blank h.region_info.width h.region_info.height h.flags.initial_pixel_color)
-unfolding halftone_result gray_scale_image
-result-of-planes h d planes fits read = rw (fits, read) refl
+-- what a region is, from its values
+pub result-of-values : (h : HalftoneHeader) (d : Patterns) (values : List ℕ) → gray_scale_image (gray_params h d) h.bytes ≡ Ok values → halftone_result h d ≡ cells_drawn h d 0 values (blank h.region_info.width h.region_info.height h.flags.initial_pixel_color)
+unfolding halftone_result
+result-of-values h d values read = rw read refl
 
-pub result-of-fault : (h : HalftoneHeader) (d : Patterns) (e : DecodeError) → image_is_too_large (gray_params h d) ≡ false → planes_of (gray_params h d) h.bytes ≡ Err e → halftone_result h d ≡ Err e
-unfolding halftone_result gray_scale_image
-result-of-fault h d e fits read = rw (fits, read) refl
+pub result-of-fault : (h : HalftoneHeader) (d : Patterns) (e : DecodeError) → gray_scale_image (gray_params h d) h.bytes ≡ Err e → halftone_result h d ≡ Err e
+unfolding halftone_result
+result-of-fault h d e read = rw read refl
 
-pub contexts-of-planes : (h : HalftoneHeader) (d : Patterns) (old new : List Context) → image_is_too_large (gray_params h d) ≡ false → new ≡ planes_contexts (gray_params h d) h.bytes old → new ≡ halftone_contexts h d old
-contexts-of-planes h d old new fits left = rw fits left
+-- a value for each cell
+pub values-sized : (p : GrayScale) (bytes values : List ℕ) → gray_scale_image p bytes ≡ Ok values → length values ≡ p.width * p.height
+unfolding gray_scale_image
+values-sized p bytes values read = by (image_is_too_large p) (planes_of p bytes) read
+  where
+    by : (large : Bool) (planes : Result (List Grid) DecodeError) → ((refuse_if large (Overflow BitmapDimension)) >>= λ fits. planes >>= λ ps. Ok (gray_values p.width p.height ps)) ≡ Ok values → length values ≡ p.width * p.height
+    by true planes made = absurd (cc)
+    by false (Err e) made = absurd (cc)
+    by false (Ok ps) made =
+        let same : gray_values p.width p.height ps ≡ values = cc in
+        sym (ap (λ (vs : List ℕ). length vs) same) ∙ values-length p.width p.height ps
+
+-- an image, from its planes
+pub image-of-planes : (p : GrayScale) (bytes : List ℕ) → image_is_too_large p ≡ false → gray_scale_image p bytes ≡ values_of p (planes_of p bytes)
+unfolding gray_scale_image
+image-of-planes p bytes fits = rw fits refl
 
 -- an exact answer is one
 pub answers-gives : {X Y : Type 0} (view : X → Y) (result : Result X DecodeError) (drawn meant : Result Y DecodeError) → meant ≡ drawn → Returns view result drawn → Gives view result meant

@@ -1,11 +1,10 @@
 -- Planes read one after another, and the values gathered from them.
-use Rattle.std.proofs.Common.{◌≡◌, ℕ, suc, ◌+◌, ◌-◌, ◌/◌, ◌<◌, ◌≤◌, Bool, true, false, ltb, not, ◌&&◌, ◌||◌, zero, List, [], ◌∷◌, ◌++◌, length, get_or, take, drop, Result, Ok, Err, add-one, refl, sym, ap, subst, ◌∙◌, arith}
-use Rattle.std.specs.List.{All}
+use Rattle.std.proofs.Common.{◌≡◌, ℕ, suc, ◌+◌, ◌-◌, ◌/◌, ◌<◌, ◌≤◌, Bool, true, false, ltb, not, ◌&&◌, ◌||◌, List, [], ◌∷◌, ◌++◌, length, take, drop, Result, Ok, Err, add-one, length-append, refl, sym, ap, subst, ◌∙◌, arith}
 use Rattle.std.specs.Prelude.{if◌then◌else◌, Option, None, Some, is_some}
 use Rattle.std.specs.Borrow.{Bor}
 use Rattle.std.proofs.lemmas.Bool.{lt-ltb, ltb-false}
 use Rattle.std.proofs.lemmas.List.{append_assoc, append-nil, length-drop, take_all}
-use Rattle.std.proofs.lemmas.List.FromFn.{get_or-map-range_with_len, length-map-range_with_len, map-range_with_len_more}
+use Rattle.std.proofs.lemmas.List.FromFn.{length-map-range_with_len, map-range_with_len_more}
 use Rattle.jbig2_base.specs.Results.{◌>>=◌}
 use Rattle.jbig2_base.specs.Grid.{Grid, blank}
 use Rattle.jbig2_base.specs.declared.error.DecodeError.{DecodeError}
@@ -17,8 +16,8 @@ use Rattle.jbig2_region.specs.{Generic.{skipping_coding}, inner.RegionViews.{ski
 use Rattle.jbig2_mmr.specs.T6.{Decoded, Rows, mmr_rows, grid_of_rows, rows_of}
 use Rattle.jbig2_region.specs.Templates.{context_bits, template_pixels, nominal_adaptive_pixels}
 use Rattle.jbig2_region.specs.declared.template.AdaptiveTemplatePixel.{AdaptiveTemplatePixel}
-use Rattle.jbig2_halftone.specs.GrayScale.{GrayScale, after_planes, mmr_plane, mmr_planes, planes_of, image_is_too_large}
-use Rattle.jbig2_halftone.specs.inner.FunctionResults.{coded_plane, plane_coding, coded_planes, planes_by_coder, planes_by_mmr}
+use Rattle.jbig2_halftone.specs.GrayScale.{GrayScale, after_planes, gray_values, mmr_plane, mmr_planes, image_is_too_large}
+use Rattle.jbig2_halftone.specs.inner.FunctionResults.{coded_plane, plane_coding, coded_planes, planes_by_coder, planes_by_mmr, values_of}
 
 -- neither side of an image that has a plane is too long
 pub image-sides : (p : GrayScale) (i : ℕ) → image_is_too_large p ≡ false → i < p.bits_per_pixel → (p.width ≤ 65535) × (p.height ≤ 65535)
@@ -57,46 +56,51 @@ no-mask (Some m) e = absurd (cc)
 
 -- ---- planes by the coder
 -- what is held after the i highest planes
-pub record AfterPlanes (p : GrayScale) (input : List ℕ) (i : ℕ) (planes : List Grid) (coder : Coder) (states : List Context) : Type 0 where
-  pub done : planes ≡ coded_planes p input i
+pub record AfterPlanes (p : GrayScale) (input : List ℕ) (i : ℕ) (coder : Coder) (states : List Context) : Type 0 where
   pub bytes : coder.bytes ≡ input
   pub registers : coder.registers ≡ (after_planes p input i).registers
   pub contexts : states ≡ (after_planes p input i).contexts
 
-pub behind-none : (p : GrayScale) (input : List ℕ) (planes : List Grid) (coder : Coder) (states : List Context) → planes ≡ [] → coder.bytes ≡ input → coder.registers ≡ initial_registers input → states ≡ fresh_contexts (context_bits p.template) → AfterPlanes p input 0 planes coder states
+pub after-none : (p : GrayScale) (input : List ℕ) (coder : Coder) (states : List Context) → coder.bytes ≡ input → coder.registers ≡ initial_registers input → states ≡ fresh_contexts (context_bits p.template) → AfterPlanes p input 0 coder states
 unfolding after_planes
-behind-none p input planes coder states none bytes registers contexts = record { done = none; bytes = bytes; registers = registers; contexts = contexts }
+after-none p input coder states bytes registers contexts = record { bytes = bytes; registers = registers; contexts = contexts }
 
-pub coded-holds : (p : GrayScale) (input : List ℕ) (i : ℕ) (planes : List Grid) (before grid : Grid) (coder next : Coder) (states after : List Context) → before ≡ blank p.width p.height false
+pub coded-holds : (p : GrayScale) (input : List ℕ) (i : ℕ) (before grid : Grid) (coder next : Coder) (states after : List Context) → before ≡ blank p.width p.height false
     → HasDecoded before.width before.height coder.bytes (decoded_region (plane_coding p) before.width before.height coder.bytes (no_pixels coder.registers states)) (region_state grid next after)
-    → AfterPlanes p input i planes coder states
+    → AfterPlanes p input i coder states
     → HasDecoded p.width p.height input (after_planes p input (i + 1)) (region_state grid next after)
 unfolding after_planes
-coded-holds p input i planes before grid coder next states after white holds behind =
-    let two = subst (λ (b : List ℕ). HasDecoded before.width before.height b (decoded_region (plane_coding p) before.width before.height b (no_pixels coder.registers states)) (region_state grid next after)) behind.bytes holds in
+coded-holds p input i before grid coder next states after white holds before_it =
+    let two = subst (λ (b : List ℕ). HasDecoded before.width before.height b (decoded_region (plane_coding p) before.width before.height b (no_pixels coder.registers states)) (region_state grid next after)) before_it.bytes holds in
     let three = subst (λ (g : Grid). HasDecoded g.width g.height input (decoded_region (plane_coding p) g.width g.height input (no_pixels coder.registers states)) (region_state grid next after)) white two in
-    let four = subst (λ (r : Registers). HasDecoded p.width p.height input (decoded_region (plane_coding p) p.width p.height input (no_pixels r states)) (region_state grid next after)) behind.registers three in
-    let five = subst (λ (s : List Context). HasDecoded p.width p.height input (decoded_region (plane_coding p) p.width p.height input (no_pixels (after_planes p input i).registers s)) (region_state grid next after)) behind.contexts four in
+    let four = subst (λ (r : Registers). HasDecoded p.width p.height input (decoded_region (plane_coding p) p.width p.height input (no_pixels r states)) (region_state grid next after)) before_it.registers three in
+    let five = subst (λ (s : List Context). HasDecoded p.width p.height input (decoded_region (plane_coding p) p.width p.height input (no_pixels (after_planes p input i).registers s)) (region_state grid next after)) before_it.contexts four in
     rw add-one five
 
-pub coded-next : (p : GrayScale) (input : List ℕ) (i : ℕ) (old new : List Grid) (grid : Grid) (coder next : Coder) (states after : List Context) → HasDecoded p.width p.height input (after_planes p input (i + 1)) (region_state grid next after)
-    → new ≡ old ++ grid ∷ [] → AfterPlanes p input i old coder states → AfterPlanes p input (i + 1) new next after
-coded-next p input i old new grid coder next states after holds pushed behind = record {
-  done =
-      pushed ∙ ap (λ (ps : List Grid). ps ++ grid ∷ []) behind.done
-      ∙ ap (λ (g : Grid). coded_planes p input i ++ g ∷ []) holds.pixels ∙ sym (map-range_with_len_more (coded_plane p input) 0 i i (omega arith));
-  bytes = holds.bytes;
-  registers = holds.registers;
-  contexts = holds.contexts;
-}
+pub coded-next : (p : GrayScale) (input : List ℕ) (i : ℕ) (grid : Grid) (next : Coder) (after : List Context) → HasDecoded p.width p.height input (after_planes p input (i + 1)) (region_state grid next after) → AfterPlanes p input (i + 1) next after
+coded-next p input i grid next after holds = record { bytes = holds.bytes; registers = holds.registers; contexts = holds.contexts }
 
--- all planes are read
-pub coded-all : (p : GrayScale) (input : List ℕ) (i : ℕ) (planes : List Grid) (coder : Coder) (states : List Context) → i ≡ p.bits_per_pixel → AfterPlanes p input i planes coder states → planes_by_coder p input ≡ Ok planes
-coded-all p input i planes coder states all behind =
-    sym (ap (λ (ps : List Grid). Ok ps) (behind.done ∙ ap (λ (n : ℕ). coded_planes p input n) all))
+-- the values of one plane more
+pub coded-values : (p : GrayScale) (input : List ℕ) (i : ℕ) (grid : Grid) (next : Coder) (after : List Context) (values : List ℕ) → HasDecoded p.width p.height input (after_planes p input (i + 1)) (region_state grid next after)
+    → values ≡ gray_values p.width p.height (coded_planes p input i ++ grid ∷ []) → values ≡ gray_values p.width p.height (coded_planes p input (i + 1))
+coded-values p input i grid next after values holds made =
+    made
+    ∙ ap (λ (g : Grid). gray_values p.width p.height (coded_planes p input i ++ g ∷ [])) holds.pixels
+    ∙ sym (ap (λ (ps : List Grid). gray_values p.width p.height ps) (map-range_with_len_more (coded_plane p input) 0 i i (omega arith)))
 
-pub coded-contexts : (p : GrayScale) (input : List ℕ) (i : ℕ) (planes : List Grid) (coder : Coder) (states : List Context) → i ≡ p.bits_per_pixel → AfterPlanes p input i planes coder states → states ≡ (after_planes p input p.bits_per_pixel).contexts
-coded-contexts p input i planes coder states all behind = behind.contexts ∙ ap (λ (n : ℕ). (after_planes p input n).contexts) all
+pub coded-many : (p : GrayScale) (input : List ℕ) (i : ℕ) → length (coded_planes p input i) ≡ i
+coded-many p input i = length-map-range_with_len (coded_plane p input) 0 i
+
+-- all planes are taken
+pub coded-all : (p : GrayScale) (input : List ℕ) (i : ℕ) (values : List ℕ) → i ≡ p.bits_per_pixel → values ≡ gray_values p.width p.height (coded_planes p input i) → values_of p (planes_by_coder p input) ≡ Ok values
+coded-all p input i values all made =
+    sym (ap (λ (vs : List ℕ). ok vs) (made ∙ ap (λ (n : ℕ). gray_values p.width p.height (coded_planes p input n)) all))
+  where
+    ok : List ℕ → Result (List ℕ) DecodeError
+    ok vs = Ok vs
+
+pub coded-contexts : (p : GrayScale) (input : List ℕ) (i : ℕ) (coder : Coder) (states : List Context) → i ≡ p.bits_per_pixel → AfterPlanes p input i coder states → states ≡ (after_planes p input p.bits_per_pixel).contexts
+coded-contexts p input i coder states all before_it = before_it.contexts ∙ ap (λ (n : ℕ). (after_planes p input n).contexts) all
 
 -- ---- planes by MMR
 -- i planes are read, and `rest` is left
@@ -187,62 +191,48 @@ mmr-made p before grid left used white e =
 pub drop-whole : (k : ℕ) (bytes : List ℕ) → take (length bytes - k) (drop k bytes) ≡ drop k bytes
 drop-whole k bytes = take_all (length bytes - k) (drop k bytes) (omega (arith, length-drop k bytes))
 
--- ---- all planes have the image's width
-all-cons : {X : Type 0} (P : X → Type 0) (x : X) (xs : List X) → P x → All P xs → (k : ℕ) (d : X) → k < length (x ∷ xs) → P (get_or (x ∷ xs) k d)
-all-cons P x xs first others zero d inside = first
-all-cons P x xs first others (suc k) d inside = others k d (omega arith)
-
--- this many planes, each so wide
-pub record AreSized (p : GrayScale) (count : ℕ) (planes : List Grid) : Type 0 where
-  pub many : length planes ≡ count
-  pub wide : All (λ (g : Grid). g.width ≡ p.width) planes
-
-coded-sized : (p : GrayScale) (input : List ℕ) (count : ℕ) → AreSized p count (coded_planes p input count)
-unfolding so_far
-coded-sized p input count = record {
-  many = length-map-range_with_len (coded_plane p input) 0 count;
-  wide = λ k d inside. ap (λ (g : Grid). g.width) (get_or-map-range_with_len (coded_plane p input) 0 count k k d (omega (arith, length-map-range_with_len (coded_plane p input) 0 count)) (omega arith));
-}
-
-plane-sized : (p : GrayScale) (left : List ℕ) (grid : Grid) (rest : List ℕ) (r : Result Decoded DecodeError) → mmr_rows p.strict p.width p.height left ≡ r → ◌≡◌ {A = Result (Grid × List ℕ) DecodeError} (r >>= λ rows. Ok (rows.grid, drop rows.used left)) (Ok (grid, rest)) → grid.width ≡ p.width
-plane-sized p left grid rest (Err e) rows made = absurd (cc)
-plane-sized p left grid rest (Ok d) rows made =
+-- the sides of a plane
+sides-of : (p : GrayScale) (left : List ℕ) (grid : Grid) (rest : List ℕ) (r : Result Decoded DecodeError) → mmr_rows p.strict p.width p.height left ≡ r → ◌≡◌ {A = Result (Grid × List ℕ) DecodeError} (r >>= λ rows. Ok (rows.grid, drop rows.used left)) (Ok (grid, rest)) → (grid.width ≡ p.width) × (grid.height ≡ p.height)
+sides-of p left grid rest (Err e) rows made = absurd (cc)
+sides-of p left grid rest (Ok d) rows made =
     let same : d.grid ≡ grid = ap (first-of d.grid) made in
-    ap (λ (g : Grid). g.width) (sym same ∙ (rows-made p.strict p.width p.height left d rows).0)
+    let is = sym same ∙ (rows-made p.strict p.width p.height left d rows).0 in
+    (ap (λ (g : Grid). g.width) is, ap (λ (g : Grid). g.height) is)
   where
     first-of : Grid → Result (Grid × List ℕ) DecodeError → Grid
     first-of other (Ok read) = read.0
     first-of other (Err e) = other
 
-planes-sized-then : (p : GrayScale) (count : ℕ) (grid : Grid) (planes : List Grid) (r : Result (List Grid) DecodeError) → grid.width ≡ p.width → ((others : List Grid) → r ≡ Ok others → AreSized p count others) → (r >>= λ others. Ok (grid ∷ others)) ≡ Ok planes → AreSized p (count + 1) planes
-planes-sized-then p count grid planes (Err e) wide each made = absurd (cc)
-planes-sized-then p count grid planes (Ok others) wide each made =
-    let same : grid ∷ others ≡ planes = cc in
-    let sized : AreSized p count others = each others refl in
-    subst (λ (ps : List Grid). AreSized p (count + 1) ps) same (record { many = omega (arith, sized.many); wide = all-cons (λ (g : Grid). g.width ≡ p.width) grid others wide sized.wide })
-
-planes-sized-step : (p : GrayScale) (count : ℕ) (input : List ℕ) (planes : List Grid) (r : Result (Grid × List ℕ) DecodeError) → mmr_plane p input ≡ r → ((rest : List ℕ) (others : List Grid) → mmr_planes p rest count ≡ Ok others → AreSized p count others)
-    → (r >>= λ plane. mmr_planes p plane.1 count >>= λ others. Ok (plane.0 ∷ others)) ≡ Ok planes → AreSized p (count + 1) planes
+pub plane-sides : (p : GrayScale) (left : List ℕ) (grid : Grid) (rest : List ℕ) → mmr_plane p left ≡ Ok (grid, rest) → (grid.width ≡ p.width) × (grid.height ≡ p.height)
 unfolding mmr_plane
-planes-sized-step p count input planes (Err e) read each made = absurd (cc)
-planes-sized-step p count input planes (Ok (grid, rest)) read each made =
-    let wide : grid.width ≡ p.width = plane-sized p input grid rest (mmr_rows p.strict p.width p.height input) refl read in
-    planes-sized-then p count grid planes (mmr_planes p rest count) wide (each rest) made
+plane-sides p left grid rest read = sides-of p left grid rest (mmr_rows p.strict p.width p.height left) refl read
 
-mmr-planes-sized : (p : GrayScale) (count : ℕ) (input : List ℕ) (planes : List Grid) → mmr_planes p input count ≡ Ok planes → AreSized p count planes
-unfolding mmr_planes
-mmr-planes-sized p zero input planes made =
-    let none : [] ≡ planes = cc in
-    subst (λ (ps : List Grid). AreSized p 0 ps) none (record { many = refl; wide = λ k d inside. absurd (omega arith) })
-mmr-planes-sized p (suc count) input planes made =
-    let next : count + 1 ≡ suc count = omega arith in
-    subst (λ (n : ℕ). AreSized p n planes) next (planes-sized-step p count input planes (mmr_plane p input) refl (λ rest others e. mmr-planes-sized p count rest others e) made)
+-- ---- values of planes by MMR
+-- the values of the planes that are read; `rest` is left
+pub record AddsMmr (p : GrayScale) (input : List ℕ) (i : ℕ) (made rest : List ℕ) : Type 0 where
+  pub planes : List Grid
+  pub many : length planes ≡ i
+  pub values : made ≡ gray_values p.width p.height planes
+  pub reads : ReadsMmr p input i planes rest
 
-pub planes-sized : (p : GrayScale) (input : List ℕ) (planes : List Grid) → planes_of p input ≡ Ok planes → AreSized p p.bits_per_pixel planes
-planes-sized p input planes made = by p.use_mmr made
+pub adds-none : (p : GrayScale) (input values : List ℕ) → values ≡ gray_values p.width p.height [] → AddsMmr p input 0 values input
+adds-none p input values none = record { planes = []; many = refl; values = none; reads = mmr-none p input [] refl }
+
+pub adds-next : (p : GrayScale) (input : List ℕ) (i : ℕ) (grid : Grid) (old new left rest : List ℕ) → i < p.bits_per_pixel → mmr_plane p left ≡ Ok (grid, rest) → (adds : AddsMmr p input i old left)
+    → new ≡ gray_values p.width p.height (adds.planes ++ grid ∷ []) → AddsMmr p input (i + 1) new rest
+adds-next p input i grid old new left rest more read adds made = record {
+  planes = adds.planes ++ grid ∷ [];
+  many = length-append adds.planes (grid ∷ []) ∙ ap (λ (n : ℕ). n + 1) adds.many;
+  values = made;
+  reads = mmr-next p input i grid adds.planes (adds.planes ++ grid ∷ []) left rest more read refl adds.reads;
+}
+
+pub adds-all : (p : GrayScale) (input : List ℕ) (i : ℕ) (values rest : List ℕ) → p.bits_per_pixel ≤ i → AddsMmr p input i values rest → values_of p (planes_by_mmr p input) ≡ Ok values
+adds-all p input i values rest all adds =
+    ap (values_of p) (mmr-all p input i adds.planes rest all adds.reads) ∙ sym (ap (λ (vs : List ℕ). ok vs) adds.values)
   where
-    by : (mmr : Bool) → (if mmr then planes_by_mmr p input else planes_by_coder p input) ≡ Ok planes → AreSized p p.bits_per_pixel planes
-    by true e = mmr-planes-sized p p.bits_per_pixel input planes e
-    by false e =
-        let same : coded_planes p input p.bits_per_pixel ≡ planes = cc in
-        subst (λ (ps : List Grid). AreSized p p.bits_per_pixel ps) same (coded-sized p input p.bits_per_pixel)
+    ok : List ℕ → Result (List ℕ) DecodeError
+    ok vs = Ok vs
+
+pub adds-fault : (p : GrayScale) (input : List ℕ) (i : ℕ) (values left : List ℕ) (error : DecodeError) → i < p.bits_per_pixel → mmr_plane p left ≡ Err error → AddsMmr p input i values left → values_of p (planes_by_mmr p input) ≡ Err error
+adds-fault p input i values left error more fault adds = ap (values_of p) (mmr-fault p input i adds.planes left error more fault adds.reads)

@@ -14,8 +14,8 @@ use Rattle.jbig2_halftone.specs.Halftone.{column_of, gray_params, row_of, skip_m
 use Rattle.jbig2_halftone.specs.HalftoneHeader.{HalftoneHeader}
 use Rattle.jbig2_halftone.specs.PatternHeader.{PatternHeader}
 use Rattle.jbig2_halftone.specs.Patterns.{Patterns, collective_header}
-use Rattle.jbig2_halftone.specs.Steps.{CountsDrawn, CountsHalftone, CountsImage, CountsMasked, CountsPlanes, CountsRead, CountsRows, StopsHalftone, StopsImage, after_mask, cell_words, price_of_halftone, price_of_image, price_of_patterns, words_of_cells}
-use Rattle.jbig2_halftone.specs.inner.FunctionResults.{StopsCut, after_lane_rows}
+use Rattle.jbig2_halftone.specs.Steps.{CountsDrawn, CountsHalftone, CountsImage, CountsMasked, CountsPlanes, CountsRead, StopsHalftone, StopsImage, TakesLanes, after_mask, cell_words, price_of_halftone, price_of_image, price_of_patterns, taking_loads, words_of_cells}
+use Rattle.jbig2_halftone.specs.inner.FunctionResults.{StopsCut}
 
 -- ---- planes, each of h rows of m words
 -- what a row counts, of which no pixel is skipped
@@ -35,59 +35,60 @@ plain-few count w h m tests words loads few = omega (arith, all-rows count h (w 
 masked-few : (count w h m words loads : ℕ) → w + words + loads ≤ 90 * m → count * (w * h) + count * (h * words) + count * (h * loads) ≤ 90 * (count * (m * h))
 masked-few count w h m words loads few = omega (arith, all-rows count h (w + words + loads) (90 * m) few)
 
-plain-counted : (p : GrayScale) (bytes : List ℕ) (count w : ℕ) (before after : Counts) → w ≡ p.width → CountsPlanes p bytes count before after → counted after ≤ counted before + 90 * (count * (words_of_row p.width * p.height))
-plain-counted p bytes count zero before after is counts =
+-- planes that are taken by lanes
+lanes-row : (w m : ℕ) → w ≤ 64 * m → 1 ≤ m → w / 8 + w % 8 + w / 8 + w % 8 ≤ 30 * m
+lanes-row w m wide some = omega arith
+
+lanes-few : (taken h w m : ℕ) → w / 8 + w % 8 + w / 8 + w % 8 ≤ 30 * m → taken * (h * (w / 8 + w % 8)) + h * taken * (w / 8) + h * taken * (w % 8) ≤ 30 * (taken * (m * h))
+lanes-few taken h w m few =
+    let all : h * taken * (w / 8 + w % 8 + w / 8 + w % 8) ≤ h * taken * (30 * m) = mul-le-mul_left (h * taken) few in
+    omega (arith, all)
+
+lanes-counted : (p : GrayScale) (taken : ℕ) → taken * taking_loads p + p.height * taken * (p.width / 8) + p.height * taken * (p.width % 8) ≤ 30 * (taken * (words_of_row p.width * p.height))
+lanes-counted p taken = lanes-few taken p.height p.width (words_of_row p.width) (lanes-row p.width (words_of_row p.width) (row-wide p.width) (row-some p.width))
+
+plain-counted : (p : GrayScale) (bytes : List ℕ) (count taken w : ℕ) (before after : Counts) → w ≡ p.width → CountsPlanes p bytes count (taken * taking_loads p) before after → TakesLanes p taken before after
+    → counted after ≤ counted before + (90 * (count * (words_of_row p.width * p.height)) + 30 * (taken * (words_of_row p.width * p.height)))
+plain-counted p bytes count taken zero before after is counts lanes =
     let none : p.width * p.height ≡ 0 = rw (← is) (omega arith) in
     let kept : counted after ≡ counted before = ap (λ (c : Counts). counted c) (counts.empty none) in
     omega (arith, kept)
-plain-counted p bytes count (suc k) before after is counts =
+plain-counted p bytes count taken (suc k) before after is counts lanes =
     let some : 1 ≤ p.width = omega arith in
     let few = plain-few count p.width p.height (words_of_row p.width) (row_tests true p.width) (row_words true p.width) (row_loads true p.width) (plain-row p.width (words_of_row p.width) (row-wide p.width) (row-some p.width)) in
-    omega (arith, few, counts.decisions some, counts.run_tests, counts.words, counts.loads, counts.lanes.groups, counts.lanes.pixels)
+    omega (arith, few, lanes-counted p taken, counts.decisions some, counts.run_tests, counts.words, counts.loads, lanes.groups, lanes.pixels)
 
-masked-counted : (p : GrayScale) (count : ℕ) (before after : Counts) → CountsMasked p count before after → after.groups ≡ before.groups → after.pixels ≡ before.pixels → counted after ≤ counted before + 90 * (count * (words_of_row p.width * p.height))
+masked-counted : (p : GrayScale) (count taken : ℕ) (before after : Counts) → CountsMasked p count (taken * taking_loads p) before after → TakesLanes p taken before after
+    → counted after ≤ counted before + (90 * (count * (words_of_row p.width * p.height)) + 30 * (taken * (words_of_row p.width * p.height)))
 unfolding kept_pixels
-masked-counted p count before after counts groups pixels =
+masked-counted p count taken before after counts lanes =
     let kept : count * kept_pixels p.skip_mask p.width p.height ≤ count * (p.width * p.height) = mul-le-mul_left count (how_many-most _ (p.width * p.height)) in
     let few = masked-few count p.width p.height (words_of_row p.width) (skipping_words p.width) (skipping_loads p.width) (masked-row p.width (words_of_row p.width) (row-wide p.width) (row-some p.width)) in
-    omega (arith, kept, few, counts.decisions, counts.run_tests, counts.words, counts.loads)
+    omega (arith, kept, few, lanes-counted p taken, counts.decisions, counts.run_tests, counts.words, counts.loads, lanes.groups, lanes.pixels)
 
 mmr-few : (count w h : ℕ) → count * ((w + 63) / 64 * h) ≤ count * (words_of_row w * h)
 mmr-few count w h = mul-le-mul_left count (mul-le-mul_right h (omega arith))
 
--- planes that are read
-read-counted : (p : GrayScale) (bytes : List ℕ) (count : ℕ) (before after : Counts) → CountsRead p bytes count before after → counted after ≤ counted before + (90 * (count * (words_of_row p.width * p.height)) + 24 * length bytes)
-read-counted p bytes count before after read = by_mmr p.use_mmr refl
+-- planes that are read, and taken
+read-counted : (p : GrayScale) (bytes : List ℕ) (count taken : ℕ) (before after : Counts) → CountsRead p bytes count taken before after
+    → counted after ≤ counted before + (90 * (count * (words_of_row p.width * p.height)) + 30 * (taken * (words_of_row p.width * p.height)) + 24 * length bytes)
+read-counted p bytes count taken before after read = by_mmr p.use_mmr refl
   where
-    by_mask : (m : Option Grid) → p.use_mmr ≡ false → p.skip_mask ≡ m → counted after ≤ counted before + (90 * (count * (words_of_row p.width * p.height)) + 24 * length bytes)
-    by_mask None coded is = omega (arith, plain-counted p bytes count p.width before after refl (read.plain coded is))
-    by_mask (Some mask) coded is = omega (arith, masked-counted p count before after (read.masked coded (ap is_some is)) read.lanes.groups read.lanes.pixels)
+    by_mask : (m : Option Grid) → p.use_mmr ≡ false → p.skip_mask ≡ m
+        → counted after ≤ counted before + (90 * (count * (words_of_row p.width * p.height)) + 30 * (taken * (words_of_row p.width * p.height)) + 24 * length bytes)
+    by_mask None coded is = omega (arith, plain-counted p bytes count taken p.width before after refl (read.plain coded is) read.lanes)
+    by_mask (Some mask) coded is = omega (arith, masked-counted p count taken before after (read.masked coded (ap is_some is)) read.lanes)
 
-    by_mmr : (b : Bool) → p.use_mmr ≡ b → counted after ≤ counted before + (90 * (count * (words_of_row p.width * p.height)) + 24 * length bytes)
-    by_mmr true is = let moves = read.mmr is in omega (arith, mmr-few count p.width p.height, moves.moves, moves.decisions, moves.run_tests, read.lanes.groups, read.lanes.pixels)
+    by_mmr : (b : Bool) → p.use_mmr ≡ b
+        → counted after ≤ counted before + (90 * (count * (words_of_row p.width * p.height)) + 30 * (taken * (words_of_row p.width * p.height)) + 24 * length bytes)
+    by_mmr true is =
+        let moves = read.mmr is in
+        omega (arith, mmr-few count p.width p.height, lanes-counted p taken, moves.moves, moves.decisions, moves.run_tests, read.lanes.groups, read.lanes.pixels)
     by_mmr false coded = by_mask p.skip_mask coded refl
 
--- rows of them that are taken by lanes
-lanes-row : (w m : ℕ) → w ≤ 64 * m → 1 ≤ m → w / 8 + w % 8 + w / 8 + w % 8 ≤ 30 * m
-lanes-row w m wide some = omega arith
-
-lanes-few : (rows planes w m : ℕ) → w / 8 + w % 8 + w / 8 + w % 8 ≤ 30 * m → rows * planes * (w / 8 + w % 8) + rows * planes * (w / 8) + rows * planes * (w % 8) ≤ 30 * (planes * (m * rows))
-lanes-few rows planes w m few =
-    let all : rows * planes * (w / 8 + w % 8 + w / 8 + w % 8) ≤ rows * planes * (30 * m) = mul-le-mul_left (rows * planes) few in
-    omega (arith, all)
-
-lanes-counted : (rows planes w : ℕ) (before after : Counts) → after ≡ after_lane_rows (rows * planes) w before → counted after ≤ counted before + 30 * (planes * (words_of_row w * rows))
-lanes-counted rows planes w before after taken =
-    let few = lanes-few rows planes w (words_of_row w) (lanes-row w (words_of_row w) (row-wide w) (row-some w)) in
-    let all : counted after ≡ counted before + (rows * planes * (w / 8 + w % 8) + rows * planes * (w / 8) + rows * planes * (w % 8)) = ap (λ (c : Counts). counted c) taken ∙ omega arith in
-    omega (arith, few, all)
-
 -- ---- images
-fewer : (planes bits rows h m : ℕ) → planes ≤ bits → rows ≤ h → planes * (m * rows) ≤ bits * (m * h)
-fewer planes bits rows h m few high =
-    let less : planes * (m * rows) ≤ planes * (m * h) = mul-le-mul_left planes (mul-le-mul_left m high) in
-    let more : planes * (m * h) ≤ bits * (m * h) = mul-le-mul_right (m * h) few in
-    omega (arith, less, more)
+fewer : (count bits n : ℕ) → count ≤ bits → count * n ≤ bits * n
+fewer count bits n few = mul-le-mul_right n few
 
 planes-paid : (w h bits n : ℕ) → n ≤ 2048 * (bits * (words_of_row w * h)) → n ≤ 32 * (price_of_bitmap w h * bits)
 unfolding price_of_bitmap
@@ -96,33 +97,24 @@ planes-paid w h bits n few = within (words_of_row w) few
     within : (m : ℕ) → n ≤ 2048 * (bits * (m * h)) → n ≤ 32 * ((64 * m * h + 64) * bits)
     within m few = omega arith
 
-rows-counted : (p : GrayScale) (bytes : List ℕ) (planes rows : ℕ) (before after : Counts) → planes ≤ p.bits_per_pixel → rows ≤ p.height → CountsRows p bytes planes rows before after → counted after ≤ counted before + (32 * (price_of_bitmap p.width p.height * p.bits_per_pixel) + 24 * length bytes)
-rows-counted p bytes planes rows before after few high (read, (reads, taken)) =
-    let m : ℕ = words_of_row p.width in
-    let all : ℕ = p.bits_per_pixel * (m * p.height) in
-    let first = read-counted p bytes planes before read reads in
-    let second = lanes-counted rows planes p.width read after taken in
-    let a : planes * (m * p.height) ≤ all = fewer planes p.bits_per_pixel p.height p.height m few (omega arith) in
-    let b : planes * (m * rows) ≤ all = fewer planes p.bits_per_pixel rows p.height m few high in
+image-counted : (p : GrayScale) (bytes : List ℕ) (count taken : ℕ) (before after : Counts) → count ≤ p.bits_per_pixel → taken ≤ count → CountsRead p bytes count taken before after → counted after ≤ counted before + (32 * (price_of_bitmap p.width p.height * p.bits_per_pixel) + 24 * length bytes)
+image-counted p bytes count taken before after few less read =
+    let plane : ℕ = words_of_row p.width * p.height in
+    let all : ℕ = p.bits_per_pixel * plane in
+    let a : count * plane ≤ all = fewer count p.bits_per_pixel plane few in
+    let b : taken * plane ≤ all = fewer taken p.bits_per_pixel plane (omega arith) in
     let paid : 120 * all ≤ 32 * (price_of_bitmap p.width p.height * p.bits_per_pixel) = planes-paid p.width p.height p.bits_per_pixel (120 * all) (omega arith) in
-    omega (arith, first, second, a, b, paid)
+    omega (arith, read-counted p bytes count taken before after read, a, b, paid)
 
 pub image-paid : (p : GrayScale) (bytes : List ℕ) (old new : Counts) → CountsImage p bytes old new → CountsWithin (price_of_image p bytes) old new
 image-paid p bytes old new counts =
-    let all = rows-counted p bytes p.bits_per_pixel p.height old new (omega arith) (omega arith) counts in
+    let all = image-counted p bytes p.bits_per_pixel p.bits_per_pixel old new (omega arith) (omega arith) counts in
     omega (arith, all)
 
--- planes alone
-pub planes-read-paid : (p : GrayScale) (bytes : List ℕ) (count : ℕ) (old new : Counts) → count ≤ p.bits_per_pixel → CountsRead p bytes count old new → CountsWithin (price_of_image p bytes) old new
-planes-read-paid p bytes count old new few read =
-    let all : ℕ = p.bits_per_pixel * (words_of_row p.width * p.height) in
-    let first = read-counted p bytes count old new read in
-    let a : count * (words_of_row p.width * p.height) ≤ all = fewer count p.bits_per_pixel p.height p.height (words_of_row p.width) few (omega arith) in
-    let paid : 90 * all ≤ 32 * (price_of_bitmap p.width p.height * p.bits_per_pixel) = planes-paid p.width p.height p.bits_per_pixel (90 * all) (omega arith) in
-    omega (arith, first, a, paid)
-
 pub image-stops-paid : (p : GrayScale) (bytes : List ℕ) (old new : Counts) → StopsImage p bytes old new → CountsWithin (price_of_image p bytes) old new
-image-stops-paid p bytes old new (count, (few, read)) = planes-read-paid p bytes count old new few read
+image-stops-paid p bytes old new (count, (few, (taken, (less, read)))) =
+    let all = image-counted p bytes count taken old new few less read in
+    omega (arith, all)
 
 -- ---- cells
 cell-few : (h : HalftoneHeader) (d : Patterns) (k : ℕ) → cell_words h d k ≤ d.height * (3 * words_of_row d.width)
@@ -170,12 +162,12 @@ mask-counted h d old =
     omega (arith, few)
 
 -- ---- regions
-drawn-paid : (h : HalftoneHeader) (d : Patterns) (planes rows : ℕ) (old new : Counts) → planes ≤ (gray_params h d).bits_per_pixel → rows ≤ h.grid_position_and_size.height → CountsDrawn h d planes rows old new → CountsWithin (price_of_halftone h d) old new
-drawn-paid h d planes rows old new few high (image, (read, drawn)) =
+drawn-paid : (h : HalftoneHeader) (d : Patterns) (count taken : ℕ) (old new : Counts) → count ≤ (gray_params h d).bits_per_pixel → taken ≤ count → CountsDrawn h d count taken old new → CountsWithin (price_of_halftone h d) old new
+drawn-paid h d count taken old new few less (image, (read, drawn)) =
     let cells : ℕ = h.grid_position_and_size.height * h.grid_position_and_size.width in
     let words : ℕ = words_of_cells h d 0 cells in
     let mask = mask-counted h d old in
-    let values = rows-counted (gray_params h d) h.bytes planes rows (after_mask h d old) image few high read in
+    let values = image-counted (gray_params h d) h.bytes count taken (after_mask h d old) image few less read in
     let draws : counted new ≤ counted image + 3 * words = written-counted words image new drawn in
     let paid : 3 * words + cells ≤ 32 * (price_of_bitmap d.width d.height * cells) = cells-paid d.width d.height cells words (cells-few h d 0 cells) in
     together (price_of_bitmap h.grid_position_and_size.width h.grid_position_and_size.height * (gray_params h d).bits_per_pixel) (price_of_bitmap d.width d.height) h.grid_position_and_size.width h.grid_position_and_size.height (length h.bytes) words (counted old) (counted (after_mask h d old)) (counted image) (counted new) mask values draws paid
@@ -187,10 +179,10 @@ pub halftone-stops-paid : (h : HalftoneHeader) (d : Patterns) (old new : Counts)
 halftone-stops-paid h d old new (inl none) =
     let kept : counted new ≡ counted old = ap (λ (c : Counts). counted c) none in
     omega (arith, kept)
-halftone-stops-paid h d old new (inr (planes, (rows, (few, (high, drawn))))) = drawn-paid h d planes rows old new few high drawn
+halftone-stops-paid h d old new (inr (count, (few, (taken, (less, drawn))))) = drawn-paid h d count taken old new few less drawn
 
 pub halftone-paid : {X E : Type 0} (result : Result X E) (h : HalftoneHeader) (d : Patterns) (old new : Counts) → OnOk result (CountsHalftone h d old new) → OnErr result (StopsHalftone h d old new) → CountsWithin (price_of_halftone h d) old new
-halftone-paid (Ok x) h d old new counts stops = drawn-paid h d (gray_params h d).bits_per_pixel h.grid_position_and_size.height old new (omega arith) (omega arith) counts
+halftone-paid (Ok x) h d old new counts stops = drawn-paid h d (gray_params h d).bits_per_pixel (gray_params h d).bits_per_pixel old new (omega arith) (omega arith) counts
 halftone-paid (Err e) h d old new counts stops = halftone-stops-paid h d old new stops
 
 -- ---- dictionaries

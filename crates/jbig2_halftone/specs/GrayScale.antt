@@ -13,9 +13,7 @@ use Rattle.jbig2_coder.specs.Coder.{Context, initial_registers}
 use Rattle.jbig2_region.specs.Generic.{number_of, skipping_coding}
 use Rattle.jbig2_region.specs.Raster.{Region, so_far, decoded_region, no_pixels, fresh_contexts}
 use Rattle.jbig2_region.specs.Templates.{context_bits, nominal_adaptive_pixels, template_pixels}
-use Rattle.jbig2_region.specs.declared.template.AdaptiveTemplatePixel.{AdaptiveTemplatePixel}
 use Rattle.jbig2_region.specs.declared.template.Template.{Template}
-use Rattle.jbig2_region.specs.declared.template.Template.TheVariants.{Template0, Template1}
 
 pub record GrayScale : Type 0 where  -- what is needed to decode an image's coded bytes (Table C.1)
   pub use_mmr : Bool

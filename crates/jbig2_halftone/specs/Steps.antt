@@ -5,7 +5,7 @@
 use Rattle.std.specs.Prelude.{ℕ, zero, suc, ◌≡◌, ◌≤◌, ◌+◌, ◌*◌, ◌/◌, ◌%◌, true, false, if◌then◌else◌, List, length}
 use Rattle.std.specs.Prelude.{None, is_some, ◌⊎◌}
 use Rattle.jbig2_steps.specs.Work.{price_of_bitmap}
-use Rattle.jbig2_base.specs.Counts.{WritesWithin, overlap, most_words, words_copied, Counts, KeepsLanes}
+use Rattle.jbig2_base.specs.Counts.{WritesWithin, overlap, most_words, words_copied, Counts}
 use Rattle.jbig2_mmr.specs.Steps.{MovesWithin}
 use Rattle.jbig2_region.specs.Generic.{coding_of}
 use Rattle.jbig2_region.specs.GenericSteps.{CountsGeneric}
@@ -30,57 +30,61 @@ module _ (p : GrayScale) where
       + coded_runs pixels true (coding_of false p.template pixels) p.width p.height bytes
       (no_pixels before.registers before.contexts)
 
-  -- the highest planes, without skipped pixels: a decision for each pixel, but eight fewer for each run byte, and no
-  -- lanes; empty planes take no step
-  pub record CountsPlanes (bytes : List ℕ) (count : ℕ) (before after : Counts) : Type 0 where
+  abbrev pub words_of_plane : ℕ  -- the number of words of 64 pixels in a plane
+  words_of_plane = (p.width + 63) / 64 * p.height
+
+  -- The loads of a plane that is taken into the values: one for each whole eight pixels of a row, and one for each other
+  -- pixel.
+  abbrev pub taking_loads : ℕ
+  taking_loads = p.height * (p.width / 8 + p.width % 8)
+
+  -- The highest planes are read, and some of them taken, which makes these loads. No pixel is skipped: a decision for each
+  -- pixel, but eight fewer for each run byte. Empty planes take no step.
+  pub record CountsPlanes (bytes : List ℕ) (count taking : ℕ) (before after : Counts) : Type 0 where
     pub empty : p.width * p.height ≡ 0 → after ≡ before
     pub decisions : 1 ≤ p.width →
         after.decisions + 8 * plane_runs bytes count ≡ before.decisions + count * (p.width * p.height)
     pub run_tests : after.run_tests ≤ before.run_tests + count * (p.height * row_tests true p.width)
     pub words : after.words ≤ before.words + count * (p.height * row_words true p.width)
-    pub loads : after.loads ≤ before.loads + count * (p.height * row_loads true p.width)
-    pub lanes : KeepsLanes before after
+    pub loads : after.loads ≤ before.loads + (count * (p.height * row_loads true p.width) + taking)
 
-  -- the highest planes, with skipped pixels: a decision for each pixel that is not skipped, and no run test
-  pub record CountsMasked (count : ℕ) (before after : Counts) : Type 0 where
+  -- the same, with skipped pixels: a decision for each pixel that is not skipped, and no run test
+  pub record CountsMasked (count taking : ℕ) (before after : Counts) : Type 0 where
     pub decisions : after.decisions ≡ before.decisions + count * kept_pixels p.skip_mask p.width p.height
     pub run_tests : after.run_tests ≡ before.run_tests
     pub words : after.words ≤ before.words + count * (p.height * skipping_words p.width)
-    pub loads : after.loads ≤ before.loads + count * (p.height * skipping_loads p.width)
+    pub loads : after.loads ≤ before.loads + (count * (p.height * skipping_loads p.width) + taking)
 
-  abbrev pub words_of_plane : ℕ  -- the number of words of 64 pixels in a plane
-  words_of_plane = (p.width + 63) / 64 * p.height
+  -- From each row of each plane that is taken: one group for each whole eight pixels, and the other pixels one by one.
+  pub record TakesLanes (taken : ℕ) (before after : Counts) : Type 0 where
+    pub groups : after.groups ≡ before.groups + p.height * taken * (p.width / 8)
+    pub pixels : after.pixels ≡ before.pixels + p.height * taken * (p.width % 8)
 
-  -- This many of the highest planes. MMR data makes at most three loads and words together for each word of a plane and
-  -- each bit of the bytes. No plane uses bytes that a plane before it has used.
-  pub record CountsRead (bytes : List ℕ) (count : ℕ) (before after : Counts) : Type 0 where
-    pub plain : p.use_mmr ≡ false → p.skip_mask ≡ None → CountsPlanes bytes count before after
-    pub masked : p.use_mmr ≡ false → is_some p.skip_mask ≡ true → CountsMasked count before after
-    pub mmr : p.use_mmr ≡ true → MovesWithin (3 * (count * words_of_plane + 8 * length bytes)) before after
-    pub lanes : KeepsLanes before after
+  -- `count` of the highest planes are read, and `taken` of them are taken into the values. MMR data makes at most three
+  -- loads and words together for each word of a plane and each bit of the bytes. No plane uses bytes that a plane before it
+  -- has used.
+  pub record CountsRead (bytes : List ℕ) (count taken : ℕ) (before after : Counts) : Type 0 where
+    pub plain : p.use_mmr ≡ false → p.skip_mask ≡ None →
+        CountsPlanes bytes count (taken * taking_loads) before after
+    pub masked : p.use_mmr ≡ false → is_some p.skip_mask ≡ true →
+        CountsMasked count (taken * taking_loads) before after
+    pub mmr : p.use_mmr ≡ true →
+        MovesWithin (3 * (count * words_of_plane + 8 * length bytes) + taken * taking_loads) before after
+    pub lanes : TakesLanes taken before after
 
-  -- this many of the highest planes are read, then this many rows of each are taken, in groups of eight and single
-  -- pixels
-  abbrev pub CountsRows : List ℕ → ℕ → ℕ → Counts → Counts → Type 0
-  CountsRows bytes planes rows before after =
-      (read : Counts) × (CountsRead bytes planes before read × (after ≡ record read {
-        loads = read.loads + rows * planes * (p.width / 8 + p.width % 8);
-        groups = read.groups + rows * planes * (p.width / 8);
-        pixels = read.pixels + rows * planes * (p.width % 8);
-      }))
-
-  -- an image: all planes are read, and then all their rows are taken
+  -- an image: all planes are read and taken
   abbrev pub CountsImage : List ℕ → Counts → Counts → Type 0
-  CountsImage bytes before after = CountsRows bytes p.bits_per_pixel p.height before after
+  CountsImage bytes before after = CountsRead bytes p.bits_per_pixel p.bits_per_pixel before after
 
-  -- an image that is refused: some of the highest planes or all of them were read, and no row was taken
+  -- an image that is refused: some of the highest planes or all of them were read, and no more of them taken
   abbrev pub StopsImage : List ℕ → Counts → Counts → Type 0
-  StopsImage bytes before after = (planes : ℕ) × ((planes ≤ p.bits_per_pixel) × CountsRead bytes planes before after)
+  StopsImage bytes before after =
+      (count : ℕ)
+      × ((count ≤ p.bits_per_pixel) × ((taken : ℕ) × ((taken ≤ count) × CountsRead bytes count taken before after)))
 
-  -- from each row of each plane, an image takes one group for each whole eight pixels, and the other pixels one by one
+  -- the groups and single pixels of an image, together at most seven more than its groups for each row of each plane
   pub record CountsLanes (before after : Counts) : Type 0 where
-    pub groups : after.groups ≡ before.groups + p.height * p.bits_per_pixel * (p.width / 8)
-    pub pixels : after.pixels ≡ before.pixels + p.height * p.bits_per_pixel * (p.width % 8)
+    pub taken : TakesLanes p.bits_per_pixel before after
     pub both :
         after.groups + after.pixels ≤ before.groups + before.pixels + p.height * p.bits_per_pixel * (p.width / 8 + 7)
 
@@ -103,25 +107,25 @@ module _ (h : HalftoneHeader) (d : Patterns) where
       let cells = h.grid_position_and_size.height * h.grid_position_and_size.width in
       record before { words = before.words + (if is_some (skip_mask h d) then cells else 0) }
 
-  -- after the mask, planes are read and this many rows of values taken; then cells are drawn, two loads for each word
+  -- after the mask, planes are read and taken; then cells are drawn, two loads for each word
   abbrev pub CountsDrawn : ℕ → ℕ → Counts → Counts → Type 0
-  CountsDrawn planes rows before after =
+  CountsDrawn count taken before after =
       let cells = h.grid_position_and_size.height * h.grid_position_and_size.width in
       (image : Counts)
-      × (CountsRows (gray_params h d) h.bytes planes rows (after_mask before) image
+      × (CountsRead (gray_params h d) h.bytes count taken (after_mask before) image
       × WritesWithin (words_of_cells 0 cells) image after)
 
-  -- a region: all planes, all rows and all cells
+  -- a region: all planes and all cells
   abbrev pub CountsHalftone : Counts → Counts → Type 0
   CountsHalftone before after =
-      CountsDrawn (gray_params h d).bits_per_pixel h.grid_position_and_size.height before after
+      CountsDrawn (gray_params h d).bits_per_pixel (gray_params h d).bits_per_pixel before after
 
-  -- a region that is refused: no step, or at most all planes and all rows
+  -- a region that is refused: no step, or at most all planes and all cells
   abbrev pub StopsHalftone : Counts → Counts → Type 0
   StopsHalftone before after =
       (after ≡ before)
-      ⊎ ((planes : ℕ) × ((rows : ℕ) × ((planes ≤ (gray_params h d).bits_per_pixel)
-      × ((rows ≤ h.grid_position_and_size.height) × CountsDrawn planes rows before after))))
+      ⊎ ((count : ℕ) × ((count ≤ (gray_params h d).bits_per_pixel)
+      × ((taken : ℕ) × ((taken ≤ count) × CountsDrawn count taken before after))))
 
 module _ (h : PatternHeader) where
   -- this many patterns are cut out of their collective bitmap: a load and a word for each of their words

@@ -2,7 +2,6 @@
 ghost use Rattle.std.specs.Prelude.{◌≡◌, ◌≤◌, [], Ok, OnOk, OnErr};
 ghost use Rattle.jbig2_steps.specs.Work.{CountsWithin};
 ghost use Rattle.jbig2_base.specs.Results.{Gives, Leaves};
-ghost use Rattle.jbig2_base.specs.Counts.{KeepsLanes};
 ghost use Rattle.jbig2_halftone.specs.GrayScale.{gray_values, gray_scale_image, gray_contexts, GrayScale};
 ghost use Rattle.jbig2_halftone.specs.Steps.{CountsImage, CountsLanes, StopsImage, price_of_image};
 ghost use Rattle.jbig2_halftone.specs.inner.HalftoneViews.{gray_view};
@@ -11,16 +10,14 @@ ghost use Rattle.jbig2_halftone.specs.Causes.{BreaksGrayScale};
 
 mod groups;
 mod lanes;
-pub(crate) mod planes;
-pub(crate) mod rows;
+mod planes;
 
-use crate::gray_scale::planes::read_planes;
-use crate::gray_scale::rows::gray_rows;
 use jbig2_base::bitmap::steps::Steps;
 use jbig2_base::bitmap::{Bitmap, MAX_DIMENSION};
-use jbig2_base::error::{DecodeError, OverflowError, Result};
+use jbig2_base::error::{OverflowError, Result};
 use jbig2_coder::arithmetic_decoder::ArithmeticDecoderContext;
 use jbig2_region::template::Template;
+use planes::add_planes;
 use std::alloc::Allocator;
 use std::sync::ledger::Ledger;
 
@@ -55,6 +52,7 @@ fn zeros<A: Allocator>(alloc: A, width: u32, height: u32) -> Result<Vec<u32, A>>
 /// With 0 bits for each pixel, it reads nothing and every value is 0, whatever the size. The contexts begin fresh,
 /// whatever `contexts` held. Afterwards `contexts` holds what the last plane leaves. MMR data and a side that is
 /// refused do not change it. After an error, no more steps were taken than some of the highest planes take, or all.
+/// One plane is kept at a time, beside the values.
 ///
 /// Returns `OverflowError::BitmapDimension` for a side above 65535 with at least 1 bit for each pixel; in strict mode
 /// `RegionError::InvalidMmrData` where MMR data has a fault or lacks a row; `OutOfMemory`. Only after this last error
@@ -76,7 +74,6 @@ pub fn decode_gray_scale_image<M: Allocator, A: Allocator + Clone, B: Allocator,
     ensures stopped { OnErr result
         (StopsImage (gray_view params.now) bytes.now steps.old steps.new) }
     ensures lanes { OnOk result (CountsLanes (gray_view params.now) steps.old steps.new) }
-    ensures no_lanes { OnErr result (KeepsLanes steps.old steps.new) }
     ensures no_planes { params.now.bits_per_pixel ≡ 0 → steps.new ≡ steps.old }
     ensures paid { let price = price_of_image (gray_view params.now) bytes.now in
         CountsWithin price steps.old steps.new }
@@ -84,10 +81,9 @@ pub fn decode_gray_scale_image<M: Allocator, A: Allocator + Clone, B: Allocator,
 {
     let too_long = params.width > MAX_DIMENSION || params.height > MAX_DIMENSION;
     if params.bits_per_pixel > 0 && too_long {
-        return Err(DecodeError::Overflow(OverflowError::BitmapDimension));
+        return Err(OverflowError::BitmapDimension.into());
     }
-    let planes = read_planes(alloc.clone()?, bytes, params, contexts, steps)?;
-    let mut values = zeros(alloc, params.width, params.height)?;
-    gray_rows(&planes, params.width, params.height, &mut values, steps);
+    let mut values = zeros(alloc.clone()?, params.width, params.height)?;
+    add_planes(alloc, bytes, params, contexts, &mut values, steps)?;
     Ok(values)
 }

@@ -3,30 +3,26 @@ ghost use Rattle.std.specs.Prelude.{◌≡◌, ◌+◌, ◌*◌, ◌<◌, ◌≤
 ghost use Rattle.std.specs.Int.{w32, int_shr};
 ghost use Rattle.jbig2_steps.specs.Work.{CountsWithin};
 ghost use Rattle.jbig2_base.specs.Results.{Returns, Gives, Leaves};
-ghost use Rattle.std.specs.List.{All};
 ghost use Rattle.jbig2_base.specs.Counts.{WritesWithin, most_words, overlap};
 ghost use Rattle.jbig2_base.specs.Combination.{combined};
 ghost use Rattle.jbig2_base.specs.Grid.{blank, max_side};
-ghost use Rattle.jbig2_base.specs.Search.{code_length};
 ghost use Rattle.jbig2_region.specs.inner.RegionViews.{region_view};
-ghost use Rattle.jbig2_halftone.specs.GrayScale.{planes_of, gray_values};
+ghost use Rattle.jbig2_halftone.specs.GrayScale.{gray_scale_image};
 ghost use Rattle.jbig2_halftone.specs.Halftone.{gray_params, skip_mask, pattern_for, cells_drawn, halftone_result, halftone_contexts, halftone_decoded, decoded_contexts};
 ghost use Rattle.jbig2_halftone.specs.HalftoneHeader.{HalftoneHeader};
 ghost use Rattle.jbig2_halftone.specs.inner.HalftoneHeaderViews.{header_view};
 ghost use Rattle.jbig2_halftone.specs.PatternHeader.{HasSize};
 ghost use Rattle.jbig2_halftone.specs.inner.DictionaryViews.{dictionary_view};
-ghost use Rattle.jbig2_halftone.specs.Steps.{CountsRead, CountsHalftone, StopsHalftone, after_mask, words_of_cells, price_of_halftone};
+ghost use Rattle.jbig2_halftone.specs.Steps.{CountsImage, CountsHalftone, StopsHalftone, after_mask, words_of_cells, price_of_halftone};
 ghost use Rattle.jbig2_halftone.specs.inner.CellPlaces.{x_of, y_of};
-ghost use Rattle.jbig2_halftone.specs.inner.FunctionResults.{planes_contexts, skip_grid, after_lane_rows, StopsCells, StopsRows};
+ghost use Rattle.jbig2_halftone.specs.inner.FunctionResults.{skip_grid, StopsCells};
 ghost use Rattle.jbig2_base.specs.Causes.{HasCauseOrNoMemory};
 ghost use Rattle.jbig2_halftone.specs.Causes.{BreaksHalftone};
 
 mod cells;
 pub mod header;
 
-use crate::gray_scale::GrayScaleParams;
-use crate::gray_scale::planes::read_planes;
-use crate::gray_scale::rows::gray_row;
+use crate::gray_scale::{GrayScaleParams, decode_gray_scale_image};
 use crate::pattern::PatternDictionary;
 use cells::{CellPlace, first_place, lies_outside, next_in_row, next_row, whole_pixels};
 pub use header::{HalftoneRegionHeader, parse};
@@ -96,7 +92,7 @@ fn pattern_for<A: Allocator>(
         return Ok(&patterns[value]);
     }
     if strict {
-        return Err(DecodeError::Region(RegionError::GrayScaleOutOfRange));
+        return Err(RegionError::GrayScaleOutOfRange.into());
     }
     Ok(&patterns[patterns.len() - 1])
 }
@@ -172,41 +168,37 @@ fn draw_row<D: Allocator, A: Allocator, L: Ledger>(
     Ok(())
 }
 
-/// Draws the patterns of all cells onto a region, row by row. `values` holds one row of values.
-fn draw_rows<D: Allocator, P: Allocator, A: Allocator, L: Ledger>(
+/// Draws the patterns of all cells' values onto a region, row by row.
+fn draw_rows<D: Allocator, A: Allocator, L: Ledger>(
     header: &HalftoneRegionHeader<'_>,
     dictionary: &PatternDictionary<D>,
-    planes: &[Bitmap<P>],
-    values: &mut [u32],
+    values: &[u32],
     bitmap: &mut Bitmap<A>,
     steps: &mut Steps<L>,
 ) -> Result<()>
     requires columns { header.now.grid_position_and_size.width ≤ max_side }
     requires rows { header.now.grid_position_and_size.height ≤ max_side }
-    requires sized { All (λ plane. plane.width ≡ header.now.grid_position_and_size.width)
-        planes.now }
-    requires few { length planes.now ≤ 32 }
-    requires row { length values.old ≡ header.now.grid_position_and_size.width }
+    requires sized { length values.now ≡
+        header.now.grid_position_and_size.width * header.now.grid_position_and_size.height }
     requires region { HasSize header.now.region_info.width header.now.region_info.height
         bitmap.old }
     ensures value { Returns (λ _. bitmap.new) result
-        (cells_drawn (header_view header.now) (dictionary_view dictionary.now) 0
-        (gray_values header.now.grid_position_and_size.width
-        header.now.grid_position_and_size.height planes.now) bitmap.old) }
+        (cells_drawn (header_view header.now) (dictionary_view dictionary.now) 0 values.now
+        bitmap.old) }
     ensures refused { IfErr result (λ e. e ≡ DecodeError.Region RegionError.GrayScaleOutOfRange) }
-    ensures steps { let grid = header.now.grid_position_and_size in OnOk result (WritesWithin
+    ensures steps { let grid = header.now.grid_position_and_size in WritesWithin
         (words_of_cells (header_view header.now) (dictionary_view dictionary.now) 0
-        (grid.height * grid.width))
-        (after_lane_rows (grid.height * length planes.now) grid.width steps.old) steps.new) }
-    ensures stopped { OnErr result (StopsRows (header_view header.now)
-        (dictionary_view dictionary.now) (length planes.now) steps.old steps.new) }
+        (grid.height * grid.width)) steps.old steps.new }
 {
+    let grid = &header.grid_position_and_size;
+    let columns = grid.width as usize;
     let x_vector = header.grid_vector.x_vector;
     let y_vector = header.grid_vector.y_vector;
     let mut first = first_place(header);
-    for m in 0..header.grid_position_and_size.height {
-        gray_row(planes, m, values, steps);
-        match draw_row(header, dictionary, m, first, values, bitmap, steps) {
+    for m in 0..grid.height {
+        let start = m as usize * columns;
+        let row = &values[start..start + columns];
+        match draw_row(header, dictionary, m, first, row, bitmap, steps) {
             Ok(()) => {}
             Err(error) => return Err(error),
         }
@@ -236,26 +228,24 @@ fn skip_mask<D: Allocator, A: Allocator, L: Ledger>(
     Ok(None)
 }
 
-/// Decodes the planes of the cells' values (T.88, 6.6.5, steps 2 to 4).
+/// Decodes the cells' values, row by row (T.88, 6.6.5, steps 2 to 4).
 fn read_cells<D: Allocator, A: Allocator + Clone, B: Allocator, L: Ledger>(
     alloc: A,
     header: &HalftoneRegionHeader<'_>,
     dictionary: &PatternDictionary<D>,
     contexts: &mut Vec<ArithmeticDecoderContext, B>,
     steps: &mut Steps<L>,
-) -> Result<Vec<Bitmap<A>, A>>
+) -> Result<Vec<u32, A>>
     requires columns { header.now.grid_position_and_size.width ≤ max_side }
     requires rows { header.now.grid_position_and_size.height ≤ max_side }
-    ensures value { Gives (λ planes. planes.items) result
-        (planes_of (gray_params (header_view header.now) (dictionary_view dictionary.now))
+    ensures value { Gives (λ values. values.items) result (gray_scale_image
+        (gray_params (header_view header.now) (dictionary_view dictionary.now))
         header.now.bytes.now) }
     ensures contexts { Leaves result contexts.new.items
-        (planes_contexts (gray_params (header_view header.now) (dictionary_view dictionary.now))
-        header.now.bytes.now contexts.old.items) }
-    ensures few { OnOk result (code_length (length dictionary.now.patterns.items) ≤ 32) }
-    ensures steps { OnOk result (CountsRead
+        (halftone_contexts (header_view header.now) (dictionary_view dictionary.now)
+        contexts.old.items) }
+    ensures steps { OnOk result (CountsImage
         (gray_params (header_view header.now) (dictionary_view dictionary.now)) header.now.bytes.now
-        (code_length (length dictionary.now.patterns.items))
         (after_mask (header_view header.now) (dictionary_view dictionary.now) steps.old)
         steps.new) }
     ensures stopped { OnErr result
@@ -272,17 +262,7 @@ fn read_cells<D: Allocator, A: Allocator + Clone, B: Allocator, L: Ledger>(
         skip_mask: skip.as_ref(),
         strict: header.strict,
     };
-    read_planes(alloc, header.bytes, &params, contexts, steps)
-}
-
-/// Memory for one row of values.
-fn value_row<A: Allocator>(alloc: A, width: u32) -> Result<Vec<u32, A>>
-    ensures value { IfOk result (λ values. length values.items ≡ width) }
-    ensures memory { IfErr result (λ e. e ≡ DecodeError.OutOfMemory) }
-{
-    let mut values = Vec::new(alloc);
-    values.resize(width as usize, 0)?;
-    Ok(values)
+    decode_gray_scale_image(alloc, header.bytes, &params, contexts, steps)
 }
 
 /// Decodes a halftone region (T.88, 6.6) into a bitmap of its size that is all in its initial colour. The contexts
@@ -324,12 +304,11 @@ pub fn decode_into<D: Allocator, M: Allocator, A: Allocator + Clone, B: Allocato
     ensures paid { CountsWithin (price_of_halftone (header_view header.now)
         (dictionary_view dictionary.now)) steps.old steps.new }
 {
-    let mut values = value_row(alloc.clone()?, header.grid_position_and_size.width)?;
-    let planes = match read_cells(alloc, header, dictionary, contexts, steps) {
-        Ok(planes) => planes,
+    let values = match read_cells(alloc, header, dictionary, contexts, steps) {
+        Ok(values) => values,
         Err(error) => return Err(error),
     };
-    draw_rows(header, dictionary, &planes, &mut values, bitmap, steps)
+    draw_rows(header, dictionary, &values, bitmap, steps)
 }
 
 /// Decodes a halftone region (T.88, 6.6), as `decode_into` does, into a bitmap of its own. A side

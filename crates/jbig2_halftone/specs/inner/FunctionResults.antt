@@ -1,21 +1,24 @@
 -- What single functions of the code take and give. The definitions have it as a part of something larger.
 use Rattle.std.specs.Prelude.{ℕ, ◌≡◌, ◌≤◌, ◌+◌, ◌*◌, ◌/◌, ◌%◌, Bool, true, false, ◌||◌, if◌then◌else◌, List, map, None}
-use Rattle.std.specs.Prelude.{is_some, ◌⊎◌, Result, Ok}
+use Rattle.std.specs.Prelude.{is_some, length, ◌⊎◌, Result, Ok}
 use Rattle.std.specs.List.{range_with_len}
-use Rattle.jbig2_base.specs.Counts.{Counts, KeepsLanes, WritesWithin, words_copied}
+use Rattle.jbig2_base.specs.Counts.{Counts, KeepsLanes, words_copied}
+use Rattle.jbig2_base.specs.Results.{◌>>=◌}
 use Rattle.jbig2_base.specs.Grid.{Grid, grid_of, part_of}
 use Rattle.jbig2_base.specs.declared.error.DecodeError.{DecodeError}
 use Rattle.jbig2_coder.specs.Coder.{Context}
+use Rattle.jbig2_mmr.specs.Steps.{MovesWithin}
 use Rattle.jbig2_region.specs.Generic.{coding_of, skipping_coding}
 use Rattle.jbig2_region.specs.Raster.{Coding, Region, so_far, no_pixels, source}
 use Rattle.jbig2_region.specs.Steps.{CountsRegion, CountsSkipping}
 use Rattle.jbig2_region.specs.Templates.{template_pixels, nominal_adaptive_pixels}
 use Rattle.jbig2_region.specs.declared.template.AdaptiveTemplatePixel.{AdaptiveTemplatePixel}
-use Rattle.jbig2_halftone.specs.GrayScale.{GrayScale, after_planes, mmr_planes}
+use Rattle.jbig2_halftone.specs.GrayScale.{GrayScale, after_planes, gray_values, mmr_planes}
 use Rattle.jbig2_halftone.specs.Halftone.{column_of, gray_params, row_of, is_beyond}
 use Rattle.jbig2_halftone.specs.HalftoneHeader.{HalftoneHeader}
 use Rattle.jbig2_halftone.specs.Patterns.{Patterns}
-use Rattle.jbig2_halftone.specs.Steps.{CountsPlanes, CountsMasked, StopsImage, after_mask, words_of_cells}
+use Rattle.jbig2_halftone.specs.Steps.{CountsPlanes, CountsMasked, StopsImage, TakesLanes, after_mask, taking_loads}
+use Rattle.jbig2_halftone.specs.Steps.{words_of_plane}
 
 -- ---- patterns
 -- pattern k: the columns from k * width on
@@ -46,6 +49,12 @@ module _ (p : GrayScale) where
   -- all planes, with MMR
   abbrev pub planes_by_mmr : List ℕ → Result (List Grid) DecodeError
   planes_by_mmr bytes = mmr_planes p bytes p.bits_per_pixel
+
+  -- the values of an image from its planes
+  abbrev pub values_of : Result (List Grid) DecodeError → Result (List ℕ) DecodeError
+  values_of read = do
+    planes ← read
+    Ok (gray_values p.width p.height planes)
 
   -- the contexts after all planes; MMR leaves them as they were
   abbrev pub planes_contexts : List ℕ → List Context → List Context
@@ -85,19 +94,31 @@ module _ (p : GrayScale) where
     pub masked : is_some p.skip_mask ≡ true → CountsSkipping p.skip_mask w h before after
     pub lanes : KeepsLanes before after
 
-  -- the highest of them
+  -- the highest of them, read and taken
   pub record CountsCoded (bytes : List ℕ) (count : ℕ) (before after : Counts) : Type 0 where
-    pub plain : p.skip_mask ≡ None → CountsPlanes p bytes count before after
-    pub masked : is_some p.skip_mask ≡ true → CountsMasked p count before after
+    pub plain : p.skip_mask ≡ None → CountsPlanes p bytes count (count * taking_loads p) before after
+    pub masked : is_some p.skip_mask ≡ true → CountsMasked p count (count * taking_loads p) before after
+    pub lanes : TakesLanes p count before after
 
   -- some of these planes, or all
   abbrev pub StopsCoded : List ℕ → Counts → Counts → Type 0
   StopsCoded bytes before after = (count : ℕ) × ((count ≤ p.bits_per_pixel) × CountsCoded bytes count before after)
 
+  -- all planes of MMR data are read, at most, and this many are taken
+  pub record CountsMmr (bytes : List ℕ) (taken : ℕ) (before after : Counts) : Type 0 where
+    pub moves : MovesWithin (3 * (p.bits_per_pixel * words_of_plane p + 8 * length bytes) + taken * taking_loads p)
+        before after
+    pub lanes : TakesLanes p taken before after
+
+  -- no more than all of them
+  abbrev pub StopsMmr : List ℕ → Counts → Counts → Type 0
+  StopsMmr bytes before after = (taken : ℕ) × ((taken ≤ p.bits_per_pixel) × CountsMmr bytes taken before after)
+
 -- This many planes of MMR data are read, and `left` of `all` bytes are left. There are at most three loads and words
--- together for each word of a plane and each bit of the bytes that were used.
-pub record CountsMmr (words count all left : ℕ) (before after : Counts) : Type 0 where
-  pub moves : after.loads + after.words + 24 * left ≤ before.loads + before.words + 3 * (count * words + 8 * all)
+-- together for each word of a plane and each bit of the bytes that were used, and loads besides.
+pub record MovesByMmr (words count all left loads : ℕ) (before after : Counts) : Type 0 where
+  pub moves :
+      after.loads + after.words + 24 * left ≤ before.loads + before.words + (3 * (count * words + 8 * all) + loads)
   pub decisions : after.decisions ≡ before.decisions
   pub run_tests : after.run_tests ≡ before.run_tests
 
@@ -121,12 +142,3 @@ after_lanes w before = record before {
   groups = before.groups + w / 8;
   pixels = before.pixels + w % 8;
 }
-
--- one of the cells has no pattern: some rows of values are taken, and at most all cells are drawn
-abbrev pub StopsRows : HalftoneHeader → Patterns → ℕ → Counts → Counts → Type 0
-StopsRows h d planes before after =
-    let grid = h.grid_position_and_size in
-    (rows : ℕ)
-    × ((rows ≤ grid.height)
-    × WritesWithin (words_of_cells h d 0 (grid.height * grid.width))
-    (after_lane_rows (rows * planes) grid.width before) after)

@@ -1,18 +1,18 @@
 //! The coded planes of a gray-scale image, the highest first (T.88, C.5).
-ghost use Rattle.std.specs.Prelude.{◌≡◌, ◌+◌, ◌*◌, ◌^◌, ◌≤◌, false, length, IfOk, OnOk, OnErr};
+ghost use Rattle.std.specs.Prelude.{◌≡◌, ◌^◌, ◌≤◌, [], false, length, IfOk, OnOk, OnErr};
 ghost use Rattle.jbig2_base.specs.Results.{Gives, Leaves};
 ghost use Rattle.jbig2_base.specs.Counts.{KeepsLanes};
 ghost use Rattle.jbig2_base.specs.Grid.{blank, max_side};
-ghost use Rattle.jbig2_mmr.specs.Steps.{MovesWithin};
 ghost use Rattle.jbig2_region.specs.Raster.{fresh_contexts, no_pixels};
 ghost use Rattle.jbig2_region.specs.Templates.{context_bits};
 ghost use Rattle.jbig2_region.specs.inner.RegionStates.{DecodesRegion, region_state};
-ghost use Rattle.jbig2_halftone.specs.GrayScale.{planes_of, after_planes, image_is_too_large, mmr_plane};
-ghost use Rattle.jbig2_halftone.specs.Steps.{CountsRead, StopsImage, words_of_plane};
+ghost use Rattle.jbig2_halftone.specs.GrayScale.{after_planes, gray_values, image_is_too_large, mmr_plane, planes_of};
+ghost use Rattle.jbig2_halftone.specs.Steps.{CountsImage, StopsImage, words_of_plane};
 ghost use Rattle.jbig2_halftone.specs.inner.HalftoneViews.{gray_view};
-ghost use Rattle.jbig2_halftone.specs.inner.FunctionResults.{plane_coding, planes_by_coder, planes_by_mmr, planes_contexts, CountsCoded, CountsMmr, CountsOne, StopsCoded};
+ghost use Rattle.jbig2_halftone.specs.inner.FunctionResults.{plane_coding, planes_by_coder, planes_by_mmr, planes_contexts, values_of, CountsCoded, CountsMmr, CountsOne, MovesByMmr, StopsCoded, StopsMmr};
 
 use crate::gray_scale::GrayScaleParams;
+use crate::gray_scale::lanes::add_plane;
 use jbig2_base::bitmap::Bitmap;
 use jbig2_base::bitmap::steps::Steps;
 use jbig2_base::error::Result;
@@ -69,36 +69,36 @@ fn decode_plane<M: Allocator, A: Allocator, L: Ledger>(
     );
 }
 
-/// Decodes the planes with the arithmetic coder. If memory runs out at a plane, the steps of those before it are
-/// counted.
-fn read_coded_planes<M: Allocator, A: Allocator + Clone, L: Ledger>(
+/// Decodes the planes with the arithmetic coder, and adds each to the values.
+fn add_coded_planes<M: Allocator, A: Allocator + Clone, L: Ledger>(
     alloc: A,
     bytes: &[u8],
     params: &GrayScaleParams<'_, M>,
     contexts: &mut [ArithmeticDecoderContext],
+    values: &mut [u32],
     steps: &mut Steps<L>,
-) -> Result<Vec<Bitmap<A>, A>>
+) -> Result<()>
     requires sides { image_is_too_large (gray_view params.now) ≡ false }
+    requires few { params.now.bits_per_pixel ≤ 32 }
     requires fresh { contexts.old ≡ fresh_contexts (context_bits params.now.template) }
-    ensures value { Gives (λ planes. planes.items) result
-        (planes_by_coder (gray_view params.now) bytes.now) }
+    requires none { values.old ≡ gray_values params.now.width params.now.height [] }
+    ensures value { Gives (λ _. values.new) result
+        (values_of (gray_view params.now) (planes_by_coder (gray_view params.now) bytes.now)) }
     ensures contexts { Leaves result contexts.new
         (after_planes (gray_view params.now) bytes.now params.now.bits_per_pixel).contexts }
     ensures steps { OnOk result (CountsCoded (gray_view params.now) bytes.now
         params.now.bits_per_pixel steps.old steps.new) }
     ensures stopped { OnErr result
         (StopsCoded (gray_view params.now) bytes.now steps.old steps.new) }
-    ensures lanes { KeepsLanes steps.old steps.new }
     ensures no_planes { params.now.bits_per_pixel ≡ 0 → steps.new ≡ steps.old }
 {
     let mut decoder = ArithmeticDecoder::new(bytes);
-    let mut planes = Vec::new(alloc.clone()?);
     for _ in 0..params.bits_per_pixel {
         let mut plane = Bitmap::new(alloc.clone()?, params.width, params.height)?;
         decode_plane(params, &mut plane, &mut decoder, contexts, steps);
-        planes.push(plane)?;
+        add_plane(&plane, values, steps);
     }
-    Ok(planes)
+    Ok(())
 }
 
 /// Decodes the next plane with MMR, and gives the bytes after it.
@@ -112,10 +112,10 @@ fn read_mmr_plane<'a, M: Allocator, A: Allocator, L: Ledger>(
     requires rows { params.now.height ≤ max_side }
     ensures value { Gives (λ read. (read.0, read.1.now)) result
         (mmr_plane (gray_view params.now) bytes.now) }
-    ensures work { IfOk result (λ read. CountsMmr (words_of_plane (gray_view params.now)) 1
-        (length bytes.now) (length read.1.now) steps.old steps.new) }
-    ensures stopped { OnErr result (CountsMmr (words_of_plane (gray_view params.now)) 1
-        (length bytes.now) 0 steps.old steps.new) }
+    ensures work { IfOk result (λ read. MovesByMmr (words_of_plane (gray_view params.now)) 1
+        (length bytes.now) (length read.1.now) 0 steps.old steps.new) }
+    ensures stopped { OnErr result (MovesByMmr (words_of_plane (gray_view params.now)) 1
+        (length bytes.now) 0 0 steps.old steps.new) }
     ensures lanes { KeepsLanes steps.old steps.new }
 {
     let mut plane = Bitmap::new(alloc, params.width, params.height)?;
@@ -126,58 +126,65 @@ fn read_mmr_plane<'a, M: Allocator, A: Allocator, L: Ledger>(
     Ok((plane, &bytes[used..]))
 }
 
-/// Decodes the planes with MMR, each after the bytes that those before it used.
-fn read_mmr_planes<M: Allocator, A: Allocator + Clone, L: Ledger>(
+/// Decodes the planes with MMR, each after the bytes that those before it used, and adds each to the
+/// values.
+fn add_mmr_planes<M: Allocator, A: Allocator + Clone, L: Ledger>(
     alloc: A,
     bytes: &[u8],
     params: &GrayScaleParams<'_, M>,
+    values: &mut [u32],
     steps: &mut Steps<L>,
-) -> Result<Vec<Bitmap<A>, A>>
+) -> Result<()>
     requires sides { image_is_too_large (gray_view params.now) ≡ false }
-    ensures value { Gives (λ planes. planes.items) result
-        (planes_by_mmr (gray_view params.now) bytes.now) }
-    ensures work { let words = words_of_plane (gray_view params.now) in
-        MovesWithin (3 * (params.now.bits_per_pixel * words + 8 * length bytes.now))
-        steps.old steps.new }
-    ensures lanes { KeepsLanes steps.old steps.new }
+    requires few { params.now.bits_per_pixel ≤ 32 }
+    requires none { values.old ≡ gray_values params.now.width params.now.height [] }
+    ensures value { Gives (λ _. values.new) result
+        (values_of (gray_view params.now) (planes_by_mmr (gray_view params.now) bytes.now)) }
+    ensures steps { OnOk result (CountsMmr (gray_view params.now) bytes.now
+        params.now.bits_per_pixel steps.old steps.new) }
+    ensures stopped { OnErr result
+        (StopsMmr (gray_view params.now) bytes.now steps.old steps.new) }
     ensures no_planes { params.now.bits_per_pixel ≡ 0 → steps.new ≡ steps.old }
 {
     let mut rest = bytes;
-    let mut planes = Vec::new(alloc.clone()?);
     for _ in 0..params.bits_per_pixel {
-        let (plane, behind) = match read_mmr_plane(alloc.clone()?, rest, params, steps) {
+        let (plane, others) = match read_mmr_plane(alloc.clone()?, rest, params, steps) {
             Ok(read) => read,
             Err(error) => return Err(error),
         };
-        rest = behind;
-        planes.push(plane)?;
+        rest = others;
+        add_plane(&plane, values, steps);
     }
-    Ok(planes)
+    Ok(())
 }
 
-/// Decodes the planes of an image. Afterwards `contexts` holds what the last plane leaves; MMR data
-/// does not change it.
-pub fn read_planes<M: Allocator, A: Allocator + Clone, B: Allocator, L: Ledger>(
+/// Decodes the planes of an image, and adds each to the values, which must all be 0 before. So one
+/// plane is kept at a time. Afterwards `contexts` holds what the last plane leaves; MMR data does not
+/// change it.
+pub fn add_planes<M: Allocator, A: Allocator + Clone, B: Allocator, L: Ledger>(
     alloc: A,
     bytes: &[u8],
     params: &GrayScaleParams<'_, M>,
     contexts: &mut Vec<ArithmeticDecoderContext, B>,
+    values: &mut [u32],
     steps: &mut Steps<L>,
-) -> Result<Vec<Bitmap<A>, A>>
+) -> Result<()>
     requires sides { image_is_too_large (gray_view params.now) ≡ false }
-    ensures value { Gives (λ planes. planes.items) result
-        (planes_of (gray_view params.now) bytes.now) }
+    requires few { params.now.bits_per_pixel ≤ 32 }
+    requires none { values.old ≡ gray_values params.now.width params.now.height [] }
+    ensures value { Gives (λ _. values.new) result
+        (values_of (gray_view params.now) (planes_of (gray_view params.now) bytes.now)) }
     ensures contexts { Leaves result contexts.new.items
         (planes_contexts (gray_view params.now) bytes.now contexts.old.items) }
-    ensures steps { OnOk result (CountsRead (gray_view params.now) bytes.now
-        params.now.bits_per_pixel steps.old steps.new) }
+    ensures steps { OnOk result (CountsImage (gray_view params.now) bytes.now
+        steps.old steps.new) }
     ensures stopped { OnErr result
         (StopsImage (gray_view params.now) bytes.now steps.old steps.new) }
     ensures no_planes { params.now.bits_per_pixel ≡ 0 → steps.new ≡ steps.old }
 {
     if params.use_mmr {
-        return read_mmr_planes(alloc, bytes, params, steps);
+        return add_mmr_planes(alloc, bytes, params, values, steps);
     }
     fresh_contexts(contexts, params.template.context_bits())?;
-    read_coded_planes(alloc, bytes, params, contexts, steps)
+    add_coded_planes(alloc, bytes, params, contexts, values, steps)
 }

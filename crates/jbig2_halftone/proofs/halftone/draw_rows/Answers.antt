@@ -1,50 +1,45 @@
-use Rattle.std.proofs.Common.{◌≡◌, ◌+◌, ◌*◌, ◌<◌, ℕ, rules, ap, subst, ◌∙◌, arith, length}
+use Rattle.std.proofs.Common.{◌≡◌, ◌≤◌, ◌+◌, ◌*◌, ◌<◌, ℕ, length, refl, rules, subst, ◌∙◌, arith}
 use Rattle.jbig2_base.specs.Counts.{WritesWithin}
-use Rattle.jbig2_halftone.specs.GrayScale.{gray_values}
-use Rattle.jbig2_halftone.specs.Halftone.{cells_drawn}
 use Rattle.jbig2_halftone.specs.HalftoneHeader.{HalftoneHeader}
 use Rattle.jbig2_halftone.specs.inner.HalftoneHeaderViews.{header_view}
 use Rattle.jbig2_halftone.specs.Patterns.{Patterns}
 use Rattle.jbig2_halftone.specs.inner.DictionaryViews.{dictionary_view}
 use Rattle.jbig2_halftone.specs.Steps.{words_of_cells}
-use Rattle.jbig2_halftone.specs.inner.NextValues.{row_values}
-use Rattle.jbig2_halftone.specs.inner.FunctionResults.{after_lane_rows}
-use Rattle.jbig2_halftone.proofs.CellLemmas.{x-further, y-further, below-x, below-y, rows-drawn, rows-fault, rows-none}
+use Rattle.jbig2_halftone.proofs.CellLemmas.{x-further, y-further, below-x, below-y, rows-drawn, rows-fault, rows-none, rows-whole}
 use Rattle.jbig2_halftone.proofs.DrawSteps.{rows-start, rows-more, rows-within}
-use Rattle.jbig2_halftone.proofs.RowLemmas.{no-counts}
+use Rattle.jbig2_halftone.proofs.RowLemmas.{part-length, row-inside}
 use Rattle.jbig2_halftone.proofs.halftone.draw_rows.Goals as goal
 
 pub loop-m-init : goal.loop-m-init
 loop-m-init g c =
-    let w : ℕ = c.args.header.now.grid_position_and_size.width in
+    let h : HalftoneHeader = header_view c.args.header.now in
+    let d : Patterns = dictionary_view c.args.dictionary.now in
+    let w : ℕ = h.grid_position_and_size.width in
     record {
       x = c.first_place-first.ensures.x;
       y = c.first_place-first.ensures.y;
-      drawn = rows-none (header_view c.args.header.now) (dictionary_view c.args.dictionary.now) c.args.planes.now c.args.bitmap.now;
+      drawn = rows-none h d w c.args.values.now c.args.bitmap.now;
       size = c.requires.region;
-      counts = rows-start (header_view c.args.header.now) (dictionary_view c.args.dictionary.now) w c.args.steps.now (after_lane_rows (0 * length c.args.planes.now) w c.args.steps.now) (no-counts (length c.args.planes.now) w c.args.steps.now);
+      counts = rows-start h d w c.args.steps.now;
     }
 
 pub returns-in-Err-clause-value : goal.returns-in-Err-clause-value
 returns-in-Err-clause-value g c =
     let h : HalftoneHeader = header_view c.args.header.now in
     let d : Patterns = dictionary_view c.args.dictionary.now in
-    let made = c.gray_row.ensures.value ∙ ap (λ (n : ℕ). row_values n c.args.planes.now c.loop-m.m) (c.loop-m.auto.values ∙ c.requires.row) in
-    rows-fault h d (c.loop-m.m + 1) h.grid_position_and_size.height c.args.planes.now c.args.bitmap.now c.in-Err.error (omega arith)
-    (rows-drawn h d c.loop-m.m c.args.planes.now c.args.bitmap.now c.loop-m.bitmap c.gray_row.new.values made c.loop-m.invariant.drawn ∙ c.in-Err.ensures.value)
+    let w : ℕ = h.grid_position_and_size.width in
+    let inside : c.loop-m.m * w + w ≤ length c.args.values.now = row-inside w h.grid_position_and_size.height c.loop-m.m (length c.args.values.now) (omega arith) c.requires.sized in
+    rows-fault h d ((c.loop-m.m + 1) * w) c.args.values.now c.args.bitmap.now c.in-Err.error
+    (rows-drawn h d w c.loop-m.m _ c.args.values.now _ c.args.bitmap.now c.loop-m.bitmap (omega arith) inside refl c.loop-m.invariant.drawn ∙ c.in-Err.ensures.value)
 
-pub returns-in-Err-clause-stopped : goal.returns-in-Err-clause-stopped
-returns-in-Err-clause-stopped g c =
+pub returns-in-Err-clause-steps : goal.returns-in-Err-clause-steps
+returns-in-Err-clause-steps g c =
     let h : HalftoneHeader = header_view c.args.header.now in
     let d : Patterns = dictionary_view c.args.dictionary.now in
     let w : ℕ = h.grid_position_and_size.width in
-    let row : length c.loop-m.values ≡ w = c.loop-m.auto.values ∙ c.requires.row in
-    let wide : length c.gray_row.new.values ≡ w = omega (arith, c.gray_row.auto.values) in
-    let read =
-    rows-more h d c.loop-m.m (length c.args.planes.now) w c.args.steps.now c.loop-m.steps c.gray_row.new.steps c.draw_row.new.steps c.loop-m.invariant.counts
-    (c.gray_row.ensures.steps ∙ ap (λ (n : ℕ). after_lane_rows (length c.args.planes.now) n c.loop-m.steps) row)
-    (subst (λ (n : ℕ). WritesWithin (words_of_cells h d (c.loop-m.m * w) n) c.gray_row.new.steps c.draw_row.new.steps) wide c.in-Err.ensures.steps) in
-    (c.loop-m.m + 1, (omega arith, rows-within h d (c.loop-m.m + 1) h.grid_position_and_size.height w _ c.draw_row.new.steps (omega arith) read))
+    let inside : c.loop-m.m * w + w ≤ length c.args.values.now = row-inside w h.grid_position_and_size.height c.loop-m.m (length c.args.values.now) (omega arith) c.requires.sized in
+    let here = subst (λ (n : ℕ). WritesWithin (words_of_cells h d (c.loop-m.m * w) n) c.loop-m.steps c.draw_row.new.steps) (part-length (c.loop-m.m * w) w c.args.values.now inside) c.in-Err.ensures.steps in
+    rows-within h d (c.loop-m.m + 1) h.grid_position_and_size.height w c.args.steps.now c.draw_row.new.steps (omega arith) (rows-more h d c.loop-m.m w c.args.steps.now c.loop-m.steps c.draw_row.new.steps c.loop-m.invariant.counts here)
 
 pub next_row-first-requires-clause-x : goal.next_row-first-requires-clause-x
 next_row-first-requires-clause-x g c =
@@ -64,27 +59,24 @@ pub loop-m-preserved : goal.loop-m-preserved
 loop-m-preserved g c =
     let h : HalftoneHeader = header_view c.args.header.now in
     let d : Patterns = dictionary_view c.args.dictionary.now in
-    let made = c.gray_row.ensures.value ∙ ap (λ (n : ℕ). row_values n c.args.planes.now c.loop-m.m) (c.loop-m.auto.values ∙ c.requires.row) in
     let w : ℕ = h.grid_position_and_size.width in
-    let row : length c.loop-m.values ≡ w = c.loop-m.auto.values ∙ c.requires.row in
-    let wide : length c.gray_row.new.values ≡ w = omega (arith, c.gray_row.auto.values) in
+    let inside : c.loop-m.m * w + w ≤ length c.args.values.now = row-inside w h.grid_position_and_size.height c.loop-m.m (length c.args.values.now) (omega arith) c.requires.sized in
+    let here = subst (λ (n : ℕ). WritesWithin (words_of_cells h d (c.loop-m.m * w) n) c.loop-m.steps c.draw_row.new.steps) (part-length (c.loop-m.m * w) w c.args.values.now inside) c.in-Ok.ensures.steps in
     record {
       x = below-x h.grid_position_and_size.horizontal_offset c.loop-m.first.x c.next_row-first.result.x c.loop-m.m h.grid_vector.y_vector h.grid_vector.x_vector c.loop-m.invariant.x c.next_row-first.ensures.x;
       y = below-y h.grid_position_and_size.vertical_offset c.loop-m.first.y c.next_row-first.result.y c.loop-m.m h.grid_vector.x_vector h.grid_vector.y_vector c.loop-m.invariant.y c.next_row-first.ensures.y;
-      drawn = rows-drawn h d c.loop-m.m c.args.planes.now c.args.bitmap.now c.loop-m.bitmap c.gray_row.new.values made c.loop-m.invariant.drawn ∙ c.in-Ok.ensures.value;
+      drawn = rows-drawn h d w c.loop-m.m _ c.args.values.now _ c.args.bitmap.now c.loop-m.bitmap (omega arith) inside refl c.loop-m.invariant.drawn ∙ c.in-Ok.ensures.value;
       size = record { columns = c.in-Ok.ensures.size.columns ∙ c.loop-m.invariant.size.columns; rows = c.in-Ok.ensures.size.rows ∙ c.loop-m.invariant.size.rows };
-      counts =
-          rows-more h d c.loop-m.m (length c.args.planes.now) w c.args.steps.now c.loop-m.steps c.gray_row.new.steps c.draw_row.new.steps c.loop-m.invariant.counts
-          (c.gray_row.ensures.steps ∙ ap (λ (n : ℕ). after_lane_rows (length c.args.planes.now) n c.loop-m.steps) row)
-          (subst (λ (n : ℕ). WritesWithin (words_of_cells h d (c.loop-m.m * w) n) c.gray_row.new.steps c.draw_row.new.steps) wide c.in-Ok.ensures.steps);
+      counts = rows-more h d c.loop-m.m w c.args.steps.now c.loop-m.steps c.draw_row.new.steps c.loop-m.invariant.counts here;
     }
 
 pub returns-clause-value : goal.returns-clause-value
 returns-clause-value g c =
     let h : HalftoneHeader = header_view c.args.header.now in
-    let d : Patterns = dictionary_view c.args.dictionary.now in
-    let last : h.grid_position_and_size.height ≡ c.loop-m.m = omega arith in
-    ap (λ (m : ℕ). cells_drawn h d 0 (gray_values h.grid_position_and_size.width m c.args.planes.now) c.args.bitmap.now) last ∙ c.loop-m.invariant.drawn
+    let w : ℕ = h.grid_position_and_size.width in
+    let last : c.loop-m.m ≡ h.grid_position_and_size.height = omega arith in
+    let all : length c.args.values.now ≤ c.loop-m.m * w = rw last (omega (arith, c.requires.sized)) in
+    rows-whole h (dictionary_view c.args.dictionary.now) (c.loop-m.m * w) c.args.values.now c.args.bitmap.now c.loop-m.bitmap all c.loop-m.invariant.drawn
 
 pub returns-clause-steps : goal.returns-clause-steps
 returns-clause-steps g c =
@@ -92,4 +84,4 @@ returns-clause-steps g c =
     let d : Patterns = dictionary_view c.args.dictionary.now in
     let w : ℕ = h.grid_position_and_size.width in
     let last : c.loop-m.m ≡ h.grid_position_and_size.height = omega arith in
-    subst (λ (m : ℕ). WritesWithin (words_of_cells h d 0 (m * w)) (after_lane_rows (m * length c.args.planes.now) w c.args.steps.now) c.loop-m.steps) last c.loop-m.invariant.counts
+    subst (λ (m : ℕ). WritesWithin (words_of_cells h d 0 (m * w)) c.args.steps.now c.loop-m.steps) last c.loop-m.invariant.counts
