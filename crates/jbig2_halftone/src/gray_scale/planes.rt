@@ -37,7 +37,7 @@ fn decode_plane<M: Allocator, A: Allocator, L: Ledger>(
     requires rows { plane.old.height ≤ max_side }
     requires white { plane.old ≡ blank plane.old.width plane.old.height false }
     requires contexts { length contexts.old ≡ 2 ^ context_bits params.now.template }
-    ensures holds { DecodesRegion (plane_coding (gray_view params.now))
+    ensures region { DecodesRegion (plane_coding (gray_view params.now))
         (region_state plane.old decoder.old contexts.old)
         (region_state plane.new decoder.new contexts.new) }
     ensures steps { CountsOne (gray_view params.now) plane.old.width plane.old.height

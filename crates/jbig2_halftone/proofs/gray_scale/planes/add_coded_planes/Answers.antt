@@ -26,7 +26,7 @@ add_plane-requires-clause-sized g c =
     let p : GrayScale = gray_view c.args.params.now in
     let sides = image-sides p c.loop.counter c.requires.sides (omega arith) in
     let white = blank-made p.width p.height false c.in_ok-plane.plane sides.0 sides.1 c.in_ok-plane.ensures in
-    let holds = coded-holds p c.args.bytes.now c.loop.counter c.in_ok-plane.plane c.decode_plane.new.plane c.loop.decoder c.decode_plane.new.decoder c.loop.contexts c.decode_plane.new.contexts white c.decode_plane.ensures.holds c.loop.invariant.after in
+    let holds = coded-holds p c.args.bytes.now c.loop.counter c.in_ok-plane.plane c.decode_plane.new.plane c.loop.decoder c.decode_plane.new.decoder c.loop.contexts c.decode_plane.new.contexts white c.decode_plane.ensures.region c.loop.invariant.after in
     values-sized p.width p.height (coded_planes p c.args.bytes.now c.loop.counter) c.decode_plane.new.plane c.loop.values (plane-width p.width p.height _ c.decode_plane.new.plane holds.pixels) (plane-height p.width p.height _ c.decode_plane.new.plane holds.pixels) c.loop.invariant.values
 
 pub add_plane-requires-clause-small : goal.add_plane-requires-clause-small
@@ -39,7 +39,7 @@ loop-preserved g c =
     let p : GrayScale = gray_view c.args.params.now in
     let sides = image-sides p c.loop.counter c.requires.sides (omega arith) in
     let white = blank-made p.width p.height false c.in_ok-plane.plane sides.0 sides.1 c.in_ok-plane.ensures in
-    let holds = coded-holds p c.args.bytes.now c.loop.counter c.in_ok-plane.plane c.decode_plane.new.plane c.loop.decoder c.decode_plane.new.decoder c.loop.contexts c.decode_plane.new.contexts white c.decode_plane.ensures.holds c.loop.invariant.after in
+    let holds = coded-holds p c.args.bytes.now c.loop.counter c.in_ok-plane.plane c.decode_plane.new.plane c.loop.decoder c.decode_plane.new.decoder c.loop.contexts c.decode_plane.new.contexts white c.decode_plane.ensures.region c.loop.invariant.after in
     let wide = plane-width p.width p.height _ c.decode_plane.new.plane holds.pixels in
     let high = plane-height p.width p.height _ c.decode_plane.new.plane holds.pixels in
     let taken = taken-sized p.width p.height c.decode_plane.new.plane c.decode_plane.new.steps c.add_plane.new.steps wide high c.add_plane.ensures.steps in
