@@ -1,6 +1,7 @@
 -- Pattern dictionaries (T.88, 6.7): the patterns lie side by side in one collective bitmap, a generic region. The
 -- header with the coded bytes gives the list of the patterns' grids, one for each gray value.
-use Rattle.std.specs.Prelude.{ℕ, ◌+◌, ◌*◌, nat_lt, Bool, true, false, if◌then◌else◌, List, [], ◌∷◌, drop, map, Result, Ok}
+use Rattle.std.specs.Prelude.{ℕ, ◌+◌, ◌*◌, nat_lt, Bool, true, false, if◌then◌else◌, List, [], ◌∷◌, drop, map}
+use Rattle.std.specs.Prelude.{Result, Ok}
 use Rattle.std.specs.List.{range_with_len}
 use Rattle.jbig2_base.specs.Results.{refuse_if, ◌>>=◌}
 use Rattle.jbig2_base.specs.Grid.{Grid, part_of, max_side}

@@ -33,13 +33,12 @@ module _ (p : GrayScale) where
   abbrev pub words_of_plane : ℕ  -- the number of words of 64 pixels in a plane
   words_of_plane = (p.width + 63) / 64 * p.height
 
-  -- The loads of a plane that is taken into the values: one for each whole eight pixels of a row, and one for each other
-  -- pixel.
+  -- the loads of a plane that is taken into the values: one for each whole eight pixels of a row, and for each other one
   abbrev pub taking_loads : ℕ
   taking_loads = p.height * (p.width / 8 + p.width % 8)
 
-  -- The highest planes are read, and some of them taken, which makes these loads. No pixel is skipped: a decision for each
-  -- pixel, but eight fewer for each run byte. Empty planes take no step.
+  -- The highest planes are read, and some of them taken, which makes `taking` loads. No pixel is skipped: a decision for
+  -- each pixel, but eight fewer for each run byte. Empty planes take no step.
   pub record CountsPlanes (bytes : List ℕ) (count taking : ℕ) (before after : Counts) : Type 0 where
     pub empty : p.width * p.height ≡ 0 → after ≡ before
     pub decisions : 1 ≤ p.width →
@@ -61,8 +60,8 @@ module _ (p : GrayScale) where
     pub pixels : after.pixels ≡ before.pixels + p.height * taken * (p.width % 8)
 
   -- `count` of the highest planes are read, and `taken` of them are taken into the values. MMR data makes at most three
-  -- loads and words together for each word of a plane and each bit of the bytes. No plane uses bytes that a plane before it
-  -- has used.
+  -- loads and words together for each word of a plane and each bit of the bytes. No plane uses bytes that a plane before
+  -- it has used.
   pub record CountsRead (bytes : List ℕ) (count taken : ℕ) (before after : Counts) : Type 0 where
     pub plain : p.use_mmr ≡ false → p.skip_mask ≡ None →
         CountsPlanes bytes count (taken * taking_loads) before after
