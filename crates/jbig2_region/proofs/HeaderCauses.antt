@@ -26,15 +26,15 @@ use Rattle.jbig2_region.proofs.Causes.{At, at-next, info-cause, info-there, rows
 use Rattle.jbig2_region.proofs.PixelCauses.{cause-pixels, cause-refinement_pixels, pixels-there}
 
 -- a number that stands after a place
-number-behind : (w : Width) (k j : ℕ) (bytes rest : List ℕ) → At k bytes rest → number_in w j rest ≡ number_in w (k + j) bytes
-number-behind w k j bytes rest at =
+number-after : (w : Width) (k j : ℕ) (bytes rest : List ℕ) → At k bytes rest → number_in w j rest ≡ number_in w (k + j) bytes
+number-after w k j bytes rest at =
     ap (λ (l : List ℕ). from_be_bytes w (take (byte_len w) l)) (ap (λ (l : List ℕ). drop j l) (sym at.same) ∙ drop-drop j k bytes)
 
 -- the number of rows: of the last four bytes, or as stated
 last-number : (k : ℕ) (bytes rest : List ℕ) → At k bytes rest → 4 ≤ length rest → number_in w32 (length rest - 4) rest ≡ number_in w32 (length bytes - 4) bytes
 last-number k bytes rest at enough =
     let place : k + (length rest - 4) ≡ length bytes - 4 = omega (arith, at.size) in
-    number-behind w32 k (length rest - 4) bytes rest at ∙ ap (λ (i : ℕ). number_in w32 i bytes) place
+    number-after w32 k (length rest - 4) bytes rest at ∙ ap (λ (i : ℕ). number_in w32 i bytes) place
 
 rows-value : (unknown_length : Bool) (height k : ℕ) (bytes rest : List ℕ) (rows : ℕ × List ℕ) → At k bytes rest → number_in w32 4 bytes ≡ height → rows_at unknown_length height rest ≡ Ok rows → number_in w32 (cond unknown_length (length bytes - 4) 4) bytes ≡ rows.0
 unfolding rows_at

@@ -62,9 +62,9 @@ none-here a h b p q e = grind (arith, e)
 -- what the nine tell, and what a mask of black columns and one of mixed ones do
 result-alike : (black mixed here : Bool) → (black ≡ true → here ≡ true) → (mixed ≡ false → here ≡ false)
     → cond black (Some true) (cond (not mixed) (Some false) None) ≡ cond (black || not mixed) (Some here) None
-result-alike true mixed here full none = ap (λ (c : Bool). let told : Option Bool = Some c in told) (sym (full refl))
+result-alike true mixed here full none = ap (λ (c : Bool). let known : Option Bool = Some c in known) (sym (full refl))
 result-alike false true here full none = refl
-result-alike false false here full none = ap (λ (c : Bool). let told : Option Bool = Some c in told) (sym (none refl))
+result-alike false false here full none = ap (λ (c : Bool). let known : Option Bool = Some c in known) (sym (none refl))
 
 result-rows : (b h a : ℕ) (black mixed : Bool) → b < 8 → h < 8 → a < 8 → (eqb a 7 && eqb h 7 && eqb b 7) ≡ black → (eqb a 0 && eqb h 0 && eqb b 0) ≡ not mixed
     → colour_of (b + h * 8 + a * 64) ≡ cond black (Some true) (cond (not mixed) (Some false) None)

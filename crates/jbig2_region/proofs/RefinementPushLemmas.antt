@@ -80,7 +80,7 @@ block-copied template typical p r x y k (suc n) g w d0 d s0 s t0 t pixels sees f
     let next : Block coding p x y (k + n + 1) (counted_region g d0 s0 t0) (so_far * 2 + bit_number colour) (counted_decoder d s t) =
     block-next template typical p r x y (k + n) g w d0 d d s0 s s t0 t t so_far (nine_of w (k + n)) (four_of w so_far (k + n)) (bit_number colour)
     before sees (omega arith) (omega arith) above refl refl
-    (subst (λ (told : Option Bool). Takes told (context_of template (nine_of w (k + n)) (four_of w so_far (k + n))) (counted_decoder d s t) (bit_number colour) (counted_decoder d s t)) (sym (known n (omega arith))) takes) in
+    (subst (λ (o : Option Bool). Takes o (context_of template (nine_of w (k + n)) (four_of w so_far (k + n))) (counted_decoder d s t) (bit_number colour) (counted_decoder d s t)) (sym (known n (omega arith))) takes) in
     let place : k + n + 1 ≡ k + (n + 1) = omega arith in
     subst (λ (m : ℕ). Block coding p x y (k + m) (counted_region g d0 s0 t0) (pixels * 2 ^ m + w.here / 2 ^ (63 - (k + m)) % 2 ^ m) (counted_decoder d s t)) (add-one n)
     (subst (λ (m : ℕ). Block coding p x y (k + (n + 1)) (counted_region g d0 s0 t0) m (counted_decoder d s t)) (copied-next pixels w.here k n (omega arith))

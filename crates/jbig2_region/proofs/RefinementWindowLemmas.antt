@@ -67,7 +67,7 @@ sees-row g y width pixels some few all bits = λ k inside.
     let place : 1 + (63 - k) - (64 - width) ≡ width - 1 - (k - 1) = omega arith in
     bit-shl_high pixels (64 - width) 64 (1 + (63 - k)) (omega arith) (omega arith) ∙ ap (λ (n : ℕ). bit pixels n) place ∙ bits (k - 1) within
     ∙ sym (pixel-inside g (negsuc 0 +ℤ pos k) (pos y) (k - 1) y column refl))
-    (λ (behind : width ≤ k - 1).
+    (λ (after : width ≤ k - 1).
     bit-shl_low pixels (64 - width) 64 (1 + (63 - k)) (omega arith) (omega arith)
     ∙ sym (pixel-inside g (negsuc 0 +ℤ pos k) (pos y) (k - 1) y column refl ∙ pixel_at-right g (k - 1) y (omega arith)))
     (cases_lt (k - 1) width))

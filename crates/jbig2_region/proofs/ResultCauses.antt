@@ -1,5 +1,5 @@
--- What is told of an answer: of its error a cause, and of its value what the input says. The steps of a definition are
--- told one after the other, each at a known place of the bytes.
+-- What is known of a result: the cause of its error, and what the input says of its value. The steps of a definition
+-- follow one another, each at a known place of the bytes.
 use Rattle.std.proofs.Common.{◌≡◌, ℕ, ◌+◌, ◌<◌, ◌≤◌, ◌%◌, ◌/◌, Bool, true, false, cond, eqb, List, take, drop, length, Result, Ok, Err, refl, sym, ◌∙◌, ap, arith, length-drop}
 use Rattle.std.specs.Prelude.{IfErr, ℤ}
 use Rattle.std.specs.Int.{Width, w8, w32, byte_len, from_be_bytes}
@@ -36,7 +36,7 @@ pub cause-if : {A : Type 0} (P : DecodeError → Type 0) (b : Bool) (r s : Resul
 cause-if P true r s at_true at_false = at_true refl
 cause-if P false r s at_true at_false = at_false refl
 
--- of what is told, the cause alone
+-- the cause alone
 pub cause-of : {A : Type 0} (P : DecodeError → Type 0) (Q : A → Type 0) (r : Result A DecodeError) → IfResult r P Q → IfErr r P
 cause-of P Q (Ok x) is = tt
 cause-of P Q (Err e) is = is
@@ -52,12 +52,12 @@ pub cause-last : {A B : Type 0} (P : DecodeError → Type 0) (Q : A → Type 0) 
 cause-last P Q (Ok x) next first rest = rest x first
 cause-last P Q (Err e) next first rest = first
 
--- of an answer the cause alone is told
+-- a result of which only the cause is known
 pub result-any : {A : Type 0} (P : DecodeError → Type 0) (r : Result A DecodeError) → IfErr r P → IfResult r P (λ x. Unit {0})
 result-any P (Ok x) is = tt
 result-any P (Err e) is = is
 
--- what follows from what is told of a value
+-- what follows from what is known of a value
 pub result-more : {A : Type 0} (P : DecodeError → Type 0) (Q R : A → Type 0) (r : Result A DecodeError) → IfResult r P Q → ((x : A) → Q x → R x) → IfResult r P R
 result-more P Q R (Ok x) is more = more x is
 result-more P Q R (Err e) is more = is
@@ -79,35 +79,35 @@ pub record IsAtPlace (bytes : List ℕ) (place : ℕ) (rest : List ℕ) : Type 0
 pub at-start : (bytes : List ℕ) → IsAtPlace bytes 0 bytes
 at-start bytes = record { within = omega arith; rest_is = refl }
 
-left-behind : (bytes : List ℕ) (place : ℕ) (rest : List ℕ) → IsAtPlace bytes place rest → length rest + place ≡ length bytes
-left-behind bytes place rest s = omega (arith, ap length s.rest_is, length-drop place bytes, s.within)
+left-after : (bytes : List ℕ) (place : ℕ) (rest : List ℕ) → IsAtPlace bytes place rest → length rest + place ≡ length bytes
+left-after bytes place rest s = omega (arith, ap length s.rest_is, length-drop place bytes, s.within)
 
 -- a number at this place, and the place after it
 pub record Number (w : Width) (bytes : List ℕ) (place : ℕ) (x : ℕ × List ℕ) : Type 0 where
   pub value : number_in w place bytes ≡ x.0
-  pub behind : IsAtPlace bytes (place + byte_len w) x.1
+  pub after : IsAtPlace bytes (place + byte_len w) x.1
 
 number-read : (w : Width) (bytes : List ℕ) (place : ℕ) (rest : List ℕ) (x : ℕ × List ℕ) → IsAtPlace bytes place rest → number_at w rest ≡ Ok x → Number w bytes place x
 number-read w bytes place rest x s is =
     let there = number-there w rest x is in
     let value : from_be_bytes w (take (byte_len w) rest) ≡ x.0 = ap (λ (n : ℕ × List ℕ). n.0) there.1 in
-    let behind : drop (byte_len w) rest ≡ x.1 = ap (λ (n : ℕ × List ℕ). n.1) there.1 in
+    let after : drop (byte_len w) rest ≡ x.1 = ap (λ (n : ℕ × List ℕ). n.1) there.1 in
     record {
       value = ap (λ (l : List ℕ). from_be_bytes w (take (byte_len w) l)) s.rest_is ∙ value;
-      behind = record {
-        within = omega (arith, left-behind bytes place rest s, there.0);
-        rest_is = sym (drop-drop (byte_len w) place bytes) ∙ ap (drop (byte_len w)) s.rest_is ∙ behind;
+      after = record {
+        within = omega (arith, left-after bytes place rest s, there.0);
+        rest_is = sym (drop-drop (byte_len w) place bytes) ∙ ap (drop (byte_len w)) s.rest_is ∙ after;
       };
     }
 
 pub result-number : (P : DecodeError → Type 0) (w : Width) {bytes : List ℕ} {place : ℕ} {rest : List ℕ} → IsAtPlace bytes place rest → (length bytes < place + byte_len w → P end_of_bytes) → IfResult (number_at w rest) P (Number w bytes place)
 result-number P w {bytes} {place} {rest} s short =
-    result-of P (Number w bytes place) (number_at w rest) (cause-number P w rest (λ missing. short (omega (arith, left-behind bytes place rest s, missing)))) (λ x is. number-read w bytes place rest x s is)
+    result-of P (Number w bytes place) (number_at w rest) (cause-number P w rest (λ missing. short (omega (arith, left-after bytes place rest s, missing)))) (λ x is. number-read w bytes place rest x s is)
 
--- a signed number, of which its place is told alone
+-- a signed number, of which only the place after it is known
 pub result-signed : (P : DecodeError → Type 0) (w : Width) {bytes : List ℕ} {place : ℕ} {rest : List ℕ} → IsAtPlace bytes place rest → (length bytes < place + byte_len w → P end_of_bytes) → IfResult (signed_at w rest) P (λ (x : ℤ × List ℕ). IsAtPlace bytes (place + byte_len w) x.1)
 result-signed P w {bytes} {place} {rest} s short =
-    result-next P (Number w bytes place) (λ (x : ℤ × List ℕ). IsAtPlace bytes (place + byte_len w) x.1) (number_at w rest) _ (result-number P w s short) (λ x n. n.behind)
+    result-next P (Number w bytes place) (λ (x : ℤ × List ℕ). IsAtPlace bytes (place + byte_len w) x.1) (number_at w rest) _ (result-number P w s short) (λ x n. n.after)
 
 -- ---- region information (7.4.1)
 other-operator : (n : ℕ) → eqb n 0 ≡ false → eqb n 1 ≡ false → eqb n 2 ≡ false → eqb n 3 ≡ false → eqb n 4 ≡ false → 4 < n
@@ -126,9 +126,9 @@ unfolding region_info_at
 result-region_info P bytes short operator colour =
     let R : RegionSegmentInfo × List ℕ → Type 0 = λ x. IsAtPlace bytes 17 x.1 in
     result-next P _ R (number_at w32 bytes) _ (result-number P w32 (at-start bytes) (λ missing. short (omega (arith, missing)))) (λ width a.
-    result-next P _ R (number_at w32 width.1) _ (result-number P w32 a.behind (λ missing. short (omega (arith, missing)))) (λ height b.
-    result-next P _ R (number_at w32 height.1) _ (result-number P w32 b.behind (λ missing. short (omega (arith, missing)))) (λ x c.
-    result-next P _ R (number_at w32 x.1) _ (result-number P w32 c.behind (λ missing. short (omega (arith, missing)))) (λ y d.
-    result-next P _ R (number_at w8 y.1) _ (result-number P w8 d.behind (λ missing. short (omega (arith, missing)))) (λ flags f.
+    result-next P _ R (number_at w32 width.1) _ (result-number P w32 a.after (λ missing. short (omega (arith, missing)))) (λ height b.
+    result-next P _ R (number_at w32 height.1) _ (result-number P w32 b.after (λ missing. short (omega (arith, missing)))) (λ x c.
+    result-next P _ R (number_at w32 x.1) _ (result-number P w32 c.after (λ missing. short (omega (arith, missing)))) (λ y d.
+    result-next P _ R (number_at w8 y.1) _ (result-number P w8 d.after (λ missing. short (omega (arith, missing)))) (λ flags f.
     result-next P _ R (operator_of (flags.0 % 8)) _ (result-operator P (flags.0 % 8) (λ other. operator (omega (arith, f.value, other)))) (λ o is_o.
-    result-next P _ R (refuse_if (eqb (flags.0 / 8 % 2) 1) Unsupported) _ (result-refused P (eqb (flags.0 / 8 % 2) 1) Unsupported (λ is. colour (omega (arith, f.value, eqb-true (flags.0 / 8 % 2) 1 is)))) (λ plain is_plain. f.behind)))))))
+    result-next P _ R (refuse_if (eqb (flags.0 / 8 % 2) 1) Unsupported) _ (result-refused P (eqb (flags.0 / 8 % 2) 1) Unsupported (λ is. colour (omega (arith, f.value, eqb-true (flags.0 / 8 % 2) 1 is)))) (λ plain is_plain. f.after)))))))

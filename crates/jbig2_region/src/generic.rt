@@ -24,7 +24,7 @@ use crate::template::adaptive::parse_generic_template_pixels;
 use crate::template::{GenericTemplatePixels, Template};
 use jbig2_base::bitmap::steps::Steps;
 use jbig2_base::bitmap::{Bitmap, MAX_DIMENSION};
-use jbig2_base::error::{DecodeError, OverflowError, RegionError, Result};
+use jbig2_base::error::{OverflowError, RegionError, Result};
 use jbig2_base::field::{byte_field, u32_field};
 use jbig2_base::reader::Reader;
 use jbig2_coder::arithmetic_decoder::{ArithmeticDecoder, ArithmeticDecoderContext};
@@ -61,7 +61,7 @@ fn rows<'a>(unknown_length: bool, height: u32, bytes: &'a [u8]) -> Result<(u32, 
     let end = bytes.len().saturating_sub(4);
     let rows = u32_field(&mut Reader::new(&bytes[end..]))?;
     if rows > height {
-        return Err(DecodeError::Region(RegionError::InvalidDimension));
+        return Err(RegionError::InvalidDimension.into());
     }
     Ok((rows, &bytes[..end]))
 }
@@ -101,7 +101,7 @@ pub fn parse<'a>(
     )?;
     let (height, bytes) = rows(unknown_length, region_info.height, ahead.tail())?;
     if region_info.width > MAX_DIMENSION || height > MAX_DIMENSION {
-        return Err(DecodeError::Overflow(OverflowError::BitmapDimension));
+        return Err(OverflowError::BitmapDimension.into());
     }
     region_info.height = height;
     *reader = ahead;

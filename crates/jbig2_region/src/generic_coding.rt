@@ -170,7 +170,7 @@ pub fn decode_coded<A: Allocator, L: Ledger>(
 )
     requires fits { FitsTemplate (is_extended adaptive.now) template }
     requires ready { IsReady (context_bits template) bitmap.old contexts.old }
-    ensures holds { let extended = is_extended adaptive.now in
+    ensures region { let extended = is_extended adaptive.now in
         let pixels = template_pixels extended template (pixels_view false template adaptive.now) in
         DecodesRegion (coding_of typical template pixels)
         (region_state bitmap.old decoder.old contexts.old)

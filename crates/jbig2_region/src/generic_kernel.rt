@@ -56,7 +56,7 @@ use std::sync::ledger::Ledger;
 /// Copies the row above row `y` to row `y`.
 fn copy_row<A: Allocator, L: Ledger>(bitmap: &mut Bitmap<A>, y: u32, steps: &mut Steps<L>)
     requires row { y < bitmap.old.height }
-    ensures holds { (template : List AdaptiveTemplatePixel) (coder : Coder)
+    ensures pixels { (template : List AdaptiveTemplatePixel) (coder : Coder)
         (states : List Context) → DecodesPixels template true 0 y bitmap.old.width
         (region_state bitmap.old coder states) (region_state bitmap.new coder states) }
     ensures width { bitmap.new.width ≡ bitmap.old.width }
@@ -94,7 +94,7 @@ fn decode_row<A: Allocator, L: Ledger>(
     requires row { y < bitmap.old.height }
     requires columns { bitmap.old.width ≤ max_side }
     requires rows { bitmap.old.height ≤ max_side }
-    ensures holds { DecodesPixels (layout_pixels layout.now) predicted 0 y bitmap.old.width
+    ensures pixels { DecodesPixels (layout_pixels layout.now) predicted 0 y bitmap.old.width
         (region_state bitmap.old decoder.old contexts.old)
         (region_state bitmap.new decoder.new contexts.new) }
     ensures width { bitmap.new.width ≡ bitmap.old.width }
@@ -152,7 +152,7 @@ pub fn decode_layout<A: Allocator, L: Ledger>(
     requires columns { bitmap.old.width ≤ max_side }
     requires rows { bitmap.old.height ≤ max_side }
     requires white { bitmap.old ≡ blank bitmap.old.width bitmap.old.height false }
-    ensures holds { DecodesRegion (layout_coding layout.now row_context)
+    ensures region { DecodesRegion (layout_coding layout.now row_context)
         (region_state bitmap.old decoder.old contexts.old)
         (region_state bitmap.new decoder.new contexts.new) }
     ensures steps { CountsRegion (layout_pixels layout.now) (is_nominal_layout layout.now.adaptive)

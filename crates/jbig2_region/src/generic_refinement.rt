@@ -21,7 +21,7 @@ pub use crate::template::adaptive::parse_template_pixels;
 use crate::template::{AdaptiveTemplatePixel, RefinementTemplate};
 use jbig2_base::bitmap::steps::Steps;
 use jbig2_base::bitmap::{Bitmap, MAX_DIMENSION};
-use jbig2_base::error::{DecodeError, OverflowError, RegionError, Result};
+use jbig2_base::error::{OverflowError, RegionError, Result};
 use jbig2_base::field::byte_field;
 use jbig2_base::reader::Reader;
 use jbig2_coder::arithmetic_decoder::{ArithmeticDecoder, ArithmeticDecoderContext};
@@ -73,7 +73,7 @@ pub fn parse<'a>(reader: &mut Reader<'a>) -> Result<GenericRefinementRegionHeade
     let template = RefinementTemplate::from_byte(flags);
     let adaptive_template_pixels = parse_template_pixels(&mut ahead, template)?;
     if region_info.width > MAX_DIMENSION || region_info.height > MAX_DIMENSION {
-        return Err(DecodeError::Overflow(OverflowError::BitmapDimension));
+        return Err(OverflowError::BitmapDimension.into());
     }
     *reader = ahead;
     Ok(GenericRefinementRegionHeader {
@@ -109,14 +109,14 @@ fn offset<B: Allocator>(
         (BreaksOffset (region_view reference.now) region_info.now) }
 {
     if is_smaller(reference, region_info) {
-        return Err(DecodeError::Region(RegionError::InvalidDimension));
+        return Err(RegionError::InvalidDimension.into());
     }
     if is_far(reference.x_location)
         || is_far(region_info.x_location)
         || is_far(reference.y_location)
         || is_far(region_info.y_location)
     {
-        return Err(DecodeError::Overflow(OverflowError::ReferenceOffset));
+        return Err(OverflowError::ReferenceOffset.into());
     }
     Ok((
         reference.x_location as i32 - region_info.x_location as i32,

@@ -217,7 +217,7 @@ pub fn decode_region<C: PixelCoding, A: Allocator, L: Ledger>(
     steps: &mut Steps<L>,
 )
     requires { IsReady (C.bits coding.now) bitmap.old contexts.old }
-    ensures holds { DecodesRegion (C.coding coding.now)
+    ensures region { DecodesRegion (C.coding coding.now)
         (region_state bitmap.old decoder.old contexts.old)
         (region_state bitmap.new decoder.new contexts.new) }
     ensures empty { bitmap.old.width * bitmap.old.height ≡ 0 → steps.new ≡ steps.old }

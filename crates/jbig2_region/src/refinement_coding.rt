@@ -195,7 +195,7 @@ pub fn decode_bitmap<A: Allocator, B: Allocator, L: Ledger>(
     steps: &mut Steps<L>,
 )
     requires { IsReady (refinement_bits template) bitmap.old contexts.old }
-    ensures holds { let from = reference_view reference.now in
+    ensures region { let from = reference_view reference.now in
         DecodesRegion (refinement_coding template typical (two_pixels template adaptive.now) from)
         (region_state bitmap.old decoder.old contexts.old)
         (region_state bitmap.new decoder.new contexts.new) }

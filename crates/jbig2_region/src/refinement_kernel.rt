@@ -250,7 +250,7 @@ fn decode_narrow<A: Allocator, B: Allocator, L: Ledger>(
     requires some { 1 ≤ bitmap.old.width }
     requires few { bitmap.old.width ≤ 32 }
     requires rows { 1 ≤ bitmap.old.height }
-    ensures holds { DecodesRegion (windowed_coding coding.now)
+    ensures region { DecodesRegion (windowed_coding coding.now)
         (region_state bitmap.old decoder.old contexts.old)
         (region_state bitmap.new decoder.new contexts.new) }
     ensures steps { CountsDecided (windowed_coding coding.now)
@@ -286,7 +286,7 @@ pub fn decode_windowed<A: Allocator, B: Allocator, L: Ledger>(
     steps: &mut Steps<L>,
 )
     requires { IsReady (refinement_bits coding.now.template) bitmap.old contexts.old }
-    ensures holds { DecodesRegion (windowed_coding coding.now)
+    ensures region { DecodesRegion (windowed_coding coding.now)
         (region_state bitmap.old decoder.old contexts.old)
         (region_state bitmap.new decoder.new contexts.new) }
     ensures steps { CountsDecided (windowed_coding coding.now)

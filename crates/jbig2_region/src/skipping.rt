@@ -36,7 +36,7 @@ pub fn decode_skipping<M: Allocator, A: Allocator, L: Ledger>(
     steps: &mut Steps<L>,
 )
     requires { IsReady (context_bits template) bitmap.old contexts.old }
-    ensures holds { let used = four_pixels template adaptive.now in
+    ensures region { let used = four_pixels template adaptive.now in
         let pixels = template_pixels false template used in
         DecodesRegion (skipping_coding pixels (skip_of skip.entry))
         (region_state bitmap.old decoder.old contexts.old)

@@ -46,7 +46,7 @@ pub fn push_pixels<L: Ledger>(
     requires contexts { length contexts.old ≡ 2 ^ neighbour_count neighbours }
     requires byte { count ≤ 8 }
     requires small { left < 16 }
-    ensures holds { PushesPixels neighbours count left windows count result
+    ensures pixels { PushesPixels neighbours count left windows count result
         (decoder_state decoder.old contexts.old) (decoder_state decoder.new contexts.new) }
     ensures bound { result < 2 ^ count }
     ensures bytes { decoder.new.bytes ≡ decoder.old.bytes }
@@ -95,7 +95,7 @@ pub fn push_bytes<L: Ledger>(
     requires small { left < 16 }
     ensures some { 1 ≤ result.bytes }
     ensures most { result.bytes ≤ most }
-    ensures holds { PushesBytes neighbours most left windows result.bytes result.pixels
+    ensures pixels { PushesBytes neighbours most left windows result.bytes result.pixels
         (decoder_state decoder.old contexts.old) (decoder_state decoder.new contexts.new) }
     ensures decisions { CountsBytes neighbours most left windows result.bytes
         (decoder_state decoder.old contexts.old) steps.old.decisions steps.new.decisions }
@@ -138,15 +138,15 @@ fn most_bytes(done: u32, bytes: u32) -> u32
 
 /// `pixels` with these bytes after them.
 #[inline(always)]
-fn join(pixels: u64, behind: PushedBytes) -> u64
-    requires few { behind.bytes ≤ 8 }
-    requires fits { pixels * 2 ^ (8 * behind.bytes) + behind.pixels < 2 ^ 64 }
-    ensures { result ≡ pixels * 2 ^ (8 * behind.bytes) + behind.pixels }
+fn join(pixels: u64, after: PushedBytes) -> u64
+    requires few { after.bytes ≤ 8 }
+    requires fits { pixels * 2 ^ (8 * after.bytes) + after.pixels < 2 ^ 64 }
+    ensures { result ≡ pixels * 2 ^ (8 * after.bytes) + after.pixels }
 {
-    if behind.bytes == 8 {
-        return behind.pixels;
+    if after.bytes == 8 {
+        return after.pixels;
     }
-    (pixels << (8 * behind.bytes)) + behind.pixels
+    (pixels << (8 * after.bytes)) + after.pixels
 }
 
 /// Decodes the next `bytes` bytes of a row, at most eight and none of them its last, from the
@@ -165,7 +165,7 @@ fn push_group<L: Ledger>(
     requires contexts { length contexts.old ≡ 2 ^ neighbour_count neighbours }
     requires few { bytes ≤ 8 }
     requires small { left < 16 }
-    ensures holds { PushesGroup neighbours bytes left windows bytes result
+    ensures pixels { PushesGroup neighbours bytes left windows bytes result
         (decoder_state decoder.old contexts.old) (decoder_state decoder.new contexts.new) }
     ensures decisions { CountsGroup neighbours bytes left windows bytes
         (decoder_state decoder.old contexts.old) steps.old.decisions steps.new.decisions }

@@ -36,7 +36,7 @@ fn push_byte<L: Ledger>(
     requires near { IsNear neighbours }
     requires contexts { length contexts.old ≡ 2 ^ neighbour_count neighbours }
     requires small { left < 16 }
-    ensures holds { PushesPixels neighbours 9 left windows 8 result
+    ensures pixels { PushesPixels neighbours 9 left windows 8 result
         (decoder_state decoder.old contexts.old) (decoder_state decoder.new contexts.new) }
     ensures decisions { CountsByte neighbours left windows
         (decoder_state decoder.old contexts.old) steps.old.decisions steps.new.decisions }
@@ -70,7 +70,7 @@ fn push_row<L: Ledger>(
     requires contexts { length contexts.old ≡ 2 ^ neighbour_count neighbours }
     requires some { 1 ≤ width }
     requires few { width ≤ 48 }
-    ensures holds { PushesRow neighbours width windows width result
+    ensures pixels { PushesRow neighbours width windows width result
         (decoder_state decoder.old contexts.old) (decoder_state decoder.new contexts.new) }
     ensures decisions { CountsRowPixels neighbours width windows width
         (decoder_state decoder.old contexts.old) steps.old.decisions steps.new.decisions }
@@ -123,7 +123,7 @@ fn decode_rows<A: Allocator, L: Ledger>(
     steps: &mut Steps<L>,
 )
     requires { FitsNarrow neighbours bitmap.old contexts.old }
-    ensures holds { DecodesRegion (row_coding (nominal_pixels neighbours))
+    ensures region { DecodesRegion (row_coding (nominal_pixels neighbours))
         (region_state bitmap.old decoder.old contexts.old)
         (region_state bitmap.new decoder.new contexts.new) }
     ensures steps { CountsNarrow neighbours (region_state bitmap.old decoder.old contexts.old)
@@ -149,7 +149,7 @@ fn decode_constant_rows<A: Allocator, L: Ledger, const TEMPLATE: u8>(
 )
     requires same { neighbours ≡ nominal_neighbours (template_of (TEMPLATE % 4)) }
     requires fits { FitsNarrow neighbours bitmap.old contexts.old }
-    ensures holds { DecodesRegion (row_coding (nominal_pixels neighbours))
+    ensures region { DecodesRegion (row_coding (nominal_pixels neighbours))
         (region_state bitmap.old decoder.old contexts.old)
         (region_state bitmap.new decoder.new contexts.new) }
     ensures steps { CountsNarrow neighbours (region_state bitmap.old decoder.old contexts.old)
@@ -168,7 +168,7 @@ pub fn decode_narrow<A: Allocator, L: Ledger>(
     steps: &mut Steps<L>,
 )
     requires { FitsNarrow neighbours bitmap.old contexts.old }
-    ensures holds { DecodesRegion (row_coding (nominal_pixels neighbours))
+    ensures region { DecodesRegion (row_coding (nominal_pixels neighbours))
         (region_state bitmap.old decoder.old contexts.old)
         (region_state bitmap.new decoder.new contexts.new) }
     ensures steps { CountsNarrow neighbours (region_state bitmap.old decoder.old contexts.old)

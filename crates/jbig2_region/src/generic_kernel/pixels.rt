@@ -74,7 +74,7 @@ fn decode_pixels<A: Allocator, L: Ledger>(
     requires heights { bitmap.old.height ≤ max_side }
     requires left { IsLeft bitmap.old place.x place.y place.left }
     requires small { place.left < 16 }
-    ensures holds { DecodesPixels (mixed_pixels neighbours adaptive.now) false
+    ensures pixels { DecodesPixels (mixed_pixels neighbours adaptive.now) false
         place.x place.y place.count (region_state bitmap.old decoder.old contexts.old)
         (region_state bitmap.new decoder.new contexts.new) }
     ensures left { IsLeft bitmap.new (place.x + place.count) place.y result }
@@ -118,7 +118,7 @@ pub fn decode_row_by_pixels<A: Allocator, L: Ledger>(
     requires row { y < bitmap.old.height }
     requires widths { bitmap.old.width ≤ max_side }
     requires heights { bitmap.old.height ≤ max_side }
-    ensures holds { DecodesPixels (mixed_pixels neighbours adaptive.now) false 0 y bitmap.old.width
+    ensures pixels { DecodesPixels (mixed_pixels neighbours adaptive.now) false 0 y bitmap.old.width
         (region_state bitmap.old decoder.old contexts.old)
         (region_state bitmap.new decoder.new contexts.new) }
     ensures width { bitmap.new.width ≡ bitmap.old.width }

@@ -11,7 +11,7 @@ ghost use Rattle.jbig2_region.specs.Causes.{BreaksPixels, BreaksRefinementPixels
 ghost use Rattle.jbig2_region.specs.declared.template.RefinementTemplate.{RefinementTemplate};
 
 use crate::template::{AdaptiveTemplatePixel, GenericTemplatePixels, RefinementTemplate, Template};
-use jbig2_base::error::{DecodeError, Result, TemplateError};
+use jbig2_base::error::{Result, TemplateError};
 use jbig2_base::field::i8_field;
 use jbig2_base::reader::Reader;
 
@@ -47,7 +47,7 @@ fn parse_adaptive_template_pixel(reader: &mut Reader<'_>) -> Result<AdaptiveTemp
 {
     let pixel = parse_free_pixel(reader)?;
     if !is_earlier(pixel) {
-        return Err(DecodeError::Template(TemplateError::InvalidAtPixel));
+        return Err(TemplateError::InvalidAtPixel.into());
     }
     Ok(pixel)
 }

@@ -26,7 +26,7 @@ use Rattle.jbig2_region.proofs.generic.decode_into.Goals as goal
 pub returns-clause-value : goal.returns-clause-value
 returns-clause-value g c =
     let h = c.args.header.now in
-    let decoded = as-coded h (λ (a : List AdaptiveTemplatePixel). DecodesRegion (coding_of h.tpgdon h.template (template_pixels (is_extended h.adaptive_template_pixels) h.template a)) (region_state c.args.bitmap.now c.new-decoder.result c.deref_mut.result.now) (region_state c.decode_coded.new.bitmap c.decode_coded.new.decoder c.decode_coded.new.contexts)) c.if-header.false c.decode_coded.ensures.holds in
+    let decoded = as-coded h (λ (a : List AdaptiveTemplatePixel). DecodesRegion (coding_of h.tpgdon h.template (template_pixels (is_extended h.adaptive_template_pixels) h.template a)) (region_state c.args.bitmap.now c.new-decoder.result c.deref_mut.result.now) (region_state c.decode_coded.new.bitmap c.decode_coded.new.decoder c.decode_coded.new.contexts)) c.if-header.false c.decode_coded.ensures.region in
     let fresh : c.deref_mut.result.now ≡ fresh_contexts (context_bits c.args.header.now.template) = c.deref_mut.ensures.value ∙ sym (same-ok _ _ c.in_ok-fresh_contexts.ensures) ∙ ap (λ (n : ℕ). fresh_contexts n) c.context_bits.ensures in
     result-decoded (header_view c.args.header.now) c.decode_coded.new.bitmap c.decode_coded.new.decoder c.decode_coded.new.contexts c.if-header.false
     (region-decoded (header_view c.args.header.now) c.args.bitmap.now c.decode_coded.new.bitmap c.new-decoder.result c.decode_coded.new.decoder c.deref_mut.result.now c.decode_coded.new.contexts c.requires.white c.new-decoder.ensures.bytes c.new-decoder.ensures.registers fresh decoded)
@@ -34,7 +34,7 @@ returns-clause-value g c =
 pub returns-clause-contexts : goal.returns-clause-contexts
 returns-clause-contexts g c =
     let h = c.args.header.now in
-    let decoded = as-coded h (λ (a : List AdaptiveTemplatePixel). DecodesRegion (coding_of h.tpgdon h.template (template_pixels (is_extended h.adaptive_template_pixels) h.template a)) (region_state c.args.bitmap.now c.new-decoder.result c.deref_mut.result.now) (region_state c.decode_coded.new.bitmap c.decode_coded.new.decoder c.decode_coded.new.contexts)) c.if-header.false c.decode_coded.ensures.holds in
+    let decoded = as-coded h (λ (a : List AdaptiveTemplatePixel). DecodesRegion (coding_of h.tpgdon h.template (template_pixels (is_extended h.adaptive_template_pixels) h.template a)) (region_state c.args.bitmap.now c.new-decoder.result c.deref_mut.result.now) (region_state c.decode_coded.new.bitmap c.decode_coded.new.decoder c.decode_coded.new.contexts)) c.if-header.false c.decode_coded.ensures.region in
     let fresh : c.deref_mut.result.now ≡ fresh_contexts (context_bits c.args.header.now.template) = c.deref_mut.ensures.value ∙ sym (same-ok _ _ c.in_ok-fresh_contexts.ensures) ∙ ap (λ (n : ℕ). fresh_contexts n) c.context_bits.ensures in
     let holds : HasDecoded c.args.header.now.region_info.width c.args.header.now.region_info.height c.args.header.now.bytes.now (generic_region (header_view c.args.header.now)) (region_state c.decode_coded.new.bitmap c.decode_coded.new.decoder c.decode_coded.new.contexts) =
     region-decoded (header_view c.args.header.now) c.args.bitmap.now c.decode_coded.new.bitmap c.new-decoder.result c.decode_coded.new.decoder c.deref_mut.result.now c.decode_coded.new.contexts c.requires.white c.new-decoder.ensures.bytes c.new-decoder.ensures.registers fresh decoded in

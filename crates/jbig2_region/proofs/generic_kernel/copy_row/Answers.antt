@@ -44,7 +44,7 @@ loop-index-preserved g c =
       lanes = record { groups = ap (λ (s : Counts). s.groups) steps ∙ c.loop-index.invariant.lanes.groups; pixels = ap (λ (s : Counts). s.pixels) steps ∙ c.loop-index.invariant.lanes.pixels };
     }
 
-pub returns-clause-holds : goal.returns-clause-holds
-returns-clause-holds g c = λ template coder states.
+pub returns-clause-pixels : goal.returns-clause-pixels
+returns-clause-pixels g c = λ template coder states.
     let all : min (c.loop-index.index * 64) c.args.bitmap.now.width ≡ c.args.bitmap.now.width = omega (arith, c.width-width.ensures.value, c.div_ceil-index-end.ensures) in
     subst (λ (n : ℕ). DecodesPixels template true 0 c.args.y n (region_state c.args.bitmap.now coder states) (region_state c.loop-index.bitmap coder states)) all (c.loop-index.invariant.holds template coder states)

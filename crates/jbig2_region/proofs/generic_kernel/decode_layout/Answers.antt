@@ -12,8 +12,8 @@ use Rattle.jbig2_region.proofs.RasterLemmas.{after_rows-none, region-start}
 use Rattle.jbig2_region.proofs.RegionLemmas.{counted-none, counted-next, predicted-next, loads-next, tests-next, layout-step, empty-counts, region-counts}
 use Rattle.jbig2_region.proofs.generic_kernel.decode_layout.Goals as goal
 
-pub returns-then-width-eq0-clause-holds : goal.returns-then-width-eq0-clause-holds
-returns-then-width-eq0-clause-holds g c = region-empty (layout_coding c.args.layout.now c.args.row_context) c.args.bitmap.now.width c.args.bitmap.now.height c.args.bitmap.now c.args.decoder.now c.args.contexts.now (sym c.width.ensures.value ∙ c.if-width-eq0.true) c.requires.white
+pub returns-then-width-eq0-clause-region : goal.returns-then-width-eq0-clause-region
+returns-then-width-eq0-clause-region g c = region-empty (layout_coding c.args.layout.now c.args.row_context) c.args.bitmap.now.width c.args.bitmap.now.height c.args.bitmap.now c.args.decoder.now c.args.contexts.now (sym c.width.ensures.value ∙ c.if-width-eq0.true) c.requires.white
 
 pub returns-then-width-eq0-clause-steps : goal.returns-then-width-eq0-clause-steps
 returns-then-width-eq0-clause-steps g c = empty-counts (layout_pixels c.args.layout.now) (is_nominal_layout c.args.layout.now.adaptive) (layout_loads c.args.layout.now.adaptive) (layout_coding c.args.layout.now c.args.row_context) c.args.bitmap.now.width c.args.bitmap.now.height c.args.decoder.now.bytes (no_pixels c.args.decoder.now.registers c.args.contexts.now) c.args.steps.now (sym c.width.ensures.value ∙ c.if-width-eq0.true)
@@ -45,7 +45,7 @@ loop-y-preserved g c =
     let w : ℕ = c.args.bitmap.now.width in
     let h : ℕ = c.args.bitmap.now.height in
     let input = c.args.decoder.now.bytes in
-    let decodes = subst (λ (n : ℕ). DecodesPixels template c.begin_row-predicted.result 0 c.loop-y.y n (region_state c.loop-y.bitmap c.begin_row-predicted.new.decoder c.begin_row-predicted.new.contexts) (region_state c.decode_row.new.bitmap c.decode_row.new.decoder c.decode_row.new.contexts)) c.loop-y.invariant.width c.decode_row.ensures.holds in
+    let decodes = subst (λ (n : ℕ). DecodesPixels template c.begin_row-predicted.result 0 c.loop-y.y n (region_state c.loop-y.bitmap c.begin_row-predicted.new.decoder c.begin_row-predicted.new.contexts) (region_state c.decode_row.new.bitmap c.decode_row.new.decoder c.decode_row.new.contexts)) c.loop-y.invariant.width c.decode_row.ensures.pixels in
     let next =
     layout-step template c.args.row_context c.loop-y.y c.loop-y.predicted c.begin_row-predicted.result c.loop-y.bitmap c.loop-y.decoder c.loop-y.contexts c.begin_row-predicted.new.decoder c.begin_row-predicted.new.contexts c.decode_row.new.bitmap c.decode_row.new.decoder c.decode_row.new.contexts start w h input
     c.loop-y.invariant.bytes c.begin_row-predicted.ensures.bytes refl c.begin_row-predicted.ensures.row decodes c.loop-y.invariant.holds c.loop-y.invariant.predicted in
@@ -80,8 +80,8 @@ loop-y-preserved g c =
           (subst (λ (n : ℕ). c.decode_row.new.steps.loads ≤ n + (row_loads nominal c.loop-y.bitmap.width + c.loop-y.bitmap.width * cond c.begin_row-predicted.result 0 (layout_loads c.args.layout.now.adaptive))) same_loads c.decode_row.ensures.loads)));
     }
 
-pub returns-clause-holds : goal.returns-clause-holds
-returns-clause-holds g c =
+pub returns-clause-region : goal.returns-clause-region
+returns-clause-region g c =
     region-whole (layout_coding c.args.layout.now c.args.row_context) c.args.bitmap.now.width c.args.bitmap.now.height c.loop-y.y c.args.decoder.now.bytes (no_pixels c.args.decoder.now.registers c.args.contexts.now) c.loop-y.bitmap c.loop-y.decoder c.loop-y.contexts
     refl (λ none. c.if-width-eq0.false (c.width.ensures.value ∙ none)) (omega arith) c.loop-y.invariant.holds
 

@@ -4,10 +4,10 @@ use Rattle.jbig2_region.proofs.CountLemmas.{row-nominal, row-mixed}
 use Rattle.jbig2_region.proofs.generic_kernel.decode_row.Goals as goal
 use Rattle.jbig2_region.specs.inner.RegionStates.{region_state}
 
-pub returns-then-predicted-clause-holds : goal.returns-then-predicted-clause-holds
-returns-then-predicted-clause-holds g c =
+pub returns-then-predicted-clause-pixels : goal.returns-then-predicted-clause-pixels
+returns-then-predicted-clause-pixels g c =
     subst (λ (b : Bool). DecodesPixels (layout_pixels c.args.layout.now) b 0 c.args.y c.args.bitmap.now.width (region_state c.args.bitmap.now c.args.decoder.now c.args.contexts.now) (region_state c.copy_row.new.bitmap c.args.decoder.now c.args.contexts.now)) (sym c.if-predicted.true)
-    (c.copy_row.ensures.holds (layout_pixels c.args.layout.now) c.args.decoder.now c.args.contexts.now)
+    (c.copy_row.ensures.pixels (layout_pixels c.args.layout.now) c.args.decoder.now c.args.contexts.now)
 
 pub returns-in_default-clause-decisions : goal.returns-in_default-clause-decisions
 returns-in_default-clause-decisions g c =

@@ -58,8 +58,8 @@ loop-y-preserved g c =
           c.decode_block-pixels.ensures.value k few ∙ ap (λ (n : ℕ). pixel_at c.decode_block-pixels.new.bitmap n c.loop-y.y) place);
     }
 
-pub returns-clause-holds : goal.returns-clause-holds
-returns-clause-holds g c =
+pub returns-clause-region : goal.returns-clause-region
+returns-clause-region g c =
     region-whole (windowed_coding c.args.coding.now) c.args.bitmap.now.width c.args.bitmap.now.height c.loop-y.y c.args.decoder.now.bytes (no_pixels c.args.decoder.now.registers c.args.contexts.now) c.loop-y.bitmap c.loop-y.decoder c.loop-y.contexts
     refl (λ none. absurd (omega (arith, c.requires.some))) (omega arith) c.loop-y.invariant.rows.holds
 

@@ -12,8 +12,8 @@ use Rattle.jbig2_region.proofs.RegionLemmas.{tests-next}
 use Rattle.jbig2_region.proofs.StretchLemmas.{rows-none, rows-next}
 use Rattle.jbig2_region.proofs.refinement_kernel.decode_windowed.Goals as goal
 
-pub returns-then-width-eq0-clause-holds : goal.returns-then-width-eq0-clause-holds
-returns-then-width-eq0-clause-holds g c = region-empty (windowed_coding c.args.coding.now) c.args.bitmap.now.width c.args.bitmap.now.height c.args.bitmap.now c.args.decoder.now c.args.contexts.now (sym c.width.ensures.value ∙ c.if-width-eq0.true) c.requires.white
+pub returns-then-width-eq0-clause-region : goal.returns-then-width-eq0-clause-region
+returns-then-width-eq0-clause-region g c = region-empty (windowed_coding c.args.coding.now) c.args.bitmap.now.width c.args.bitmap.now.height c.args.bitmap.now c.args.decoder.now c.args.contexts.now (sym c.width.ensures.value ∙ c.if-width-eq0.true) c.requires.white
 
 pub returns-then-width-eq0-clause-steps : goal.returns-then-width-eq0-clause-steps
 returns-then-width-eq0-clause-steps g c = decided-empty (windowed_coding c.args.coding.now) (window_loads c.args.bitmap.now.width) c.args.bitmap.now.width c.args.bitmap.now.height c.args.decoder.now.bytes (no_pixels c.args.decoder.now.registers c.args.contexts.now) c.args.steps.now (sym c.width.ensures.value ∙ c.if-width-eq0.true)
@@ -48,8 +48,8 @@ loop-y-preserved g c =
       loads = tests-next c.args.steps.now.loads c.loop-y.steps.loads c.decode_row.new.steps.loads (window_loads w) c.loop-y.y c.loop-y.invariant.loads loaded;
     }
 
-pub returns-clause-holds : goal.returns-clause-holds
-returns-clause-holds g c =
+pub returns-clause-region : goal.returns-clause-region
+returns-clause-region g c =
     region-whole (windowed_coding c.args.coding.now) c.args.bitmap.now.width c.args.bitmap.now.height c.loop-y.y c.args.decoder.now.bytes (no_pixels c.args.decoder.now.registers c.args.contexts.now) c.loop-y.bitmap c.loop-y.decoder c.loop-y.contexts
     refl (λ none. c.if-width-eq0.false (c.width.ensures.value ∙ none)) (omega arith) c.loop-y.invariant.rows.holds
 

@@ -79,7 +79,7 @@ loop-group-preserved g c =
           c.args.bitmap.now mid made c.args.decoder.now c.loop-group.decoder c.push_group-pixels.new.decoder c.args.contexts.now c.loop-group.contexts c.push_group-pixels.new.contexts
           c.loop-group.invariant.holds
           (subst (λ (q : Grid). DecodesPixels (nominal_pixels c.args.neighbours) false (64 * c.loop-group.group) c.args.y (8 * bytes) (region_state mid c.loop-group.decoder c.loop-group.contexts) (region_state q c.push_group-pixels.new.decoder c.push_group-pixels.new.contexts)) (sym c.store_pixels.ensures.value)
-          (c.push_group-pixels.ensures.holds mid (64 * c.loop-group.group) c.args.y stands)) start sum;
+          (c.push_group-pixels.ensures.pixels mid (64 * c.loop-group.group) c.args.y stands)) start sum;
       decisions =
           subst (λ (b : ℕ). CountsRuns (nominal_pixels c.args.neighbours) 0 c.args.y (8 * then) (region_state c.args.bitmap.now c.args.decoder.now c.args.contexts.now) c.words_at-here.new.steps.decisions b) decided
           (counts-then (nominal_pixels c.args.neighbours) 0 (64 * c.loop-group.group) c.args.y (8 * here) (8 * bytes) (8 * then)
@@ -140,7 +140,7 @@ returns g c = record {
       c.args.bitmap.now c.loop-group.bitmap c.store_pixels-2.new.self c.args.decoder.now c.loop-group.decoder c.push_pixels-last.new.decoder c.args.contexts.now c.loop-group.contexts c.push_pixels-last.new.contexts
       (subst (λ (k : ℕ). DecodesPixels (nominal_pixels c.args.neighbours) false 0 c.args.y (8 * k) (region_state c.args.bitmap.now c.args.decoder.now c.args.contexts.now) (region_state c.loop-group.bitmap c.loop-group.decoder c.loop-group.contexts)) all c.loop-group.invariant.holds)
       (subst (λ (q : Grid). DecodesPixels (nominal_pixels c.args.neighbours) false x c.args.y n (region_state c.loop-group.bitmap c.loop-group.decoder c.loop-group.contexts) (region_state q c.push_pixels-last.new.decoder c.push_pixels-last.new.contexts)) (sym c.store_pixels-2.ensures.value)
-      (c.push_pixels-last.ensures.holds c.loop-group.bitmap x c.args.y stands)) (omega arith) sum;
+      (c.push_pixels-last.ensures.pixels c.loop-group.bitmap x c.args.y stands)) (omega arith) sum;
   width = search rules;
   height = search rules;
   bytes = search rules;

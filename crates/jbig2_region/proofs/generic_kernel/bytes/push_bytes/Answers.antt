@@ -17,8 +17,8 @@ use Rattle.jbig2_region.proofs.UniformLemmas.{full, full-cond}
 use Rattle.jbig2_region.proofs.WindowLemmas.{shows-less}
 use Rattle.jbig2_region.proofs.generic_kernel.bytes.push_bytes.Goals as goal
 
-pub returns-then-bytes-gt0-clause-holds : goal.returns-then-bytes-gt0-clause-holds
-returns-then-bytes-gt0-clause-holds g c = λ grid x y stands w h input r len predicted holds.
+pub returns-then-bytes-gt0-clause-pixels : goal.returns-then-bytes-gt0-clause-pixels
+returns-then-bytes-gt0-clause-pixels g c = λ grid x y stands w h input r len predicted holds.
     let black : Bool = eqb (c.args.left % 2) 1 in
     let count : ℕ = 8 * c.take_runs-bytes.result in
     let wide : grid.width ≡ w = ap (λ (q : Grid). q.width) holds.pixels ∙ width-so_far w h r.pixels in
@@ -46,11 +46,11 @@ returns-then-bytes-gt0-clause-decisions g c = λ grid x y aligned stands w h inp
 pub push_pixels-pixels-requires-clause-contexts : goal.push_pixels-pixels-requires-clause-contexts
 push_pixels-pixels-requires-clause-contexts g c = c.requires.contexts
 
-pub returns-clause-holds : goal.returns-clause-holds
-returns-clause-holds g c = λ grid x y stands.
+pub returns-clause-pixels : goal.returns-clause-pixels
+returns-clause-pixels g c = λ grid x y stands.
     let same = no-run c.args.decoder.now c.take_runs-bytes.new.decoder c.take_runs-bytes.result _ (omega (arith, c.if-bytes-gt0.false)) c.take_runs-bytes.ensures.coder in
     subst (λ (d : Coder). DecodesPixels (nominal_pixels c.args.neighbours) false x y 8 (region_state grid d c.args.contexts.now) (region_state (with_pixels grid x y 8 c.push_pixels-pixels.result) c.push_pixels-pixels.new.decoder c.push_pixels-pixels.new.contexts)) same
-    (c.push_pixels-pixels.ensures.holds grid x y (record { columns = omega (arith, stands.columns, c.requires.some); row = stands.row; shows = shows-less grid x y (8 * min c.args.most 4 + 12) 20 c.args.windows.first (omega (arith, c.requires.some)) stands.shows.first; beside = stands.beside }))
+    (c.push_pixels-pixels.ensures.pixels grid x y (record { columns = omega (arith, stands.columns, c.requires.some); row = stands.row; shows = shows-less grid x y (8 * min c.args.most 4 + 12) 20 c.args.windows.first (omega (arith, c.requires.some)) stands.shows.first; beside = stands.beside }))
 
 pub returns-clause-decisions : goal.returns-clause-decisions
 returns-clause-decisions g c = λ grid x y aligned stands w h input r len predicted holds.

@@ -73,7 +73,7 @@ loop-done-preserved g c =
           let made : Grid = with_pixels grid x y (8 * (done + bytes)) c.join-pixels.result in
           decodes-then (nominal_pixels c.args.neighbours) false x (x + 8 * done) y (8 * done) (8 * bytes) (8 * (done + bytes)) grid mid made c.args.decoder.now c.loop-done.decoder c.push_bytes-taken.new.decoder c.args.contexts.now c.loop-done.contexts c.push_bytes-taken.new.contexts
           (c.loop-done.invariant.holds grid x y group)
-          (subst (λ (q : Grid). DecodesPixels (nominal_pixels c.args.neighbours) false (x + 8 * done) y (8 * bytes) (region_state mid c.loop-done.decoder c.loop-done.contexts) (region_state q c.push_bytes-taken.new.decoder c.push_bytes-taken.new.contexts)) (stored grid x y group) (c.push_bytes-taken.ensures.holds mid (x + 8 * done) y (stands grid x y group)))
+          (subst (λ (q : Grid). DecodesPixels (nominal_pixels c.args.neighbours) false (x + 8 * done) y (8 * bytes) (region_state mid c.loop-done.decoder c.loop-done.contexts) (region_state q c.push_bytes-taken.new.decoder c.push_bytes-taken.new.contexts)) (stored grid x y group) (c.push_bytes-taken.ensures.pixels mid (x + 8 * done) y (stands grid x y group)))
           refl sum;
       decisions = λ grid x y aligned group.
           let mid : Grid = with_pixels grid x y (8 * done) pixels in
@@ -86,8 +86,8 @@ loop-done-preserved g c =
       lanes = lanes-then c.args.steps.now c.loop-done.steps c.push_bytes-taken.new.steps c.loop-done.invariant.lanes c.push_bytes-taken.ensures.lanes;
     }
 
-pub returns-clause-holds : goal.returns-clause-holds
-returns-clause-holds g c =
+pub returns-clause-pixels : goal.returns-clause-pixels
+returns-clause-pixels g c =
     let all : c.loop-done.done ≡ c.args.bytes = omega (arith, c.loop-done.invariant.within) in
     subst (λ (n : ℕ). PushesGroup c.args.neighbours c.args.bytes c.args.left c.args.windows n c.loop-done.pixels (decoder_state c.args.decoder.now c.args.contexts.now) (decoder_state c.loop-done.decoder c.loop-done.contexts)) all c.loop-done.invariant.holds
 

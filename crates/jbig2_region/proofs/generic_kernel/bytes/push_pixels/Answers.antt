@@ -64,8 +64,8 @@ overflow_mul-beside g c = omega (arith, beside-fits c.loop.beside c.args.left c.
 pub overflow_add-beside : goal.overflow_add-beside
 overflow_add-beside g c = omega (arith, beside-fits c.loop.beside c.args.left c.loop.counter c.requires.small (omega arith) c.loop.invariant.made)
 
-pub returns-clause-holds : goal.returns-clause-holds
-returns-clause-holds g c =
+pub returns-clause-pixels : goal.returns-clause-pixels
+returns-clause-pixels g c =
     let all : c.loop.counter ≡ c.args.count = omega arith in
     let bits : c.loop.beside % 2 ^ c.loop.counter ≡ c.from.result % (1 * 2 ^ c.args.count % 2 ^ 64) = rw (all, c.from.ensures) (sym (low-bits c.loop.beside c.args.count (omega arith))) in
     subst (λ (b : ℕ). PushesPixels c.args.neighbours c.args.count c.args.left c.args.windows c.args.count b (decoder_state c.args.decoder.now c.args.contexts.now) (decoder_state c.loop.decoder c.loop.contexts)) bits

@@ -10,10 +10,10 @@ use Rattle.jbig2_region.proofs.generic_kernel.narrow.decode_constant_rows.Goals 
 pub decode_rows-requires : goal.decode_rows-requires
 decode_rows-requires g c = subst (λ (n : Neighbours). FitsNarrow n c.args.bitmap.now c.args.contexts.now) (c.requires.same ∙ sym (c.nominal_neighbours-constant.ensures ∙ ap (λ (t : Template). nominal_neighbours t) c.from_byte.ensures)) c.requires.fits
 
-pub returns-clause-holds : goal.returns-clause-holds
-returns-clause-holds g c =
+pub returns-clause-region : goal.returns-clause-region
+returns-clause-region g c =
     subst (λ (n : Neighbours). DecodesRegion (row_coding (nominal_pixels n)) (region_state c.args.bitmap.now c.args.decoder.now c.args.contexts.now) (region_state c.decode_rows.new.bitmap c.decode_rows.new.decoder c.decode_rows.new.contexts)) (c.nominal_neighbours-constant.ensures ∙ ap (λ (t : Template). nominal_neighbours t) c.from_byte.ensures ∙ sym c.requires.same)
-    c.decode_rows.ensures.holds
+    c.decode_rows.ensures.region
 
 pub returns-clause-steps : goal.returns-clause-steps
 returns-clause-steps g c =

@@ -58,7 +58,7 @@ loop-y-preserved g c =
     let decodes : DecodesPixels template false 0 y w (region_state c.loop-y.bitmap c.loop-y.decoder c.loop-y.contexts) (region_state c.store_pixels.new.self c.push_row-pixels.new.decoder c.push_row-pixels.new.contexts) =
     subst (λ (q : Grid). DecodesPixels template false 0 y w (region_state c.loop-y.bitmap c.loop-y.decoder c.loop-y.contexts) (region_state q c.push_row-pixels.new.decoder c.push_row-pixels.new.contexts)) stored
     (subst (λ (n : ℕ). DecodesPixels template false 0 y n (region_state c.loop-y.bitmap c.loop-y.decoder c.loop-y.contexts) (region_state (with_pixels c.loop-y.bitmap 0 y c.width-width.result pixels) c.push_row-pixels.new.decoder c.push_row-pixels.new.contexts)) whole
-    (c.push_row-pixels.ensures.holds c.loop-y.bitmap y row)) in
+    (c.push_row-pixels.ensures.pixels c.loop-y.bitmap y row)) in
     let begin : (w h : ℕ) (grid : Grid) (r : Region) → r.predicted ≡ false → HasDecoded w h c.loop-y.decoder.bytes r (region_state grid c.loop-y.decoder c.loop-y.contexts) → BeginsRow w h None r false c.loop-y.decoder (region_state grid c.loop-y.decoder c.loop-y.contexts) = λ w h grid r is holds. begins-plain w h grid r c.loop-y.decoder c.loop-y.contexts is holds in
     let next =
     layout-step template None y false false c.loop-y.bitmap c.loop-y.decoder c.loop-y.contexts c.loop-y.decoder c.loop-y.contexts c.store_pixels.new.self c.push_row-pixels.new.decoder c.push_row-pixels.new.contexts start w h input
@@ -98,8 +98,8 @@ loop-y-preserved g c =
           c.loop-y.invariant.shows;
     }
 
-pub returns-clause-holds : goal.returns-clause-holds
-returns-clause-holds g c =
+pub returns-clause-region : goal.returns-clause-region
+returns-clause-region g c =
     region-whole (row_coding (nominal_pixels c.args.neighbours)) c.args.bitmap.now.width c.args.bitmap.now.height c.loop-y.y c.args.decoder.now.bytes (no_pixels c.args.decoder.now.registers c.args.contexts.now) c.loop-y.bitmap c.loop-y.decoder c.loop-y.contexts
     refl (λ none. absurd (omega (arith, c.requires.some))) (omega arith) c.loop-y.invariant.holds
 

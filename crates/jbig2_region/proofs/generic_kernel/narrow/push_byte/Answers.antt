@@ -7,12 +7,12 @@ use Rattle.jbig2_region.proofs.PushLemmas.{shows-run}
 use Rattle.jbig2_region.proofs.generic_kernel.narrow.push_byte.Goals as goal
 use Rattle.jbig2_region.specs.inner.RegionStates.{region_state}
 
-pub returns-clause-holds : goal.returns-clause-holds
-returns-clause-holds g c = λ grid x y stands.
+pub returns-clause-pixels : goal.returns-clause-pixels
+returns-clause-pixels g c = λ grid x y stands.
     let one : 8 * c.push_bytes.result.bytes ≡ 8 = omega (arith, c.push_bytes.ensures.some, c.push_bytes.ensures.most) in
     let tested : IsAtBytes grid x y 1 c.args.left _ = record { columns = omega (arith, stands.columns); row = stands.row; shows = shows-run grid x y c.args.windows stands.shows; beside = stands.beside } in
     subst (λ (n : ℕ). DecodesPixels (nominal_pixels c.args.neighbours) false x y n (region_state grid c.args.decoder.now c.args.contexts.now) (region_state (with_pixels grid x y n c.push_bytes.result.pixels) c.push_bytes.new.decoder c.push_bytes.new.contexts)) one
-    (c.push_bytes.ensures.holds grid x y tested)
+    (c.push_bytes.ensures.pixels grid x y tested)
 
 pub returns-clause-decisions : goal.returns-clause-decisions
 returns-clause-decisions g c = λ grid x y aligned stands.

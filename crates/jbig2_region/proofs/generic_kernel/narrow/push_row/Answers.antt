@@ -47,7 +47,7 @@ loop-preserved g c =
           let stored : with_pixels mid (8 * k) y 8 byte ≡ made = stored-next grid y (8 * k) 8 (8 * (k + 1)) pixels byte c.push_byte-byte.ensures.bound sum (omega (arith, row.wide)) row.row in
           decodes-then (nominal_pixels c.args.neighbours) false 0 (8 * k) y (8 * k) 8 (8 * (k + 1)) grid mid made c.args.decoder.now c.loop.decoder c.push_byte-byte.new.decoder c.args.contexts.now c.loop.contexts c.push_byte-byte.new.contexts
           (c.loop.invariant.holds grid y row)
-          (subst (λ (q : Grid). DecodesPixels (nominal_pixels c.args.neighbours) false (8 * k) y 8 (region_state mid c.loop.decoder c.loop.contexts) (region_state q c.push_byte-byte.new.decoder c.push_byte-byte.new.contexts)) stored (c.push_byte-byte.ensures.holds mid (8 * k) y (stands grid y row)))
+          (subst (λ (q : Grid). DecodesPixels (nominal_pixels c.args.neighbours) false (8 * k) y 8 (region_state mid c.loop.decoder c.loop.contexts) (region_state q c.push_byte-byte.new.decoder c.push_byte-byte.new.contexts)) stored (c.push_byte-byte.ensures.pixels mid (8 * k) y (stands grid y row)))
           place sum;
       decisions = λ grid y row.
           counts-then (nominal_pixels c.args.neighbours) 0 (8 * k) y (8 * k) 8 (8 * (k + 1)) grid (with_pixels grid 0 y (8 * k) pixels) c.args.decoder.now c.loop.decoder c.args.contexts.now c.loop.contexts c.args.steps.now.decisions c.loop.steps.decisions c.push_byte-byte.new.steps.decisions
@@ -73,8 +73,8 @@ overflow_add-result g c =
     let fits = row-fits c.loop.pixels c.push_pixels-last.result (8 * c.loop.counter) count c.args.width c.loop.invariant.few c.push_pixels-last.ensures.bound (omega (arith, whole)) (omega arith) c.requires.few in
     omega (arith, fits)
 
-pub returns-clause-holds : goal.returns-clause-holds
-returns-clause-holds g c = λ grid y row.
+pub returns-clause-pixels : goal.returns-clause-pixels
+returns-clause-pixels g c = λ grid y row.
     let k : ℕ = c.loop.counter in
     let pixels : ℕ = c.loop.pixels in
     let last : ℕ = c.push_pixels-last.result in
@@ -90,7 +90,7 @@ returns-clause-holds g c = λ grid y row.
     subst (λ (b : ℕ). DecodesPixels (nominal_pixels c.args.neighbours) false 0 y c.args.width (region_state grid c.args.decoder.now c.args.contexts.now) (region_state (with_pixels grid 0 y c.args.width b) c.push_pixels-last.new.decoder c.push_pixels-last.new.contexts)) shifted
     (decodes-then (nominal_pixels c.args.neighbours) false 0 (8 * k) y (8 * k) count c.args.width grid mid made c.args.decoder.now c.loop.decoder c.push_pixels-last.new.decoder c.args.contexts.now c.loop.contexts c.push_pixels-last.new.contexts
     (c.loop.invariant.holds grid y row)
-    (subst (λ (q : Grid). DecodesPixels (nominal_pixels c.args.neighbours) false (8 * k) y count (region_state mid c.loop.decoder c.loop.contexts) (region_state q c.push_pixels-last.new.decoder c.push_pixels-last.new.contexts)) stored (c.push_pixels-last.ensures.holds mid (8 * k) y stands))
+    (subst (λ (q : Grid). DecodesPixels (nominal_pixels c.args.neighbours) false (8 * k) y count (region_state mid c.loop.decoder c.loop.contexts) (region_state q c.push_pixels-last.new.decoder c.push_pixels-last.new.contexts)) stored (c.push_pixels-last.ensures.pixels mid (8 * k) y stands))
     place sum)
 
 pub returns-clause-decisions : goal.returns-clause-decisions

@@ -39,7 +39,7 @@ loop-index-preserved g c =
       holds =
           decodes-then (mixed_pixels c.args.neighbours c.args.adaptive.now) false 0 (c.loop-index.index * 32) c.args.y (min (c.loop-index.index * 32) c.args.bitmap.now.width) c.min-count.result (min ((c.loop-index.index + 1) * 32) c.args.bitmap.now.width)
           c.args.bitmap.now c.loop-index.bitmap c.decode_pixels-left.new.bitmap c.args.decoder.now c.loop-index.decoder c.decode_pixels-left.new.decoder c.args.contexts.now c.loop-index.contexts c.decode_pixels-left.new.contexts
-          c.loop-index.invariant.holds c.decode_pixels-left.ensures.holds (omega arith) next;
+          c.loop-index.invariant.holds c.decode_pixels-left.ensures.pixels (omega arith) next;
       decisions = omega (arith, c.decode_pixels-left.ensures.decisions, c.loop-index.invariant.decisions);
       words = omega (arith, c.decode_pixels-left.ensures.words, c.loop-index.invariant.words);
       run_tests = c.decode_pixels-left.ensures.run_tests ∙ c.loop-index.invariant.run_tests;

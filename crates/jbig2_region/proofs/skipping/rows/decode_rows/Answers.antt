@@ -16,7 +16,7 @@ pub returns-then-width-eq0 : goal.returns-then-width-eq0
 returns-then-width-eq0 g c =
     let none : c.args.bitmap.now.width ≡ 0 = sym c.width.ensures.value ∙ c.if-width-eq0.true in
     record {
-      holds = region-empty (skipping_coding (nominal_pixels c.args.neighbours) (skip_of c.args.skip)) c.args.bitmap.now.width c.args.bitmap.now.height c.args.bitmap.now c.args.decoder.now c.args.contexts.now none c.requires.ready.white;
+      region = region-empty (skipping_coding (nominal_pixels c.args.neighbours) (skip_of c.args.skip)) c.args.bitmap.now.width c.args.bitmap.now.height c.args.bitmap.now c.args.decoder.now c.args.contexts.now none c.requires.ready.white;
       steps = skipping-empty (skip_of c.args.skip) c.args.bitmap.now.width c.args.bitmap.now.height c.args.steps.now none;
     }
 
@@ -44,8 +44,8 @@ loop-y-preserved g c =
       lanes = lanes-then c.args.steps.now c.loop-y.steps c.decode_row.new.steps c.loop-y.invariant.lanes c.decode_row.ensures.lanes;
     }
 
-pub returns-clause-holds : goal.returns-clause-holds
-returns-clause-holds g c =
+pub returns-clause-region : goal.returns-clause-region
+returns-clause-region g c =
     region-whole (skipping_coding (nominal_pixels c.args.neighbours) (skip_of c.args.skip)) c.args.bitmap.now.width c.args.bitmap.now.height c.loop-y.y c.args.decoder.now.bytes (no_pixels c.args.decoder.now.registers c.args.contexts.now) c.loop-y.bitmap c.loop-y.decoder c.loop-y.contexts
     refl (λ none. c.if-width-eq0.false (c.width.ensures.value ∙ none)) (omega arith) c.loop-y.invariant.rows.holds
 
