@@ -1,4 +1,4 @@
-//! Files of pages (T.88, Annex D): a file's segments, sorted into its pages.
+//! `File`: reads a file of pages (T.88, Annex D), and gives its pages by index.
 ghost use Rattle.std.specs.Prelude.{◌≡◌, ◌++◌, ◌*◌, ℕ, Ok, OnOk, IfErr, IfOk, length, slice_get};
 ghost use Rattle.std.specs.Map.Iter.{GivesInOrder};
 ghost use Rattle.jbig2_base.specs.Results.{Returns, Gives};

@@ -1,4 +1,4 @@
-//! What the numbers of a symbol dictionary or a text region refer to (T.88, 7.3.1).
+//! Collects the symbols and tables that a symbol dictionary or a text region refers to (T.88, 7.3.1).
 ghost use Rattle.std.specs.Prelude.{◌≡◌, ◌≤◌, ◌+◌, ◌*◌, ◌++◌, length, map, Ok, OnOk, IfErr, IfOk};
 ghost use Rattle.jbig2_base.specs.Results.{Gives};
 ghost use Rattle.jbig2_base.specs.Causes.{HasCauseOrNoMemory};

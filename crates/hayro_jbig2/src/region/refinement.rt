@@ -1,4 +1,4 @@
-//! Refinements on a page (T.88, 7.4.7).
+//! Parses refinement regions, and finds the region or the part of the page that each refines (T.88, 7.4.7).
 ghost use Rattle.std.specs.Prelude.{◌≡◌, ◌≤◌, ◌*◌, IfOk};
 ghost use Rattle.jbig2_base.specs.Grid.{max_side};
 ghost use Rattle.jbig2_base.specs.Results.{Returns, Gives};
