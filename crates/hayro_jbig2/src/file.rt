@@ -180,12 +180,12 @@ fn read_pages<'a, A: Allocator>(
     Ok(pages)
 }
 
-fn miscounts(told: Option<u32>, count: usize) -> bool
-    ensures { result ≡ miscounts told count }
+fn miscounts(number_of_pages: Option<u32>, count: usize) -> bool
+    ensures { result ≡ miscounts number_of_pages count }
 {
-    match told {
+    match number_of_pages {
         None => false,
-        Some(told) => told as usize != count,
+        Some(number) => number as usize != count,
     }
 }
 
