@@ -57,7 +57,7 @@ fn first_page_of<'f, A: Allocator>(file: &'f File<'_, A>) -> jbig2_base::error::
 {
     match file.page(0) {
         Some(page) => Ok(page),
-        None => Err(DecodeError::Format(FormatError::MissingPageInfo)),
+        None => Err(FormatError::MissingPageInfo.into()),
     }
 }
 

@@ -42,7 +42,7 @@ fn referred_patterns<'a, A: Allocator>(
             return Ok(patterns);
         }
     }
-    Err(DecodeError::Segment(SegmentError::MissingPatternDictionary))
+    Err(SegmentError::MissingPatternDictionary.into())
 }
 
 /// Parses a halftone region, with the patterns of the dictionary that it refers to.
