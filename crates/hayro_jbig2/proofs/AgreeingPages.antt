@@ -257,7 +257,7 @@ sorted-milder one other m bytes = same-next (sequential one bytes) (sequential o
 record SamePage (one other : Reading) (page twin : ReadPage) : Type 0 where
   first : page.reading ≡ one
   second : twin.reading ≡ other
-  begun : twin.initial_page ≡ page.initial_page
+  initial_page : twin.initial_page ≡ page.initial_page
   segments : twin.segments ≡ page.segments
   globals : Same page.globals twin.globals
 
@@ -265,15 +265,15 @@ page-relates : (one other : Reading) → Milder one other → (names : Names) (b
 unfolding embedded
 page-relates one other m names bytes =
     relates-next (SamePage one other) (sorted_segments one bytes) (sorted_segments other bytes) _ _ (sorted-milder one other m bytes) (λ ps.
-    relates-next (SamePage one other) (beginning_of one ps) (beginning_of other ps) _ _ (m.begins ps) (λ begun. (
-      record { reading = other; initial_page = begun; segments = ps; globals = Ok names; fault = fault_of other (sequential Lenient bytes) },
+    relates-next (SamePage one other) (beginning_of one ps) (beginning_of other ps) _ _ (m.begins ps) (λ initial_page. (
+      record { reading = other; initial_page = initial_page; segments = ps; globals = Ok names; fault = fault_of other (sequential Lenient bytes) },
       refl,
-      record { first = refl; second = refl; begun = refl; segments = refl; globals = refl },
+      record { first = refl; second = refl; initial_page = refl; segments = refl; globals = refl },
     )))
 
 page-same : (one other : Reading) → Milder one other → (page twin : ReadPage) → SamePage one other page twin → Same (drawing_of_page page) (drawing_of_page twin)
 page-same one other m page twin same =
-    rw (same.first, same.second, same.begun, same.segments)
+    rw (same.first, same.second, same.initial_page, same.segments)
     (same-next page.globals twin.globals (λ names. segments_drawn one names page.segments (blank_page page.initial_page)) (λ names. segments_drawn other names page.segments (blank_page page.initial_page)) same.globals (λ names. m.drawn names page.segments (blank_page page.initial_page)))
 
 -- ---- files
@@ -281,7 +281,7 @@ filed-same : (one other : Reading) → Milder one other → (own : List SegmentV
 unfolding page_in_file
 filed-same one other m own =
     same-next (refuse_if (is_strict one && not (eqb (ends_of own) 1)) (Format InvalidEndOfPage)) (refuse_if (is_strict other && not (eqb (ends_of own) 1)) (Format InvalidEndOfPage)) _ _ (m.strictly (not (eqb (ends_of own) 1)) (Format InvalidEndOfPage)) (λ ended.
-    same-next (beginning_of one own) (beginning_of other own) _ _ (m.begins own) (λ begun. refl))
+    same-next (beginning_of one own) (beginning_of other own) _ _ (m.begins own) (λ initial_page. refl))
 
 before-same : (one other : Reading) → Milder one other → (r s : Result PageInFile DecodeError) (others more : Result (List PageInFile) DecodeError) → Same r s → Same others more → Same (before_pages one r others) (before_pages other s more)
 before-same one other m (Ok page) s others more first rest =
@@ -320,7 +320,7 @@ file-page-same one other m book twin same (Some page) =
     page-same one other m (page_in book page) (page_in twin page) (record {
       first = same.first;
       second = same.second;
-      begun = refl;
+      initial_page = refl;
       segments = refl;
       globals = same-next book.globals twin.globals _ _ same.globals (λ shared. refl);
     })
@@ -373,7 +373,7 @@ agree : (one other : Reading) → Milder one other → ((bytes : List ℕ) → S
 agree one other m globals = record {
   globals = globals;
   page = λ names bytes. relates-last (SamePage one other) (embedded one names bytes) (embedded other names bytes) _ _ (page-relates one other m names bytes) (λ page twin same.
-      ap (λ (begun : InitialPage). let r : Result InitialPage DecodeError = Ok begun in r) same.begun);
+      ap (λ (initial_page : InitialPage). let r : Result InitialPage DecodeError = Ok initial_page in r) same.initial_page);
   drawing = λ names bytes. relates-last (SamePage one other) (embedded one names bytes) (embedded other names bytes) _ _ (page-relates one other m names bytes) (λ page twin same. page-same one other m page twin same);
   pages = λ bytes. relates-last (SameFile one other) (book_at one bytes) (book_at other bytes) _ _ (book-relates one other m bytes) (λ book twin same.
       ap (λ (pages : List PageInFile). let r : Result (List PageInFile) DecodeError = Ok pages in r) same.pages);

@@ -37,8 +37,8 @@ unfolding symbol_header_at
 symbol-header-agrees bytes =
     let view : SymbolHeader × List ℕ → SymbolHeader × List ℕ = λ h. (lenient_symbols h.0, h.1) in
     agrees-then view (number_at w16 bytes) _ _ (λ number. agrees-then view (symbol_flags_of number.0) _ _ (λ flags. agrees-then view (coded_pixels_at flags number.1) _ _ (λ pixels.
-    agrees-then view (refined_pixels_at flags pixels.1) _ _ (λ refined. agrees-then view (number_at w32 refined.1) _ _ (λ told. agrees-then view (number_at w32 told.1) _ _ (λ fresh.
-    agrees-then view (refuse_if (nat_lt 1048576 told.0 || nat_lt 1048576 fresh.0) (Overflow SymbolCount)) _ _ (λ few. refl)))))))
+    agrees-then view (refined_pixels_at flags pixels.1) _ _ (λ refined. agrees-then view (number_at w32 refined.1) _ _ (λ exports. agrees-then view (number_at w32 exports.1) _ _ (λ fresh.
+    agrees-then view (refuse_if (nat_lt 1048576 exports.0 || nat_lt 1048576 fresh.0) (Overflow SymbolCount)) _ _ (λ few. refl)))))))
 
 -- ---- bitmaps
 together-same : {S : Type 0} (r : Readings S) (p : TextParams) (width height : ℕ) (f : Refining) (s : S) → Same (put_together r p width height f s) (put_together r (lenient_params p) width height f s)

@@ -53,23 +53,23 @@ first-of_page n (q ∷ qs) p h = first-of (q.header.page_association == n) n q p
 
 -- a page's number is its segments' association
 abbrev initial_page_of_first : ℕ → SegmentView → Result InitialPage DecodeError
-initial_page_of_first told first = information_at first.bytes >>= λ info. height_of info.0.height told >>= λ height. initial_page_with first.header.page_association info.0 height
+initial_page_of_first known first = information_at first.bytes >>= λ info. height_of info.0.height known >>= λ height. initial_page_with first.header.page_association info.0 height
 
 number-of_initial_page : (number : ℕ) (info : PageInformation) (height : ℕ) (initial_page : InitialPage) → initial_page_with number info height ≡ Ok initial_page → initial_page.number ≡ number
 number-of_initial_page number info height initial_page h =
     let some = went (refuse_if (info.width == 0 || height == 0) (Format EmptyPage)) (λ some. refuse_if (nat_lt 65535 info.width || nat_lt 65535 height) (Overflow BitmapDimension) >>= λ fits. Ok (record { number = number; width = info.width; height = height; default_pixel = info.flags.default_pixel })) initial_page h in
     let fits = went (refuse_if (nat_lt 65535 info.width || nat_lt 65535 height) (Overflow BitmapDimension)) (λ fits. Ok (record { number = number; width = info.width; height = height; default_pixel = info.flags.default_pixel })) initial_page some.2 in
     let sized : InitialPage = record { number = number; width = info.width; height = height; default_pixel = info.flags.default_pixel } in
-    let same : sized ≡ initial_page = let told = fits.2 in cc in
+    let same : sized ≡ initial_page = let is = fits.2 in cc in
     ap (λ (t : InitialPage). t.number) (sym same)
 
 number-of_page : (reading : Reading) (n : ℕ) (ps : List SegmentView) (initial_page : InitialPage) → beginning_of reading (of_page n ps) ≡ Ok initial_page → initial_page.number ≡ n
 unfolding beginning_of
 number-of_page reading n ps initial_page h =
-    let told : ℕ = known_height reading (of_page n ps) in
-    let first = went (first_information (of_page n ps)) (initial_page_of_first told) initial_page h in
-    let info = went (information_at first.0.bytes) (λ info. height_of info.0.height told >>= λ height. initial_page_with first.0.header.page_association info.0 height) initial_page first.2 in
-    let height = went (height_of info.0.0.height told) (λ height. initial_page_with first.0.header.page_association info.0.0 height) initial_page info.2 in
+    let known : ℕ = known_height reading (of_page n ps) in
+    let first = went (first_information (of_page n ps)) (initial_page_of_first known) initial_page h in
+    let info = went (information_at first.0.bytes) (λ info. height_of info.0.height known >>= λ height. initial_page_with first.0.header.page_association info.0 height) initial_page first.2 in
+    let height = went (height_of info.0.0.height known) (λ height. initial_page_with first.0.header.page_association info.0.0 height) initial_page info.2 in
     number-of_initial_page first.0.header.page_association info.0.0 height.0 initial_page height.2 ∙ first-of_page n ps first.0 first.1
 
 -- A filed page is made of the segments of its own number.
@@ -78,12 +78,12 @@ pub record IsOwn (reading : Reading) (ps : List SegmentView) (page : PageInFile)
   pub segments : page.segments ≡ of_page page.initial_page.number ps
 
 -- what a page that is filed is made of
-filed-with : (reading : Reading) (own : List SegmentView) (page : PageInFile) → page_in_file reading own ≡ Ok page → (begun : InitialPage) × (beginning_of reading own ≡ Ok begun) × (◌≡◌ {A = PageInFile} (record { initial_page = begun; segments = own }) page)
+filed-with : (reading : Reading) (own : List SegmentView) (page : PageInFile) → page_in_file reading own ≡ Ok page → (initial_page : InitialPage) × (beginning_of reading own ≡ Ok initial_page) × (◌≡◌ {A = PageInFile} (record { initial_page = initial_page; segments = own }) page)
 unfolding page_in_file
 filed-with reading own page h =
     let ended = went (refuse_if (is_strict reading && not (ends_of own == 1)) (Format InvalidEndOfPage)) (λ ended. beginning_of reading own >>= λ initial_page. Ok (record { initial_page = initial_page; segments = own })) page h in
     let initial_page = went (beginning_of reading own) (λ initial_page. Ok (record { initial_page = initial_page; segments = own })) page ended.2 in
-    (initial_page.0, initial_page.1, let told = initial_page.2 in cc)
+    (initial_page.0, initial_page.1, let is = initial_page.2 in cc)
 
 pub number-of_filed : (reading : Reading) (n : ℕ) (ps : List SegmentView) (page : PageInFile) → page_in_file reading (of_page n ps) ≡ Ok page → page.initial_page.number ≡ n
 number-of_filed reading n ps page h =
@@ -98,8 +98,8 @@ own-filed reading ps n page h =
     let same : made ≡ page = initial_page.2 in
     let number : n ≡ initial_page.0.number = sym (number-of_page reading n ps initial_page.0 initial_page.1) in
     let Own : ℕ → Type 0 = λ m. (beginning_of reading (of_page m ps) ≡ Ok initial_page.0) × (own ≡ of_page m ps) in
-    let told = subst Own number (initial_page.1, refl) in
-    let is : IsOwn reading ps made = record { initial_page = told.0; segments = told.1 } in
+    let both = subst Own number (initial_page.1, refl) in
+    let is : IsOwn reading ps made = record { initial_page = both.0; segments = both.1 } in
     subst (λ (p : PageInFile). IsOwn reading ps p) same is
 
 abbrev pub AllOwn : Reading → List SegmentView → List PageInFile → Type 0
@@ -111,7 +111,7 @@ own-before : (reading : Reading) (ps : List SegmentView) (r : Result PageInFile 
     → ((page : PageInFile) → r ≡ Ok page → IsOwn reading ps page) → ((rest : List PageInFile) → others ≡ Ok rest → AllOwn reading ps rest) → before_pages reading r others ≡ Ok pages → AllOwn reading ps pages
 own-before reading ps (Ok page) others pages own rest h =
     let after = went others (λ others. Ok (page ∷ others)) pages h in
-    let same : page ∷ after.0 ≡ pages = let told = after.2 in cc in
+    let same : page ∷ after.0 ≡ pages = let is = after.2 in cc in
     subst (AllOwn reading ps) same (own page refl, rest after.0 after.1)
 own-before reading ps (Err e) others pages own rest h = by (is_salvaged reading e) h
   where
@@ -159,7 +159,7 @@ filled reading fault file book h =
     let counted = went (refuse_if (is_strict reading && miscounts file.0.number_of_pages (length (by_pages file.1))) (Format PageCountMismatch)) (λ counted. pages_with reading fault file) book known.2 in
     let pages = went (pages_in_file reading (by_pages file.1)) (λ pages. Ok (book_of reading fault file pages)) book counted.2 in
     let made : ReadFile = book_of reading fault file pages.0 in
-    let same : made ≡ book = let told = pages.2 in cc in
+    let same : made ≡ book = let is = pages.2 in cc in
     let own : AllOwn reading file.1 pages.0 = own-each reading file.1 (numbers_after [] file.1) pages.0 pages.1 in
     let is : Filled reading fault file.1 made = record { filed = pages.1; own = own; mode = refl; shared = refl; ended = refl } in
     subst (λ (b : ReadFile). Filled reading fault file.1 b) same is
@@ -212,7 +212,7 @@ mapped f None y h = absurd (cc)
 mapped f (Some x) y h = record { from = x; was = refl; is = cc }
 
 abbrev page_from : Reading → Option DecodeError → List SegmentView → List SegmentView → Result ReadPage DecodeError
-page_from reading fault own shared = beginning_of reading own >>= λ begun. Ok (record { reading = reading; initial_page = begun; segments = own; globals = names_of (shared_from reading shared (nothing_shared None)); fault = fault })
+page_from reading fault own shared = beginning_of reading own >>= λ initial_page. Ok (record { reading = reading; initial_page = initial_page; segments = own; globals = names_of (shared_from reading shared (nothing_shared None)); fault = fault })
 
 own-leaf : (reading : Reading) (fault : Option DecodeError) (ps : List SegmentView) (book : ReadFile) (page : PageInFile) → Filled reading fault ps book → book.globals ≡ shared_from reading (of_page 0 ps) (nothing_shared None) → IsOwn reading ps page
     → page_from reading fault (of_page page.initial_page.number ps) (of_page 0 ps) ≡ Ok (page_in book page)

@@ -53,7 +53,7 @@ associated-cause P strict (p ∷ ps) why =
     why outside.0 (at-first StandsOutside p ps (eqb-true p.header.page_association 0 outside.1, both.1)))
     (λ stands. associated-cause P strict ps (λ is some. why is (at-later StandsOutside p ps some)))
 
-miscounted : (told : Option ℕ) (n : ℕ) → miscounts told n ≡ true → (t : ℕ) × (told ≡ Some t) × (t ≢ n)
+miscounted : (count : Option ℕ) (n : ℕ) → miscounts count n ≡ true → (t : ℕ) × (count ≡ Some t) × (t ≢ n)
 miscounted None n wrong = absurd (false≢true wrong)
 miscounted (Some t) n wrong = (t, refl, differ t n wrong)
 

@@ -16,7 +16,7 @@ consumes-kept (Some xs) None c bs h k = absurd h
 consumes-kept (Some xs) (Some ys) None bs h k = absurd k
 consumes-kept (Some xs) (Some ys) (Some zs) bs h k = h ∙ ap (λ (l : List ℕ). bs ++ l) (sym k)
 
--- At the end all that was told is there.
+-- At the end all of the bytes were read.
 pub consumes-all : (a b : Option (List ℕ)) (bs : List ℕ) → Consumes a b bs → IsAtEnd b → IfSome a (λ xs. bs ≡ xs)
 consumes-all None b bs h end = tt
 consumes-all (Some xs) None bs h end = absurd h

@@ -76,16 +76,16 @@ combined-over op black region table over =
 
 -- ---- a region that is the whole page
 pub whole-page : (info : RegionSegmentInfo) (page : Grid) (black : Bool) → IsBlankPage black page → info.x_location ≡ 0 → info.y_location ≡ 0 → info.width ≡ page.width → info.height ≡ page.height → draws_over info.combination_operator black ≡ true → IsWhole info black page
-whole-page info page black begun x y wide high over = record {
-  columns = subst (λ (n : ℕ). n ≤ 65535) (sym wide) begun.columns;
-  rows = subst (λ (n : ℕ). n ≤ 65535) (sym high) begun.rows;
-  coloured = begun.blank ∙ ap (λ (n : ℕ). blank n page.height black) (sym wide) ∙ ap (λ (n : ℕ). blank info.width n black) (sym high);
+whole-page info page black is_blank x y wide high over = record {
+  columns = subst (λ (n : ℕ). n ≤ 65535) (sym wide) is_blank.columns;
+  rows = subst (λ (n : ℕ). n ≤ 65535) (sym high) is_blank.rows;
+  coloured = is_blank.blank ∙ ap (λ (n : ℕ). blank n page.height black) (sym wide) ∙ ap (λ (n : ℕ). blank info.width n black) (sym high);
   over = λ g table columns rows.
       let op : CombinationOperator = info.combination_operator in
       let start : Grid = blank g.width g.height black in
       let across : page.width ≡ g.width = sym wide ∙ sym columns in
       let down : page.height ≡ g.height = sym high ∙ sym rows in
-      let same : page ≡ start = begun.blank ∙ ap (λ (n : ℕ). blank n page.height black) across ∙ ap (λ (n : ℕ). blank g.width n black) down in
+      let same : page ≡ start = is_blank.blank ∙ ap (λ (n : ℕ). blank n page.height black) across ∙ ap (λ (n : ℕ). blank g.width n black) down in
       ap (λ (q : Grid). combined op q g (cast_signed w32 info.x_location) (cast_signed w32 info.y_location)) same
       ∙ ap (λ (n : ℕ). combined op start g (cast_signed w32 n) (cast_signed w32 info.y_location)) x
       ∙ ap (λ (n : ℕ). combined op start g (cast_signed w32 0) (cast_signed w32 n)) y

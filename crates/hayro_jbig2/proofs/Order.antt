@@ -19,26 +19,26 @@ number p = p.header.segment_number
 abbrev put : SegmentView → List SegmentView → List SegmentView
 put p ps = insert_by number p ps
 
-put-behind : (p q : SegmentView) (ps : List SegmentView) → number q < number p → put p (q ∷ ps) ≡ q ∷ put p ps
-put-behind p q ps less = cond-true (nat_lt (number q) (number p)) (q ∷ put p ps) (p ∷ q ∷ ps) (lt-ltb (number q) (number p) less)
+put-after : (p q : SegmentView) (ps : List SegmentView) → number q < number p → put p (q ∷ ps) ≡ q ∷ put p ps
+put-after p q ps less = cond-true (nat_lt (number q) (number p)) (q ∷ put p ps) (p ∷ q ∷ ps) (lt-ltb (number q) (number p) less)
 
 put-before : (p q : SegmentView) (ps : List SegmentView) → number p < number q → put p (q ∷ ps) ≡ p ∷ q ∷ ps
 put-before p q ps less = cond-false (nat_lt (number q) (number p)) (q ∷ put p ps) (p ∷ q ∷ ps) (le-ltb (number q) (number p) (omega arith))
 
 -- two are put in either order
 put-both : (p q : SegmentView) (ps : List SegmentView) → number p < number q → put p (put q ps) ≡ put q (put p ps)
-put-both p q [] less = put-before p q [] less ∙ sym (put-behind q p [] less)
+put-both p q [] less = put-before p q [] less ∙ sym (put-after q p [] less)
 put-both p q (r ∷ rs) less =
     let P : List SegmentView → Type 0 = λ xs. put p xs ≡ put q (put p (r ∷ rs)) in
     cond_both (nat_lt (number r) (number q)) (r ∷ put q rs) (q ∷ r ∷ rs) P
-    (λ behind. cond_both (nat_lt (number r) (number p)) (r ∷ put p rs) (p ∷ r ∷ rs) (λ xs. put p (r ∷ put q rs) ≡ put q xs)
-    (λ far. put-behind p r (put q rs) (ltb-true (number r) (number p) far) ∙ ap (λ xs. r ∷ xs) (put-both p q rs less) ∙ sym (put-behind q r (put p rs) (ltb-true (number r) (number q) behind)))
+    (λ after. cond_both (nat_lt (number r) (number p)) (r ∷ put p rs) (p ∷ r ∷ rs) (λ xs. put p (r ∷ put q rs) ≡ put q xs)
+    (λ far. put-after p r (put q rs) (ltb-true (number r) (number p) far) ∙ ap (λ xs. r ∷ xs) (put-both p q rs less) ∙ sym (put-after q r (put p rs) (ltb-true (number r) (number q) after)))
     (λ near. cond-false (nat_lt (number r) (number p)) (r ∷ put p (put q rs)) (p ∷ r ∷ put q rs) near
-    ∙ ap (λ xs. p ∷ xs) (sym (put-behind q r rs (ltb-true (number r) (number q) behind))) ∙ sym (put-behind q p (r ∷ rs) less)))
+    ∙ ap (λ xs. p ∷ xs) (sym (put-after q r rs (ltb-true (number r) (number q) after))) ∙ sym (put-after q p (r ∷ rs) less)))
     (λ before.
     let less_too : number p < number r = omega (arith, ltb-false (number r) (number q) before) in
     put-before p q (r ∷ rs) less
-    ∙ sym (ap (λ xs. put q xs) (put-before p r rs less_too) ∙ put-behind q p (r ∷ rs) less ∙ ap (λ xs. p ∷ xs) (cond-false (nat_lt (number r) (number q)) (r ∷ put q rs) (q ∷ r ∷ rs) before)))
+    ∙ sym (ap (λ xs. put q xs) (put-before p r rs less_too) ∙ put-after q p (r ∷ rs) less ∙ ap (λ xs. p ∷ xs) (cond-false (nat_lt (number r) (number q)) (r ∷ put q rs) (q ∷ r ∷ rs) before)))
 
 put-either : (p q : SegmentView) (ps : List SegmentView) → number p ≢ number q → put p (put q ps) ≡ put q (put p ps)
 put-either p q ps differ = by (nat_lt (number p) (number q)) refl
@@ -62,9 +62,9 @@ pub order_changes_nothing : OrderChangesNothing
 unfolding embedded globals_at
 order_changes_nothing = record {
   page = λ reading globals bytes others ps qs one other moved fault.
-      ap (λ (r : Result (List SegmentView) DecodeError). r >>= λ segments. beginning_of reading segments >>= λ begun. let made : Result ReadPage DecodeError = Ok (record { reading = reading; initial_page = begun; segments = segments; globals = Ok globals; fault = fault_of reading (sequential Lenient bytes) }) in made)
+      ap (λ (r : Result (List SegmentView) DecodeError). r >>= λ segments. beginning_of reading segments >>= λ initial_page. let made : Result ReadPage DecodeError = Ok (record { reading = reading; initial_page = initial_page; segments = segments; globals = Ok globals; fault = fault_of reading (sequential Lenient bytes) }) in made)
       (sorted-as reading bytes others ps qs one other moved)
-      ∙ ap (λ (f : Option DecodeError). sorted_segments reading others >>= λ segments. beginning_of reading segments >>= λ begun. let made : Result ReadPage DecodeError = Ok (record { reading = reading; initial_page = begun; segments = segments; globals = Ok globals; fault = f }) in made) fault;
+      ∙ ap (λ (f : Option DecodeError). sorted_segments reading others >>= λ segments. beginning_of reading segments >>= λ initial_page. let made : Result ReadPage DecodeError = Ok (record { reading = reading; initial_page = initial_page; segments = segments; globals = Ok globals; fault = f }) in made) fault;
   globals = λ reading bytes others ps qs one other moved fault.
       ap (λ (r : Result (List SegmentView) DecodeError). r >>= λ segments. shared_from reading segments (nothing_shared (fault_of reading (sequential Lenient bytes)))) (sorted-as reading bytes others ps qs one other moved)
       ∙ ap (λ (f : Option DecodeError). sorted_segments reading others >>= λ segments. shared_from reading segments (nothing_shared f)) fault;

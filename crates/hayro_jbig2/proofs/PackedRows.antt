@@ -80,11 +80,11 @@ words-more g words before after first index column y place at inside loaded writ
 
 -- a page on which nothing was drawn
 white-pixel : (g : Grid) → IsBlankPage false g → (x y : ℕ) → pixel_at g x y ≡ false
-white-pixel g begun x y =
+white-pixel g is_blank x y =
     ⊎_elim
     (λ (left : x < g.width).
     ⊎_elim
-    (λ (above : y < g.height). ap (λ (h : Grid). pixel_at h x y) begun.blank ∙ pixel_at-grid_of g.width g.height (λ i j. false) x y left above)
+    (λ (above : y < g.height). ap (λ (h : Grid). pixel_at h x y) is_blank.blank ∙ pixel_at-grid_of g.width g.height (λ i j. false) x y left above)
     (λ (below : g.height ≤ y). pixel_at-below g x y below)
     (cases_lt y g.height))
     (λ (right : g.width ≤ x). pixel_at-right g x y right)
@@ -92,7 +92,7 @@ white-pixel g begun x y =
 
 white-byte : (g : Grid) (k y : ℕ) → IsBlankPage false g → packed_byte g k y ≡ 0
 unfolding packed_byte value_of_bits
-white-byte g k y begun = ap (λ (bits : List Bool). value_of_bits bits) (map-same (λ i. pixel_at g (8 * k + i) y) (λ i. false) 0 8 (λ i above below. white-pixel g begun (8 * k + i) y))
+white-byte g k y is_blank = ap (λ (bits : List Bool). value_of_bits bits) (map-same (λ i. pixel_at g (8 * k + i) y) (λ i. false) 0 8 (λ i above below. white-pixel g is_blank (8 * k + i) y))
 
 zeros : (a n : ℕ) → map {B = ℕ} (λ (k : ℕ). 0) (range_with_len a n) ≡ replicate n 0
 zeros a zero = refl
@@ -100,7 +100,7 @@ zeros a (suc n) = ap (λ (xs : List ℕ). 0 ∷ xs) (zeros (a + 1) n)
 
 pub white-part : (w : ℕ) (g : Grid) (start count : ℕ) → IsBlankPage false g → packed_part w g start count ≡ replicate count 0
 unfolding packed_part
-white-part w g start count begun = map-same (λ n. packed_byte g (n % row_bytes w) (n / row_bytes w)) (λ n. 0) start count (λ n above below. white-byte g (n % row_bytes w) (n / row_bytes w) begun) ∙ zeros start count
+white-part w g start count is_blank = map-same (λ n. packed_byte g (n % row_bytes w) (n / row_bytes w)) (λ n. 0) start count (λ n above below. white-byte g (n % row_bytes w) (n / row_bytes w) is_blank) ∙ zeros start count
 
 -- a function's values from s on
 pub values-from : (f : ℕ → ℕ) (s a n : ℕ) → map (λ k. f (s + k)) (range_with_len a n) ≡ map f (range_with_len (s + a) n)

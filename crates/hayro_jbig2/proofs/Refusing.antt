@@ -19,7 +19,7 @@ use Rattle.hayro_jbig2.specs.Page.{ReadPage, beginning_of, drawing_of_page, embe
 use Rattle.hayro_jbig2.proofs.Books.{file-of_book, filled_from, mapped, number-of_filed}
 use Rattle.hayro_jbig2.proofs.ByPages.{is_among, no_segments}
 use Rattle.hayro_jbig2.proofs.Causes.{at-first, at-later}
-use Rattle.hayro_jbig2.proofs.Salvaging.{IsFine, begun, fine-book, fine-drawn, fine-file, fine-globals, fine-next, fine-over, fine-shared}
+use Rattle.hayro_jbig2.proofs.Salvaging.{IsFine, fine-beginning, fine-book, fine-drawn, fine-file, fine-globals, fine-next, fine-over, fine-shared}
 
 -- ---- pages
 fine-drawing : (page : ReadPage) → page.reading ≡ Salvage → IsFine page.globals → IsFine (drawing_of_page page)
@@ -32,23 +32,23 @@ unfolding embedded
 fine-page names bytes ps read has =
     let page : List SegmentView → InitialPage → ReadPage = λ own first. record { reading = Salvage; initial_page = first; segments = own; globals = Ok names; fault = fault_of Salvage (sequential Lenient bytes) } in
     subst (λ (r : Result (List SegmentView) DecodeError). IsFine ((r >>= λ own. beginning_of Salvage own >>= λ first. let s : Result ReadPage DecodeError = Ok (page own first) in s) >>= λ p. drawing_of_page p)) (sym read)
-    (fine-over (beginning_of Salvage ps) (page ps) (λ p. drawing_of_page p) (begun ps has) (λ first. fine-drawn names ps (blank_page first)))
+    (fine-over (beginning_of Salvage ps) (page ps) (λ p. drawing_of_page p) (fine-beginning ps has) (λ first. fine-drawn names ps (blank_page first)))
 
 -- ---- the pages of a file
-fine-begun : (own : List SegmentView) → HasBeginning own → IsFine (page_in_file Salvage own)
+fine-page_in_file : (own : List SegmentView) → HasBeginning own → IsFine (page_in_file Salvage own)
 unfolding page_in_file
-fine-begun own has = fine-next (beginning_of Salvage own) _ (begun own has) (λ first. refl)
+fine-page_in_file own has = fine-next (beginning_of Salvage own) _ (fine-beginning own has) (λ first. refl)
 
 -- a page before the others, or one that is left out: what holds of it, or else of one of the others, holds of one of them all
 any-filed : (P : PageInFile → Type 0) (b : Bool) (r : Result PageInFile DecodeError) (others : Result (List PageInFile) DecodeError) (pages : List PageInFile)
     → (b ≡ true → IsFine r) → ((page : PageInFile) → b ≡ true → r ≡ Ok page → P page) → (b ≡ false → (rest : List PageInFile) → others ≡ Ok rest → Any P rest) → before_pages Salvage r others ≡ Ok pages → Any P pages
 any-filed P true (Ok page) others pages fine first rest h =
     let after = went others (λ more. Ok (page ∷ more)) pages h in
-    let same : page ∷ after.0 ≡ pages = let told = after.2 in cc in
+    let same : page ∷ after.0 ≡ pages = let is = after.2 in cc in
     subst (Any P) same (at-first P page after.0 (first page refl refl))
 any-filed P false (Ok page) others pages fine first rest h =
     let after = went others (λ more. Ok (page ∷ more)) pages h in
-    let same : page ∷ after.0 ≡ pages = let told = after.2 in cc in
+    let same : page ∷ after.0 ≡ pages = let is = after.2 in cc in
     subst (Any P) same (at-later P page after.0 (rest refl after.0 after.1))
 any-filed P true (Err e) others pages fine first rest h = absurd (let never : false ≡ true = fine refl in cc)
 any-filed P false (Err e) others pages fine first rest h = by (is_salvaged Salvage e) h
@@ -89,6 +89,6 @@ salvage_refuses_little = record {
   drawing = fine-drawing;
   page = fine-page;
   file = λ bytes read. fine-book bytes (fine-file bytes read);
-  pages = λ bytes file book n read h above has. filed-among file.1 n (numbers_after [] file.1) book.pages (fine-begun (of_page n file.1) has) (has-number n file.1 above has) (filled_from Salvage bytes file book read h).filed;
+  pages = λ bytes file book n read h above has. filed-among file.1 n (numbers_after [] file.1) book.pages (fine-page_in_file (of_page n file.1) has) (has-number n file.1 above has) (filled_from Salvage bytes file book read h).filed;
   drawings = fine-leaf;
 }

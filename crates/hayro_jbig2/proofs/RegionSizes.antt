@@ -40,9 +40,9 @@ pub ok-same : (g q : Grid) → good g ≡ good q → q ≡ g
 ok-same g q is = cc
 
 -- what is returned after a step
-made-behind : {X : Type 0} (w h : ℕ) (a : Result X DecodeError) (next : X → Result Grid DecodeError) (g : Grid) → ((x : X) → next x ≡ Ok g → Made w h g) → (a >>= next) ≡ Ok g → Made w h g
-made-behind w h (Ok x) next g each is = each x is
-made-behind w h (Err e) next g each is = absurd (let never : bad {X = Grid} e ≡ good g = is in cc)
+made-after : {X : Type 0} (w h : ℕ) (a : Result X DecodeError) (next : X → Result Grid DecodeError) (g : Grid) → ((x : X) → next x ≡ Ok g → Made w h g) → (a >>= next) ≡ Ok g → Made w h g
+made-after w h (Ok x) next g each is = each x is
+made-after w h (Err e) next g each is = absurd (let never : bad {X = Grid} e ≡ good g = is in cc)
 
 -- what is drawn onto a table of this size
 combined-made : (w h : ℕ) (op : CombinationOperator) (page source : Grid) (x y : ℤ) → Made w h page → Made w h (combined op page source x y)
@@ -71,7 +71,7 @@ generic-made h g is = either h.mmr is
 pub refined-made : (h : RefinementHeader) (from : PlacedRegion) (g : Grid) → refined_result h from ≡ Ok g → Made h.region_info.width h.region_info.height g
 unfolding refined_grid so_far
 refined-made h from g is =
-    made-behind h.region_info.width h.region_info.height (offset from h.region_info) (λ d. Ok (refined_grid h from)) g
+    made-after h.region_info.width h.region_info.height (offset from h.region_info) (λ d. Ok (refined_grid h from)) g
     (λ d done. ((λ x y. slice_index_or (refined_region h from).pixels (y * h.region_info.width + x) false), ok-same (refined_grid h from) g done))
     is
 
@@ -80,7 +80,7 @@ cells-made : (w v : ℕ) (h : HalftoneHeader) (d : Patterns) (k : ℕ) (values :
 unfolding cells_drawn
 cells-made w v h d k [] region g made is = subst (Made w v) (sym (ok-same region g is)) made
 cells-made w v h d k (value ∷ values) region g made is =
-    made-behind w v (pattern_for h.strict d.grids value) (λ pattern. cells_drawn h d (k + 1) values (with_cell h k pattern region)) g
+    made-after w v (pattern_for h.strict d.grids value) (λ pattern. cells_drawn h d (k + 1) values (with_cell h k pattern region)) g
     (λ pattern done. cells-made w v h d (k + 1) values (with_cell h k pattern region) g (combined-made w v h.flags.combination_operator region pattern _ _ made) done)
     is
 
@@ -90,7 +90,7 @@ halftone-made h d g is =
     let w = h.region_info.width in
     let v = h.region_info.height in
     let start : Grid = blank w v h.flags.initial_pixel_color in
-    made-behind w v (gray_scale_image (gray_params h d) h.bytes) (λ values. cells_drawn h d 0 values start) g
+    made-after w v (gray_scale_image (gray_params h d) h.bytes) (λ values. cells_drawn h d 0 values start) g
     (λ values done. cells-made w v h d 0 values start g ((λ _ _. h.flags.initial_pixel_color), refl) done)
     is
 
@@ -163,7 +163,7 @@ from-made w v r h symbols region g s made is =
 by-made : (w v : ℕ) (h : TextHeader) (coding : NumberCoding) (symbols : List Grid) (customs : List (List Member)) (region g : Grid) → Made w v region → region_by h coding symbols customs region ≡ Ok g → Made w v g
 by-made w v h ArithmeticCoding symbols customs region g made is = from-made w v by_coder h symbols region g (coder_of h symbols) made is
 by-made w v h (HuffmanCoding numbers ids) symbols customs region g made is =
-    made-behind w v (prefix_codes_of h numbers ids customs) (λ s. region_from by_prefix_codes h symbols region s) g (λ s done. from-made w v by_prefix_codes h symbols region g s made done) is
+    made-after w v (prefix_codes_of h numbers ids customs) (λ s. region_from by_prefix_codes h symbols region s) g (λ s done. from-made w v by_prefix_codes h symbols region g s made done) is
 
 pub text-made : (h : TextHeader) (symbols : List Grid) (customs : List (List Member)) (g : Grid) → text_result h symbols customs ≡ Ok g → Made h.region_info.width h.region_info.height g
 unfolding text_result

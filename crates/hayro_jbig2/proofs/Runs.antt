@@ -221,9 +221,9 @@ run-found : (n x len place : ℕ) (black : Bool) (f : ℕ → Bool) → 8 * n �
 run-found zero x len place black f many few after within before found = omega arith
 run-found (suc n) x len place black f many few after within before found =
     let bits : List Bool = map f (range_with_len x len) in
-    let behind : List Bool = map f (range_with_len (x + 8) (len - 8)) in
+    let later : List Bool = map f (range_with_len (x + 8) (len - 8)) in
     let first : take 8 bits ≡ map f (range_with_len x 8) = take-map-range_with_len f x len 8 (omega arith) in
-    let rest : drop 8 bits ≡ behind = drop-map f 8 (range_with_len x len) ∙ ap (λ (ns : List ℕ). map f ns) (drop-range 8 x len (omega arith)) in
+    let rest : drop 8 bits ≡ later = drop-map f 8 (range_with_len x len) ∙ ap (λ (ns : List ℕ). map f ns) (drop-range 8 x len (omega arith)) in
     ap (λ (bs : List Bool). cond (is_all black bs) (suc (run_of n black (drop 8 bits))) 0) first
     ∙ ap (λ (bs : List Bool). cond (is_all black (map f (range_with_len x 8))) (suc (run_of n black bs)) 0) rest
     ∙ ⊎_elim
@@ -235,11 +235,11 @@ run-found (suc n) x len place black f many few after within before found =
     (λ (none : is_all black (map f (range_with_len x 8)) ≡ false). none)
     (cases_Bool (is_all black (map f (range_with_len x 8)))) in
     let short : 0 ≡ (place - x) / 8 = omega arith in
-    cond-false (is_all black (map f (range_with_len x 8))) (suc (run_of n black behind)) 0 mixed ∙ short)
+    cond-false (is_all black (map f (range_with_len x 8))) (suc (run_of n black later)) 0 mixed ∙ short)
     (λ (whole : x + 8 ≤ place).
     let all : is_all black (map f (range_with_len x 8)) ≡ true = all-from black f x 8 (λ k h. before (x + k) (omega arith) (omega arith)) in
     let more : suc ((place - (x + 8)) / 8) ≡ (place - x) / 8 = omega arith in
-    cond-true (is_all black (map f (range_with_len x 8))) (suc (run_of n black behind)) 0 all
+    cond-true (is_all black (map f (range_with_len x 8))) (suc (run_of n black later)) 0 all
     ∙ ap (λ (m : ℕ). suc m) (run-found n (x + 8) (len - 8) place black f (omega arith) (omega arith) whole (omega arith) (λ k from to. before k (omega arith) to) (λ inside. found (omega arith)))
     ∙ more)
     (cases_lt place (x + 8))
@@ -277,7 +277,7 @@ singles-first g x end y black inside within is =
 pub line-start : (g : Grid) (y : ℕ) → whole_calls (length (row_of g y) / 8) (row_of g y) ≡ whole_calls ((g.width - 0) / 8) (row_of g y)
 line-start g y = ap (λ (n : ℕ). whole_calls (n / 8) (row_of g y)) (length-row g y ∙ (let e : g.width ≡ g.width - 0 = omega arith in e))
 
--- what is left behind a run
+-- what is left after a run
 pub run-first : (width x k : ℕ) (black : Bool) (row : List Bool) → length row ≡ width → x ≤ width → run_of ((width - x) / 8) black (drop x row) ≡ k → 0 < k → whole_calls ((width - x) / 8) (drop x row) ≡ Chunk black k ∷ whole_calls ((width - (x + 8 * k)) / 8) (drop (x + 8 * k) row)
 run-first width x k black row len within e some =
     let n = (width - x) / 8 in
@@ -288,7 +288,7 @@ run-first width x k black row len within e some =
     ∙ ap (λ (m : ℕ). Chunk black k ∷ whole_calls m (drop (8 * k) (drop x row))) left
     ∙ ap (λ (bs : List Bool). Chunk black k ∷ whole_calls ((width - (x + 8 * k)) / 8) bs) (drop-drop (8 * k) x row)
 
--- what is left behind eight pixels of both colours
+-- what is left after eight pixels of both colours
 pub byte-first : (width x : ℕ) (row : List Bool) → x + 8 ≤ width → run_of ((width - x) / 8) true (drop x row) ≡ 0 → run_of ((width - x) / 8) false (drop x row) ≡ 0 → whole_calls ((width - x) / 8) (drop x row) ≡ singles (take (x + 8 - x) (drop x row)) ++ whole_calls ((width - (x + 8)) / 8) (drop (x + 8) row)
 byte-first width x row room black white =
     let n : (width - x) / 8 ≡ suc ((width - (x + 8)) / 8) = omega arith in

@@ -133,9 +133,9 @@ fine-shared [] shared = refl
 fine-shared (page ∷ pages) shared = fine-named shared (nothing_shared None)
 
 -- ---- pages that have a beginning
-pub begun : (ps : List SegmentView) → HasBeginning ps → IsFine (beginning_of Salvage ps)
+pub fine-beginning : (ps : List SegmentView) → HasBeginning ps → IsFine (beginning_of Salvage ps)
 unfolding beginning_of
-begun ps has = rw (has.first, has.read, has.told) (sized has.information.header.page_association has.fields.0 has.height has.columns has.rows)
+fine-beginning ps has = rw (has.first, has.read, has.height_is) (sized has.information.header.page_association has.fields.0 has.height has.columns has.rows)
   where
     sized : (number : ℕ) (info : PageInformation) (height : ℕ) → IsSide info.width → IsSide height → IsFine (initial_page_with number info height)
     sized number info height columns rows =

@@ -128,9 +128,9 @@ next-kept input r k None i inside = get_or_append_left r.pixels (_ ∷ []) false
 one-kept : (coding : Coding) (w h : ℕ) (input : List ℕ) (r : Region) (i : ℕ) → i < length r.pixels → get_or (after_pixel coding w h input (at_next coding w input r)).pixels i false ≡ get_or r.pixels i false
 unfolding after_pixel
 one-kept coding w h input r i inside =
-    let begun : Region = at_next coding w input r in
-    let same : begun.pixels ≡ r.pixels = next-pixels coding w input r in
-    next-kept input begun _ _ i (subst (λ (bits : List Bool). i < length bits) (sym same) inside) ∙ ap (λ (bits : List Bool). get_or bits i false) same
+    let next : Region = at_next coding w input r in
+    let same : next.pixels ≡ r.pixels = next-pixels coding w input r in
+    next-kept input next _ _ i (subst (λ (bits : List Bool). i < length bits) (sym same) inside) ∙ ap (λ (bits : List Bool). get_or bits i false) same
 
 first-kept : (coding : Coding) (w h : ℕ) (input : List ℕ) (start : Region) → length start.pixels ≡ 0 → (n d : ℕ) (i : ℕ) → i < n → get_or (first_pixels coding w h input start (n + d)).pixels i false ≡ get_or (first_pixels coding w h input start n).pixels i false
 unfolding first_pixels

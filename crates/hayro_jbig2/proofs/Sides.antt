@@ -58,11 +58,11 @@ FileSides page = HasSides page.initial_page
 filed-sides : (reading : Reading) (own : List SegmentView) → IfOk (page_in_file reading own) FileSides
 unfolding page_in_file
 filed-sides reading own =
-    last-has FileSides (refuse_if (is_strict reading && not (eqb (ends_of own) 1)) (Format InvalidEndOfPage)) _ (λ ended. begun (beginning_of reading own) (sides-have reading own))
+    last-has FileSides (refuse_if (is_strict reading && not (eqb (ends_of own) 1)) (Format InvalidEndOfPage)) _ (λ ended. page-has (beginning_of reading own) (sides-have reading own))
   where
-    begun : (r : Result InitialPage DecodeError) → IfOk r HasSides → IfOk (r >>= λ initial_page. let made : Result PageInFile DecodeError = Ok (record { initial_page = initial_page; segments = own }) in made) FileSides
-    begun (Ok p) has = has
-    begun (Err e) has = tt
+    page-has : (r : Result InitialPage DecodeError) → IfOk r HasSides → IfOk (r >>= λ initial_page. let made : Result PageInFile DecodeError = Ok (record { initial_page = initial_page; segments = own }) in made) FileSides
+    page-has (Ok p) has = has
+    page-has (Err e) has = tt
 
 each-sides : (reading : Reading) (all : List (List SegmentView)) → IfOk (pages_in_file reading all) (AllByRecursion FileSides)
 each-sides reading [] = tt

@@ -57,16 +57,16 @@ rows-calls (suc n) front bits cs room =
     ∙ ap (λ (r : List Bool). rows_after (Some r) cs) (append_assoc front (take 8 bits) (drop 8 bits) ∙ ap (λ (r : List Bool). front ++ r) (take-append-drop 8 bits))
 
 -- a row begins without pixels
-rows-begun : (ds cs : List Call) → rows_after None (ds ++ Line ∷ cs) ≡ rows_after (Some []) (ds ++ Line ∷ cs)
-rows-begun [] cs = refl
-rows-begun (Pixel b ∷ ds) cs = refl
-rows-begun (Chunk b n ∷ ds) cs = refl
-rows-begun (Line ∷ ds) cs = refl
+rows-start : (ds cs : List Call) → rows_after None (ds ++ Line ∷ cs) ≡ rows_after (Some []) (ds ++ Line ∷ cs)
+rows-start [] cs = refl
+rows-start (Pixel b ∷ ds) cs = refl
+rows-start (Chunk b n ∷ ds) cs = refl
+rows-start (Line ∷ ds) cs = refl
 
 rows-line : (g : Grid) (y : ℕ) (cs : List Call) → rows_after None (line_calls g y ++ cs) ≡ row_of g y ∷ rows_after None cs
 rows-line g y cs =
     ap (λ (calls : List Call). rows_after None calls) (append_assoc (whole_calls (length (row_of g y) / 8) (row_of g y)) (Line ∷ []) cs)
-    ∙ rows-begun (whole_calls (length (row_of g y) / 8) (row_of g y)) cs
+    ∙ rows-start (whole_calls (length (row_of g y) / 8) (row_of g y)) cs
     ∙ rows-calls (length (row_of g y) / 8) [] (row_of g y) (Line ∷ cs) (omega arith)
 
 rows-lines : (g : Grid) (a n : ℕ) → rows_after None (flat_map (line_calls g) (range_with_len a n)) ≡ map (row_of g) (range_with_len a n)

@@ -27,7 +27,7 @@ pub untouched-blank : UntouchedIsBlank
 untouched-blank reading names segments initial_page d is untouched =
     let g : Grid = (blank_page initial_page).grid in
     let P : Result Drawing DecodeError → Type 0 = λ r. IfOk r (IsStill g) in
-    subst P is (drawn-keeps reading (IsStill g) (still-steps (is_strict reading) g) names segments (blank_page initial_page) (λ begun. refl)) untouched
+    subst P is (drawn-keeps reading (IsStill g) (still-steps (is_strict reading) g) names segments (blank_page initial_page) (λ is. refl)) untouched
 
 -- ---- a page as a whole
 -- what holds of the drawing that its segments leave, where its globals gave names
@@ -40,10 +40,10 @@ of-page Q page each = by page.globals
 
 -- ---- its size
 abbrev HasSize : InitialPage → Grid → Type 0
-HasSize begun g = (g.width ≡ begun.width) × (g.height ≡ begun.height)
+HasSize initial_page g = (g.width ≡ initial_page.width) × (g.height ≡ initial_page.height)
 
-size-steps : (strict : Bool) (begun : InitialPage) → StepsBy strict (λ d e. HasSize begun d.grid → HasSize begun e.grid)
-size-steps strict begun = record {
+size-steps : (strict : Bool) (initial_page : InitialPage) → StepsBy strict (λ d e. HasSize initial_page d.grid → HasSize initial_page e.grid)
+size-steps strict initial_page = record {
   keeps = λ d names has. has;
   stores = λ d number region has. has;
   shows = λ d region has. has;

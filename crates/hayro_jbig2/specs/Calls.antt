@@ -54,11 +54,11 @@ calls_of g = flat_map (line_calls g) (range_with_len 0 g.height)
 -- The rows that calls draw. The first argument has the pixels of an unfinished row, if there is one. An unfinished row
 -- at the end counts as a row too.
 abbrev pub rows_after : Option (List Bool) → List Call → List (List Bool)
-rows_after begun [] = option_to_list begun
-rows_after begun (Pixel black ∷ calls) = rows_after (Some (unwrap_or begun [] ++ black ∷ [])) calls
-rows_after begun (Chunk black bytes ∷ calls) =
-    rows_after (Some (unwrap_or begun [] ++ replicate (8 * bytes) black)) calls
-rows_after begun (Line ∷ calls) = unwrap_or begun [] ∷ rows_after None calls
+rows_after row [] = option_to_list row
+rows_after row (Pixel black ∷ calls) = rows_after (Some (unwrap_or row [] ++ black ∷ [])) calls
+rows_after row (Chunk black bytes ∷ calls) =
+    rows_after (Some (unwrap_or row [] ++ replicate (8 * bytes) black)) calls
+rows_after row (Line ∷ calls) = unwrap_or row [] ∷ rows_after None calls
 
 abbrev pub is_line : Call → Bool
 is_line Line = true

@@ -43,7 +43,7 @@ BreaksPages reading h ps (Segment MissingPageAssociation) =
     × Any (λ p. (p.header.page_association ≡ 0) × IsTrue (needs_page p.header.segment_type)) ps
 BreaksPages reading h ps (Format PageCountMismatch) =
     IsTrue (is_strict reading)
-    × (told : ℕ) × (h.number_of_pages ≡ Some told) × (told ≢ length (by_pages ps))
+    × (count : ℕ) × (h.number_of_pages ≡ Some count) × (count ≢ length (by_pages ps))
 BreaksPages reading h ps (Format InvalidEndOfPage) =
     IsTrue (is_strict reading) × Any (λ own. ends_of own ≢ 1) (by_pages ps)
 BreaksPages reading h ps e = IsFalse (is_salvaged reading e) × Any (λ own. BreaksInitialPage own e) (by_pages ps)

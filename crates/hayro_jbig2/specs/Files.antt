@@ -77,7 +77,7 @@ error_of (Err e) = e ∷ []
 
 abbrev pub miscounts : Option ℕ → ℕ → Bool  -- the file's header gives another number of pages (D.4.3)
 miscounts None n = false
-miscounts (Some told) n = not (told == n)
+miscounts (Some count) n = not (count == n)
 
 module _ (reading : Reading) where
   -- The page that these segments make up. Strict reading requires exactly one end of page (7.4.9).
@@ -144,9 +144,9 @@ PagesStandAlone = (reading : Reading) (bytes : List ℕ) (file : FileHeader × L
     → file_at reading bytes ≡ Ok file → book_at reading bytes ≡ Ok book → page_of book index ≡ Some page
     → let segments = file.1 in
     let own = of_page page.initial_page.number segments in
-    (beginning_of reading own >>= λ begun. Ok (record {
+    (beginning_of reading own >>= λ initial_page. Ok (record {
       reading = reading;
-      initial_page = begun;
+      initial_page = initial_page;
       segments = own;
       globals = names_of (shared_from reading (of_page 0 segments) (nothing_shared None));
       fault = fault_of reading (file_at Lenient bytes);

@@ -74,9 +74,9 @@ pub record Scan : Type 0 where  -- all bytes of a file, and the size of its firs
 
 -- All the bytes that a reader has were read, or the reader failed, or memory ran out.
 abbrev pub ReadsAll : {V : Type 0} → (V → List ℕ) → Option (List ℕ) → Result V Jbig2Error → Type 0
-ReadsAll view told (Ok v) = IfSome told (λ bytes. view v ≡ bytes)
-ReadsAll view told (Err (Io e)) = Unit {0}
-ReadsAll view told (Err (Decode e)) = e ≡ OutOfMemory
+ReadsAll view remaining (Ok v) = IfSome remaining (λ bytes. view v ≡ bytes)
+ReadsAll view remaining (Err (Io e)) = Unit {0}
+ReadsAll view remaining (Err (Decode e)) = e ≡ OutOfMemory
 
 abbrev pub IsLasting : Jbig2Error → Type 0  -- an interruption of the reader is passed over, and so never returned
 IsLasting (Io e) = error_kind e ≢ Interrupted

@@ -49,7 +49,7 @@ pub record HasBeginning (ps : List SegmentView) : Type 0 where
   pub height : ℕ
   pub first : first_information ps ≡ Ok information
   pub read : information_at information.bytes ≡ Ok fields
-  pub told : height_of fields.0.height (known_height Salvage ps) ≡ Ok height
+  pub height_is : height_of fields.0.height (known_height Salvage ps) ≡ Ok height
   pub columns : IsSide fields.0.width
   pub rows : IsSide height
 

@@ -1,4 +1,4 @@
-//! Files of pages (T.88, Annex D): a file's segments, sorted into its pages.
+//! `File`: reads a file of pages (T.88, Annex D), and gives its pages by index.
 ghost use Rattle.std.specs.Prelude.{◌≡◌, ◌++◌, ◌*◌, ℕ, Ok, OnOk, IfErr, IfOk, length, slice_get};
 ghost use Rattle.std.specs.Map.Iter.{GivesInOrder};
 ghost use Rattle.jbig2_base.specs.Results.{Returns, Gives};
@@ -112,7 +112,7 @@ fn check_associations<A: Allocator>(strict: bool, segments: &[Segment<'_, A>]) -
 {
     for segment in segments {
         if lacks_page(strict, &segment.header) {
-            return Err(DecodeError::Segment(SegmentError::MissingPageAssociation));
+            return Err(SegmentError::MissingPageAssociation.into());
         }
     }
     Ok(())
@@ -144,7 +144,7 @@ fn read_page<'a, A: Allocator>(
     ensures { Returns (λ page. page) result (page_in_file reading (segment_views own.entry.items)) }
 {
     if reading.is_strict() && count_ends(&own) != 1 {
-        return Err(DecodeError::Format(FormatError::InvalidEndOfPage));
+        return Err(FormatError::InvalidEndOfPage.into());
     }
     let initial_page = beginning_of(reading, &own)?;
     Ok(FilePage {
@@ -180,12 +180,12 @@ fn read_pages<'a, A: Allocator>(
     Ok(pages)
 }
 
-fn miscounts(told: Option<u32>, count: usize) -> bool
-    ensures { result ≡ miscounts told count }
+fn miscounts(number_of_pages: Option<u32>, count: usize) -> bool
+    ensures { result ≡ miscounts number_of_pages count }
 {
-    match told {
+    match number_of_pages {
         None => false,
-        Some(told) => told as usize != count,
+        Some(number) => number as usize != count,
     }
 }
 
@@ -286,7 +286,7 @@ impl<'a, A: Allocator + Clone> File<'a, A> {
         check_associations(strict, &file.segments)?;
         let segments = SegmentsByPage::new(alloc.clone()?, file.segments)?;
         if strict && miscounts(file.header.number_of_pages, segments.pages.len()) {
-            return Err(DecodeError::Format(FormatError::PageCountMismatch));
+            return Err(FormatError::PageCountMismatch.into());
         }
         let mut left_out = Vec::new(alloc.clone()?);
         let pages = read_pages(alloc.clone()?, reading, segments.pages, &mut left_out)?;

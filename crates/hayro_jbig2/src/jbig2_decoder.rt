@@ -57,7 +57,7 @@ fn first_page_of<'f, A: Allocator>(file: &'f File<'_, A>) -> jbig2_base::error::
 {
     match file.page(0) {
         Some(page) => Ok(page),
-        None => Err(DecodeError::Format(FormatError::MissingPageInfo)),
+        None => Err(FormatError::MissingPageInfo.into()),
     }
 }
 
@@ -122,7 +122,7 @@ impl<A: Allocator + Clone> Jbig2Decoder<A> {
     /// within 2^64 - 1 reads. Returns `Jbig2Error::Decode` for a fault of the file, or where memory
     /// runs out. The reader is dropped.
     pub fn new<R: Read + Drop>(alloc: A, reader: R) -> Result<Jbig2Decoder<A>, Jbig2Error>
-        ensures opens { IfSome (R.remaining reader) (λ told. Opens told result) }
+        ensures opens { IfSome (R.remaining reader) (λ bytes. Opens bytes result) }
         ensures lasting { IfErr result IsLasting }
         ensures errors { IfErr result IsReturnedOrIo }
     {
@@ -136,7 +136,7 @@ impl<A: Allocator + Clone> Jbig2Decoder<A> {
         mut reader: R,
         work: &mut WorkLimit,
     ) -> Result<Jbig2Decoder<A>, Jbig2Error>
-        ensures opens { IfSome (R.remaining reader) (λ told. Opens told result) }
+        ensures opens { IfSome (R.remaining reader) (λ bytes. Opens bytes result) }
         ensures lasting { IfErr result IsLasting }
         ensures errors { IfErr result IsReturnedOrIo }
         ensures limit { Takes 0 work.old work.new }

@@ -1,4 +1,4 @@
-//! Pages: how one is read (T.88, 7.4.8 and D.3), and its number and size.
+//! `Page`: reads an embedded page (T.88, 7.4.8 and D.3), and gives its number and its size.
 ghost use Rattle.std.specs.Prelude.{◌≡◌, IfErr};
 ghost use Rattle.jbig2_base.specs.Results.{Gives};
 ghost use Rattle.hayro_jbig2.specs.Page.{HasSides, IsSide, ReadPage, embedded};

@@ -1,4 +1,4 @@
-//! The parts of the decoder, under their own names.
+//! The modules of the decoder's lower crates, for callers that decode parts of a page themselves.
 pub use jbig2_base::{bitmap, error, file, page_info, reader, segment};
 pub use jbig2_coder::{arithmetic_decoder, huffman_table, integer_decoder, mq, symbol_id_decoder};
 pub use jbig2_halftone::{gray_scale, halftone, pattern};

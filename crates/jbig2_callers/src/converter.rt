@@ -21,7 +21,7 @@ pub fn first_picture<A: Allocator + Clone, R: Read + Drop>(
     reader: R,
 ) -> std::result::Result<Picture<A>, Jbig2Error>
     ensures { IfSome (R.remaining reader)
-        (λ told. Shows (λ picture. ((picture.width, picture.height), picture.pixels.items)) told
+        (λ bytes. Shows (λ picture. ((picture.width, picture.height), picture.pixels.items)) bytes
         result) }
 {
     let decoder = Jbig2Decoder::new(alloc.clone()?, reader)?;

@@ -21,14 +21,14 @@ unprinted (Ok bytes) fault k why = inr (why, Keeps-refl k)
 unprinted (Err f) fault k why = inr (why, Keeps-refl k)
 
 -- for want of memory
-pub starved : (strict : Bool) (task : Task) (told k : Option (List ℕ)) → Ends strict task (Some told) (Err (Decode OutOfMemory)) k k
+pub starved : (strict : Bool) (task : Task) (known k : Option (List ℕ)) → Ends strict task (Some known) (Err (Decode OutOfMemory)) k k
 starved strict task None k = inr ([], tt, unprinted (printed strict task []) (Decode OutOfMemory) k (inl refl))
 starved strict task (Some bytes) k = inr (bytes, refl, unprinted (printed strict task bytes) (Decode OutOfMemory) k (inl refl))
 
 -- for want of memory, or for the reader's fault
-pub unread : (strict : Bool) (task : Task) (told k : Option (List ℕ)) (fault : Fault) → (fault ≡ Unreadable) ⊎ (fault ≡ Decode OutOfMemory) → Ends strict task (Some told) (Err fault) k k
-unread strict task told k fault (inl is) = inl (ap (λ (f : Fault). (let r : Result (Unit {0}) Fault = Err f in r)) is, Keeps-refl k)
-unread strict task told k fault (inr is) = rw is (starved strict task told k)
+pub unread : (strict : Bool) (task : Task) (known k : Option (List ℕ)) (fault : Fault) → (fault ≡ Unreadable) ⊎ (fault ≡ Decode OutOfMemory) → Ends strict task (Some known) (Err fault) k k
+unread strict task known k fault (inl is) = inl (ap (λ (f : Fault). (let r : Result (Unit {0}) Fault = Err f in r)) is, Keeps-refl k)
+unread strict task known k fault (inr is) = rw is (starved strict task known k)
 
 -- for want of memory, or because the page has an error
 pub undrawn : (page : ReadPage) (e : DecodeError) (k : Option (List ℕ)) → (e ≡ OutOfMemory) ⊎ (packed_of_page page ≡ Err e) → Prints (or_fault (bitmap_text page)) (Err (Decode e)) k k

@@ -72,9 +72,9 @@ Prints meant (Err fault) old new = (fault ≡ Unwritable) ⊎ (((fault ≡ Decod
 -- printed. Or the reader failed. `None` means that there is no reader.
 abbrev pub Ends : Bool → Task → Option (Option (List ℕ)) → Result (Unit {0}) Fault → Option (List ℕ) → Option (List ℕ) → Type 0
 Ends strict task None result old new = (result ≡ Err Unreadable) × Keeps old new
-Ends strict task (Some told) result old new =
+Ends strict task (Some known) result old new =
     ((result ≡ Err Unreadable) × Keeps old new)
-    ⊎ ((bytes : List ℕ) × IfSome told (λ all. bytes ≡ all) × Prints (printed strict task bytes) result old new)
+    ⊎ ((bytes : List ℕ) × IfSome known (λ all. bytes ≡ all) × Prints (printed strict task bytes) result old new)
 
 abbrev pub fault_text : Fault → List ℕ
 fault_text Unreadable = codes "cannot read file"
@@ -99,11 +99,14 @@ status_of (Err fault) = 1
 
 -- The line was added to standard error, unless that failed. An empty line adds nothing.
 abbrev pub WritesLine : Bool → List ℕ → Option (List ℕ) → Option (List ℕ) → Type 0
-WritesLine told [] old new = (told ≡ true) × Keeps old new
-WritesLine told line old new = IsTrue told → Appends old new line
+WritesLine is_written [] old new = (is_written ≡ true) × Keeps old new
+WritesLine is_written line old new = IsTrue is_written → Appends old new line
 
 -- A whole run: its status, what is added to the output, and what is written to standard error.
-abbrev pub RunEnds : Option (Bool × Task × List ℕ) → Option (Option (List ℕ)) → ℕ → Bool → Option (List ℕ) → Option (List ℕ) → Option (List ℕ) → Option (List ℕ) → Type 0
-RunEnds None file status told out out' err err' = (status ≡ 2) × WritesLine told usage_line err err' × Keeps out out'
-RunEnds (Some request) file status told out out' err err' =
-    (result : Result (Unit {0}) Fault) × Ends request.0 request.1 file result out out' × (status ≡ status_of result) × WritesLine told (error_line result) err err'
+abbrev pub RunEnds : Option (Bool × Task × List ℕ) → Option (Option (List ℕ)) → ℕ → Bool
+    → Option (List ℕ) → Option (List ℕ) → Option (List ℕ) → Option (List ℕ) → Type 0
+RunEnds None file status is_written out out' err err' =
+    (status ≡ 2) × WritesLine is_written usage_line err err' × Keeps out out'
+RunEnds (Some request) file status is_written out out' err err' =
+    (result : Result (Unit {0}) Fault) × Ends request.0 request.1 file result out out' × (status ≡ status_of result)
+    × WritesLine is_written (error_line result) err err'

@@ -6,7 +6,7 @@ ghost use Rattle.jbig2_commands.specs.Printed.{calls_text, or_fault, Prints};
 
 use crate::fault::Fault;
 use crate::output::{Output, flushed};
-use crate::printer::{Printer, Telling};
+use crate::printer::{KnowsOutput, Printer};
 use hayro_jbig2::{DecodeError, Page};
 use std::alloc::Allocator;
 use std::io::Write;
@@ -43,12 +43,12 @@ pub fn print_calls<A: Allocator + Clone, O: Write>(
 }
 
 /// Decodes a page, and prints its calls. `None` where a line could not be written.
-fn decode_to<'o, A: Allocator + Clone, O: Write, K: Telling>(
+fn decode_to<'o, A: Allocator + Clone, O: Write, K: KnowsOutput>(
     page: &Page<'_, A>,
     output: Output<'o, O, A>,
     line: Vec<u8, A>,
 ) -> (Output<'o, O, A>, Option<Result<(), DecodeError>>)
-    requires { K.is_told ≡ is_some (data_of O.contents output) }
+    requires { K.is_known ≡ is_some (data_of O.contents output) }
     ensures same { output_id result.0 ≡ output_id output.entry }
     ensures lines { IfSome result.1 (λ decoded. Adds (calls_text (grid_of_page page.now)) decoded
         (data_of O.contents output.entry) (data_of O.contents result.0)) }

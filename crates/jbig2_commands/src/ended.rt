@@ -16,23 +16,26 @@ pub struct Ended {
     /// The status of the process: 0, 1 after a fault, 2 where the words are not those of a run.
     pub status: u8,
     /// Whether all of the run's message to standard error was written.
-    pub told: bool,
+    pub is_written: bool,
 }
 
 impl Ended {
     /// The end where the words are not those of a run: writes the usage to standard error.
     pub fn refused<E: Write>(err: &mut E) -> Ended
         ensures status { result.status ≡ 2 }
-        ensures told { WritesLine result.told usage_line (E.contents err.old) (E.contents err.new) }
+        ensures line { WritesLine result.is_written usage_line (E.contents err.old) (E.contents err.new) }
     {
-        let told = writeln!(err, "{USAGE}").is_ok();
-        Ended { status: 2, told }
+        let is_written = writeln!(err, "{USAGE}").is_ok();
+        Ended {
+            status: 2,
+            is_written,
+        }
     }
 
     /// The end of a run that could not get its words: memory ran out, or they are no text.
     pub fn unstarted<E: Write>(refused: bool, err: &mut E) -> Ended
         ensures status { result.status ≡ if refused then 1 else 2 }
-        ensures told { WritesLine result.told
+        ensures line { WritesLine result.is_written
             (if refused then fault_line (Decode OutOfMemory) else usage_line)
             (E.contents err.old) (E.contents err.new) }
     {
@@ -45,22 +48,25 @@ impl Ended {
     /// The end of a run with this result: writes its fault to standard error.
     pub fn of<E: Write>(ended: Result<(), Fault>, err: &mut E) -> Ended
         ensures status { result.status ≡ status_of ended }
-        ensures told { WritesLine result.told (error_line ended)
+        ensures line { WritesLine result.is_written (error_line ended)
             (E.contents err.old) (E.contents err.new) }
     {
         match ended {
             Ok(()) => Ended {
                 status: 0,
-                told: true,
+                is_written: true,
             },
             // A failing output is not reported on standard error.
             Err(Fault::Unwritable) => Ended {
                 status: 1,
-                told: true,
+                is_written: true,
             },
             Err(fault) => {
-                let told = writeln!(err, "error: {fault}").is_ok();
-                Ended { status: 1, told }
+                let is_written = writeln!(err, "error: {fault}").is_ok();
+                Ended {
+                    status: 1,
+                    is_written,
+                }
             }
         }
     }

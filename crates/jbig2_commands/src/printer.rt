@@ -15,19 +15,19 @@ use std::io::Write;
 use std::marker::{Brand, PhantomData};
 
 /// Whether the bytes of an output are known where a printer is made. Only proofs use it.
-pub trait Telling {
-    ghost is_told: { Bool };
+pub trait KnowsOutput {
+    ghost is_known: { Bool };
 }
 
-impl Telling for Brand {
+impl KnowsOutput for Brand {
     ghost use Rattle.std.specs.Prelude.{false};
 
-    ghost is_told = { false };
+    ghost is_known = { false };
 }
 
 /// Writes a line for each call. It refuses a call whose line cannot be written.
 #[derive(Drop)]
-pub struct Printer<'o, O: Write, A: Allocator, K: Telling> {
+pub struct Printer<'o, O: Write, A: Allocator, K: KnowsOutput> {
     output: Output<'o, O, A>,
     line: Vec<u8, A>,
     refusals: Refusals,
@@ -44,7 +44,7 @@ fn pixel_line(black: bool) -> &'static [u8]
     }
 }
 
-impl<'o, O: Write, A: Allocator, K: Telling> Printer<'o, O, A, K> {
+impl<'o, O: Write, A: Allocator, K: KnowsOutput> Printer<'o, O, A, K> {
     pub fn new(output: Output<'o, O, A>, line: Vec<u8, A>) -> Printer<'o, O, A, K>
         ensures output { result.output ≡ output.entry }
         ensures none { result.refusals.count ≡ 0 }
@@ -88,13 +88,13 @@ impl<'o, O: Write, A: Allocator, K: Telling> Printer<'o, O, A, K> {
     }
 }
 
-impl<O: Write, A: Allocator, K: Telling> Decoder for Printer<'_, O, A, K> {
+impl<O: Write, A: Allocator, K: KnowsOutput> Decoder for Printer<'_, O, A, K> {
     ghost conduct = { record {
       Picture = GName × Option (List ℕ);
-      picture = λ p. (output_id p.output, known_if K.is_told (data_of O.contents p.output));
+      picture = λ p. (output_id p.output, known_if K.is_known (data_of O.contents p.output));
       step = λ p call. (p.0, append_known p.1 (call_line call));
       refuses = λ _ _ error. error ≡ Unsupported;
-      refusals = λ p. refusals_if K.is_told (data_of O.contents p.output) p.refusals.count;
+      refusals = λ p. refusals_if K.is_known (data_of O.contents p.output) p.refusals.count;
     } };
 
     fn push_pixel(&mut self, black: bool) -> Result<()> {

@@ -28,8 +28,8 @@ pub fn run<A: Allocator + Clone, R: Read, O: Write, E: Write>(
     err: &mut E,
 ) -> u8
     ensures usage { (result ≡ 2) ↔ IsNone (request_of (map (λ word. word.now) words.now)) }
-    ensures ends { (told : Bool) × RunEnds (request_of (map (λ word. word.now) words.now))
-        (option_map (λ reader. R.remaining reader.now) file.entry) result told
+    ensures ends { (is_written : Bool) × RunEnds (request_of (map (λ word. word.now) words.now))
+        (option_map (λ reader. R.remaining reader.now) file.entry) result is_written
         (O.contents out.old) (O.contents out.new) (E.contents err.old) (E.contents err.new) }
 {
     run_reported(alloc, words, file, out, err).status
@@ -47,7 +47,7 @@ pub fn run_reported<A: Allocator + Clone, R: Read, O: Write, E: Write>(
 ) -> Ended
     ensures usage { (result.status ≡ 2) ↔ IsNone (request_of (map (λ word. word.now) words.now)) }
     ensures ends { RunEnds (request_of (map (λ word. word.now) words.now))
-        (option_map (λ reader. R.remaining reader.now) file.entry) result.status result.told
+        (option_map (λ reader. R.remaining reader.now) file.entry) result.status result.is_written
         (O.contents out.old) (O.contents out.new) (E.contents err.old) (E.contents err.new) }
 {
     let Some(request) = Request::of_words(words) else {
@@ -84,7 +84,7 @@ fn run_task<A: Allocator + Clone, R: Read, O: Write>(
 /// All bytes of a reader.
 fn bytes_of<A: Allocator, R: Read>(alloc: A, reader: &mut R) -> Result<Vec<u8, A>, Fault>
     ensures bytes { IfOk result (λ bytes. IfSome (R.remaining reader.old)
-        (λ told. bytes.items ≡ told)) }
+        (λ all. bytes.items ≡ all)) }
     ensures fault { IfErr result (λ fault. (fault ≡ Fault.Unreadable)
         ⊎ (fault ≡ Fault.Decode DecodeError.OutOfMemory)) }
 {

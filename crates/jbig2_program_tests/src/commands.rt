@@ -296,12 +296,12 @@ const UNFLUSHED: &[(Words, &[u8])] = &[
 /// Decoding comes before writing, so its fault is reported.
 #[test]
 fn a_page_that_is_not_decoded_is_not_flushed(rt: HostRuntime) {
-    for (words, told) in UNFLUSHED {
+    for (words, is_written) in UNFLUSHED {
         let mut out = Full {
             room: 256,
             flushes: false,
         };
-        let ends = writes_so(rt.alloc(), words, UNDECODABLE, &mut out, (1, told));
+        let ends = writes_so(rt.alloc(), words, UNDECODABLE, &mut out, (1, is_written));
         assert!(rt;
             ends == Ok(true) || ends == Err(DecodeError::OutOfMemory),
             "{words:?}"

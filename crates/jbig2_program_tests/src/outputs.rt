@@ -54,16 +54,16 @@ fn is_reported(alloc: Global, words: &[&str], room: usize, expected: (u8, bool))
     };
     let mut reader = Cursor::new(bytes.as_slice());
     let ended = run_reported(alloc, words, Some(&mut reader), &mut out, &mut err);
-    Ok((ended.status, ended.told) == expected)
+    Ok((ended.status, ended.is_written) == expected)
 }
 
 /// At most one request for memory is refused in a run of this test.
 #[test]
 fn it_is_reported_whether_standard_error_took_its_line(rt: HostRuntime) {
-    for (words, room, status, told) in REPORTED {
-        let mut reported = is_reported(rt.alloc(), words, *room, (*status, *told));
+    for (words, room, status, is_written) in REPORTED {
+        let mut reported = is_reported(rt.alloc(), words, *room, (*status, *is_written));
         if reported != Ok(true) {
-            reported = is_reported(rt.alloc(), words, *room, (*status, *told));
+            reported = is_reported(rt.alloc(), words, *room, (*status, *is_written));
         }
         assert!(rt; reported == Ok(true), "{words:?} {room}");
     }

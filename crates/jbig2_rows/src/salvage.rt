@@ -15,8 +15,8 @@ pub enum SalvageCase {
         globals: &'static str,
         bytes: &'static str,
         answer: Answer,
-        globals_told: Told,
-        told: Told,
+        globals_report: Report,
+        report: Report,
     },
     /// The pages of a file.
     File {
@@ -24,12 +24,12 @@ pub enum SalvageCase {
         pages: &'static [FilePage],
         left_out: &'static [DecodeError],
         /// What was passed over of the segments of no page, and what ended the file's list.
-        told: Told,
+        report: Report,
     },
 }
 
 /// What salvage reports about what it left out.
-pub struct Told {
+pub struct Report {
     /// How many segments were passed over.
     pub passed_over: usize,
     /// The number and the error of the first.
@@ -39,7 +39,7 @@ pub struct Told {
 }
 
 /// Nothing was left out.
-pub const NOTHING: Told = Told {
+pub const NOTHING: Report = Report {
     passed_over: 0,
     first: None,
     fault: None,
@@ -56,8 +56,8 @@ pub fn salvage_holds<A: Allocator + Clone>(
             globals,
             bytes,
             answer,
-            globals_told,
-            told,
+            globals_report,
+            report,
         } => {
             let globals = spelled(alloc, globals)?;
             let bytes = spelled(alloc, bytes)?;
@@ -72,19 +72,19 @@ pub fn salvage_holds<A: Allocator + Clone>(
                 Ok(globals) => globals,
                 Err(error) => return refused_as(error, None),
             };
-            let known = tells(globals_told, globals.passed_over(), globals.fault());
-            Ok(known && page_holds(alloc, &bytes, Some(&globals), answer, told, context)?)
+            let known = is_reported(globals_report, globals.passed_over(), globals.fault());
+            Ok(known && page_holds(alloc, &bytes, Some(&globals), answer, report, context)?)
         }
         SalvageCase::File {
             bytes,
             pages,
             left_out,
-            told,
+            report,
         } => {
             let Some(bytes) = spelled(alloc, bytes)? else {
                 return Ok(false);
             };
-            file_holds(alloc, &bytes, pages, left_out, told, context)
+            file_holds(alloc, &bytes, pages, left_out, report, context)
         }
     }
 }
@@ -103,20 +103,20 @@ pub fn salvages<A: Allocator + Clone>(
     Ok(page.fault().is_none() && drawing_holds(&page, answer, context)?)
 }
 
-fn tells(told: &Told, passed_over: &PassedOver, fault: Option<&DecodeError>) -> bool {
-    let first = match (&told.first, &passed_over.first) {
+fn is_reported(report: &Report, passed_over: &PassedOver, fault: Option<&DecodeError>) -> bool {
+    let first = match (&report.first, &passed_over.first) {
         (Some((number, error)), Some(first)) => {
             *number == first.segment_number && *error == first.error
         }
         (None, None) => true,
         _ => false,
     };
-    let known = match (&told.fault, fault) {
+    let known = match (&report.fault, fault) {
         (Some(error), Some(fault)) => error == fault,
         (None, None) => true,
         _ => false,
     };
-    first && known && told.passed_over == passed_over.count
+    first && known && report.passed_over == passed_over.count
 }
 
 fn page_holds<A: Allocator + Clone>(
@@ -124,7 +124,7 @@ fn page_holds<A: Allocator + Clone>(
     bytes: &[u8],
     globals: Option<&Globals<A>>,
     answer: &Answer,
-    told: &Told,
+    report: &Report,
     context: &mut DecoderContext<A>,
 ) -> Result<bool> {
     let page = match Page::salvaged_embedded(alloc.clone()?, bytes, globals) {
@@ -138,7 +138,7 @@ fn page_holds<A: Allocator + Clone>(
         ),
     };
     let drawn = drawing_holds(&page, answer, context)?;
-    Ok(drawn && tells(told, context.passed_over(), page.fault()))
+    Ok(drawn && is_reported(report, context.passed_over(), page.fault()))
 }
 
 fn file_holds<A: Allocator + Clone>(
@@ -146,7 +146,7 @@ fn file_holds<A: Allocator + Clone>(
     bytes: &[u8],
     pages: &[FilePage],
     left_out: &[DecodeError],
-    told: &Told,
+    report: &Report,
     context: &mut DecoderContext<A>,
 ) -> Result<bool> {
     let file = match File::salvaged(alloc.clone()?, bytes, &mut WorkLimit::new(None)) {
@@ -154,7 +154,7 @@ fn file_holds<A: Allocator + Clone>(
         Err(error) => return refused_as(error, None),
     };
     let shared = match file.shared() {
-        Ok(globals) => tells(told, globals.passed_over(), file.fault()),
+        Ok(globals) => is_reported(report, globals.passed_over(), file.fault()),
         Err(_) => false,
     };
     let known = shared && file.left_out() == left_out;

@@ -6,20 +6,20 @@ use crate::spelling::spelled;
 use hayro_jbig2::{DecodeError, DecoderContext, File, Globals, LeftOut, Page, PassedOver, PassedSegment};
 
 pub enum SalvageCase {
-    /// What comes of an embedded page with globals, and what each of them tells.
-    Page { globals: &'static str, bytes: &'static str, answer: Answer, globals_told: Told, told: Told },
+    /// What comes of an embedded page with globals, and what each of them reports.
+    Page { globals: &'static str, bytes: &'static str, answer: Answer, globals_report: Report, report: Report },
     /// The pages of a file.
     File {
         bytes: &'static str,
         pages: &'static [FilePage],
         left_out: &'static [DecodeError],
         /// What the segments of no page pass over, and what ended the file's list.
-        told: Told,
+        report: Report,
     },
 }
 
-/// What is told of what was left out.
-pub struct Told {
+/// What salvage reports about what it left out.
+pub struct Report {
     /// How many segments were passed over.
     pub passed_over: usize,
     /// The number and the error of the first.
@@ -29,9 +29,9 @@ pub struct Told {
 }
 
 /// Nothing was left out.
-pub const NOTHING: Told = Told { passed_over: 0, first: None, fault: None };
+pub const NOTHING: Report = Report { passed_over: 0, first: None, fault: None };
 
-impl Told {
+impl Report {
     fn passed_over(&self) -> PassedOver {
         let first = self.first.map(|(segment_number, error)| PassedSegment { segment_number, error });
         PassedOver { count: self.passed_over, first }
@@ -47,24 +47,24 @@ impl Told {
 impl SalvageCase {
     pub fn check(&self, name: &str, context: &mut DecoderContext) {
         match self {
-            Self::Page { globals, bytes, answer, globals_told, told } => {
+            Self::Page { globals, bytes, answer, globals_report, report } => {
                 let globals = Globals::salvaged(&spelled(globals)).unwrap();
-                assert_eq!(globals.left_out(), globals_told.left_out(&[]), "row {name}");
+                assert_eq!(globals.left_out(), globals_report.left_out(&[]), "row {name}");
                 let bytes = spelled(bytes);
                 let page = Page::salvaged_embedded(&bytes, Some(&globals));
                 if let Ok(page) = &page {
-                    assert_eq!(page.left_out(), LeftOut { rest: told.fault, ..LeftOut::default() }, "row {name}");
+                    assert_eq!(page.left_out(), LeftOut { rest: report.fault, ..LeftOut::default() }, "row {name}");
                 }
                 let is_read = page.is_ok();
                 answer.check(name, page, context);
                 if is_read {
-                    assert_eq!(context.passed_over(), told.passed_over(), "row {name}");
+                    assert_eq!(context.passed_over(), report.passed_over(), "row {name}");
                 }
             }
-            Self::File { bytes, pages, left_out, told } => {
+            Self::File { bytes, pages, left_out, report } => {
                 let bytes = spelled(bytes);
                 let file = File::salvaged(&bytes).unwrap_or_else(|error| panic!("row {name}: {error}"));
-                assert_eq!(file.left_out(), told.left_out(left_out), "row {name}");
+                assert_eq!(file.left_out(), report.left_out(left_out), "row {name}");
                 check_pages_of(name, &file, pages, context);
             }
         }

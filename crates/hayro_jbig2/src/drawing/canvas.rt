@@ -1,4 +1,4 @@
-//! The page while its segments are drawn.
+//! The page while its segments are drawn: its bitmap, the intermediate regions that are kept, and what was passed over.
 ghost use Rattle.std.specs.Prelude.{◌≡◌, ◌*◌, ◌<◌, ◌≤◌, [], true, false, Ok};
 ghost use Rattle.jbig2_base.specs.Grid.{max_side};
 ghost use Rattle.jbig2_base.specs.Results.{Gives};

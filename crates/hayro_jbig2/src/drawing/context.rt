@@ -1,4 +1,4 @@
-//! What decoding keeps from one page to the next.
+//! `DecoderContext`: memory that each page's decoding reuses, the page that was drawn last, and the limit of work.
 ghost use Rattle.std.specs.Prelude.{◌≡◌};
 ghost use Rattle.jbig2_base.specs.Results.{Gives};
 ghost use Rattle.jbig2_base.specs.Counts.{no_steps};

@@ -1,5 +1,5 @@
-//! How many steps were counted, for clauses alone: a number without a byte, whose type names no ledger. So a call that
-//! makes a counter for itself can say what it counted.
+//! A number of steps that only clauses see. Its type names no ledger, so the contract of a call that makes its own
+//! counter can say how many steps were counted.
 ghost use Rattle.std.specs.Prelude.{◌≡◌, ◌+◌, ℕ};
 ghost use Rattle.jbig2_steps.specs.Work.{counted};
 ghost use base.Fml.{ftrue};

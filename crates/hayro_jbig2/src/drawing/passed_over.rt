@@ -1,4 +1,4 @@
-//! What a reading passed over.
+//! The segments that lenient reading or salvage passed over: how many, and why the first one failed.
 ghost use Rattle.std.specs.Prelude.{◌≡◌, ◌<◌};
 ghost use Rattle.hayro_jbig2.specs.Names.{nothing_passed, with_passed};
 

@@ -1,4 +1,4 @@
-//! The work that a caller allows for the calls that take its limit.
+//! `WorkLimit`: how many units of work the calls that take it may spend together.
 ghost use Rattle.std.specs.Prelude.{◌≡◌};
 ghost use Rattle.jbig2_base.specs.Counts.{no_steps};
 ghost use Rattle.hayro_jbig2.specs.WorkLimit.{after_call, left_of, limit_of};

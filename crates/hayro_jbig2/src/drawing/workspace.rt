@@ -1,4 +1,4 @@
-//! What decoding uses again for each segment.
+//! The tables and the memory that each segment of a page is decoded with.
 ghost use Rattle.std.specs.Prelude.{◌≡◌, ◌≤◌, IfErr, vec_len};
 
 use jbig2_base::error::{DecodeError, Result};

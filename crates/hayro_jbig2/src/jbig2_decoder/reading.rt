@@ -1,4 +1,4 @@
-//! All bytes of a reader.
+//! Reads all bytes of a reader.
 ghost use Rattle.std.specs.Prelude.{IfErr};
 ghost use Rattle.hayro_jbig2.specs.Image.{ReadsAll, IsLasting};
 

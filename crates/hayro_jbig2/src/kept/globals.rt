@@ -1,4 +1,4 @@
-//! Globals: segments that several pages share, as in PDF.
+//! `Globals`: decodes the segments that several pages share, as in PDF.
 ghost use Rattle.std.specs.Prelude.{◌≡◌, ◌+◌, ◌*◌, ◌<◌, ◌≤◌, ◌⊎◌, Ok, IfErr, IfOk, length};
 ghost use Rattle.jbig2_base.specs.Sequential.{sorted_segments};
 ghost use Rattle.jbig2_base.specs.Results.{Gives};

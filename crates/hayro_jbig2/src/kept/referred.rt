@@ -1,4 +1,4 @@
-//! What the numbers of a symbol dictionary or a text region refer to (T.88, 7.3.1).
+//! Collects the symbols and tables that a symbol dictionary or a text region refers to (T.88, 7.3.1).
 ghost use Rattle.std.specs.Prelude.{◌≡◌, ◌≤◌, ◌+◌, ◌*◌, ◌++◌, length, map, Ok, OnOk, IfErr, IfOk};
 ghost use Rattle.jbig2_base.specs.Results.{Gives};
 ghost use Rattle.jbig2_base.specs.Causes.{HasCauseOrNoMemory};
@@ -71,7 +71,7 @@ impl<'a, A: Allocator> ReferredSegments<'a, A> {
             (with_dictionary (symbols_view dictionary.now) self.old) }
     {
         if dictionary.exported_symbols.len() > MAX_SYMBOLS - self.symbols.len() {
-            return Err(DecodeError::Overflow(OverflowError::SymbolCount));
+            return Err(OverflowError::SymbolCount.into());
         }
         push_symbols(&mut self.symbols, &dictionary.exported_symbols)?;
         self.retained_contexts = dictionary.retained_contexts.as_ref();
@@ -88,7 +88,7 @@ impl<'a, A: Allocator> ReferredSegments<'a, A> {
                 self.tables.push(table)?;
                 Ok(())
             }
-            None if strict => Err(DecodeError::Segment(SegmentError::InvalidReference)),
+            None if strict => Err(SegmentError::InvalidReference.into()),
             None => Ok(()),
         }
     }

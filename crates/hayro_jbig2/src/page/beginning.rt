@@ -1,4 +1,4 @@
-//! How a page begins (T.88, 7.4.8), in each reading.
+//! Finds number, size and colour of a page before its first segment is drawn (T.88, 7.4.8).
 ghost use Rattle.std.specs.Prelude.{◌≡◌, ◌≤◌, IfOk, min};
 ghost use Rattle.jbig2_base.specs.Grid.{max_side};
 ghost use Rattle.jbig2_base.specs.Results.{Returns};

@@ -1,4 +1,4 @@
-//! A page that was drawn, as packed rows.
+//! `DrawnPage`: lends a page that was drawn as packed rows.
 ghost use Rattle.std.specs.Prelude.{◌≡◌, ◌+◌, ◌≤◌, drop, false, length, take, true};
 ghost use Rattle.hayro_jbig2.specs.Image.{packed_of};
 ghost use Rattle.hayro_jbig2.specs.inner.WholePages.{IsBlankPage};

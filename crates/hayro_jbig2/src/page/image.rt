@@ -1,4 +1,4 @@
-//! A page as an image with a byte for each pixel.
+//! Writes a page as an image with a byte for each pixel.
 ghost use Rattle.std.specs.Prelude.{◌≡◌, ◌+◌, ◌-◌, ◌*◌, ◌<◌, ◌≤◌, length};
 ghost use Rattle.jbig2_base.specs.Grid.{max_side};
 ghost use Rattle.jbig2_base.specs.Bits.{bit};

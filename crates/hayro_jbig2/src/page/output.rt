@@ -1,4 +1,4 @@
-//! How a page is handed out: as calls on a `Decoder`, as bytes, and as packed rows in a context.
+//! Decodes a page: to calls on a `Decoder`, to a byte or a bit for each pixel, or into a context that lends its rows.
 ghost use Rattle.std.specs.Prelude.{◌≡◌, ◌+◌, ◌-◌, ◌*◌, ◌<◌, ◌≤◌, Bool, IfErr, IfOk, IsTrue, OnErr, length, pos};
 ghost use Rattle.jbig2_base.specs.Results.{Gives, Leaves};
 ghost use Rattle.jbig2_base.specs.Combination.{combined};

@@ -1,4 +1,4 @@
-//! A page as packed rows, with a bit for each pixel.
+//! Writes a page as packed rows, with a bit for each pixel.
 ghost use Rattle.std.specs.Prelude.{◌≡◌, ◌+◌, ◌-◌, ◌*◌, ◌/◌, ◌<◌, ◌≤◌, ℕ, length};
 ghost use Rattle.jbig2_base.specs.Bits.{bit};
 ghost use Rattle.jbig2_base.specs.Counts.{words_loaded};

@@ -1,4 +1,4 @@
-//! Generic regions of a page (T.88, 7.4.6).
+//! Parses the generic regions of a page (T.88, 7.4.6).
 ghost use Rattle.std.specs.Prelude.{IfOk};
 ghost use Rattle.jbig2_base.specs.inner.SegmentViews.{segment_view};
 ghost use Rattle.hayro_jbig2.specs.Regions.{generic_at};

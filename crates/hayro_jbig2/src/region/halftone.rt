@@ -1,4 +1,4 @@
-//! Halftone regions of a page (T.88, 7.4.5).
+//! Parses the halftone regions of a page, with their patterns (T.88, 7.4.5).
 ghost use Rattle.std.specs.Prelude.{◌≡◌, ◌+◌, ◌*◌, IfErr, IfOk};
 ghost use Rattle.jbig2_base.specs.Results.{Returns, some_or};
 ghost use Rattle.jbig2_base.specs.inner.SegmentViews.{segment_view};
@@ -42,7 +42,7 @@ fn referred_patterns<'a, A: Allocator>(
             return Ok(patterns);
         }
     }
-    Err(DecodeError::Segment(SegmentError::MissingPatternDictionary))
+    Err(SegmentError::MissingPatternDictionary.into())
 }
 
 /// Parses a halftone region, with the patterns of the dictionary that it refers to.

@@ -1,4 +1,4 @@
-//! Regions whose headers were read (T.88, 7.4.3 and 7.4.5 to 7.4.7).
+//! Decodes a region whose header was parsed (T.88, 7.4.3 and 7.4.5 to 7.4.7).
 ghost use Rattle.std.specs.Prelude.{◌≡◌, ◌≤◌, ◌+◌, ◌*◌, IfErr, IfOk};
 ghost use Rattle.jbig2_base.specs.Results.{Gives};
 ghost use Rattle.jbig2_base.specs.Grid.{blank};

@@ -1,4 +1,4 @@
-//! What the regions of a page refer to (T.88, 7.3.1).
+//! The names and the regions that a region of a page may refer to (T.88, 7.3.1).
 
 use crate::kept::Kept;
 use crate::kept::names::Lookup;

@@ -1,4 +1,4 @@
-//! Refinements on a page (T.88, 7.4.7).
+//! Parses refinement regions, and finds the region or the part of the page that each refines (T.88, 7.4.7).
 ghost use Rattle.std.specs.Prelude.{◌≡◌, ◌≤◌, ◌*◌, IfOk};
 ghost use Rattle.jbig2_base.specs.Grid.{max_side};
 ghost use Rattle.jbig2_base.specs.Results.{Returns, Gives};
@@ -24,7 +24,7 @@ use crate::region::references::References;
 use jbig2_base::bitmap::Bitmap;
 use jbig2_base::bitmap::part::Area;
 use jbig2_base::bitmap::steps::Work;
-use jbig2_base::error::{DecodeError, OverflowError, Result, SegmentError};
+use jbig2_base::error::{OverflowError, Result, SegmentError};
 use jbig2_base::reader::Reader;
 use jbig2_base::segment::Segment;
 use jbig2_region::generic::DecodedRegion;
@@ -58,7 +58,7 @@ fn referred_region<'a, A: Allocator>(
     };
     let region = region_named(regions, *number);
     if strict && region.is_none() {
-        return Err(DecodeError::Segment(SegmentError::InvalidReference));
+        return Err(SegmentError::InvalidReference.into());
     }
     Ok(region)
 }
@@ -80,7 +80,7 @@ fn page_area<A: Allocator, B: Allocator, L: Ledger>(
     let x = region_info.x_location;
     let y = region_info.y_location;
     if x >= 0x8000_0000 || y >= 0x8000_0000 {
-        return Err(DecodeError::Overflow(OverflowError::ReferenceOffset));
+        return Err(OverflowError::ReferenceOffset.into());
     }
     let area = Area {
         left: x,
@@ -143,7 +143,7 @@ pub(crate) fn parse_refinement<'a, 'n, 'r, A: Allocator + Clone, L: Ledger>(
     let numbers = &segment.header.referred_to_segments;
     let referred = referred_region(strict, numbers, references.regions)?;
     if strict && is_intermediate && referred.is_none() {
-        return Err(DecodeError::Segment(SegmentError::InvalidReference));
+        return Err(SegmentError::InvalidReference.into());
     }
     let mut reader = Reader::new(segment.bytes);
     let header = generic_refinement::parse(&mut reader)?;

@@ -1,4 +1,4 @@
-//! Text regions of a page (T.88, 7.4.3).
+//! Parses the text regions of a page, with the symbols that they draw (T.88, 7.4.3).
 ghost use Rattle.std.specs.Prelude.{IfOk};
 ghost use Rattle.jbig2_base.specs.inner.SegmentViews.{segment_view};
 ghost use Rattle.hayro_jbig2.specs.Regions.{text_at};

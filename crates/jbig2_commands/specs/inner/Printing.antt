@@ -29,7 +29,7 @@ Counts _ _ old new = ⊥
 
 -- what is known of an output, where a proof says that its bytes are known
 abbrev pub known_if : Bool → Option (List ℕ) → Option (List ℕ)
-known_if is_told known = if is_told then known else None
+known_if is_known known = if is_known then known else None
 
 -- Where a proof says that the output's bytes are known, and they no longer are, the printer counts as one that can't
 -- refuse any more.

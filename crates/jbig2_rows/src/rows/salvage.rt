@@ -7,7 +7,7 @@ use crate::errors::{
     TOO_EARLY, TOO_LARGE,
 };
 use crate::file_case::FilePage;
-use crate::salvage::{NOTHING, SalvageCase, Told};
+use crate::salvage::{NOTHING, Report, SalvageCase};
 use hayro_jbig2::{DecodeError, FormatError, SegmentError};
 
 /// A row of eight white pixels, and then one of a black pixel and seven white ones.
@@ -47,28 +47,28 @@ const ONE_PAGE: &[FilePage] = &[FilePage {
 }];
 
 /// A list that this error of a header ended.
-const BAD_REFERENCE: Told = Told {
+const BAD_REFERENCE: Report = Report {
     passed_over: 0,
     first: None,
     fault: Some(INVALID_REFERENCE),
 };
 
 /// A list in random access whose bytes end too early.
-const CUT_OFF: Told = Told {
+const CUT_OFF: Report = Report {
     passed_over: 0,
     first: None,
     fault: Some(TOO_EARLY),
 };
 
 /// The dictionary with number 1 was passed over. It asks for a table that it does not refer to.
-const ONE_PASSED: Told = Told {
+const ONE_PASSED: Report = Report {
     passed_over: 1,
     first: Some((1, INVALID_SELECTION)),
     fault: None,
 };
 
 /// A region that needs this dictionary was passed over too.
-const TWO_PASSED: Told = Told {
+const TWO_PASSED: Report = Report {
     passed_over: 2,
     first: Some((1, INVALID_SELECTION)),
     fault: None,
@@ -83,15 +83,15 @@ const ROWS: &[Row] = &[
                 globals: "",
                 bytes: "P G 20*16",
                 answer: Calls(DOT),
-                globals_told: NOTHING,
-                told: BAD_REFERENCE,
+                globals_report: NOTHING,
+                report: BAD_REFERENCE,
             }),
             Case::Salvage(SalvageCase::Page {
                 globals: "",
                 bytes: "P G G8@3=02@7=FFFFFFFF",
                 answer: Calls(DOT),
-                globals_told: NOTHING,
-                told: Told {
+                globals_report: NOTHING,
+                report: Report {
                     passed_over: 0,
                     first: None,
                     fault: Some(DecodeError::Segment(SegmentError::MissingEndMarker)),
@@ -101,8 +101,8 @@ const ROWS: &[Row] = &[
                 globals: "",
                 bytes: "P G 00000002 26",
                 answer: Calls(DOT),
-                globals_told: NOTHING,
-                told: NOTHING,
+                globals_report: NOTHING,
+                report: NOTHING,
             }),
         ],
     },
@@ -113,29 +113,29 @@ const ROWS: &[Row] = &[
                 globals: "",
                 bytes: "P S@11=0009 G@3=02",
                 answer: Calls(DOT),
-                globals_told: NOTHING,
-                told: ONE_PASSED,
+                globals_report: NOTHING,
+                report: ONE_PASSED,
             }),
             Case::Salvage(SalvageCase::Page {
                 globals: "",
                 bytes: "P S@11=0009 X",
                 answer: Calls(WHITE),
-                globals_told: NOTHING,
-                told: TWO_PASSED,
+                globals_report: NOTHING,
+                report: TWO_PASSED,
             }),
             Case::Salvage(SalvageCase::Page {
                 globals: "",
                 bytes: "P S@11=0009 S X",
                 answer: Calls(DOT),
-                globals_told: NOTHING,
-                told: ONE_PASSED,
+                globals_report: NOTHING,
+                report: ONE_PASSED,
             }),
             Case::Salvage(SalvageCase::Page {
                 globals: "",
                 bytes: "P 00000001 10 00 01 00000007 01 00 01 00000000 T G@3=03",
                 answer: Calls(DOT),
-                globals_told: NOTHING,
-                told: Told {
+                globals_report: NOTHING,
+                report: Report {
                     passed_over: 2,
                     first: Some((1, TOO_EARLY)),
                     fault: None,
@@ -145,8 +145,8 @@ const ROWS: &[Row] = &[
                 globals: "",
                 bytes: "P 00000001 35 00 01 0000000B 70 00*7 01 1000 G@3=02",
                 answer: Calls(DOT),
-                globals_told: NOTHING,
-                told: Told {
+                globals_report: NOTHING,
+                report: Report {
                     passed_over: 1,
                     first: Some((1, INVALID_CODE)),
                     fault: None,
@@ -156,8 +156,8 @@ const ROWS: &[Row] = &[
                 globals: "",
                 bytes: "P G8@4=24@27=05 00000002 2A 20 01 01 00000012 00000008 00000001 00*9 01",
                 answer: Calls(BLACK),
-                globals_told: NOTHING,
-                told: Told {
+                globals_report: NOTHING,
+                report: Report {
                     passed_over: 1,
                     first: Some((1, INVALID_OPERATOR)),
                     fault: None,
@@ -172,22 +172,22 @@ const ROWS: &[Row] = &[
                 globals: "S@11=0009 S@3=02",
                 bytes: "P X@3=03@6=02",
                 answer: Calls(DOT),
-                globals_told: ONE_PASSED,
-                told: NOTHING,
+                globals_report: ONE_PASSED,
+                report: NOTHING,
             }),
             Case::Salvage(SalvageCase::Page {
                 globals: "S 20*16",
                 bytes: "P X",
                 answer: Calls(DOT),
-                globals_told: BAD_REFERENCE,
-                told: NOTHING,
+                globals_report: BAD_REFERENCE,
+                report: NOTHING,
             }),
             Case::Salvage(SalvageCase::Page {
                 globals: "20*16",
                 bytes: "P G",
                 answer: Calls(DOT),
-                globals_told: BAD_REFERENCE,
-                told: NOTHING,
+                globals_report: BAD_REFERENCE,
+                report: NOTHING,
             }),
         ],
     },
@@ -198,15 +198,15 @@ const ROWS: &[Row] = &[
                 globals: "",
                 bytes: "P@15=FFFFFFFF G",
                 answer: Calls(DOT),
-                globals_told: NOTHING,
-                told: NOTHING,
+                globals_report: NOTHING,
+                report: NOTHING,
             }),
             Case::Salvage(SalvageCase::Page {
                 globals: "",
                 bytes: "P@15=FFFFFFFF G@23=00000001 G8@3=02@23=FFFFFFFF G8@3=03@15=00010000 G8@3=04@23=00000005@27=05",
                 answer: Calls(WHITE_DOT),
-                globals_told: NOTHING,
-                told: Told {
+                globals_report: NOTHING,
+                report: Report {
                     passed_over: 2,
                     first: Some((3, TOO_LARGE)),
                     fault: None,
@@ -216,22 +216,22 @@ const ROWS: &[Row] = &[
                 globals: "",
                 bytes: "P@15=FFFFFFFF 00000001 32 00 01 00000004 00000001 G@3=02",
                 answer: Calls(DOT_WHITE),
-                globals_told: NOTHING,
-                told: NOTHING,
+                globals_report: NOTHING,
+                report: NOTHING,
             }),
             Case::Salvage(SalvageCase::Page {
                 globals: "",
                 bytes: "P@15=FFFFFFFF G@23=FFFFFFFF",
                 answer: Refused(NO_HEIGHT),
-                globals_told: NOTHING,
-                told: NOTHING,
+                globals_report: NOTHING,
+                report: NOTHING,
             }),
             Case::Salvage(SalvageCase::Page {
                 globals: "",
                 bytes: "P@15=FFFFFFFF G@4=24",
                 answer: Refused(NO_HEIGHT),
-                globals_told: NOTHING,
-                told: NOTHING,
+                globals_report: NOTHING,
+                report: NOTHING,
             }),
         ],
     },
@@ -242,19 +242,19 @@ const ROWS: &[Row] = &[
                 bytes: "H 01 00000007 P 00000001 31 00 02 00000000 P@3=02@6=03@11=00000000",
                 pages: ONE_PAGE,
                 left_out: &[NO_PAGE, DecodeError::Format(FormatError::EmptyPage)],
-                told: NOTHING,
+                report: NOTHING,
             }),
             Case::Salvage(SalvageCase::File {
                 bytes: "H 03 P S@6=00@11=0009 00000002 31 00 01 00000000",
                 pages: ONE_PAGE,
                 left_out: &[],
-                told: ONE_PASSED,
+                report: ONE_PASSED,
             }),
             Case::Salvage(SalvageCase::File {
                 bytes: "H 01 00000001 P 20*16",
                 pages: ONE_PAGE,
                 left_out: &[],
-                told: BAD_REFERENCE,
+                report: BAD_REFERENCE,
             }),
         ],
     },
@@ -267,14 +267,14 @@ const ROWS: &[Row] = &[
                     00000002 33 00 00 00000000 00000008 00000001 00*11 00000008 00000001 00*10",
                 pages: ONE_PAGE,
                 left_out: &[],
-                told: CUT_OFF,
+                report: CUT_OFF,
             }),
             // A header is refused, and the data begins there.
             Case::Salvage(SalvageCase::File {
                 bytes: "H 00 00000001 00000000 30 00 01 00000013 00000008 00A00001 00*11",
                 pages: &[],
                 left_out: &[TOO_LARGE],
-                told: Told {
+                report: Report {
                     passed_over: 0,
                     first: None,
                     fault: Some(DecodeError::Segment(SegmentError::InvalidReferredCount)),

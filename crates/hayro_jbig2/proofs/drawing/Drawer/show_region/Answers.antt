@@ -44,8 +44,8 @@ returns-then-makes_up-clause-value g c =
     let inside : Drawing = record { grid = c.canvas.inside.bitmap; regions = seen region_view c.canvas.inside.regions.items; names = c.canvas.inside.names; untouched = c.canvas.inside.untouched; passed_over = c.canvas.inside.passed_over } in
     let meant : Result PlacedRegion DecodeError = region_at (is_strict c.args.self.now.reading) c.args.self.now.globals.now c.args.kind false (segment_view c.args.segment.now) d in
     let leads : meant ≡ placed_region c.in_ok-parsed.parsed = led c.references-references.result (is_strict c.args.self.now.reading) c.args.self.now.globals.now c.args.kind false (segment_view c.args.segment.now) c.canvas.inside.bitmap c.deref.result.now c.canvas.inside.regions.items c.canvas.inside.names c.canvas.inside.untouched c.canvas.inside.passed_over d (placed_region c.in_ok-parsed.parsed) c.references-references.ensures.strict c.references-references.ensures.globals c.references-references.ensures.drawing c.deref.ensures.value c.canvas.view_is c.in_ok-parsed.ensures.value in
-    let begun : IsBlankPage false c.canvas.inside.bitmap = subst (λ (p : Grid). IsBlankPage false p) (sym (ap (λ (b : Drawing). b.grid) c.canvas.view_is)) (c.is_white-is_white.ensures c.if-is_white.true) in
-    let whole : IsWhole (info_of c.in_ok-parsed.parsed) (initial_of c.in_ok-parsed.parsed) c.canvas.inside.bitmap = c.makes_up.ensures c.if-makes_up.true begun in
+    let is_blank : IsBlankPage false c.canvas.inside.bitmap = subst (λ (p : Grid). IsBlankPage false p) (sym (ap (λ (b : Drawing). b.grid) c.canvas.view_is)) (c.is_white-is_white.ensures c.if-is_white.true) in
+    let whole : IsWhole (info_of c.in_ok-parsed.parsed) (initial_of c.in_ok-parsed.parsed) c.canvas.inside.bitmap = c.makes_up.ensures c.if-makes_up.true is_blank in
     subst (λ (b : Drawing). Gives (λ _. record inside { grid = c.decode_onto.new.page; untouched = false }) c.decode_onto.result (shown b meant)) c.canvas.view_is
     (whole-gives c.in_ok-parsed.parsed meant inside c.decode_onto.new.page c.decode_onto.result whole leads c.decode_onto.ensures.value)
 
