@@ -15,7 +15,7 @@ use crate::input::SymbolInput;
 use crate::readings::ReadClasses;
 use jbig2_base::bitmap::Bitmap;
 use jbig2_base::bitmap::steps::Work;
-use jbig2_base::error::{DecodeError, HuffmanError, Result, SymbolError};
+use jbig2_base::error::{HuffmanError, Result, SymbolError};
 use std::alloc::Allocator;
 use std::sync::ledger::Ledger;
 
@@ -42,23 +42,23 @@ fn read_run<R: ReadClasses<A>, A: Allocator + Clone, L: Ledger>(
     ensures paid { PaidBut (number_steps 1) work.old work.new }
 {
     let Some(number) = readings.export_run(input, work)? else {
-        return Err(DecodeError::Huffman(HuffmanError::UnexpectedOob));
+        return Err(HuffmanError::UnexpectedOob.into());
     };
     if number < 0 {
-        return Err(DecodeError::Huffman(HuffmanError::InvalidCode));
+        return Err(HuffmanError::InvalidCode.into());
     }
     let run = number as u32;
     if run == 0 && empty >= MAX_EMPTY {
-        return Err(DecodeError::Symbol(SymbolError::Invalid));
+        return Err(SymbolError::Invalid.into());
     }
     if run as u64 > left {
-        return Err(DecodeError::Symbol(SymbolError::OutOfRange));
+        return Err(SymbolError::OutOfRange.into());
     }
     Ok(run)
 }
 
-/// Reads the runs, until they cover `count` symbols. The runs before and after an empty one are joined,
-/// so there are hardly more than there are symbols.
+/// Reads the runs, until they cover `count` symbols. The runs before and after an empty one are
+/// joined, so there are hardly more than there are symbols.
 pub fn read_runs<R: ReadClasses<A>, M: Allocator, A: Allocator + Clone, L: Ledger>(
     alloc: M,
     input: &SymbolInput<'_, A>,
@@ -200,7 +200,8 @@ pub fn export_symbols<A: Allocator + Clone, S: Allocator, L: Ledger>(
     Ok(exported)
 }
 
-/// Does the same, but moves the new symbols where exactly these are exported, instead of copying them.
+/// Does the same, but moves the new symbols where exactly these are exported, instead of copying
+/// them.
 #[tactic(auto, using(crate::proofs::ExportedLemmas::exported_new))]
 fn take_exports<A: Allocator + Clone, S: Allocator, L: Ledger>(
     alloc: A,
@@ -246,7 +247,7 @@ pub fn read_exports<R: ReadClasses<A>, A: Allocator + Clone, L: Ledger>(
     let runs = read_runs(alloc.clone()?, input, count, readings, work)?;
     let exported = take_exports(alloc, &runs, input.symbols, new, work)?;
     if exported.len() != input.header.num_exported_symbols as usize {
-        return Err(DecodeError::Symbol(SymbolError::NoSymbols));
+        return Err(SymbolError::NoSymbols.into());
     }
     Ok(exported)
 }

@@ -28,7 +28,7 @@ use crate::readings::{HeightClass, ReadClasses, ReadSymbols};
 use crate::widths::read_widths;
 use jbig2_base::bitmap::steps::Work;
 use jbig2_base::bitmap::{Bitmap, MAX_DIMENSION};
-use jbig2_base::error::{DecodeError, HuffmanError, OverflowError, ParseError, Result};
+use jbig2_base::error::{HuffmanError, OverflowError, ParseError, Result};
 use jbig2_base::field::bits_field;
 use jbig2_base::reader::Reader;
 use jbig2_coder::huffman_table::HuffmanTable;
@@ -58,7 +58,7 @@ fn read_by_instances<A: Allocator + Clone, L: Ledger>(
     if params.num_instances != 1 {
         return put_together(alloc, readings, refining, params, size, work);
     }
-    let end = DecodeError::Parse(ParseError::UnexpectedEof);
+    let end = ParseError::UnexpectedEof.into();
     let id = i64::from(bits_field(&mut readings.reader, id_bits, end)?);
     refine_alone(alloc, readings, refining, &params.symbols, id, size, work)
 }
