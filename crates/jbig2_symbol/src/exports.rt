@@ -144,7 +144,6 @@ fn duplicate_symbol<A: Allocator, S: Allocator, L: Ledger>(
 
 /// Adds copies of `count` symbols, from number `first` on, to those that are exported so far.
 fn push_symbols<A: Allocator + Clone, S: Allocator, L: Ledger>(
-    alloc: A,
     symbols: &[&Bitmap<S>],
     new: &[Bitmap<A>],
     first: usize,
@@ -159,7 +158,8 @@ fn push_symbols<A: Allocator + Clone, S: Allocator, L: Ledger>(
     ensures paid { Paid work.old work.new }
 {
     for k in 0..count {
-        exported.push(duplicate_symbol(alloc.clone()?, symbols, new, first + k, work)?)?;
+        let alloc = Vec::allocator(exported).clone()?;
+        exported.push(duplicate_symbol(alloc, symbols, new, first + k, work)?)?;
     }
     Ok(())
 }
@@ -177,20 +177,12 @@ pub fn export_symbols<A: Allocator + Clone, S: Allocator, L: Ledger>(
         Gives (λ symbols. symbols.items) result meant }
     ensures paid { Paid work.old work.new }
 {
-    let mut exported = Vec::new(alloc.clone()?);
+    let mut exported = Vec::new(alloc);
     let mut first = 0;
     for (k, run) in runs.iter().enumerate() {
         let count = *run as usize;
         if k % 2 == 1 {
-            match push_symbols(
-                alloc.clone()?,
-                symbols,
-                new,
-                first,
-                count,
-                &mut exported,
-                work,
-            ) {
+            match push_symbols(symbols, new, first, count, &mut exported, work) {
                 Ok(()) => {}
                 Err(error) => return Err(error),
             }
