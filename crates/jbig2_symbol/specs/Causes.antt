@@ -54,7 +54,8 @@ BreaksSymbolFields flags bytes (errors.Template InvalidAtPixel) =
     (errors.Template InvalidAtPixel)
 BreaksSymbolFields flags bytes (errors.Overflow SymbolCount) =
     (counts_place flags + 8 ≤ length bytes)
-    × ((max_new_symbols < number_in w32 (counts_place flags) bytes) ⊎ (max_new_symbols < number_in w32 (counts_place flags + 4) bytes))
+    × ((max_new_symbols < number_in w32 (counts_place flags) bytes)
+    ⊎ (max_new_symbols < number_in w32 (counts_place flags + 4) bytes))
 BreaksSymbolFields flags bytes _ = ⊥
 
 abbrev pub BreaksSymbolHeader : List ℕ → DecodeError → Type 0

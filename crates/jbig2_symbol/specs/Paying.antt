@@ -10,7 +10,8 @@ use Rattle.jbig2_text.specs.Paying.{number_steps}
 -- From `before` symbols to `after` symbols, at most five numbers were read for each, and `more` besides. Everything
 -- else is paid for.
 abbrev pub PaidButSymbols : {L : Type 0} → ℕ → ℕ → ℕ → Work L → Work L → Type 0
-PaidButSymbols before after more old new = worth new + number_steps (5 * before) ≤ worth old + number_steps (5 * after + more)
+PaidButSymbols before after more old new =
+    worth new + number_steps (5 * before) ≤ worth old + number_steps (5 * after + more)
 
 -- the same, where there are at most `most` symbols
 pub record PaysSymbols {L : Type 0} (before after most more : ℕ) (old new : Work L) : Type 0 where

@@ -127,10 +127,10 @@ pub fn aggregate_params<'a, A: Allocator>(
     }
 }
 
-/// Refines the symbol of an id into one of this size (T.88, 6.5.8.2.2).
+/// Refines the symbol of an id into one of this size (T.88, 6.5.8.2.2), with the allocator of
+/// `refining`.
 #[tactic(auto, unfolding(crate::specs::SymbolBitmaps::refined_alone))]
-pub fn refine_alone<R: ReadInstances, A: Allocator, L: Ledger>(
-    alloc: A,
+pub fn refine_alone<R: ReadInstances, A: Allocator + Clone, L: Ledger>(
     readings: &mut R,
     refining: &mut Refining<A>,
     symbols: &SymbolList<'_, A>,
@@ -144,6 +144,7 @@ pub fn refine_alone<R: ReadInstances, A: Allocator, L: Ledger>(
         Gives (λ g. (g, refining.new, R.state readings.new)) result meant }
     ensures paid { PaidBut (number_steps 2) work.old work.new }
 {
+    let alloc = refining.allocator().clone()?;
     let dx = readings.x_delta(work)?;
     let dy = readings.y_delta(work)?;
     let Some(bitmap) = symbols.symbol(id) else {
@@ -155,10 +156,10 @@ pub fn refine_alone<R: ReadInstances, A: Allocator, L: Ledger>(
     Ok(refined)
 }
 
-/// Reads several instances, and draws them into a symbol of this size.
+/// Reads several instances, and draws them into a symbol of this size, with the allocator of
+/// `refining`.
 #[tactic(auto, unfolding(crate::specs::SymbolBitmaps::put_together))]
 pub fn put_together<R: ReadInstances, A: Allocator + Clone, L: Ledger>(
-    alloc: A,
     readings: &mut R,
     refining: &mut Refining<A>,
     params: &TextParams<'_, A>,
@@ -172,6 +173,7 @@ pub fn put_together<R: ReadInstances, A: Allocator + Clone, L: Ledger>(
         Gives (λ g. (g, refining.new, R.state readings.new)) result meant }
     ensures paid { Paid work.old work.new }
 {
+    let alloc = refining.allocator().clone()?;
     let mut symbol = new_symbol(alloc, size.width, size.height, work)?;
     draw_instances_by(readings, refining, params, &mut symbol, work)?;
     Ok(symbol)

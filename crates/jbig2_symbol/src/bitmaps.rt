@@ -69,7 +69,8 @@ fn raw_bytes<'a>(width: u32, height: u32, reader: &mut Reader<'a>) -> Result<&'a
     bytes_field(reader, height as usize * stride)
 }
 
-/// Reads rows that are not coded (T.88, 6.5.9). It takes memory for them only if their bytes are there.
+/// Reads rows that are not coded (T.88, 6.5.9). It takes memory for them only if their bytes are
+/// there.
 #[tactic(auto, unfolding(crate::specs::SymbolBitmaps::raw_rows))]
 fn read_raw_rows<A: Allocator, L: Ledger>(
     alloc: A,

@@ -49,7 +49,6 @@ pub fn check_class(symbols: usize, empty: u32) -> Result<()>
 
 /// Reads the symbols of a class, each with a bitmap of its own, and adds them to `bitmaps`.
 fn read_symbols<R: ReadSymbols<A>, A: Allocator + Clone, L: Ledger>(
-    alloc: A,
     input: &SymbolInput<'_, A>,
     height: u32,
     bitmaps: &mut Vec<Bitmap<A>, A>,
@@ -75,7 +74,7 @@ fn read_symbols<R: ReadSymbols<A>, A: Allocator + Clone, L: Ledger>(
             Err(error) => return Err(error),
         };
         let size = SymbolSize { width, height };
-        let symbol = match readings.symbol_bitmap(alloc.clone()?, input, bitmaps, size, work) {
+        let symbol = match readings.symbol_bitmap(input, bitmaps, size, work) {
             Ok(symbol) => symbol,
             Err(error) => return Err(error),
         };
@@ -86,7 +85,6 @@ fn read_symbols<R: ReadSymbols<A>, A: Allocator + Clone, L: Ledger>(
 /// Reads such a class, and adds its symbols to `bitmaps`.
 #[tactic(auto, unfolding(crate::specs::HeightClasses::drawn_class))]
 pub fn read_drawn_class<R: ReadSymbols<A>, A: Allocator + Clone, L: Ledger>(
-    alloc: A,
     input: &SymbolInput<'_, A>,
     class: HeightClass,
     bitmaps: &mut Vec<Bitmap<A>, A>,
@@ -104,14 +102,13 @@ pub fn read_drawn_class<R: ReadSymbols<A>, A: Allocator + Clone, L: Ledger>(
         OnOk result (PaysClass input.now before bitmaps.new.items 1 work.old work.new) }
 {
     let before = bitmaps.len();
-    read_symbols(alloc, input, class.height, bitmaps, readings, work)?;
+    read_symbols(input, class.height, bitmaps, readings, work)?;
     check_class(bitmaps.len() - before, class.empty)
 }
 
 /// Reads one more height class.
 #[tactic(auto, using(crate::proofs::ClassCauses::height_class_cause), unfolding(crate::specs::HeightClasses::height_class))]
 fn read_height_class<R: ReadClasses<A>, A: Allocator + Clone, L: Ledger>(
-    alloc: A,
     input: &SymbolInput<'_, A>,
     symbols: &mut NewSymbols<A>,
     readings: &mut R,
@@ -148,7 +145,7 @@ fn read_height_class<R: ReadClasses<A>, A: Allocator + Clone, L: Ledger>(
     let before = symbols.bitmaps.len();
     let empty = symbols.empty;
     let class = HeightClass { height, empty };
-    match readings.class_of_height(alloc, input, class, &mut symbols.bitmaps, work) {
+    match readings.class_of_height(input, class, &mut symbols.bitmaps, work) {
         Ok(()) => {}
         Err(error) => return Err(error),
     }
@@ -171,7 +168,7 @@ pub fn read_new_symbols<R: ReadClasses<A>, A: Allocator + Clone, L: Ledger>(
         PaidBut (number_steps (5 * most)) work.old work.new }
 {
     let mut symbols = NewSymbols {
-        bitmaps: Vec::new(alloc.clone()?),
+        bitmaps: Vec::new(alloc),
         height: 0,
         empty: 0,
     };
@@ -180,7 +177,7 @@ pub fn read_new_symbols<R: ReadClasses<A>, A: Allocator + Clone, L: Ledger>(
         if symbols.bitmaps.len() >= input.header.num_new_symbols as usize {
             break;
         }
-        match read_height_class(alloc.clone()?, input, &mut symbols, readings, work) {
+        match read_height_class(input, &mut symbols, readings, work) {
             Ok(()) => {}
             Err(error) => return Err(error),
         }

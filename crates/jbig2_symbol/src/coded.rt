@@ -77,18 +77,17 @@ impl<A: Allocator + Clone> CodedSymbols<'_, A> {
     #[tactic(auto, unfolding(crate::specs::SymbolBitmaps::coded_symbol))]
     fn decode_symbol<L: Ledger>(
         &mut self,
-        alloc: A,
         header: &SymbolDictionaryHeader<'_>,
-        width: u32,
-        height: u32,
+        size: SymbolSize,
         work: &mut Work<L>,
     ) -> Result<Bitmap<A>>
         ensures value { let h = header_view header.now in
-            let meant = coded_symbol h width height (coded_view self.old) in
+            let meant = coded_symbol h size.width size.height (coded_view self.old) in
             Gives (λ symbol. (symbol, coded_view self.new)) result meant }
         ensures paid { Paid work.old work.new }
     {
-        let mut bitmap = new_symbol(alloc, width, height, work)?;
+        let alloc = self.contexts.refining.allocator().clone()?;
+        let mut bitmap = new_symbol(alloc, size.width, size.height, work)?;
         decode_coded(
             self.contexts.template,
             false,
@@ -104,7 +103,6 @@ impl<A: Allocator + Clone> CodedSymbols<'_, A> {
     /// Reads a symbol of this many instances.
     fn read_instances<L: Ledger>(
         &mut self,
-        alloc: A,
         params: &TextParams<'_, A>,
         size: SymbolSize,
         work: &mut Work<L>,
@@ -118,17 +116,16 @@ impl<A: Allocator + Clone> CodedSymbols<'_, A> {
         let readings = &mut self.coded;
         let refining = &mut self.contexts.refining;
         if params.num_instances != 1 {
-            return put_together(alloc, readings, refining, params, size, work);
+            return put_together(readings, refining, params, size, work);
         }
         let id = readings.next_id(work);
-        refine_alone(alloc, readings, refining, &params.symbols, id, size, work)
+        refine_alone(readings, refining, &params.symbols, id, size, work)
     }
 
     /// Reads a symbol that is refined from another one or aggregated from several (T.88, 6.5.8.2).
     #[tactic(auto, using(crate::proofs::SymbolCauses::coded_aggregate_cause), unfolding(crate::specs::SymbolBitmaps::coded_aggregate, crate::specs::SymbolBitmaps::instance_count))]
     fn read_aggregate<L: Ledger>(
         &mut self,
-        alloc: A,
         input: &SymbolInput<'_, A>,
         new: &[Bitmap<A>],
         size: SymbolSize,
@@ -144,28 +141,7 @@ impl<A: Allocator + Clone> CodedSymbols<'_, A> {
     {
         let count = instance_count(self.number(IntegerProcedure::Iaai, work)?)?;
         let params = aggregate_params(input, new, count);
-        self.read_instances(alloc, &params, size, work)
-    }
-
-    /// Reads a symbol's bitmap (T.88, 6.5.8), as the dictionary's flags say.
-    #[tactic(auto, unfolding(crate::specs::SymbolCoding::coded_bitmap))]
-    fn read_bitmap<L: Ledger>(
-        &mut self,
-        alloc: A,
-        input: &SymbolInput<'_, A>,
-        new: &[Bitmap<A>],
-        size: SymbolSize,
-        work: &mut Work<L>,
-    ) -> Result<Bitmap<A>>
-        ensures value { let d = input_view input.now in
-            let meant = coded_bitmap d new.now size.width size.height (coded_view self.old) in
-            Gives (λ symbol. (symbol, coded_view self.new)) result meant }
-        ensures paid { PaidBut (number_steps 4) work.old work.new }
-    {
-        if input.header.flags.use_refagg {
-            return self.read_aggregate(alloc, input, new, size, work);
-        }
-        self.decode_symbol(alloc, input.header, size.width, size.height, work)
+        self.read_instances(&params, size, work)
     }
 }
 
@@ -189,15 +165,18 @@ impl<A: Allocator + Clone> ReadSymbols<A> for CodedSymbols<'_, A> {
         self.number(IntegerProcedure::Iadw, work)
     }
 
+    #[tactic(auto, unfolding(crate::specs::SymbolCoding::coded_bitmap))]
     fn symbol_bitmap<L: Ledger>(
         &mut self,
-        alloc: A,
         input: &SymbolInput<'_, A>,
         new: &[Bitmap<A>],
         size: SymbolSize,
         work: &mut Work<L>,
     ) -> Result<Bitmap<A>> {
-        self.read_bitmap(alloc, input, new, size, work)
+        if input.header.flags.use_refagg {
+            return self.read_aggregate(input, new, size, work);
+        }
+        self.decode_symbol(input.header, size, work)
     }
 }
 
@@ -223,13 +202,12 @@ impl<A: Allocator + Clone> ReadClasses<A> for CodedSymbols<'_, A> {
 
     fn class_of_height<L: Ledger>(
         &mut self,
-        alloc: A,
         input: &SymbolInput<'_, A>,
         class: HeightClass,
         bitmaps: &mut Vec<Bitmap<A>, A>,
         work: &mut Work<L>,
     ) -> Result<()> {
-        read_drawn_class(alloc, input, class, bitmaps, self, work)
+        read_drawn_class(input, class, bitmaps, self, work)
     }
 
     fn export_run<L: Ledger>(

@@ -15,7 +15,7 @@ use crate::input::SymbolInput;
 use crate::readings::ReadClasses;
 use jbig2_base::bitmap::Bitmap;
 use jbig2_base::bitmap::steps::Work;
-use jbig2_base::error::{DecodeError, HuffmanError, Result, SymbolError};
+use jbig2_base::error::{HuffmanError, Result, SymbolError};
 use std::alloc::Allocator;
 use std::sync::ledger::Ledger;
 
@@ -42,23 +42,23 @@ fn read_run<R: ReadClasses<A>, A: Allocator + Clone, L: Ledger>(
     ensures paid { PaidBut (number_steps 1) work.old work.new }
 {
     let Some(number) = readings.export_run(input, work)? else {
-        return Err(DecodeError::Huffman(HuffmanError::UnexpectedOob));
+        return Err(HuffmanError::UnexpectedOob.into());
     };
     if number < 0 {
-        return Err(DecodeError::Huffman(HuffmanError::InvalidCode));
+        return Err(HuffmanError::InvalidCode.into());
     }
     let run = number as u32;
     if run == 0 && empty >= MAX_EMPTY {
-        return Err(DecodeError::Symbol(SymbolError::Invalid));
+        return Err(SymbolError::Invalid.into());
     }
     if run as u64 > left {
-        return Err(DecodeError::Symbol(SymbolError::OutOfRange));
+        return Err(SymbolError::OutOfRange.into());
     }
     Ok(run)
 }
 
-/// Reads the runs, until they cover `count` symbols. The runs before and after an empty one are joined,
-/// so there are hardly more than there are symbols.
+/// Reads the runs, until they cover `count` symbols. The runs before and after an empty one are
+/// joined, so there are hardly more than there are symbols.
 pub fn read_runs<R: ReadClasses<A>, M: Allocator, A: Allocator + Clone, L: Ledger>(
     alloc: M,
     input: &SymbolInput<'_, A>,
@@ -144,7 +144,6 @@ fn duplicate_symbol<A: Allocator, S: Allocator, L: Ledger>(
 
 /// Adds copies of `count` symbols, from number `first` on, to those that are exported so far.
 fn push_symbols<A: Allocator + Clone, S: Allocator, L: Ledger>(
-    alloc: A,
     symbols: &[&Bitmap<S>],
     new: &[Bitmap<A>],
     first: usize,
@@ -159,7 +158,8 @@ fn push_symbols<A: Allocator + Clone, S: Allocator, L: Ledger>(
     ensures paid { Paid work.old work.new }
 {
     for k in 0..count {
-        exported.push(duplicate_symbol(alloc.clone()?, symbols, new, first + k, work)?)?;
+        let alloc = Vec::allocator(exported).clone()?;
+        exported.push(duplicate_symbol(alloc, symbols, new, first + k, work)?)?;
     }
     Ok(())
 }
@@ -177,20 +177,12 @@ pub fn export_symbols<A: Allocator + Clone, S: Allocator, L: Ledger>(
         Gives (λ symbols. symbols.items) result meant }
     ensures paid { Paid work.old work.new }
 {
-    let mut exported = Vec::new(alloc.clone()?);
+    let mut exported = Vec::new(alloc);
     let mut first = 0;
     for (k, run) in runs.iter().enumerate() {
         let count = *run as usize;
         if k % 2 == 1 {
-            match push_symbols(
-                alloc.clone()?,
-                symbols,
-                new,
-                first,
-                count,
-                &mut exported,
-                work,
-            ) {
+            match push_symbols(symbols, new, first, count, &mut exported, work) {
                 Ok(()) => {}
                 Err(error) => return Err(error),
             }
@@ -200,7 +192,8 @@ pub fn export_symbols<A: Allocator + Clone, S: Allocator, L: Ledger>(
     Ok(exported)
 }
 
-/// Does the same, but moves the new symbols where exactly these are exported, instead of copying them.
+/// Does the same, but moves the new symbols where exactly these are exported, instead of copying
+/// them.
 #[tactic(auto, using(crate::proofs::ExportedLemmas::exported_new))]
 fn take_exports<A: Allocator + Clone, S: Allocator, L: Ledger>(
     alloc: A,
@@ -246,7 +239,7 @@ pub fn read_exports<R: ReadClasses<A>, A: Allocator + Clone, L: Ledger>(
     let runs = read_runs(alloc.clone()?, input, count, readings, work)?;
     let exported = take_exports(alloc, &runs, input.symbols, new, work)?;
     if exported.len() != input.header.num_exported_symbols as usize {
-        return Err(DecodeError::Symbol(SymbolError::NoSymbols));
+        return Err(SymbolError::NoSymbols.into());
     }
     Ok(exported)
 }

@@ -28,7 +28,7 @@ use crate::readings::{HeightClass, ReadClasses, ReadSymbols};
 use crate::widths::read_widths;
 use jbig2_base::bitmap::steps::Work;
 use jbig2_base::bitmap::{Bitmap, MAX_DIMENSION};
-use jbig2_base::error::{DecodeError, HuffmanError, OverflowError, ParseError, Result};
+use jbig2_base::error::{HuffmanError, OverflowError, ParseError, Result};
 use jbig2_base::field::bits_field;
 use jbig2_base::reader::Reader;
 use jbig2_coder::huffman_table::HuffmanTable;
@@ -38,7 +38,6 @@ use std::sync::ledger::Ledger;
 
 /// Reads a symbol by prefix codes. A single instance has an id of this many bits.
 fn read_by_instances<A: Allocator + Clone, L: Ledger>(
-    alloc: A,
     readings: &mut PrefixedReadings<'_, '_, A>,
     refining: &mut Refining<A>,
     id_bits: u8,
@@ -56,11 +55,11 @@ fn read_by_instances<A: Allocator + Clone, L: Ledger>(
     ensures paid { PaidBut (number_steps 2) work.old work.new }
 {
     if params.num_instances != 1 {
-        return put_together(alloc, readings, refining, params, size, work);
+        return put_together(readings, refining, params, size, work);
     }
-    let end = DecodeError::Parse(ParseError::UnexpectedEof);
+    let end = ParseError::UnexpectedEof.into();
     let id = i64::from(bits_field(&mut readings.reader, id_bits, end)?);
-    refine_alone(alloc, readings, refining, &params.symbols, id, size, work)
+    refine_alone(readings, refining, &params.symbols, id, size, work)
 }
 
 /// The place in the bits, and the contexts of bitmaps, which stay as they are, and of refinements.
@@ -93,7 +92,6 @@ impl<'a, A: Allocator + Clone> PrefixedSymbols<'a, A> {
     /// Reads a symbol of this many instances.
     fn read_instances<L: Ledger>(
         &mut self,
-        alloc: A,
         input: &SymbolInput<'_, A>,
         params: &TextParams<'_, A>,
         size: SymbolSize,
@@ -113,7 +111,7 @@ impl<'a, A: Allocator + Clone> PrefixedSymbols<'a, A> {
             ids: input.ids,
         };
         let refining = &mut self.contexts.refining;
-        match read_by_instances(alloc, &mut readings, refining, bits, params, size, work) {
+        match read_by_instances(&mut readings, refining, bits, params, size, work) {
             Ok(symbol) => {
                 self.reader = readings.reader;
                 Ok(symbol)
@@ -126,7 +124,6 @@ impl<'a, A: Allocator + Clone> PrefixedSymbols<'a, A> {
     #[tactic(auto, using(crate::proofs::SymbolCauses::prefixed_aggregate_cause), unfolding(crate::specs::SymbolBitmaps::prefixed_aggregate, crate::specs::SymbolBitmaps::instance_count))]
     fn read_aggregate<L: Ledger>(
         &mut self,
-        alloc: A,
         input: &SymbolInput<'_, A>,
         new: &[Bitmap<A>],
         size: SymbolSize,
@@ -144,7 +141,7 @@ impl<'a, A: Allocator + Clone> PrefixedSymbols<'a, A> {
     {
         let count = instance_count(self.number(input.tables.counts)?)?;
         let params = aggregate_params(input, new, count);
-        self.read_instances(alloc, input, &params, size, work)
+        self.read_instances(input, &params, size, work)
     }
 
     /// Reads the number of bytes of a collective bitmap, from the next whole byte on (T.88, 6.5.9).
@@ -229,7 +226,6 @@ impl<'a, A: Allocator + Clone> PrefixedSymbols<'a, A> {
     #[tactic(auto, unfolding(crate::specs::SymbolCoding::collective_class))]
     fn read_collective_class<L: Ledger>(
         &mut self,
-        alloc: A,
         input: &SymbolInput<'_, A>,
         class: HeightClass,
         bitmaps: &mut Vec<Bitmap<A>, A>,
@@ -245,6 +241,7 @@ impl<'a, A: Allocator + Clone> PrefixedSymbols<'a, A> {
         ensures exact { let before = bitmaps.old.items in
             OnOk result (PaysClass input.now before bitmaps.new.items 1 work.old work.new) }
     {
+        let alloc = Vec::allocator(bitmaps).clone()?;
         let room = input.header.num_new_symbols - bitmaps.len() as u32;
         let widths = read_widths(alloc.clone()?, input, room, self, work)?;
         check_class(widths.each.len(), class.empty)?;
@@ -280,13 +277,12 @@ impl<A: Allocator + Clone> ReadSymbols<A> for PrefixedSymbols<'_, A> {
 
     fn symbol_bitmap<L: Ledger>(
         &mut self,
-        alloc: A,
         input: &SymbolInput<'_, A>,
         new: &[Bitmap<A>],
         size: SymbolSize,
         work: &mut Work<L>,
     ) -> Result<Bitmap<A>> {
-        self.read_aggregate(alloc, input, new, size, work)
+        self.read_aggregate(input, new, size, work)
     }
 }
 
@@ -312,16 +308,15 @@ impl<A: Allocator + Clone> ReadClasses<A> for PrefixedSymbols<'_, A> {
 
     fn class_of_height<L: Ledger>(
         &mut self,
-        alloc: A,
         input: &SymbolInput<'_, A>,
         class: HeightClass,
         bitmaps: &mut Vec<Bitmap<A>, A>,
         work: &mut Work<L>,
     ) -> Result<()> {
         if input.header.flags.use_refagg {
-            return read_drawn_class(alloc, input, class, bitmaps, self, work);
+            return read_drawn_class(input, class, bitmaps, self, work);
         }
-        self.read_collective_class(alloc, input, class, bitmaps, work)
+        self.read_collective_class(input, class, bitmaps, work)
     }
 
     fn export_run<L: Ledger>(

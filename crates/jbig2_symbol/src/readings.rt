@@ -43,10 +43,10 @@ pub trait ReadSymbols<A: Allocator + Clone> {
             Returns (λ value. (value, state self.new)) result meant }
         ensures paid { PaidBut (number_steps 1) work.old work.new };
 
-    /// Reads the bitmap of a symbol, after these new symbols (T.88, 6.5.8).
+    /// Reads the bitmap of a symbol, after these new symbols (T.88, 6.5.8). It takes the allocator
+    /// of the contexts.
     fn symbol_bitmap<L: Ledger>(
         &mut self,
-        alloc: A,
         input: &SymbolInput<'_, A>,
         new: &[Bitmap<A>],
         size: SymbolSize,
@@ -82,7 +82,6 @@ pub trait ReadClasses<A: Allocator + Clone> {
     /// Reads a class, and adds its symbols to `bitmaps` (T.88, 6.5.5, step 4).
     fn class_of_height<L: Ledger>(
         &mut self,
-        alloc: A,
         input: &SymbolInput<'_, A>,
         class: HeightClass,
         bitmaps: &mut Vec<Bitmap<A>, A>,

@@ -17,7 +17,8 @@ pub record Refining : Type 0 where
 -- a symbol of this width and height, refined by a coder over these bytes (Table 12)
 unfoldable pub refined_by : Refining → Reference → ℕ → ℕ → List ℕ → Registers → Region
 refined_by f from width height bytes registers =
-    decoded_region (refinement_coding f.template false f.pixels from) width height bytes (no_pixels registers f.contexts)
+    decoded_region (refinement_coding f.template false f.pixels from) width height bytes
+    (no_pixels registers f.contexts)
 
 pub record Refined : Type 0 where  -- the symbol, and the coder and the contexts after it
   pub grid : Grid

@@ -1,5 +1,5 @@
--- Text regions (T.88, 6.4): instances of symbols, one after the other. The numbers of an instance are read, and then its
--- symbol is drawn. A coordinate that isn't a signed number of 32 bits is refused (our own rule).
+-- Text regions (T.88, 6.4): instances of symbols, one after the other. The numbers of an instance are read, and then
+-- its symbol is drawn. A coordinate that isn't a signed number of 32 bits is refused (our own rule).
 use Rattle.std.specs.Prelude.{ℕ, zero, suc, ◌-◌, ◌*◌, ◌^◌, nat_le, nat_lt, ◌==◌, Bool, true, false, ◌||◌, if◌then◌else◌}
 use Rattle.std.specs.Prelude.{ℤ, pos, negsuc, ◌+ℤ◌, ◌-ℤ◌, ◌*ℤ◌, List, slice_get, Option, Some, None}
 use Rattle.std.specs.Prelude.{Result, Ok, Err}

@@ -28,7 +28,8 @@ const INSTANCE: u64 = 256;
 /// How many instances there may be for each byte of a segment.
 const INSTANCES_PER_BYTE: usize = 32;
 
-/// Draws a symbol at CURS and at T, and returns the place after it. Without a symbol nothing changes.
+/// Draws a symbol at CURS and at T, and returns the place after it. Without a symbol nothing
+/// changes.
 fn draw_symbol<A: Allocator, L: Ledger>(
     flags: &TextRegionFlags,
     t: i32,

@@ -22,10 +22,7 @@ fn word_or(number: i64, error: DecodeError) -> Result<i32>
 fn coordinate(number: i64) -> Result<i32>
     ensures { Returns (λ n. n) result (coordinate number) }
 {
-    word_or(
-        number,
-        DecodeError::Overflow(OverflowError::PlacementCoordinate),
-    )
+    word_or(number, OverflowError::PlacementCoordinate.into())
 }
 
 /// The sum of a coordinate and a difference.
@@ -65,7 +62,7 @@ pub fn strips(count: i32, log: u8) -> Result<i32>
     let rows = 1_u32 << log;
     word_or(
         i64::from(count) * i64::from(rows),
-        DecodeError::Symbol(SymbolError::InvalidStripDelta),
+        SymbolError::InvalidStripDelta.into(),
     )
 }
 
@@ -88,6 +85,6 @@ pub fn reference_offset(growth: i32, difference: i32) -> Result<i32>
 {
     word_or(
         i64::from(growth >> 1) + i64::from(difference),
-        DecodeError::Overflow(OverflowError::ReferenceOffset),
+        OverflowError::ReferenceOffset.into(),
     )
 }

@@ -10,7 +10,7 @@ use crate::refining::Refining;
 use crate::tables::TextRegionHuffmanTables;
 use jbig2_base::bitmap::Bitmap;
 use jbig2_base::bitmap::steps::Work;
-use jbig2_base::error::{DecodeError, HuffmanError, ParseError, Result};
+use jbig2_base::error::{HuffmanError, ParseError, Result};
 use jbig2_base::field::{bits_field, bytes_field};
 use jbig2_base::reader::Reader;
 use jbig2_coder::arithmetic_decoder::ArithmeticDecoder;
@@ -62,11 +62,7 @@ impl<A: Allocator> ReadInstances for PrefixedReadings<'_, '_, A> {
     }
 
     fn t_bits<L: Ledger>(&mut self, log: u8, _work: &mut Work<L>) -> Result<i32> {
-        let bits = bits_field(
-            &mut self.reader,
-            log,
-            DecodeError::Huffman(HuffmanError::InvalidCode),
-        )?;
+        let bits = bits_field(&mut self.reader, log, HuffmanError::InvalidCode.into())?;
         Ok(bits as i32)
     }
 
@@ -76,11 +72,7 @@ impl<A: Allocator> ReadInstances for PrefixedReadings<'_, '_, A> {
     }
 
     fn is_refined<L: Ledger>(&mut self, _work: &mut Work<L>) -> Result<bool> {
-        let bit = bits_field(
-            &mut self.reader,
-            1,
-            DecodeError::Parse(ParseError::UnexpectedEof),
-        )?;
+        let bit = bits_field(&mut self.reader, 1, ParseError::UnexpectedEof.into())?;
         Ok(bit == 1)
     }
 

@@ -15,8 +15,8 @@ use jbig2_region::generic_refinement::ReferenceBitmap;
 use std::alloc::Allocator;
 use std::sync::ledger::Ledger;
 
-/// Reads the numbers of a text region, one after the other. The caller has already taken the work of a number, or of
-/// the bitmap that is refined.
+/// Reads the numbers of a text region, one after the other. The caller has already taken the work of
+/// a number, or of the bitmap that is refined.
 pub trait ReadInstances {
     ghost State: { Type 0 };
 

@@ -80,7 +80,8 @@ impl<A: Allocator> Refining<A> {
         })
     }
 
-    /// Refinements with contexts that have learned, as many as the template has, and these adaptive pixels, if any.
+    /// Refinements with contexts that have learned, as many as the template has, and these adaptive
+    /// pixels, if any.
     pub fn with_contexts(
         template: RefinementTemplate,
         pixels: Option<[AdaptiveTemplatePixel; 2]>,

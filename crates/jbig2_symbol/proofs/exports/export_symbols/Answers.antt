@@ -5,7 +5,7 @@ use Rattle.jbig2_steps.specs.Work.{worth}
 use Rattle.jbig2_symbol.specs.inner.SymbolViews.{all_symbols}
 use Rattle.jbig2_symbol.proofs.ExportedLemmas.{all-length, exported-even, exported-none, exported-odd, only-memory, sum-more, sum-within}
 use Rattle.jbig2_symbol.proofs.exports.export_symbols.Goals as goal
-use Rattle.jbig2_symbol.proofs.exports.export_symbols.Goals.{then-k-eq1+in_ok-clone-2+in-Ok, else-k-eq1}
+use Rattle.jbig2_symbol.proofs.exports.export_symbols.Goals.{then-k-eq1+in-Ok, else-k-eq1}
 
 pub loop-k-init : goal.loop-k-init
 loop-k-init g c = record { first = refl; pushed = exported-none c.args.runs.now (all_symbols c.args.symbols.now c.args.new.now) c.new-exported.result.items c.new-exported.ensures.items; paid = omega arith }
@@ -27,7 +27,7 @@ loop-k-preserved g c =
     record {
       first = sum-more runs c.loop-k.k c.loop-k.first run (omega arith) c.loop-k.invariant.first refl;
       pushed = elim c.if-k-eq1.branch [
-        | then-k-eq1+in_ok-clone-2+in-Ok w ↦
+        | then-k-eq1+in-Ok w ↦
             exported-odd runs all c.loop-k.exported.items c.if-k-eq1.exported.items c.loop-k.k c.loop-k.first run (omega arith) c.loop-k.invariant.first refl within (omega arith) c.loop-k.invariant.pushed
             (ap (λ v. v.items) w.exported-is ∙ sym (same-ok _ _ w.in-Ok.ensures.value))
         | else-k-eq1 w ↦
@@ -35,7 +35,7 @@ loop-k-preserved g c =
             ∙ exported-even runs all c.loop-k.exported.items c.loop-k.k c.loop-k.first run (omega arith) c.loop-k.invariant.first refl within (λ odd. omega arith) c.loop-k.invariant.pushed
       ];
       paid = elim c.if-k-eq1.branch [
-        | then-k-eq1+in_ok-clone-2+in-Ok w ↦ let p : worth c.if-k-eq1.work ≤ worth c.loop-k.work = rw w.work-is w.push_symbols.ensures.paid in omega (arith, p, c.loop-k.invariant.paid)
+        | then-k-eq1+in-Ok w ↦ let p : worth c.if-k-eq1.work ≤ worth c.loop-k.work = rw w.work-is w.push_symbols.ensures.paid in omega (arith, p, c.loop-k.invariant.paid)
         | else-k-eq1 w ↦ rw w.work-is c.loop-k.invariant.paid
       ];
     }

@@ -16,7 +16,7 @@ use Rattle.jbig2_symbol.proofs.coded.CodedSymbols.decode_symbol.Goals as goal
 pub returns-clause-value : goal.returns-clause-value
 returns-clause-value g c =
     let same = ap coded_view c.self.view_is in
-    filled-made (header_view c.args.header.now) _ (coded_view c.args.self.now) c.args.width c.args.height c.in_ok-bitmap.bitmap c.decode_coded.new.bitmap c.deref_mut.result.now c.decode_coded.new.decoder c.decode_coded.new.contexts _ c.symbol_pixels.result (whole-slice c.self.inside.0.1.0.generic.len c.decode_coded.new.contexts _ (c.decode_coded.auto.contexts ∙ c.deref_mut.ensures.len)) same (search rules) c.in_ok-bitmap.ensures.value c.symbol_pixels.ensures c.decode_coded.ensures.region
+    filled-made (header_view c.args.header.now) _ (coded_view c.args.self.now) c.args.size.width c.args.size.height c.in_ok-bitmap.bitmap c.decode_coded.new.bitmap c.deref_mut.result.now c.decode_coded.new.decoder c.decode_coded.new.contexts _ c.symbol_pixels.result (whole-slice c.self.inside.0.1.0.generic.len c.decode_coded.new.contexts _ (c.decode_coded.auto.contexts ∙ c.deref_mut.ensures.len)) same (search rules) c.in_ok-bitmap.ensures.value c.symbol_pixels.ensures c.decode_coded.ensures.region
 
 pub returns-clause-paid : goal.returns-clause-paid
 returns-clause-paid g c =
