@@ -79,7 +79,7 @@ result-refinement P m bytes rest k from why = on (m == 0) why
     on true why =
         result-next P (At bytes (k + 2)) (At bytes (k + 4)) (free_pixel_at rest) _ (result-free P bytes k rest from (λ short. why (omega (arith, short)))) (λ first at.
         let same : k + 2 + 2 ≡ k + 4 = omega arith in
-        result-next P (At bytes (k + 2 + 2)) (At bytes (k + 4)) (free_pixel_at first.1) _ (result-free P bytes (k + 2) first.1 at (λ short. why (omega (arith, short)))) (λ second behind. subst (λ (n : ℕ). IsAtPlace bytes n second.1) same behind))
+        result-next P (At bytes (k + 2 + 2)) (At bytes (k + 4)) (free_pixel_at first.1) _ (result-free P bytes (k + 2) first.1 at (λ short. why (omega (arith, short)))) (λ second after. subst (λ (n : ℕ). IsAtPlace bytes n second.1) same after))
     on false why = subst (λ (n : ℕ). IsAtPlace bytes n rest) (omega arith) from
 
 result-refined : (P : DecodeError → Type 0) (some : Bool) (m : ℕ) (none : List AdaptiveTemplatePixel) (bytes rest : List ℕ) (k : ℕ) → IsAtPlace bytes k rest → (length bytes < k + (if some && m == 0 then 4 else 0) → P end_of_bytes)
@@ -160,15 +160,15 @@ symbol_header_causes strict bytes =
     let n : ℕ = number.0 in
     let Q : DecodeError → Type 0 = BreaksSymbolFields n bytes in
     cause-more Q P _
-    (cause-last Q (FlagsOf n) (symbol_flags_of n) _ (result-flags Q n (λ two. (field.behind.within, two))) (λ flags is.
+    (cause-last Q (FlagsOf n) (symbol_flags_of n) _ (result-flags Q n (λ two. (field.after.within, two))) (λ flags is.
     let k : ℕ = 2 + pixel_bytes n in
-    let pixels-read : IfResult (coded_pixels_at flags number.1) Q (At bytes k) = coded-here Q n flags bytes number.1 is field.behind (λ short. omega (arith, short)) (λ odd late. (λ one. false≢true (sym odd ∙ eq-eqb (n % 2) 1 one), late)) in
+    let pixels-read : IfResult (coded_pixels_at flags number.1) Q (At bytes k) = coded-here Q n flags bytes number.1 is field.after (λ short. omega (arith, short)) (λ odd late. (λ one. false≢true (sym odd ∙ eq-eqb (n % 2) 1 one), late)) in
     cause-last Q (At bytes k) (coded_pixels_at flags number.1) _ pixels-read (λ pixels at.
-    cause-last Q (At bytes (counts_place n)) (refined_pixels_at flags pixels.1) _ (refined-here Q n flags bytes pixels.1 k is at (λ short. omega (arith, short))) (λ refined behind.
-    cause-last Q (Number w32 bytes (counts_place n)) (number_at w32 refined.1) _ (result-number Q w32 behind (λ short. omega (arith, short))) (λ exported first.
-    cause-last Q (Number w32 bytes (counts_place n + 4)) (number_at w32 exported.1) _ (result-number Q w32 first.behind (λ short. omega (arith, short))) (λ fresh second.
+    cause-last Q (At bytes (counts_place n)) (refined_pixels_at flags pixels.1) _ (refined-here Q n flags bytes pixels.1 k is at (λ short. omega (arith, short))) (λ refined after.
+    cause-last Q (Number w32 bytes (counts_place n)) (number_at w32 refined.1) _ (result-number Q w32 after (λ short. omega (arith, short))) (λ exported first.
+    cause-last Q (Number w32 bytes (counts_place n + 4)) (number_at w32 exported.1) _ (result-number Q w32 first.after (λ short. omega (arith, short))) (λ fresh second.
     let many : Bool = nat_lt 1048576 exported.0 || nat_lt 1048576 fresh.0 in
-    let whole : counts_place n + 8 ≤ length bytes = omega (arith, second.behind.within) in
+    let whole : counts_place n + 8 ≤ length bytes = omega (arith, second.after.within) in
     cause-last Q (λ x. many ≡ false) (refuse_if many (errors.Overflow SymbolCount)) _ (result-refused Q many (errors.Overflow SymbolCount) (λ over. (whole, too-many exported.0 fresh.0 _ _ (sym first.value) (sym second.value) over))) (λ few is_few. tt)))))))
     (λ e broken. subst (λ (m : ℕ). BreaksSymbolFields m bytes e) (sym field.value) broken))
 

@@ -123,9 +123,9 @@ collective-made d height empty total before after widths collective s t u result
     rw (read, few, drawn') (cut-with (symbols_cut collective height 0 widths) before u result after cut)
 
 -- ---- the classes
-behind-more : {S : Type 0} (before symbols : List Grid) (result : Result (List Grid × S) DecodeError) → concat before (result >>= λ others. Ok (symbols ++ others.0, others.1)) ≡ concat (before ++ symbols) result
-behind-more before symbols (Ok others) = ap (λ (all : List Grid). Ok (all, others.1)) (sym (append_assoc before symbols others.0))
-behind-more before symbols (Err e) = refl
+after-more : {S : Type 0} (before symbols : List Grid) (result : Result (List Grid × S) DecodeError) → concat before (result >>= λ others. Ok (symbols ++ others.0, others.1)) ≡ concat (before ++ symbols) result
+after-more before symbols (Ok others) = ap (λ (all : List Grid). Ok (all, others.1)) (sym (append_assoc before symbols others.0))
+after-more before symbols (Err e) = refl
 
 pub classes-none : {S : Type 0} (r : ClassReadings S) (d : SymbolInput) (n before empty : ℕ) (new : List Grid) (s : S) → n ≡ 0 → concat new (classes_from r d n before empty new s) ≡ Ok (new, s)
 unfolding classes_from
@@ -148,7 +148,7 @@ after-made {S} r d n empty height count new after t (Ok class) e =
     let high : class.0 ≡ height = ap (λ (p : List Grid × (ℕ × (ℕ × S))). p.1.0) same in
     let few : empty_with class.1 empty ≡ count = ap (λ (p : List Grid × (ℕ × (ℕ × S))). p.1.1.0) same in
     let left : class.2 ≡ t = ap (λ (p : List Grid × (ℕ × (ℕ × S))). p.1.1.1) same in
-    behind-more new class.1 (classes_from r d n class.0 (empty_with class.1 empty) (new ++ class.1) class.2)
+    after-more new class.1 (classes_from r d n class.0 (empty_with class.1 empty) (new ++ class.1) class.2)
     ∙ ap (λ (x : List Grid). concat x (classes_from r d n class.0 (empty_with class.1 empty) x class.2)) all
     ∙ ap (λ (x : ℕ). concat after (classes_from r d n x (empty_with class.1 empty) after class.2)) high
     ∙ ap (λ (x : ℕ). concat after (classes_from r d n height x after class.2)) few

@@ -111,10 +111,10 @@ coded_aggregate_cause d new width height s r =
 refused-value : (table : List Member) (s : SymbolState Place) (e : DecodeError) → by_table table s ≡ Err e → RefusesValue table (bits_left s.coding) e
 refused-value table s e = on (decoded_value table (bits_left s.coding)).result
   where
-    behind : SymbolState Place
-    behind = record s { coding = bits_on (decoded_value table (bits_left s.coding)).taken s.coding }
+    after : SymbolState Place
+    after = record s { coding = bits_on (decoded_value table (bits_left s.coding)).taken s.coding }
 
-    on : (result : Result (Option ℤ) DecodeError) → (result >>= λ value. (let x : Result (Option ℤ × SymbolState Place) DecodeError = Ok (value, behind) in x)) ≡ Err e → result ≡ Err e
+    on : (result : Result (Option ℤ) DecodeError) → (result >>= λ value. (let x : Result (Option ℤ × SymbolState Place) DecodeError = Ok (value, after) in x)) ≡ Err e → result ≡ Err e
     on (Ok value) is = absurd cc
     on (Err f) is = cc
 

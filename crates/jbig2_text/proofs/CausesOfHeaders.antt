@@ -50,7 +50,7 @@ record Flags (bytes : List ℕ) (x : (Bool × TextRegionFlags) × List ℕ) : Ty
   coded : x.0.0 ≡ eqb (text_flags_in bytes % 2) 1
   refined : x.0.1.use_refinement ≡ eqb (text_flags_in bytes / 2 % 2) 1
   template : x.0.1.refinement_template ≡ refinement_template_of (text_flags_in bytes / 32768)
-  behind : IsAtPlace bytes 19 x.1
+  after : IsAtPlace bytes 19 x.1
 
 result-flags : (P : DecodeError → Type 0) (bytes rest : List ℕ) → IsAtPlace bytes 17 rest → (length bytes < 19 → P end_of_bytes) → IfResult (text_flags_at rest) P (Flags bytes)
 unfolding text_flags_at
@@ -61,7 +61,7 @@ result-flags P bytes rest s short =
       coded = ap (λ (f : ℕ). eqb (f % 2) 1) (sym n.value);
       refined = ap (λ (f : ℕ). eqb (f / 2 % 2) 1) (sym n.value);
       template = ap (λ (f : ℕ). refinement_template_of (f / 32768)) (sym n.value);
-      behind = there bytes (17 + 2) 19 flags.1 (omega arith) n.behind;
+      after = there bytes (17 + 2) 19 flags.1 (omega arith) n.after;
     }))
 
 -- ---- the fields after them
@@ -69,7 +69,7 @@ result-tables : (P : DecodeError → Type 0) (coded : Bool) (bytes rest : List �
     → IfResult (table_numbers_at coded rest) P (λ x. (is_some x.0 ≡ coded) × IsAtPlace bytes (cond coded 21 19) x.1)
 result-tables P true bytes rest s short =
     let Q : Option TextRegionHuffmanFlags × List ℕ → Type 0 = λ x. (is_some x.0 ≡ true) × IsAtPlace bytes 21 x.1 in
-    result-next P _ Q (number_at w16 rest) _ (result-number P w16 s (λ missing. short (omega (arith, missing)))) (λ flags n. (refl, there bytes (19 + 2) 21 flags.1 (omega arith) n.behind))
+    result-next P _ Q (number_at w16 rest) _ (result-number P w16 s (λ missing. short (omega (arith, missing)))) (λ flags n. (refl, there bytes (19 + 2) 21 flags.1 (omega arith) n.after))
 result-tables P false bytes rest s short = (refl, s)
 
 pub result-free : (P : DecodeError → Type 0) (bytes : List ℕ) (place : ℕ) (rest : List ℕ) → IsAtPlace bytes place rest → (length bytes < place + 2 → P end_of_bytes)
@@ -102,12 +102,12 @@ result-fields P bytes rest s short =
     let Q : TextFields × List ℕ → Type 0 = λ x. (is_some x.0.table_numbers ≡ eqb (f % 2) 1) × IsAtPlace bytes (fields_length bytes) x.1 in
     result-next P _ Q (text_flags_at rest) _ (result-flags P bytes rest s (λ missing. short (omega (arith, missing, late f)))) (λ flags a.
     let place_is : cond flags.0.0 21 19 ≡ pixels_place f = ap (λ (b : Bool). cond b 21 19) a.coded in
-    result-next P _ Q (table_numbers_at flags.0.0 flags.1) _ (result-tables P flags.0.0 bytes flags.1 a.behind (λ missing. short (omega (arith, missing, place_is)))) (λ tables b.
+    result-next P _ Q (table_numbers_at flags.0.0 flags.1) _ (result-tables P flags.0.0 bytes flags.1 a.after (λ missing. short (omega (arith, missing, place_is)))) (λ tables b.
     let pixels = result-pixels P (eqb (f / 2 % 2) 1) (eqb (f / 32768) 0) bytes (pixels_place f) tables.1 (there bytes (cond flags.0.0 21 19) (pixels_place f) tables.1 place_is b.1) (λ missing. short (omega (arith, missing))) in
     let R : List AdaptiveTemplatePixel × List ℕ → Type 0 = λ x. IsAtPlace bytes (count_place f) x.1 in
     let read : IfResult (text_pixels_at flags.0.1.use_refinement flags.0.1.refinement_template tables.1) P R = rw a.refined (rw a.template pixels) in
     result-next P R Q (text_pixels_at flags.0.1.use_refinement flags.0.1.refinement_template tables.1) _ read (λ two c.
-    result-next P _ Q (number_at w32 two.1) _ (result-number P w32 c (λ missing. short (omega (arith, missing)))) (λ instances d. (b.0 ∙ a.coded, d.behind)))))
+    result-next P _ Q (number_at w32 two.1) _ (result-number P w32 c (λ missing. short (omega (arith, missing)))) (λ instances d. (b.0 ∙ a.coded, d.after)))))
 
 -- ---- the codes of the ids
 cause-coding : (P : DecodeError → Type 0) (tables : Option TextRegionHuffmanFlags) (symbols : ℕ) (bytes rest : List ℕ) → is_some tables ≡ eqb (text_flags_in bytes % 2) 1

@@ -142,9 +142,9 @@ cause-edge : (P : DecodeError → Type 0) (at_last : Bool) (side : ℕ) (place :
 cause-edge P at_last side place leaves =
     cause-if P at_last _ (Ok place) (λ is. cause-of P _ (coordinate (place -ℤ last_offset side)) (result-word P _ (place -ℤ last_offset side) (leaves is))) (λ first. tt)
 
-cause-behind : (P : DecodeError → Type 0) (flags : TextRegionFlags) (g : Grid) (curs si : ℤ) → si_of flags g curs ≡ si → (LeavesWord (other_end flags g curs) → P (Overflow PlacementCoordinate))
+cause-after : (P : DecodeError → Type 0) (flags : TextRegionFlags) (g : Grid) (curs si : ℤ) → si_of flags g curs ≡ si → (LeavesWord (other_end flags g curs) → P (Overflow PlacementCoordinate))
     → IfErr (s_after flags g si) P
-cause-behind P flags g curs si si_is leaves =
+cause-after P flags g curs si si_is leaves =
     let last : Bool = is_last_along_s flags in
     cause-if P last (Ok si) (far_end flags g si) (λ is. tt)
     (λ is. let same : si ≡ curs = sym si_is ∙ cond-false last (other_end flags g curs) curs is in
@@ -158,7 +158,7 @@ cause-placed P flags g curs ti leaves =
     (cause-edge P (is_right flags.reference_corner) g.width (cond flags.transposed ti si) (λ is large. leaves (inr (inl (is, rw si_is large))))) (λ x x_is.
     cause-next P (edge (is_bottom flags.reference_corner) g.height (cond flags.transposed si ti)) _
     (cause-edge P (is_bottom flags.reference_corner) g.height (cond flags.transposed si ti) (λ is large. leaves (inr (inr (is, rw si_is large))))) (λ y y_is.
-    cause-next P (s_after flags g si) _ (cause-behind P flags g curs si si_is (λ large. leaves (inl large))) (λ next next_is. tt))))
+    cause-next P (s_after flags g si) _ (cause-after P flags g curs si si_is (λ large. leaves (inl large))) (λ next next_is. tt))))
 
 cause-with : (P : DecodeError → Type 0) (flags : TextRegionFlags) (region : Grid) (at : Cursor) (ti : ℤ) (o : Option Grid)
     → ((g : Grid) → o ≡ Some g → APlaceLeaves flags g at.cur_s ti → P (Overflow PlacementCoordinate)) → IfErr (with_symbol flags region at ti o) P
