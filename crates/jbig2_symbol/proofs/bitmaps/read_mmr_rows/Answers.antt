@@ -21,4 +21,4 @@ returns-clause-paid g c =
     omega (arith, more, c.in_ok-pay.ensures.taken, c.in_ok-pay_bitmap.ensures.taken, bytes-many c.args.size c.args.reader.now.bytes c.in_ok-bytes.bytes.now _ c.in_ok-bytes.ensures.parses.value, price-same b.width c.args.sides.width b.height c.args.sides.height (search rules) (search rules))
 
 pub returns-clause-place : goal.returns-clause-place
-returns-clause-place g c = bytes_read-start (Ok tt) c.args.size c.args.reader.now c.bytes_field.new.reader c.in_ok-bytes.ensures.place c.in_ok-bytes.ensures.taken
+returns-clause-place g c = bytes_read-start (Ok c.in_ok-bytes.bytes.now) c.args.size c.args.reader.now c.bytes_field.new.reader c.in_ok-bytes.ensures.place c.in_ok-bytes.ensures.taken
