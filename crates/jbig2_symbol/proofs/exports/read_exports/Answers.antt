@@ -23,8 +23,10 @@ returns-in_err-runs-clause-causes g c =
 pub returns-then-len-input-clause-value : goal.returns-then-len-input-clause-value
 returns-then-len-input-clause-value g c =
     let r = g.R.ReadClasses in
-    inr (exports-other r.readings (input_view c.args.input.now) c.args.input.now.symbols.now c.args.new.items _ (r.state c.args.readings.now) (r.state c.read_runs.new.readings) c.in_ok-runs.runs.items c.deref.result.now c.in_ok-exported.exported.items c.len-2.result
-    (omega (arith, c.len.ensures)) c.in_ok-runs.ensures.value c.deref.ensures.value c.in_ok-exported.ensures.value (omega (arith, c.len-2.ensures)) (search rules))
+    let other =
+    exports-other r.readings (input_view c.args.input.now) c.args.input.now.symbols.now c.args.new.items _ (r.state c.args.readings.now) (r.state c.read_runs.new.readings) c.in_ok-runs.runs.items c.deref.result.now c.in_ok-exported.exported.items c.len-2.result
+    (omega (arith, c.len.ensures)) c.in_ok-runs.ensures.value c.deref.ensures.value c.in_ok-exported.ensures.value (omega (arith, c.len-2.ensures)) (search rules) in
+    grind (arith, other)
 
 pub returns-then-len-input-clause-causes : goal.returns-then-len-input-clause-causes
 returns-then-len-input-clause-causes g c =
