@@ -16,7 +16,7 @@ use Rattle.jbig2_base.specs.declared.error.SegmentError.TheVariants as segments
 use Rattle.jbig2_base.specs.declared.file_header.FileHeader.{FileHeader}
 use Rattle.jbig2_base.specs.declared.reading.Reading.{Reading}
 use Rattle.jbig2_base.specs.declared.reading.Reading.TheVariants as readings
-use Rattle.jbig2_base.proofs.Answered.{IsAnswered}
+use Rattle.jbig2_base.proofs.FromInput.{IsFromInput}
 use Rattle.jbig2_base.proofs.CauseSteps.{call-cause, call-cause-or-memory}
 use Rattle.jbig2_base.proofs.Causes.{cause-next, cause-refused}
 use Rattle.jbig2_base.proofs.InitialCauses.{initial_page_causes}
@@ -25,7 +25,7 @@ use Rattle.jbig2_symbol.proofs.ReadingCauses.{in-steps}
 use Rattle.hayro_jbig2.specs.Causes.{BreaksBook, BreaksFirstPage, BreaksPages}
 use Rattle.hayro_jbig2.specs.Files.{PageInFile, ReadFile, associated, book_at, by_pages, ends_of, before_pages, pages_in_file, page_in_file, lacks_page, miscounts, needs_page, page_in, page_of}
 use Rattle.hayro_jbig2.specs.Page.{ReadPage, beginning_of}
-use Rattle.hayro_jbig2.proofs.Answered.{answered-beginning}
+use Rattle.hayro_jbig2.proofs.FromInput.{from_input-beginning}
 use Rattle.hayro_jbig2.proofs.Salvaging.{left-out}
 
 -- ---- places
@@ -67,7 +67,7 @@ begins-cause P readings.Strict own begins =
 begins-cause P readings.Lenient own begins =
     cause-more (BreaksInitialPage own) (λ e. is_salvaged readings.Lenient e ≡ false → P e) (initial_page_of own) (initial_page_causes own) (λ e broken kept. begins e kept broken)
 begins-cause P readings.Salvage own begins =
-    cause-more IsAnswered (λ e. is_salvaged readings.Salvage e ≡ false → P e) (beginning_of readings.Salvage own) (answered-beginning readings.Salvage own) (λ e answered kept. absurd (false≢true (sym kept ∙ left-out e answered)))
+    cause-more IsFromInput (λ e. is_salvaged readings.Salvage e ≡ false → P e) (beginning_of readings.Salvage own) (from_input-beginning readings.Salvage own) (λ e from_input kept. absurd (false≢true (sym kept ∙ left-out e from_input)))
 
 filed-cause : (P : DecodeError → Type 0) (reading : Reading) (own : List SegmentView)
     → (IsTrue (is_strict reading) → ends_of own ≢ 1 → P (errors.Format formats.InvalidEndOfPage))

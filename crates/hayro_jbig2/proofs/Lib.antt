@@ -4,8 +4,8 @@ mod AgreeingRegions
 mod AgreeingSegments
 mod AgreeingSymbols
 mod AgreeingTexts
-mod Answered
-pub mod Answering
+mod FromInput
+pub mod DrawingFromInput
 pub mod Books
 pub mod ByPages
 pub mod Causes

@@ -15,15 +15,15 @@ use Rattle.jbig2_base.specs.declared.file_header.FileOrganization.{FileOrganizat
 use Rattle.jbig2_base.specs.declared.file_header.FileOrganization.TheVariants.{Sequential, RandomAccess}
 use Rattle.jbig2_base.specs.declared.page_info.PageInformation.{PageInformation}
 use Rattle.jbig2_base.specs.declared.reading.Reading.TheVariants.{Lenient, Salvage}
-use Rattle.jbig2_base.proofs.Answered.{Answered, IsAnswered, answered-header, answered-segment, answered-segment_data}
+use Rattle.jbig2_base.proofs.FromInput.{FromInput, IsFromInput, from_input-header, from_input-segment, from_input-segment_data}
 use Rattle.hayro_jbig2.specs.Files.{PageInFile, associated, book_at, by_pages, before_pages, pages_in_file, page_in_file, shared_by}
 use Rattle.hayro_jbig2.specs.Lenient.{HasBeginning}
 use Rattle.hayro_jbig2.specs.Names.{Names, Shared, globals_at, kept_by, shared_from, no_names, nothing_shared, or_shared_without}
 use Rattle.hayro_jbig2.specs.Page.{Drawing, IsSide, beginning_of, ends_page, or_left_out, segment_by, segment_on, segments_drawn}
-use Rattle.hayro_jbig2.proofs.Answered.{answered-filed, answered-kept, answered-segment_by}
+use Rattle.hayro_jbig2.proofs.FromInput.{from_input-filed, from_input-kept, from_input-segment_by}
 
 -- each error that bytes can bring about is left out
-pub left-out : (e : DecodeError) → IsAnswered e → is_salvaged Salvage e ≡ true
+pub left-out : (e : DecodeError) → IsFromInput e → is_salvaged Salvage e ≡ true
 left-out errors.OutOfMemory never = absurd never
 left-out _ is = refl
 
@@ -39,7 +39,7 @@ fine-over (Ok x) f next is each = each x
 fine-over (Err e) f next is each = absurd (cc)
 
 -- ---- lists
-fine-on : (r : Result (SegmentView × List ℕ) DecodeError) (others : List ℕ → Result (List SegmentView) DecodeError) → Answered r → ((bytes : List ℕ) → IsFine (others bytes)) → IsFine (goes_on Salvage r others)
+fine-on : (r : Result (SegmentView × List ℕ) DecodeError) (others : List ℕ → Result (List SegmentView) DecodeError) → FromInput r → ((bytes : List ℕ) → IsFine (others bytes)) → IsFine (goes_on Salvage r others)
 fine-on (Ok x) others is rest =
     cond_both (is_end_of_file x.0.header.segment_type) (Ok (x.0 ∷ [])) (others x.1 >>= λ ps. Ok (x.0 ∷ ps)) (λ (r : Result (List SegmentView) DecodeError). IsFine r) (λ last. refl) (λ goes. fine-next (others x.1) _ (rest x.1) (λ ps. refl))
 fine-on (Err e) others is rest = rw (left-out e is) refl
@@ -49,12 +49,12 @@ unfolding segments_in
 fine-segments zero bytes = refl
 fine-segments (suc most) bytes =
     cond_both (eqb (length bytes) 0) (Ok []) (goes_on Salvage (segment_at false bytes) (segments_in most Salvage)) (λ (r : Result (List SegmentView) DecodeError). IsFine r) (λ none. refl)
-    (λ some. fine-on (segment_at false bytes) (segments_in most Salvage) (answered-segment false bytes) (fine-segments most))
+    (λ some. fine-on (segment_at false bytes) (segments_in most Salvage) (from_input-segment false bytes) (fine-segments most))
 
 pub fine-sequential : (bytes : List ℕ) → IsFine (sequential Salvage bytes)
 fine-sequential bytes = fine-segments (length bytes) bytes
 
-fine-header-on : (bytes : List ℕ) (r : Result (Header × List ℕ) DecodeError) (others : List ℕ → Result (List Header × List ℕ) DecodeError) → Answered r → ((rest : List ℕ) → IsFine (others rest)) → IsFine (header_goes_on Salvage bytes r others)
+fine-header-on : (bytes : List ℕ) (r : Result (Header × List ℕ) DecodeError) (others : List ℕ → Result (List Header × List ℕ) DecodeError) → FromInput r → ((rest : List ℕ) → IsFine (others rest)) → IsFine (header_goes_on Salvage bytes r others)
 fine-header-on bytes (Ok h) others is rest =
     cond_both (is_end_of_file h.0.segment_type) (Ok (h.0 ∷ [], h.1)) (others h.1 >>= λ hs. Ok (h.0 ∷ hs.0, hs.1)) (λ (r : Result (List Header × List ℕ) DecodeError). IsFine r) (λ last. refl) (λ goes. fine-next (others h.1) _ (rest h.1) (λ hs. refl))
 fine-header-on bytes (Err e) others is rest = rw (left-out e is) refl
@@ -64,22 +64,22 @@ unfolding headers_in
 fine-headers zero bytes = refl
 fine-headers (suc most) bytes =
     cond_both (eqb (length bytes) 0) (Ok ([], bytes)) (header_goes_on Salvage bytes (header_at false bytes) (headers_in most Salvage)) (λ (r : Result (List Header × List ℕ) DecodeError). IsFine r) (λ none. refl)
-    (λ some. fine-header-on bytes (header_at false bytes) (headers_in most Salvage) (answered-header false bytes) (fine-headers most))
+    (λ some. fine-header-on bytes (header_at false bytes) (headers_in most Salvage) (from_input-header false bytes) (fine-headers most))
 
-fine-before : (r : Result (SegmentView × List ℕ) DecodeError) (others : List ℕ → Result (List SegmentView) DecodeError) → Answered r → ((rest : List ℕ) → IsFine (others rest)) → IsFine (gathered_before Salvage r others)
+fine-before : (r : Result (SegmentView × List ℕ) DecodeError) (others : List ℕ → Result (List SegmentView) DecodeError) → FromInput r → ((rest : List ℕ) → IsFine (others rest)) → IsFine (gathered_before Salvage r others)
 fine-before (Ok p) others is rest = fine-next (others p.1) _ (rest p.1) (λ ps. refl)
 fine-before (Err e) others is rest = rw (left-out e is) refl
 
 fine-gathered : (hs : List Header) (bytes : List ℕ) → IsFine (gathered Salvage hs bytes)
 fine-gathered [] bytes = refl
-fine-gathered (h ∷ hs) bytes = fine-before (segment_data_at h bytes) (gathered Salvage hs) (answered-segment_data h bytes) (fine-gathered hs)
+fine-gathered (h ∷ hs) bytes = fine-before (segment_data_at h bytes) (gathered Salvage hs) (from_input-segment_data h bytes) (fine-gathered hs)
 
 pub fine-by : (organization : FileOrganization) (bytes : List ℕ) → IsFine (segments_by organization Salvage bytes)
 fine-by Sequential bytes = fine-sequential bytes
 fine-by RandomAccess bytes = fine-next (headers_in (length bytes) Salvage bytes) _ (fine-headers (length bytes) bytes) (λ hs. fine-gathered hs.0 hs.1)
 
 -- ---- globals
-fine-without : (number : ℕ) (shared : Shared) (r : Result Names DecodeError) → Answered r → IsFine (or_shared_without Salvage number shared r)
+fine-without : (number : ℕ) (shared : Shared) (r : Result Names DecodeError) → FromInput r → IsFine (or_shared_without Salvage number shared r)
 fine-without number shared (Ok names) is = refl
 fine-without number shared (Err e) is = rw (left-out e is) refl
 
@@ -87,7 +87,7 @@ pub fine-named : (ps : List SegmentView) (shared : Shared) → IsFine (shared_fr
 fine-named [] shared = refl
 fine-named (p ∷ ps) shared =
     let kept : Result Names DecodeError = kept_by false no_names p shared.names in
-    fine-next (or_shared_without Salvage p.header.segment_number shared kept) _ (fine-without p.header.segment_number shared kept (answered-kept false no_names p shared.names)) (λ more. fine-named ps more)
+    fine-next (or_shared_without Salvage p.header.segment_number shared kept) _ (fine-without p.header.segment_number shared kept (from_input-kept false no_names p shared.names)) (λ more. fine-named ps more)
 
 pub fine-globals : (bytes : List ℕ) → IsFine (globals_at Salvage bytes)
 unfolding globals_at
@@ -95,7 +95,7 @@ fine-globals bytes =
     fine-over (sequential Salvage bytes) _ _ (fine-sequential bytes) (λ ps. fine-named (by_number ps) (nothing_shared (fault_of Salvage (sequential Lenient bytes))))
 
 -- ---- pages
-fine-left : (number : ℕ) (d : Drawing) (r : Result Drawing DecodeError) → Answered r → IsFine (or_left_out Salvage number d r)
+fine-left : (number : ℕ) (d : Drawing) (r : Result Drawing DecodeError) → FromInput r → IsFine (or_left_out Salvage number d r)
 fine-left number d (Ok e) is = refl
 fine-left number d (Err e) is = rw (left-out e is) refl
 
@@ -103,14 +103,14 @@ pub fine-drawn : (globals : Names) (ps : List SegmentView) (d : Drawing) → IsF
 fine-drawn globals [] d = refl
 fine-drawn globals (p ∷ ps) d =
     cond_both (ends_page p.header.segment_type) (Ok d) (segment_on Salvage globals p d >>= λ e. segments_drawn Salvage globals ps e) (λ (r : Result Drawing DecodeError). IsFine r) (λ ends. refl)
-    (λ goes. fine-next (segment_on Salvage globals p d) _ (fine-left p.header.segment_number d (segment_by false globals p d) (answered-segment_by false globals p d)) (λ e. fine-drawn globals ps e))
+    (λ goes. fine-next (segment_on Salvage globals p d) _ (fine-left p.header.segment_number d (segment_by false globals p d) (from_input-segment_by false globals p d)) (λ e. fine-drawn globals ps e))
 
 -- ---- files
 fine-filed : (all : List (List SegmentView)) → IsFine (pages_in_file Salvage all)
 fine-filed [] = refl
-fine-filed (own ∷ others) = before (page_in_file Salvage own) (pages_in_file Salvage others) (answered-filed Salvage own) (fine-filed others)
+fine-filed (own ∷ others) = before (page_in_file Salvage own) (pages_in_file Salvage others) (from_input-filed Salvage own) (fine-filed others)
   where
-    before : (r : Result PageInFile DecodeError) (rest : Result (List PageInFile) DecodeError) → Answered r → IsFine rest → IsFine (before_pages Salvage r rest)
+    before : (r : Result PageInFile DecodeError) (rest : Result (List PageInFile) DecodeError) → FromInput r → IsFine rest → IsFine (before_pages Salvage r rest)
     before (Ok page) rest is fine = fine-next rest _ fine (λ pages. refl)
     before (Err e) rest is fine = rw (left-out e is) fine
 

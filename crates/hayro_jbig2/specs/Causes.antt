@@ -92,19 +92,19 @@ BreaksExtension strict bytes _ = ⊥
 
 -- ---- errors that no input causes
 -- Every error except `OutOfMemory` and three others, which the enums have only for code that matches on them.
-abbrev pub IsAnswered : DecodeError → Type 0
-IsAnswered OutOfMemory = ⊥
-IsAnswered (Huffman ConflictingCodes) = ⊥
-IsAnswered (Template Invalid) = ⊥
-IsAnswered (Overflow Index) = ⊥
-IsAnswered _ = Unit {0}
+abbrev pub IsFromInput : DecodeError → Type 0
+IsFromInput OutOfMemory = ⊥
+IsFromInput (Huffman ConflictingCodes) = ⊥
+IsFromInput (Template Invalid) = ⊥
+IsFromInput (Overflow Index) = ⊥
+IsFromInput _ = Unit {0}
 
 -- No definition gives one of these four, whatever the bytes: neither for globals, embedded pages and files, nor for the
 -- drawing of a page, unless the page's globals gave it. The globals of a file never do.
-pub record ErrorsAreAnswered : Type 0 where
-  pub globals : (reading : Reading) (bytes : List ℕ) → IfErr (globals_at reading bytes) IsAnswered
-  pub page : (reading : Reading) (globals : Names) (bytes : List ℕ) → IfErr (embedded reading globals bytes) IsAnswered
-  pub file : (reading : Reading) (bytes : List ℕ) → IfErr (book_at reading bytes) IsAnswered
+pub record ErrorsAreFromInput : Type 0 where
+  pub globals : (reading : Reading) (bytes : List ℕ) → IfErr (globals_at reading bytes) IsFromInput
+  pub page : (reading : Reading) (globals : Names) (bytes : List ℕ) → IfErr (embedded reading globals bytes) IsFromInput
+  pub file : (reading : Reading) (bytes : List ℕ) → IfErr (book_at reading bytes) IsFromInput
   pub file_globals : (reading : Reading) (bytes : List ℕ)
-      → IfOk (book_at reading bytes) (λ book. IfErr book.globals IsAnswered)
-  pub drawing : (page : ReadPage) → IfErr page.globals IsAnswered → IfErr (drawing_of_page page) IsAnswered
+      → IfOk (book_at reading bytes) (λ book. IfErr book.globals IsFromInput)
+  pub drawing : (page : ReadPage) → IfErr page.globals IsFromInput → IfErr (drawing_of_page page) IsFromInput

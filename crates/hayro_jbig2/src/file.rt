@@ -69,7 +69,7 @@ pub struct File<'a, A: Allocator> {
 
 impl<'a, A: Allocator> Model for File<'a, A> {
     ghost use Rattle.std.specs.Prelude.{IfErr};
-    ghost use Rattle.hayro_jbig2.specs.Causes.{IsAnswered};
+    ghost use Rattle.hayro_jbig2.specs.Causes.{IsFromInput};
     ghost use Rattle.hayro_jbig2.specs.Files.{ReadFile};
 
     ghost Value = { ReadFile };
@@ -82,7 +82,7 @@ impl<'a, A: Allocator> Model for File<'a, A> {
       fault = file.fault;
     } };
 
-    ghost invariant = { λ file. IfErr file.globals IsAnswered };
+    ghost invariant = { λ file. IfErr file.globals IsFromInput };
 }
 
 fn needs_page(kind: SegmentType) -> bool

@@ -1,6 +1,6 @@
 //! Laws of the definitions that the calls of this crate meet. Each call here does nothing: its contract is the law,
 //! which holds for all bytes.
-ghost use Rattle.hayro_jbig2.specs.Causes.{ErrorsAreAnswered};
+ghost use Rattle.hayro_jbig2.specs.Causes.{ErrorsAreFromInput};
 ghost use Rattle.hayro_jbig2.specs.Image.{PackedBitsAreBytes};
 ghost use Rattle.hayro_jbig2.specs.Lenient.{LenientReadingAgrees, SalvageAgrees, SalvageRefusesLittle};
 ghost use Rattle.hayro_jbig2.specs.Order.{EndOfPageEnds, OrderChangesNothing};
@@ -52,6 +52,6 @@ pub fn end_of_page_ends()
 
 /// Whatever the bytes are, no definition gives `DecodeError::OutOfMemory`, `HuffmanError::ConflictingCodes`,
 /// `TemplateError::Invalid` or `OverflowError::Index`. So `OutOfMemory` never means that the bytes are faulty.
-pub fn errors_are_answered()
-    ensures { ErrorsAreAnswered }
+pub fn errors_are_from_input()
+    ensures { ErrorsAreFromInput }
 {}

@@ -5,7 +5,7 @@ ghost use Rattle.hayro_jbig2.specs.Page.{HasSides, IsSide, ReadPage, embedded};
 ghost use Rattle.jbig2_base.specs.Reading.{reading_of};
 ghost use Rattle.jbig2_base.specs.declared.reading.Reading.TheVariants.{Salvage};
 ghost use Rattle.hayro_jbig2.specs.inner.KeptViews.{found};
-ghost use Rattle.hayro_jbig2.specs.Causes.{IsAnswered};
+ghost use Rattle.hayro_jbig2.specs.Causes.{IsFromInput};
 ghost use Rattle.hayro_jbig2.specs.Returned.{IsReturned};
 ghost use Rattle.hayro_jbig2.specs.inner.PageViews.{given_names, kept_names};
 ghost use Rattle.hayro_jbig2.specs.inner.SegmentLists.{segment_list};
@@ -62,7 +62,7 @@ pub struct Page<'a, A: Allocator> {
 impl<'a, A: Allocator> Model for Page<'a, A> {
     ghost use Rattle.std.specs.Prelude.{IfErr};
     ghost use Rattle.jbig2_base.specs.inner.SegmentViews.{segment_views};
-    ghost use Rattle.hayro_jbig2.specs.Causes.{IsAnswered};
+    ghost use Rattle.hayro_jbig2.specs.Causes.{IsFromInput};
     ghost use Rattle.hayro_jbig2.specs.Page.{HasSides, ReadPage};
     ghost use Rattle.hayro_jbig2.specs.inner.PageViews.{kept_names};
     ghost use Rattle.hayro_jbig2.specs.inner.SegmentLists.{segment_list};
@@ -78,7 +78,7 @@ impl<'a, A: Allocator> Model for Page<'a, A> {
     } };
 
     ghost invariant = { λ page. HasSides page.initial_page
-        × IfErr (kept_names page.globals) IsAnswered };
+        × IfErr (kept_names page.globals) IsFromInput };
 }
 
 impl<'a, A: Allocator> Page<'a, A> {
@@ -91,7 +91,7 @@ impl<'a, A: Allocator> Page<'a, A> {
         fault: Option<DecodeError>,
     ) -> Page<'a, A>
         requires sides { HasSides initial_page }
-        requires answered { IfErr (kept_names globals) IsAnswered }
+        requires from_input { IfErr (kept_names globals) IsFromInput }
         ensures { result ≡ record {
           reading = reading;
           initial_page = initial_page;

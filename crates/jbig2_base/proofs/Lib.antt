@@ -1,4 +1,4 @@
-pub mod Answered
+pub mod FromInput
 pub mod BitFieldLemmas
 pub mod BitLemmas
 mod BlockLemmas

@@ -38,7 +38,8 @@ abbrev pub bytes_next : ℕ → Place → Option (List ℕ)  -- the next count b
 bytes_next count p = if nat_lt (length p.bytes) count then None else Some (take count p.bytes)
 
 abbrev pub number_next : Width → Place → Option ℕ  -- the same as a number, high byte first
-number_next w p = if nat_lt (length p.bytes) (byte_len w) then None else Some (from_be_bytes w (take (byte_len w) p.bytes))
+number_next w p =
+    if nat_lt (length p.bytes) (byte_len w) then None else Some (from_be_bytes w (take (byte_len w) p.bytes))
 
 abbrev pub bytes_on : ℕ → Place → Place  -- the place after them; the same place if there are fewer
 bytes_on count p = if nat_lt (length p.bytes) count then p else start_of (drop count p.bytes)

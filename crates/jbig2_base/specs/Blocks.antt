@@ -16,11 +16,15 @@ block_pixel operator page source left right top bottom from from_row i j =
     else pixel_at page i j
 
 abbrev pub with_block : CombinationOperator → Grid → Grid → ℕ → ℕ → ℕ → ℕ → ℕ → ℕ → Grid
-with_block operator page source left right top bottom from from_row = grid_of page.width page.height (block_pixel operator page source left right top bottom from from_row)
+with_block operator page source left right top bottom from from_row =
+    grid_of page.width page.height (block_pixel operator page source left right top bottom from from_row)
 
 -- `count` pixels of row y, from column x on, are each combined with the pixel of the same column in another row.
 abbrev pub with_run : CombinationOperator → Grid → ℕ → ℕ → ℕ → (ℕ → Bool) → Grid
-with_run operator page x y count row = grid_of page.width page.height (λ i j. if j == y && nat_le x i && nat_lt i (x + count) then combined_pixel operator (pixel_at page i j) (row i) else pixel_at page i j)
+with_run operator page x y count row =
+    grid_of page.width page.height
+    (λ i j. if j == y && nat_le x i && nat_lt i (x + count) then combined_pixel operator (pixel_at page i j) (row i)
+    else pixel_at page i j)
 
 -- A block of at least one column lies on the page, and its pixels lie in the source.
 pub record LiesOn (page source : Grid) (block : Block) : Type 0 where
@@ -31,6 +35,10 @@ pub record LiesOn (page source : Grid) (block : Block) : Type 0 where
   pub source_bottom : block.from_row + block.rows ≤ source.height
 
 -- The block is combined, and exactly the words in which its rows lie are written.
-pub record CombinesBlock (operator : CombinationOperator) (block : Block) (page source after : Grid) (old new : Counts) : Type 0 where
-  pub value : after ≡ with_block operator page source block.left (block.left + block.columns) block.top (block.top + block.rows) block.from block.from_row
+pub record CombinesBlock (operator : CombinationOperator) (block : Block) (page source after : Grid)
+    (old new : Counts) : Type 0 where
+  pub value :
+      after
+      ≡ with_block operator page source block.left (block.left + block.columns) block.top (block.top + block.rows)
+      block.from block.from_row
   pub steps : new ≡ rows_combined block.rows block.left block.columns block.from old

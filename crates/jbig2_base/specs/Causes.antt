@@ -86,7 +86,8 @@ BreaksInitialPage ps _ = ⊥
 -- An open height is this number, which is 0 if nothing states it.
 abbrev pub BreaksInitialPageBy : ℕ → List SegmentView → DecodeError → Type 0
 BreaksInitialPageBy known_height ps (Format UnknownPageHeight) = LeavesHeightOpen ps × (known_height ≡ 0)
-BreaksInitialPageBy known_height ps (Overflow BitmapDimension) = StatesLongSide ps ⊎ (LeavesHeightOpen ps × (max_side < known_height))
+BreaksInitialPageBy known_height ps (Overflow BitmapDimension) =
+    StatesLongSide ps ⊎ (LeavesHeightOpen ps × (max_side < known_height))
 BreaksInitialPageBy known_height ps e = BreaksInitialPage ps e
 
 abbrev pub BreaksOperator : ℕ → DecodeError → Type 0  -- a combination operator (7.4.1.5)
@@ -113,7 +114,8 @@ module _ (bytes : List ℕ) where
   length_place = page_place + (if number_in w8 4 bytes / 64 % 2 == 1 then 4 else 1)
 
 abbrev pub listed_types : List ℕ  -- the numbers of the types in 7.3
-listed_types = 0 ∷ 4 ∷ 6 ∷ 7 ∷ 16 ∷ 20 ∷ 22 ∷ 23 ∷ 36 ∷ 38 ∷ 39 ∷ 40 ∷ 42 ∷ 43 ∷ 48 ∷ 49 ∷ 50 ∷ 51 ∷ 52 ∷ 53 ∷ 54 ∷ 62 ∷ []
+listed_types =
+    0 ∷ 4 ∷ 6 ∷ 7 ∷ 16 ∷ 20 ∷ 22 ∷ 23 ∷ 36 ∷ 38 ∷ 39 ∷ 40 ∷ 42 ∷ 43 ∷ 48 ∷ 49 ∷ 50 ∷ 51 ∷ 52 ∷ 53 ∷ 54 ∷ 62 ∷ []
 
 -- The first four bytes of a header are the segment's number. The low six bits of byte 4 are its type.
 abbrev pub BreaksHeader : Bool → List ℕ → DecodeError → Type 0

@@ -25,7 +25,8 @@ loads_across left columns from =
     words_across left columns + (if words_across from columns == 1 then 1 else words_across left columns)
 
 abbrev pub rows_combined : ℕ → ℕ → ℕ → ℕ → Counts → Counts  -- the counts after this many such rows
-rows_combined rows left columns from = words_written (rows * words_across left columns) (rows * loads_across left columns from)
+rows_combined rows left columns from =
+    words_written (rows * words_across left columns) (rows * loads_across left columns from)
 
 abbrev pub first_under : ℤ → ℕ  -- the first column (or row) of a page under a source that begins at x
 first_under (pos x) = x

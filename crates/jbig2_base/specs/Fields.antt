@@ -34,13 +34,15 @@ word_or e (pos n) = if nat_lt n 2147483648 then Ok (pos n) else Err e
 word_or e (negsuc n) = if nat_lt n 2147483648 then Ok (negsuc n) else Err e
 
 -- The reader is after what it took. A call that refuses leaves it where it was.
-pub record Parses {X Y : Type 0} (old new : Place) (result : Result X DecodeError) (view : X → Y) (meant : Result (Y × List ℕ) DecodeError) : Type 0 where
+pub record Parses {X Y : Type 0} (old new : Place) (result : Result X DecodeError) (view : X → Y)
+    (meant : Result (Y × List ℕ) DecodeError) : Type 0 where
   pub value : Returns (λ x. (view x, new.bytes)) result meant
   pub stays : OnErr result (new ≡ old)
   pub shorter : OnOk result (length new.bytes ≤ length old.bytes)
 
 -- the same for a call that may run out of memory
-pub record Takes {X Y : Type 0} (old new : Place) (result : Result X DecodeError) (view : X → Y) (meant : Result (Y × List ℕ) DecodeError) : Type 0 where
+pub record Takes {X Y : Type 0} (old new : Place) (result : Result X DecodeError) (view : X → Y)
+    (meant : Result (Y × List ℕ) DecodeError) : Type 0 where
   pub value : Gives (λ x. (view x, new.bytes)) result meant
   pub stays : OnErr result (new ≡ old)
   pub shorter : OnOk result (length new.bytes ≤ length old.bytes)

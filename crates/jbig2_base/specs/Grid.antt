@@ -62,4 +62,5 @@ blank_or_overflow w h black = check_sides w h >>= λ _. Ok (blank w h black)
 
 -- all white; one side may be above 65535 if the area is at most 65535 * 65535
 abbrev pub wide_or_overflow : ℕ → ℕ → Result Grid DecodeError
-wide_or_overflow w h = refuse_if (nat_lt (max_side * max_side) (w * h)) (Overflow BitmapDimension) >>= λ _. Ok (blank w h false)
+wide_or_overflow w h =
+    refuse_if (nat_lt (max_side * max_side) (w * h)) (Overflow BitmapDimension) >>= λ _. Ok (blank w h false)

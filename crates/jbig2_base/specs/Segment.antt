@@ -84,7 +84,8 @@ number_width own = if nat_le own 256 then w8 else if nat_le own 65536 then w16 e
 
 abbrev pub numbers_in : Width → ℕ → List ℕ → List ℕ  -- this many numbers, one after the other
 numbers_in w zero bytes = []
-numbers_in w (suc count) bytes = from_be_bytes w (take (byte_len w) bytes) ∷ numbers_in w count (drop (byte_len w) bytes)
+numbers_in w (suc count) bytes =
+    from_be_bytes w (take (byte_len w) bytes) ∷ numbers_in w count (drop (byte_len w) bytes)
 
 -- The referred numbers (7.2.5): all must be there, and each must be smaller than the segment's own.
 unfoldable pub referred_at : ℕ → List ℕ → Result (List ℕ × List ℕ) DecodeError

@@ -9,4 +9,6 @@ with_pixel g x y black = grid_of g.width g.height (λ i j. pixel_at g i j || (bl
 
 -- the pixels from column x of row y on are now the lowest `count` bits of a number, high bit first
 abbrev pub with_pixels : Grid → ℕ → ℕ → ℕ → ℕ → Grid
-with_pixels g x y count bits = grid_of g.width g.height (λ i j. if j == y && nat_le x i && nat_lt i (x + count) then bit bits (x + count - 1 - i) else pixel_at g i j)
+with_pixels g x y count bits =
+    grid_of g.width g.height
+    (λ i j. if j == y && nat_le x i && nat_lt i (x + count) then bit bits (x + count - 1 - i) else pixel_at g i j)

@@ -3,8 +3,8 @@ ghost use Rattle.std.specs.Prelude.{◌≡◌, ◌+◌, ◌/◌, ◌%◌, ◌==�
 ghost use Rattle.jbig2_base.specs.Grid.{max_side};
 ghost use Rattle.jbig2_base.specs.Results.{Returns};
 ghost use Rattle.jbig2_base.specs.Bits.{nonzero};
-ghost use Rattle.jbig2_base.specs.Causes.{HasCause, BreaksInformation, BreaksInitialPage, BreaksInitialPageBy};
-ghost use Rattle.jbig2_base.specs.PageInfo.{default_operator_of, flags_of, information_at, is_page_information, is_end_of_stripe, first_information, stripe_height, stripes_height, height_of, initial_page_with, initial_page_by, initial_page_of};
+ghost use Rattle.jbig2_base.specs.Causes.{HasCause, BreaksInformation, BreaksInitialPageBy};
+ghost use Rattle.jbig2_base.specs.PageInfo.{default_operator_of, flags_of, information_at, is_page_information, is_end_of_stripe, first_information, stripe_height, stripes_height, height_of, initial_page_with, initial_page_by};
 ghost use Rattle.jbig2_base.specs.Fields.{Parses};
 ghost use Rattle.jbig2_base.specs.inner.SegmentViews.{segment_view, segment_views};
 
@@ -267,24 +267,13 @@ fn initial_page_with(number: u32, information: &PageInformation, height: u32) ->
 }
 
 impl InitialPage {
-    /// How a page with these segments begins, by its first page information. If that leaves the
-    /// height open, it is that of the largest end of stripe (T.88, 7.4.8 and 7.4.10).
+    /// How a page with these segments begins, by its first page information. `known_height` is the height
+    /// where that leaves it open, such as that of the largest end of stripe (T.88, 7.4.8 and 7.4.10);
+    /// 0 if nothing states it.
     ///
     /// Returns `FormatError::MissingPageInfo`, `UnknownPageHeight` or `EmptyPage`,
     /// `ParseError::UnexpectedEof` if the segment is too short, or `OverflowError::BitmapDimension`
     /// if a side is above 65535 pixels. Takes no memory.
-    #[tactic(auto, using(crate::proofs::InitialCauses::initial_page_cause), unfolding(crate::specs::PageInfo::initial_page_of))]
-    pub fn of_segments<A: Allocator>(segments: &[Segment<'_, A>]) -> Result<InitialPage>
-        ensures causes { HasCause result (BreaksInitialPage (segment_views segments.now)) }
-        ensures value { Returns (λ initial_page. initial_page) result
-            (initial_page_of (segment_views segments.now)) }
-        ensures fits { IfOk result
-            (λ initial_page. (initial_page.width ≤ max_side) × (initial_page.height ≤ max_side)) }
-    {
-        InitialPage::with_height(segments, stripes_height(segments))
-    }
-
-    /// The same, with `known_height` as a height that page information leaves open; 0 if nothing states it.
     #[tactic(auto, using(crate::proofs::InitialCauses::initial_page_by_cause))]
     pub fn with_height<A: Allocator>(
         segments: &[Segment<'_, A>],

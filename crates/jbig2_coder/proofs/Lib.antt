@@ -1,5 +1,5 @@
 pub mod Ahead
-pub mod Answered
+pub mod FromInput
 pub mod Causes
 pub mod Choices
 pub mod CustomCauses

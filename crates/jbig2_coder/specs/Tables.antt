@@ -14,16 +14,19 @@ minus zero = pos 0
 minus (suc n) = negsuc n
 
 abbrev pub line : ℕ → ℕ → ℤ → TableLine  -- a line, by its prefix length, its range length and its low value
-line len range low = record { range_low = low; prefix_length = len; range_length = range; is_lower = false; is_out_of_band = false }
+line len range low =
+    record { range_low = low; prefix_length = len; range_length = range; is_lower = false; is_out_of_band = false }
 
 abbrev pub lower : ℕ → ℤ → TableLine  -- the lower range table line; its values go down from its low value
-lower len low = record { range_low = low; prefix_length = len; range_length = 32; is_lower = true; is_out_of_band = false }
+lower len low =
+    record { range_low = low; prefix_length = len; range_length = 32; is_lower = true; is_out_of_band = false }
 
 abbrev pub upper : ℕ → ℤ → TableLine  -- the upper range table line
 upper len low = line len 32 low
 
 abbrev pub out_of_band : ℕ → TableLine
-out_of_band len = record { range_low = pos 0; prefix_length = len; range_length = 0; is_lower = false; is_out_of_band = true }
+out_of_band len =
+    record { range_low = pos 0; prefix_length = len; range_length = 0; is_lower = false; is_out_of_band = true }
 
 unfoldable pub lines_a : List TableLine  -- B.1
 lines_a = line 1 4 (pos 0) ∷ line 2 8 (pos 16) ∷ line 3 16 (pos 272) ∷ upper 3 (pos 65808) ∷ []

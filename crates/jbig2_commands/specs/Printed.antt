@@ -29,7 +29,8 @@ colour_word black = if black then codes "true" else codes "false"
 
 abbrev pub call_line : Call → List ℕ
 call_line (Pixel black) = codes "push_pixel " ++ colour_word black ++ codes "\n"
-call_line (Chunk black bytes) = codes "push_pixel_chunk " ++ colour_word black ++ codes " " ++ decimal bytes ++ codes "\n"
+call_line (Chunk black bytes) =
+    codes "push_pixel_chunk " ++ colour_word black ++ codes " " ++ decimal bytes ++ codes "\n"
 call_line Line = codes "next_line\n"
 
 -- a line for each call that draws the grid
@@ -37,7 +38,8 @@ abbrev pub calls_text : Result Grid DecodeError → Result (List ℕ) DecodeErro
 calls_text grid = grid >>= λ g. Ok (flat_map call_line (calls_of g))
 
 abbrev pub bitmap_head : ReadPage → List ℕ  -- a binary bitmap of the PBM format: its head, and then the packed rows
-bitmap_head page = codes "P4\n" ++ decimal page.initial_page.width ++ codes " " ++ decimal page.initial_page.height ++ codes "\n"
+bitmap_head page =
+    codes "P4\n" ++ decimal page.initial_page.width ++ codes " " ++ decimal page.initial_page.height ++ codes "\n"
 
 abbrev pub bitmap_text : ReadPage → Result (List ℕ) DecodeError
 bitmap_text page = packed_of_page page >>= λ rows. Ok (bitmap_head page ++ rows)
@@ -56,9 +58,12 @@ of_file text index file = or_fault file >>= λ book. page_at_index index book >>
 
 -- What is printed for a file's bytes, or why nothing is.
 abbrev pub printed : Bool → Task → List ℕ → Result (List ℕ) Fault
-printed strict Pages bytes = or_fault (book_at (reading_of strict) bytes >>= λ book. Ok (flat_map page_line (pages_of book)))
-printed strict Embedded bytes = or_fault (embedded (reading_of strict) no_names bytes >>= λ page. calls_text (grid_of_page page))
-printed strict (Calls index) bytes = of_file (λ page. calls_text (grid_of_page page)) index (book_at (reading_of strict) bytes)
+printed strict Pages bytes =
+    or_fault (book_at (reading_of strict) bytes >>= λ book. Ok (flat_map page_line (pages_of book)))
+printed strict Embedded bytes =
+    or_fault (embedded (reading_of strict) no_names bytes >>= λ page. calls_text (grid_of_page page))
+printed strict (Calls index) bytes =
+    of_file (λ page. calls_text (grid_of_page page)) index (book_at (reading_of strict) bytes)
 printed strict (Pbm index) bytes = of_file bitmap_text index (book_at (reading_of strict) bytes)
 
 -- The bytes that were meant are added to the output. Or the fault is returned and nothing is added, unless memory ran
@@ -66,7 +71,8 @@ printed strict (Pbm index) bytes = of_file bitmap_text index (book_at (reading_o
 abbrev pub Prints : Result (List ℕ) Fault → Result (Unit {0}) Fault → Option (List ℕ) → Option (List ℕ) → Type 0
 Prints (Ok bytes) (Ok u) old new = Appends old new bytes
 Prints (Err fault) (Ok u) old new = ⊥
-Prints meant (Err fault) old new = (fault ≡ Unwritable) ⊎ (((fault ≡ Decode OutOfMemory) ⊎ (meant ≡ Err fault)) × Keeps old new)
+Prints meant (Err fault) old new =
+    (fault ≡ Unwritable) ⊎ (((fault ≡ Decode OutOfMemory) ⊎ (meant ≡ Err fault)) × Keeps old new)
 
 -- Some bytes were read, namely all that the reader has where these are known, and what `printed` gives for them is
 -- printed. Or the reader failed. `None` means that there is no reader.

@@ -67,70 +67,70 @@ code-length-few n bits same few = omega (arith, same)
 
 -- ---- lenient mode
 -- an answer that is no refusal
-abbrev pub Answered : {X : Type 0} → Result X DecodeError → Type 0
-Answered {X} r = (x : X) × (r ≡ Ok x)
+abbrev pub Succeeds : {X : Type 0} → Result X DecodeError → Type 0
+Succeeds {X} r = (x : X) × (r ≡ Ok x)
 
-then-answered : {X Y : Type 0} (r : Result X DecodeError) (f : X → Result Y DecodeError) → Answered r → ((x : X) → Answered (f x)) → Answered (r >>= f)
-then-answered {X} {Y} r f first next =
-    let second : Answered (f first.0) = next first.0 in
+then-succeeds : {X Y : Type 0} (r : Result X DecodeError) (f : X → Result Y DecodeError) → Succeeds r → ((x : X) → Succeeds (f x)) → Succeeds (r >>= f)
+then-succeeds {X} {Y} r f first next =
+    let second : Succeeds (f first.0) = next first.0 in
     (second.0, ap (λ (q : Result X DecodeError). q >>= f) first.1 ∙ second.1)
 
-rows-lenient : (w h : ℕ) (input : List ℕ) → Answered (mmr_rows false w h input)
+rows-lenient : (w h : ℕ) (input : List ℕ) → Succeeds (mmr_rows false w h input)
 unfolding mmr_rows
 rows-lenient w h input = (_, refl)
 
-plane-lenient : (p : GrayScale) (input : List ℕ) → p.strict ≡ false → Answered (mmr_plane p input)
+plane-lenient : (p : GrayScale) (input : List ℕ) → p.strict ≡ false → Succeeds (mmr_plane p input)
 unfolding mmr_plane
 plane-lenient p input lenient =
-    then-answered (mmr_rows p.strict p.width p.height input) (λ rows. Ok (rows.grid, drop rows.used input))
-    (subst (λ (b : Bool). Answered (mmr_rows b p.width p.height input)) (sym lenient) (rows-lenient p.width p.height input))
+    then-succeeds (mmr_rows p.strict p.width p.height input) (λ rows. Ok (rows.grid, drop rows.used input))
+    (subst (λ (b : Bool). Succeeds (mmr_rows b p.width p.height input)) (sym lenient) (rows-lenient p.width p.height input))
     (λ rows. ((rows.grid, drop rows.used input), refl))
 
-planes-lenient : (p : GrayScale) (input : List ℕ) (count : ℕ) → p.strict ≡ false → Answered (mmr_planes p input count)
+planes-lenient : (p : GrayScale) (input : List ℕ) (count : ℕ) → p.strict ≡ false → Succeeds (mmr_planes p input count)
 unfolding mmr_planes
 planes-lenient p input zero lenient = ([], refl)
 planes-lenient p input (suc count) lenient =
-    then-answered (mmr_plane p input) (λ plane. mmr_planes p plane.1 count >>= λ others. Ok (plane.0 ∷ others))
+    then-succeeds (mmr_plane p input) (λ plane. mmr_planes p plane.1 count >>= λ others. Ok (plane.0 ∷ others))
     (plane-lenient p input lenient)
-    (λ plane. then-answered (mmr_planes p plane.1 count) (λ others. Ok (plane.0 ∷ others)) (planes-lenient p plane.1 count lenient) (λ others. (plane.0 ∷ others, refl)))
+    (λ plane. then-succeeds (mmr_planes p plane.1 count) (λ others. Ok (plane.0 ∷ others)) (planes-lenient p plane.1 count lenient) (λ others. (plane.0 ∷ others, refl)))
 
-values-lenient : (use_mmr : Bool) (p : GrayScale) (input : List ℕ) → p.strict ≡ false → Answered (if use_mmr then planes_by_mmr p input else planes_by_coder p input)
+values-lenient : (use_mmr : Bool) (p : GrayScale) (input : List ℕ) → p.strict ≡ false → Succeeds (if use_mmr then planes_by_mmr p input else planes_by_coder p input)
 values-lenient true p input lenient = planes-lenient p input p.bits_per_pixel lenient
 values-lenient false p input lenient = (_, refl)
 
-image-lenient : (p : GrayScale) (input : List ℕ) → p.width ≤ 65535 → p.height ≤ 65535 → p.strict ≡ false → Answered (gray_scale_image p input)
+image-lenient : (p : GrayScale) (input : List ℕ) → p.width ≤ 65535 → p.height ≤ 65535 → p.strict ≡ false → Succeeds (gray_scale_image p input)
 unfolding gray_scale_image
 image-lenient p input columns rows lenient =
     rw (le-ltb 65535 p.width columns, le-ltb 65535 p.height rows, and_right (ltb 0 p.bits_per_pixel) false refl)
-    (then-answered (planes_of p input) (λ planes. Ok (gray_values p.width p.height planes)) (values-lenient p.use_mmr p input lenient) (λ planes. (gray_values p.width p.height planes, refl)))
+    (then-succeeds (planes_of p input) (λ planes. Ok (gray_values p.width p.height planes)) (values-lenient p.use_mmr p input lenient) (λ planes. (gray_values p.width p.height planes, refl)))
 
-pattern-lenient : (known : Bool) (one last : Grid) (e : DecodeError) → Answered (if known then Ok one else if false then Err e else Ok last)
+pattern-lenient : (known : Bool) (one last : Grid) (e : DecodeError) → Succeeds (if known then Ok one else if false then Err e else Ok last)
 pattern-lenient true one last e = (one, refl)
 pattern-lenient false one last e = (last, refl)
 
-cells-lenient : (h : HalftoneHeader) (d : Patterns) (k : ℕ) (values : List ℕ) (region : Grid) → h.strict ≡ false → Answered (cells_drawn h d k values region)
+cells-lenient : (h : HalftoneHeader) (d : Patterns) (k : ℕ) (values : List ℕ) (region : Grid) → h.strict ≡ false → Succeeds (cells_drawn h d k values region)
 unfolding cells_drawn
 cells-lenient h d k [] region lenient = (region, refl)
 cells-lenient h d k (value ∷ values) region lenient =
-    then-answered (pattern_for h.strict d.grids value) (λ pattern. cells_drawn h d (k + 1) values (with_cell h k pattern region))
-    (subst (λ (b : Bool). Answered (pattern_for b d.grids value)) (sym lenient) (pattern-lenient (ltb value (length d.grids)) (get_or d.grids value (blank 0 0 false)) (get_or d.grids (length d.grids - 1) (blank 0 0 false)) (Region GrayScaleOutOfRange)))
+    then-succeeds (pattern_for h.strict d.grids value) (λ pattern. cells_drawn h d (k + 1) values (with_cell h k pattern region))
+    (subst (λ (b : Bool). Succeeds (pattern_for b d.grids value)) (sym lenient) (pattern-lenient (ltb value (length d.grids)) (get_or d.grids value (blank 0 0 false)) (get_or d.grids (length d.grids - 1) (blank 0 0 false)) (Region GrayScaleOutOfRange)))
     (λ pattern. cells-lenient h d (k + 1) values (with_cell h k pattern region) lenient)
 
 -- no refusal
-halftone-lenient : (h : HalftoneHeader) (d : Patterns) → h.grid_position_and_size.width ≤ 65535 → h.grid_position_and_size.height ≤ 65535 → h.strict ≡ false → Answered (halftone_result h d)
+halftone-lenient : (h : HalftoneHeader) (d : Patterns) → h.grid_position_and_size.width ≤ 65535 → h.grid_position_and_size.height ≤ 65535 → h.strict ≡ false → Succeeds (halftone_result h d)
 unfolding halftone_result
 halftone-lenient h d columns rows lenient =
-    then-answered (gray_scale_image (gray_params h d) h.bytes) (λ values. cells_drawn h d 0 values (blank h.region_info.width h.region_info.height h.flags.initial_pixel_color))
+    then-succeeds (gray_scale_image (gray_params h d) h.bytes) (λ values. cells_drawn h d 0 values (blank h.region_info.width h.region_info.height h.flags.initial_pixel_color))
     (image-lenient (gray_params h d) h.bytes columns rows lenient)
     (λ values. cells-lenient h d 0 values _ lenient)
 
 -- so memory alone is wanting where there is one
-refused-lenient : {X : Type 0} (view : X → Grid) (result : Result X DecodeError) (meant : Result Grid DecodeError) → Answered meant → Gives view result meant → IfErr result (λ e. e ≡ OutOfMemory)
-refused-lenient view (Ok x) meant answered gives = _
-refused-lenient view (Err e) meant answered gives =
+refused-lenient : {X : Type 0} (view : X → Grid) (result : Result X DecodeError) (meant : Result Grid DecodeError) → Succeeds meant → Gives view result meant → IfErr result (λ e. e ≡ OutOfMemory)
+refused-lenient view (Ok x) meant succeeds gives = _
+refused-lenient view (Err e) meant succeeds gives =
     ⊎_elim
     (λ (memory : e ≡ OutOfMemory). memory)
-    (λ (refused : meant ≡ Err e). absurd (apart e answered.0 (sym answered.1 ∙ refused)))
+    (λ (refused : meant ≡ Err e). absurd (apart e succeeds.0 (sym succeeds.1 ∙ refused)))
     gives
   where
     apart : (e : DecodeError) (g : Grid) → ◌≡◌ {A = Result Grid DecodeError} (Ok g) (Err e) → ⊥

@@ -1,4 +1,4 @@
-pub mod Answered
+pub mod FromInput
 pub mod Causes
 pub mod Prices
 mod T6Bits

@@ -1,4 +1,4 @@
-pub mod Answered
+pub mod FromInput
 pub mod CarriedLemmas
 pub mod Causes
 pub mod ContextBits

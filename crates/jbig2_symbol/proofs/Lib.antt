@@ -1,5 +1,5 @@
 pub mod AggregateLemmas
-pub mod Answered
+pub mod FromInput
 pub mod Causes
 pub mod ClassCauses
 pub mod ClassLemmas

@@ -1,5 +1,5 @@
-pub mod Answered
-pub mod AnsweredRegions
+pub mod FromInput
+pub mod RegionsFromInput
 pub mod Causes
 pub mod CausesOfHeaders
 pub mod CausesOfInstances

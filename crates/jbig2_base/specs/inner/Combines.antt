@@ -19,7 +19,8 @@ pub record HasEnds (block : Block) : Type 0 where
 
 -- A block of a source that lies wholly on the page, with its top left pixel at column `left` of row `top`.
 abbrev pub block_of : Grid → ℕ → ℕ → Block
-block_of source left top = record { left = left; top = top; columns = source.width; rows = source.height; from = 0; from_row = 0 }
+block_of source left top =
+    record { left = left; top = top; columns = source.width; rows = source.height; from = 0; from_row = 0 }
 
 -- ---- the same for words
 pub record IsBlockOnBoth (shape : Shape) (words : List ℕ) (from : Shape) (source : List ℕ) (block : Block) : Type 0 where
@@ -27,7 +28,8 @@ pub record IsBlockOnBoth (shape : Shape) (words : List ℕ) (from : Shape) (sour
   pub source_packed : HasShape from source
   pub inside : LiesOn (grid_in shape words) (grid_in from source) block
 
-pub record CombinesBlockOfWords (operator : CombinationOperator) (shape : Shape) (words : List ℕ) (from : Shape) (source : List ℕ) (block : Block) (after : List ℕ) (old new : Counts) : Type 0 where
+pub record CombinesBlockOfWords (operator : CombinationOperator) (shape : Shape) (words : List ℕ)
+    (from : Shape) (source : List ℕ) (block : Block) (after : List ℕ) (old new : Counts) : Type 0 where
   pub packed : HasShape shape after
   pub combined : CombinesBlock operator block (grid_in shape words) (grid_in from source) (grid_in shape after) old new
 
@@ -41,7 +43,12 @@ pub record IsLineOnBoth (shape : Shape) (words : List ℕ) (from : Shape) (sourc
   pub source_right : line.from + line.columns ≤ from.width
   pub source_row : line.from_y < from.height
 
-pub record CombinesLine (operator : CombinationOperator) (shape : Shape) (words : List ℕ) (from : Shape) (source : List ℕ) (line : Line) (after : List ℕ) (old new : Counts) : Type 0 where
+pub record CombinesLine (operator : CombinationOperator) (shape : Shape) (words : List ℕ) (from : Shape)
+    (source : List ℕ) (line : Line) (after : List ℕ) (old new : Counts) : Type 0 where
   pub packed : HasShape shape after
-  pub value : grid_in shape after ≡ with_run operator (grid_in shape words) line.left line.y line.columns (λ i. pixel_at (grid_in from source) (line.from + (i - line.left)) line.from_y)
-  pub steps : new ≡ words_written (words_across line.left line.columns) (loads_across line.left line.columns line.from) old
+  pub value :
+      grid_in shape after
+      ≡ with_run operator (grid_in shape words) line.left line.y line.columns
+      (λ i. pixel_at (grid_in from source) (line.from + (i - line.left)) line.from_y)
+  pub steps :
+      new ≡ words_written (words_across line.left line.columns) (loads_across line.left line.columns line.from) old

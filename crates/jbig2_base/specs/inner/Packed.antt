@@ -34,4 +34,5 @@ blank_words w h black = map (λ k. blank_word w black k) (range_with_len 0 (stri
 
 -- bit x of a row of `stride` words; the leftmost bit of a word is its highest, and past the row there is none
 unfoldable pub row_bit : List ℕ → ℕ → ℕ → ℕ → Bool
-row_bit words first stride x = if nat_lt (x / 64) stride then bit (slice_index words (first + x / 64)) (63 - x % 64) else false
+row_bit words first stride x =
+    if nat_lt (x / 64) stride then bit (slice_index words (first + x / 64)) (63 - x % 64) else false

@@ -4,4 +4,5 @@ use Rattle.jbig2_base.specs.Bits.{bit}
 
 -- bit b of a word whose `count` bits from `shift` on are replaced by the lowest bits of another number
 unfoldable pub field_bit : ℕ → ℕ → ℕ → ℕ → ℕ → Bool
-field_bit word shift count bits b = if nat_le shift b && nat_lt b (shift + count) then bit bits (b - shift) else bit word b
+field_bit word shift count bits b =
+    if nat_le shift b && nat_lt b (shift + count) then bit bits (b - shift) else bit word b

@@ -37,7 +37,8 @@ is_decided ms bits k = is_some (line_of ms k (front_number k bits)) || not (begi
 
 -- what the first k bits give, if fewer bits are not enough
 abbrev pub read_of : List Member → List ℕ → ℕ → CodeReading TableLine
-read_of ms bits k = if nat_lt (length bits) k then ended k else found_or (line_of ms k (front_number k bits)) k (refused k)
+read_of ms bits k =
+    if nat_lt (length bits) k then ended k else found_or (line_of ms k (front_number k bits)) k (refused k)
 
 abbrev pub some_value : Result ℤ DecodeError → Result (Option ℤ) DecodeError
 some_value r = r >>= λ n. Ok (Some n)

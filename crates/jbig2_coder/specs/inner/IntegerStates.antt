@@ -6,7 +6,8 @@ use Rattle.jbig2_coder.specs.Coder.{Coder, Context}
 use Rattle.jbig2_coder.specs.Integers.{Reading, prev_of}
 
 -- `place` is the number of the next context, `steps` the counts since `start`
-pub record HasRead (name : List Bool → ℕ) (start : Counts) (r : Reading) (place : ℕ) (coder : Coder) (contexts : List Context) (steps : Counts) : Type 0 where
+pub record HasRead (name : List Bool → ℕ) (start : Counts) (r : Reading) (place : ℕ) (coder : Coder)
+    (contexts : List Context) (steps : Counts) : Type 0 where
   pub named : place ≡ name r.bits
   pub registers : coder.registers ≡ r.registers
   pub learned : contexts ≡ r.contexts
@@ -14,11 +15,14 @@ pub record HasRead (name : List Bool → ℕ) (start : Counts) (r : Reading) (pl
 
 -- What a call states about an integer's bits, after any number of them.
 abbrev pub IfRead : (Reading → Type 0) → ℕ → Coder → List Context → Counts → Type 0
-IfRead told prev coder contexts steps = (start : Counts) (r : Reading) → HasRead prev_of start r prev coder contexts steps → told r
+IfRead told prev coder contexts steps =
+    (start : Counts) (r : Reading) → HasRead prev_of start r prev coder contexts steps → told r
 
 -- The same relation holds again after the call has read more bits.
 abbrev pub GoesOn : (Reading → Reading) → ℕ → Coder → List Context → Counts → ℕ → Coder → List Context → Counts → Type 0
-GoesOn on prev coder contexts steps prev' coder' contexts' steps' = (start : Counts) (r : Reading) → HasRead prev_of start r prev coder contexts steps → HasRead prev_of start (on r) prev' coder' contexts' steps'
+GoesOn on prev coder contexts steps prev' coder' contexts' steps' =
+    (start : Counts) (r : Reading) → HasRead prev_of start r prev coder contexts steps →
+    HasRead prev_of start (on r) prev' coder' contexts' steps'
 
 -- PREV after one more bit; it grows until it has eight bits after its 1
 unfoldable pub prev_next : ℕ → Bool → ℕ

@@ -6,7 +6,7 @@ use Rattle.jbig2_base.specs.inner.SegmentViews.{segment_views}
 use Rattle.jbig2_base.specs.declared.error.DecodeError.{DecodeError}
 use Rattle.hayro_jbig2.proofs.Books.{pages_stand_alone}
 use Rattle.hayro_jbig2.proofs.file.File.page.Goals as goal
-use Rattle.hayro_jbig2.specs.Causes.{IsAnswered}
+use Rattle.hayro_jbig2.specs.Causes.{IsFromInput}
 use Rattle.hayro_jbig2.specs.Files.{ReadFile, PageInFile, page_in, page_of}
 use Rattle.hayro_jbig2.specs.Names.{Names, Shared, names_of}
 use Rattle.hayro_jbig2.specs.Page.{ReadPage}
@@ -44,11 +44,11 @@ returns-in-None-clause-value g c =
 pub returns-in-None-clause-alone : goal.returns-in-None-clause-alone
 returns-in-None-clause-alone g c = pages_stand_alone
 
-pub of_file-requires-clause-answered : goal.of_file-requires-clause-answered
-of_file-requires-clause-answered g c =
-    let given : IfErr c.args.self.now.globals IsAnswered = subst (λ (b : ReadFile). IfErr b.globals IsAnswered) c.self.view_is c.self.invariant in
-    subst (λ (r : Result Names DecodeError). IfErr r IsAnswered) (sym c.globals.ensures) (named c.args.self.now.globals given)
+pub of_file-requires-clause-from_input : goal.of_file-requires-clause-from_input
+of_file-requires-clause-from_input g c =
+    let given : IfErr c.args.self.now.globals IsFromInput = subst (λ (b : ReadFile). IfErr b.globals IsFromInput) c.self.view_is c.self.invariant in
+    subst (λ (r : Result Names DecodeError). IfErr r IsFromInput) (sym c.globals.ensures) (named c.args.self.now.globals given)
   where
-    named : (globals : Result Shared DecodeError) → IfErr globals IsAnswered → IfErr (names_of globals) IsAnswered
+    named : (globals : Result Shared DecodeError) → IfErr globals IsFromInput → IfErr (names_of globals) IsFromInput
     named (Ok shared) is = tt
     named (Err e) is = is

@@ -12,14 +12,14 @@ use Rattle.jbig2_base.specs.declared.error.FormatError.TheVariants.{PageCountMis
 use Rattle.jbig2_base.specs.declared.file_header.FileHeader.{FileHeader}
 use Rattle.jbig2_base.specs.declared.reading.Reading.{Reading}
 use Rattle.jbig2_base.specs.declared.reading.Reading.TheVariants.{Lenient}
-use Rattle.hayro_jbig2.specs.Causes.{IsAnswered}
+use Rattle.hayro_jbig2.specs.Causes.{IsFromInput}
 use Rattle.hayro_jbig2.specs.Files.{PageInFile, associated, book_at, by_pages, pages_in_file, left_out_of, miscounts, of_page, shared_by}
 use Rattle.hayro_jbig2.specs.Names.{Shared}
 use Rattle.hayro_jbig2.specs.inner.ByPages.{by_page_view}
-use Rattle.jbig2_base.proofs.Answered.{answered-file}
+use Rattle.jbig2_base.proofs.FromInput.{from_input-file}
 use Rattle.jbig2_base.proofs.CauseSteps.{err-gives}
-use Rattle.hayro_jbig2.proofs.Answered.{answered-associated, answered-each}
-use Rattle.hayro_jbig2.proofs.Answering.{returned_error, shared_answered}
+use Rattle.hayro_jbig2.proofs.FromInput.{from_input-associated, from_input-each}
+use Rattle.hayro_jbig2.proofs.DrawingFromInput.{returned_error, shared_from_input}
 use Rattle.hayro_jbig2.proofs.Causes.{file_cause}
 use Rattle.hayro_jbig2.proofs.file.File.read.Goals as goal
 use Rattle.hayro_jbig2.proofs.file.File.read.Goals.{else-strict-via-then-strict+else-miscounts, else-strict-via-else-strict}
@@ -79,18 +79,18 @@ returns-clause-value g c =
 
 pub invariant_of-result : goal.invariant_of-result
 invariant_of-result g c =
-    subst (λ (r : Result Shared DecodeError). IfErr r IsAnswered) (kept-is _ _ c.in_ok-globals.ensures.value)
-    (shared_answered c.args.reading c.deref-2.result.now (segment_views c.deref-3.result.now))
+    subst (λ (r : Result Shared DecodeError). IfErr r IsFromInput) (kept-is _ _ c.in_ok-globals.ensures.value)
+    (shared_from_input c.args.reading c.deref-2.result.now (segment_views c.deref-3.result.now))
 
 pub returns-in_err-file-clause-errors : goal.returns-in_err-file-clause-errors
 returns-in_err-file-clause-errors g c =
     let e = err_from_is_err_and c.from_residual-in_err-file.result c.from_residual-in_err-file.ensures.1 in
-    rw (e.1, e.2) (returned_error _ _ (answered-file _ _) c.in_err-file.ensures.value)
+    rw (e.1, e.2) (returned_error _ _ (from_input-file _ _) c.in_err-file.ensures.value)
 
 pub returns-in_err-check_associations-clause-errors : goal.returns-in_err-check_associations-clause-errors
 returns-in_err-check_associations-clause-errors g c =
     let e = err_from_is_err_and c.from_residual-in_err-check_associations.result c.from_residual-in_err-check_associations.ensures.1 in
-    rw (e.1, e.2) (returned_error _ _ (answered-associated _ (segment_views c.deref.result.now)) (inr c.in_err-check_associations.ensures))
+    rw (e.1, e.2) (returned_error _ _ (from_input-associated _ (segment_views c.deref.result.now)) (inr c.in_err-check_associations.ensures))
 
 pub returns-in_err-segments-clause-errors : goal.returns-in_err-segments-clause-errors
 returns-in_err-segments-clause-errors g c =
@@ -100,7 +100,7 @@ returns-in_err-segments-clause-errors g c =
 pub returns-in_err-pages-clause-errors : goal.returns-in_err-pages-clause-errors
 returns-in_err-pages-clause-errors g c =
     let e = err_from_is_err_and c.from_residual-in_err-pages.result c.from_residual-in_err-pages.ensures.1 in
-    rw (e.1, e.2) (returned_error _ _ (answered-each _ _) c.in_err-pages.ensures.value)
+    rw (e.1, e.2) (returned_error _ _ (from_input-each _ _) c.in_err-pages.ensures.value)
 
 pub returns-in_err-globals-clause-errors : goal.returns-in_err-globals-clause-errors
 returns-in_err-globals-clause-errors g c =

@@ -1,8 +1,8 @@
 use Rattle.std.proofs.Common.{subst}
 use Rattle.std.specs.Prelude.{IfErr}
-use Rattle.hayro_jbig2.specs.Causes.{IsAnswered}
+use Rattle.hayro_jbig2.specs.Causes.{IsFromInput}
 use Rattle.hayro_jbig2.specs.Page.{ReadPage}
-use Rattle.hayro_jbig2.proofs.Answering.{decoded-returned}
+use Rattle.hayro_jbig2.proofs.DrawingFromInput.{decoded-returned}
 use Rattle.hayro_jbig2.proofs.Chunks.{calls-few, chunks-fit}
 use Rattle.hayro_jbig2.proofs.Direct.{combined-over}
 use Rattle.hayro_jbig2.proofs.Spelling.{spells}
@@ -26,4 +26,4 @@ returns-clause-few g c = calls-few
 
 pub returns-clause-errors : goal.returns-clause-errors
 returns-clause-errors g c =
-    decoded-returned g.D.Decoder.conduct c.args.self.now c.decode_counted.result c.args.decoder.now c.decode_counted.new.decoder (subst (λ (p : ReadPage). IfErr p.globals IsAnswered) c.self.view_is c.self.invariant.1) c.decode_counted.ensures.calls
+    decoded-returned g.D.Decoder.conduct c.args.self.now c.decode_counted.result c.args.decoder.now c.decode_counted.new.decoder (subst (λ (p : ReadPage). IfErr p.globals IsFromInput) c.self.view_is c.self.invariant.1) c.decode_counted.ensures.calls

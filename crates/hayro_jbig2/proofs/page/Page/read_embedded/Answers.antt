@@ -1,8 +1,8 @@
 use Rattle.std.proofs.Common.{Ok, inr}
 use Rattle.std.proofs.lemmas.Result.{err_from_is_err_and}
-use Rattle.jbig2_base.proofs.Answered.{answered-sequential}
-use Rattle.hayro_jbig2.proofs.Answered.{answered-beginning}
-use Rattle.hayro_jbig2.proofs.Answering.{returned_error}
+use Rattle.jbig2_base.proofs.FromInput.{from_input-sequential}
+use Rattle.hayro_jbig2.proofs.FromInput.{from_input-beginning}
+use Rattle.hayro_jbig2.proofs.DrawingFromInput.{returned_error}
 use Rattle.hayro_jbig2.proofs.Sides.{blank_sides}
 use Rattle.hayro_jbig2.proofs.page.Page.read_embedded.Goals as goal
 
@@ -12,7 +12,7 @@ invariant_of-result g c = (blank_sides _ _ _ c.in_ok-initial_page.ensures.value,
 pub returns-in_err-segments-clause-errors : goal.returns-in_err-segments-clause-errors
 returns-in_err-segments-clause-errors g c =
     let e = err_from_is_err_and c.from_residual-in_err-segments.result c.from_residual-in_err-segments.ensures.1 in
-    rw (e.1, e.2) (returned_error _ _ (answered-sequential _ _) c.in_err-segments.ensures)
+    rw (e.1, e.2) (returned_error _ _ (from_input-sequential _ _) c.in_err-segments.ensures)
 
 pub returns-in_err-sort_segments-clause-errors : goal.returns-in_err-sort_segments-clause-errors
 returns-in_err-sort_segments-clause-errors g c =
@@ -22,7 +22,7 @@ returns-in_err-sort_segments-clause-errors g c =
 pub returns-in_err-initial_page-clause-errors : goal.returns-in_err-initial_page-clause-errors
 returns-in_err-initial_page-clause-errors g c =
     let e = err_from_is_err_and c.from_residual-in_err-initial_page.result c.from_residual-in_err-initial_page.ensures.1 in
-    rw (e.1, e.2) (returned_error _ _ (answered-beginning _ _) (inr c.in_err-initial_page.ensures.value))
+    rw (e.1, e.2) (returned_error _ _ (from_input-beginning _ _) (inr c.in_err-initial_page.ensures.value))
 
 pub returns-in_err-fault-clause-errors : goal.returns-in_err-fault-clause-errors
 returns-in_err-fault-clause-errors g c =

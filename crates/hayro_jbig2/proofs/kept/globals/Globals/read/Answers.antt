@@ -2,18 +2,18 @@ use Rattle.std.proofs.Common.{Ok}
 use Rattle.std.proofs.lemmas.Result.{err_from_is_err_and}
 use Rattle.jbig2_base.specs.inner.SegmentViews.{segment_views}
 use Rattle.hayro_jbig2.specs.Names.{nothing_shared}
-use Rattle.jbig2_base.proofs.Answered.{answered-sequential}
-use Rattle.hayro_jbig2.proofs.Answered.{answered-named}
-use Rattle.hayro_jbig2.proofs.Answering.{returned, returned_error}
+use Rattle.jbig2_base.proofs.FromInput.{from_input-sequential}
+use Rattle.hayro_jbig2.proofs.FromInput.{from_input-named}
+use Rattle.hayro_jbig2.proofs.DrawingFromInput.{returned, returned_error}
 use Rattle.hayro_jbig2.proofs.kept.globals.Globals.read.Goals as goal
 
 pub returns-clause-errors : goal.returns-clause-errors
-returns-clause-errors g c = returned _ c.from_segments.result _ (answered-named c.args.reading (segment_views c.deref.result.now) (nothing_shared c.in_ok-fault.fault)) c.from_segments.ensures.value
+returns-clause-errors g c = returned _ c.from_segments.result _ (from_input-named c.args.reading (segment_views c.deref.result.now) (nothing_shared c.in_ok-fault.fault)) c.from_segments.ensures.value
 
 pub returns-in_err-segments-clause-errors : goal.returns-in_err-segments-clause-errors
 returns-in_err-segments-clause-errors g c =
     let e = err_from_is_err_and c.from_residual-in_err-segments.result c.from_residual-in_err-segments.ensures.1 in
-    rw (e.1, e.2) (returned_error _ _ (answered-sequential _ _) c.in_err-segments.ensures)
+    rw (e.1, e.2) (returned_error _ _ (from_input-sequential _ _) c.in_err-segments.ensures)
 
 pub returns-in_err-sort_segments-clause-errors : goal.returns-in_err-sort_segments-clause-errors
 returns-in_err-sort_segments-clause-errors g c =
