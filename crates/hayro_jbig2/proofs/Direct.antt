@@ -21,8 +21,8 @@ use Rattle.jbig2_region.specs.inner.RegionViews.{region_view}
 use Rattle.jbig2_region.specs.inner.GenericViews as generics
 use Rattle.jbig2_region.specs.inner.RefinedViews as refinements
 use Rattle.jbig2_region.specs.Refinement.{refined_decoded}
-use Rattle.jbig2_region.specs.declared.generic_refinement.GenericRefinementRegionHeader.{GenericRefinementRegionHeader}
-use Rattle.jbig2_region.specs.declared.region_info.DecodedRegion.{DecodedRegion}
+use Rattle.jbig2_region.specs.declared.generic_refinement.header.GenericRefinementRegionHeader.{GenericRefinementRegionHeader}
+use Rattle.jbig2_region.specs.declared.decoded_region.DecodedRegion.{DecodedRegion}
 use Rattle.jbig2_region.specs.declared.region_info.RegionSegmentInfo.{RegionSegmentInfo}
 use Rattle.jbig2_text.specs.inner.TextViews as texts
 use Rattle.hayro_jbig2.specs.Names.{Names, nothing_passed, with_passed}

@@ -23,8 +23,8 @@ use Rattle.jbig2_region.specs.RefinementTemplates.{reference_pixels, region_pixe
 use Rattle.jbig2_region.specs.RefinementHeader.{IsRefinement, RefinementHeader}
 use Rattle.jbig2_region.specs.inner.GenericViews as generics
 use Rattle.jbig2_region.specs.inner.RefinedViews as refinements
-use Rattle.jbig2_region.specs.declared.generic.GenericRegionHeader.{GenericRegionHeader}
-use Rattle.jbig2_region.specs.declared.generic_refinement.GenericRefinementRegionHeader.{GenericRefinementRegionHeader}
+use Rattle.jbig2_region.specs.declared.generic.header.GenericRegionHeader.{GenericRegionHeader}
+use Rattle.jbig2_region.specs.declared.generic_refinement.header.GenericRefinementRegionHeader.{GenericRefinementRegionHeader}
 use Rattle.jbig2_region.specs.declared.region_info.RegionSegmentInfo.{RegionSegmentInfo}
 use Rattle.jbig2_region.specs.declared.template.AdaptiveTemplatePixel.{AdaptiveTemplatePixel}
 use Rattle.jbig2_region.proofs.PlaceLemmas.{first_pixels-length}

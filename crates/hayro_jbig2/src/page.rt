@@ -18,9 +18,11 @@ pub(crate) mod drawn_page;
 mod image;
 mod output;
 mod packed;
+mod page_segments;
 
 use crate::kept::globals::Globals;
 use crate::page::beginning::beginning_of;
+use crate::page::page_segments::PageSegments;
 use crate::settings::DecodeSettings;
 use jbig2_base::error::{DecodeError, Result};
 use jbig2_base::file::{parse_segments_sequential, sequence_fault};
@@ -30,24 +32,6 @@ use jbig2_base::segment::Segment;
 use jbig2_base::sort::sort_segments;
 use std::alloc::Allocator;
 use std::marker::Model;
-
-/// The segments of a page in order: its own, or those that its file holds.
-#[derive(Drop)]
-enum PageSegments<'a, A: Allocator> {
-    Owned(Vec<Segment<'a, A>, A>),
-    Borrowed(&'a Vec<Segment<'a, A>, A>),
-}
-
-impl<'a, A: Allocator> PageSegments<'a, A> {
-    fn as_vec(&self) -> &Vec<Segment<'a, A>, A>
-        ensures { result.now.items ≡ segment_list self.now }
-    {
-        match self {
-            PageSegments::Owned(segments) => segments,
-            PageSegments::Borrowed(segments) => segments,
-        }
-    }
-}
 
 /// A page: its segments, and how it begins. It borrows the bytes that it was read from.
 #[derive(Drop)]

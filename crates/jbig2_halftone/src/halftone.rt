@@ -32,7 +32,7 @@ use jbig2_base::bitmap::steps::Steps;
 use jbig2_base::error::{DecodeError, RegionError, Result};
 use jbig2_base::search::code_length;
 use jbig2_coder::arithmetic_decoder::ArithmeticDecoderContext;
-use jbig2_region::region_info::DecodedRegion;
+use jbig2_region::decoded_region::DecodedRegion;
 use std::alloc::Allocator;
 use std::sync::ledger::Ledger;
 

@@ -15,7 +15,7 @@ use Rattle.jbig2_region.specs.Raster.{Coding, decoded_region, no_pixels, fresh_c
 use Rattle.jbig2_mmr.specs.T6.{mmr_rows}
 use Rattle.jbig2_region.specs.Templates.{context_bits}
 use Rattle.jbig2_region.specs.inner.PixelArrays.{pixels_view}
-use Rattle.jbig2_region.specs.declared.generic.GenericRegionHeader.{GenericRegionHeader}
+use Rattle.jbig2_region.specs.declared.generic.header.GenericRegionHeader.{GenericRegionHeader}
 use Rattle.jbig2_region.specs.declared.template.AdaptiveTemplatePixel.{AdaptiveTemplatePixel}
 
 -- a region that a coder and contexts that stand at the start decode

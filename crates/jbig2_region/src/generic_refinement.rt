@@ -1,44 +1,30 @@
 //! Reads and decodes refinement regions (T.88, 6.3 and 7.4.7).
-ghost use Rattle.std.specs.Prelude.{◌≡◌, IfOk, OnErr, OnOk};
+ghost use Rattle.std.specs.Prelude.{◌≡◌, OnErr, OnOk};
 ghost use Rattle.jbig2_steps.specs.Work.{CountsWithin, price_of_bitmap};
 ghost use Rattle.jbig2_base.specs.Results.{Returns, Gives, Leaves};
-ghost use Rattle.jbig2_base.specs.Fields.{Parses};
-ghost use Rattle.jbig2_region.specs.RegionInfo.{IsWhiteFor, PlacedRegion};
+ghost use Rattle.jbig2_region.specs.RegionInfo.{IsWhiteFor};
 ghost use Rattle.jbig2_region.specs.inner.RegionViews.{region_view};
 ghost use Rattle.jbig2_region.specs.Refinement.{is_far, is_smaller, offset, refined_result, refined_contexts, refined_decoded};
 ghost use Rattle.jbig2_region.specs.Steps.{CountsRefined};
-ghost use Rattle.jbig2_region.specs.RefinementHeader.{IsRefinement, refinement_header_at, RefinementHeader};
+ghost use Rattle.jbig2_region.specs.RefinementHeader.{IsRefinement};
 ghost use Rattle.jbig2_region.specs.inner.RefinedViews.{header_view};
-ghost use Rattle.jbig2_region.specs.inner.PixelArrays.{filled};
 ghost use Rattle.jbig2_base.specs.Causes.{HasCause};
-ghost use Rattle.jbig2_region.specs.Causes.{BreaksOffset, BreaksRefinementHeader};
+ghost use Rattle.jbig2_region.specs.Causes.{BreaksOffset};
 
+pub mod header;
+
+use crate::decoded_region::DecodedRegion;
 use crate::raster::fresh_contexts;
 pub use crate::refinement_coding::decode_bitmap;
-use crate::region_info::{DecodedRegion, RegionSegmentInfo, parse_region_segment_info};
+use crate::region_info::RegionSegmentInfo;
 pub use crate::template::adaptive::parse_template_pixels;
-use crate::template::{AdaptiveTemplatePixel, RefinementTemplate};
+pub use header::{GenericRefinementRegionHeader, parse};
+use jbig2_base::bitmap::Bitmap;
 use jbig2_base::bitmap::steps::Steps;
-use jbig2_base::bitmap::{Bitmap, MAX_DIMENSION};
 use jbig2_base::error::{OverflowError, RegionError, Result};
-use jbig2_base::field::byte_field;
-use jbig2_base::reader::Reader;
 use jbig2_coder::arithmetic_decoder::{ArithmeticDecoder, ArithmeticDecoderContext};
 use std::alloc::Allocator;
 use std::sync::ledger::Ledger;
-
-/// The header of a refinement region, with its coded bytes (T.88, 7.4.7).
-#[derive(Clone, Copy, Debug)]
-pub struct GenericRefinementRegionHeader<'a> {
-    pub region_info: RegionSegmentInfo,
-    pub template: RefinementTemplate,
-    /// Whether typical prediction is on.
-    pub tpgron: bool,
-    /// Not used at template 1.
-    pub adaptive_template_pixels: [AdaptiveTemplatePixel; 2],
-    /// The coded bytes.
-    pub bytes: &'a [u8],
-}
 
 /// The reference of a refinement: a bitmap whose top left pixel lies `dx` columns to the right of the
 /// region's and `dy` rows below it.
@@ -47,40 +33,6 @@ pub struct ReferenceBitmap<'a, B: Allocator> {
     pub bitmap: &'a Bitmap<B>,
     pub dx: i32,
     pub dy: i32,
-}
-
-/// Reads the header of a refinement region at the reader's place. It holds the coded bytes after it
-/// (T.88, 7.4.7).
-///
-/// Returns `ParseError::UnexpectedEof` if there are too few bytes, the errors of
-/// `parse_region_segment_info`, or `OverflowError::BitmapDimension` if a side is above 65535
-/// pixels. An error leaves the reader where it was. The adaptive pixels may lie anywhere. Takes no
-/// memory.
-#[tactic(auto, using(crate::proofs::HeaderCauses::refinement_header_cause), unfolding(crate::specs::RefinementHeader::refinement_header_at))]
-pub fn parse<'a>(reader: &mut Reader<'a>) -> Result<GenericRefinementRegionHeader<'a>>
-    ensures parses { Parses reader.old reader.new result header_view
-        (refinement_header_at reader.old.bytes) }
-    ensures parsed { IfOk result (λ h. IsRefinement (header_view h)) }
-    ensures unused { IfOk result (λ h. h.adaptive_template_pixels
-        ≡ filled 2 (header_view h).adaptive_template_pixels) }
-    ensures causes { HasCause result (BreaksRefinementHeader reader.old.bytes) }
-{
-    let mut ahead = reader.duplicate();
-    let region_info = parse_region_segment_info(&mut ahead)?;
-    let flags = byte_field(&mut ahead)?;
-    let template = RefinementTemplate::from_byte(flags);
-    let adaptive_template_pixels = parse_template_pixels(&mut ahead, template)?;
-    if region_info.width > MAX_DIMENSION || region_info.height > MAX_DIMENSION {
-        return Err(OverflowError::BitmapDimension.into());
-    }
-    *reader = ahead;
-    Ok(GenericRefinementRegionHeader {
-        region_info,
-        template,
-        tpgron: flags / 2 % 2 == 1,
-        adaptive_template_pixels,
-        bytes: reader.tail(),
-    })
 }
 
 /// Whether the reference is narrower or lower than the region.

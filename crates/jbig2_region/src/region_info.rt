@@ -1,17 +1,14 @@
 //! Reads the field that every region segment begins with (T.88, 7.4.1).
-ghost use Rattle.std.specs.Prelude.{◌≡◌};
 ghost use Rattle.jbig2_base.specs.Fields.{Parses};
-ghost use Rattle.jbig2_region.specs.RegionInfo.{placed, region_info_at};
-ghost use Rattle.jbig2_region.specs.inner.RegionViews.{region_view};
+ghost use Rattle.jbig2_region.specs.RegionInfo.{region_info_at};
 ghost use Rattle.jbig2_base.specs.Causes.{HasCause};
 ghost use Rattle.jbig2_region.specs.Causes.{BreaksRegionInfo};
 
-use jbig2_base::bitmap::Bitmap;
+pub use crate::decoded_region::DecodedRegion;
 use jbig2_base::bitmap::operator::CombinationOperator;
 use jbig2_base::error::{DecodeError, Result};
 use jbig2_base::field::{byte_field, u32_field};
 use jbig2_base::reader::Reader;
-use std::alloc::Allocator;
 
 /// A region's size, its place on the page and how it is combined with the page.
 #[derive(Clone, Copy, Debug)]
@@ -56,27 +53,4 @@ pub fn parse_region_segment_info(reader: &mut Reader<'_>) -> Result<RegionSegmen
         y_location,
         combination_operator,
     })
-}
-
-/// A region that is decoded, its place on the page and how it is combined with the page.
-#[derive(Drop)]
-pub struct DecodedRegion<A: Allocator> {
-    pub bitmap: Bitmap<A>,
-    pub x_location: u32,
-    pub y_location: u32,
-    pub combination_operator: CombinationOperator,
-}
-
-impl<A: Allocator> DecodedRegion<A> {
-    /// This bitmap, at the place that the region's information gives.
-    pub fn new(region_info: &RegionSegmentInfo, bitmap: Bitmap<A>) -> DecodedRegion<A>
-        ensures { region_view result ≡ placed region_info.now bitmap }
-    {
-        DecodedRegion {
-            bitmap,
-            x_location: region_info.x_location,
-            y_location: region_info.y_location,
-            combination_operator: region_info.combination_operator,
-        }
-    }
 }

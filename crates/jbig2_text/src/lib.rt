@@ -36,7 +36,7 @@ use crate::header::{TextRegionCoding, TextRegionFlags, TextRegionHeader, TextReg
 pub use crate::instances::draw_instances_by;
 pub use crate::prefixed::PrefixedReadings;
 pub use crate::readings::ReadInstances;
-pub use crate::refined::{check_sides, new_symbol};
+pub use crate::refined::new_symbol;
 pub use crate::refining::{Refining, pixels_of_template};
 pub use crate::symbol_list::SymbolList;
 pub use crate::symbols::TextParams;
@@ -49,7 +49,7 @@ use jbig2_base::error::Result;
 use jbig2_base::reader::Reader;
 use jbig2_base::search::code_length;
 use jbig2_coder::huffman_table::{HuffmanTable, StandardHuffmanTables};
-use jbig2_region::region_info::DecodedRegion;
+use jbig2_region::decoded_region::{DecodedRegion, check_sides};
 use jbig2_region::template::AdaptiveTemplatePixel;
 use std::alloc::Allocator;
 use std::sync::ledger::Ledger;

@@ -12,9 +12,10 @@ use crate::numbers;
 use crate::readings::ReadInstances;
 use crate::refining::Refining;
 use crate::symbol_list::SymbolList;
+use jbig2_base::bitmap::Bitmap;
 use jbig2_base::bitmap::steps::Work;
-use jbig2_base::bitmap::{Bitmap, MAX_DIMENSION};
-use jbig2_base::error::{OverflowError, Result, SymbolError};
+use jbig2_base::error::{Result, SymbolError};
+use jbig2_region::decoded_region::check_sides;
 use jbig2_region::generic_refinement::ReferenceBitmap;
 use std::alloc::Allocator;
 use std::sync::ledger::Ledger;
@@ -74,18 +75,6 @@ fn outline_of<A: Allocator>(from: &Bitmap<A>, deltas: &RefinementDeltas) -> Resu
         dx,
         dy,
     })
-}
-
-/// Refuses a size that a bitmap can't have: a side above 65535 gives
-/// `OverflowError::BitmapDimension`.
-pub fn check_sides(width: u32, height: u32) -> Result<()>
-    ensures { let meant = blank_or_overflow width height false in
-        Returns (λ _. blank width height false) result meant }
-{
-    if width > MAX_DIMENSION || height > MAX_DIMENSION {
-        return Err(OverflowError::BitmapDimension.into());
-    }
-    Ok(())
 }
 
 /// A white bitmap for a symbol. The size is checked first, so that a refused size takes no work.

@@ -374,10 +374,10 @@ impl<'a, A: Allocator + Clone> Page<'a, A> {
             let price = price_of_bitmap page.width page.height in
             IfOk result (λ _. worth work.new + 64 * price ≤ worth work.old) }
     {
+        let page = &self.initial_page;
         // One bitmap for clearing the page, one for handing it out.
-        let (width, height) = self.dimensions();
-        work.pay_bitmaps(2, width, height)?;
-        canvas.begin(&self.initial_page)?;
+        work.pay_bitmaps(2, page.width, page.height)?;
+        canvas.begin(page)?;
         let drawer = Drawer {
             reading: self.reading,
             globals,

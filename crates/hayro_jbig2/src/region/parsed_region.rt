@@ -17,7 +17,8 @@ use jbig2_coder::arithmetic_decoder::ArithmeticDecoderContext;
 use jbig2_coder::huffman_table::StandardHuffmanTables;
 use jbig2_halftone::halftone::{self, HalftoneRegionHeader};
 use jbig2_halftone::pattern::PatternDictionary;
-use jbig2_region::generic::{self, DecodedRegion, GenericRegionHeader};
+use jbig2_region::decoded_region::{DecodedRegion, check_sides};
+use jbig2_region::generic::{self, GenericRegionHeader};
 use jbig2_region::generic_refinement::{self, GenericRefinementRegionHeader};
 use jbig2_region::region_info::RegionSegmentInfo;
 use jbig2_text::header::TextRegionHeader;
@@ -184,7 +185,7 @@ impl<'a, 'n, 'r, A: Allocator + Clone> ParsedRegion<'a, 'n, 'r, A> {
             worth work.new + 32 * price_of_bitmap page.width page.height ≤ worth work.old) }
     {
         let info = self.region_info();
-        jbig2_text::check_sides(info.width, info.height)?;
+        check_sides(info.width, info.height)?;
         self.pay_bitmaps(2, work)?;
         let alloc = workspace.alloc.clone()?;
         let mut bitmap = Bitmap::new_with(alloc, info.width, info.height, self.initial_pixel())?;

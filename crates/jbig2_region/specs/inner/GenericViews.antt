@@ -1,6 +1,6 @@
 -- The code's header of a generic region, as the definition's header.
 use Rattle.jbig2_region.specs.inner.PixelArrays.{is_extended, pixels_view}
-use Rattle.jbig2_region.specs.declared.generic.GenericRegionHeader.{GenericRegionHeader}
+use Rattle.jbig2_region.specs.declared.generic.header.GenericRegionHeader.{GenericRegionHeader}
 use Rattle.jbig2_region.specs.GenericHeader.{GenericHeader}
 
 abbrev pub header_view : GenericRegionHeader → GenericHeader

@@ -1,6 +1,6 @@
 -- The code's header of a refinement, as the definition's header.
 use Rattle.jbig2_region.specs.inner.PixelArrays.{two_pixels}
-use Rattle.jbig2_region.specs.declared.generic_refinement.GenericRefinementRegionHeader.{GenericRefinementRegionHeader}
+use Rattle.jbig2_region.specs.declared.generic_refinement.header.GenericRefinementRegionHeader.{GenericRefinementRegionHeader}
 use Rattle.jbig2_region.specs.RefinementHeader.{RefinementHeader}
 
 abbrev pub header_view : GenericRefinementRegionHeader → RefinementHeader

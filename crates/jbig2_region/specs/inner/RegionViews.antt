@@ -1,5 +1,5 @@
 -- A decoded region of the code, as the definitions' region.
-use Rattle.jbig2_region.specs.declared.region_info.DecodedRegion.{DecodedRegion}
+use Rattle.jbig2_region.specs.declared.decoded_region.DecodedRegion.{DecodedRegion}
 use Rattle.jbig2_region.specs.RegionInfo.{PlacedRegion}
 use Rattle.std.specs.Prelude.{Option, Some, None}
 use Rattle.std.specs.Borrow.{Bor}

@@ -2,7 +2,7 @@ use Rattle.std.proofs.Common.{rules, Err}
 use Rattle.std.proofs.lemmas.Result.{err_from_is_err_and}
 use Rattle.jbig2_region.specs.GenericHeader.{rows_at}
 use Rattle.jbig2_region.proofs.Causes.{rows_have_cause}
-use Rattle.jbig2_region.proofs.generic.rows.Goals as goal
+use Rattle.jbig2_region.proofs.generic.header.rows.Goals as goal
 
 pub returns-in_err-rows-clause-causes : goal.returns-in_err-rows-clause-causes
 unfolding rows_at

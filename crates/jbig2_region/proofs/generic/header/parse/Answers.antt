@@ -2,7 +2,7 @@ use Rattle.std.proofs.Common.{rules, Err}
 use Rattle.std.proofs.lemmas.Result.{err_from_is_err_and}
 use Rattle.jbig2_region.specs.GenericHeader.{generic_header_at}
 use Rattle.jbig2_region.proofs.HeaderCauses.{generic_header_cause}
-use Rattle.jbig2_region.proofs.generic.parse.Goals as goal
+use Rattle.jbig2_region.proofs.generic.header.parse.Goals as goal
 
 pub returns-in_err-region_info-clause-causes : goal.returns-in_err-region_info-clause-causes
 unfolding generic_header_at
