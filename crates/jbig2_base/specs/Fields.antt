@@ -5,7 +5,7 @@ use Rattle.std.specs.Prelude.{ℕ, nat_lt, List, length, take, drop, Result, Ok,
 use Rattle.std.specs.Prelude.{OnErr, pos, negsuc}
 use Rattle.std.specs.Int.{Width, byte_len, from_be_bytes, cast_signed}
 use Rattle.jbig2_base.specs.Results.{◌>>=◌, some_or, Returns, Gives}
-use Rattle.jbig2_base.specs.Bits.{Place, bits_left, bits_next, bits_on}
+use Rattle.jbig2_base.specs.Bits.{Place, bits_left, bits_next, bits_on, start_of}
 use Rattle.jbig2_base.specs.declared.error.DecodeError.{DecodeError}
 use Rattle.jbig2_base.specs.declared.error.DecodeError.TheVariants.{Parse}
 use Rattle.jbig2_base.specs.declared.error.ParseError.TheVariants.{UnexpectedEof}
@@ -33,10 +33,11 @@ abbrev pub word_or : DecodeError → ℤ → Result ℤ DecodeError  -- a number
 word_or e (pos n) = if nat_lt n 2147483648 then Ok (pos n) else Err e
 word_or e (negsuc n) = if nat_lt n 2147483648 then Ok (negsuc n) else Err e
 
--- The reader is after what it took. A call that refuses leaves it where it was.
+-- The reader is after what it took, at the beginning of a byte. A call that refuses leaves it where it was.
 pub record Parses {X Y : Type 0} (old new : Place) (result : Result X DecodeError) (view : X → Y)
     (meant : Result (Y × List ℕ) DecodeError) : Type 0 where
   pub value : Returns (λ x. (view x, new.bytes)) result meant
+  pub place : OnOk result (new ≡ start_of new.bytes)
   pub stays : OnErr result (new ≡ old)
   pub shorter : OnOk result (length new.bytes ≤ length old.bytes)
 
@@ -44,5 +45,6 @@ pub record Parses {X Y : Type 0} (old new : Place) (result : Result X DecodeErro
 pub record Takes {X Y : Type 0} (old new : Place) (result : Result X DecodeError) (view : X → Y)
     (meant : Result (Y × List ℕ) DecodeError) : Type 0 where
   pub value : Gives (λ x. (view x, new.bytes)) result meant
+  pub place : OnOk result (new ≡ start_of new.bytes)
   pub stays : OnErr result (new ≡ old)
   pub shorter : OnOk result (length new.bytes ≤ length old.bytes)

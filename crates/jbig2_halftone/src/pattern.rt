@@ -1,6 +1,7 @@
 //! Pattern dictionaries (T.88, 6.7 and 7.4.4): cuts the patterns out of one collective bitmap.
 ghost use Rattle.std.specs.Prelude.{◌≡◌, ◌+◌, ◌*◌, ◌/◌, ◌≤◌, ◌∷◌, drop, length, IfOk, OnErr, OnOk, Ok, Bool, true, false};
 ghost use Rattle.jbig2_steps.specs.Work.{CountsWithin};
+ghost use Rattle.jbig2_base.specs.Bits.{start_of};
 ghost use Rattle.jbig2_base.specs.Grid.{max_side};
 ghost use Rattle.jbig2_base.specs.Results.{Returns, Gives, Leaves};
 ghost use Rattle.jbig2_base.specs.Counts.{KeepsLanes, words_copied};
@@ -76,6 +77,7 @@ pub fn parse<'a>(reader: &mut Reader<'a>, strict: bool) -> Result<PatternDiction
         (pattern_header_at strict reader.old.bytes) }
     ensures width { IfOk result (λ h. 1 ≤ h.pattern_width) }
     ensures height { IfOk result (λ h. 1 ≤ h.pattern_height) }
+    ensures place { OnOk result (reader.new ≡ start_of reader.new.bytes) }
     ensures stays { OnErr result (reader.new ≡ reader.old) }
     ensures causes { HasCause result (BreaksPatternHeader reader.old.bytes) }
 {

@@ -1,5 +1,6 @@
 //! The header of a symbol dictionary (T.88, 7.4.2.1).
-ghost use Rattle.std.specs.Prelude.{◌≡◌, ◌/◌, ◌%◌, ◌≤◌, IfOk, OnErr};
+ghost use Rattle.std.specs.Prelude.{◌≡◌, ◌/◌, ◌%◌, ◌≤◌, IfOk, OnErr, OnOk};
+ghost use Rattle.jbig2_base.specs.Bits.{start_of};
 ghost use Rattle.jbig2_base.specs.Results.{Returns};
 ghost use Rattle.jbig2_region.specs.inner.PixelArrays.{filled};
 ghost use Rattle.jbig2_text.specs.inner.TextViews.{some_pixels};
@@ -201,6 +202,7 @@ pub fn parse<'a>(reader: &mut Reader<'a>, strict: bool) -> Result<SymbolDictiona
         ≡ filled 4 (header_view h).adaptive_template_pixels) }
     ensures unrefined { IfOk result (λ h. h.refinement_at_pixels
         ≡ filled 2 (header_view h).refinement_at_pixels) }
+    ensures place { OnOk result (reader.new ≡ start_of reader.new.bytes) }
     ensures stays { OnErr result (reader.new ≡ reader.old) }
     ensures causes { HasCause result (BreaksSymbolHeader reader.old.bytes) }
 {

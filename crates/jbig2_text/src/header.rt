@@ -1,5 +1,6 @@
 //! Headers of text regions (T.88, 7.4.3.1).
-ghost use Rattle.std.specs.Prelude.{◌≡◌, ◌≤◌, ◌%◌, ◌^◌, IfOk, OnErr};
+ghost use Rattle.std.specs.Prelude.{◌≡◌, ◌≤◌, ◌%◌, ◌^◌, IfOk, OnErr, OnOk};
+ghost use Rattle.jbig2_base.specs.Bits.{start_of};
 ghost use Rattle.jbig2_base.specs.Results.{Returns, Gives};
 ghost use Rattle.jbig2_region.specs.inner.PixelArrays.{filled};
 ghost use Rattle.jbig2_text.specs.SymbolCodes.{max_symbols};
@@ -261,6 +262,7 @@ pub fn parse<'a, A: Allocator + Clone>(
     ensures strips { IfOk result (λ h. h.flags.log_strip_size ≤ 3) }
     ensures unused { IfOk result (λ h. h.refinement_at_pixels
         ≡ filled 2 (header_view h).refinement_pixels) }
+    ensures place { OnOk result (reader.new ≡ start_of reader.new.bytes) }
     ensures stays { OnErr result (reader.new ≡ reader.old) }
     ensures causes { HasCauseOrNoMemory result (BreaksTextHeader num_symbols reader.old.bytes) }
 {
@@ -270,7 +272,7 @@ pub fn parse<'a, A: Allocator + Clone>(
     let fields = parse_fields(&mut ahead)?;
     let refinement_at_pixels = fields.refinement_at_pixels;
     let coding = parse_coding(alloc, &mut ahead, fields.table_numbers, num_symbols)?;
-    *reader = ahead;
+    *reader = Reader::new(ahead.tail());
     Ok(TextRegionHeader {
         region_info,
         flags: fields.flags,

@@ -1,5 +1,5 @@
 //! The prefix codes of the symbols' ids (T.88, 7.4.3.1.7).
-ghost use Rattle.std.specs.Prelude.{◌≡◌, ◌≤◌, ◌^◌, ◌++◌, [], length, replicate, IfOk, Ok};
+ghost use Rattle.std.specs.Prelude.{◌≡◌, ◌≤◌, ◌^◌, ◌++◌, [], length, replicate, IfOk, Ok, OnOk};
 ghost use Rattle.jbig2_base.specs.Results.{Gives};
 ghost use Rattle.jbig2_base.specs.Bits.{start_of};
 ghost use Rattle.jbig2_coder.specs.PrefixCode.{AreShort, table_of};
@@ -215,9 +215,12 @@ pub fn parse_symbol_codes<A: Allocator + Clone>(
     requires few { count ≤ max_symbols }
     ensures value { let meant = symbol_codes_at count reader.old.bytes in
         Gives (λ table. (table, reader.new.bytes)) result meant }
+    ensures place { OnOk result (reader.new ≡ start_of reader.new.bytes) }
     ensures causes { HasCauseOrNoMemory result
         (BreaksSymbolCodes count (start_of reader.old.bytes)) }
 {
     *reader = Reader::new(reader.tail());
-    read_symbol_codes(alloc, reader, count)
+    let codes = read_symbol_codes(alloc, reader, count)?;
+    *reader = Reader::new(reader.tail());
+    Ok(codes)
 }

@@ -1,5 +1,6 @@
 //! Headers of halftone regions (T.88, 7.4.5).
-ghost use Rattle.std.specs.Prelude.{◌≡◌, ◌≤◌, IfOk, OnErr, Bool};
+ghost use Rattle.std.specs.Prelude.{◌≡◌, ◌≤◌, IfOk, OnErr, OnOk, Bool};
+ghost use Rattle.jbig2_base.specs.Bits.{start_of};
 ghost use Rattle.jbig2_base.specs.Grid.{max_side};
 ghost use Rattle.jbig2_base.specs.Results.{Returns};
 ghost use Rattle.jbig2_base.specs.Fields.{signed_at};
@@ -116,6 +117,7 @@ pub fn parse<'a>(reader: &mut Reader<'a>, strict: bool) -> Result<HalftoneRegion
         (halftone_header_at strict reader.old.bytes) }
     ensures columns { IfOk result (λ h. h.grid_position_and_size.width ≤ max_side) }
     ensures rows { IfOk result (λ h. h.grid_position_and_size.height ≤ max_side) }
+    ensures place { OnOk result (reader.new ≡ start_of reader.new.bytes) }
     ensures stays { OnErr result (reader.new ≡ reader.old) }
     ensures causes { HasCause result (BreaksHalftoneHeader reader.old.bytes) }
 {

@@ -87,7 +87,7 @@ pub fn parse<'a>(
         return Err(OverflowError::BitmapDimension.into());
     }
     region_info.height = height;
-    *reader = ahead;
+    *reader = Reader::new(ahead.tail());
     Ok(GenericRegionHeader {
         region_info,
         mmr,

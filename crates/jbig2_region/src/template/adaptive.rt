@@ -97,7 +97,7 @@ pub fn parse_adaptive_template_pixels(
         Template::Template0 => parse_four(&mut ahead)?,
         _ => first_alone(parse_adaptive_template_pixel(&mut ahead)?),
     };
-    *reader = ahead;
+    *reader = Reader::new(ahead.tail());
     Ok(pixels)
 }
 
@@ -150,10 +150,11 @@ pub fn parse_template_pixels(
             let mut ahead = reader.duplicate();
             let first = parse_free_pixel(&mut ahead)?;
             let second = parse_free_pixel(&mut ahead)?;
-            *reader = ahead;
+            *reader = Reader::new(ahead.tail());
             Ok([first, second])
         }
         RefinementTemplate::Template1 => {
+            *reader = Reader::new(reader.tail());
             let unused = AdaptiveTemplatePixel { x: 0, y: 0 };
             Ok([unused, unused])
         }

@@ -16,6 +16,7 @@ loop-segment-preserved g c =
 pub returns-then-lacks_page : goal.returns-then-lacks_page
 returns-then-lacks_page g c =
     let segment = c.segment-item.result in
-    sym c.loop-segment.invariant
+    rw c.into.ensures
+    (sym c.loop-segment.invariant
     ∙ left-first (λ left. associated c.args.strict (segment_views left)) c.args.segments.now c.loop-segment.segment-index segment (omega arith) c.segment-item.is
-    ∙ cond-true (lacks_page c.args.strict (header_view segment.header)) _ _ (sym c.lacks_page.ensures ∙ c.if-lacks_page.true)
+    ∙ cond-true (lacks_page c.args.strict (header_view segment.header)) _ _ (sym c.lacks_page.ensures ∙ c.if-lacks_page.true))
