@@ -145,7 +145,7 @@ returns-then-miscounts-clause-causes g c =
     let counted : (is_strict reading && miscounts file.0.number_of_pages (length parts.1)) ≡ true =
     ap (λ (b : Bool). b && miscounts file.0.number_of_pages (length parts.1)) (sym mode ∙ c.if-strict.true)
     ∙ ap (λ (n : ℕ). miscounts file.0.number_of_pages n) (length_is ∙ sym (c.len.ensures ∙ c.in_ok-segments.segments.pages.ok.0)) ∙ sym c.miscounts.ensures ∙ c.if-miscounts.true in
-    file_cause reading c.args.bytes.now _ (inr (book-miscounted reading c.args.bytes.now file parts c.in_ok-file.ensures.value known split.1 counted))
+    rw c.into.ensures (file_cause reading c.args.bytes.now _ (inr (book-miscounted reading c.args.bytes.now file parts c.in_ok-file.ensures.value known split.1 counted)))
 
 pub returns-clause-taken : goal.returns-clause-taken
 returns-clause-taken g c =
