@@ -26,7 +26,7 @@ use jbig2_base::bitmap::operator::CombinationOperator;
 use jbig2_base::bitmap::part::Area;
 use jbig2_base::bitmap::steps::Steps;
 use jbig2_base::bitmap::{Bitmap, MAX_DIMENSION};
-use jbig2_base::error::{DecodeError, OverflowError, ParseError, Result};
+use jbig2_base::error::{OverflowError, ParseError, Result};
 use jbig2_base::field::{byte_field, u32_field};
 use jbig2_base::reader::Reader;
 use jbig2_coder::arithmetic_decoder::ArithmeticDecoderContext;
@@ -61,7 +61,7 @@ fn side_field(reader: &mut Reader<'_>) -> Result<u8>
 {
     let side = byte_field(reader)?;
     if side == 0 {
-        return Err(DecodeError::Parse(ParseError::UnexpectedEof));
+        return Err(ParseError::UnexpectedEof.into());
     }
     Ok(side)
 }
@@ -240,7 +240,7 @@ pub fn decode<A: Allocator + Clone, B: Allocator, L: Ledger>(
     let height = u32::from(header.pattern_height);
     let columns = (u64::from(header.num_patterns) + 1) * u64::from(width);
     if columns > u64::from(MAX_DIMENSION) {
-        return Err(DecodeError::Overflow(OverflowError::BitmapDimension));
+        return Err(OverflowError::BitmapDimension.into());
     }
     let collective = decode_collective(alloc.clone()?, header, columns as u32, contexts, steps)?;
     let count = header.num_patterns + 1;

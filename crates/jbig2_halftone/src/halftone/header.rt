@@ -11,7 +11,7 @@ ghost use Rattle.jbig2_halftone.specs.Causes.{BreaksHalftoneHeader};
 
 use jbig2_base::bitmap::MAX_DIMENSION;
 use jbig2_base::bitmap::operator::CombinationOperator;
-use jbig2_base::error::{DecodeError, OverflowError, Result};
+use jbig2_base::error::{OverflowError, Result};
 use jbig2_base::field::{byte_field, i32_field, u16_field, u32_field};
 use jbig2_base::reader::Reader;
 use jbig2_region::region_info::{RegionSegmentInfo, parse_region_segment_info};
@@ -92,7 +92,7 @@ fn parse_grid(reader: &mut Reader<'_>) -> Result<HalftoneGridPositionAndSize>
     let width = u32_field(reader)?;
     let height = u32_field(reader)?;
     if width > MAX_DIMENSION || height > MAX_DIMENSION {
-        return Err(DecodeError::Overflow(OverflowError::GridDimension));
+        return Err(OverflowError::GridDimension.into());
     }
     let horizontal_offset = i32_field(reader)?;
     let vertical_offset = i32_field(reader)?;
