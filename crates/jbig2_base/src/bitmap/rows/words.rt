@@ -8,10 +8,13 @@ ghost use Rattle.jbig2_base.specs.inner.Combines.{IsBlockOnBoth, CombinesBlockOf
 ghost use Rattle.jbig2_base.specs.inner.Packed.{blank_word, blank_words, row_bit};
 ghost use Rattle.jbig2_base.specs.inner.WordBits.{field_bit};
 
+mod lent;
+
 use crate::bitmap::operator::CombinationOperator;
 use crate::bitmap::rows::blocks::{Block, Shape, Source, combine_rows};
 use crate::bitmap::steps::Steps;
 use crate::error::Result;
+pub use lent::{Words, WordsMut};
 use std::alloc::Allocator;
 use std::marker::Model;
 use std::sync::ledger::Ledger;
@@ -35,18 +38,6 @@ impl<A: Allocator> Model for PackedWords<A> {
 pub struct RowPlace {
     pub first: usize,
     pub stride: usize,
-}
-
-/// Words that are borrowed for reading, one in each call.
-#[derive(Clone, Copy)]
-pub struct Words<'a> {
-    words: &'a [u64],
-}
-
-/// Words that are borrowed for reading and writing, one in each call.
-#[derive(Drop)]
-pub struct WordsMut<'a> {
-    words: &'a mut [u64],
 }
 
 impl<A: Allocator> PackedWords<A> {
@@ -210,8 +201,8 @@ impl<A: Allocator> PackedWords<A> {
         requires inside { IsBlockOnBoth shape self.old source_shape source.now block }
         requires aligned { block.from / 64 < (block.from + block.columns - 1) / 64
             → block.left % 64 ≡ block.from % 64 }
-        ensures { CombinesBlockOfWords operator shape self.old source_shape source.now block self.new
-            steps.old steps.new }
+        ensures { CombinesBlockOfWords operator shape self.old source_shape source.now block
+            self.new steps.old steps.new }
     {
         let source = Source {
             words: Words {
@@ -241,52 +232,6 @@ fn combine_lent<L: Ledger>(
 {
     let mut words = WordsMut { words };
     combine_rows(&mut words, shape, source, operator, block, steps);
-}
-
-impl<'a> Words<'a> {
-    /// The number of words.
-    #[inline(always)]
-    pub fn len(self) -> usize
-        ensures { result ≡ length self.entry.words.now }
-    {
-        self.words.len()
-    }
-
-    /// Word `index`. Counts one load.
-    #[inline(always)]
-    pub fn load<L: Ledger>(self, index: usize, steps: &mut Steps<L>) -> u64
-        requires { index < length self.words.now }
-        ensures value { result ≡ slice_index self.entry.words.now index }
-        ensures steps { steps.new ≡ record steps.old { loads = steps.old.loads + 1 } }
-    {
-        steps.load();
-        self.words[index]
-    }
-}
-
-impl<'a> WordsMut<'a> {
-    /// Word `index`. Counts one load.
-    #[inline(always)]
-    pub fn load<L: Ledger>(&self, index: usize, steps: &mut Steps<L>) -> u64
-        requires { index < length self.now.words.now }
-        ensures value { result ≡ slice_index self.now.words.now index }
-        ensures steps { steps.new ≡ record steps.old { loads = steps.old.loads + 1 } }
-    {
-        steps.load();
-        self.words[index]
-    }
-
-    /// Replaces word `index`. Counts one word.
-    #[inline(always)]
-    pub fn write<L: Ledger>(&mut self, index: usize, word: u64, steps: &mut Steps<L>)
-        requires { index < length self.old.words.now }
-        ensures same_reference { self.new.words.ghost_name ≡ self.old.words.ghost_name }
-        ensures value { self.new.words.now ≡ slice_set self.old.words.now index word }
-        ensures steps { steps.new ≡ record steps.old { words = steps.old.words + 1 } }
-    {
-        steps.word();
-        self.words[index] = word;
-    }
 }
 
 /// `word` with the `count` bits from `shift` on replaced by the lowest `count` bits of `bits`.
