@@ -1,7 +1,7 @@
 -- The values of a gray-scale image, plane by plane.
 use Rattle.std.proofs.Common.{◌≡◌, ℕ, zero, suc, ◌+◌, ◌-◌, ◌*◌, ◌/◌, ◌%◌, ◌^◌, ◌<◌, ◌≤◌, Bool, true, false, eqb, List, [], ◌∷◌, ◌++◌, length, take, map, replicate, add-one, length-append, refl, sym, ap, subst, ◌∙◌, arith}
 use Rattle.std.specs.List.{range_with_len}
-use Rattle.std.proofs.lemmas.List.{take-append-le}
+use Rattle.std.proofs.lemmas.List.{length-replicate, replicate-append-replicate, take_all, take-append-le}
 use Rattle.std.proofs.Math.Seq.{take-length}
 use Rattle.std.proofs.lemmas.List.FromFn.{length-map-range_with_len}
 use Rattle.jbig2_region.proofs.ContextLemmas.{number_of-lt}
@@ -90,12 +90,14 @@ pub values-none : (w h : ℕ) → gray_values w h [] ≡ replicate (w * h) 0
 unfolding gray_values
 values-none w h = none-zero w 0 (w * h)
 
-take-none : (n : ℕ) → take {A = ℕ} n [] ≡ []
-take-none zero = refl
-take-none (suc n) = refl
+-- zeros in blocks, and those that are left
+pub zeros-next : (k : ℕ) (zeros all : List ℕ) → zeros ≡ replicate (k * 256) 0 → all ≡ zeros ++ replicate 256 0 → all ≡ replicate ((k + 1) * 256) 0
+zeros-next k zeros all is e =
+    let sum : k * 256 + 256 ≡ (k + 1) * 256 = omega arith in
+    e ∙ ap (λ (xs : List ℕ). xs ++ replicate 256 0) is ∙ replicate-append-replicate (k * 256) 256 0 ∙ ap (λ (m : ℕ). replicate m 0) sum
 
--- an empty list, made longer
-pub resized : (n len : ℕ) (before after : List ℕ) → before ≡ [] → len ≡ 0 → after ≡ take n before ++ replicate (n - len) 0 → after ≡ replicate n 0
-resized n len before after empty none e =
-    let all : n - len ≡ n = omega arith in
-    e ∙ ap (λ (xs : List ℕ). take n xs ++ replicate (n - len) 0) empty ∙ ap (λ (xs : List ℕ). xs ++ replicate (n - len) 0) (take-none n) ∙ ap (λ (k : ℕ). replicate k 0) all
+pub zeros-filled : (n k len : ℕ) (zeros all : List ℕ) → zeros ≡ replicate (k * 256) 0 → k * 256 ≤ n → len ≡ length zeros → all ≡ take n zeros ++ replicate (n - len) 0 → all ≡ replicate n 0
+zeros-filled n k len zeros all is few sized e =
+    let long : length zeros ≡ k * 256 = ap length is ∙ length-replicate (k * 256) 0 in
+    let sum : k * 256 + (n - len) ≡ n = omega (arith, sized, long) in
+    e ∙ ap (λ (xs : List ℕ). xs ++ replicate (n - len) 0) (take_all n zeros (omega (arith, long)) ∙ is) ∙ replicate-append-replicate (k * 256) (n - len) 0 ∙ ap (λ (m : ℕ). replicate m 0) sum

@@ -39,12 +39,20 @@ pub struct GrayScaleParams<'a, M: Allocator> {
     pub strict: bool,
 }
 
-/// The value 0 for each pixel.
+/// The number of values that are set to 0 at once.
+const BLOCK: usize = 256;
+
+/// The value 0 for each pixel. They are copied in blocks, since `Vec::resize` writes them one by one.
 fn zeros<A: Allocator>(alloc: A, width: u32, height: u32) -> Result<Vec<u32, A>>
     ensures { Gives (λ values. values.items) result (Ok (gray_values width height [])) }
 {
-    let mut values = Vec::new(alloc);
-    values.resize(width as usize * height as usize, 0)?;
+    let count = width as usize * height as usize;
+    let block = [0; BLOCK];
+    let mut values = Vec::with_capacity(alloc, count)?;
+    for _ in 0..count / BLOCK {
+        values.extend_from_slice(&block)?;
+    }
+    values.resize(count, 0)?;
     Ok(values)
 }
 
