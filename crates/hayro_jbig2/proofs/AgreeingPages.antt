@@ -28,10 +28,10 @@ use Rattle.jbig2_region.specs.RegionInfo.{PlacedRegion}
 use Rattle.jbig2_symbol.specs.SymbolHeader.{SymbolHeader, symbol_header_at}
 use Rattle.jbig2_symbol.specs.Symbols.{Symbols}
 use Rattle.jbig2_text.specs.TextHeader.{TextHeader, text_header_at}
-use Rattle.hayro_jbig2.specs.Files.{PageInFile, ReadFile, associated, book_at, by_pages, ends_of, before_pages, pages_in_file, page_in_file, lacks_page, left_out_of, miscounts, of_page, page_in, page_of, shared_by}
+use Rattle.hayro_jbig2.specs.Files.{PageInFile, ReadFile, association_check, book_at, by_pages, ends_of, before_pages, pages_in_file, page_in_file, lacks_page, left_out_of, miscounts, of_page, page_in, page_of, shared_by}
 use Rattle.hayro_jbig2.specs.Lenient.{LenientReadingAgrees, ReadingsAgree, SalvageAgrees}
 use Rattle.hayro_jbig2.specs.Names.{Names, Referred, Shared, nothing_shared, or_shared_without, extension, first_kept, kept_by, kept_of, no_names, pattern_dictionary_at, referred_by, symbol_dictionary_at, with_code, with_dictionary, with_number, with_numbers, with_patterns, with_symbols, with_table, globals_at, shared_from}
-use Rattle.hayro_jbig2.specs.Page.{Drawing, ReadPage, beginning_of, drawing_of_page, embedded, ends_page, immediate, intermediate, with_names, or_left_out, or_passed_over, blank_page, region_at, regions_height, segment_by, segment_on, segments_drawn, shown, known_height}
+use Rattle.hayro_jbig2.specs.Page.{Drawing, ReadPage, beginning_of, drawing_of_page, page_from, ends_page, immediate, intermediate, with_names, or_left_out, or_passed_over, blank_page, region_at, regions_height, segment_by, segment_on, segments_drawn, with_drawn_region, known_height}
 use Rattle.hayro_jbig2.specs.Regions.{generic_at, halftone_at, patterns_for, referred_region, refinement_at, text_at}
 use Rattle.hayro_jbig2.specs.declared.kept.Kept.{Kept}
 use Rattle.hayro_jbig2.specs.declared.region.RegionKind.{RegionKind}
@@ -166,7 +166,7 @@ passed-same number d (Err e) s same = tt
 immediate-same : (globals : Names) (kind : RegionKind) (p : SegmentView) (d : Drawing) → Same (immediate true globals kind p d) (immediate false globals kind p d)
 unfolding immediate
 immediate-same globals kind p d =
-    passed-same p.header.segment_number d (shown d (region_at true globals kind false p d)) (shown d (region_at false globals kind false p d))
+    passed-same p.header.segment_number d (with_drawn_region d (region_at true globals kind false p d)) (with_drawn_region d (region_at false globals kind false p d))
     (same-next (region_at true globals kind false p d) (region_at false globals kind false p d) _ _ (region-same globals kind false p d) (λ r. refl))
 
 intermediate-same : (globals : Names) (kind : RegionKind) (p : SegmentView) (d : Drawing) → Same (intermediate true globals kind p d) (intermediate false globals kind p d)
@@ -233,9 +233,9 @@ beginning-salvaged ps =
     same-next (height_of info.0.height (stripes_height ps)) (height_of info.0.height (known_height Salvage ps)) _ _ (height-salvaged info.0.height (stripes_height ps) (regions_height ps)) (λ height. same-itself _)))
 
 -- ---- associations
-associated-same : (ps : List SegmentView) → Same (associated true ps) (associated false ps)
+associated-same : (ps : List SegmentView) → Same (association_check true ps) (association_check false ps)
 associated-same [] = refl
-associated-same (p ∷ ps) = same-guard (lacks_page true p.header) (Segment MissingPageAssociation) (associated true ps) (associated false ps) (associated-same ps)
+associated-same (p ∷ ps) = same-guard (lacks_page true p.header) (Segment MissingPageAssociation) (association_check true ps) (association_check false ps) (associated-same ps)
 
 -- ---- one reading and another, which gives what the first gives
 record Milder (one other : Reading) : Type 0 where
@@ -245,7 +245,7 @@ record Milder (one other : Reading) : Type 0 where
   drawn : (globals : Names) (ps : List SegmentView) (d : Drawing) → Same (segments_drawn one globals ps d) (segments_drawn other globals ps d)
   begins : (ps : List SegmentView) → Same (beginning_of one ps) (beginning_of other ps)
   strictly : (b : Bool) (e : DecodeError) → Same (refuse_if (is_strict one && b) e) (refuse_if (is_strict other && b) e)
-  associations : (ps : List SegmentView) → Same (associated (is_strict one) ps) (associated (is_strict other) ps)
+  associations : (ps : List SegmentView) → Same (association_check (is_strict one) ps) (association_check (is_strict other) ps)
   refusals : (e : DecodeError) → is_salvaged one e ≡ false
 
 -- ---- globals
@@ -261,8 +261,8 @@ record SamePage (one other : Reading) (page twin : ReadPage) : Type 0 where
   segments : twin.segments ≡ page.segments
   globals : Same page.globals twin.globals
 
-page-relates : (one other : Reading) → Milder one other → (names : Names) (bytes : List ℕ) → Relates (SamePage one other) (embedded one names bytes) (embedded other names bytes)
-unfolding embedded
+page-relates : (one other : Reading) → Milder one other → (names : Names) (bytes : List ℕ) → Relates (SamePage one other) (page_from one names bytes) (page_from other names bytes)
+unfolding page_from
 page-relates one other m names bytes =
     relates-next (SamePage one other) (sorted_segments one bytes) (sorted_segments other bytes) _ _ (sorted-milder one other m bytes) (λ ps.
     relates-next (SamePage one other) (beginning_of one ps) (beginning_of other ps) _ _ (m.begins ps) (λ initial_page. (
@@ -307,7 +307,7 @@ book-relates : (one other : Reading) → Milder one other → (bytes : List ℕ)
 unfolding book_at
 book-relates one other m bytes =
     relates-next (SameFile one other) (file_at one bytes) (file_at other bytes) _ _ (m.files bytes) (λ file.
-    relates-next (SameFile one other) (associated (is_strict one) file.1) (associated (is_strict other) file.1) _ _ (m.associations file.1) (λ known.
+    relates-next (SameFile one other) (association_check (is_strict one) file.1) (association_check (is_strict other) file.1) _ _ (m.associations file.1) (λ known.
     relates-next (SameFile one other) (refuse_if (is_strict one && miscounts file.0.number_of_pages (length (by_pages file.1))) (Format PageCountMismatch)) (refuse_if (is_strict other && miscounts file.0.number_of_pages (length (by_pages file.1))) (Format PageCountMismatch)) _ _ (m.strictly (miscounts file.0.number_of_pages (length (by_pages file.1))) (Format PageCountMismatch)) (λ counted.
     relates-next (SameFile one other) (pages_in_file one (by_pages file.1)) (pages_in_file other (by_pages file.1)) _ _ (each-same one other m (by_pages file.1)) (λ pages. (
       record { reading = other; pages = pages; globals = shared_by other pages (of_page 0 file.1); left_out = left_out_of other (by_pages file.1); fault = fault_of other (file_at Lenient bytes) },
@@ -352,7 +352,7 @@ lenient-salvage = record {
   drawn = drawn-salvaged;
   begins = beginning-salvaged;
   strictly = λ b e. refl;
-  associations = λ ps. same-itself (associated false ps);
+  associations = λ ps. same-itself (association_check false ps);
   refusals = λ e. refl;
 }
 
@@ -372,9 +372,9 @@ globals-salvaged bytes = by (sequential Lenient bytes) (sequential Salvage bytes
 agree : (one other : Reading) → Milder one other → ((bytes : List ℕ) → Same (globals_at one bytes) (globals_at other bytes)) → ReadingsAgree one other
 agree one other m globals = record {
   globals = globals;
-  page = λ names bytes. relates-last (SamePage one other) (embedded one names bytes) (embedded other names bytes) _ _ (page-relates one other m names bytes) (λ page twin same.
+  page = λ names bytes. relates-last (SamePage one other) (page_from one names bytes) (page_from other names bytes) _ _ (page-relates one other m names bytes) (λ page twin same.
       ap (λ (initial_page : InitialPage). let r : Result InitialPage DecodeError = Ok initial_page in r) same.initial_page);
-  drawing = λ names bytes. relates-last (SamePage one other) (embedded one names bytes) (embedded other names bytes) _ _ (page-relates one other m names bytes) (λ page twin same. page-same one other m page twin same);
+  drawing = λ names bytes. relates-last (SamePage one other) (page_from one names bytes) (page_from other names bytes) _ _ (page-relates one other m names bytes) (λ page twin same. page-same one other m page twin same);
   pages = λ bytes. relates-last (SameFile one other) (book_at one bytes) (book_at other bytes) _ _ (book-relates one other m bytes) (λ book twin same.
       ap (λ (pages : List PageInFile). let r : Result (List PageInFile) DecodeError = Ok pages in r) same.pages);
   drawings = λ bytes index. relates-last (SameFile one other) (book_at one bytes) (book_at other bytes) _ _ (book-relates one other m bytes) (λ book twin same. file-drawn one other m book twin index same);

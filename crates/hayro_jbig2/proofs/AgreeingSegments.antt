@@ -2,7 +2,7 @@
 use Rattle.std.proofs.Common.{◌≡◌, ℕ, zero, suc, ◌/◌, ◌%◌, eqb, Bool, true, false, not, cond, List, [], ◌∷◌, length, Some, None, Result, Ok, Err, refl, sym, subst}
 use Rattle.std.specs.Int.{w8, w32}
 use Rattle.jbig2_base.specs.Results.{◌>>=◌, refuse_if}
-use Rattle.jbig2_base.specs.File.{file_at, gathered, gathered_before, header_goes_on, headers_in, segments_by, file_header_at}
+use Rattle.jbig2_base.specs.File.{file_at, with_data, gathered_before, header_goes_on, headers_in, segments_by, file_header_at}
 use Rattle.jbig2_base.specs.Fields.{number_at}
 use Rattle.jbig2_base.specs.Segment.{Header, SegmentView, header_at, is_immediate_generic, is_reserved, length_of, referred_at, segment_at, segment_data_at, type_of}
 use Rattle.jbig2_base.specs.Sequential.{goes_on, is_cut_off, is_end_of_file, segments_in, sequential, sorted_segments}
@@ -75,9 +75,9 @@ before-same : (r : Result (SegmentView × List ℕ) DecodeError) (others more : 
 before-same (Ok p) others more rest = same-next (others p.1) (more p.1) _ _ (rest p.1) (λ ps. refl)
 before-same (Err e) others more rest = tt
 
-gathered-same : (hs : List Header) (bytes : List ℕ) → Same (gathered Strict hs bytes) (gathered Lenient hs bytes)
+gathered-same : (hs : List Header) (bytes : List ℕ) → Same (with_data Strict hs bytes) (with_data Lenient hs bytes)
 gathered-same [] bytes = refl
-gathered-same (h ∷ hs) bytes = before-same (segment_data_at h bytes) (gathered Strict hs) (gathered Lenient hs) (gathered-same hs)
+gathered-same (h ∷ hs) bytes = before-same (segment_data_at h bytes) (with_data Strict hs) (with_data Lenient hs) (gathered-same hs)
 
 by-same : (organization : FileOrganization) (bytes : List ℕ) → Same (segments_by organization Strict bytes) (segments_by organization Lenient bytes)
 by-same Sequential bytes = sequential-same bytes
@@ -122,9 +122,9 @@ before-salvaged : (r : Result (SegmentView × List ℕ) DecodeError) (others mor
 before-salvaged (Ok p) others more rest = same-next (others p.1) (more p.1) _ _ (rest p.1) (λ ps. refl)
 before-salvaged (Err e) others more rest = tt
 
-gathered-salvaged : (hs : List Header) (bytes : List ℕ) → Same (gathered Lenient hs bytes) (gathered Salvage hs bytes)
+gathered-salvaged : (hs : List Header) (bytes : List ℕ) → Same (with_data Lenient hs bytes) (with_data Salvage hs bytes)
 gathered-salvaged [] bytes = refl
-gathered-salvaged (h ∷ hs) bytes = before-salvaged (segment_data_at h bytes) (gathered Lenient hs) (gathered Salvage hs) (gathered-salvaged hs)
+gathered-salvaged (h ∷ hs) bytes = before-salvaged (segment_data_at h bytes) (with_data Lenient hs) (with_data Salvage hs) (gathered-salvaged hs)
 
 by-salvaged : (organization : FileOrganization) (bytes : List ℕ) → Same (segments_by organization Lenient bytes) (segments_by organization Salvage bytes)
 by-salvaged Sequential bytes = sequential-salvaged bytes

@@ -17,7 +17,7 @@ use Rattle.jbig2_symbol.specs.SymbolBitmaps.{aggregate_params, by_instances, cod
 use Rattle.jbig2_symbol.specs.SymbolCoding.{classes_by_coder, classes_by_prefix_codes, coded_bitmap, coder_start, collective_class, prefix_codes_start, symbols_by_coder, symbols_by_prefix_codes}
 use Rattle.jbig2_symbol.specs.SymbolHeader.{SymbolHeader, coded_pixels_at, refined_pixels_at, symbol_flags_of, symbol_header_at}
 use Rattle.jbig2_symbol.specs.SymbolReading.{BitmapContexts, ClassReadings, SymbolInput, SymbolReadings, SymbolState, by_procedure, by_table, first_contexts, not_negative, symbol_tables}
-use Rattle.jbig2_symbol.specs.Symbols.{dictionary_by, dictionary_from, exported, exports, export_runs, next_run, runs_from, symbols_decoded, symbols_exported}
+use Rattle.jbig2_symbol.specs.Symbols.{dictionary_by, dictionary_from, exported_grids, exports, export_runs, next_run, runs_from, symbols_decoded, symbols_exported}
 use Rattle.jbig2_text.specs.Refining.{Refining}
 use Rattle.jbig2_text.specs.Text.{Readings, TextParams}
 use Rattle.jbig2_text.specs.TextCoding.{Coded, Prefixed, by_coder, by_prefix_codes, in_band, next_id}
@@ -174,7 +174,7 @@ exports-same : {S : Type 0} (r : ClassReadings S) (d : SymbolInput) → ClassesA
 unfolding exports
 exports-same r d alike grids s =
     same-next (export_runs r d (length grids) s) (export_runs r (leniently d) (length grids) s) _ _ (runs-same r d alike (length grids + 1048576) 0 (length grids) s) (λ runs.
-    same-then (refuse_if (not (eqb (length (exported runs.0 grids)) d.header.num_exported_symbols)) (Symbol errors.NoSymbols)) _ _ (λ right. refl))
+    same-then (refuse_if (not (eqb (length (exported_grids runs.0 grids)) d.header.num_exported_symbols)) (Symbol errors.NoSymbols)) _ _ (λ right. refl))
 
 -- ---- dictionaries
 dictionary-same : {C : Type 0} (r : ClassReadings (SymbolState C)) (d : SymbolInput) → ClassesAlike r d → (s : SymbolState C) → Same (dictionary_by r d s) (dictionary_by r (leniently d) s)

@@ -19,7 +19,7 @@ use Rattle.jbig2_base.specs.declared.page_info.PageInformation.{PageInformation}
 use Rattle.jbig2_base.specs.declared.page_info.InitialPage.{InitialPage}
 use Rattle.jbig2_base.specs.declared.reading.Reading.{Reading}
 use Rattle.jbig2_base.specs.declared.reading.Reading.TheVariants.{Lenient}
-use Rattle.hayro_jbig2.specs.Files.{PageInFile, ReadFile, of_page, by_pages, ends_of, error_of, before_pages, page_in_file, pages_in_file, left_out_of, numbers_after, miscounts, associated, book_at, page_in, shared_by, PagesStandAlone}
+use Rattle.hayro_jbig2.specs.Files.{PageInFile, ReadFile, of_page, by_pages, ends_of, error_of, before_pages, page_in_file, pages_in_file, left_out_of, numbers_after, miscounts, association_check, book_at, page_in, shared_by, PagesStandAlone}
 use Rattle.hayro_jbig2.specs.Names.{shared_from, names_of, nothing_shared}
 use Rattle.hayro_jbig2.specs.Page.{ReadPage, beginning_of, known_height}
 use Rattle.hayro_jbig2.specs.WorkLimit.{shared_count}
@@ -144,7 +144,7 @@ abbrev counted_with : Reading → Option DecodeError → FileHeader × List Segm
 counted_with reading fault file = refuse_if (is_strict reading && miscounts file.0.number_of_pages (length (by_pages file.1))) (Format PageCountMismatch) >>= λ counted. pages_with reading fault file
 
 abbrev book_with : Reading → Option DecodeError → FileHeader × List SegmentView → Result ReadFile DecodeError
-book_with reading fault file = associated (is_strict reading) file.1 >>= λ known. counted_with reading fault file
+book_with reading fault file = association_check (is_strict reading) file.1 >>= λ known. counted_with reading fault file
 
 pub record Filled (reading : Reading) (fault : Option DecodeError) (ps : List SegmentView) (book : ReadFile) : Type 0 where
   pub filed : pages_in_file reading (by_pages ps) ≡ Ok book.pages
@@ -155,7 +155,7 @@ pub record Filled (reading : Reading) (fault : Option DecodeError) (ps : List Se
 
 filled : (reading : Reading) (fault : Option DecodeError) (file : FileHeader × List SegmentView) (book : ReadFile) → book_with reading fault file ≡ Ok book → Filled reading fault file.1 book
 filled reading fault file book h =
-    let known = went (associated (is_strict reading) file.1) (λ known. counted_with reading fault file) book h in
+    let known = went (association_check (is_strict reading) file.1) (λ known. counted_with reading fault file) book h in
     let counted = went (refuse_if (is_strict reading && miscounts file.0.number_of_pages (length (by_pages file.1))) (Format PageCountMismatch)) (λ counted. pages_with reading fault file) book known.2 in
     let pages = went (pages_in_file reading (by_pages file.1)) (λ pages. Ok (book_of reading fault file pages)) book counted.2 in
     let made : ReadFile = book_of reading fault file pages.0 in

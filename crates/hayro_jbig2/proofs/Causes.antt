@@ -23,7 +23,7 @@ use Rattle.jbig2_base.proofs.InitialCauses.{initial_page_causes}
 use Rattle.jbig2_region.proofs.ResultCauses.{cause-if, cause-more}
 use Rattle.jbig2_symbol.proofs.ReadingCauses.{in-steps}
 use Rattle.hayro_jbig2.specs.Causes.{BreaksBook, BreaksFirstPage, BreaksPages}
-use Rattle.hayro_jbig2.specs.Files.{PageInFile, ReadFile, associated, book_at, by_pages, ends_of, before_pages, pages_in_file, page_in_file, lacks_page, miscounts, needs_page, page_in, page_of}
+use Rattle.hayro_jbig2.specs.Files.{PageInFile, ReadFile, association_check, book_at, by_pages, ends_of, before_pages, pages_in_file, page_in_file, lacks_page, miscounts, needs_page, page_in, page_of}
 use Rattle.hayro_jbig2.specs.Page.{ReadPage, beginning_of}
 use Rattle.hayro_jbig2.proofs.FromInput.{from_input-beginning}
 use Rattle.hayro_jbig2.proofs.Salvaging.{left-out}
@@ -43,10 +43,10 @@ abbrev StandsOutside : SegmentView → Type 0
 StandsOutside p = (p.header.page_association ≡ 0) × IsTrue (needs_page p.header.segment_type)
 
 associated-cause : (P : DecodeError → Type 0) (strict : Bool) (ps : List SegmentView)
-    → (IsTrue strict → Any StandsOutside ps → P (errors.Segment segments.MissingPageAssociation)) → IfErr (associated strict ps) P
+    → (IsTrue strict → Any StandsOutside ps → P (errors.Segment segments.MissingPageAssociation)) → IfErr (association_check strict ps) P
 associated-cause P strict [] why = tt
 associated-cause P strict (p ∷ ps) why =
-    cause-if P (lacks_page strict p.header) (Err (errors.Segment segments.MissingPageAssociation)) (associated strict ps)
+    cause-if P (lacks_page strict p.header) (Err (errors.Segment segments.MissingPageAssociation)) (association_check strict ps)
     (λ lacks.
     let both = and_parts (strict && p.header.page_association == 0) (needs_page p.header.segment_type) lacks in
     let outside = and_parts strict (p.header.page_association == 0) both.0 in
@@ -133,7 +133,7 @@ file_causes reading bytes =
     in-steps (file_at reading bytes) _ (λ e. Unit {0}) (λ file. BreaksPages reading file.0 file.1) (any-cause (file_at reading bytes)) (λ file file_is.
     let P : DecodeError → Type 0 = BreaksPages reading file.0 file.1 in
     let wrong : Bool = miscounts file.0.number_of_pages (length (by_pages file.1)) in
-    cause-next P (associated (is_strict reading) file.1) _ (associated-cause P (is_strict reading) file.1 (λ is some. (is, some))) (λ known known_is.
+    cause-next P (association_check (is_strict reading) file.1) _ (associated-cause P (is_strict reading) file.1 (λ is some. (is, some))) (λ known known_is.
     cause-next P (refuse_if (is_strict reading && wrong) (errors.Format formats.PageCountMismatch)) _ (cause-refused P (is_strict reading && wrong) (errors.Format formats.PageCountMismatch) (λ both.
     let parts = and_parts (is_strict reading) wrong both in
     let count = miscounted file.0.number_of_pages (length (by_pages file.1)) parts.1 in

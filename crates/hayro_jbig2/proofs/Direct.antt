@@ -5,7 +5,7 @@ use Rattle.std.specs.Prelude.{IfErr, pos, ◌-ℤ◌}
 use Rattle.std.proofs.lemmas.Bool.{cond-true, and_from, le-ltb, lt-ltb}
 use Rattle.std.proofs.lemmas.Int.{ints}
 use Rattle.jbig2_base.specs.Results.{Gives, ◌>>=◌}
-use Rattle.jbig2_base.specs.Combination.{combined, drawn_pixel, is_below, combined_pixel}
+use Rattle.jbig2_base.specs.Combination.{combined_grid, drawn_pixel, is_below, combined_pixel}
 use Rattle.jbig2_base.specs.Grid.{Grid, pixel_at, pixel, blank}
 use Rattle.jbig2_base.specs.Segment.{SegmentView}
 use Rattle.jbig2_base.specs.Table.{IsTable}
@@ -16,7 +16,7 @@ use Rattle.jbig2_base.specs.declared.error.DecodeError.TheVariants.{OutOfMemory}
 use Rattle.jbig2_base.proofs.GridLemmas.{grid_of-ext, pixel_at-grid_of, table-at}
 use Rattle.jbig2_halftone.specs.inner.HalftoneHeaderViews as halftones
 use Rattle.jbig2_halftone.specs.inner.DictionaryViews.{dictionary_view}
-use Rattle.jbig2_region.specs.RegionInfo.{PlacedRegion, placed}
+use Rattle.jbig2_region.specs.RegionInfo.{PlacedRegion, at_location}
 use Rattle.jbig2_region.specs.inner.RegionViews.{region_view}
 use Rattle.jbig2_region.specs.inner.GenericViews as generics
 use Rattle.jbig2_region.specs.inner.RefinedViews as refinements
@@ -26,7 +26,7 @@ use Rattle.jbig2_region.specs.declared.decoded_region.DecodedRegion.{DecodedRegi
 use Rattle.jbig2_region.specs.declared.region_info.RegionSegmentInfo.{RegionSegmentInfo}
 use Rattle.jbig2_text.specs.inner.TextViews as texts
 use Rattle.hayro_jbig2.specs.Names.{Names, nothing_passed, with_passed}
-use Rattle.hayro_jbig2.specs.Page.{Drawing, draws_over, or_passed_over, region_at, shown, with_region}
+use Rattle.hayro_jbig2.specs.Page.{Drawing, draws_over, or_passed_over, region_at, with_drawn_region, with_region}
 use Rattle.hayro_jbig2.specs.declared.drawing.passed_over.PassedOver.{PassedOver}
 use Rattle.hayro_jbig2.specs.declared.region.parsed_region.ParsedRegion.{ParsedRegion}
 use Rattle.hayro_jbig2.specs.declared.region.parsed_region.ParsedRegion.TheVariants.{Text, Halftone, Generic, Refinement, PageRefinement}
@@ -35,9 +35,9 @@ use Rattle.hayro_jbig2.specs.declared.region.RegionKind.{RegionKind}
 use Rattle.hayro_jbig2.specs.declared.region.RegionKind.TheVariants as kinds
 use Rattle.hayro_jbig2.specs.Regions.{page_area}
 use Rattle.hayro_jbig2.specs.declared.kept.Kept.{Kept}
-use Rattle.hayro_jbig2.specs.inner.KeptViews.{seen}
+use Rattle.hayro_jbig2.specs.inner.KeptViews.{kept_values}
 use Rattle.hayro_jbig2.specs.inner.PageViews.{near_area}
-use Rattle.hayro_jbig2.specs.inner.ParsedRegions.{placed_region, drawing_of, drawn, info_of, initial_of}
+use Rattle.hayro_jbig2.specs.inner.ParsedRegions.{placed_region, drawing_of, region_grid, info_of, initial_of}
 use Rattle.hayro_jbig2.specs.inner.WholePages.{IsBlankPage, IsWhole, after_immediate}
 use Rattle.hayro_jbig2.proofs.PageArea.{area-near}
 use Rattle.hayro_jbig2.proofs.RegionSizes.{Made, generic-made, halftone-made, refined-made, text-made}
@@ -64,7 +64,7 @@ drawn_pixel-zero op page source i j column row =
     ∙ cond-true (nat_lt i source.width && nat_lt j source.height) (combined_pixel op (pixel_at page i j) (pixel_at source i j)) (pixel_at page i j) (and_from (nat_lt i source.width) (nat_lt j source.height) (lt-ltb i source.width column) (lt-ltb j source.height row))
 
 -- the region's own pixels
-pub combined-over : (op : CombinationOperator) (black : Bool) (region : Grid) → IsTable region → draws_over op black ≡ true → combined op (blank region.width region.height black) region (pos 0) (pos 0) ≡ region
+pub combined-over : (op : CombinationOperator) (black : Bool) (region : Grid) → IsTable region → draws_over op black ≡ true → combined_grid op (blank region.width region.height black) region (pos 0) (pos 0) ≡ region
 combined-over op black region table over =
     let page : Grid = blank region.width region.height black in
     grid_of-ext region.width region.height (drawn_pixel op page region (pos 0) (pos 0)) (pixel_at region)
@@ -86,14 +86,14 @@ whole-page info page black is_blank x y wide high over = record {
       let across : page.width ≡ g.width = sym wide ∙ sym columns in
       let down : page.height ≡ g.height = sym high ∙ sym rows in
       let same : page ≡ start = is_blank.blank ∙ ap (λ (n : ℕ). blank n page.height black) across ∙ ap (λ (n : ℕ). blank g.width n black) down in
-      ap (λ (q : Grid). combined op q g (cast_signed w32 info.x_location) (cast_signed w32 info.y_location)) same
-      ∙ ap (λ (n : ℕ). combined op start g (cast_signed w32 n) (cast_signed w32 info.y_location)) x
-      ∙ ap (λ (n : ℕ). combined op start g (cast_signed w32 0) (cast_signed w32 n)) y
+      ap (λ (q : Grid). combined_grid op q g (cast_signed w32 info.x_location) (cast_signed w32 info.y_location)) same
+      ∙ ap (λ (n : ℕ). combined_grid op start g (cast_signed w32 n) (cast_signed w32 info.y_location)) x
+      ∙ ap (λ (n : ℕ). combined_grid op start g (cast_signed w32 0) (cast_signed w32 n)) y
       ∙ combined-over op black g table over;
 }
 
 -- what is decoded is a table of its size
-pub drawn-made : {A : Type 0} (r : ParsedRegion A) (g : Grid) → drawn r ≡ Ok g → Made (info_of r).width (info_of r).height g
+pub drawn-made : {A : Type 0} (r : ParsedRegion A) (g : Grid) → region_grid r ≡ Ok g → Made (info_of r).width (info_of r).height g
 drawn-made (Text header referred) g is = text-made (texts.header_view header) referred.symbols referred.codes g is
 drawn-made (Halftone header patterns) g is = halftone-made (halftones.header_view header) (dictionary_view patterns.now) g is
 drawn-made (Generic header) g is = generic-made (generics.header_view header) g is
@@ -101,23 +101,23 @@ drawn-made (Refinement header reference) g is = refined-made (refinements.header
 drawn-made (PageRefinement header area) g is = refined-made (refinements.header_view header) (region_view area) g is
 
 -- no side of a page is too long
-pub placed-within : {A : Type 0} (r : ParsedRegion A) → (info_of r).width ≤ 65535 → (info_of r).height ≤ 65535 → placed_region r ≡ (drawn r >>= λ g. Ok (placed (info_of r) g))
+pub placed-within : {A : Type 0} (r : ParsedRegion A) → (info_of r).width ≤ 65535 → (info_of r).height ≤ 65535 → placed_region r ≡ (region_grid r >>= λ g. Ok (at_location (info_of r) g))
 placed-within r columns rows = rw (le-ltb 65535 (info_of r).width columns, le-ltb 65535 (info_of r).height rows) refl
 
-whole-shown : {A : Type 0} (r : ParsedRegion A) (meant : Result PlacedRegion DecodeError) (d : Drawing) (g : Grid) → IsWhole (info_of r) (initial_of r) d.grid → meant ≡ placed_region r → drawn r ≡ Ok g → shown d meant ≡ Ok (record d { grid = g; untouched = false })
+whole-shown : {A : Type 0} (r : ParsedRegion A) (meant : Result PlacedRegion DecodeError) (d : Drawing) (g : Grid) → IsWhole (info_of r) (initial_of r) d.grid → meant ≡ placed_region r → region_grid r ≡ Ok g → with_drawn_region d meant ≡ Ok (record d { grid = g; untouched = false })
 whole-shown r meant d g whole leads is =
     let info : RegionSegmentInfo = info_of r in
     let made = drawn-made r g is in
     let wide : g.width ≡ info.width = ap (λ (q : Grid). q.width) made.1 in
     let high : g.height ≡ info.height = ap (λ (q : Grid). q.height) made.1 in
-    ap (λ (a : Result PlacedRegion DecodeError). shown d a) (leads ∙ placed-within r whole.columns whole.rows)
-    ∙ ap (λ (a : Result Grid DecodeError). shown d (a >>= λ q. Ok (placed info q))) is
+    ap (λ (a : Result PlacedRegion DecodeError). with_drawn_region d a) (leads ∙ placed-within r whole.columns whole.rows)
+    ∙ ap (λ (a : Result Grid DecodeError). with_drawn_region d (a >>= λ q. Ok (at_location info q))) is
     ∙ ap (λ (q : Grid). let e : Result Drawing DecodeError = Ok (record d { grid = q; untouched = false }) in e) (whole.over g (table-at g info.width info.height made.0 made.1) wide high)
 
-whole-failed : {A : Type 0} (r : ParsedRegion A) (meant : Result PlacedRegion DecodeError) (d : Drawing) (e : DecodeError) → (info_of r).width ≤ 65535 → (info_of r).height ≤ 65535 → meant ≡ placed_region r → drawn r ≡ Err e → shown d meant ≡ Err e
+whole-failed : {A : Type 0} (r : ParsedRegion A) (meant : Result PlacedRegion DecodeError) (d : Drawing) (e : DecodeError) → (info_of r).width ≤ 65535 → (info_of r).height ≤ 65535 → meant ≡ placed_region r → region_grid r ≡ Err e → with_drawn_region d meant ≡ Err e
 whole-failed r meant d e columns rows leads is =
-    ap (λ (a : Result PlacedRegion DecodeError). shown d a) (leads ∙ placed-within r columns rows)
-    ∙ ap (λ (a : Result Grid DecodeError). shown d (a >>= λ q. Ok (placed (info_of r) q))) is
+    ap (λ (a : Result PlacedRegion DecodeError). with_drawn_region d a) (leads ∙ placed-within r columns rows)
+    ∙ ap (λ (a : Result Grid DecodeError). with_drawn_region d (a >>= λ q. Ok (at_location (info_of r) q))) is
 
 -- the page's area is refined
 pub page-refined : {A : Type 0} (header : GenericRefinementRegionHeader) (page : Grid) (area : DecodedRegion A) → IsRefinement (refinements.header_view header) → near_area page header.region_info ≡ Ok (region_view area) → refined_decoded (refinements.header_view header) (page_area page header.region_info) ≡ placed_region (PageRefinement header area)
@@ -126,15 +126,15 @@ page-refined header page area parsed near =
     ∙ sym (placed-within (PageRefinement header area) parsed.columns parsed.rows)
 
 -- drawn directly
-pub whole-gives : {A : Type 0} (r : ParsedRegion A) (meant : Result PlacedRegion DecodeError) (d : Drawing) (g : Grid) (result : Result (Unit {0}) DecodeError) → IsWhole (info_of r) (initial_of r) d.grid → meant ≡ placed_region r → Gives (λ _. g) result (drawn r) → Gives (λ _. record d { grid = g; untouched = false }) result (shown d meant)
+pub whole-gives : {A : Type 0} (r : ParsedRegion A) (meant : Result PlacedRegion DecodeError) (d : Drawing) (g : Grid) (result : Result (Unit {0}) DecodeError) → IsWhole (info_of r) (initial_of r) d.grid → meant ≡ placed_region r → Gives (λ _. g) result (region_grid r) → Gives (λ _. record d { grid = g; untouched = false }) result (with_drawn_region d meant)
 whole-gives r meant d g (Ok u) whole leads is = whole-shown r meant d g whole leads is
 whole-gives r meant d g (Err e) whole leads (inl memory) = inl memory
 whole-gives r meant d g (Err e) whole leads (inr failed) = inr (whole-failed r meant d e whole.columns whole.rows leads failed)
 
 -- refused
-pub shown-refused : (d : Drawing) (meant : Result PlacedRegion DecodeError) (e : DecodeError) → (e ≡ OutOfMemory) ⊎ (meant ≡ Err e) → (e ≡ OutOfMemory) ⊎ (shown d meant ≡ Err e)
+pub shown-refused : (d : Drawing) (meant : Result PlacedRegion DecodeError) (e : DecodeError) → (e ≡ OutOfMemory) ⊎ (meant ≡ Err e) → (e ≡ OutOfMemory) ⊎ (with_drawn_region d meant ≡ Err e)
 shown-refused d meant e (inl memory) = inl memory
-shown-refused d meant e (inr failed) = inr (ap (λ (a : Result PlacedRegion DecodeError). shown d a) failed)
+shown-refused d meant e (inr failed) = inr (ap (λ (a : Result PlacedRegion DecodeError). with_drawn_region d a) failed)
 
 pub kept-refused : (number : ℕ) (d : Drawing) (meant : Result PlacedRegion DecodeError) (e : DecodeError) → (e ≡ OutOfMemory) ⊎ (meant ≡ Err e) → (e ≡ OutOfMemory) ⊎ ((meant >>= λ r. Ok (with_region number d r)) ≡ Err e)
 kept-refused number d meant e (inl memory) = inl memory
@@ -157,12 +157,12 @@ region-touched strict globals kinds.GenericRefinement is_intermediate p d = refl
 
 -- what references over the parts of a page lead to
 pub led : {A : Type 0} (r : References A) (strict : Bool) (globals : Names) (kind : RegionKind) (is_intermediate : Bool) (p : SegmentView) (page : Grid) (regions items : List (Kept (DecodedRegion A))) (names : Names) (untouched : Bool) (passed : PassedOver) (d : Drawing) (meant : Result PlacedRegion DecodeError)
-    → r.names.strict ≡ strict → r.names.globals.now ≡ globals → drawing_of r ≡ record { grid = page; regions = seen region_view regions; names = names; untouched = false; passed_over = nothing_passed } → regions ≡ items → record { grid = page; regions = seen region_view items; names = names; untouched = untouched; passed_over = passed } ≡ d → region_at r.names.strict r.names.globals.now kind is_intermediate p (drawing_of r) ≡ meant → region_at strict globals kind is_intermediate p d ≡ meant
+    → r.names.strict ≡ strict → r.names.globals.now ≡ globals → drawing_of r ≡ record { grid = page; regions = kept_values region_view regions; names = names; untouched = false; passed_over = nothing_passed } → regions ≡ items → record { grid = page; regions = kept_values region_view items; names = names; untouched = untouched; passed_over = passed } ≡ d → region_at r.names.strict r.names.globals.now kind is_intermediate p (drawing_of r) ≡ meant → region_at strict globals kind is_intermediate p d ≡ meant
 led {A = A} r strict globals kind is_intermediate p page regions items names untouched passed d meant strictly shared parts same view leads =
-    let inside : Drawing = record { grid = page; regions = seen region_view items; names = names; untouched = untouched; passed_over = passed } in
+    let inside : Drawing = record { grid = page; regions = kept_values region_view items; names = names; untouched = untouched; passed_over = passed } in
     ap (λ (b : Drawing). region_at strict globals kind is_intermediate p b) (sym view)
     ∙ sym (region-touched strict globals kind is_intermediate p inside)
-    ∙ ap (λ (xs : List (Kept (DecodedRegion A))). region_at strict globals kind is_intermediate p (record { grid = page; regions = seen region_view xs; names = names; untouched = false; passed_over = nothing_passed })) (sym same)
+    ∙ ap (λ (xs : List (Kept (DecodedRegion A))). region_at strict globals kind is_intermediate p (record { grid = page; regions = kept_values region_view xs; names = names; untouched = false; passed_over = nothing_passed })) (sym same)
     ∙ ap (λ (b : Drawing). region_at strict globals kind is_intermediate p b) (sym parts)
     ∙ ap (λ (mode : Bool). region_at mode globals kind is_intermediate p (drawing_of r)) (sym strictly)
     ∙ ap (λ (given : Names). region_at r.names.strict given kind is_intermediate p (drawing_of r)) (sym shared)

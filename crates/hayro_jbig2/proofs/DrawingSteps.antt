@@ -10,17 +10,17 @@ use Rattle.jbig2_base.specs.declared.reading.Reading.{Reading}
 use Rattle.jbig2_base.specs.declared.reading.Reading.TheVariants.{Strict, Lenient, Salvage}
 use Rattle.jbig2_region.specs.RegionInfo.{PlacedRegion}
 use Rattle.hayro_jbig2.specs.Names.{Names, kept_by}
-use Rattle.hayro_jbig2.specs.Page.{Drawing, segments_drawn, ends_page, immediate, intermediate, with_names, or_left_out, or_passed_over, passing, region_at, segment_by, segment_on, shown, with_region}
+use Rattle.hayro_jbig2.specs.Page.{Drawing, segments_drawn, ends_page, immediate, intermediate, with_names, or_left_out, or_passed_over, passing, region_at, segment_by, segment_on, with_drawn_region, with_region}
 use Rattle.hayro_jbig2.proofs.SegmentTypes.{of-segment}
 
 -- R holds between what was drawn before a segment and what is drawn after it, whatever the segment is.
 pub record StepsBy (strict : Bool) (R : Drawing → Drawing → Type 0) : Type 0 where
   pub keeps : (d : Drawing) (names : Names) → R d (record d { names = names })
   pub stores : (d : Drawing) (number : ℕ) (region : PlacedRegion) → R d (with_region number d region)
-  pub shows : (d : Drawing) (region : PlacedRegion) → IfOk (shown d (Ok region)) (R d)
+  pub shows : (d : Drawing) (region : PlacedRegion) → IfOk (with_drawn_region d (Ok region)) (R d)
   pub passes : strict ≡ false → (d : Drawing) (number : ℕ) (e : DecodeError) → IfOk (or_passed_over false number d (Err e)) (R d)
 
-step-shown : (strict : Bool) (R : Drawing → Drawing → Type 0) → StepsBy strict R → (number : ℕ) (d : Drawing) (r : Result PlacedRegion DecodeError) → IfOk (or_passed_over strict number d (shown d r)) (R d)
+step-shown : (strict : Bool) (R : Drawing → Drawing → Type 0) → StepsBy strict R → (number : ℕ) (d : Drawing) (r : Result PlacedRegion DecodeError) → IfOk (or_passed_over strict number d (with_drawn_region d r)) (R d)
 step-shown strict R by number d (Ok region) = by.shows d region
 step-shown true R by number d (Err e) = tt
 step-shown false R by number d (Err e) = by.passes refl d number e

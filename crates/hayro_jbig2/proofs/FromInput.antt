@@ -25,9 +25,9 @@ use Rattle.jbig2_symbol.specs.Symbols.{Symbols}
 use Rattle.jbig2_symbol.proofs.FromInput.{from_input-symbol_header, from_input-symbols_decoded}
 use Rattle.jbig2_text.proofs.RegionsFromInput.{from_input-text, from_input-text_header}
 use Rattle.hayro_jbig2.specs.Names.{Names, Referred, Shared, extension, nothing_shared, or_shared_without, kept_by, no_names, pattern_dictionary_at, symbol_dictionary_at, with_code, with_dictionary, with_number, with_numbers, with_patterns, with_symbols, with_table, globals_at, shared_from}
-use Rattle.hayro_jbig2.specs.Files.{PageInFile, ReadFile, associated, book_at, by_pages, before_pages, pages_in_file, page_in_file, miscounts, of_page, shared_by}
+use Rattle.hayro_jbig2.specs.Files.{PageInFile, ReadFile, association_check, book_at, by_pages, before_pages, pages_in_file, page_in_file, miscounts, of_page, shared_by}
 use Rattle.hayro_jbig2.specs.Image.{first_page}
-use Rattle.hayro_jbig2.specs.Page.{Drawing, ReadPage, beginning_of, embedded, grid_of_page, immediate, intermediate, with_names, or_left_out, or_passed_over, blank_page, drawing_of_page, region_at, segment_by, segment_on, segments_drawn, shown, known_height}
+use Rattle.hayro_jbig2.specs.Page.{Drawing, ReadPage, beginning_of, page_from, grid_of_page, immediate, intermediate, with_names, or_left_out, or_passed_over, blank_page, drawing_of_page, region_at, segment_by, segment_on, segments_drawn, with_drawn_region, known_height}
 use Rattle.hayro_jbig2.specs.Regions.{generic_at, halftone_at, referred_region, refinement_at, text_at}
 use Rattle.hayro_jbig2.specs.declared.kept.Kept.{Kept}
 use Rattle.hayro_jbig2.specs.declared.region.RegionKind.{RegionKind}
@@ -105,7 +105,7 @@ from_input-region_at strict globals kinds.Halftone is_intermediate p d = from_in
 from_input-region_at strict globals kinds.Generic is_intermediate p d = from_input-generic_at strict is_intermediate p
 from_input-region_at strict globals kinds.GenericRefinement is_intermediate p d = from_input-refinement_at strict is_intermediate d.grid d.regions p
 
-from_input-shown : (strict : Bool) (number : ℕ) (d : Drawing) (r : Result PlacedRegion DecodeError) → FromInput r → FromInput (or_passed_over strict number d (shown d r))
+from_input-shown : (strict : Bool) (number : ℕ) (d : Drawing) (r : Result PlacedRegion DecodeError) → FromInput r → FromInput (or_passed_over strict number d (with_drawn_region d r))
 from_input-shown strict number d (Ok r) is = tt
 from_input-shown strict number d (Err e) is = from_input-if strict (Err e) _ is tt
 
@@ -176,13 +176,13 @@ pub from_input-beginning : (reading : Reading) (ps : List SegmentView) → FromI
 unfolding beginning_of
 from_input-beginning reading ps = from_input-initial_page_by (known_height reading ps) ps
 
-pub from_input-embedded : (reading : Reading) (globals : Names) (bytes : List ℕ) → FromInput (embedded reading globals bytes)
-unfolding embedded
+pub from_input-embedded : (reading : Reading) (globals : Names) (bytes : List ℕ) → FromInput (page_from reading globals bytes)
+unfolding page_from
 from_input-embedded reading globals bytes = search (from_input-next, from_input-sorted, from_input-beginning)
 
-pub from_input-associated : (strict : Bool) (ps : List SegmentView) → FromInput (associated strict ps)
+pub from_input-associated : (strict : Bool) (ps : List SegmentView) → FromInput (association_check strict ps)
 from_input-associated strict [] = tt
-from_input-associated strict (p ∷ ps) = from_input-if _ (Err _) (associated strict ps) tt (from_input-associated strict ps)
+from_input-associated strict (p ∷ ps) = from_input-if _ (Err _) (association_check strict ps) tt (from_input-associated strict ps)
 
 pub from_input-filed : (reading : Reading) (own : List SegmentView) → FromInput (page_in_file reading own)
 unfolding page_in_file
@@ -215,7 +215,7 @@ unfolding book_at
 from_input-book_globals reading bytes =
     let P : ReadFile → Type 0 = λ book. FromInput book.globals in
     from_input-last P (file_at reading bytes) _ (λ file.
-    from_input-last P (associated (is_strict reading) file.1) _ (λ known.
+    from_input-last P (association_check (is_strict reading) file.1) _ (λ known.
     from_input-last P (refuse_if (is_strict reading && miscounts file.0.number_of_pages (length (by_pages file.1))) _) _ (λ counted.
     from_input-last P (pages_in_file reading (by_pages file.1)) _ (λ pages. from_input-shared reading pages (of_page 0 file.1)))))
 

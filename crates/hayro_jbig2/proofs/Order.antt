@@ -10,7 +10,7 @@ use Rattle.jbig2_base.specs.declared.reading.Reading.{Reading}
 use Rattle.jbig2_base.specs.declared.reading.Reading.TheVariants.{Lenient}
 use Rattle.hayro_jbig2.specs.Names.{Names, globals_at, shared_from, nothing_shared}
 use Rattle.hayro_jbig2.specs.Order.{EndOfPageEnds, IsReordered, OrderChangesNothing, Unchanged, After, Exchanged, Then}
-use Rattle.hayro_jbig2.specs.Page.{Drawing, ReadPage, beginning_of, embedded, ends_page, blank_page, segment_on, segments_drawn}
+use Rattle.hayro_jbig2.specs.Page.{Drawing, ReadPage, beginning_of, page_from, ends_page, blank_page, segment_on, segments_drawn}
 
 -- ---- order
 abbrev number : SegmentView → ℕ
@@ -59,7 +59,7 @@ sorted-as reading bytes others ps qs one other moved =
     ap sorted one ∙ ap (λ (xs : List SegmentView). let r : Result (List SegmentView) DecodeError = Ok xs in r) (reordered-sorted ps qs moved) ∙ sym (ap sorted other)
 
 pub order_changes_nothing : OrderChangesNothing
-unfolding embedded globals_at
+unfolding page_from globals_at
 order_changes_nothing = record {
   page = λ reading globals bytes others ps qs one other moved fault.
       ap (λ (r : Result (List SegmentView) DecodeError). r >>= λ segments. beginning_of reading segments >>= λ initial_page. let made : Result ReadPage DecodeError = Ok (record { reading = reading; initial_page = initial_page; segments = segments; globals = Ok globals; fault = fault_of reading (sequential Lenient bytes) }) in made)

@@ -11,32 +11,32 @@ use Rattle.jbig2_base.specs.declared.error.DecodeError.TheVariants.{OutOfMemory}
 use Rattle.jbig2_steps.proofs.WorkLemmas.{counts-worth, price-least, row-paid}
 use Rattle.jbig2_steps.specs.declared.work.Work.{Work}
 use Rattle.jbig2_steps.specs.Counts.{Counts, no_steps}
-use Rattle.jbig2_steps.specs.Work.{CountsWithin, counted, Paid, PaidBut, price_of_bitmap, words_of_row, worth}
+use Rattle.jbig2_steps.specs.Work.{CountsWithin, sum_of_counts, Paid, PaidBut, price_of_bitmap, words_of_row, budget}
 use Rattle.hayro_jbig2.specs.WorkLimit.{Limit, Takes, after_call}
 use Rattle.hayro_jbig2.specs.Page.{Drawing, ReadPage, drawing_of_page}
 use Rattle.hayro_jbig2.specs.declared.region.parsed_region.ParsedRegion.{ParsedRegion}
 use Rattle.hayro_jbig2.specs.declared.region.parsed_region.ParsedRegion.TheVariants.{Text, Halftone, Generic, Refinement, PageRefinement}
-use Rattle.hayro_jbig2.specs.inner.ParsedRegions.{drawn, info_of}
+use Rattle.hayro_jbig2.specs.inner.ParsedRegions.{region_grid, info_of}
 use Rattle.hayro_jbig2.specs.inner.Prices.{counts_of, price_besides, price_of_info}
 use Rattle.hayro_jbig2.proofs.Direct.{drawn-made}
 use Rattle.hayro_jbig2.proofs.DrawnPages.{grid-is}
 use Rattle.hayro_jbig2.proofs.Untouched.{pages_keep_their_size}
 
 -- what is counted after it was paid for
-pub counts-paid : {L : Type 0} (w0 w1 : Work L) (steps : Counts) (price : ℕ) → worth w1 + 32 * price ≤ worth w0 → CountsWithin price w1.steps steps → Paid w0 (record w1 { steps = steps })
+pub counts-paid : {L : Type 0} (w0 w1 : Work L) (steps : Counts) (price : ℕ) → budget w1 + 32 * price ≤ budget w0 → CountsWithin price w1.steps steps → Paid w0 (record w1 { steps = steps })
 counts-paid w0 w1 steps price taken counts =
     let more : PaidBut (32 * price) w1 (record w1 { steps = steps }) = counts-worth w1 steps (32 * price) counts in
     omega (arith, more, taken)
 
 -- what a call takes from a limit, by what its counter was worth
-pub limit-taken : {L : Type 0} (limit after : Limit) (old new : Work L) (units : ℕ) → after ≡ after_call new limit → old.steps ≡ no_steps → old.left ≡ limit.left → worth new + 32 * units ≤ worth old → Takes units limit after
-unfolding worth
+pub limit-taken : {L : Type 0} (limit after : Limit) (old new : Work L) (units : ℕ) → after ≡ after_call new limit → old.steps ≡ no_steps → old.left ≡ limit.left → budget new + 32 * units ≤ budget old → Takes units limit after
+unfolding budget
 limit-taken {L} limit after old new units is none left paid =
-    let nothing : counted old.steps ≡ 0 = ap (λ (s : Counts). counted s) none in
+    let nothing : sum_of_counts old.steps ≡ 0 = ap (λ (s : Counts). sum_of_counts s) none in
     subst (λ (l : Limit). Takes units limit l) (sym is) (refl, omega (arith, nothing, left, paid))
 
 -- the same where the call succeeds
-pub limit-taken-by : {L T E : Type 0} (result : Result T E) (limit after : Limit) (old new : Work L) (units : ℕ) → after ≡ after_call new limit → old.steps ≡ no_steps → old.left ≡ limit.left → IfOk result (λ _. worth new + 32 * units ≤ worth old) → IfOk result (λ _. Takes units limit after)
+pub limit-taken-by : {L T E : Type 0} (result : Result T E) (limit after : Limit) (old new : Work L) (units : ℕ) → after ≡ after_call new limit → old.steps ≡ no_steps → old.left ≡ limit.left → IfOk result (λ _. budget new + 32 * units ≤ budget old) → IfOk result (λ _. Takes units limit after)
 limit-taken-by (Ok x) limit after old new units is none left paid = limit-taken limit after old new units is none left paid
 limit-taken-by (Err e) limit after old new units is none left paid = tt
 
@@ -58,12 +58,12 @@ pub decoded-paid : {A : Type 0} (r : ParsedRegion A) (w0 w1 w2 : ℕ) → w1 + 3
 decoded-paid r w0 w1 w2 taken counts = omega (arith, parsed-within r)
 
 -- its bitmap has the region's size
-pub drawn-price : {A : Type 0} (r : ParsedRegion A) (g : Grid) → drawn r ≡ Ok g → price_of_bitmap g.width g.height ≡ price_of_info r
+pub drawn-price : {A : Type 0} (r : ParsedRegion A) (g : Grid) → region_grid r ≡ Ok g → price_of_bitmap g.width g.height ≡ price_of_info r
 drawn-price r g is =
     let made = drawn-made r g is in
     price-same g.width (info_of r).width g.height (info_of r).height (ap (λ (q : Grid). q.width) made.1) (ap (λ (q : Grid). q.height) made.1)
 
-pub placed-price : {A : Type 0} (r : ParsedRegion A) (g made : Grid) → drawn r ≡ Ok made → g ≡ made → price_of_bitmap g.width g.height ≡ price_of_info r
+pub placed-price : {A : Type 0} (r : ParsedRegion A) (g made : Grid) → region_grid r ≡ Ok made → g ≡ made → price_of_bitmap g.width g.height ≡ price_of_info r
 placed-price r g made is same = ap (λ (q : Grid). price_of_bitmap q.width q.height) same ∙ drawn-price r made is
 
 -- a bitmap of a size that fits is made white again, unless memory is refused

@@ -15,7 +15,7 @@ use Rattle.jbig2_base.specs.declared.reading.Reading.TheVariants.{Lenient, Salva
 use Rattle.hayro_jbig2.specs.Files.{PageInFile, ReadFile, book_at, before_pages, pages_in_file, page_in_file, numbers_after, of_page, page_in, page_of}
 use Rattle.hayro_jbig2.specs.Lenient.{HasBeginning, SalvageRefusesLittle}
 use Rattle.hayro_jbig2.specs.Names.{Names, Shared}
-use Rattle.hayro_jbig2.specs.Page.{ReadPage, beginning_of, drawing_of_page, embedded, blank_page, segments_drawn}
+use Rattle.hayro_jbig2.specs.Page.{ReadPage, beginning_of, drawing_of_page, page_from, blank_page, segments_drawn}
 use Rattle.hayro_jbig2.proofs.Books.{file-of_book, filled_from, mapped, number-of_filed}
 use Rattle.hayro_jbig2.proofs.ByPages.{is_among, no_segments}
 use Rattle.hayro_jbig2.proofs.Causes.{at-first, at-later}
@@ -27,8 +27,8 @@ fine-drawing page is globals =
     subst (λ (reading : Reading). IsFine (page.globals >>= λ names. segments_drawn reading names page.segments (blank_page page.initial_page))) (sym is)
     (fine-next page.globals _ globals (λ names. fine-drawn names page.segments (blank_page page.initial_page)))
 
-fine-page : (names : Names) (bytes : List ℕ) (ps : List SegmentView) → sorted_segments Salvage bytes ≡ Ok ps → HasBeginning ps → IsFine (embedded Salvage names bytes >>= λ page. drawing_of_page page)
-unfolding embedded
+fine-page : (names : Names) (bytes : List ℕ) (ps : List SegmentView) → sorted_segments Salvage bytes ≡ Ok ps → HasBeginning ps → IsFine (page_from Salvage names bytes >>= λ page. drawing_of_page page)
+unfolding page_from
 fine-page names bytes ps read has =
     let page : List SegmentView → InitialPage → ReadPage = λ own first. record { reading = Salvage; initial_page = first; segments = own; globals = Ok names; fault = fault_of Salvage (sequential Lenient bytes) } in
     subst (λ (r : Result (List SegmentView) DecodeError). IsFine ((r >>= λ own. beginning_of Salvage own >>= λ first. let s : Result ReadPage DecodeError = Ok (page own first) in s) >>= λ p. drawing_of_page p)) (sym read)

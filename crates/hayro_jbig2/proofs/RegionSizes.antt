@@ -1,7 +1,7 @@
 -- What a region decodes to is a table of its size.
 use Rattle.std.proofs.Common.{◌≡◌, ℕ, zero, suc, ◌+◌, ◌-◌, ◌*◌, eqb, nat_lt, Bool, true, false, not, ◌&&◌, if◌then◌else◌, ℤ, pos, ◌+ℤ◌, ◌-ℤ◌, List, [], ◌∷◌, slice_index_or, Option, Some, None, Result, Ok, Err, refl, sym, ◌∙◌, ap, subst}
 use Rattle.jbig2_base.specs.Results.{◌>>=◌, refuse_if}
-use Rattle.jbig2_base.specs.Combination.{combined, drawn_pixel}
+use Rattle.jbig2_base.specs.Combination.{combined_grid, drawn_pixel}
 use Rattle.jbig2_base.specs.Grid.{Grid, grid_of, blank}
 use Rattle.jbig2_base.specs.declared.bitmap.operator.CombinationOperator.{CombinationOperator}
 use Rattle.jbig2_base.specs.declared.error.DecodeError.{DecodeError}
@@ -45,7 +45,7 @@ made-after w h (Ok x) next g each is = each x is
 made-after w h (Err e) next g each is = absurd (let never : bad {X = Grid} e ≡ good g = is in cc)
 
 -- what is drawn onto a table of this size
-combined-made : (w h : ℕ) (op : CombinationOperator) (page source : Grid) (x y : ℤ) → Made w h page → Made w h (combined op page source x y)
+combined-made : (w h : ℕ) (op : CombinationOperator) (page source : Grid) (x y : ℤ) → Made w h page → Made w h (combined_grid op page source x y)
 combined-made w h op page source x y made =
     let pixels : ℕ → ℕ → Bool = drawn_pixel op page source x y in
     (pixels, ap (λ (n : ℕ). grid_of n page.height pixels) (ap (λ (q : Grid). q.width) made.1) ∙ ap (λ (n : ℕ). grid_of w n pixels) (ap (λ (q : Grid). q.height) made.1))
@@ -117,7 +117,7 @@ symbol-made : {w v : ℕ} (flags : TextRegionFlags) (region : Grid) (c : Cursor)
 symbol-made {w} {v} flags region c ti None made = value-is (λ more. Made w v more.0) (region, c) made
 symbol-made {w} {v} flags region c ti (Some g) made =
     value-next (λ more. Made w v more.0) (symbol_placed flags g c.cur_s ti) _ (λ i is.
-    value-is (λ more. Made w v more.0) (combined flags.combination_operator region i.0.grid i.0.x i.0.y, record c { cur_s = i.1 })
+    value-is (λ more. Made w v more.0) (combined_grid flags.combination_operator region i.0.grid i.0.x i.0.y, record c { cur_s = i.1 })
     (combined-made w v flags.combination_operator region i.0.grid i.0.x i.0.y made))
 
 instance-made : {w v : ℕ} {S : Type 0} (r : Readings S) (p : TextParams) (x : Reached S) → Made w v x.region → OnValue (λ y. Made w v y.region) (with_instance r p x)

@@ -4,7 +4,7 @@ use Rattle.std.proofs.lemmas.Bool.{cond_both, le-ltb, ne_eqb}
 use Rattle.std.specs.Prelude.{IsTrue}
 use Rattle.std.specs.Result.{is_ok}
 use Rattle.jbig2_base.specs.Results.{◌>>=◌}
-use Rattle.jbig2_base.specs.File.{file_at, file_header_at, gathered, gathered_before, header_goes_on, headers_in, segments_by}
+use Rattle.jbig2_base.specs.File.{file_at, file_header_at, with_data, gathered_before, header_goes_on, headers_in, segments_by}
 use Rattle.jbig2_base.specs.PageInfo.{initial_page_with}
 use Rattle.jbig2_base.specs.Reading.{fault_of, is_salvaged}
 use Rattle.jbig2_base.specs.Segment.{Header, SegmentView, header_at, segment_at, segment_data_at}
@@ -16,7 +16,7 @@ use Rattle.jbig2_base.specs.declared.file_header.FileOrganization.TheVariants.{S
 use Rattle.jbig2_base.specs.declared.page_info.PageInformation.{PageInformation}
 use Rattle.jbig2_base.specs.declared.reading.Reading.TheVariants.{Lenient, Salvage}
 use Rattle.jbig2_base.proofs.FromInput.{FromInput, IsFromInput, from_input-header, from_input-segment, from_input-segment_data}
-use Rattle.hayro_jbig2.specs.Files.{PageInFile, associated, book_at, by_pages, before_pages, pages_in_file, page_in_file, shared_by}
+use Rattle.hayro_jbig2.specs.Files.{PageInFile, association_check, book_at, by_pages, before_pages, pages_in_file, page_in_file, shared_by}
 use Rattle.hayro_jbig2.specs.Lenient.{HasBeginning}
 use Rattle.hayro_jbig2.specs.Names.{Names, Shared, globals_at, kept_by, shared_from, no_names, nothing_shared, or_shared_without}
 use Rattle.hayro_jbig2.specs.Page.{Drawing, IsSide, beginning_of, ends_page, or_left_out, segment_by, segment_on, segments_drawn}
@@ -70,9 +70,9 @@ fine-before : (r : Result (SegmentView × List ℕ) DecodeError) (others : List 
 fine-before (Ok p) others is rest = fine-next (others p.1) _ (rest p.1) (λ ps. refl)
 fine-before (Err e) others is rest = rw (left-out e is) refl
 
-fine-gathered : (hs : List Header) (bytes : List ℕ) → IsFine (gathered Salvage hs bytes)
+fine-gathered : (hs : List Header) (bytes : List ℕ) → IsFine (with_data Salvage hs bytes)
 fine-gathered [] bytes = refl
-fine-gathered (h ∷ hs) bytes = fine-before (segment_data_at h bytes) (gathered Salvage hs) (from_input-segment_data h bytes) (fine-gathered hs)
+fine-gathered (h ∷ hs) bytes = fine-before (segment_data_at h bytes) (with_data Salvage hs) (from_input-segment_data h bytes) (fine-gathered hs)
 
 pub fine-by : (organization : FileOrganization) (bytes : List ℕ) → IsFine (segments_by organization Salvage bytes)
 fine-by Sequential bytes = fine-sequential bytes
@@ -114,14 +114,14 @@ fine-filed (own ∷ others) = before (page_in_file Salvage own) (pages_in_file S
     before (Ok page) rest is fine = fine-next rest _ fine (λ pages. refl)
     before (Err e) rest is fine = rw (left-out e is) fine
 
-associated-fine : (ps : List SegmentView) → IsFine (associated false ps)
+associated-fine : (ps : List SegmentView) → IsFine (association_check false ps)
 associated-fine [] = refl
 associated-fine (p ∷ ps) = associated-fine ps
 
 pub fine-book : (bytes : List ℕ) → IsFine (file_at Salvage bytes) → IsFine (book_at Salvage bytes)
 unfolding book_at
 fine-book bytes read =
-    fine-next (file_at Salvage bytes) _ read (λ file. fine-next (associated false file.1) _ (associated-fine file.1) (λ known. fine-next (pages_in_file Salvage (by_pages file.1)) _ (fine-filed (by_pages file.1)) (λ pages. refl)))
+    fine-next (file_at Salvage bytes) _ read (λ file. fine-next (association_check false file.1) _ (associated-fine file.1) (λ known. fine-next (pages_in_file Salvage (by_pages file.1)) _ (fine-filed (by_pages file.1)) (λ pages. refl)))
 
 pub fine-file : (bytes : List ℕ) → IsFine (file_header_at bytes) → IsFine (file_at Salvage bytes)
 unfolding file_at

@@ -7,7 +7,7 @@ use Rattle.std.proofs.lemmas.Bool.{cases_lt, lt-ltb, le-ltb}
 use Rattle.std.proofs.lemmas.List.{get_or_append_left, get_or_past}
 use Rattle.std.proofs.lemmas.Nat.{mul-add-lt}
 use Rattle.jbig2_base.specs.Results.{◌>>=◌, refuse_if}
-use Rattle.jbig2_base.specs.Combination.{combined, drawn_pixel, is_below, combined_pixel}
+use Rattle.jbig2_base.specs.Combination.{combined_grid, drawn_pixel, is_below, combined_pixel}
 use Rattle.jbig2_base.specs.Grid.{Grid, grid_of, pixel, pixel_at}
 use Rattle.jbig2_base.specs.declared.bitmap.operator.CombinationOperator.{CombinationOperator}
 use Rattle.jbig2_base.specs.declared.error.DecodeError.{DecodeError}
@@ -17,7 +17,7 @@ use Rattle.jbig2_base.proofs.GridLemmas.{grid_of-ext, pixel_at-below, pixel_at-g
 use Rattle.jbig2_region.specs.Generic.{context_at, generic_result, generic_coding, generic_grid, generic_region, known_colour, number_of, region_pixel}
 use Rattle.jbig2_region.specs.GenericHeader.{GenericHeader, IsParsed}
 use Rattle.jbig2_region.specs.Raster.{Coding, Region, after_pixel, at_next, decoded_region, first_pixels, after_ltp, so_far, with_next}
-use Rattle.jbig2_region.specs.RegionInfo.{PlacedRegion, placed}
+use Rattle.jbig2_region.specs.RegionInfo.{PlacedRegion, at_location}
 use Rattle.jbig2_region.specs.Refinement.{Reference, offset, reference_of, reference_pixel, refined_context, refined_grid, refined_region, refinement_coding, refined_result}
 use Rattle.jbig2_region.specs.RefinementTemplates.{reference_pixels, region_pixels}
 use Rattle.jbig2_region.specs.RefinementHeader.{IsRefinement, RefinementHeader}
@@ -29,7 +29,7 @@ use Rattle.jbig2_region.specs.declared.region_info.RegionSegmentInfo.{RegionSegm
 use Rattle.jbig2_region.specs.declared.template.AdaptiveTemplatePixel.{AdaptiveTemplatePixel}
 use Rattle.jbig2_region.proofs.PlaceLemmas.{first_pixels-length}
 use Rattle.jbig2_region.proofs.RasterLemmas.{after_ltp-pixels}
-use Rattle.hayro_jbig2.specs.Page.{Drawing, shown}
+use Rattle.hayro_jbig2.specs.Page.{Drawing, with_drawn_region}
 use Rattle.hayro_jbig2.specs.declared.region.parsed_region.ParsedRegion.TheVariants.{Generic}
 use Rattle.hayro_jbig2.specs.inner.ParsedRegions.{placed_region}
 
@@ -197,7 +197,7 @@ joined-same op p g q begins (pos m) (pos n) seen =
     let inside = both-true (nat_lt m q.width) (nat_lt n q.height) is in
     ap (λ (s : Bool). combined_pixel op p s) (begins.pixels m n (below-true m q.width inside.0) (below-true n q.height inside.1)))
 
-pub combined-same : (op : CombinationOperator) (page g q : Grid) (x y : ℤ) → Begins g q → ((j n : ℕ) → j < page.height → pos j -ℤ y ≡ pos n → n < g.height → n < q.height) → combined op page g x y ≡ combined op page q x y
+pub combined-same : (op : CombinationOperator) (page g q : Grid) (x y : ℤ) → Begins g q → ((j n : ℕ) → j < page.height → pos j -ℤ y ≡ pos n → n < g.height → n < q.height) → combined_grid op page g x y ≡ combined_grid op page q x y
 unfolding drawn_pixel
 combined-same op page g q x y begins seen =
     grid_of-ext page.width page.height _ _ (λ i j column row. joined-same op (pixel_at page i j) g q begins (pos i -ℤ x) (pos j -ℤ y) (λ n is. seen j n row is))
@@ -259,33 +259,33 @@ info_rows k info = record info { height = k }
 abbrev SeenBy : ℕ → RegionSegmentInfo → ℕ → Type 0
 SeenBy height info k = (j n : ℕ) → j < height → pos j -ℤ cast_signed w32 info.y_location ≡ pos n → n < info.height → n < k
 
-shown-same : (d : Drawing) (info : RegionSegmentInfo) (k : ℕ) (g q : Grid) → Begins g q → g.height ≡ info.height → q.height ≡ k → SeenBy d.grid.height info k → shown d (Ok (placed (info_rows k info) q)) ≡ shown d (Ok (placed info g))
+shown-same : (d : Drawing) (info : RegionSegmentInfo) (k : ℕ) (g q : Grid) → Begins g q → g.height ≡ info.height → q.height ≡ k → SeenBy d.grid.height info k → with_drawn_region d (Ok (at_location (info_rows k info) q)) ≡ with_drawn_region d (Ok (at_location info g))
 shown-same d info k g q begins high low seen =
     let within : (j n : ℕ) → j < d.grid.height → pos j -ℤ cast_signed w32 info.y_location ≡ pos n → n < g.height → n < q.height = λ j n row is less.
     let there : n < k = seen j n row is (omega (arith, less, high)) in omega (arith, there, low) in
     ap (λ (page : Grid). let r : Result Drawing DecodeError = Ok (record d { grid = page; untouched = false }) in r)
     (sym (combined-same info.combination_operator d.grid g q (cast_signed w32 info.x_location) (cast_signed w32 info.y_location) begins within))
 
-unplaced : (info : RegionSegmentInfo) (r : Result Grid DecodeError) → info.width ≤ 65535 → info.height ≤ 65535 → (refuse_if (nat_lt 65535 info.width || nat_lt 65535 info.height) (Overflow BitmapDimension) >>= λ fits. r >>= λ g. Ok (placed info g)) ≡ (r >>= λ g. Ok (placed info g))
-unplaced info r columns rows = ap (λ (b : Bool). refuse_if b (Overflow BitmapDimension) >>= λ fits. r >>= λ g. Ok (placed info g)) (fits info.width info.height columns rows)
+unplaced : (info : RegionSegmentInfo) (r : Result Grid DecodeError) → info.width ≤ 65535 → info.height ≤ 65535 → (refuse_if (nat_lt 65535 info.width || nat_lt 65535 info.height) (Overflow BitmapDimension) >>= λ fits. r >>= λ g. Ok (at_location info g)) ≡ (r >>= λ g. Ok (at_location info g))
+unplaced info r columns rows = ap (λ (b : Bool). refuse_if b (Overflow BitmapDimension) >>= λ fits. r >>= λ g. Ok (at_location info g)) (fits info.width info.height columns rows)
 
 pub generic-shown : (A : Type 0) (header : GenericRegionHeader) (k : ℕ) (d : Drawing) → IsParsed (generics.header_view header) → header.mmr ≡ false → k ≤ header.region_info.height → SeenBy d.grid.height header.region_info k
-    → shown d (placed_region {A = A} (Generic (record header { region_info = info_rows k header.region_info }))) ≡ shown d (placed_region {A = A} (Generic header))
+    → with_drawn_region d (placed_region {A = A} (Generic (record header { region_info = info_rows k header.region_info }))) ≡ with_drawn_region d (placed_region {A = A} (Generic header))
 generic-shown A header k d parsed coded fewer seen =
     let h : GenericHeader = generics.header_view header in
     let info : RegionSegmentInfo = header.region_info in
     let plain : (g : GenericHeader) → g.mmr ≡ false → generic_result g ≡ Ok (generic_grid g) = λ g is. rw is refl in
-    ap (λ (r : Result PlacedRegion DecodeError). shown d r) (unplaced (info_rows k info) (generic_result (with_rows k h)) parsed.columns (omega (arith, fewer, parsed.rows)) ∙ ap (λ (r : Result Grid DecodeError). r >>= λ g. Ok (placed (info_rows k info) g)) (plain (with_rows k h) coded))
+    ap (λ (r : Result PlacedRegion DecodeError). with_drawn_region d r) (unplaced (info_rows k info) (generic_result (with_rows k h)) parsed.columns (omega (arith, fewer, parsed.rows)) ∙ ap (λ (r : Result Grid DecodeError). r >>= λ g. Ok (at_location (info_rows k info) g)) (plain (with_rows k h) coded))
     ∙ shown-same d info k (generic_grid h) (generic_grid (with_rows k h)) (generic-begins h k fewer) (generic-height h) (generic-height (with_rows k h)) seen
-    ∙ sym (ap (λ (r : Result PlacedRegion DecodeError). shown d r) (unplaced info (generic_result h) parsed.columns parsed.rows ∙ ap (λ (r : Result Grid DecodeError). r >>= λ g. Ok (placed info g)) (plain h coded)))
+    ∙ sym (ap (λ (r : Result PlacedRegion DecodeError). with_drawn_region d r) (unplaced info (generic_result h) parsed.columns parsed.rows ∙ ap (λ (r : Result Grid DecodeError). r >>= λ g. Ok (at_location info g)) (plain h coded)))
 
 refined-drawn : (h : RefinementHeader) (from : PlacedRegion) (k : ℕ) (d : Drawing) → IsRefinement h → k ≤ h.region_info.height → h.region_info.height ≤ from.grid.height → SeenBy d.grid.height h.region_info k
-    → shown d (refined_result (refined_rows k h) from >>= λ g. Ok (placed (info_rows k h.region_info) g)) ≡ shown d (refined_result h from >>= λ g. Ok (placed h.region_info g))
+    → with_drawn_region d (refined_result (refined_rows k h) from >>= λ g. Ok (at_location (info_rows k h.region_info) g)) ≡ with_drawn_region d (refined_result h from >>= λ g. Ok (at_location h.region_info g))
 refined-drawn h from k d parsed fewer covers seen =
-    ap (λ (o : Result (ℤ × ℤ) DecodeError). shown d (o >>= (λ _. Ok (refined_grid (refined_rows k h) from)) >>= λ g. Ok (placed (info_rows k h.region_info) g))) (sym (offset-same h from k fewer covers))
+    ap (λ (o : Result (ℤ × ℤ) DecodeError). with_drawn_region d (o >>= (λ _. Ok (refined_grid (refined_rows k h) from)) >>= λ g. Ok (at_location (info_rows k h.region_info) g))) (sym (offset-same h from k fewer covers))
     ∙ by (offset from h.region_info)
   where
-    by : (o : Result (ℤ × ℤ) DecodeError) → shown d (o >>= (λ _. Ok (refined_grid (refined_rows k h) from)) >>= λ g. Ok (placed (info_rows k h.region_info) g)) ≡ shown d (o >>= (λ _. Ok (refined_grid h from)) >>= λ g. Ok (placed h.region_info g))
+    by : (o : Result (ℤ × ℤ) DecodeError) → with_drawn_region d (o >>= (λ _. Ok (refined_grid (refined_rows k h) from)) >>= λ g. Ok (at_location (info_rows k h.region_info) g)) ≡ with_drawn_region d (o >>= (λ _. Ok (refined_grid h from)) >>= λ g. Ok (at_location h.region_info g))
     by (Ok near) = shown-same d h.region_info k (refined_grid h from) (refined_grid (refined_rows k h) from) (refined-begins h from k fewer) (refined-height h from) (refined-height (refined_rows k h) from) seen
     by (Err e) = refl
 
@@ -293,23 +293,23 @@ refined-drawn h from k d parsed fewer covers seen =
 abbrev refined-apart : GenericRefinementRegionHeader → PlacedRegion → Result PlacedRegion DecodeError
 refined-apart header from =
     refuse_if (nat_lt 65535 header.region_info.width || nat_lt 65535 header.region_info.height) (Overflow BitmapDimension)
-    >>= λ fits. refined_result (refinements.header_view header) from >>= λ g. Ok (placed header.region_info g)
+    >>= λ fits. refined_result (refinements.header_view header) from >>= λ g. Ok (at_location header.region_info g)
 
 pub refined-shown : (header : GenericRefinementRegionHeader) (from : PlacedRegion) (k : ℕ) (d : Drawing) → IsRefinement (refinements.header_view header) → k ≤ header.region_info.height → header.region_info.height ≤ from.grid.height → SeenBy d.grid.height header.region_info k
-    → shown d (refined-apart (record header { region_info = info_rows k header.region_info }) from) ≡ shown d (refined-apart header from)
+    → with_drawn_region d (refined-apart (record header { region_info = info_rows k header.region_info }) from) ≡ with_drawn_region d (refined-apart header from)
 refined-shown header from k d parsed fewer covers seen =
     let h : RefinementHeader = refinements.header_view header in
     let info : RegionSegmentInfo = header.region_info in
-    ap (λ (r : Result PlacedRegion DecodeError). shown d r) (unplaced (info_rows k info) (refined_result (refined_rows k h) from) parsed.columns (omega (arith, fewer, parsed.rows)))
+    ap (λ (r : Result PlacedRegion DecodeError). with_drawn_region d r) (unplaced (info_rows k info) (refined_result (refined_rows k h) from) parsed.columns (omega (arith, fewer, parsed.rows)))
     ∙ refined-drawn h from k d parsed fewer covers seen
-    ∙ sym (ap (λ (r : Result PlacedRegion DecodeError). shown d r) (unplaced info (refined_result h from) parsed.columns parsed.rows))
+    ∙ sym (ap (λ (r : Result PlacedRegion DecodeError). with_drawn_region d r) (unplaced info (refined_result h from) parsed.columns parsed.rows))
 
 -- ---- what is decoded without these rows is drawn as the whole region is
-pub cut-refused : (d : Drawing) (meant whole cut : Result PlacedRegion DecodeError) (e : DecodeError) → meant ≡ whole → shown d cut ≡ shown d whole → (e ≡ OutOfMemory) ⊎ (cut ≡ Err e) → (e ≡ OutOfMemory) ⊎ (shown d meant ≡ Err e)
+pub cut-refused : (d : Drawing) (meant whole cut : Result PlacedRegion DecodeError) (e : DecodeError) → meant ≡ whole → with_drawn_region d cut ≡ with_drawn_region d whole → (e ≡ OutOfMemory) ⊎ (cut ≡ Err e) → (e ≡ OutOfMemory) ⊎ (with_drawn_region d meant ≡ Err e)
 cut-refused d meant whole cut e leads same (inl memory) = inl memory
 cut-refused d meant whole cut e leads same (inr refused) =
-    inr (ap (λ (r : Result PlacedRegion DecodeError). shown d r) leads ∙ sym same ∙ ap (λ (r : Result PlacedRegion DecodeError). shown d r) refused)
+    inr (ap (λ (r : Result PlacedRegion DecodeError). with_drawn_region d r) leads ∙ sym same ∙ ap (λ (r : Result PlacedRegion DecodeError). with_drawn_region d r) refused)
 
-pub cut-shown : (d new : Drawing) (meant whole cut : Result PlacedRegion DecodeError) (region : PlacedRegion) → meant ≡ whole → shown d cut ≡ shown d whole → cut ≡ Ok region → Ok new ≡ shown d (Ok region) → shown d meant ≡ Ok new
+pub cut-shown : (d new : Drawing) (meant whole cut : Result PlacedRegion DecodeError) (region : PlacedRegion) → meant ≡ whole → with_drawn_region d cut ≡ with_drawn_region d whole → cut ≡ Ok region → Ok new ≡ with_drawn_region d (Ok region) → with_drawn_region d meant ≡ Ok new
 cut-shown d new meant whole cut region leads same decoded drawn =
-    ap (λ (r : Result PlacedRegion DecodeError). shown d r) leads ∙ sym same ∙ ap (λ (r : Result PlacedRegion DecodeError). shown d r) decoded ∙ sym drawn
+    ap (λ (r : Result PlacedRegion DecodeError). with_drawn_region d r) leads ∙ sym same ∙ ap (λ (r : Result PlacedRegion DecodeError). with_drawn_region d r) decoded ∙ sym drawn

@@ -17,7 +17,7 @@ use Rattle.jbig2_base.specs.declared.page_info.InitialPage.{InitialPage}
 use Rattle.jbig2_base.specs.declared.page_info.PageInformation.{PageInformation}
 use Rattle.jbig2_base.specs.declared.reading.Reading.{Reading}
 use Rattle.jbig2_base.specs.declared.reading.Reading.TheVariants.{Lenient}
-use Rattle.hayro_jbig2.specs.Files.{PageInFile, ReadFile, associated, book_at, by_pages, ends_of, before_pages, pages_in_file, page_in_file, left_out_of, miscounts, of_page, page_in, page_of, shared_by}
+use Rattle.hayro_jbig2.specs.Files.{PageInFile, ReadFile, association_check, book_at, by_pages, ends_of, before_pages, pages_in_file, page_in_file, left_out_of, miscounts, of_page, page_in, page_of, shared_by}
 use Rattle.hayro_jbig2.specs.Image.{first_page, first_size}
 use Rattle.hayro_jbig2.specs.Names.{Shared}
 use Rattle.hayro_jbig2.specs.Page.{HasSides, IsSide, ReadPage, beginning_of, known_height}
@@ -89,7 +89,7 @@ filed-all reading left_out fault (Err e) globals all = tt
 book-sides : (reading : Reading) (bytes : List ℕ) → IfOk (book_at reading bytes) AllSides
 unfolding book_at
 book-sides reading bytes =
-    last-has AllSides (file_at reading bytes) _ (λ file. last-has AllSides (associated (is_strict reading) file.1) _ (λ known.
+    last-has AllSides (file_at reading bytes) _ (λ file. last-has AllSides (association_check (is_strict reading) file.1) _ (λ known.
     last-has AllSides (refuse_if (is_strict reading && miscounts file.0.number_of_pages (length (by_pages file.1))) (Format PageCountMismatch)) _ (λ counted.
     filed-all reading (left_out_of reading (by_pages file.1)) (fault_of reading (file_at Lenient bytes)) (pages_in_file reading (by_pages file.1)) (λ pages. shared_by reading pages (of_page 0 file.1)) (each-sides reading (by_pages file.1)))))
 

@@ -29,7 +29,7 @@ use Rattle.jbig2_text.specs.TextRegion.{region_from, text_tables, text_result, t
 use Rattle.jbig2_base.specs.Reading.{reading_of}
 use Rattle.hayro_jbig2.specs.Calls.{Call, Pixel, Line, singles, whole_calls, row_of, calls_of}
 use Rattle.hayro_jbig2.specs.Names.{symbol_dictionary_at, with_symbols, globals_at}
-use Rattle.hayro_jbig2.specs.Page.{beginning_of, embedded, grid_of_page, immediate}
+use Rattle.hayro_jbig2.specs.Page.{beginning_of, page_from, grid_of_page, immediate}
 use Rattle.hayro_jbig2.specs.Regions.{text_at}
 use Rattle.hayro_jbig2.proofs.WorkedRows.{calls_at, page, one, eight, white}
 
@@ -43,42 +43,42 @@ text count = 0 ∷ 0 ∷ 0 ∷ 2 ∷ 6 ∷ 0x20 ∷ 1 ∷ 1 ∷ 0 ∷ 0 ∷ 0 �
 
 -- the calls of an embedded page with these globals
 unfoldable calls_with : Bool → List ℕ → List ℕ → Result (List Call) DecodeError
-calls_with strict shared bytes = globals_at (reading_of strict) shared >>= λ globals. embedded (reading_of strict) globals.names bytes >>= λ p. grid_of_page p >>= λ g. Ok (calls_of g)
+calls_with strict shared bytes = globals_at (reading_of strict) shared >>= λ globals. page_from (reading_of strict) globals.names bytes >>= λ p. grid_of_page p >>= λ g. Ok (calls_of g)
 
 abbrev dot : List Call
 dot = Pixel true ∷ (singles (replicate 7 false) ++ Line ∷ [])
 
 row_11 : calls_at true (page 0 eight one 0 ++ dictionary 1 0x80 ++ text 1) ≡ Ok dot
-unfolding calls_at embedded segments_in segment_at header_at referred_at count_at type_of beginning_of information_at grid_of_page table pixel_at calls_of row_of whole_calls with_symbols symbol_dictionary_at symbol_header_at symbol_flags_of symbols_decoded first_contexts symbol_tables table_for classes_from height_class collective_class widths_from next_width collective_bitmap raw_rows bit symbols_cut symbol_cut exports runs_from next_run exported_from ended_runs lines_a lines_b lines_d immediate text_at text_header_at region_info_at text_fields_at text_flags_at symbol_codes_from runcodes_at symbol_lengths_at short_lengths runs_at text_decoded text_result region_from text_tables text_region after_instances with_instance symbol_placed instance_symbol next_cursor strip_start strip_delta lines_f lines_h lines_k drawn_pixel prefix_code is_crowded weight shorter read_code least decoded_value bits_left bits_on
+unfolding calls_at page_from segments_in segment_at header_at referred_at count_at type_of beginning_of information_at grid_of_page table pixel_at calls_of row_of whole_calls with_symbols symbol_dictionary_at symbol_header_at symbol_flags_of symbols_decoded first_contexts symbol_tables table_for classes_from height_class collective_class widths_from next_width collective_bitmap raw_rows bit symbols_cut symbol_cut exports runs_from next_run exported_from ended_runs lines_a lines_b lines_d immediate text_at text_header_at region_info_at text_fields_at text_flags_at symbol_codes_from runcodes_at symbol_lengths_at short_lengths runs_at text_decoded text_result region_from text_tables text_region after_instances with_instance symbol_placed instance_symbol next_cursor strip_start strip_delta lines_f lines_h lines_k drawn_pixel prefix_code is_crowded weight shorter read_code least decoded_value bits_left bits_on
 row_11 = refl
 
 row_12-strict : calls_at true (page 0 eight one 0 ++ dictionary 1 0x80 ++ text 2) ≡ Err (Parse UnexpectedEof)
-unfolding calls_at embedded segments_in segment_at header_at referred_at count_at type_of beginning_of information_at grid_of_page table pixel_at calls_of row_of whole_calls with_symbols symbol_dictionary_at symbol_header_at symbol_flags_of symbols_decoded first_contexts symbol_tables table_for classes_from height_class collective_class widths_from next_width collective_bitmap raw_rows bit symbols_cut symbol_cut exports runs_from next_run exported_from ended_runs lines_a lines_b lines_d immediate text_at text_header_at region_info_at text_fields_at text_flags_at symbol_codes_from runcodes_at symbol_lengths_at short_lengths runs_at text_decoded text_result region_from text_tables text_region after_instances with_instance symbol_placed instance_symbol next_cursor strip_start strip_delta lines_f lines_h lines_k drawn_pixel prefix_code is_crowded weight shorter read_code least decoded_value bits_left bits_on
+unfolding calls_at page_from segments_in segment_at header_at referred_at count_at type_of beginning_of information_at grid_of_page table pixel_at calls_of row_of whole_calls with_symbols symbol_dictionary_at symbol_header_at symbol_flags_of symbols_decoded first_contexts symbol_tables table_for classes_from height_class collective_class widths_from next_width collective_bitmap raw_rows bit symbols_cut symbol_cut exports runs_from next_run exported_from ended_runs lines_a lines_b lines_d immediate text_at text_header_at region_info_at text_fields_at text_flags_at symbol_codes_from runcodes_at symbol_lengths_at short_lengths runs_at text_decoded text_result region_from text_tables text_region after_instances with_instance symbol_placed instance_symbol next_cursor strip_start strip_delta lines_f lines_h lines_k drawn_pixel prefix_code is_crowded weight shorter read_code least decoded_value bits_left bits_on
 row_12-strict = refl
 
 row_12-lenient : calls_at false (page 0 eight one 0 ++ dictionary 1 0x80 ++ text 2) ≡ Ok white
-unfolding calls_at embedded segments_in segment_at header_at referred_at count_at type_of beginning_of information_at grid_of_page table pixel_at calls_of row_of whole_calls with_symbols symbol_dictionary_at symbol_header_at symbol_flags_of symbols_decoded first_contexts symbol_tables table_for classes_from height_class collective_class widths_from next_width collective_bitmap raw_rows bit symbols_cut symbol_cut exports runs_from next_run exported_from ended_runs lines_a lines_b lines_d immediate text_at text_header_at region_info_at text_fields_at text_flags_at symbol_codes_from runcodes_at symbol_lengths_at short_lengths runs_at text_decoded text_result region_from text_tables text_region after_instances with_instance symbol_placed instance_symbol next_cursor strip_start strip_delta lines_f lines_h lines_k drawn_pixel prefix_code is_crowded weight shorter read_code least decoded_value bits_left bits_on
+unfolding calls_at page_from segments_in segment_at header_at referred_at count_at type_of beginning_of information_at grid_of_page table pixel_at calls_of row_of whole_calls with_symbols symbol_dictionary_at symbol_header_at symbol_flags_of symbols_decoded first_contexts symbol_tables table_for classes_from height_class collective_class widths_from next_width collective_bitmap raw_rows bit symbols_cut symbol_cut exports runs_from next_run exported_from ended_runs lines_a lines_b lines_d immediate text_at text_header_at region_info_at text_fields_at text_flags_at symbol_codes_from runcodes_at symbol_lengths_at short_lengths runs_at text_decoded text_result region_from text_tables text_region after_instances with_instance symbol_placed instance_symbol next_cursor strip_start strip_delta lines_f lines_h lines_k drawn_pixel prefix_code is_crowded weight shorter read_code least decoded_value bits_left bits_on
 row_12-lenient = refl
 
 -- the first of two dictionaries of one number
 row_R13_3 : calls_at true (page 0 eight one 0 ++ dictionary 1 0x80 ++ dictionary 1 0 ++ text 1) ≡ Ok dot
-unfolding calls_at embedded segments_in segment_at header_at referred_at count_at type_of beginning_of information_at grid_of_page table pixel_at calls_of row_of whole_calls with_symbols symbol_dictionary_at symbol_header_at symbol_flags_of symbols_decoded first_contexts symbol_tables table_for classes_from height_class collective_class widths_from next_width collective_bitmap raw_rows bit symbols_cut symbol_cut exports runs_from next_run exported_from ended_runs lines_a lines_b lines_d immediate text_at text_header_at region_info_at text_fields_at text_flags_at symbol_codes_from runcodes_at symbol_lengths_at short_lengths runs_at text_decoded text_result region_from text_tables text_region after_instances with_instance symbol_placed instance_symbol next_cursor strip_start strip_delta lines_f lines_h lines_k drawn_pixel prefix_code is_crowded weight shorter read_code least decoded_value bits_left bits_on
+unfolding calls_at page_from segments_in segment_at header_at referred_at count_at type_of beginning_of information_at grid_of_page table pixel_at calls_of row_of whole_calls with_symbols symbol_dictionary_at symbol_header_at symbol_flags_of symbols_decoded first_contexts symbol_tables table_for classes_from height_class collective_class widths_from next_width collective_bitmap raw_rows bit symbols_cut symbol_cut exports runs_from next_run exported_from ended_runs lines_a lines_b lines_d immediate text_at text_header_at region_info_at text_fields_at text_flags_at symbol_codes_from runcodes_at symbol_lengths_at short_lengths runs_at text_decoded text_result region_from text_tables text_region after_instances with_instance symbol_placed instance_symbol next_cursor strip_start strip_delta lines_f lines_h lines_k drawn_pixel prefix_code is_crowded weight shorter read_code least decoded_value bits_left bits_on
 row_R13_3 = refl
 
 -- a dictionary's error is never passed over
 row_R8_1-lenient : calls_at false (page 0 eight one 0 ++ dictionary 9 0x80) ≡ Err (Huffman InvalidSelection)
-unfolding calls_at embedded segments_in segment_at header_at referred_at count_at type_of beginning_of information_at grid_of_page table pixel_at calls_of row_of whole_calls with_symbols symbol_dictionary_at symbol_header_at symbol_flags_of symbols_decoded first_contexts symbol_tables table_for classes_from height_class collective_class widths_from next_width collective_bitmap raw_rows bit symbols_cut symbol_cut exports runs_from next_run exported_from ended_runs lines_a lines_b lines_d prefix_code is_crowded weight shorter read_code least decoded_value bits_left bits_on
+unfolding calls_at page_from segments_in segment_at header_at referred_at count_at type_of beginning_of information_at grid_of_page table pixel_at calls_of row_of whole_calls with_symbols symbol_dictionary_at symbol_header_at symbol_flags_of symbols_decoded first_contexts symbol_tables table_for classes_from height_class collective_class widths_from next_width collective_bitmap raw_rows bit symbols_cut symbol_cut exports runs_from next_run exported_from ended_runs lines_a lines_b lines_d prefix_code is_crowded weight shorter read_code least decoded_value bits_left bits_on
 row_R8_1-lenient = refl
 
 -- a number that names nothing
 unnamed-strict : calls_at true (page 0 eight one 0 ++ text 1) ≡ Err (Segment InvalidReference)
-unfolding calls_at embedded segments_in segment_at header_at referred_at count_at type_of beginning_of information_at grid_of_page table pixel_at calls_of row_of whole_calls immediate text_at text_header_at region_info_at text_fields_at text_flags_at symbol_codes_from runcodes_at symbol_lengths_at short_lengths runs_at text_decoded text_result region_from text_tables text_region after_instances with_instance symbol_placed instance_symbol next_cursor strip_start strip_delta lines_f lines_h lines_k drawn_pixel prefix_code is_crowded weight shorter read_code least decoded_value bits_left bits_on
+unfolding calls_at page_from segments_in segment_at header_at referred_at count_at type_of beginning_of information_at grid_of_page table pixel_at calls_of row_of whole_calls immediate text_at text_header_at region_info_at text_fields_at text_flags_at symbol_codes_from runcodes_at symbol_lengths_at short_lengths runs_at text_decoded text_result region_from text_tables text_region after_instances with_instance symbol_placed instance_symbol next_cursor strip_start strip_delta lines_f lines_h lines_k drawn_pixel prefix_code is_crowded weight shorter read_code least decoded_value bits_left bits_on
 unnamed-strict = refl
 
 row_R9_2 : calls_with true (dictionary 1 0x80) (page 0 eight one 0 ++ text 1) ≡ Ok dot
-unfolding calls_with globals_at embedded segments_in segment_at header_at referred_at count_at type_of beginning_of information_at grid_of_page table pixel_at calls_of row_of whole_calls with_symbols symbol_dictionary_at symbol_header_at symbol_flags_of symbols_decoded first_contexts symbol_tables table_for classes_from height_class collective_class widths_from next_width collective_bitmap raw_rows bit symbols_cut symbol_cut exports runs_from next_run exported_from ended_runs lines_a lines_b lines_d immediate text_at text_header_at region_info_at text_fields_at text_flags_at symbol_codes_from runcodes_at symbol_lengths_at short_lengths runs_at text_decoded text_result region_from text_tables text_region after_instances with_instance symbol_placed instance_symbol next_cursor strip_start strip_delta lines_f lines_h lines_k drawn_pixel prefix_code is_crowded weight shorter read_code least decoded_value bits_left bits_on
+unfolding calls_with globals_at page_from segments_in segment_at header_at referred_at count_at type_of beginning_of information_at grid_of_page table pixel_at calls_of row_of whole_calls with_symbols symbol_dictionary_at symbol_header_at symbol_flags_of symbols_decoded first_contexts symbol_tables table_for classes_from height_class collective_class widths_from next_width collective_bitmap raw_rows bit symbols_cut symbol_cut exports runs_from next_run exported_from ended_runs lines_a lines_b lines_d immediate text_at text_header_at region_info_at text_fields_at text_flags_at symbol_codes_from runcodes_at symbol_lengths_at short_lengths runs_at text_decoded text_result region_from text_tables text_region after_instances with_instance symbol_placed instance_symbol next_cursor strip_start strip_delta lines_f lines_h lines_k drawn_pixel prefix_code is_crowded weight shorter read_code least decoded_value bits_left bits_on
 row_R9_2 = refl
 
 row_R9_2-own : calls_with true (dictionary 1 0) (page 0 eight one 0 ++ dictionary 1 0x80 ++ text 1) ≡ Ok dot
-unfolding calls_with globals_at embedded segments_in segment_at header_at referred_at count_at type_of beginning_of information_at grid_of_page table pixel_at calls_of row_of whole_calls with_symbols symbol_dictionary_at symbol_header_at symbol_flags_of symbols_decoded first_contexts symbol_tables table_for classes_from height_class collective_class widths_from next_width collective_bitmap raw_rows bit symbols_cut symbol_cut exports runs_from next_run exported_from ended_runs lines_a lines_b lines_d immediate text_at text_header_at region_info_at text_fields_at text_flags_at symbol_codes_from runcodes_at symbol_lengths_at short_lengths runs_at text_decoded text_result region_from text_tables text_region after_instances with_instance symbol_placed instance_symbol next_cursor strip_start strip_delta lines_f lines_h lines_k drawn_pixel prefix_code is_crowded weight shorter read_code least decoded_value bits_left bits_on
+unfolding calls_with globals_at page_from segments_in segment_at header_at referred_at count_at type_of beginning_of information_at grid_of_page table pixel_at calls_of row_of whole_calls with_symbols symbol_dictionary_at symbol_header_at symbol_flags_of symbols_decoded first_contexts symbol_tables table_for classes_from height_class collective_class widths_from next_width collective_bitmap raw_rows bit symbols_cut symbol_cut exports runs_from next_run exported_from ended_runs lines_a lines_b lines_d immediate text_at text_header_at region_info_at text_fields_at text_flags_at symbol_codes_from runcodes_at symbol_lengths_at short_lengths runs_at text_decoded text_result region_from text_tables text_region after_instances with_instance symbol_placed instance_symbol next_cursor strip_start strip_delta lines_f lines_h lines_k drawn_pixel prefix_code is_crowded weight shorter read_code least decoded_value bits_left bits_on
 row_R9_2-own = refl

@@ -30,7 +30,7 @@ use Rattle.jbig2_text.specs.Causes.{After}
 use Rattle.jbig2_symbol.specs.SymbolHeader.{max_new_symbols}
 use Rattle.hayro_jbig2.specs.Files.{ReadFile, book_at, by_pages, ends_of, needs_page}
 use Rattle.hayro_jbig2.specs.Names.{globals_at, Names, first_kept, kept_of}
-use Rattle.hayro_jbig2.specs.Page.{ReadPage, drawing_of_page, embedded}
+use Rattle.hayro_jbig2.specs.Page.{ReadPage, drawing_of_page, page_from}
 use Rattle.hayro_jbig2.specs.Regions.{page_area, patterns_for}
 use Rattle.hayro_jbig2.specs.declared.kept.Kept.{Kept}
 
@@ -103,7 +103,8 @@ IsFromInput _ = Unit {0}
 -- drawing of a page, unless the page's globals gave it. The globals of a file never do.
 pub record ErrorsAreFromInput : Type 0 where
   pub globals : (reading : Reading) (bytes : List ℕ) → IfErr (globals_at reading bytes) IsFromInput
-  pub page : (reading : Reading) (globals : Names) (bytes : List ℕ) → IfErr (embedded reading globals bytes) IsFromInput
+  pub page : (reading : Reading) (globals : Names) (bytes : List ℕ)
+      → IfErr (page_from reading globals bytes) IsFromInput
   pub file : (reading : Reading) (bytes : List ℕ) → IfErr (book_at reading bytes) IsFromInput
   pub file_globals : (reading : Reading) (bytes : List ℕ)
       → IfOk (book_at reading bytes) (λ book. IfErr book.globals IsFromInput)

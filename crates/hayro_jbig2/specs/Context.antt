@@ -1,7 +1,7 @@
 -- What a context keeps from one page to the next (our own rule): the drawing of the last page, how many units of work a
 -- page may take, how many of them the last page left, and how many steps it counted.
 use Rattle.std.specs.Prelude.{◌≡◌, ◌-◌, ◌*◌, ◌^◌, ◌≤◌, ℕ, Option, Some, None, unwrap_or}
-use Rattle.jbig2_steps.specs.Work.{counted}
+use Rattle.jbig2_steps.specs.Work.{sum_of_counts}
 use Rattle.jbig2_steps.specs.declared.work.Work.{Work}
 use Rattle.hayro_jbig2.specs.Page.{Drawing, empty_drawing}
 
@@ -22,7 +22,7 @@ abbrev pub IsWithin : Option ℕ → ℕ → Type 0
 IsWithin limit steps = steps ≤ 32 * units_of limit
 
 abbrev pub after_page : {L : Type 0} → Work L → Context → Context  -- after a page with this counter
-after_page work c = record c { work_left = left c.work_limit; steps = counted work.steps }
+after_page work c = record c { work_left = left c.work_limit; steps = sum_of_counts work.steps }
   where
     left : Option ℕ → Option ℕ
     left None = None

@@ -45,10 +45,10 @@ needs_page kind = is_some (region_type kind)
 abbrev pub lacks_page : Bool → Header → Bool
 lacks_page strict h = strict && h.page_association == 0 && needs_page h.segment_type
 
-abbrev pub associated : Bool → List SegmentView → Result (Unit {0}) DecodeError
-associated strict [] = Ok tt
-associated strict (p ∷ ps) =
-    if lacks_page strict p.header then Err (Segment MissingPageAssociation) else associated strict ps
+abbrev pub association_check : Bool → List SegmentView → Result (Unit {0}) DecodeError
+association_check strict [] = Ok tt
+association_check strict (p ∷ ps) =
+    if lacks_page strict p.header then Err (Segment MissingPageAssociation) else association_check strict ps
 
 -- These numbers, and after them the other numbers of pages in the order in which they first occur. 0 is no page.
 abbrev pub numbers_after : List ℕ → List SegmentView → List ℕ
@@ -110,7 +110,7 @@ module _ (reading : Reading) where
   unfoldable pub book_at : List ℕ → Result ReadFile DecodeError
   book_at bytes = do
     (header, segments) ← file_at reading bytes
-    known ← associated (is_strict reading) segments
+    known ← association_check (is_strict reading) segments
     let own = by_pages segments
     counted ← refuse_if (is_strict reading && miscounts header.number_of_pages (length own)) (Format PageCountMismatch)
     pages ← pages_in_file own

@@ -16,7 +16,7 @@ use Rattle.jbig2_base.specs.declared.reading.Reading.{Reading}
 use Rattle.jbig2_base.specs.declared.reading.Reading.TheVariants.{Strict, Lenient, Salvage}
 use Rattle.hayro_jbig2.specs.Files.{ReadFile, book_at, of_page, page_of}
 use Rattle.hayro_jbig2.specs.Names.{Names, globals_at}
-use Rattle.hayro_jbig2.specs.Page.{IsSide, ReadPage, drawing_of_page, embedded, known_height}
+use Rattle.hayro_jbig2.specs.Page.{IsSide, ReadPage, drawing_of_page, page_from, known_height}
 
 -- Where the one reading succeeds, the other gives the same value.
 abbrev pub IsSameUnder : {A : Type 0} → Reading → Reading → (Reading → Result A DecodeError) → Type 0
@@ -27,9 +27,9 @@ IsSameUnder {A = A} one other read = IfOk (read one) (λ (x : A). read other ≡
 pub record ReadingsAgree (one other : Reading) : Type 0 where
   pub globals : (bytes : List ℕ) → IsSameUnder one other (λ reading. globals_at reading bytes)
   pub page : (names : Names) (bytes : List ℕ) → IsSameUnder one other (λ reading.
-      embedded reading names bytes >>= λ page. Ok page.initial_page)
+      page_from reading names bytes >>= λ page. Ok page.initial_page)
   pub drawing : (names : Names) (bytes : List ℕ) → IsSameUnder one other (λ reading.
-      embedded reading names bytes >>= λ page. drawing_of_page page)
+      page_from reading names bytes >>= λ page. drawing_of_page page)
   pub pages : (bytes : List ℕ) → IsSameUnder one other (λ reading. book_at reading bytes >>= λ book. Ok book.pages)
   pub drawings : (bytes : List ℕ) (index : ℕ) → IsSameUnder one other (λ reading.
       book_at reading bytes >>= λ book.
@@ -61,7 +61,7 @@ pub record SalvageRefusesLittle : Type 0 where
       → page.reading ≡ Salvage → IsTrue (is_ok page.globals) → IsTrue (is_ok (drawing_of_page page))
   pub page : (names : Names) (bytes : List ℕ) (ps : List SegmentView)
       → sorted_segments Salvage bytes ≡ Ok ps → HasBeginning ps
-      → IsTrue (is_ok (embedded Salvage names bytes >>= λ page. drawing_of_page page))
+      → IsTrue (is_ok (page_from Salvage names bytes >>= λ page. drawing_of_page page))
   pub file : (bytes : List ℕ) → IsTrue (is_ok (file_header_at bytes)) → IsTrue (is_ok (book_at Salvage bytes))
   pub pages : (bytes : List ℕ) (file : FileHeader × List SegmentView) (book : ReadFile) (n : ℕ)
       → file_at Salvage bytes ≡ Ok file → book_at Salvage bytes ≡ Ok book → 1 ≤ n → HasBeginning (of_page n file.1)

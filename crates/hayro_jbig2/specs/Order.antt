@@ -7,7 +7,7 @@ use Rattle.jbig2_base.specs.Reading.{fault_of}
 use Rattle.jbig2_base.specs.declared.reading.Reading.{Reading}
 use Rattle.jbig2_base.specs.declared.reading.Reading.TheVariants.{Lenient}
 use Rattle.hayro_jbig2.specs.Names.{Names, globals_at}
-use Rattle.hayro_jbig2.specs.Page.{ReadPage, drawing_of_page, embedded, ends_page}
+use Rattle.hayro_jbig2.specs.Page.{ReadPage, drawing_of_page, page_from, ends_page}
 
 -- The second list comes from the first one: neighbours with different numbers change places, any number of times.
 pub data IsReordered : List SegmentView → List SegmentView → Type 0 where
@@ -27,7 +27,7 @@ HaveOneFault reading bytes others =
 pub record OrderChangesNothing : Type 0 where
   pub page : (reading : Reading) (globals : Names) (bytes others : List ℕ) (ps qs : List SegmentView)
       → sequential reading bytes ≡ Ok ps → sequential reading others ≡ Ok qs → IsReordered ps qs
-      → HaveOneFault reading bytes others → embedded reading globals bytes ≡ embedded reading globals others
+      → HaveOneFault reading bytes others → page_from reading globals bytes ≡ page_from reading globals others
   pub globals : (reading : Reading) (bytes others : List ℕ) (ps qs : List SegmentView)
       → sequential reading bytes ≡ Ok ps → sequential reading others ≡ Ok qs → IsReordered ps qs
       → HaveOneFault reading bytes others → globals_at reading bytes ≡ globals_at reading others

@@ -4,7 +4,7 @@ use Rattle.std.specs.Prelude.{◌≡◌, ◌≤◌, ℕ, ◌+◌, ◌-◌, ◌==
 use Rattle.std.specs.Prelude.{◌∷◌, Option, Some, None, Result, Ok, Err, IfOk, IsTrue, if◌then◌else◌}
 use Rattle.std.specs.Int.{w32, cast_signed}
 use Rattle.jbig2_base.specs.Results.{◌>>=◌}
-use Rattle.jbig2_base.specs.Combination.{combined}
+use Rattle.jbig2_base.specs.Combination.{combined_grid}
 use Rattle.jbig2_base.specs.Grid.{Grid, blank, max_side}
 use Rattle.jbig2_base.specs.PageInfo.{initial_page_by, stripes_height}
 use Rattle.jbig2_base.specs.Reading.{fault_of, is_salvaged, is_strict}
@@ -81,12 +81,12 @@ ends_page types.EndOfFile = true
 ends_page _ = false
 
 -- An immediate region is combined with the page at its location, which is read as two signed numbers (7.4.1).
-abbrev pub shown : Drawing → Result PlacedRegion DecodeError → Result Drawing DecodeError
-shown d region = do
+abbrev pub with_drawn_region : Drawing → Result PlacedRegion DecodeError → Result Drawing DecodeError
+with_drawn_region d region = do
   r ← region
   let x = cast_signed w32 r.x_location
   let y = cast_signed w32 r.y_location
-  Ok (record d { grid = combined r.combination_operator d.grid r.grid x y; untouched = false })
+  Ok (record d { grid = combined_grid r.combination_operator d.grid r.grid x y; untouched = false })
 
 -- A segment that is passed over draws nothing, but it counts as a region that came before (our own rule).
 abbrev pub passing : ℕ → DecodeError → Drawing → Drawing
@@ -113,7 +113,7 @@ module _ (strict : Bool) (globals : Names) where
   region_at kinds.GenericRefinement is_intermediate p d = refinement_at strict is_intermediate d.grid d.regions p
 
   unfoldable pub immediate : RegionKind → SegmentView → Drawing → Result Drawing DecodeError
-  immediate kind p d = or_passed_over strict p.header.segment_number d (shown d (region_at kind false p d))
+  immediate kind p d = or_passed_over strict p.header.segment_number d (with_drawn_region d (region_at kind false p d))
 
   unfoldable pub intermediate : RegionKind → SegmentView → Drawing → Result Drawing DecodeError
   intermediate kind p d = region_at kind true p d >>= λ region. Ok (with_region p.header.segment_number d region)
@@ -198,8 +198,8 @@ unfoldable pub beginning_of : Reading → List SegmentView → Result InitialPag
 beginning_of reading ps = initial_page_by (known_height reading ps) ps
 
 -- An embedded page (D.3), as in PDF: its segments are read one after the other and sorted.
-unfoldable pub embedded : Reading → Names → List ℕ → Result ReadPage DecodeError
-embedded reading globals bytes = do
+unfoldable pub page_from : Reading → Names → List ℕ → Result ReadPage DecodeError
+page_from reading globals bytes = do
   segments ← sorted_segments reading bytes
   initial_page ← beginning_of reading segments
   Ok (record {

@@ -7,7 +7,7 @@ use Rattle.jbig2_base.specs.Segment.{SegmentView}
 use Rattle.jbig2_base.specs.declared.error.DecodeError.{DecodeError}
 use Rattle.jbig2_base.specs.declared.error.DecodeError.TheVariants.{Segment}
 use Rattle.jbig2_base.specs.declared.error.SegmentError.TheVariants.{InvalidReference, MissingPatternDictionary}
-use Rattle.jbig2_region.specs.RegionInfo.{PlacedRegion, placed}
+use Rattle.jbig2_region.specs.RegionInfo.{PlacedRegion, at_location}
 use Rattle.jbig2_region.specs.Generic.{generic_decoded}
 use Rattle.jbig2_region.specs.GenericHeader.{generic_header_at}
 use Rattle.jbig2_region.specs.Refinement.{refined_decoded}
@@ -57,7 +57,7 @@ referred_region strict (number ∷ others) regions = do
 -- The area of the page that a region covers, white outside the page.
 abbrev pub page_area : Grid → RegionSegmentInfo → PlacedRegion
 page_area page info =
-    placed info (part_of page (record {
+    at_location info (part_of page (record {
       left = info.x_location;
       top = info.y_location;
       width = info.width;

@@ -4,7 +4,7 @@ use Rattle.std.specs.Prelude.{◌≡◌, ◌+◌, ◌*◌, ◌≤◌, ℕ, List,
 use Rattle.jbig2_base.specs.Segment.{SegmentView}
 use Rattle.jbig2_base.specs.declared.error.DecodeError.{DecodeError}
 use Rattle.jbig2_base.specs.declared.file_header.FileHeader.{FileHeader}
-use Rattle.jbig2_steps.specs.Work.{counted}
+use Rattle.jbig2_steps.specs.Work.{sum_of_counts}
 use Rattle.jbig2_steps.specs.declared.work.Work.{Work}
 use Rattle.hayro_jbig2.specs.Context.{units_of}
 use Rattle.hayro_jbig2.specs.Files.{PageInFile, ReadFile, of_page}
@@ -25,7 +25,7 @@ abbrev pub Takes : ℕ → Limit → Limit → Type 0
 Takes units old new = (new.units ≡ old.units) × (new.steps + 32 * (new.left + units) ≤ old.steps + 32 * old.left)
 
 abbrev pub after_call : {L : Type 0} → Work L → Limit → Limit  -- after a call with this counter
-after_call work limit = record limit { left = work.left; steps = limit.steps + counted work.steps }
+after_call work limit = record limit { left = work.left; steps = limit.steps + sum_of_counts work.steps }
 
 -- ---- files
 -- how many segments are decoded when a file is opened: those that its pages share, if it has a page

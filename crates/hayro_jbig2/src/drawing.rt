@@ -4,13 +4,13 @@ ghost use Rattle.jbig2_base.specs.Results.{Gives};
 ghost use Rattle.jbig2_base.specs.inner.SegmentViews.{segment_view, segment_views};
 ghost use Rattle.hayro_jbig2.specs.Names.{nothing_passed, with_patterns, with_symbols};
 ghost use Rattle.jbig2_base.specs.Reading.{is_strict};
-ghost use Rattle.hayro_jbig2.specs.Page.{segments_drawn, ends_page, immediate, intermediate, with_names, or_left_out, or_passed_over, region_at, segment_by, segment_on, shown};
+ghost use Rattle.hayro_jbig2.specs.Page.{segments_drawn, ends_page, immediate, intermediate, with_names, or_left_out, or_passed_over, region_at, segment_by, segment_on, with_drawn_region};
 ghost use Rattle.jbig2_base.specs.declared.error.DecodeError.TheVariants.{OutOfMemory};
 ghost use Rattle.jbig2_region.specs.inner.RegionViews.{region_view};
-ghost use Rattle.hayro_jbig2.specs.inner.KeptViews.{seen};
+ghost use Rattle.hayro_jbig2.specs.inner.KeptViews.{kept_values};
 ghost use Rattle.hayro_jbig2.specs.inner.ParsedRegions.{drawing_of};
 ghost use Rattle.hayro_jbig2.specs.inner.WholePages.{after_immediate};
-ghost use Rattle.jbig2_steps.specs.Work.{Paid, worth};
+ghost use Rattle.jbig2_steps.specs.Work.{Paid, budget};
 
 pub(crate) mod canvas;
 pub(crate) mod context;
@@ -78,7 +78,7 @@ pub(crate) fn pay_segment<A: Allocator, L: Ledger>(
 ) -> Result<()>
     ensures memory { IfErr result (λ e. e ≡ OutOfMemory) }
     ensures paid { Paid work.old work.new }
-    ensures taken { IfOk result (λ _. worth work.new + 32 * 1024 ≤ worth work.old) }
+    ensures taken { IfOk result (λ _. budget work.new + 32 * 1024 ≤ budget work.old) }
 {
     let numbers = segment.header.referred_to_segments.len() as u64;
     let each = (kept as u64).saturating_add(REFERENCE);
@@ -260,7 +260,7 @@ impl<'a, A: Allocator + Clone> Drawer<'a, A> {
         ensures globals { result.names.globals.now ≡ self.now.globals.now }
         ensures drawing { drawing_of result ≡ record {
           grid = page.now;
-          regions = seen region_view regions.now;
+          regions = kept_values region_view regions.now;
           names = own.now;
           untouched = false;
           passed_over = nothing_passed;
@@ -310,8 +310,8 @@ impl<'a, A: Allocator + Clone> Drawer<'a, A> {
         work: &mut Work<L>,
     ) -> Result<()>
         ensures value { Gives (λ _. canvas.new) result
-            (shown canvas.old (region_at (is_strict self.now.reading) self.now.globals.now kind false
-            (segment_view segment.now) canvas.old)) }
+            (with_drawn_region canvas.old (region_at (is_strict self.now.reading)
+            self.now.globals.now kind false (segment_view segment.now) canvas.old)) }
         ensures err { IfErr result (λ e. (e ≡ OutOfMemory) ⊎
             (after_immediate canvas.new ≡ after_immediate canvas.old)) }
         ensures passed { canvas.new.passed_over ≡ canvas.old.passed_over }

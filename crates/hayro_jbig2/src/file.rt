@@ -4,12 +4,12 @@ ghost use Rattle.std.specs.Map.Iter.{GivesInOrder};
 ghost use Rattle.jbig2_base.specs.Results.{Returns, Gives};
 ghost use Rattle.jbig2_base.specs.inner.SegmentViews.{header_view, segment_views};
 ghost use Rattle.hayro_jbig2.specs.inner.ByPages.{pages_view};
-ghost use Rattle.hayro_jbig2.specs.Files.{needs_page, lacks_page, associated, is_end_of_page, ends_of, page_in_file, pages_in_file, left_out_of, miscounts, book_at, shared_by, page_of, of_page, pages_of, PagesStandAlone};
+ghost use Rattle.hayro_jbig2.specs.Files.{needs_page, lacks_page, association_check, is_end_of_page, ends_of, page_in_file, pages_in_file, left_out_of, miscounts, book_at, shared_by, page_of, of_page, pages_of, PagesStandAlone};
 ghost use Rattle.jbig2_base.specs.File.{file_at};
 ghost use Rattle.jbig2_base.specs.Reading.{is_strict, reading_of};
 ghost use Rattle.jbig2_base.specs.declared.reading.Reading.TheVariants.{Salvage};
 ghost use Rattle.hayro_jbig2.specs.Names.{names_of};
-ghost use Rattle.hayro_jbig2.specs.inner.KeptViews.{found};
+ghost use Rattle.hayro_jbig2.specs.inner.KeptViews.{found_value};
 ghost use Rattle.hayro_jbig2.specs.Page.{ReadPage};
 ghost use Rattle.hayro_jbig2.specs.Returned.{IsReturned};
 ghost use Rattle.hayro_jbig2.specs.inner.PageViews.{kept_names};
@@ -108,7 +108,8 @@ fn lacks_page<A: Allocator>(strict: bool, header: &SegmentHeader<A>) -> bool
 }
 
 fn check_associations<A: Allocator>(strict: bool, segments: &[Segment<'_, A>]) -> Result<()>
-    ensures { Returns (λ known. known) result (associated strict (segment_views segments.now)) }
+    ensures { Returns (λ known. known) result
+        (association_check strict (segment_views segments.now)) }
 {
     for segment in segments {
         if lacks_page(strict, &segment.header) {
@@ -327,7 +328,7 @@ impl<'a, A: Allocator> File<'a, A> {
 
     /// In salvage, the error that ended the list of segments early: the error of lenient reading.
     pub fn fault(&self) -> Option<&DecodeError>
-        ensures { found (λ e. e) result ≡ self.now.fault }
+        ensures { found_value (λ e. e) result ≡ self.now.fault }
     {
         self.fault.as_ref()
     }

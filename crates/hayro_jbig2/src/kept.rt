@@ -1,7 +1,7 @@
 //! The values that segments keep for later ones, under their numbers (T.88, 7.3.1).
 ghost use Rattle.std.specs.Prelude.{◌≡◌};
 ghost use Rattle.hayro_jbig2.specs.Names.{first_kept, kept_of};
-ghost use Rattle.hayro_jbig2.specs.inner.KeptViews.{found};
+ghost use Rattle.hayro_jbig2.specs.inner.KeptViews.{found_value};
 
 pub(crate) mod globals;
 pub(crate) mod names;
@@ -16,7 +16,7 @@ pub(crate) struct Kept<T> {
 
 /// The first value that is kept under a number.
 pub(crate) fn first_under<T>(kept: &[Kept<T>], number: u32) -> Option<&T>
-    ensures { found (λ v. v) result ≡ first_kept number kept.now }
+    ensures { found_value (λ v. v) result ≡ first_kept number kept.now }
 {
     for candidate in kept {
         if candidate.segment_number == number {
@@ -32,7 +32,7 @@ pub(crate) fn kept_of<'a, T>(
     shared: &'a [Kept<T>],
     number: u32,
 ) -> Option<&'a T>
-    ensures { found (λ v. v) result ≡ kept_of number own.now shared.now }
+    ensures { found_value (λ v. v) result ≡ kept_of number own.now shared.now }
 {
     if let Some(value) = first_under(own, number) {
         return Some(value);

@@ -1,10 +1,10 @@
 //! `Page`: reads an embedded page (T.88, 7.4.8 and D.3), and gives its number and its size.
 ghost use Rattle.std.specs.Prelude.{◌≡◌, IfErr};
 ghost use Rattle.jbig2_base.specs.Results.{Gives};
-ghost use Rattle.hayro_jbig2.specs.Page.{HasSides, IsSide, ReadPage, embedded};
+ghost use Rattle.hayro_jbig2.specs.Page.{HasSides, IsSide, ReadPage, page_from};
 ghost use Rattle.jbig2_base.specs.Reading.{reading_of};
 ghost use Rattle.jbig2_base.specs.declared.reading.Reading.TheVariants.{Salvage};
-ghost use Rattle.hayro_jbig2.specs.inner.KeptViews.{found};
+ghost use Rattle.hayro_jbig2.specs.inner.KeptViews.{found_value};
 ghost use Rattle.hayro_jbig2.specs.Causes.{IsFromInput};
 ghost use Rattle.hayro_jbig2.specs.Returned.{IsReturned};
 ghost use Rattle.hayro_jbig2.specs.inner.PageViews.{given_names, kept_names};
@@ -103,7 +103,7 @@ impl<'a, A: Allocator> Page<'a, A> {
     /// In salvage, the error that ended the list of the page's segments early, or that of its file: the error of
     /// lenient reading.
     pub fn fault(&self) -> Option<&DecodeError>
-        ensures { found (λ e. e) result ≡ self.now.fault }
+        ensures { found_value (λ e. e) result ≡ self.now.fault }
     {
         self.fault.as_ref()
     }
@@ -145,7 +145,7 @@ impl<'a, A: Allocator + Clone> Page<'a, A> {
         settings: &DecodeSettings,
     ) -> Result<Page<'a, A>>
         ensures value { Gives (λ page. page) result
-            (embedded (reading_of settings.now.strict) (given_names globals.entry) bytes.now) }
+            (page_from (reading_of settings.now.strict) (given_names globals.entry) bytes.now) }
         ensures errors { IfErr result IsReturned }
     {
         Page::read_embedded(alloc, bytes, globals, settings.reading())
@@ -163,13 +163,13 @@ impl<'a, A: Allocator + Clone> Page<'a, A> {
         globals: Option<&'a Globals<A>>,
     ) -> Result<Page<'a, A>>
         ensures value { Gives (λ page. page) result
-            (embedded Salvage (given_names globals.entry) bytes.now) }
+            (page_from Salvage (given_names globals.entry) bytes.now) }
         ensures errors { IfErr result IsReturned }
     {
         Page::read_embedded(alloc, bytes, globals, Reading::Salvage)
     }
 
-    #[tactic(auto, unfolding(crate::specs::Page::embedded))]
+    #[tactic(auto, unfolding(crate::specs::Page::page_from))]
     fn read_embedded(
         alloc: A,
         bytes: &'a [u8],
@@ -177,7 +177,7 @@ impl<'a, A: Allocator + Clone> Page<'a, A> {
         reading: Reading,
     ) -> Result<Page<'a, A>>
         ensures value { Gives (λ page. page) result
-            (embedded reading (given_names globals.entry) bytes.now) }
+            (page_from reading (given_names globals.entry) bytes.now) }
         ensures errors { IfErr result IsReturned }
     {
         let fault = sequence_fault(alloc.clone()?, bytes, reading)?;

@@ -59,7 +59,7 @@ block-none operator page source left right top bottom from from_row known none =
 -- ---- some more columns of a block of one row
 -- that row
 grown_row : (operator : CombinationOperator) (page source : Grid) (left start count row from from_row page_bits source_bits bits : ℕ) → left ≤ start → ((k : ℕ) → k < count → bit page_bits (count - 1 - k) ≡ pixel_at (with_block operator page source left start row (row + 1) from from_row) (start + k) row) → ((k : ℕ) → k < count → bit source_bits (count - 1 - k) ≡ pixel_at source (from + (start - left) + k) from_row) → ((k : ℕ) → k < count → bit bits k ≡ combined_pixel operator (bit page_bits k) (bit source_bits k)) → row < page.height → (i : ℕ) → i < page.width → cond (eqb row row && leb start i && ltb i (start + count)) (bit bits (start + count - 1 - i)) (pixel_at (with_block operator page source left start row (row + 1) from from_row) i row) ≡ block_pixel operator page source left (start + count) row (row + 1) from from_row i row
-grown_row operator page source left start count row from from_row page_bits source_bits bits begun page_read source_read made below i right =
+grown_row operator page source left start count row from from_row page_bits source_bits bits opening page_read source_read made below i right =
     let f = block_pixel operator page source left start row (row + 1) from from_row in
     let g = block_pixel operator page source left (start + count) row (row + 1) from from_row in
     let before : Bool = pixel_at (grid_of page.width page.height f) i row in
@@ -109,7 +109,7 @@ grown_row operator page source left start count row from from_row page_bits sour
     (cases_lt i start)
 
 pub block-columns : (operator : CombinationOperator) (page source : Grid) (left start count row from from_row page_bits source_bits bits : ℕ) → left ≤ start → ((k : ℕ) → k < count → bit page_bits (count - 1 - k) ≡ pixel_at (with_block operator page source left start row (row + 1) from from_row) (start + k) row) → ((k : ℕ) → k < count → bit source_bits (count - 1 - k) ≡ pixel_at source (from + (start - left) + k) from_row) → ((k : ℕ) → k < count → bit bits k ≡ combined_pixel operator (bit page_bits k) (bit source_bits k)) → row < page.height → with_pixels (with_block operator page source left start row (row + 1) from from_row) start row count bits ≡ with_block operator page source left (start + count) row (row + 1) from from_row
-block-columns operator page source left start count row from from_row page_bits source_bits bits begun page_read source_read made below =
+block-columns operator page source left start count row from from_row page_bits source_bits bits opening page_read source_read made below =
     let w : ℕ = page.width in
     let h : ℕ = page.height in
     let f = block_pixel operator page source left start row (row + 1) from from_row in
@@ -119,7 +119,7 @@ block-columns operator page source left start count row from from_row page_bits 
     ⊎_elim
     (λ (here : j ≡ row).
     ap (λ (n : ℕ). cond (eqb n row && leb start i && ltb i (start + count)) (bit bits (start + count - 1 - i)) (pixel_at (grid_of w h f) i n)) here
-    ∙ grown_row operator page source left start count row from from_row page_bits source_bits bits begun page_read source_read made below i right
+    ∙ grown_row operator page source left start count row from from_row page_bits source_bits bits opening page_read source_read made below i right
     ∙ ap (λ (n : ℕ). g i n) (sym here))
     (λ (other : j ≡ row → ⊥).
     cond-false (eqb j row && leb start i && ltb i (start + count)) (bit bits (start + count - 1 - i)) (pixel_at (grid_of w h f) i j) (other_row start row count i j other)
@@ -141,7 +141,7 @@ row-step operator page source before after left right index start count row from
 
 -- ---- one row more
 pub block-rows : (operator : CombinationOperator) (page source : Grid) (left right top bottom from from_row : ℕ) → top ≤ bottom → bottom < page.height → with_block operator (with_block operator page source left right top bottom from from_row) source left right bottom (bottom + 1) from (from_row + (bottom - top)) ≡ with_block operator page source left right top (bottom + 1) from from_row
-block-rows operator page source left right top bottom from from_row begun below =
+block-rows operator page source left right top bottom from from_row opening below =
     let w : ℕ = page.width in
     let h : ℕ = page.height in
     let f = block_pixel operator page source left right top bottom from from_row in

@@ -41,8 +41,8 @@ IfResult Q P (Ok x) = Q x
 IfResult Q P (Err e) = P e
 
 pub result-cause : {A : Type 0} (Q : A → Type 0) (P : DecodeError → Type 0) (r : Result A DecodeError) → IfResult Q P r → IfErr r P
-result-cause Q P (Ok x) told = tt
-result-cause Q P (Err e) told = told
+result-cause Q P (Ok x) given = tt
+result-cause Q P (Err e) given = given
 
 pub result-next : {A B : Type 0} (Q : A → Type 0) (R : B → Type 0) (P : DecodeError → Type 0) (r : Result A DecodeError) (next : A → Result B DecodeError)
     → IfResult Q P r → ((x : A) → Q x → IfResult R P (next x)) → IfResult R P (r >>= next)
@@ -87,8 +87,8 @@ next-number {B} R P w bytes k next within short there =
     (λ whole. subst (λ (ys : List ℕ). IfResult R P (next (number_in w k bytes, ys))) (sym (drop-drop n k bytes)) (there (omega (arith, left, ltb-false (length rest) n whole, within))))
 
 pub result-map : {A : Type 0} (Q R : A → Type 0) (P : DecodeError → Type 0) (r : Result A DecodeError) → ((x : A) → Q x → R x) → IfResult Q P r → IfResult R P r
-result-map Q R P (Ok x) onward told = onward x told
-result-map Q R P (Err e) onward told = told
+result-map Q R P (Ok x) onward given = onward x given
+result-map Q R P (Err e) onward given = given
 
 pub last-number : (R : ℕ × List ℕ → Type 0) (P : DecodeError → Type 0) (w : Width) (bytes : List ℕ) (k : ℕ) → k ≤ length bytes → (length bytes < k + byte_len w → P end_of_bytes)
     → (k + byte_len w ≤ length bytes → R (number_in w k bytes, drop (k + byte_len w) bytes)) → IfResult R P (number_at w (drop k bytes))

@@ -117,7 +117,7 @@ search-before row pixels count others from x black read within before so_far i a
     (cases_lt i x)
 
 pub search-found : (row : ℕ → Bool) (pixels count others from to x : ℕ) (black : Bool) → from ≤ x → x + count ≤ to → ((k : ℕ) → k < count → bit pixels (count - 1 - k) ≡ row (x + k)) → others < count → ((k : ℕ) → k < others → bit pixels (count - 1 - k) ≡ not black) → bit pixels (count - 1 - others) ≡ black → ((i : ℕ) → from ≤ i → i < x → row i ≡ not black) → IsFirst row black from to (x + others)
-search-found row pixels count others from to x black begun inside read within before found so_far = record {
+search-found row pixels count others from to x black opening inside read within before found so_far = record {
   after = omega arith;
   within = omega arith;
   before = search-before row pixels count others from x black read (omega arith) before so_far;

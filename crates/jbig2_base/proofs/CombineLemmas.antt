@@ -8,7 +8,7 @@ use mir.Val.{SFits, to_z, of_z}
 use Rattle.jbig2_base.specs.declared.bitmap.operator.CombinationOperator.{CombinationOperator}
 use Rattle.jbig2_base.specs.Counts.{Counts}
 use Rattle.jbig2_base.specs.Grid.{Grid, pixel_at, pixel}
-use Rattle.jbig2_base.specs.{Combination.{combined_pixel, is_below, drawn_pixel, combined}, Counts.{overlap, most_words, first_under, first_shown, rows_combined, source_combined, WritesWithin}}
+use Rattle.jbig2_base.specs.{Combination.{combined_pixel, is_below, drawn_pixel, combined_grid}, Counts.{overlap, most_words, first_under, first_shown, rows_combined, source_combined, WritesWithin}}
 use Rattle.jbig2_base.specs.Blocks.{LiesOn, block_pixel, with_block}
 use Rattle.jbig2_base.specs.inner.Combines.{block_of}
 use Rattle.jbig2_base.specs.Table.{IsTable}
@@ -69,7 +69,7 @@ drawn-out : (operator : CombinationOperator) (page source : Grid) (x y : ℤ) (i
 unfolding drawn_pixel
 drawn-out operator page source x y i j a = cond-false (is_below source.width (pos i -ℤ x) && is_below source.height (pos j -ℤ y)) (combined_pixel operator (pixel_at page i j) (pixel source (pos i -ℤ x) (pos j -ℤ y))) (pixel_at page i j) a
 
-block-combined : (operator : CombinationOperator) (page source : Grid) (x y : ℤ) (left from columns top from_row rows : ℕ) → Axis x page.width source.width left from columns → Axis y page.height source.height top from_row rows → with_block operator page source left (left + columns) top (top + rows) from from_row ≡ combined operator page source x y
+block-combined : (operator : CombinationOperator) (page source : Grid) (x y : ℤ) (left from columns top from_row rows : ℕ) → Axis x page.width source.width left from columns → Axis y page.height source.height top from_row rows → with_block operator page source left (left + columns) top (top + rows) from from_row ≡ combined_grid operator page source x y
 block-combined operator page source x y left from columns top from_row rows across down =
     grid_of-ext page.width page.height (block_pixel operator page source left (left + columns) top (top + rows) from from_row) (drawn_pixel operator page source x y)
     (λ i j inside below.
@@ -91,14 +91,14 @@ block-combined operator page source x y left from columns top from_row rows acro
     (axis_cases x page.width source.width left from columns i across inside))
 
 -- all rows are drawn
-pub rows-combined : (operator : CombinationOperator) (page source after : Grid) (x y : ℤ) (left from columns top from_row rows done : ℕ) → Axis x page.width source.width left from columns → Axis y page.height source.height top from_row rows → done ≡ rows → after ≡ with_block operator page source left (left + columns) top (top + done) from from_row → after ≡ combined operator page source x y
+pub rows-combined : (operator : CombinationOperator) (page source after : Grid) (x y : ℤ) (left from columns top from_row rows done : ℕ) → Axis x page.width source.width left from columns → Axis y page.height source.height top from_row rows → done ≡ rows → after ≡ with_block operator page source left (left + columns) top (top + done) from from_row → after ≡ combined_grid operator page source x y
 rows-combined operator page source after x y left from columns top from_row rows done across down all drawn =
     drawn
     ∙ ap (λ (n : ℕ). with_block operator page source left (left + columns) top (top + n) from from_row) all
     ∙ block-combined operator page source x y left from columns top from_row rows across down
 
 -- there is nothing to draw
-pub none-combined : (operator : CombinationOperator) (page source : Grid) (x y : ℤ) (left from columns top from_row rows : ℕ) → Axis x page.width source.width left from columns → Axis y page.height source.height top from_row rows → IsTable page → (columns ≡ 0) ⊎ (rows ≡ 0) → page ≡ combined operator page source x y
+pub none-combined : (operator : CombinationOperator) (page source : Grid) (x y : ℤ) (left from columns top from_row rows : ℕ) → Axis x page.width source.width left from columns → Axis y page.height source.height top from_row rows → IsTable page → (columns ≡ 0) ⊎ (rows ≡ 0) → page ≡ combined_grid operator page source x y
 none-combined operator page source x y left from columns top from_row rows across down known none =
     rows-combined operator page source page x y left from columns top from_row rows rows across down refl
     (block-none operator page source left (left + columns) top (top + rows) from from_row known (⊎_elim (λ (e : columns ≡ 0). inl (omega arith)) (λ (e : rows ≡ 0). inr (omega arith)) none))
@@ -162,7 +162,7 @@ pub stamp-counts : (page source : Grid) (x y : ℤ) (left top : ℕ) (s t : Coun
 stamp-counts page source x y left top s t column row inside e =
     all-counts page source x y left 0 source.width top 0 source.height s t (whole-axis x page.width source.width left column inside.right) (whole-axis y page.height source.height top row inside.bottom) inside.some e
 
-pub stamp-combined : (operator : CombinationOperator) (page source after : Grid) (x y : ℤ) (left top : ℕ) → x ≡ pos left → y ≡ pos top → left + source.width ≤ page.width → top + source.height ≤ page.height → after ≡ with_block operator page source left (left + source.width) top (top + source.height) 0 0 → after ≡ combined operator page source x y
+pub stamp-combined : (operator : CombinationOperator) (page source after : Grid) (x y : ℤ) (left top : ℕ) → x ≡ pos left → y ≡ pos top → left + source.width ≤ page.width → top + source.height ≤ page.height → after ≡ with_block operator page source left (left + source.width) top (top + source.height) 0 0 → after ≡ combined_grid operator page source x y
 stamp-combined operator page source after x y left top column row right bottom drawn =
     rows-combined operator page source after x y left 0 source.width top 0 source.height source.height (whole-axis x page.width source.width left column right) (whole-axis y page.height source.height top row bottom) refl drawn
 

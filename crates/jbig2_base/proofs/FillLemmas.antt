@@ -5,7 +5,7 @@ use Rattle.std.proofs.lemmas.Bool.{cases_lt, cond-true, cond-false, and_from, an
 use Rattle.jbig2_base.specs.Grid.{Grid, grid_of, blank, pixel_at, part_of, part_or_overflow, blank_or_overflow}
 use Rattle.jbig2_base.specs.Bits.{bit}
 use Rattle.jbig2_base.specs.Writes.{with_pixels}
-use Rattle.jbig2_base.specs.inner.Filled.{pixel_of_part, is_before, filled}
+use Rattle.jbig2_base.specs.inner.GridsBefore.{pixel_of_part, is_before, grid_before}
 use Rattle.jbig2_base.specs.declared.bitmap.part.Area.{Area}
 use Rattle.std.specs.Prelude.{nat_lt}
 use Rattle.jbig2_base.specs.Results.{◌>>=◌, refuse_if}
@@ -35,7 +35,7 @@ unfolding is_before
 before-none i j = or_from _ _ (le-ltb j 0 (omega arith)) (and_right _ _ (le-ltb i 0 (omega arith)))
 
 -- ---- a bitmap that is filled
-pub filled-none : (w h : ℕ) (f : ℕ → ℕ → Bool) → blank w h false ≡ filled w h f 0 0
+pub filled-none : (w h : ℕ) (f : ℕ → ℕ → Bool) → blank w h false ≡ grid_before w h f 0 0
 filled-none w h f = grid_of-ext w h (λ _ _. false) (λ i j. is_before 0 0 i j && f i j) (λ i j _ _. sym (and_left _ _ (before-none i j)))
 
 row-whole : (w y i j : ℕ) → i < w → is_before y w i j ≡ is_before (y + 1) 0 i j
@@ -49,26 +49,26 @@ row-whole w y i j left =
     (cases_lt j (y + 1)))
     (cases_lt j y)
 
-pub filled-row : (w h : ℕ) (f : ℕ → ℕ → Bool) (y : ℕ) → filled w h f y w ≡ filled w h f (y + 1) 0
+pub filled-row : (w h : ℕ) (f : ℕ → ℕ → Bool) (y : ℕ) → grid_before w h f y w ≡ grid_before w h f (y + 1) 0
 filled-row w h f y = grid_of-ext w h (λ i j. is_before y w i j && f i j) (λ i j. is_before (y + 1) 0 i j && f i j) (λ i j left above. ap (λ (b : Bool). b && f i j) (row-whole w y i j left))
 
-pub filled-all : (w h : ℕ) (f : ℕ → ℕ → Bool) → filled w h f h 0 ≡ grid_of w h f
+pub filled-all : (w h : ℕ) (f : ℕ → ℕ → Bool) → grid_before w h f h 0 ≡ grid_of w h f
 filled-all w h f = grid_of-ext w h (λ i j. is_before h 0 i j && f i j) f (λ i j _ above. ap (λ (b : Bool). b && f i j) (before-row h 0 i j above))
 
 -- some pixels of row y are written
-pub filled-store : (w h : ℕ) (f : ℕ → ℕ → Bool) (y x count bits : ℕ) (before after : Grid) → x + count ≤ w → y < h → ((k : ℕ) → k < count → bit bits (count - 1 - k) ≡ f (x + k) y) → before ≡ filled w h f y x → after ≡ with_pixels before x y count bits → after ≡ filled w h f y (x + count)
+pub filled-store : (w h : ℕ) (f : ℕ → ℕ → Bool) (y x count bits : ℕ) (before after : Grid) → x + count ≤ w → y < h → ((k : ℕ) → k < count → bit bits (count - 1 - k) ≡ f (x + k) y) → before ≡ grid_before w h f y x → after ≡ with_pixels before x y count bits → after ≡ grid_before w h f y (x + count)
 filled-store w h f y x count bits before after within above reads is_filled written =
     written
     ∙ ap (λ (g : Grid). with_pixels g x y count bits) is_filled
-    ∙ grid_of-ext w h (λ i j. cond (eqb j y && leb x i && ltb i (x + count)) (bit bits (x + count - 1 - i)) (pixel_at (filled w h f y x) i j)) (λ i j. is_before y (x + count) i j && f i j) same
+    ∙ grid_of-ext w h (λ i j. cond (eqb j y && leb x i && ltb i (x + count)) (bit bits (x + count - 1 - i)) (pixel_at (grid_before w h f y x) i j)) (λ i j. is_before y (x + count) i j && f i j) same
   where
-    old : (i j : ℕ) → i < w → j < h → (eqb j y && leb x i && ltb i (x + count)) ≡ false → is_before y x i j ≡ is_before y (x + count) i j → cond (eqb j y && leb x i && ltb i (x + count)) (bit bits (x + count - 1 - i)) (pixel_at (filled w h f y x) i j) ≡ (is_before y (x + count) i j && f i j)
+    old : (i j : ℕ) → i < w → j < h → (eqb j y && leb x i && ltb i (x + count)) ≡ false → is_before y x i j ≡ is_before y (x + count) i j → cond (eqb j y && leb x i && ltb i (x + count)) (bit bits (x + count - 1 - i)) (pixel_at (grid_before w h f y x) i j) ≡ (is_before y (x + count) i j && f i j)
     old i j left up outside kept =
-        cond-false (eqb j y && leb x i && ltb i (x + count)) (bit bits (x + count - 1 - i)) (pixel_at (filled w h f y x) i j) outside
+        cond-false (eqb j y && leb x i && ltb i (x + count)) (bit bits (x + count - 1 - i)) (pixel_at (grid_before w h f y x) i j) outside
         ∙ pixel_at-grid_of w h (λ i j. is_before y x i j && f i j) i j left up
         ∙ ap (λ (b : Bool). b && f i j) kept
 
-    here : (i : ℕ) → i < w → cond (eqb y y && leb x i && ltb i (x + count)) (bit bits (x + count - 1 - i)) (pixel_at (filled w h f y x) i y) ≡ (is_before y (x + count) i y && f i y)
+    here : (i : ℕ) → i < w → cond (eqb y y && leb x i && ltb i (x + count)) (bit bits (x + count - 1 - i)) (pixel_at (grid_before w h f y x) i y) ≡ (is_before y (x + count) i y && f i y)
     here i left =
         ⊎_elim
         (λ (done : i < x). old i y left above (before_field x y count i y done) (before-column y x i y refl done ∙ sym (before-column y (x + count) i y refl (omega arith))))
@@ -77,7 +77,7 @@ filled-store w h f y x count bits before after within above reads is_filled writ
         (λ (new : i < x + count).
         let place : count - 1 - (i - x) ≡ x + count - 1 - i = omega arith in
         let column : x + (i - x) ≡ i = omega arith in
-        cond-true (eqb y y && leb x i && ltb i (x + count)) (bit bits (x + count - 1 - i)) (pixel_at (filled w h f y x) i y) (in_field x y count i y refl reached new)
+        cond-true (eqb y y && leb x i && ltb i (x + count)) (bit bits (x + count - 1 - i)) (pixel_at (grid_before w h f y x) i y) (in_field x y count i y refl reached new)
         ∙ ap (λ (k : ℕ). bit bits k) (sym place)
         ∙ reads (i - x) (omega arith)
         ∙ ap (λ (k : ℕ). f k y) column
@@ -86,7 +86,7 @@ filled-store w h f y x count bits before after within above reads is_filled writ
         (cases_lt i (x + count)))
         (cases_lt i x)
 
-    same : (i j : ℕ) → i < w → j < h → cond (eqb j y && leb x i && ltb i (x + count)) (bit bits (x + count - 1 - i)) (pixel_at (filled w h f y x) i j) ≡ (is_before y (x + count) i j && f i j)
+    same : (i j : ℕ) → i < w → j < h → cond (eqb j y && leb x i && ltb i (x + count)) (bit bits (x + count - 1 - i)) (pixel_at (grid_before w h f y x) i j) ≡ (is_before y (x + count) i j && f i j)
     same i j left up =
         ⊎_elim (λ (over : j < y). old i j left up (other_row x y count i j (λ e. omega arith)) (before-row y x i j over ∙ sym (before-row y (x + count) i j over)))
         (λ (rest : y ≤ j).
@@ -99,9 +99,9 @@ filled-store w h f y x count bits before after within above reads is_filled writ
 -- the next 64 pixels of a row, copied from another bitmap
 pub copied : (from before after : Grid) (area : Area) (y word count bits : ℕ) → y < area.height → 64 * word < area.width → count ≡ min (area.width - 64 * word) 64
     → ((k : ℕ) → k < count → bit bits (count - 1 - k) ≡ pixel_at from (area.left + 64 * word + k) (area.top + y))
-    → before ≡ filled area.width area.height (pixel_of_part from area) y (min area.width (64 * word))
+    → before ≡ grid_before area.width area.height (pixel_of_part from area) y (min area.width (64 * word))
     → after ≡ with_pixels before (64 * word) y count bits
-    → after ≡ filled area.width area.height (pixel_of_part from area) y (min area.width (64 * (word + 1)))
+    → after ≡ grid_before area.width area.height (pixel_of_part from area) y (min area.width (64 * (word + 1)))
 copied from before after area y word count bits above inside few reads is_filled written =
     let w : ℕ = area.width in
     let f : ℕ → ℕ → Bool = pixel_of_part from area in
@@ -109,21 +109,21 @@ copied from before after area y word count bits above inside few reads is_filled
     let next : 64 * word + count ≡ min w (64 * (word + 1)) = omega arith in
     filled-store w area.height f y (64 * word) count bits before after (omega arith) above
     (λ k below. let column : area.left + 64 * word + k ≡ area.left + (64 * word + k) = omega arith in reads k below ∙ ap (λ (i : ℕ). pixel_at from i (area.top + y)) column)
-    (is_filled ∙ ap (λ (x : ℕ). filled w area.height f y x) at)
+    (is_filled ∙ ap (λ (x : ℕ). grid_before w area.height f y x) at)
     written
-    ∙ ap (λ (x : ℕ). filled w area.height f y x) next
+    ∙ ap (λ (x : ℕ). grid_before w area.height f y x) next
 
 -- a row is full
-pub row-filled : (g : Grid) (w h : ℕ) (f : ℕ → ℕ → Bool) (y x : ℕ) → w ≤ x → g ≡ filled w h f y (min w x) → g ≡ filled w h f (y + 1) 0
+pub row-filled : (g : Grid) (w h : ℕ) (f : ℕ → ℕ → Bool) (y x : ℕ) → w ≤ x → g ≡ grid_before w h f y (min w x) → g ≡ grid_before w h f (y + 1) 0
 row-filled g w h f y x whole e =
     let all : min w x ≡ w = omega arith in
-    e ∙ ap (λ (n : ℕ). filled w h f y n) all ∙ filled-row w h f y
+    e ∙ ap (λ (n : ℕ). grid_before w h f y n) all ∙ filled-row w h f y
 
 -- all rows are
-pub all-filled : (g : Grid) (w h : ℕ) (f : ℕ → ℕ → Bool) (y : ℕ) → y ≡ h → g ≡ filled w h f y 0 → g ≡ grid_of w h f
-all-filled g w h f y whole e = e ∙ ap (λ (n : ℕ). filled w h f n 0) whole ∙ filled-all w h f
+pub all-filled : (g : Grid) (w h : ℕ) (f : ℕ → ℕ → Bool) (y : ℕ) → y ≡ h → g ≡ grid_before w h f y 0 → g ≡ grid_of w h f
+all-filled g w h f y whole e = e ∙ ap (λ (n : ℕ). grid_before w h f n 0) whole ∙ filled-all w h f
 
-pub blank-filled : (g : Grid) (w h : ℕ) (f : ℕ → ℕ → Bool) → g ≡ blank w h false → g ≡ filled w h f 0 0
+pub blank-filled : (g : Grid) (w h : ℕ) (f : ℕ → ℕ → Bool) → g ≡ blank w h false → g ≡ grid_before w h f 0 0
 blank-filled g w h f e = e ∙ filled-none w h f
 
 -- a bitmap that a size made is white
@@ -135,7 +135,7 @@ white-made w h black g e = one (nat_lt 65535 w || nat_lt 65535 h) (blank w h bla
     one false made g e = (refl, cc)
 
 -- a part that is copied
-pub part-made : (from white g : Grid) (area : Area) (y : ℕ) → blank_or_overflow area.width area.height false ≡ Ok white → y ≡ area.height → g ≡ filled area.width area.height (pixel_of_part from area) y 0 → part_or_overflow from area ≡ Ok g
+pub part-made : (from white g : Grid) (area : Area) (y : ℕ) → blank_or_overflow area.width area.height false ≡ Ok white → y ≡ area.height → g ≡ grid_before area.width area.height (pixel_of_part from area) y 0 → part_or_overflow from area ≡ Ok g
 part-made from white g area y made whole e =
     rw (white-made area.width area.height false white made).0 (ap (λ (k : Grid). Ok k) (sym (all-filled g area.width area.height (pixel_of_part from area) y whole e)))
 

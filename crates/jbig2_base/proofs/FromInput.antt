@@ -5,7 +5,7 @@ use Rattle.std.specs.Int.{Width, w32}
 use Rattle.jbig2_base.specs.Results.{◌>>=◌, refuse_if, some_or}
 use Rattle.jbig2_base.specs.Bits.{Place, bits_left, bits_next}
 use Rattle.jbig2_base.specs.Fields.{bits_at, bytes_at, number_at, signed_at}
-use Rattle.jbig2_base.specs.File.{file_at, gathered, gathered_before, header_goes_on, headers_in, segments_by, file_header_at, page_count_at}
+use Rattle.jbig2_base.specs.File.{file_at, with_data, gathered_before, header_goes_on, headers_in, segments_by, file_header_at, page_count_at}
 use Rattle.jbig2_base.specs.Combination.{operator_of}
 use Rattle.jbig2_base.specs.PageInfo.{first_information, height_of, information_at, initial_page_by, initial_page_of, initial_page_with, stripes_height}
 use Rattle.jbig2_base.specs.Reading.{is_strict, is_salvaged}
@@ -92,8 +92,8 @@ from_input-height stated stripes = search (from_input-next, from_input-if, from_
 from_input-sides : (number : ℕ) (info : PageInformation) (height : ℕ) → FromInput (initial_page_with number info height)
 from_input-sides number info height = search (from_input-next, from_input-refusal)
 
-pub from_input-initial_page_by : (told : ℕ) (ps : List SegmentView) → FromInput (initial_page_by told ps)
-from_input-initial_page_by told ps = search (from_input-next, from_input-first, from_input-information, from_input-height, from_input-sides) depth 8
+pub from_input-initial_page_by : (given : ℕ) (ps : List SegmentView) → FromInput (initial_page_by given ps)
+from_input-initial_page_by given ps = search (from_input-next, from_input-first, from_input-information, from_input-height, from_input-sides) depth 8
 
 pub from_input-initial_page : (ps : List SegmentView) → FromInput (initial_page_of ps)
 unfolding initial_page_of
@@ -174,9 +174,9 @@ from_input-before : (reading : Reading) (r : Result (SegmentView × List ℕ) De
 from_input-before reading (Ok p) others first rest = from_input-next (others p.1) _ (rest p.1) (λ ps. tt)
 from_input-before reading (Err e) others first rest = from_input-if (is_salvaged reading e) (Ok []) (Err e) tt first
 
-from_input-gathered : (reading : Reading) (hs : List Header) (bytes : List ℕ) → FromInput (gathered reading hs bytes)
+from_input-gathered : (reading : Reading) (hs : List Header) (bytes : List ℕ) → FromInput (with_data reading hs bytes)
 from_input-gathered reading [] bytes = tt
-from_input-gathered reading (h ∷ hs) bytes = from_input-before reading (segment_data_at h bytes) (gathered reading hs) (from_input-segment_data h bytes) (from_input-gathered reading hs)
+from_input-gathered reading (h ∷ hs) bytes = from_input-before reading (segment_data_at h bytes) (with_data reading hs) (from_input-segment_data h bytes) (from_input-gathered reading hs)
 
 from_input-by : (organization : FileOrganization) (reading : Reading) (bytes : List ℕ) → FromInput (segments_by organization reading bytes)
 from_input-by Sequential reading bytes = from_input-sequential reading bytes

@@ -69,18 +69,18 @@ tells : SegmentView → Bool
 tells p = is_end_of_stripe p.header.segment_type && eqb (length p.bytes) 4 && not (eqb (last_row p.bytes) 4294967295)
 
 result-height : (p : SegmentView) → StatesHeight p → stripe_height p ≡ last_row p.bytes + 1
-result-height p told =
+result-height p given =
     let row : ℕ = last_row p.bytes in
-    let kind : is_end_of_stripe p.header.segment_type ≡ true = ap is_end_of_stripe told.0 in
-    let known : not (eqb row 4294967295) ≡ true = not_from_false (eqb row 4294967295) (ne_eqb row 4294967295 told.2) in
+    let kind : is_end_of_stripe p.header.segment_type ≡ true = ap is_end_of_stripe given.0 in
+    let known : not (eqb row 4294967295) ≡ true = not_from_false (eqb row 4294967295) (ne_eqb row 4294967295 given.2) in
     cond-true (is_end_of_stripe p.header.segment_type && eqb (length p.bytes) 4 && not (eqb row 4294967295)) (row + 1) 0
     (and_from (is_end_of_stripe p.header.segment_type && eqb (length p.bytes) 4) (not (eqb row 4294967295))
-    (and_from (is_end_of_stripe p.header.segment_type) (eqb (length p.bytes) 4) kind (eq-eqb (length p.bytes) 4 told.1)) known)
+    (and_from (is_end_of_stripe p.header.segment_type) (eqb (length p.bytes) 4) kind (eq-eqb (length p.bytes) 4 given.1)) known)
 
 none-tells : (ps : List SegmentView) → stripes_height ps ≡ 0 → All (λ p. StatesHeight p → ⊥) ps
 none-tells [] none = λ k d below. absurd (omega (arith, below))
 none-tells (p ∷ ps) none =
-    all-behind (λ q. StatesHeight q → ⊥) p ps (λ told. omega (arith, result-height p told, none)) (none-tells ps (omega (arith, none)))
+    all-behind (λ q. StatesHeight q → ⊥) p ps (λ given. omega (arith, result-height p given, none)) (none-tells ps (omega (arith, none)))
 
 too-much : (p : SegmentView) → 65535 < stripe_height p → TellsTooMuch p
 too-much p =
@@ -112,9 +112,9 @@ IsHeight stated stripes height = ((stated ≢ 4294967295) × (height ≡ stated)
 height-result : (P : DecodeError → Type 0) (stated stripes : ℕ) → (stated ≡ 4294967295 → stripes ≡ 0 → P (Format UnknownPageHeight)) → IfResult (IsHeight stated stripes) P (height_of stated stripes)
 height-result P stated stripes why =
     let Q : ℕ → Type 0 = IsHeight stated stripes in
-    cond_both (eqb stated 4294967295) (refuse_if (eqb stripes 0) (Format UnknownPageHeight) >>= λ told. Ok stripes) (Ok stated) (λ (r : Result ℕ DecodeError). IfResult Q P r)
+    cond_both (eqb stated 4294967295) (refuse_if (eqb stripes 0) (Format UnknownPageHeight) >>= λ given. Ok stripes) (Ok stated) (λ (r : Result ℕ DecodeError). IfResult Q P r)
     (λ unknown.
-    next-refusal Q P (eqb stripes 0) (Format UnknownPageHeight) (λ told. Ok stripes) (λ none. why (eqb-true stated 4294967295 unknown) (eqb-true stripes 0 none))
+    next-refusal Q P (eqb stripes 0) (Format UnknownPageHeight) (λ given. Ok stripes) (λ none. why (eqb-true stated 4294967295 unknown) (eqb-true stripes 0 none))
     (λ some. inr (eqb-true stated 4294967295 unknown, eqb-false stripes 0 some, refl)))
     (λ known. inl (eqb-false stated 4294967295 known, refl))
 
@@ -128,9 +128,9 @@ sides-result P number info height empty large =
     next-refusal Q P (eqb info.width 0 || eqb height 0) _ _ (λ none. empty (either (or_cases (eqb info.width 0) (eqb height 0) none))) (λ some.
     next-refusal Q P (ltb 65535 info.width || ltb 65535 height) _ _ (λ much. large (longer (or_cases (ltb 65535 info.width) (ltb 65535 height) much))) (λ fits. tt))
 
-no-side : (told : ℕ) (ps : List SegmentView) (bytes : List ℕ) (info : PageInformation × List ℕ) (height : ℕ) → FirstInformation (λ bs. bs ≡ bytes) ps → HasSize bytes info → IsHeight info.0.height told height
-    → (info.0.width ≡ 0) ⊎ (height ≡ 0) → BreaksInitialPageBy told ps (Format EmptyPage)
-no-side told ps bytes info height is size known none =
+no-side : (given : ℕ) (ps : List SegmentView) (bytes : List ℕ) (info : PageInformation × List ℕ) (height : ℕ) → FirstInformation (λ bs. bs ≡ bytes) ps → HasSize bytes info → IsHeight info.0.height given height
+    → (info.0.width ≡ 0) ⊎ (height ≡ 0) → BreaksInitialPageBy given ps (Format EmptyPage)
+no-side given ps bytes info height is size known none =
     let Q : List ℕ → Type 0 = λ bs. (19 ≤ length bs) × ((number_in w32 0 bs ≡ 0) ⊎ (number_in w32 4 bs ≡ 0)) in
     first-holds Q bytes ps is (
       size.0,
@@ -148,31 +148,31 @@ leaves-open : (ps : List SegmentView) (bytes : List ℕ) (info : PageInformation
 leaves-open ps bytes info is size ones =
     first-holds (λ bs. (19 ≤ length bs) × (number_in w32 4 bs ≡ 4294967295)) bytes ps is (size.0, sym size.2 ∙ ones)
 
-large-side : (told : ℕ) (ps : List SegmentView) (bytes : List ℕ) (info : PageInformation × List ℕ) (height : ℕ) → FirstInformation (λ bs. bs ≡ bytes) ps → HasSize bytes info → IsHeight info.0.height told height
-    → (65535 < info.0.width) ⊎ (65535 < height) → BreaksInitialPageBy told ps (Overflow BitmapDimension)
-large-side told ps bytes info height is size known much =
-    ⊎_elim {C = BreaksInitialPageBy told ps (Overflow BitmapDimension)}
+large-side : (given : ℕ) (ps : List SegmentView) (bytes : List ℕ) (info : PageInformation × List ℕ) (height : ℕ) → FirstInformation (λ bs. bs ≡ bytes) ps → HasSize bytes info → IsHeight info.0.height given height
+    → (65535 < info.0.width) ⊎ (65535 < height) → BreaksInitialPageBy given ps (Overflow BitmapDimension)
+large-side given ps bytes info height is size known much =
+    ⊎_elim {C = BreaksInitialPageBy given ps (Overflow BitmapDimension)}
     (λ wide. inl (inl (first-holds (λ bs. (19 ≤ length bs) × (65535 < number_in w32 0 bs)) bytes ps is (size.0, omega (arith, wide, size.1)))))
     (λ high.
-    ⊎_elim {C = BreaksInitialPageBy told ps (Overflow BitmapDimension)}
+    ⊎_elim {C = BreaksInitialPageBy given ps (Overflow BitmapDimension)}
     (λ stated. inl (inr (first-holds (λ bs. (19 ≤ length bs) × (65535 < number_in w32 4 bs) × (number_in w32 4 bs ≢ 4294967295)) bytes ps is (size.0, omega (arith, high, stated.1, size.2), λ ones. stated.0 (size.2 ∙ ones)))))
     (λ open_height. inr (leaves-open ps bytes info is size open_height.0, omega (arith, high, open_height.2)))
     known)
     much
 
-pub initial_page_by_causes : (told : ℕ) (ps : List SegmentView) → IfErr (initial_page_by told ps) (BreaksInitialPageBy told ps)
-initial_page_by_causes told ps =
-    let P : DecodeError → Type 0 = BreaksInitialPageBy told ps in
+pub initial_page_by_causes : (given : ℕ) (ps : List SegmentView) → IfErr (initial_page_by given ps) (BreaksInitialPageBy given ps)
+initial_page_by_causes given ps =
+    let P : DecodeError → Type 0 = BreaksInitialPageBy given ps in
     let R : InitialPage → Type 0 = λ page. Unit {0} in
-    result-cause R P (initial_page_by told ps)
+    result-cause R P (initial_page_by given ps)
     (result-next (λ (p : SegmentView). FirstInformation (λ bs. bs ≡ p.bytes) ps) R P (first_information ps) _ (first-result P ps (λ none. none)) (λ first is.
     result-next (HasSize first.bytes) R P (information_at first.bytes) _ (information-result P first.bytes (λ short. first-holds (λ bs. length bs < 19) first.bytes ps is short)) (λ info size.
-    result-next (IsHeight info.0.height told) R P (height_of info.0.height told) _
-    (height-result P info.0.height told (λ ones none. (leaves-open ps first.bytes info is size ones, none)))
-    (λ height known. sides-result P first.header.page_association info.0 height (no-side told ps first.bytes info height is size known) (large-side told ps first.bytes info height is size known)))))
+    result-next (IsHeight info.0.height given) R P (height_of info.0.height given) _
+    (height-result P info.0.height given (λ ones none. (leaves-open ps first.bytes info is size ones, none)))
+    (λ height known. sides-result P first.header.page_association info.0 height (no-side given ps first.bytes info height is size known) (large-side given ps first.bytes info height is size known)))))
 
-pub initial_page_by_cause : {X : Type 0} (told : ℕ) (ps : List SegmentView) (r : Result X DecodeError) → IfErr r (λ e. initial_page_by told ps ≡ Err e) → HasCause r (BreaksInitialPageBy told ps)
-initial_page_by_cause told ps r = call-cause (BreaksInitialPageBy told ps) (initial_page_by told ps) r (initial_page_by_causes told ps)
+pub initial_page_by_cause : {X : Type 0} (given : ℕ) (ps : List SegmentView) (r : Result X DecodeError) → IfErr r (λ e. initial_page_by given ps ≡ Err e) → HasCause r (BreaksInitialPageBy given ps)
+initial_page_by_cause given ps r = call-cause (BreaksInitialPageBy given ps) (initial_page_by given ps) r (initial_page_by_causes given ps)
 
 -- what the stripes tell, by their own bytes
 by-stripes : (ps : List SegmentView) (e : DecodeError) → BreaksInitialPageBy (stripes_height ps) ps e → BreaksInitialPage ps e

@@ -145,7 +145,7 @@ peeked bytes k n word count spelled size inside =
 
 -- there are fewer bits
 pub peeked-none : (bytes : List ℕ) (k n count : ℕ) → 0 < n → n ≤ 32 → k < 8 → count ≡ min 8 (length bytes) → 8 * count < k + n → ◌≡◌ {A = Option ℕ} None (bits_next n (bits_left (record { bytes = bytes; bit = k })))
-peeked-none bytes k n count some most begun size past =
+peeked-none bytes k n count some most opening size past =
     let left : List ℕ = bits_left (record { bytes = bytes; bit = k }) in
     sym (cond-true (ltb (length left) n) None (Some (number_after 0 (take n left))) (lt-ltb (length left) n (omega (arith, length-left bytes k))))
 
@@ -189,7 +189,7 @@ place-on xs i k count inside =
     ∙ sym (bits_on-enough count (place_in xs i k) (omega (arith, left-at xs i k)))
 
 pub place-past : (xs : List ℕ) (i k count : ℕ) → k < 8 → (i ≡ length xs → k ≡ 0) → i ≤ length xs → length xs - i < (k + count + 7) / 8 → place_in xs (length xs) 0 ≡ bits_on count (place_in xs i k)
-place-past xs i k count begun end within past =
+place-past xs i k count opening end within past =
     let size = left-at xs i k in
     let short : length (bits_left (place_in xs i k)) < count =
     ⊎_elim (λ (e : i ≡ length xs). let none = end e in omega arith) (λ (o : i ≡ length xs → ⊥). let before : i < length xs = omega (arith, o) in omega arith) (cases_eq i (length xs)) in

@@ -3,7 +3,7 @@ use Rattle.std.proofs.Common.{◌≡◌, ℕ, zero, suc, ◌+◌, ◌*◌, ◌�
 use Rattle.std.proofs.Math.Nat.{mul-le-mul_left, mul-le-mul_right}
 use Rattle.jbig2_base.specs.Counts.{Counts, WritesWithin, most_words, overlap, words_copied, words_of}
 use Rattle.jbig2_base.specs.Grid.{Grid}
-use Rattle.jbig2_steps.specs.Work.{counted, price_of_bitmap, words_of_row}
+use Rattle.jbig2_steps.specs.Work.{sum_of_counts, price_of_bitmap, words_of_row}
 use Rattle.jbig2_steps.proofs.WorkLemmas.{row-paid}
 
 pub overlap-within : (page source : ℕ) (x : ℤ) → overlap page source x ≤ source
@@ -14,14 +14,14 @@ pub most_words-few : (n width : ℕ) → n ≤ width → most_words n ≤ 3 * wo
 most_words-few zero width within = omega arith
 most_words-few (suc n) width within = omega arith
 
-pub written-counted : (n : ℕ) (old new : Counts) → WritesWithin n old new → counted new ≤ counted old + 3 * n
+pub written-counted : (n : ℕ) (old new : Counts) → WritesWithin n old new → sum_of_counts new ≤ sum_of_counts old + 3 * n
 written-counted n old new written = omega arith
 
 thrice : (n height words : ℕ) → n ≤ height * (3 * words) → 3 * n ≤ 2048 * (words * height)
 thrice n height words few = omega arith
 
 -- a source that is combined with a page
-pub combined-paid : (page source : Grid) (x y : ℤ) (old new : Counts) → WritesWithin (overlap page.height source.height y * most_words (overlap page.width source.width x)) old new → counted new ≤ counted old + 32 * price_of_bitmap source.width source.height
+pub combined-paid : (page source : Grid) (x y : ℤ) (old new : Counts) → WritesWithin (overlap page.height source.height y * most_words (overlap page.width source.width x)) old new → sum_of_counts new ≤ sum_of_counts old + 32 * price_of_bitmap source.width source.height
 combined-paid page source x y old new written =
     let rows = overlap page.height source.height y in
     let words = most_words (overlap page.width source.width x) in
@@ -30,7 +30,7 @@ combined-paid page source x y old new written =
     let wide : source.height * words ≤ source.height * (3 * words_of_row source.width) = mul-le-mul_left source.height few in
     let all : rows * words ≤ source.height * (3 * words_of_row source.width) = omega (arith, high, wide) in
     let paid : 3 * (rows * words) ≤ 32 * price_of_bitmap source.width source.height = row-paid source.width source.height (3 * (rows * words)) (thrice (rows * words) source.height (words_of_row source.width) all) in
-    let more : counted new ≤ counted old + 3 * (rows * words) = written-counted (rows * words) old new written in
+    let more : sum_of_counts new ≤ sum_of_counts old + 3 * (rows * words) = written-counted (rows * words) old new written in
     omega (arith, more, paid)
 
 pub price-same : (w v h k : ℕ) → w ≡ v → h ≡ k → price_of_bitmap w h ≡ price_of_bitmap v k
@@ -40,11 +40,11 @@ price-same w v h k e f = ap (λ (n : ℕ). price_of_bitmap n h) e ∙ ap (λ (n 
 twice : (n words height : ℕ) → n ≤ words * height → 2 * n ≤ 2048 * (words * height)
 twice n words height few = omega arith
 
-pub copied-paid : (g : Grid) (old new : Counts) → new ≡ words_copied (words_of g) old → counted new ≤ counted old + 32 * price_of_bitmap g.width g.height
+pub copied-paid : (g : Grid) (old new : Counts) → new ≡ words_copied (words_of g) old → sum_of_counts new ≤ sum_of_counts old + 32 * price_of_bitmap g.width g.height
 copied-paid g old new copied =
     let few : words_of g ≤ words_of_row g.width * g.height = mul-le-mul_right g.height (omega arith) in
     let paid : 2 * words_of g ≤ 32 * price_of_bitmap g.width g.height = row-paid g.width g.height (2 * words_of g) (twice (words_of g) (words_of_row g.width) g.height few) in
-    let more : counted new ≡ counted old + 2 * words_of g = ap (λ (c : Counts). counted c) copied ∙ omega arith in
+    let more : sum_of_counts new ≡ sum_of_counts old + 2 * words_of g = ap (λ (c : Counts). sum_of_counts c) copied ∙ omega arith in
     omega (arith, more, paid)
 
 -- words that are written one after the other

@@ -3,7 +3,7 @@ use Rattle.std.proofs.Common.{◌≡◌, ℕ, ◌-◌, ◌<◌, ◌≤◌, suc, 
 use Rattle.std.proofs.lemmas.List.{append_assoc, append-nil}
 use Rattle.std.proofs.lemmas.Bool.{cond-true, cond-false, ne_eqb, eq-eqb, false≢true}
 use Rattle.jbig2_base.specs.Results.{◌>>=◌}
-use Rattle.jbig2_base.specs.File.{header_goes_on, headers_in, gathered, gathered_before}
+use Rattle.jbig2_base.specs.File.{header_goes_on, headers_in, with_data, gathered_before}
 use Rattle.jbig2_base.specs.Reading.{is_strict, is_salvaged}
 use Rattle.jbig2_base.specs.Segment.{Header, SegmentView, header_at, segment_data_at}
 use Rattle.jbig2_base.specs.Sequential.{is_end_of_file}
@@ -89,29 +89,29 @@ pub ReadsHeaders-as : (front others : List Header) (reading : Reading) (bytes : 
 ReadsHeaders-as front others reading bytes meant e reads = record { most = reads.most; enough = reads.enough; same = ap (λ (hs : List Header). with_headers hs (headers_in reads.most reading bytes)) (sym e) ∙ reads.same }
 
 -- data after data
-pub gathers_one : (front : List SegmentView) (reading : Reading) (h : Header) (hs : List Header) (bytes rest : List ℕ) (p : SegmentView) (meant : Result (List SegmentView) DecodeError) → with_front front (gathered reading (h ∷ hs) bytes) ≡ meant → segment_data_at h bytes ≡ Ok (p, rest) → with_front (front ++ p ∷ []) (gathered reading hs rest) ≡ meant
+pub gathers_one : (front : List SegmentView) (reading : Reading) (h : Header) (hs : List Header) (bytes rest : List ℕ) (p : SegmentView) (meant : Result (List SegmentView) DecodeError) → with_front front (with_data reading (h ∷ hs) bytes) ≡ meant → segment_data_at h bytes ≡ Ok (p, rest) → with_front (front ++ p ∷ []) (with_data reading hs rest) ≡ meant
 gathers_one front reading h hs bytes rest p meant same e =
-    one_more front p (gathered reading hs rest)
-    ∙ ap (λ (r : Result (SegmentView × List ℕ) DecodeError). with_front front (gathered_before reading r (gathered reading hs))) (sym e)
+    one_more front p (with_data reading hs rest)
+    ∙ ap (λ (r : Result (SegmentView × List ℕ) DecodeError). with_front front (gathered_before reading r (with_data reading hs))) (sym e)
     ∙ same
 
 -- what is meant, where data is refused
-data_refused : (front : List SegmentView) (reading : Reading) (h : Header) (hs : List Header) (bytes : List ℕ) (error : DecodeError) (meant : Result (List SegmentView) DecodeError) → with_front front (gathered reading (h ∷ hs) bytes) ≡ meant → segment_data_at h bytes ≡ Err error → meant ≡ with_front front (cond (is_salvaged reading error) (Ok []) (Err error))
+data_refused : (front : List SegmentView) (reading : Reading) (h : Header) (hs : List Header) (bytes : List ℕ) (error : DecodeError) (meant : Result (List SegmentView) DecodeError) → with_front front (with_data reading (h ∷ hs) bytes) ≡ meant → segment_data_at h bytes ≡ Err error → meant ≡ with_front front (cond (is_salvaged reading error) (Ok []) (Err error))
 data_refused front reading h hs bytes error meant same e =
-    sym same ∙ ap (λ (r : Result (SegmentView × List ℕ) DecodeError). with_front front (gathered_before reading r (gathered reading hs))) e
+    sym same ∙ ap (λ (r : Result (SegmentView × List ℕ) DecodeError). with_front front (gathered_before reading r (with_data reading hs))) e
 
-pub gathers_none : (front : List SegmentView) (reading : Reading) (h : Header) (hs : List Header) (bytes : List ℕ) (error : DecodeError) (meant : Result (List SegmentView) DecodeError) → with_front front (gathered reading (h ∷ hs) bytes) ≡ meant → segment_data_at h bytes ≡ Err error → is_salvaged reading error ≡ false → meant ≡ Err error
+pub gathers_none : (front : List SegmentView) (reading : Reading) (h : Header) (hs : List Header) (bytes : List ℕ) (error : DecodeError) (meant : Result (List SegmentView) DecodeError) → with_front front (with_data reading (h ∷ hs) bytes) ≡ meant → segment_data_at h bytes ≡ Err error → is_salvaged reading error ≡ false → meant ≡ Err error
 gathers_none front reading h hs bytes error meant same e kept =
     data_refused front reading h hs bytes error meant same e
     ∙ ap (λ (r : Result (List SegmentView) DecodeError). with_front front r) (cond-false (is_salvaged reading error) (Ok []) (Err error) kept)
 
-pub gathers_drops : (front : List SegmentView) (reading : Reading) (h : Header) (hs : List Header) (bytes : List ℕ) (error : DecodeError) (meant : Result (List SegmentView) DecodeError) → with_front front (gathered reading (h ∷ hs) bytes) ≡ meant → segment_data_at h bytes ≡ Err error → is_salvaged reading error ≡ true → meant ≡ Ok front
+pub gathers_drops : (front : List SegmentView) (reading : Reading) (h : Header) (hs : List Header) (bytes : List ℕ) (error : DecodeError) (meant : Result (List SegmentView) DecodeError) → with_front front (with_data reading (h ∷ hs) bytes) ≡ meant → segment_data_at h bytes ≡ Err error → is_salvaged reading error ≡ true → meant ≡ Ok front
 gathers_drops front reading h hs bytes error meant same e left_out =
     data_refused front reading h hs bytes error meant same e
     ∙ ap (λ (r : Result (List SegmentView) DecodeError). with_front front r) (cond-true (is_salvaged reading error) (Ok []) (Err error) left_out)
     ∙ ap (λ (ps : List SegmentView). Ok ps) (append-nil front)
 
-pub gathers_all : (front : List SegmentView) (reading : Reading) (bytes : List ℕ) (meant : Result (List SegmentView) DecodeError) → with_front front (gathered reading [] bytes) ≡ meant → meant ≡ Ok front
+pub gathers_all : (front : List SegmentView) (reading : Reading) (bytes : List ℕ) (meant : Result (List SegmentView) DecodeError) → with_front front (with_data reading [] bytes) ≡ meant → meant ≡ Ok front
 gathers_all front reading bytes meant same = sym same ∙ ap (λ (ps : List SegmentView). Ok ps) (append-nil front)
 
 -- a header that is read by the mode's own test

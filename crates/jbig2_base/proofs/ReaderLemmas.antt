@@ -87,9 +87,9 @@ bit-rest_more xs i k inside h = sym (ap (λ (zs : List ℕ). drop 1 zs) (next_bi
 
 -- where no byte is left
 pub end_place : (xs : List ℕ) (i k : ℕ) → length xs ≤ i → i ≤ length xs → (i ≡ length xs → k ≡ 0) → place_in xs i k ≡ start_of []
-end_place xs i k past within begun =
+end_place xs i k past within opening =
     ap (λ (ys : List ℕ). record { bytes = ys; bit = k }) (drop_all i xs past)
-    ∙ ap (λ (j : ℕ). record { bytes = []; bit = j }) (begun (omega arith))
+    ∙ ap (λ (j : ℕ). record { bytes = []; bit = j }) (opening (omega arith))
 
 pub end-bits : bits_left (start_of []) ≡ []
 unfolding bits_left

@@ -7,7 +7,7 @@ use Rattle.std.specs.List.{flat_map}
 use Rattle.std.specs.Result.{is_ok}
 use Rattle.jbig2_base.specs.Results.{◌>>=◌}
 use Rattle.jbig2_base.specs.Fields.{bytes_at, end_of_bytes}
-use Rattle.jbig2_base.specs.File.{header_goes_on, headers_in, gathered, gathered_before, segments_by, file_at, Spelled, IsSpelled, AreSpelled, SpellsFile, spelling}
+use Rattle.jbig2_base.specs.File.{header_goes_on, headers_in, with_data, gathered_before, segments_by, file_at, Spelled, IsSpelled, AreSpelled, SpellsFile, spelling}
 use Rattle.jbig2_base.specs.Reading.{is_strict}
 use Rattle.jbig2_base.specs.Segment.{Header, SegmentView, header_at, data_at, segment_data_at, segment_at}
 use Rattle.jbig2_base.specs.Sequential.{by_number, is_end_of_file, goes_on, segments_in}
@@ -119,18 +119,18 @@ headers_read most reading (s ∷ t ∷ ts) rest enough are =
     ∙ cond-false (is_end_of_file s.segment.header.segment_type) (Ok (s.segment.header ∷ [], others)) (headers_in (most - 1) reading others >>= λ hs. Ok (s.segment.header ∷ hs.0, hs.1)) are.1
     ∙ ap (λ (r : Result (List Header × List ℕ) DecodeError). r >>= λ hs. Ok (s.segment.header ∷ hs.0, hs.1)) (headers_read (most - 1) reading (t ∷ ts) rest (shorter reading s [] others most are.0 room) are.2)
 
-data_read : (reading : Reading) (ss : List Spelled) → AreSpelled (is_strict reading) ss → gathered reading (headers_of ss) (all_data ss) ≡ Ok (spelled_segments ss)
+data_read : (reading : Reading) (ss : List Spelled) → AreSpelled (is_strict reading) ss → with_data reading (headers_of ss) (all_data ss) ≡ Ok (spelled_segments ss)
 data_read reading [] are = refl
 data_read reading (s ∷ []) are =
-    ap (λ (r : Result (SegmentView × List ℕ) DecodeError). gathered_before reading r (gathered reading [])) (data_there (is_strict reading) s [] are.0)
+    ap (λ (r : Result (SegmentView × List ℕ) DecodeError). gathered_before reading r (with_data reading [])) (data_there (is_strict reading) s [] are.0)
 data_read reading (s ∷ t ∷ ts) are =
-    ap (λ (r : Result (SegmentView × List ℕ) DecodeError). gathered_before reading r (gathered reading (headers_of (t ∷ ts)))) (data_there (is_strict reading) s (all_data (t ∷ ts)) are.0)
+    ap (λ (r : Result (SegmentView × List ℕ) DecodeError). gathered_before reading r (with_data reading (headers_of (t ∷ ts)))) (data_there (is_strict reading) s (all_data (t ∷ ts)) are.0)
     ∙ ap (λ (r : Result (List SegmentView) DecodeError). r >>= λ ps. Ok (s.segment ∷ ps)) (data_read reading (t ∷ ts) are.2)
 
 spelling_read : (organization : FileOrganization) (reading : Reading) (ss : List Spelled) → AreSpelled (is_strict reading) ss → segments_by organization reading (spelling organization ss) ≡ Ok (spelled_segments ss)
 spelling_read Sequential reading ss are = turns_read (length (by_turns ss)) reading ss (omega arith) are
 spelling_read RandomAccess reading ss are =
-    ap (λ (r : Result (List Header × List ℕ) DecodeError). r >>= λ hs. gathered reading hs.0 hs.1) (headers_read (length (all_headers ss ++ all_data ss)) reading ss (all_data ss) (omega arith) are)
+    ap (λ (r : Result (List Header × List ℕ) DecodeError). r >>= λ hs. with_data reading hs.0 hs.1) (headers_read (length (all_headers ss ++ all_data ss)) reading ss (all_data ss) (omega arith) are)
     ∙ data_read reading ss are
 
 -- A file is read as the segments that it spells.

@@ -31,8 +31,8 @@ bits_on n p =
     if nat_lt (length (bits_left p)) n then start_of []
     else record { bytes = drop ((p.bit + n) / 8) p.bytes; bit = (p.bit + n) % 8 }
 
-abbrev pub aligned : Place → Place  -- the place itself where a byte begins, else the beginning of the next byte
-aligned p = if p.bit == 0 then p else start_of (drop 1 p.bytes)
+abbrev pub byte_boundary : Place → Place  -- the place itself where a byte begins, else the beginning of the next byte
+byte_boundary p = if p.bit == 0 then p else start_of (drop 1 p.bytes)
 
 abbrev pub bytes_next : ℕ → Place → Option (List ℕ)  -- the next count bytes, or None if there are fewer
 bytes_next count p = if nat_lt (length p.bytes) count then None else Some (take count p.bytes)

@@ -1,6 +1,7 @@
 -- The combination operators, and a bitmap that is combined with another by them (T.88, 7.4.1.5). `operator_of` takes a
--- number from a region's flags. `combined` takes an operator, the page, a source and the place of its top left pixel,
--- any pair of whole numbers. It gives the page afterwards. Where the source has no pixel, the page stays as it was.
+-- number from a region's flags. `combined_grid` takes an operator, the page, a source and the place of its top left
+-- pixel, any pair of whole numbers. It gives the page afterwards. Where the source has no pixel, the page stays as it
+-- was.
 use Rattle.std.specs.Prelude.{ℕ, Bool, false, ◌&&◌, nat_lt, if◌then◌else◌, ℤ, pos, negsuc, ◌-ℤ◌, ◌||◌, ◌==◌, not}
 use Rattle.std.specs.Prelude.{Result, Ok, Err}
 use Rattle.jbig2_base.specs.declared.bitmap.operator.CombinationOperator.{CombinationOperator}
@@ -38,5 +39,5 @@ drawn_pixel operator page source x y i j =
     then combined_pixel operator (pixel_at page i j) (pixel source (pos i -ℤ x) (pos j -ℤ y))
     else pixel_at page i j
 
-abbrev pub combined : CombinationOperator → Grid → Grid → ℤ → ℤ → Grid
-combined operator page source x y = grid_of page.width page.height (drawn_pixel operator page source x y)
+abbrev pub combined_grid : CombinationOperator → Grid → Grid → ℤ → ℤ → Grid
+combined_grid operator page source x y = grid_of page.width page.height (drawn_pixel operator page source x y)

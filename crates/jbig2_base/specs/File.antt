@@ -67,14 +67,14 @@ gathered_before reading (Ok (p, rest)) others = others rest >>= λ ps. Ok (p ∷
 gathered_before reading (Err e) others = if is_salvaged reading e then Ok [] else Err e
 
 -- the segments with these headers; their data comes one after the other
-abbrev pub gathered : Reading → List Header → List ℕ → Result (List SegmentView) DecodeError
-gathered reading [] bytes = Ok []
-gathered reading (h ∷ hs) bytes = gathered_before reading (segment_data_at h bytes) (gathered reading hs)
+abbrev pub with_data : Reading → List Header → List ℕ → Result (List SegmentView) DecodeError
+with_data reading [] bytes = Ok []
+with_data reading (h ∷ hs) bytes = gathered_before reading (segment_data_at h bytes) (with_data reading hs)
 
 abbrev pub segments_by : FileOrganization → Reading → List ℕ → Result (List SegmentView) DecodeError
 segments_by Sequential reading bytes = sequential reading bytes
 segments_by RandomAccess reading bytes =
-    headers_in (length bytes) reading bytes >>= λ (hs, rest). gathered reading hs rest
+    headers_in (length bytes) reading bytes >>= λ (hs, rest). with_data reading hs rest
 
 unfoldable pub file_at : Reading → List ℕ → Result (FileHeader × List SegmentView) DecodeError
 file_at reading bytes = do

@@ -1,6 +1,6 @@
 pub mod BitLists
 pub mod Combines
-pub mod Filled
+pub mod GridsBefore
 pub mod Fronts
 pub mod Layouts
 pub mod Packed

@@ -1,7 +1,7 @@
 //! Reads files and lists of segments (T.88, Annex D).
 ghost use Rattle.std.specs.Prelude.{◌≡◌, List, length, map, Ok};
 ghost use Rattle.jbig2_base.specs.Results.{Gives};
-ghost use Rattle.jbig2_base.specs.File.{headers_in, gathered, segments_by, file_at, Spelled, SpellsFile};
+ghost use Rattle.jbig2_base.specs.File.{headers_in, with_data, segments_by, file_at, Spelled, SpellsFile};
 ghost use Rattle.jbig2_base.specs.Reading.{fault_of};
 ghost use Rattle.jbig2_base.specs.declared.file_header.FileHeader.{FileHeader};
 ghost use Rattle.jbig2_base.specs.declared.reading.Reading.{Reading};
@@ -112,7 +112,7 @@ fn gather_segments<'a, A: Allocator>(
     reading: Reading,
 ) -> Result<Vec<Segment<'a, A>, A>>
     ensures { Gives (λ v. segment_views v.items) result
-        (gathered reading (header_views headers.items) reader.old.bytes) }
+        (with_data reading (header_views headers.items) reader.old.bytes) }
 {
     let mut segments = Vec::new(alloc);
     for header in headers {

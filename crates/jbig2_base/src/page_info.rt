@@ -78,7 +78,8 @@ impl Default for PageFlags {
 }
 
 impl Default for PageStriping {
-    ghost is_default = { λ striping. striping ≡ record { is_striped = false; max_stripe_size = 0 } };
+    ghost is_default = { λ striping. striping
+        ≡ record { is_striped = false; max_stripe_size = 0 } };
 
     fn default() -> PageStriping {
         PageStriping {

@@ -2,7 +2,7 @@
 ghost use Rattle.std.specs.Prelude.{◌≡◌, ◌+◌, ◌<◌, ◌≤◌, ◌==◌, drop, length, take, min, IfSome, Option, option_map, option_and_then, Some, None, if◌then◌else◌};
 ghost use Rattle.std.specs.Int.{w8, w16, w32, cast_signed};
 ghost use Rattle.std.specs.List.{flat_map};
-ghost use Rattle.jbig2_base.specs.Bits.{start_of, bits_left, bits_next, bits_on, aligned, bytes_next, bytes_on, number_next, number_after, byte_bits, nonzero};
+ghost use Rattle.jbig2_base.specs.Bits.{start_of, bits_left, bits_next, bits_on, byte_boundary, bytes_next, bytes_on, number_next, number_after, byte_bits, nonzero};
 
 use std::marker::Model;
 
@@ -55,7 +55,7 @@ impl<'a> Reader<'a> {
 
     /// Goes to the beginning of the next byte, unless the place is at the beginning of a byte.
     pub fn align(&mut self)
-        ensures { self.new ≡ aligned self.old }
+        ensures { self.new ≡ byte_boundary self.old }
     {
         if self.bit != 0 {
             self.byte += 1;

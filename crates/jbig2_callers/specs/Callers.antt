@@ -11,7 +11,7 @@ use Rattle.jbig2_base.specs.declared.reading.Reading.TheVariants.{Lenient}
 use Rattle.hayro_jbig2.specs.Files.{book_at, page_of}
 use Rattle.hayro_jbig2.specs.Image.{first_size, first_image, image_of_page}
 use Rattle.hayro_jbig2.specs.Names.{globals_at, names_of, no_names}
-use Rattle.hayro_jbig2.specs.Page.{embedded, grid_of_page}
+use Rattle.hayro_jbig2.specs.Page.{page_from, grid_of_page}
 use Rattle.hayro_jbig2.specs.declared.jbig2_decoder.jbig2_error.Jbig2Error.{Jbig2Error}
 use Rattle.hayro_jbig2.specs.declared.jbig2_decoder.jbig2_error.Jbig2Error.TheVariants.{Io, Decode}
 
@@ -19,7 +19,7 @@ use Rattle.hayro_jbig2.specs.declared.jbig2_decoder.jbig2_error.Jbig2Error.TheVa
 abbrev pub grid_of_stream : Option (List ℕ) → List ℕ → Result Grid DecodeError
 grid_of_stream globals stream =
     option_map_or (λ bytes. names_of (globals_at Lenient bytes)) globals (Ok no_names)
-    >>= λ names. embedded Lenient names stream >>= λ page. grid_of_page page
+    >>= λ names. page_from Lenient names stream >>= λ page. grid_of_page page
 
 -- a byte for each pixel of the page at an index of a file
 abbrev pub image_at : List ℕ → ℕ → Result (List ℕ) DecodeError

@@ -3,11 +3,11 @@ use Rattle.std.proofs.Common.{◌≡◌, ◌≢◌, ℕ, zero, suc, ◌+◌, ◌
 use Rattle.std.proofs.Math.Nat.{pow-suc, mul-le-mul_left, mul-div-mul_left, mul-div-mul_right, div-div-eq-div-mul, mod-add-div, mul-le-mul, pow-le-pow_right}
 use Rattle.std.proofs.lemmas.Nat.{pow_pos, pow-add, mod_below, mod-pow-add, div-mul-add, mod-mul-add, mul-mod_first}
 use Rattle.std.proofs.lemmas.Bool.{cases_eq, cases_lt}
-use Rattle.jbig2_coder.specs.Coder.{Context, Decision, Registers, byte_at, byte_in, choice, decision, doubled, filled, renormed}
+use Rattle.jbig2_coder.specs.Coder.{Context, Decision, Registers, byte_at, byte_in, choice, decision, shift_left, byte_in_if_empty, renormd}
 use Rattle.jbig2_coder.specs.declared.arithmetic_decoder.registers.BufferedRegisters.{BufferedRegisters}
 use Rattle.jbig2_coder.specs.declared.arithmetic_decoder.registers.CodeBuffer.{CodeBuffer}
 use Rattle.jbig2_coder.specs.declared.arithmetic_decoder.registers.CodeRegister.{CodeRegister}
-use Rattle.jbig2_coder.specs.inner.Ahead.{IsAhead, IsKept, Reads, seen_of, seen_registers, shifted, spelled}
+use Rattle.jbig2_coder.specs.inner.Ahead.{IsAhead, IsKept, Reads, seen_of, seen_registers, shift_buffer, inverted_bytes}
 use Rattle.jbig2_coder.proofs.Choices.{byte_in-marker, byte_in-plain, byte_in-stuffed}
 use Rattle.jbig2_coder.proofs.Decisions.{decision-renorm}
 use Rattle.jbig2_coder.proofs.Renorm.{batch-room, double-room, filled-none, filled-some, renormed-enough, renormed-step}
@@ -59,16 +59,16 @@ pub first-low : (c next s : ℕ) → c < 2 ^ 64 → c % 2 ^ 48 ≡ (0xFF - next)
 first-low c next s small is below = omega arith
 
 -- ---- bytes that are spelled
-spelled-below : (bytes : List ℕ) (place n : ℕ) → spelled bytes place n < 2 ^ (8 * n)
+spelled-below : (bytes : List ℕ) (place n : ℕ) → inverted_bytes bytes place n < 2 ^ (8 * n)
 spelled-below bytes place zero = omega arith
 spelled-below bytes place (suc n) =
-    let rest : spelled bytes (place + 1) n < 2 ^ (8 * n) = spelled-below bytes (place + 1) n in
+    let rest : inverted_bytes bytes (place + 1) n < 2 ^ (8 * n) = spelled-below bytes (place + 1) n in
     let wide : 2 ^ (8 * suc n) ≡ 2 ^ 8 * 2 ^ (8 * n) = (let s : 8 * suc n ≡ 8 + 8 * n = omega arith in ap (λ (k : ℕ). 2 ^ k) s ∙ pow-add 2 8 (8 * n)) in
     let few : 0xFF - byte_at bytes (place + 1) ≤ 255 = omega arith in
     let part : 2 ^ (8 * n) * (0xFF - byte_at bytes (place + 1)) ≤ 2 ^ (8 * n) * 255 = mul-le-mul_left (2 ^ (8 * n)) few in
     omega (arith, wide, part)
 
-spelled-more : (bytes : List ℕ) (place n : ℕ) → spelled bytes place (suc n) ≡ spelled bytes place n * 2 ^ 8 + (0xFF - byte_at bytes (place + (n + 1)))
+spelled-more : (bytes : List ℕ) (place n : ℕ) → inverted_bytes bytes place (suc n) ≡ inverted_bytes bytes place n * 2 ^ 8 + (0xFF - byte_at bytes (place + (n + 1)))
 spelled-more bytes place zero =
     let e : place + (0 + 1) ≡ place + 1 = omega arith in
     rw e (omega arith)
@@ -90,14 +90,14 @@ seen-read bytes ct ahead place code h =
 
 -- the first of some bytes ahead, and the others
 first-byte : (bytes : List ℕ) (m place : ℕ) (code : CodeBuffer) → Reads bytes 0 (suc m) place code
-    → (code.c % 2 ^ 48 ≡ (0xFF - byte_at bytes (place + 1)) * 2 ^ 40 + spelled bytes (place + 1) m * 2 ^ (48 - code.bits)) × (spelled bytes (place + 1) m * 2 ^ (48 - code.bits) < 2 ^ 40)
+    → (code.c % 2 ^ 48 ≡ (0xFF - byte_at bytes (place + 1)) * 2 ^ 40 + inverted_bytes bytes (place + 1) m * 2 ^ (48 - code.bits)) × (inverted_bytes bytes (place + 1) m * 2 ^ (48 - code.bits) < 2 ^ 40)
 first-byte bytes m place code h =
     let u : ℕ = 2 ^ (48 - code.bits) in
     let all : 2 ^ (8 * m) * u ≡ 2 ^ 40 = sym (pow-add 2 (8 * m) (48 - code.bits)) ∙ (let e : 8 * m + (48 - code.bits) ≡ 40 = omega (arith, h.bits, h.few) in ap (λ (n : ℕ). 2 ^ n) e) in
     let part : (0xFF - byte_at bytes (place + 1)) * 2 ^ (8 * m) * u ≡ (0xFF - byte_at bytes (place + 1)) * 2 ^ 40 = omega (arith, ap (λ (n : ℕ). (0xFF - byte_at bytes (place + 1)) * n) all) in
-    let small : u * (spelled bytes (place + 1) m + 1) ≤ u * 2 ^ (8 * m) = mul-le-mul_left u (let below = spelled-below bytes (place + 1) m in omega arith) in
+    let small : u * (inverted_bytes bytes (place + 1) m + 1) ≤ u * 2 ^ (8 * m) = mul-le-mul_left u (let below = spelled-below bytes (place + 1) m in omega arith) in
     let some : 0 < u = pow_pos (48 - code.bits) in (
-      h.spells ∙ (let order : ((0xFF - byte_at bytes (place + 1)) * 2 ^ (8 * m) + spelled bytes (place + 1) m) * u ≡ (0xFF - byte_at bytes (place + 1)) * 2 ^ (8 * m) * u + spelled bytes (place + 1) m * u = omega arith in order) ∙ ap (λ (n : ℕ). n + spelled bytes (place + 1) m * u) part,
+      h.spells ∙ (let order : ((0xFF - byte_at bytes (place + 1)) * 2 ^ (8 * m) + inverted_bytes bytes (place + 1) m) * u ≡ (0xFF - byte_at bytes (place + 1)) * 2 ^ (8 * m) * u + inverted_bytes bytes (place + 1) m * u = omega arith in order) ∙ ap (λ (n : ℕ). n + inverted_bytes bytes (place + 1) m * u) part,
       omega (arith, small, all),
     )
 
@@ -128,7 +128,7 @@ once-ahead bytes (suc t) ahead place code h some =
         read = h.read;
         within = h.within;
         plain = h.plain;
-        spells = double-low code.c t (omega (arith, h.below)) ∙ ap (λ (n : ℕ). 2 * (code.c % 2 ^ n)) one ∙ ap (λ (n : ℕ). 2 * n) h.spells ∙ sym (twice-unit (spelled bytes place ahead) code.bits some h.few);
+        spells = double-low code.c t (omega (arith, h.below)) ∙ ap (λ (n : ℕ). 2 * (code.c % 2 ^ n)) one ∙ ap (λ (n : ℕ). 2 * n) h.spells ∙ sym (twice-unit (inverted_bytes bytes place ahead) code.bits some h.few);
       };
     }
 once-ahead bytes zero zero place code h some = absurd (omega (arith, h.bits))
@@ -146,106 +146,106 @@ once-ahead bytes zero (suc m) place code h some =
         read = omega (arith, h.read);
         within = h.within;
         plain = λ i inside. let e : place + suc i ≡ place + 1 + i = omega arith in subst (λ (n : ℕ). byte_at bytes n ≢ 0xFF) e (h.plain (suc i) (omega arith));
-        spells = first-low code.c (byte_at bytes (place + 1)) (spelled bytes (place + 1) m * 2 ^ (48 - code.bits)) h.small first.0 first.1 ∙ sym (twice-unit (spelled bytes (place + 1) m) code.bits some h.few);
+        spells = first-low code.c (byte_at bytes (place + 1)) (inverted_bytes bytes (place + 1) m * 2 ^ (48 - code.bits)) h.small first.0 first.1 ∙ sym (twice-unit (inverted_bytes bytes (place + 1) m) code.bits some h.few);
       };
     }
 
-once-seen : (bytes : List ℕ) (ct ahead place : ℕ) (code : CodeBuffer) → Reads bytes ct ahead place code → 1 ≤ code.bits → doubled (filled bytes (seen_of code)) ≡ seen_of (once code)
-unfolding doubled once-ahead
+once-seen : (bytes : List ℕ) (ct ahead place : ℕ) (code : CodeBuffer) → Reads bytes ct ahead place code → 1 ≤ code.bits → shift_left (byte_in_if_empty bytes (seen_of code)) ≡ seen_of (once code)
+unfolding shift_left once-ahead
 once-seen bytes (suc t) ahead place code h some =
     let is = seen-read bytes (suc t) ahead place code h in
-    let full : filled bytes (seen_of code) ≡ record { c = code.c / 2 ^ (48 - suc t) * 2 ^ (16 - suc t); ct = suc t; place = place } = filled-some bytes (seen_of code) (omega (arith, ap (λ (r : CodeRegister). r.ct) is)) ∙ is in
+    let full : byte_in_if_empty bytes (seen_of code) ≡ record { c = code.c / 2 ^ (48 - suc t) * 2 ^ (16 - suc t); ct = suc t; place = place } = filled-some bytes (seen_of code) (omega (arith, ap (λ (r : CodeRegister). r.ct) is)) ∙ is in
     let next = once-ahead bytes (suc t) ahead place code h some in
     let one : 47 - t ≡ 48 - suc t = omega arith in
     let other : 15 - t ≡ 16 - suc t = omega arith in
     let high : 2 * (code.c / 2 ^ (48 - suc t) * 2 ^ (16 - suc t)) % 2 ^ 32 ≡ 2 * code.c % 2 ^ 64 / 2 ^ (48 - t) * 2 ^ (16 - t) =
     ap (λ (n : ℕ). 2 * (code.c / 2 ^ n * 2 ^ (16 - suc t)) % 2 ^ 32) (sym one) ∙ ap (λ (n : ℕ). 2 * (code.c / 2 ^ (47 - t) * 2 ^ n) % 2 ^ 32) (sym other) ∙ sym (double-high code.c t (omega (arith, h.below))) in
     let less : suc t - 1 ≡ t = omega arith in
-    ap doubled full ∙ (λ i. record { c = high i; ct = less i; place = place }) ∙ sym (seen-read bytes t ahead place (once code) next.reads)
+    ap shift_left full ∙ (λ i. record { c = high i; ct = less i; place = place }) ∙ sym (seen-read bytes t ahead place (once code) next.reads)
 once-seen bytes zero zero place code h some = absurd (omega (arith, h.bits))
 once-seen bytes zero (suc m) place code h some =
     let is = seen-read bytes 0 (suc m) place code h in
     let next = once-ahead bytes 0 (suc m) place code h some in
     let first = first-byte bytes m place code h in
     let plain : byte_at bytes place ≢ 0xFF = (let e : place + 0 ≡ place = omega arith in subst (λ (n : ℕ). byte_at bytes n ≢ 0xFF) e (h.plain 0 (omega arith))) in
-    let full : filled bytes (seen_of code) ≡ record { c = (code.c / 2 ^ 48 * 2 ^ 16 + (0xFF00 - byte_at bytes (place + 1) * 2 ^ 8)) % 2 ^ 32; ct = 8; place = place + 1 } =
-    ap (filled bytes) is ∙ filled-none bytes _ refl ∙ byte_in-plain bytes (code.c / 2 ^ 48 * 2 ^ 16) place plain in
-    let high = first-high code.c (byte_at bytes (place + 1)) (spelled bytes (place + 1) m * 2 ^ (48 - code.bits)) h.small first.0 first.1 in
-    ap doubled full ∙ (λ i. record { c = sym high i; ct = 7; place = place + 1 }) ∙ sym (seen-read bytes 7 m (place + 1) (once code) next.reads)
+    let full : byte_in_if_empty bytes (seen_of code) ≡ record { c = (code.c / 2 ^ 48 * 2 ^ 16 + (0xFF00 - byte_at bytes (place + 1) * 2 ^ 8)) % 2 ^ 32; ct = 8; place = place + 1 } =
+    ap (byte_in_if_empty bytes) is ∙ filled-none bytes _ refl ∙ byte_in-plain bytes (code.c / 2 ^ 48 * 2 ^ 16) place plain in
+    let high = first-high code.c (byte_at bytes (place + 1)) (inverted_bytes bytes (place + 1) m * 2 ^ (48 - code.bits)) h.small first.0 first.1 in
+    ap shift_left full ∙ (λ i. record { c = sym high i; ct = 7; place = place + 1 }) ∙ sym (seen-read bytes 7 m (place + 1) (once code) next.reads)
 
 -- ---- several shifts
 shifted-c : (c k : ℕ) → 2 * c % 2 ^ 64 * 2 ^ k % 2 ^ 64 ≡ c * 2 ^ suc k % 2 ^ 64
 shifted-c c k = mul-mod_first (2 * c) (2 ^ k) (2 ^ 64) ∙ ap (λ (n : ℕ). n % 2 ^ 64) (rw pow-suc (omega arith))
 
-shifted-none : (code : CodeBuffer) → code.c < 2 ^ 64 → shifted 0 code ≡ code
+shifted-none : (code : CodeBuffer) → code.c < 2 ^ 64 → shift_buffer 0 code ≡ code
 shifted-none code small =
     let e : code.c * 2 ^ 0 % 2 ^ 64 ≡ code.c = omega arith in
     let f : code.bits - 0 ≡ code.bits = omega arith in
     λ i. record { c = e i; bits = f i; place = code.place }
 
-shifted-once : (k : ℕ) (code : CodeBuffer) → shifted k (once code) ≡ shifted (suc k) code
+shifted-once : (k : ℕ) (code : CodeBuffer) → shift_buffer k (once code) ≡ shift_buffer (suc k) code
 shifted-once k code =
     let e : code.bits - 1 - k ≡ code.bits - suc k = omega arith in
     λ i. record { c = shifted-c code.c k i; bits = e i; place = code.place }
 
-pub shifted-ahead : (bytes : List ℕ) (k : ℕ) (code : CodeBuffer) → IsAhead bytes code → k ≤ code.bits → IsAhead bytes (shifted k code)
+pub shifted-ahead : (bytes : List ℕ) (k : ℕ) (code : CodeBuffer) → IsAhead bytes code → k ≤ code.bits → IsAhead bytes (shift_buffer k code)
 shifted-ahead bytes zero code h left = subst (λ (q : CodeBuffer). IsAhead bytes q) (sym (shifted-none code h.reads.small)) h
 shifted-ahead bytes (suc k) code h left =
     let next = once-ahead bytes h.ct h.ahead h.place code h.reads (omega arith) in
     subst (λ (q : CodeBuffer). IsAhead bytes q) (shifted-once k code) (shifted-ahead bytes k (once code) next (omega arith))
 
 renormed-buffer : (bytes : List ℕ) (k n a : ℕ) (code : CodeBuffer) → IsAhead bytes code → k ≤ code.bits → a * 2 ^ k < 2 ^ 16
-    → renormed bytes (k + n) a (seen_of code) ≡ renormed bytes n (a * 2 ^ k) (seen_of (shifted k code))
+    → renormd bytes (k + n) a (seen_of code) ≡ renormd bytes n (a * 2 ^ k) (seen_of (shift_buffer k code))
 renormed-buffer bytes zero n a code h left room =
     let e : a * 2 ^ 0 ≡ a = omega arith in
     let f : 0 + n ≡ n = omega arith in
-    ap (λ (m : ℕ). renormed bytes m a (seen_of code)) f ∙ ap (λ (m : ℕ). renormed bytes n m (seen_of code)) (sym e)
-    ∙ ap (λ (q : CodeBuffer). renormed bytes n (a * 2 ^ 0) (seen_of q)) (sym (shifted-none code h.reads.small))
+    ap (λ (m : ℕ). renormd bytes m a (seen_of code)) f ∙ ap (λ (m : ℕ). renormd bytes n m (seen_of code)) (sym e)
+    ∙ ap (λ (q : CodeBuffer). renormd bytes n (a * 2 ^ 0) (seen_of q)) (sym (shifted-none code h.reads.small))
 renormed-buffer bytes (suc k) n a code h left room =
     let some : 1 ≤ code.bits = omega arith in
     let next = once-ahead bytes h.ct h.ahead h.place code h.reads some in
-    let s : renormed bytes (suc k + n) a (seen_of code) ≡ renormed bytes (suc (k + n)) a (seen_of code) =
-    ap (λ m. renormed bytes m a (seen_of code)) (let e : suc k + n ≡ suc (k + n) = omega arith in e) in
+    let s : renormd bytes (suc k + n) a (seen_of code) ≡ renormd bytes (suc (k + n)) a (seen_of code) =
+    ap (λ m. renormd bytes m a (seen_of code)) (let e : suc k + n ≡ suc (k + n) = omega arith in e) in
     let e : 2 * a * 2 ^ k ≡ a * 2 ^ suc k = rw pow-suc (omega arith) in
     s
     ∙ renormed-step bytes (k + n) a (seen_of code) (batch-room a k room)
-    ∙ ap (renormed bytes (k + n) (2 * a)) (once-seen bytes h.ct h.ahead h.place code h.reads some)
+    ∙ ap (renormd bytes (k + n) (2 * a)) (once-seen bytes h.ct h.ahead h.place code h.reads some)
     ∙ renormed-buffer bytes k n (2 * a) (once code) next (omega arith) (double-room a k room)
-    ∙ ap (λ (q : CodeBuffer). renormed bytes n (2 * a * 2 ^ k) (seen_of q)) (shifted-once k code)
-    ∙ ap (λ v. renormed bytes n v (seen_of (shifted (suc k) code))) e
+    ∙ ap (λ (q : CodeBuffer). renormd bytes n (2 * a * 2 ^ k) (seen_of q)) (shifted-once k code)
+    ∙ ap (λ v. renormd bytes n v (seen_of (shift_buffer (suc k) code))) e
 
 -- as many shifts as there are bits, but not past the top bit of A
 pub renormed-shifts : (bytes : List ℕ) (k a : ℕ) (code : CodeBuffer) → IsAhead bytes code → k ≤ code.bits → 1 ≤ a → k ≤ 15 → a * 2 ^ k < 2 ^ 16
-    → renormed bytes 15 a (seen_of code) ≡ renormed bytes 15 (a * 2 ^ k) (seen_of (shifted k code))
+    → renormd bytes 15 a (seen_of code) ≡ renormd bytes 15 (a * 2 ^ k) (seen_of (shift_buffer k code))
 renormed-shifts bytes k a code h left some few room =
     let n : ℕ = 15 - k in
     let e : 15 ≡ k + n = omega arith in
     let f : n + k ≡ 15 = omega arith in
     let p : 2 ^ k * 2 ^ n ≡ 0x8000 = sym (pow-add 2 k n) ∙ ap (λ v. 2 ^ v) (sym e) in
     let enough : 0x8000 ≤ a * 2 ^ k * 2 ^ n = omega (arith, ap (λ v. a * v) p) in
-    ap (λ m. renormed bytes m a (seen_of code)) e
+    ap (λ m. renormd bytes m a (seen_of code)) e
     ∙ renormed-buffer bytes k n a code h left room
-    ∙ sym (renormed-enough bytes n k (a * 2 ^ k) (seen_of (shifted k code)) enough)
-    ∙ ap (λ m. renormed bytes m (a * 2 ^ k) (seen_of (shifted k code))) f
+    ∙ sym (renormed-enough bytes n k (a * 2 ^ k) (seen_of (shift_buffer k code)) enough)
+    ∙ ap (λ m. renormd bytes m (a * 2 ^ k) (seen_of (shift_buffer k code))) f
 
 -- ---- bytes that come into the buffer
 -- a byte that comes in leaves the bits above it
 pub plain-fits : (bytes : List ℕ) (m place : ℕ) (code : CodeBuffer) → Reads bytes 0 m place code → code.bits ≤ 40
     → ((code.c + (0xFF - byte_at bytes (code.place + 1)) * 2 ^ (40 - code.bits)) / 2 ^ 48 ≡ code.c / 2 ^ 48)
-    × ((code.c + (0xFF - byte_at bytes (code.place + 1)) * 2 ^ (40 - code.bits)) % 2 ^ 48 ≡ (spelled bytes place m * 2 ^ 8 + (0xFF - byte_at bytes (code.place + 1))) * 2 ^ (40 - code.bits))
+    × ((code.c + (0xFF - byte_at bytes (code.place + 1)) * 2 ^ (40 - code.bits)) % 2 ^ 48 ≡ (inverted_bytes bytes place m * 2 ^ 8 + (0xFF - byte_at bytes (code.place + 1))) * 2 ^ (40 - code.bits))
 plain-fits bytes m place code h room =
     let u : ℕ = 2 ^ (40 - code.bits) in
     let next : ℕ = 0xFF - byte_at bytes (code.place + 1) in
     let old : 2 ^ (48 - code.bits) ≡ 2 ^ 8 * u = (let e : 48 - code.bits ≡ 8 + (40 - code.bits) = omega arith in ap (λ (n : ℕ). 2 ^ n) e ∙ pow-add 2 8 (40 - code.bits)) in
     let all : 2 ^ (8 * m) * u ≡ 2 ^ 40 = sym (pow-add 2 (8 * m) (40 - code.bits)) ∙ (let e : 8 * m + (40 - code.bits) ≡ 40 = omega (arith, h.bits) in ap (λ (n : ℕ). 2 ^ n) e) in
-    let rest : code.c % 2 ^ 48 ≡ spelled bytes place m * 2 ^ 8 * u = h.spells ∙ ap (λ (n : ℕ). spelled bytes place m * n) old ∙ (let o : spelled bytes place m * (2 ^ 8 * u) ≡ spelled bytes place m * 2 ^ 8 * u = omega arith in o) in
-    let below : u * (spelled bytes place m + 1) ≤ u * 2 ^ (8 * m) = mul-le-mul_left u (let b = spelled-below bytes place m in omega arith) in
+    let rest : code.c % 2 ^ 48 ≡ inverted_bytes bytes place m * 2 ^ 8 * u = h.spells ∙ ap (λ (n : ℕ). inverted_bytes bytes place m * n) old ∙ (let o : inverted_bytes bytes place m * (2 ^ 8 * u) ≡ inverted_bytes bytes place m * 2 ^ 8 * u = omega arith in o) in
+    let below : u * (inverted_bytes bytes place m + 1) ≤ u * 2 ^ (8 * m) = mul-le-mul_left u (let b = spelled-below bytes place m in omega arith) in
     let few : u * next ≤ u * 255 = mul-le-mul_left u (let f : next ≤ 255 = omega arith in f) in
-    let parts : (spelled bytes place m * 2 ^ 8 + next) * u ≡ spelled bytes place m * 2 ^ 8 * u + next * u = omega arith in
-    let small : spelled bytes place m * 2 ^ 8 * u + next * u < 2 ^ 48 = omega (arith, below, few, all, pow_pos (40 - code.bits)) in
-    let whole : code.c + next * u ≡ code.c / 2 ^ 48 * 2 ^ 48 + (spelled bytes place m * 2 ^ 8 * u + next * u) = omega (arith, rest) in (
-      ap (λ (n : ℕ). n / 2 ^ 48) whole ∙ div-mul-add (code.c / 2 ^ 48) (2 ^ 48) (spelled bytes place m * 2 ^ 8 * u + next * u) small,
-      ap (λ (n : ℕ). n % 2 ^ 48) whole ∙ mod-mul-add (code.c / 2 ^ 48) (2 ^ 48) (spelled bytes place m * 2 ^ 8 * u + next * u) small ∙ sym parts,
+    let parts : (inverted_bytes bytes place m * 2 ^ 8 + next) * u ≡ inverted_bytes bytes place m * 2 ^ 8 * u + next * u = omega arith in
+    let small : inverted_bytes bytes place m * 2 ^ 8 * u + next * u < 2 ^ 48 = omega (arith, below, few, all, pow_pos (40 - code.bits)) in
+    let whole : code.c + next * u ≡ code.c / 2 ^ 48 * 2 ^ 48 + (inverted_bytes bytes place m * 2 ^ 8 * u + next * u) = omega (arith, rest) in (
+      ap (λ (n : ℕ). n / 2 ^ 48) whole ∙ div-mul-add (code.c / 2 ^ 48) (2 ^ 48) (inverted_bytes bytes place m * 2 ^ 8 * u + next * u) small,
+      ap (λ (n : ℕ). n % 2 ^ 48) whole ∙ mod-mul-add (code.c / 2 ^ 48) (2 ^ 48) (inverted_bytes bytes place m * 2 ^ 8 * u + next * u) small ∙ sym parts,
     )
 
 plain-reads : (bytes : List ℕ) (ct ahead place : ℕ) (code : CodeBuffer) → Reads bytes ct ahead place code → code.bits % 8 ≡ 0 → code.bits ≤ 40 → code.place < length bytes → byte_at bytes code.place ≢ 0xFF
@@ -268,7 +268,7 @@ plain-reads bytes zero m place code h whole room inside plain =
         read = omega (arith, h.read);
         within = omega arith;
         plain = λ i below. ⊎_elim (λ (less : i < m). h.plain i less) (λ (last : m ≤ i). let e : code.place ≡ place + i = omega (arith, h.read) in subst (λ (n : ℕ). byte_at bytes n ≢ 0xFF) e plain) (cases_lt i m);
-        spells = fits.1 ∙ ap (λ (n : ℕ). (spelled bytes place m * 2 ^ 8 + (0xFF - byte_at bytes n)) * 2 ^ (40 - code.bits)) place_is ∙ ap (λ (n : ℕ). n * 2 ^ (40 - code.bits)) (sym (spelled-more bytes place m)) ∙ ap (λ (n : ℕ). spelled bytes place (suc m) * 2 ^ n) unit;
+        spells = fits.1 ∙ ap (λ (n : ℕ). (inverted_bytes bytes place m * 2 ^ 8 + (0xFF - byte_at bytes n)) * 2 ^ (40 - code.bits)) place_is ∙ ap (λ (n : ℕ). n * 2 ^ (40 - code.bits)) (sym (spelled-more bytes place m)) ∙ ap (λ (n : ℕ). inverted_bytes bytes place (suc m) * 2 ^ n) unit;
       };
     }
 
@@ -342,15 +342,15 @@ none-ahead bytes ct code few all small within whole = record {
   };
 }
 
-seven-seen : (bytes : List ℕ) (c place : ℕ) → c % 2 ^ 8 ≡ 0 → doubled (record { c = c; ct = 8; place = place }) ≡ seen_of (read-in (record { c = c; ct = 8; place = place }))
-unfolding doubled
+seven-seen : (bytes : List ℕ) (c place : ℕ) → c % 2 ^ 8 ≡ 0 → shift_left (record { c = c; ct = 8; place = place }) ≡ seen_of (read-in (record { c = c; ct = 8; place = place }))
+unfolding shift_left
 seven-seen bytes c place whole =
     let high : 2 * c % 2 ^ 32 ≡ c * 2 % 2 ^ 32 * 2 ^ 32 / 2 ^ 41 * 2 ^ 9 = omega arith in
     let at : place ≡ place - 0 = omega arith in
     λ i. record { c = high i; ct = 7; place = at i }
 
-six-seen : (bytes : List ℕ) (c place : ℕ) → c % 2 ^ 9 ≡ 0 → doubled (record { c = c; ct = 7; place = place }) ≡ seen_of (read-in (record { c = c; ct = 7; place = place }))
-unfolding doubled
+six-seen : (bytes : List ℕ) (c place : ℕ) → c % 2 ^ 9 ≡ 0 → shift_left (record { c = c; ct = 7; place = place }) ≡ seen_of (read-in (record { c = c; ct = 7; place = place }))
+unfolding shift_left
 six-seen bytes c place whole =
     let high : 2 * c % 2 ^ 32 ≡ c * 2 % 2 ^ 32 * 2 ^ 32 / 2 ^ 42 * 2 ^ 10 = omega arith in
     let at : place ≡ place - 0 = omega arith in
@@ -358,7 +358,7 @@ six-seen bytes c place whole =
 
 -- what BYTEIN makes of C without bits
 abbrev Enters : List ℕ → CodeRegister → Type 0
-Enters bytes r = IsAhead bytes (read-in r) × (doubled r ≡ seen_of (read-in r))
+Enters bytes r = IsAhead bytes (read-in r) × (shift_left r ≡ seen_of (read-in r))
 
 eight-enters : (bytes : List ℕ) (c place : ℕ) → c % 2 ^ 8 ≡ 0 → place ≤ length bytes → Enters bytes (record { c = c; ct = 8; place = place })
 eight-enters bytes c place whole within =
@@ -391,15 +391,15 @@ byte-cases bytes P c place whole within eight seven =
 
 -- an empty buffer takes the next byte: one shift of RENORMD
 pub empty-turn : (bytes : List ℕ) (a : ℕ) (code : CodeBuffer) (r : CodeRegister) → IsAhead bytes code → code.bits ≡ 0 → r ≡ byte_in bytes (code.c / 2 ^ 32) code.place → r.place ≤ length bytes → 1 ≤ a → a < 0x8000
-    → IsAhead bytes (read-in r) × (renormed bytes 15 a (seen_of code) ≡ renormed bytes 15 (2 * a) (seen_of (read-in r)))
+    → IsAhead bytes (read-in r) × (renormd bytes 15 a (seen_of code) ≡ renormd bytes 15 (2 * a) (seen_of (read-in r)))
 empty-turn bytes a code r h none is within some half =
     let seen = empty-seen bytes code h none in
     let whole : code.c / 2 ^ 32 % 2 ^ 16 ≡ 0 = empty-whole bytes h.ct h.ahead h.place code h.reads none in
     let enters : Enters bytes r = subst (λ (q : CodeRegister). Enters bytes q) (sym is) (byte-cases bytes (Enters bytes) (code.c / 2 ^ 32) code.place whole (subst (λ (q : CodeRegister). q.place ≤ length bytes) is within) (eight-enters bytes) (seven-enters bytes)) in
-    let full : filled bytes (seen_of code) ≡ r = ap (filled bytes) seen ∙ filled-none bytes _ refl ∙ sym is in (
+    let full : byte_in_if_empty bytes (seen_of code) ≡ r = ap (byte_in_if_empty bytes) seen ∙ filled-none bytes _ refl ∙ sym is in (
       enters.0,
-      renormed-step bytes 14 a (seen_of code) half ∙ ap (λ (q : CodeRegister). renormed bytes 14 (2 * a) (doubled q)) full
-          ∙ ap (renormed bytes 14 (2 * a)) enters.1
+      renormed-step bytes 14 a (seen_of code) half ∙ ap (λ (q : CodeRegister). renormd bytes 14 (2 * a) (shift_left q)) full
+          ∙ ap (renormd bytes 14 (2 * a)) enters.1
           ∙ sym (renormed-enough bytes 14 1 (2 * a) (seen_of (read-in r)) (omega arith)),
     )
 
@@ -495,14 +495,14 @@ seen-small bytes code h =
 
 pub decision-part : (bytes : List ℕ) (registers : BufferedRegisters) (x y : Context) (rest qe below size : ℕ) (symbol : Bool) → IsAhead bytes registers.code → registers.a ≡ rest + qe → below ≤ registers.code.c / 2 ^ 48
     → ((c : ℕ) → c < 2 ^ 32 → c / 2 ^ 16 ≡ registers.code.c / 2 ^ 48 → choice x (rest + qe) c ≡ record { symbol = symbol; a = size; c = c - below * 2 ^ 16; context = y; renorm = true })
-    → decision bytes (seen_registers registers) x ≡ record { symbol = symbol; registers = renormed bytes 15 size (seen_of (lowered below registers.code)); context = y }
+    → decision bytes (seen_registers registers) x ≡ record { symbol = symbol; registers = renormd bytes 15 size (seen_of (lowered below registers.code)); context = y }
 decision-part bytes registers x y rest qe below size symbol h all inside chosen =
     let s : Registers = seen_registers registers in
     let t : Registers = record { a = size; code = record (seen_of registers.code) { c = (seen_of registers.code).c - below * 2 ^ 16 } } in
     let e : choice x s.a s.code.c ≡ record { symbol = symbol; a = t.a; c = t.code.c; context = y; renorm = true } =
     ap (λ (n : ℕ). choice x n s.code.c) all ∙ chosen s.code.c (seen-small bytes registers.code h) (upper-half registers.code) in
     decision-renorm bytes s x symbol t y e refl refl
-    ∙ ap (λ (q : CodeRegister). let d : Decision = record { symbol = symbol; registers = renormed bytes 15 size q; context = y } in d) (sym (lowered-seen below registers.code inside))
+    ∙ ap (λ (q : CodeRegister). let d : Decision = record { symbol = symbol; registers = renormd bytes 15 size q; context = y } in d) (sym (lowered-seen below registers.code inside))
 
 pub kept : (bytes : List ℕ) (registers : BufferedRegisters) (floor : ℕ) → 0x8000 ≤ registers.a → registers.a < 0x10000 → IsAhead bytes registers.code → floor ≡ max (registers.code.c / 2 ^ 48 + 1) 0x8000 → IsKept bytes registers floor
 kept bytes registers floor normal below h is =

@@ -14,8 +14,8 @@ use Rattle.jbig2_base.specs.declared.error.HuffmanError.TheVariants.{InvalidCode
 use Rattle.jbig2_base.specs.inner.BitLists.{AreBits}
 use Rattle.jbig2_base.proofs.BitFieldLemmas.{bits-drop, byte-bits}
 use Rattle.jbig2_coder.specs.Causes.{AreCrowded, Begins, BreaksCode, BreaksNumber, BreaksRange, BreaksSelection, BreaksTable, BreaksValue, LeavesWord}
-use Rattle.jbig2_coder.specs.PrefixCode.{CodeReading, Member, begins_longer, decoded_value, front_number, in_word, is_crowded, line_of, longest, moved, no_oob, prefix_code, read_code, table_of, value_by, weight, without_oob}
-use Rattle.jbig2_coder.specs.inner.CodeParts.{ended, found_or, is_decided, refused, some_value, value_after, valued}
+use Rattle.jbig2_coder.specs.PrefixCode.{CodeReading, Member, begins_longer, decoded_value, front_number, in_word, is_crowded, line_of, longest, value_of_line, no_oob, prefix_code, read_code, table_of, value_by, weight, without_oob}
+use Rattle.jbig2_coder.specs.inner.CodeReadings.{cut_off_code, found_or, is_decided, unknown_code, some_value, value_after, with_value}
 use Rattle.jbig2_coder.specs.declared.huffman_table.line.TableLine.{TableLine}
 use Rattle.jbig2_base.specs.Causes.{HasCause, HasCauseOrNoMemory}
 use Rattle.jbig2_base.proofs.CauseSteps.{call-cause, call-cause-or-memory}
@@ -185,7 +185,7 @@ refused-cause ms bits k are low high still none ends =
           ),
     )
 
-found-cause : (P : DecodeError → Type 0) (o : Option TableLine) (k : ℕ) → (o ≡ None → P (Huffman InvalidCode)) → IfErr (found_or o k (refused k)).result P
+found-cause : (P : DecodeError → Type 0) (o : Option TableLine) (k : ℕ) → (o ≡ None → P (Huffman InvalidCode)) → IfErr (found_or o k (unknown_code k)).result P
 found-cause P (Some line) k why = tt
 found-cause P None k why = why refl
 
@@ -199,13 +199,13 @@ code-of P ms bits are at_end at_code =
     let still : (i : ℕ) → 1 ≤ i → i < k → Undecided ms bits i = λ i low high. undecided ms bits i (before-least n test (length bits + 1) i (omega arith) (omega arith) high) in
     let o : Option TableLine = line_of ms k (front_number k bits) in
     let Q : CodeReading TableLine → Type 0 = λ r. IfErr r.result P in
-    cond_both (ltb (length bits) k) (ended k) (found_or o k (refused k)) Q
+    cond_both (ltb (length bits) k) (cut_off_code k) (found_or o k (unknown_code k)) Q
     (λ short. at_end (ended-cause ms bits (λ i low high. still i low (omega (arith, ltb-true (length bits) k short)))))
     (λ there. let enough = ltb-false (length bits) k there in
     found-cause P o k (λ none. at_code (refused-cause ms bits k are (omega (arith, at.0)) enough still none (decided-none ms bits k (at-least n test (length bits + 1) (omega (arith, enough))) none))))
 
 -- the code whose line is read
-found-is : (ms : List Member) (bits : List ℕ) (k : ℕ) (o : Option TableLine) (line : TableLine) → 1 ≤ k → k ≤ length bits → line_of ms k (front_number k bits) ≡ o → (found_or o k (refused k)).result ≡ Ok line → Any (λ m. Begins bits m × (m.bits ≡ (found_or o k (refused k)).taken) × (m.line ≡ line)) ms
+found-is : (ms : List Member) (bits : List ℕ) (k : ℕ) (o : Option TableLine) (line : TableLine) → 1 ≤ k → k ≤ length bits → line_of ms k (front_number k bits) ≡ o → (found_or o k (unknown_code k)).result ≡ Ok line → Any (λ m. Begins bits m × (m.bits ≡ (found_or o k (unknown_code k)).taken) × (m.line ≡ line)) ms
 found-is ms bits k None line low high is same = absurd (let never : ◌≡◌ {A = Result TableLine DecodeError} (Err (Huffman InvalidCode)) (Ok line) = same in cc)
 found-is ms bits k (Some x) line low high is same =
     let this : x ≡ line = let e : ◌≡◌ {A = Result TableLine DecodeError} (Ok x) (Ok line) = same in cc in
@@ -221,7 +221,7 @@ code-found ms bits line =
     let at = least-within n test (length bits + 1) in
     let o : Option TableLine = line_of ms k (front_number k bits) in
     let Q : CodeReading TableLine → Type 0 = λ r. r.result ≡ Ok line → Any (λ m. Begins bits m × (m.bits ≡ r.taken) × (m.line ≡ line)) ms in
-    cond_both (ltb (length bits) k) (ended k) (found_or o k (refused k)) Q
+    cond_both (ltb (length bits) k) (cut_off_code k) (found_or o k (unknown_code k)) Q
     (λ short same. absurd (let never : ◌≡◌ {A = Result TableLine DecodeError} (Err (Parse UnexpectedEof)) (Ok line) = same in cc))
     (λ there. found-is ms bits k o line (omega (arith, at.0)) (ltb-false (length bits) k there) refl)
 
@@ -253,14 +253,14 @@ read-range P line bits why =
     let R : Option ℕ → Type 0 = λ o. IfErr (value_by line o) P in
     cond_both (ltb (length bits) n) None (Some (front_number n bits)) R
     (λ short. why (inl (ltb-true (length bits) n short)))
-    (λ there. some-cause P (in_word (moved line (front_number n bits))) (word-cause P (moved line (front_number n bits)) (λ leaves. why (inr leaves))))
+    (λ there. some-cause P (in_word (value_of_line line (front_number n bits))) (word-cause P (value_of_line line (front_number n bits)) (λ leaves. why (inr leaves))))
 
 range-cause : (P : DecodeError → Type 0) (line : TableLine) (bits : List ℕ) → (BreaksNumbered line bits → P (Huffman InvalidCode)) → IfErr (value_after line bits) P
 range-cause P line bits why =
     let Q : Result (Option ℤ) DecodeError → Type 0 = λ r. IfErr r P in
     cond_both line.is_out_of_band (Ok None) (value_by line (bits_next line.range_length bits)) Q (λ out. tt) (λ numbered. read-range P line bits (λ breaks. why (numbered, breaks)))
 
-valued-cause : (P : DecodeError → Type 0) (result : Result TableLine DecodeError) (taken : ℕ) (bits : List ℕ) → IfErr result P → ((line : TableLine) → result ≡ Ok line → BreaksNumbered line (drop taken bits) → P (Huffman InvalidCode)) → IfErr (valued (record { result = result; taken = taken }) bits).result P
+valued-cause : (P : DecodeError → Type 0) (result : Result TableLine DecodeError) (taken : ℕ) (bits : List ℕ) → IfErr result P → ((line : TableLine) → result ≡ Ok line → BreaksNumbered line (drop taken bits) → P (Huffman InvalidCode)) → IfErr (with_value (record { result = result; taken = taken }) bits).result P
 valued-cause P (Ok line) taken bits first why = range-cause P line (drop taken bits) (why line refl)
 valued-cause P (Err e) taken bits first why = first
 
@@ -292,9 +292,9 @@ no-value line bits same =
 
     some-line : (line : TableLine) (o : Option ℕ) → value_by line o ≡ Ok None → ⊥
     some-line line None same = let never : ◌≡◌ {A = Result (Option ℤ) DecodeError} (Err (Huffman InvalidCode)) (Ok None) = same in cc
-    some-line line (Some n) same = some-number (in_word (moved line n)) same
+    some-line line (Some n) same = some-number (in_word (value_of_line line n)) same
 
-none-valued : (result : Result TableLine DecodeError) (taken : ℕ) (bits : List ℕ) → (valued (record { result = result; taken = taken }) bits).result ≡ Ok None → (line : TableLine) × (result ≡ Ok line) × (line.is_out_of_band ≡ true)
+none-valued : (result : Result TableLine DecodeError) (taken : ℕ) (bits : List ℕ) → (with_value (record { result = result; taken = taken }) bits).result ≡ Ok None → (line : TableLine) × (result ≡ Ok line) × (line.is_out_of_band ≡ true)
 none-valued (Ok line) taken bits same = (line, refl, no-value line (drop taken bits) same)
 none-valued (Err e) taken bits same = absurd (let never : ◌≡◌ {A = Result (Option ℤ) DecodeError} (Err e) (Ok None) = same in cc)
 

@@ -14,7 +14,7 @@ use Rattle.jbig2_base.proofs.Causes.{cause-next, same-ok, went}
 use Rattle.jbig2_base.proofs.ReaderLemmas.{bits_on-enough}
 use Rattle.jbig2_coder.specs.Causes.{BreaksCustom, BreaksLines, BreaksSomeLine, LeavesWord}
 use Rattle.jbig2_coder.specs.CustomTable.{GivesAt, Step, concat, custom_header, custom_line, custom_lines, custom_table, end_lines, field, left_at, next_low, range_lines, range_lines_in}
-use Rattle.jbig2_coder.specs.inner.CodeParts.{last_line}
+use Rattle.jbig2_coder.specs.inner.CodeReadings.{last_line}
 use Rattle.jbig2_coder.specs.PrefixCode.{Member, front_number, in_word, table_of}
 use Rattle.jbig2_coder.specs.Tables.{lower, out_of_band, upper}
 use Rattle.jbig2_coder.specs.declared.huffman_table.custom.Header.{Header}

@@ -9,7 +9,7 @@ use Rattle.jbig2_coder.specs.declared.huffman_table.line.TableLine.{TableLine}
 use Rattle.jbig2_coder.specs.declared.huffman_table.custom.Header.{Header}
 use Rattle.jbig2_coder.specs.PrefixCode.{AreShort, table_of}
 use Rattle.jbig2_coder.specs.CustomTable.{Step, left_at, field, custom_header, custom_line, custom_lines, concat, range_lines_in, range_lines, end_lines, custom_table, GivesAt}
-use Rattle.jbig2_coder.specs.inner.CodeParts.{last_line}
+use Rattle.jbig2_coder.specs.inner.CodeReadings.{last_line}
 use Rattle.jbig2_coder.specs.Tables.{lower, upper, out_of_band}
 use Rattle.jbig2_base.specs.declared.error.DecodeError.TheVariants.{Huffman, OutOfMemory}
 use Rattle.jbig2_base.specs.declared.error.HuffmanError.TheVariants.{InvalidCode}

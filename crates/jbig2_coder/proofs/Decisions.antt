@@ -3,7 +3,7 @@ use Rattle.std.proofs.Common.{◌≡◌, ℕ, ◌-◌, ◌/◌, ◌^◌, ◌<◌
 use mir.Val.{bool_byte}
 use Rattle.jbig2_base.specs.Grid.{bit_number}
 use Rattle.jbig2_coder.specs.Table.{row_of}
-use Rattle.jbig2_coder.specs.Coder.{Context, Registers, choice, decision, renormed}
+use Rattle.jbig2_coder.specs.Coder.{Context, Registers, choice, decision, renormd}
 use Rattle.jbig2_coder.proofs.Choices.{choice-quiet}
 
 pub bool_byte-bit : (b : Bool) → bool_byte b ≡ bit_number b
@@ -19,8 +19,8 @@ decision-quiet bytes s x qe e h n = rw (choice-quiet x s.a s.code.c qe e h n) re
 pub decision-renorm : (bytes : List ℕ) (s : Registers) (x : Context) (symbol : Bool) (t : Registers) (y : Context)
     → choice x s.a s.code.c ≡ record { symbol = symbol; a = t.a; c = t.code.c; context = y; renorm = true }
     → t.code.ct ≡ s.code.ct → t.code.place ≡ s.code.place
-    → decision bytes s x ≡ record { symbol = symbol; registers = renormed bytes 15 t.a t.code; context = y }
+    → decision bytes s x ≡ record { symbol = symbol; registers = renormd bytes 15 t.a t.code; context = y }
 unfolding decision
 decision-renorm bytes s x symbol t y e ct place =
     let code : t.code ≡ record { c = t.code.c; ct = s.code.ct; place = s.code.place } = λ i. record { c = t.code.c; ct = ct i; place = place i } in
-    rw e (λ i. record { symbol = symbol; registers = renormed bytes 15 t.a (sym code i); context = y })
+    rw e (λ i. record { symbol = symbol; registers = renormd bytes 15 t.a (sym code i); context = y })

@@ -7,37 +7,37 @@ use Rattle.std.proofs.lemmas.List.{reverse-append, reverse-reverse}
 use Rattle.std.proofs.lemmas.Bool.Decides.{nat_tests}
 use Rattle.jbig2_coder.specs.Table.{row_of}
 use Rattle.jbig2_coder.specs.Coder.{Context, likely_next, unlikely_next}
-use Rattle.jbig2_coder.specs.Encoder.{Writer, Coding, plain, stuffed, byte_out, shifted, renormed, narrowed_likely, narrowed_unlikely, narrowed, encoding, set_bits, flushed, is_full, closed}
+use Rattle.jbig2_coder.specs.Encoder.{Writer, Coding, eight_bits_out, seven_bits_out, byte_out, shift_once, renorme, narrowed_likely, narrowed_unlikely, narrowed_interval, encoding, set_bits, flush_coder, is_full, with_marker}
 use Rattle.jbig2_coder.specs.inner.EncoderViews.{writer_of}
 use Rattle.jbig2_coder.specs.declared.mq.encoder.CodeRegister.{CodeRegister}
 
 -- BYTEOUT
-pub byte_out-none : (c : ℕ) (out : List ℕ) → out ≡ [] → byte_out c out ≡ plain c out
+pub byte_out-none : (c : ℕ) (out : List ℕ) → out ≡ [] → byte_out c out ≡ eight_bits_out c out
 unfolding byte_out
 byte_out-none c out e = rw e refl
 
-pub byte_out-full : (c last : ℕ) (out rest : List ℕ) → out ≡ last ∷ rest → last ≡ 0xFF → byte_out c out ≡ stuffed c out
+pub byte_out-full : (c last : ℕ) (out rest : List ℕ) → out ≡ last ∷ rest → last ≡ 0xFF → byte_out c out ≡ seven_bits_out c out
 unfolding byte_out
 byte_out-full c last out rest e full = rw (e, full) refl
 
 pub byte_out-below : (c last : ℕ) (out rest : List ℕ) → out ≡ last ∷ rest → (last ≡ 0xFF → ⊥) → c < 2 ^ 27
-    → byte_out c out ≡ plain c out
+    → byte_out c out ≡ eight_bits_out c out
 unfolding byte_out
 byte_out-below c last out rest e free h = rw e (grind (arith, nat_tests))
 
 pub byte_out-carry_full : (c last : ℕ) (out rest : List ℕ) → out ≡ last ∷ rest → 2 ^ 27 ≤ c → last + 1 ≡ 0xFF
-    → byte_out c out ≡ stuffed (c % 2 ^ 27) ((last + 1) ∷ rest)
+    → byte_out c out ≡ seven_bits_out (c % 2 ^ 27) ((last + 1) ∷ rest)
 unfolding byte_out
 byte_out-carry_full c last out rest e h full = rw (e, full) (grind (arith, nat_tests))
 
 pub byte_out-carry : (c last : ℕ) (out rest : List ℕ) → out ≡ last ∷ rest → (last ≡ 0xFF → ⊥) → 2 ^ 27 ≤ c → (last + 1 ≡ 0xFF → ⊥)
-    → byte_out c out ≡ plain c ((last + 1) ∷ rest)
+    → byte_out c out ≡ eight_bits_out c ((last + 1) ∷ rest)
 unfolding byte_out
 byte_out-carry c last out rest e free h full = rw e (grind (arith, nat_tests))
 
 -- one decision; the code compares it with the likely symbol
-narrowed-likely : (x : Context) (d : Bool) (a c : ℕ) → beq d x.likely ≡ true → narrowed x d a c ≡ narrowed_likely x a c
-unfolding narrowed
+narrowed-likely : (x : Context) (d : Bool) (a c : ℕ) → beq d x.likely ≡ true → narrowed_interval x d a c ≡ narrowed_likely x a c
+unfolding narrowed_interval
 narrowed-likely x d a c e = both d x.likely e
   where
     both : (p q : Bool) → beq p q ≡ true → cond (cond q p (not p)) (narrowed_likely x a c) (narrowed_unlikely x a c) ≡ narrowed_likely x a c
@@ -46,8 +46,8 @@ narrowed-likely x d a c e = both d x.likely e
     both false true h = cc
     both false false h = refl
 
-narrowed-unlikely : (x : Context) (d : Bool) (a c : ℕ) → beq d x.likely ≡ false → narrowed x d a c ≡ narrowed_unlikely x a c
-unfolding narrowed
+narrowed-unlikely : (x : Context) (d : Bool) (a c : ℕ) → beq d x.likely ≡ false → narrowed_interval x d a c ≡ narrowed_unlikely x a c
+unfolding narrowed_interval
 narrowed-unlikely x d a c e = both d x.likely e
   where
     both : (p q : Bool) → beq p q ≡ false → cond (cond q p (not p)) (narrowed_likely x a c) (narrowed_unlikely x a c) ≡ narrowed_unlikely x a c
@@ -57,64 +57,64 @@ narrowed-unlikely x d a c e = both d x.likely e
     both false false h = cc
 
 pub narrowed-quiet : (x : Context) (d : Bool) (a c qe : ℕ) → beq d x.likely ≡ true → (row_of x.row).qe ≡ qe → 0x8000 ≤ a - qe
-    → narrowed x d a c ≡ record { range = a - qe; register = c + qe; context = x; renorm = false }
+    → narrowed_interval x d a c ≡ record { range = a - qe; register = c + qe; context = x; renorm = false }
 unfolding narrowed_likely
 narrowed-quiet x d a c qe e q h = narrowed-likely x d a c e ∙ grind (arith, nat_tests)
 
 pub narrowed-likely_lower : (x : Context) (d : Bool) (a c qe : ℕ) → beq d x.likely ≡ true → (row_of x.row).qe ≡ qe → a - qe < 0x8000 → a - qe < qe
-    → narrowed x d a c ≡ record { range = qe; register = c; context = likely_next x; renorm = true }
+    → narrowed_interval x d a c ≡ record { range = qe; register = c; context = likely_next x; renorm = true }
 unfolding narrowed_likely
 narrowed-likely_lower x d a c qe e q h k = narrowed-likely x d a c e ∙ grind (arith, nat_tests)
 
 pub narrowed-likely_upper : (x : Context) (d : Bool) (a c qe : ℕ) → beq d x.likely ≡ true → (row_of x.row).qe ≡ qe → a - qe < 0x8000 → qe ≤ a - qe
-    → narrowed x d a c ≡ record { range = a - qe; register = c + qe; context = likely_next x; renorm = true }
+    → narrowed_interval x d a c ≡ record { range = a - qe; register = c + qe; context = likely_next x; renorm = true }
 unfolding narrowed_likely
 narrowed-likely_upper x d a c qe e q h k = narrowed-likely x d a c e ∙ grind (arith, nat_tests)
 
 pub narrowed-unlikely_upper : (x : Context) (d : Bool) (a c qe : ℕ) → beq d x.likely ≡ false → (row_of x.row).qe ≡ qe → a - qe < qe
-    → narrowed x d a c ≡ record { range = a - qe; register = c + qe; context = unlikely_next x; renorm = true }
+    → narrowed_interval x d a c ≡ record { range = a - qe; register = c + qe; context = unlikely_next x; renorm = true }
 unfolding narrowed_unlikely
 narrowed-unlikely_upper x d a c qe e q k = narrowed-unlikely x d a c e ∙ grind (arith, nat_tests)
 
 pub narrowed-unlikely_lower : (x : Context) (d : Bool) (a c qe : ℕ) → beq d x.likely ≡ false → (row_of x.row).qe ≡ qe → qe ≤ a - qe
-    → narrowed x d a c ≡ record { range = qe; register = c; context = unlikely_next x; renorm = true }
+    → narrowed_interval x d a c ≡ record { range = qe; register = c; context = unlikely_next x; renorm = true }
 unfolding narrowed_unlikely
 narrowed-unlikely_lower x d a c qe e q k = narrowed-unlikely x d a c e ∙ grind (arith, nat_tests)
 
 -- RENORME
-pub renormed-step : (n a : ℕ) (w : Writer) → a < 0x8000 → renormed (suc n) a w ≡ renormed n (2 * a) (shifted w)
-unfolding renormed
+pub renormed-step : (n a : ℕ) (w : Writer) → a < 0x8000 → renorme (suc n) a w ≡ renorme n (2 * a) (shift_once w)
+unfolding renorme
 renormed-step n a w h = grind (arith, nat_tests)
 
-pub renormed-stop : (n a : ℕ) (w : Writer) → 0x8000 ≤ a → renormed n a w ≡ record { range = a; writer = w }
-unfolding renormed
+pub renormed-stop : (n a : ℕ) (w : Writer) → 0x8000 ≤ a → renorme n a w ≡ record { range = a; writer = w }
+unfolding renorme
 renormed-stop zero a w h = refl
 renormed-stop (suc n) a w h = grind (arith, nat_tests)
 
 -- one shift more than enough changes nothing
-renormed-enough : (n a : ℕ) (w : Writer) → 0x8000 ≤ a * 2 ^ n → renormed (suc n) a w ≡ renormed n a w
+renormed-enough : (n a : ℕ) (w : Writer) → 0x8000 ≤ a * 2 ^ n → renorme (suc n) a w ≡ renorme n a w
 renormed-enough zero a w h = renormed-stop 1 a w (omega arith) ∙ sym (renormed-stop 0 a w (omega arith))
 renormed-enough (suc n) a w h =
     let room : 0x8000 ≤ 2 * a * 2 ^ n = omega (arith, rw pow-suc at h) in
     ⊎_elim
     (λ (l : a < 0x8000).
-    renormed-step (suc n) a w l ∙ renormed-enough n (2 * a) (shifted w) room ∙ sym (renormed-step n a w l))
+    renormed-step (suc n) a w l ∙ renormed-enough n (2 * a) (shift_once w) room ∙ sym (renormed-step n a w l))
     (λ (l : 0x8000 ≤ a). renormed-stop (suc (suc n)) a w l ∙ sym (renormed-stop (suc n) a w l))
     (cases_lt a 0x8000)
 
-pub renormed-turn : (a : ℕ) (w : Writer) → 1 ≤ a → a < 0x8000 → renormed 15 a w ≡ renormed 15 (2 * a) (shifted w)
-renormed-turn a w some half = renormed-step 14 a w half ∙ sym (renormed-enough 14 (2 * a) (shifted w) (omega arith))
+pub renormed-turn : (a : ℕ) (w : Writer) → 1 ≤ a → a < 0x8000 → renorme 15 a w ≡ renorme 15 (2 * a) (shift_once w)
+renormed-turn a w some half = renormed-step 14 a w half ∙ sym (renormed-enough 14 (2 * a) (shift_once w) (omega arith))
 
 -- a decision, by what it makes of A, C and its context
 pub encoding-quiet : (s : Coding) (x y : Context) (d : Bool) (a c : ℕ)
-    → narrowed x d s.range s.writer.register ≡ record { range = a; register = c; context = y; renorm = false }
+    → narrowed_interval x d s.range s.writer.register ≡ record { range = a; register = c; context = y; renorm = false }
     → encoding x d s ≡ record { coding = record { range = a; writer = record s.writer { register = c } }; context = y }
 unfolding encoding
 encoding-quiet s x y d a c e = rw e refl
 
 pub encoding-renorm : (s : Coding) (x y : Context) (d : Bool) (a c : ℕ)
-    → narrowed x d s.range s.writer.register ≡ record { range = a; register = c; context = y; renorm = true }
-    → encoding x d s ≡ record { coding = renormed 15 a (record s.writer { register = c }); context = y }
+    → narrowed_interval x d s.range s.writer.register ≡ record { range = a; register = c; context = y; renorm = true }
+    → encoding x d s ≡ record { coding = renorme 15 a (record s.writer { register = c }); context = y }
 unfolding encoding
 encoding-renorm s x y d a c e = rw e refl
 
@@ -127,13 +127,13 @@ pub is_full-last : (last : ℕ) (out rest : List ℕ) → out ≡ last ∷ rest 
 unfolding is_full
 is_full-last last out rest e = rw e refl
 
-pub closed-full : (bytes : List ℕ) → is_full (reverse bytes) ≡ true → bytes ++ 0xAC ∷ [] ≡ closed (reverse bytes)
-unfolding closed
+pub closed-full : (bytes : List ℕ) → is_full (reverse bytes) ≡ true → bytes ++ 0xAC ∷ [] ≡ with_marker (reverse bytes)
+unfolding with_marker
 closed-full bytes h =
     rw h (sym (reverse-append (0xAC ∷ []) (reverse bytes) ∙ ap (λ (ys : List ℕ). ys ++ 0xAC ∷ []) (reverse-reverse bytes)))
 
-pub closed-plain : (bytes : List ℕ) → is_full (reverse bytes) ≡ false → bytes ++ 0xFF ∷ 0xAC ∷ [] ≡ closed (reverse bytes)
-unfolding closed
+pub closed-plain : (bytes : List ℕ) → is_full (reverse bytes) ≡ false → bytes ++ 0xFF ∷ 0xAC ∷ [] ≡ with_marker (reverse bytes)
+unfolding with_marker
 closed-plain bytes h =
     rw h (sym (reverse-append (0xAC ∷ 0xFF ∷ []) (reverse bytes) ∙ ap (λ (ys : List ℕ). ys ++ 0xFF ∷ 0xAC ∷ []) (reverse-reverse bytes)))
 
@@ -145,8 +145,8 @@ shift-fits c t bound room h =
 pub flushed-code : (s : Coding) (first second : CodeRegister) (bytes more : List ℕ)
     → writer_of bytes first ≡ byte_out (set_bits s.range s.writer.register * 2 ^ s.writer.wait) s.writer.out
     → writer_of more second ≡ byte_out (first.c * 2 ^ first.ct) (reverse bytes)
-    → reverse more ≡ (flushed s).out
-unfolding flushed
+    → reverse more ≡ (flush_coder s).out
+unfolding flush_coder
 flushed-code s first second bytes more e h =
     ap (λ (w : Writer). w.out) h
     ∙ ap (λ (w : Writer). (byte_out (w.register * 2 ^ w.wait) w.out).out) e

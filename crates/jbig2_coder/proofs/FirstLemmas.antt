@@ -15,7 +15,7 @@ use Rattle.jbig2_coder.specs.declared.huffman_table.line.TableLine.{TableLine}
 use Rattle.jbig2_coder.specs.declared.huffman_table.levels.Level.{Level}
 use Rattle.jbig2_coder.specs.declared.huffman_table.first_table.FirstCode.{FirstCode}
 use Rattle.jbig2_coder.specs.PrefixCode.{CodeReading, Reads}
-use Rattle.jbig2_coder.specs.inner.CodeParts.{found_or, refused, ended}
+use Rattle.jbig2_coder.specs.inner.CodeReadings.{found_or, unknown_code, cut_off_code}
 use Rattle.jbig2_coder.specs.inner.PrefixLevels.{nodes, walk, walk_of, groups_of, AreLevels}
 use Rattle.jbig2_coder.specs.inner.FirstCodes.{Begins, AreRight, GoesOn, AreFirst, IsEntry, Enters}
 use Rattle.jbig2_coder.proofs.PrefixReading.{get-take, group-size, level-next, child-of, turned, not_found, bits_on-add}
@@ -135,7 +135,7 @@ depth-on lines levels i code codes d v more at shallow inside small past fewer =
     let child : 2 * n + b - lv.count ≡ m - (2 * code + lv.count) = omega arith in
     opened lines levels i code codes d v more at shallow inside small (omega arith) (omega arith)
     ∙ not_found lines levels i n b rest d are (omega arith)
-    ∙ cond-true (ltb (child-of levels i n b d) lv.nodes) (walk gs (i + 1) (child-of levels i n b d) rest) (refused (i + 1)) (lt-ltb (child-of levels i n b d) lv.nodes (omega arith))
+    ∙ cond-true (ltb (child-of levels i n b d) lv.nodes) (walk gs (i + 1) (child-of levels i n b d) rest) (unknown_code (i + 1)) (lt-ltb (child-of levels i n b d) lv.nodes (omega arith))
     ∙ ap (λ (e : ℕ). walk gs (i + 1) e rest) child
 
 -- one level more
@@ -239,21 +239,21 @@ abbrev deeper : ℕ → CodeReading TableLine → CodeReading TableLine
 deeper k reading = record { result = reading.result; taken = k + reading.taken }
 
 walk-deeper : (gs : List (List TableLine)) (k i d : ℕ) (bits : List ℕ) → walk gs (k + i) d bits ≡ deeper k (walk gs i d bits)
-walk-deeper [] k i d [] = let e : k + i + 1 ≡ k + (i + 1) = omega arith in ap (λ (n : ℕ). ended n) e
-walk-deeper (g ∷ gs) k i d [] = let e : k + i + 1 ≡ k + (i + 1) = omega arith in ap (λ (n : ℕ). ended n) e
-walk-deeper [] k i d (b ∷ bits) = let e : k + i + 1 ≡ k + (i + 1) = omega arith in ap (λ (n : ℕ). refused n) e
+walk-deeper [] k i d [] = let e : k + i + 1 ≡ k + (i + 1) = omega arith in ap (λ (n : ℕ). cut_off_code n) e
+walk-deeper (g ∷ gs) k i d [] = let e : k + i + 1 ≡ k + (i + 1) = omega arith in ap (λ (n : ℕ). cut_off_code n) e
+walk-deeper [] k i d (b ∷ bits) = let e : k + i + 1 ≡ k + (i + 1) = omega arith in ap (λ (n : ℕ). unknown_code n) e
 walk-deeper (g ∷ gs) k i d (b ∷ bits) =
     let e : k + i + 1 ≡ k + (i + 1) = omega arith in
     let c : ℕ = 2 * d + b - length g in
-    ap (λ (n : ℕ). found_or (slice_get g (2 * d + b)) n (cond (ltb c (nodes gs)) (walk gs n c bits) (refused n))) e
-    ∙ found-deeper (slice_get g (2 * d + b)) (cond (ltb c (nodes gs)) (walk gs (k + (i + 1)) c bits) (refused (k + (i + 1)))) (cond (ltb c (nodes gs)) (walk gs (i + 1) c bits) (refused (i + 1))) k (i + 1)
+    ap (λ (n : ℕ). found_or (slice_get g (2 * d + b)) n (cond (ltb c (nodes gs)) (walk gs n c bits) (unknown_code n))) e
+    ∙ found-deeper (slice_get g (2 * d + b)) (cond (ltb c (nodes gs)) (walk gs (k + (i + 1)) c bits) (unknown_code (k + (i + 1)))) (cond (ltb c (nodes gs)) (walk gs (i + 1) c bits) (unknown_code (i + 1))) k (i + 1)
     (cond-deeper (ltb c (nodes gs)) (walk gs (k + (i + 1)) c bits) (walk gs (i + 1) c bits) k (i + 1) (walk-deeper gs k (i + 1) c bits))
   where
     found-deeper : (o : Option TableLine) (x y : CodeReading TableLine) (k n : ℕ) → x ≡ deeper k y → found_or o (k + n) x ≡ deeper k (found_or o n y)
     found-deeper (Some line) x y k n e = refl
     found-deeper None x y k n e = e
 
-    cond-deeper : (t : Bool) (x y : CodeReading TableLine) (k n : ℕ) → x ≡ deeper k y → cond t x (refused (k + n)) ≡ deeper k (cond t y (refused n))
+    cond-deeper : (t : Bool) (x y : CodeReading TableLine) (k n : ℕ) → x ≡ deeper k y → cond t x (unknown_code (k + n)) ≡ deeper k (cond t y (unknown_code n))
     cond-deeper true x y k n e = e
     cond-deeper false x y k n e = refl
 

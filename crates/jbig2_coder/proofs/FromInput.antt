@@ -10,7 +10,7 @@ use Rattle.jbig2_base.specs.declared.error.HuffmanError.TheVariants.{InvalidCode
 use Rattle.jbig2_base.proofs.FromInput.{FromInput, IsFromInput, from_input-if, from_input-some}
 use Rattle.jbig2_base.proofs.Causes.{cause-next}
 use Rattle.jbig2_coder.specs.CustomTable.{Step, result_of, custom_header, custom_line, custom_lines, custom_table, end_lines, field, left_at, next_low, range_lines, range_lines_in}
-use Rattle.jbig2_coder.specs.inner.CodeParts.{ended, is_decided, last_line, found_or, refused, some_value, value_after, valued}
+use Rattle.jbig2_coder.specs.inner.CodeReadings.{cut_off_code, is_decided, last_line, found_or, unknown_code, some_value, value_after, with_value}
 use Rattle.jbig2_coder.specs.PrefixCode.{CodeReading, Member, decoded_value, front_number, in_word, line_of, no_oob, read_code, table_of, value_by}
 use Rattle.jbig2_coder.specs.Tables.{next_custom}
 use Rattle.jbig2_coder.specs.declared.huffman_table.custom.Header.{Header}
@@ -24,7 +24,7 @@ pub from_input-word : (n : ℤ) → FromInput (in_word n)
 from_input-word (pos n) = search from_input-if
 from_input-word (negsuc n) = search from_input-if
 
-from_input-found : (line : Option TableLine) (k : ℕ) → FromInput (found_or line k (refused k)).result
+from_input-found : (line : Option TableLine) (k : ℕ) → FromInput (found_or line k (unknown_code k)).result
 from_input-found (Some line) k = tt
 from_input-found None k = tt
 
@@ -37,7 +37,7 @@ unfolding read_code
 from_input-read_code ms bits =
     let k = place_from (is_decided ms bits) 1 (length bits + 1) in
     let found = line_of ms k (front_number k bits) in
-    from_input-either (ltb (length bits) k) (ended k) (found_or found k (refused k)) tt (from_input-found found k)
+    from_input-either (ltb (length bits) k) (cut_off_code k) (found_or found k (unknown_code k)) tt (from_input-found found k)
 
 from_input-some_value : (r : Result ℤ DecodeError) → FromInput r → FromInput (some_value r)
 from_input-some_value (Ok n) is = tt
@@ -50,7 +50,7 @@ from_input-value_by line (Some offset) = search (from_input-some_value, from_inp
 from_input-value : (line : TableLine) (bits : List ℕ) → FromInput (value_after line bits)
 from_input-value line bits = search (from_input-if, from_input-value_by)
 
-from_input-valued : (result : Result TableLine DecodeError) (taken : ℕ) (bits : List ℕ) → FromInput result → FromInput (valued (record { result = result; taken = taken }) bits).result
+from_input-valued : (result : Result TableLine DecodeError) (taken : ℕ) (bits : List ℕ) → FromInput result → FromInput (with_value (record { result = result; taken = taken }) bits).result
 from_input-valued (Ok line) taken bits is = from_input-value line _
 from_input-valued (Err e) taken bits is = is
 

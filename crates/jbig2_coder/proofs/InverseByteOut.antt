@@ -1,7 +1,7 @@
 -- BYTEOUT changes no number: it moves digits from the register to the bytes.
 use Rattle.std.proofs.Common.{◌≡◌, ℕ, ◌+◌, ◌-◌, ◌*◌, ◌/◌, ◌%◌, ◌^◌, ◌<◌, ◌≤◌, List, [], ◌∷◌, length, refl, sym, ◌∙◌, arith, subst, ⊎_elim, ◌⊎◌, inl, inr}
 use Rattle.std.proofs.lemmas.Bool.{cases_eq, cases_lt}
-use Rattle.jbig2_coder.specs.Encoder.{Writer, plain, stuffed, byte_out}
+use Rattle.jbig2_coder.specs.Encoder.{Writer, eight_bits_out, seven_bits_out, byte_out}
 use Rattle.jbig2_coder.proofs.Encoders.{byte_out-none, byte_out-full, byte_out-below, byte_out-carry_full, byte_out-carry}
 use Rattle.jbig2_coder.proofs.InverseBytes.{width, bits, value, Valid, width-full, width-other}
 
@@ -119,13 +119,13 @@ put-stuffed a c r d s some k e =
 
 -- the two forms of what goes out, by what they amount to
 plain-is : (c d : ℕ) (s : List ℕ) → d % 2 ^ 19 ≡ c % 2 ^ 19 → d / 2 ^ 19 ≡ c / 2 ^ 19 % 256
-    → ◌≡◌ {A = Writer} (record { register = d % 2 ^ 19; wait = 8; out = (d / 2 ^ 19) ∷ s }) (plain c s)
-unfolding plain
+    → ◌≡◌ {A = Writer} (record { register = d % 2 ^ 19; wait = 8; out = (d / 2 ^ 19) ∷ s }) (eight_bits_out c s)
+unfolding eight_bits_out
 plain-is c d s e f = λ i. record { register = e i; wait = 8; out = f i ∷ s }
 
 stuffed-is : (c d : ℕ) (s : List ℕ) → d % 2 ^ 20 ≡ c % 2 ^ 20 → d / 2 ^ 20 ≡ c / 2 ^ 20
-    → ◌≡◌ {A = Writer} (record { register = d % 2 ^ 20; wait = 7; out = (d / 2 ^ 20) ∷ s }) (stuffed c s)
-unfolding stuffed
+    → ◌≡◌ {A = Writer} (record { register = d % 2 ^ 20; wait = 7; out = (d / 2 ^ 20) ∷ s }) (seven_bits_out c s)
+unfolding seven_bits_out
 stuffed-is c d s e f = λ i. record { register = e i; wait = 7; out = f i ∷ s }
 
 put-last : (a c b : ℕ) (r : List ℕ) → 1 ≤ a → Valid (b ∷ r) → Room (c + a) (b ∷ r) → Put a c (b ∷ r) (byte_out c (b ∷ r))

@@ -3,7 +3,7 @@ use Rattle.std.proofs.Common.{◌≡◌, ℕ, zero, suc, ◌+◌, ◌-◌, ◌*�
 use Rattle.std.proofs.lemmas.Bool.{cases_Bool, eqb-true}
 use Rattle.std.proofs.lemmas.List.{reverse-append, reverse-reverse, length-reverse, get_or_at, get_or-append-add}
 use Rattle.jbig2_coder.specs.Coder.{byte_at, byte_in, initial_registers}
-use Rattle.jbig2_coder.specs.Encoder.{opened, is_full, closed}
+use Rattle.jbig2_coder.specs.Encoder.{initial_coding, is_full, with_marker}
 use Rattle.jbig2_coder.specs.declared.arithmetic_decoder.registers.CodeRegister.{CodeRegister}
 use Rattle.jbig2_coder.proofs.Encoders.{is_full-last, closed-full, closed-plain}
 use Rattle.jbig2_coder.proofs.InverseBytes.{Valid, first}
@@ -41,21 +41,21 @@ byte-behind r q bytes n e =
 byte-next : (r q bytes : List ℕ) → bytes ≡ reverse r ++ q → byte_at bytes (length r) ≡ get_or q 0 255
 byte-next r q bytes e = ap (byte_at bytes) (let e : length r ≡ length r + 0 = omega arith in e) ∙ byte-behind r q bytes 0 e
 
-closed-full_is : (r : List ℕ) → is_full r ≡ true → closed r ≡ reverse r ++ 0xAC ∷ []
+closed-full_is : (r : List ℕ) → is_full r ≡ true → with_marker r ≡ reverse r ++ 0xAC ∷ []
 closed-full_is r h =
     let k : is_full (reverse (reverse r)) ≡ true = ap is_full (reverse-reverse r) ∙ h in
-    ap closed (sym (reverse-reverse r)) ∙ sym (closed-full (reverse r) k)
+    ap with_marker (sym (reverse-reverse r)) ∙ sym (closed-full (reverse r) k)
 
-closed-plain_is : (r : List ℕ) → is_full r ≡ false → closed r ≡ reverse r ++ 0xFF ∷ 0xAC ∷ []
+closed-plain_is : (r : List ℕ) → is_full r ≡ false → with_marker r ≡ reverse r ++ 0xFF ∷ 0xAC ∷ []
 closed-plain_is r h =
     let k : is_full (reverse (reverse r)) ≡ false = ap is_full (reverse-reverse r) ∙ h in
-    ap closed (sym (reverse-reverse r)) ∙ sym (closed-plain (reverse r) k)
+    ap with_marker (sym (reverse-reverse r)) ∙ sym (closed-plain (reverse r) k)
 
-pub first-closed : (r : List ℕ) → first (byte_at (closed r)) (length r) ≡ r
+pub first-closed : (r : List ℕ) → first (byte_at (with_marker r)) (length r) ≡ r
 first-closed r =
     ⊎_elim
-    (λ (h : is_full r ≡ true). first-reverse r (0xAC ∷ []) (closed r) (closed-full_is r h))
-    (λ (h : is_full r ≡ false). first-reverse r (0xFF ∷ 0xAC ∷ []) (closed r) (closed-plain_is r h))
+    (λ (h : is_full r ≡ true). first-reverse r (0xAC ∷ []) (with_marker r) (closed-full_is r h))
+    (λ (h : is_full r ≡ false). first-reverse r (0xFF ∷ 0xAC ∷ []) (with_marker r) (closed-plain_is r h))
     (cases_Bool (is_full r))
 
 last-full : (f : ℕ → ℕ) (r : List ℕ) (n : ℕ) → first f (length r) ≡ r → length r ≡ suc n → is_full r ≡ true → f n ≡ 255
@@ -64,24 +64,24 @@ last-full f r n e l h =
     eqb-true (f n) 255 (sym (is_full-last (f n) r (first f n) s) ∙ h)
 
 -- after the bytes comes a marker
-pub Closing-closed : (r : List ℕ) → Valid r → Closing (byte_at (closed r)) (length r)
+pub Closing-closed : (r : List ℕ) → Valid r → Closing (byte_at (with_marker r)) (length r)
 Closing-closed r valid =
-    let f : ℕ → ℕ = byte_at (closed r) in
+    let f : ℕ → ℕ = byte_at (with_marker r) in
     let whole : first f (length r) ≡ r = first-closed r in
     let v : Valid (first f (length r)) = subst Valid (sym whole) valid in
     ⊎_elim
     (λ (h : is_full r ≡ true).
-    let e : closed r ≡ reverse r ++ 0xAC ∷ [] = closed-full_is r h in
-    let next : f (length r) ≡ 0xAC = byte-next r (0xAC ∷ []) (closed r) e in
+    let e : with_marker r ≡ reverse r ++ 0xAC ∷ [] = closed-full_is r h in
+    let next : f (length r) ≡ 0xAC = byte-next r (0xAC ∷ []) (with_marker r) e in
     record {
       valid = v;
       full = λ n l k. omega (arith, next);
       other = λ n l k. absurd (k (last-full f r n whole l h));
     })
     (λ (h : is_full r ≡ false).
-    let e : closed r ≡ reverse r ++ 0xFF ∷ 0xAC ∷ [] = closed-plain_is r h in
-    let next : f (length r) ≡ 0xFF = byte-next r (0xFF ∷ 0xAC ∷ []) (closed r) e in
-    let after : f (length r + 1) ≡ 0xAC = byte-behind r (0xFF ∷ 0xAC ∷ []) (closed r) 1 e in
+    let e : with_marker r ≡ reverse r ++ 0xFF ∷ 0xAC ∷ [] = closed-plain_is r h in
+    let next : f (length r) ≡ 0xFF = byte-next r (0xFF ∷ 0xAC ∷ []) (with_marker r) e in
+    let after : f (length r + 1) ≡ 0xAC = byte-behind r (0xFF ∷ 0xAC ∷ []) (with_marker r) 1 e in
     record {
       valid = v;
       full = λ n l k. omega (arith, next);
@@ -116,9 +116,9 @@ first-byte f zero h v = absurd (omega arith)
 first-byte f (suc zero) h v = v.0
 first-byte f (suc (suc m)) h v = first-byte f (suc m) (omega arith) v.2
 
-pub start : (bytes : List ℕ) (m : ℕ) → Closing (byte_at bytes) m → KnowsAt (byte_at bytes) m opened.range opened.writer
-    → Together (byte_at bytes) m opened (initial_registers bytes)
-unfolding initial_registers opened
+pub start : (bytes : List ℕ) (m : ℕ) → Closing (byte_at bytes) m → KnowsAt (byte_at bytes) m initial_coding.range initial_coding.writer
+    → Together (byte_at bytes) m initial_coding (initial_registers bytes)
+unfolding initial_registers initial_coding
 start bytes m closing know =
     let f : ℕ → ℕ = byte_at bytes in
     let b : f 0 ≤ 255 = first-byte f m know.some closing.valid in

@@ -3,8 +3,8 @@ use Rattle.std.proofs.Common.{◌≡◌, ℕ, ◌+◌, ◌-◌, ◌*◌, ◌%◌
 use Rattle.std.proofs.Math.Nat.{le_of_mul-le-mul_right}
 use Rattle.std.proofs.lemmas.Nat.{pow_pos}
 use Rattle.std.proofs.lemmas.Bool.{cases_Bool}
-use Rattle.jbig2_coder.specs.Coder.{Context, Decision, Registers, byte_at, choice, decision, renormed}
-use Rattle.jbig2_coder.specs.Encoder.{Writer, Coding, encoding, renormed as encoder_renormed}
+use Rattle.jbig2_coder.specs.Coder.{Context, Decision, Registers, byte_at, choice, decision, renormd}
+use Rattle.jbig2_coder.specs.Encoder.{Writer, Coding, encoding, renorme}
 use Rattle.jbig2_coder.specs.inner.EncoderViews.{Encoding}
 use Rattle.jbig2_coder.specs.declared.arithmetic_decoder.registers.CodeRegister.{CodeRegister}
 use Rattle.jbig2_coder.proofs.InverseByteOut.{low, time}
@@ -88,7 +88,7 @@ decision-quiet_is bytes r x y d a c e = rw e refl
 
 decision-renorm_is : (bytes : List ℕ) (r : Registers) (x y : Context) (d : Bool) (a c : ℕ)
     → choice x r.a r.code.c ≡ record { symbol = d; a = a; c = c; context = y; renorm = true }
-    → decision bytes r x ≡ record { symbol = d; registers = renormed bytes 15 a (record r.code { c = c }); context = y }
+    → decision bytes r x ≡ record { symbol = d; registers = renormd bytes 15 a (record r.code { c = c }); context = y }
 unfolding decision
 decision-renorm_is bytes r x y d a c e = rw e refl
 
@@ -114,10 +114,10 @@ tell-renorm bytes m x d s n r v closing b same e p know =
     let w : Writer = at_part x d s n in
     let chosen : choice x r.a r.code.c ≡ record { symbol = d; a = n.range; c = p.c; context = n.next; renorm = true } =
     ap (λ a. choice x a r.code.c) same ∙ p.chosen ∙ (λ i. record { symbol = d; a = n.range; c = p.c; context = n.next; renorm = e i }) in
-    let later : KnowsAt (byte_at bytes) m (encoder_renormed 15 n.range w).range (encoder_renormed 15 n.range w).writer =
+    let later : KnowsAt (byte_at bytes) m (renorme 15 n.range w).range (renorme 15 n.range w).writer =
     subst (λ (t : Encoding). KnowsAt (byte_at bytes) m t.coding.range t.coding.writer) (encoding-renorm_is x d s n e) know in
     subst (λ (t : Encoding). IfResult bytes m d t (decision bytes r x)) (sym (encoding-renorm_is x d s n e))
-    (subst (IfResult bytes m d (record { coding = encoder_renormed 15 n.range w; context = n.next })) (sym (decision-renorm_is bytes r x n.next d n.range p.c chosen))
+    (subst (IfResult bytes m d (record { coding = renorme 15 n.range w; context = n.next })) (sym (decision-renorm_is bytes r x n.next d n.range p.c chosen))
     (record {
       symbol = refl;
       context = refl;

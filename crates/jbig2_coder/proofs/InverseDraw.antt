@@ -3,8 +3,8 @@
 use Rattle.std.proofs.Common.{◌≡◌, ℕ, zero, suc, ◌+◌, ◌-◌, ◌*◌, ◌%◌, ◌^◌, ◌<◌, ◌≤◌, List, refl, sym, ap, ◌∙◌, arith, subst, ⊎_elim, ◌⊎◌, inl}
 use Rattle.std.proofs.Math.Nat.{pow-suc, lt_of_mul-lt-mul_right}
 use Rattle.std.proofs.lemmas.Bool.{cases_eq, cases_lt}
-use Rattle.jbig2_coder.specs.Coder.{Registers, byte_at, byte_in, filled, doubled, renormed}
-use Rattle.jbig2_coder.specs.Encoder.{Writer, Coding, shifted, renormed as encoder_renormed}
+use Rattle.jbig2_coder.specs.Coder.{Registers, byte_at, byte_in, byte_in_if_empty, shift_left, renormd}
+use Rattle.jbig2_coder.specs.Encoder.{Writer, Coding, shift_once, renorme}
 use Rattle.jbig2_coder.specs.declared.arithmetic_decoder.registers.CodeRegister.{CodeRegister}
 use Rattle.jbig2_coder.proofs.Encoders.{renormed-step as encoder-step, renormed-stop as encoder-stop}
 use Rattle.jbig2_coder.proofs.Renorm.{filled-some, filled-none, renormed-step, renormed-stop}
@@ -62,7 +62,7 @@ fill-none bytes m a w r v closing small e h know =
     }
 
 fill : (bytes : List ℕ) (m a : ℕ) (w : Writer) (r : CodeRegister) (v : ℕ) → Closing (byte_at bytes) m → a ≤ 0x10000
-    → FollowsAt (byte_at bytes) m a w r v → KnowsAt (byte_at bytes) m a w → Filled (byte_at bytes) m a w (filled bytes r)
+    → FollowsAt (byte_at bytes) m a w r v → KnowsAt (byte_at bytes) m a w → Filled (byte_at bytes) m a w (byte_in_if_empty bytes r)
 fill bytes m a w r v closing small h know =
     ⊎_elim
     (λ (e : r.ct ≡ 0). subst (Filled (byte_at bytes) m a w) (sym (filled-none bytes r e)) (fill-none bytes m a w r v closing small e h know))
@@ -80,8 +80,8 @@ double-code c v s hi some e =
 
 -- one shift on both sides
 double : (f : ℕ → ℕ) (m a : ℕ) (w w2 : Writer) (r : CodeRegister) (v : ℕ) → a < 0x8000 → 1 ≤ r.ct → Shift a w w2
-    → FollowsAt f m a w r v → KnowsAt f m a w → FollowsAt f m (2 * a) w2 (doubled r) v
-unfolding doubled
+    → FollowsAt f m a w r v → KnowsAt f m a w → FollowsAt f m (2 * a) w2 (shift_left r) v
+unfolding shift_left
 double f m a w w2 r v half some s h know =
     let b : r.c < a * 2 ^ 16 = Follows-below f m a w r v h know in
     let whole : 2 * r.c % 2 ^ 32 ≡ 2 * r.c = omega arith in
@@ -102,35 +102,35 @@ pub record Together (f : ℕ → ℕ) (m : ℕ) (s : Coding) (d : Registers) : T
   pub follows : FollowsAt f m s.range s.writer d.code number
 
 together-stop : (bytes : List ℕ) (m n a : ℕ) (w : Writer) (r : CodeRegister) (v : ℕ) → 0x8000 ≤ a → FollowsAt (byte_at bytes) m a w r v
-    → Together (byte_at bytes) m (encoder_renormed n a w) (renormed bytes n a r)
+    → Together (byte_at bytes) m (renorme n a w) (renormd bytes n a r)
 together-stop bytes m n a w r v h follows =
     let f : ℕ → ℕ = byte_at bytes in
-    subst (λ (s : Coding). Together f m s (renormed bytes n a r)) (sym (encoder-stop n a w h))
+    subst (λ (s : Coding). Together f m s (renormd bytes n a r)) (sym (encoder-stop n a w h))
     (subst (λ (d : Registers). Together f m (record { range = a; writer = w }) d) (sym (renormed-stop bytes n a r h))
     (record { number = v; same = refl; follows = follows }))
 
 pub together : (bytes : List ℕ) (m n a : ℕ) (w : Writer) (r : CodeRegister) (v : ℕ) → Closing (byte_at bytes) m
     → Bounded a w → 1 ≤ w.wait → (w.wait ≤ 11) ⊎ (a < 0x8000) → a < 0x10000 → 0x8000 ≤ a * 2 ^ n
-    → KnowsAt (byte_at bytes) m (encoder_renormed n a w).range (encoder_renormed n a w).writer
+    → KnowsAt (byte_at bytes) m (renorme n a w).range (renorme n a w).writer
     → FollowsAt (byte_at bytes) m a w r v
-    → Together (byte_at bytes) m (encoder_renormed n a w) (renormed bytes n a r)
+    → Together (byte_at bytes) m (renorme n a w) (renormd bytes n a r)
 together bytes m zero a w r v closing b some few below enough know follows = together-stop bytes m zero a w r v (omega arith) follows
 together bytes m (suc n) a w r v closing b some few below enough know follows =
     let f : ℕ → ℕ = byte_at bytes in
     ⊎_elim
     (λ (half : a < 0x8000).
-    let s : Shift a w (shifted w) = shift a w b some half in
+    let s : Shift a w (shift_once w) = shift a w b some half in
     let room : 0x8000 ≤ 2 * a * 2 ^ n = omega (arith, rw pow-suc at enough) in
-    let back : Renorm a w (encoder_renormed (suc n) a w) = renorm (suc n) a w b some few below enough in
+    let back : Renorm a w (renorme (suc n) a w) = renorm (suc n) a w b some few below enough in
     let here : KnowsAt f m a w = back.back f m know in
-    let next : Filled f m a w (filled bytes r) = fill bytes m a w r v closing (omega arith) follows here in
-    let more : FollowsAt f m (2 * a) (shifted w) (doubled (filled bytes r)) next.number =
-    double f m a w (shifted w) (filled bytes r) next.number half next.some s next.follows here in
-    let later : KnowsAt f m (encoder_renormed n (2 * a) (shifted w)).range (encoder_renormed n (2 * a) (shifted w)).writer =
+    let next : Filled f m a w (byte_in_if_empty bytes r) = fill bytes m a w r v closing (omega arith) follows here in
+    let more : FollowsAt f m (2 * a) (shift_once w) (shift_left (byte_in_if_empty bytes r)) next.number =
+    double f m a w (shift_once w) (byte_in_if_empty bytes r) next.number half next.some s next.follows here in
+    let later : KnowsAt f m (renorme n (2 * a) (shift_once w)).range (renorme n (2 * a) (shift_once w)).writer =
     subst (λ (z : Coding). KnowsAt f m z.range z.writer) (encoder-step n a w half) know in
-    let rest : Together f m (encoder_renormed n (2 * a) (shifted w)) (renormed bytes n (2 * a) (doubled (filled bytes r))) =
-    together bytes m n (2 * a) (shifted w) (doubled (filled bytes r)) next.number closing s.bounded s.some (inl s.few) (omega arith) room later more in
-    subst (λ (z : Coding). Together f m z (renormed bytes (suc n) a r)) (sym (encoder-step n a w half))
-    (subst (λ (z : Registers). Together f m (encoder_renormed n (2 * a) (shifted w)) z) (sym (renormed-step bytes n a r half)) rest))
+    let rest : Together f m (renorme n (2 * a) (shift_once w)) (renormd bytes n (2 * a) (shift_left (byte_in_if_empty bytes r))) =
+    together bytes m n (2 * a) (shift_once w) (shift_left (byte_in_if_empty bytes r)) next.number closing s.bounded s.some (inl s.few) (omega arith) room later more in
+    subst (λ (z : Coding). Together f m z (renormd bytes (suc n) a r)) (sym (encoder-step n a w half))
+    (subst (λ (z : Registers). Together f m (renorme n (2 * a) (shift_once w)) z) (sym (renormed-step bytes n a r half)) rest))
     (λ (normal : 0x8000 ≤ a). together-stop bytes m (suc n) a w r v normal follows)
     (cases_lt a 0x8000)

@@ -2,7 +2,7 @@
 use Rattle.std.proofs.Common.{◌≡◌, ℕ, ◌+◌, ◌*◌, ◌^◌, ◌<◌, ◌≤◌, Bool, true, false, List, [], ◌∷◌, refl, sym, ◌∙◌, arith, subst, ⊎_elim, ◌⊎◌, inl, inr, mul-le-mul_right}
 use Rattle.std.proofs.lemmas.Bool.{cases_Bool}
 use Rattle.jbig2_coder.specs.Coder.{Context}
-use Rattle.jbig2_coder.specs.Encoder.{Writer, Coding, opened, renormed, encoding, flushed, with_context, encode_from}
+use Rattle.jbig2_coder.specs.Encoder.{Writer, Coding, initial_coding, renorme, encoding, flush_coder, with_context, encode_from}
 use Rattle.jbig2_coder.specs.inner.EncoderViews.{Contexts, Encoding}
 use Rattle.jbig2_coder.proofs.Encoders.{encoding-quiet, encoding-renorm}
 use Rattle.jbig2_coder.proofs.InverseByteOut.{low, time, Room-le, Bounded}
@@ -19,12 +19,12 @@ pub record Begun (s : Coding) : Type 0 where
   pub normal : 0x8000 ≤ s.range
   pub below : s.range < 0x10000
 
-pub Resting-begun : (s : Coding) → Resting s → Begun s
-Resting-begun s r = record { bounded = r.bounded; some = r.some; few = inl r.few; normal = r.normal; below = r.below }
+pub Resting-opening : (s : Coding) → Resting s → Begun s
+Resting-opening s r = record { bounded = r.bounded; some = r.some; few = inl r.few; normal = r.normal; below = r.below }
 
-pub opened-begun : Begun opened
-unfolding opened
-opened-begun =
+pub opened-opening : Begun initial_coding
+unfolding initial_coding
+opened-opening =
     record {
       bounded = record { some = omega arith; few = omega arith; room = omega arith; valid = tt };
       some = omega arith;
@@ -72,9 +72,9 @@ entry-quiet x d s n b e =
     }
 
 entry-renorm : (x : Context) (d : Bool) (s : Coding) (n : Narrowing x d s.range s.writer.register) → Begun s → n.renorm ≡ true
-    → Entry x d s n (renormed 15 n.range (at_part x d s n))
+    → Entry x d s n (renorme 15 n.range (at_part x d s n))
 entry-renorm x d s n b e =
-    let r : Renorm n.range (at_part x d s n) (renormed 15 n.range (at_part x d s n)) =
+    let r : Renorm n.range (at_part x d s n) (renorme 15 n.range (at_part x d s n)) =
     renorm 15 n.range (at_part x d s n) (part-bounded x d s n b) b.some (inr (n.moves e)) n.below (omega (arith, n.some)) in
     record { resting = r.resting; renorm = r.back; narrow = part-back x d s n }
 
@@ -86,7 +86,7 @@ encoding-quiet_is x d s n e =
     (n.is ∙ (λ i. record { range = n.range; register = n.register; context = n.next; renorm = e i }))
 
 pub encoding-renorm_is : (x : Context) (d : Bool) (s : Coding) (n : Narrowing x d s.range s.writer.register) → n.renorm ≡ true
-    → encoding x d s ≡ record { coding = renormed 15 n.range (at_part x d s n); context = n.next }
+    → encoding x d s ≡ record { coding = renorme 15 n.range (at_part x d s n); context = n.next }
 encoding-renorm_is x d s n e =
     encoding-renorm s x n.next d n.range n.register
     (n.is ∙ (λ i. record { range = n.range; register = n.register; context = n.next; renorm = e i }))
@@ -115,15 +115,15 @@ unfolding encode_from
 encode_from-none s contexts = refl
 
 -- the bytes of a list from here on, and what they know of the interval here
-pub encode-back : (es : List (ℕ × Bool)) (s : Coding) (contexts : Contexts) → Resting s → Flush s (flushed (encode_from s contexts es))
-encode-back [] s contexts rest = subst (λ (t : Coding). Flush s (flushed t)) (sym (encode_from-none s contexts)) (flush s rest)
+pub encode-back : (es : List (ℕ × Bool)) (s : Coding) (contexts : Contexts) → Resting s → Flush s (flush_coder (encode_from s contexts es))
+encode-back [] s contexts rest = subst (λ (t : Coding). Flush s (flush_coder t)) (sym (encode_from-none s contexts)) (flush s rest)
 encode-back (e ∷ es) s contexts rest =
     let x : Context = contexts e.0 in
-    let b : Begun s = Resting-begun s rest in
+    let b : Begun s = Resting-opening s rest in
     let n : Narrowing x e.1 s.range s.writer.register = narrowing_of x e.1 s b in
     let t : Encoding = encoding x e.1 s in
     let i : Entry x e.1 s n t.coding = entry x e.1 s n b in
-    let h : Flush t.coding (flushed (encode_from t.coding (with_context contexts e.0 t.context) es)) =
+    let h : Flush t.coding (flush_coder (encode_from t.coding (with_context contexts e.0 t.context) es)) =
     encode-back es t.coding (with_context contexts e.0 t.context) i.resting in
-    subst (λ (z : Coding). Flush s (flushed z)) (sym (encode_from-entry s contexts e es))
+    subst (λ (z : Coding). Flush s (flush_coder z)) (sym (encode_from-entry s contexts e es))
     (record { valid = h.valid; back = λ f m len whole. i.narrow f m (i.renorm f m (h.back f m len whole)) })

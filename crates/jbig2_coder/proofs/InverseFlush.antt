@@ -4,7 +4,7 @@ use Rattle.std.proofs.Common.{◌≡◌, ℕ, suc, ◌+◌, ◌-◌, ◌*◌, �
 use Rattle.std.proofs.Math.Nat.{pow-suc, pow-le-pow_right}
 use Rattle.std.proofs.lemmas.Nat.{pow_pos, pow-add}
 use Rattle.std.proofs.lemmas.Bool.{cond_both, leb-true, leb-false}
-use Rattle.jbig2_coder.specs.Encoder.{Writer, Coding, byte_out, set_bits, flushed}
+use Rattle.jbig2_coder.specs.Encoder.{Writer, Coding, byte_out, set_bits, flush_coder}
 use Rattle.jbig2_coder.proofs.InverseBytes.{bits, value, first, Valid}
 use Rattle.jbig2_coder.proofs.InverseByteOut.{low, time, Room-le, Bounded, Put}
 use Rattle.jbig2_coder.proofs.InverseKnows.{Headed, Knows, Knows-wider, Headed-grown, last-byte, above-out}
@@ -144,8 +144,8 @@ pub record Flush (s : Coding) (w : Writer) : Type 0 where
   pub valid : Valid w.out
   pub back : (f : ℕ → ℕ) (m : ℕ) → length w.out ≡ m → first f m ≡ w.out → KnowsAt f m s.range s.writer
 
-pub flush : (s : Coding) → Resting s → Flush s (flushed s)
-unfolding flushed
+pub flush : (s : Coding) → Resting s → Flush s (flush_coder s)
+unfolding flush_coder
 flush s rest =
     let w : Writer = s.writer in
     let n : ℕ = set_bits s.range w.register in

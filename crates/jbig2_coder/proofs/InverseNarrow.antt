@@ -5,7 +5,7 @@ use mathlib.Core.Bool.{beq}
 use Rattle.std.proofs.lemmas.Bool.{cases_lt, cases_Bool}
 use Rattle.jbig2_coder.specs.Table.{row_of}
 use Rattle.jbig2_coder.specs.Coder.{Context, Choice, choice, likely_next, unlikely_next}
-use Rattle.jbig2_coder.specs.Encoder.{narrowed}
+use Rattle.jbig2_coder.specs.Encoder.{narrowed_interval}
 use Rattle.jbig2_coder.proofs.Rows.{IsRow, row_of-is_row}
 use Rattle.jbig2_coder.proofs.Encoders.{narrowed-quiet, narrowed-likely_lower, narrowed-likely_upper, narrowed-unlikely_upper, narrowed-unlikely_lower}
 use Rattle.jbig2_coder.proofs.Choices.{choice-quiet, choice-upper_unlikely, choice-upper_likely, choice-lower_likely, choice-lower_unlikely}
@@ -28,7 +28,7 @@ pub record Narrowing (x : Context) (d : Bool) (a c : ℕ) : Type 0 where
   pub register : ℕ
   pub next : Context
   pub renorm : Bool
-  pub is : narrowed x d a c ≡ record { range = range; register = register; context = next; renorm = renorm }
+  pub is : narrowed_interval x d a c ≡ record { range = range; register = register; context = next; renorm = renorm }
   pub some : 1 ≤ range
   pub low : c ≤ register
   pub high : register + range ≤ c + a
@@ -80,7 +80,7 @@ likely-quiet x d a c e below h =
 
 -- a decision that takes the lower part, and one that takes the upper part, where A is renormalized
 takes-lower : (x : Context) (d : Bool) (a c : ℕ) (y : Context) → 0x8000 ≤ a → a < 0x10000
-    → narrowed x d a c ≡ record { range = (row_of x.row).qe; register = c; context = y; renorm = true }
+    → narrowed_interval x d a c ≡ record { range = (row_of x.row).qe; register = c; context = y; renorm = true }
     → ((r : ℕ) → a - (row_of x.row).qe ≤ r / 2 ^ 16
     → choice x a r ≡ record { symbol = d; a = (row_of x.row).qe; c = (r + (2 ^ 32 - (a - (row_of x.row).qe) * 2 ^ 16)) % 2 ^ 32; context = y; renorm = true })
     → Narrowing x d a c
@@ -103,7 +103,7 @@ takes-lower x d a c y normal below is chosen =
     }
 
 takes-upper : (x : Context) (d : Bool) (a c : ℕ) (y : Context) → 0x8000 ≤ a → a < 0x10000 → a - (row_of x.row).qe < 0x8000
-    → narrowed x d a c ≡ record { range = a - (row_of x.row).qe; register = c + (row_of x.row).qe; context = y; renorm = true }
+    → narrowed_interval x d a c ≡ record { range = a - (row_of x.row).qe; register = c + (row_of x.row).qe; context = y; renorm = true }
     → ((r : ℕ) → r / 2 ^ 16 < a - (row_of x.row).qe
     → choice x a r ≡ record { symbol = d; a = a - (row_of x.row).qe; c = r; context = y; renorm = true })
     → Narrowing x d a c

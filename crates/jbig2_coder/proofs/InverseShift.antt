@@ -3,7 +3,7 @@ use Rattle.std.proofs.Common.{◌≡◌, ℕ, zero, suc, ◌+◌, ◌-◌, ◌*�
 use Rattle.std.proofs.Math.Nat.{pow-suc}
 use Rattle.std.proofs.lemmas.Nat.{pow_pos, pow-add}
 use Rattle.std.proofs.lemmas.Bool.{cases_eq, cases_lt, cond-true, cond-false, eq-eqb, ne_eqb}
-use Rattle.jbig2_coder.specs.Encoder.{Writer, Coding, byte_out, shifted, renormed}
+use Rattle.jbig2_coder.specs.Encoder.{Writer, Coding, byte_out, shift_once, renorme}
 use Rattle.jbig2_coder.proofs.Encoders.{renormed-step, renormed-stop}
 use Rattle.jbig2_coder.proofs.InverseByteOut.{low, time, Room, Bounded, Put, put}
 use Rattle.jbig2_coder.proofs.InverseKnows.{Knows, Knows-scaled, Knows-put}
@@ -70,15 +70,15 @@ pub record Shift (a : ℕ) (w w2 : Writer) : Type 0 where
   pub moment : time w2 ≡ time w + 1
   pub back : (f : ℕ → ℕ) (m : ℕ) → KnowsAt f m (2 * a) w2 → KnowsAt f m a w
 
-shifted-is : (w : Writer) → (w.wait ≡ 1 → ⊥) → 1 ≤ w.wait → shifted w ≡ record { register = w.register * 2; wait = w.wait - 1; out = w.out }
-unfolding shifted
+shifted-is : (w : Writer) → (w.wait ≡ 1 → ⊥) → 1 ≤ w.wait → shift_once w ≡ record { register = w.register * 2; wait = w.wait - 1; out = w.out }
+unfolding shift_once
 shifted-is w n some =
     let e : 2 * w.register ≡ w.register * 2 = omega arith in
     cond-false (eqb (w.wait - 1) 0) _ _ (ne_eqb (w.wait - 1) 0 (λ z. n (omega arith)))
     ∙ (λ i. record { register = e i; wait = w.wait - 1; out = w.out })
 
-shifted-put : (w : Writer) → w.wait ≡ 1 → shifted w ≡ byte_out (w.register * 2) w.out
-unfolding shifted
+shifted-put : (w : Writer) → w.wait ≡ 1 → shift_once w ≡ byte_out (w.register * 2) w.out
+unfolding shift_once
 shifted-put w h =
     let e : 2 * w.register ≡ w.register * 2 = omega arith in
     let z : w.wait - 1 ≡ 0 = omega arith in
@@ -125,7 +125,7 @@ shift-put a w w2 b e half p =
     }
 
 -- one shift of RENORME
-pub shift : (a : ℕ) (w : Writer) → Bounded a w → 1 ≤ w.wait → a < 0x8000 → Shift a w (shifted w)
+pub shift : (a : ℕ) (w : Writer) → Bounded a w → 1 ≤ w.wait → a < 0x8000 → Shift a w (shift_once w)
 shift a w b h half =
     ⊎_elim
     (λ (e : w.wait ≡ 1).
@@ -148,21 +148,21 @@ pub record Renorm (a : ℕ) (w : Writer) (s : Coding) : Type 0 where
   pub resting : Resting s
   pub back : (f : ℕ → ℕ) (m : ℕ) → KnowsAt f m s.range s.writer → KnowsAt f m a w
 
-renorm-stop : (n a : ℕ) (w : Writer) → Bounded a w → 1 ≤ w.wait → w.wait ≤ 11 → a < 0x10000 → 0x8000 ≤ a → Renorm a w (renormed n a w)
+renorm-stop : (n a : ℕ) (w : Writer) → Bounded a w → 1 ≤ w.wait → w.wait ≤ 11 → a < 0x10000 → 0x8000 ≤ a → Renorm a w (renorme n a w)
 renorm-stop n a w b h few below normal =
     subst (Renorm a w) (sym (renormed-stop n a w normal))
     (record { resting = record { bounded = b; some = h; few = few; normal = normal; below = below }; back = λ f m know. know })
 
 pub renorm : (n a : ℕ) (w : Writer) → Bounded a w → 1 ≤ w.wait → (w.wait ≤ 11) ⊎ (a < 0x8000) → a < 0x10000 → 0x8000 ≤ a * 2 ^ n
-    → Renorm a w (renormed n a w)
+    → Renorm a w (renorme n a w)
 renorm zero a w b h few below enough = renorm-stop zero a w b h (omega (arith, few)) below (omega arith)
 renorm (suc n) a w b h few below enough =
     ⊎_elim
     (λ (half : a < 0x8000).
-    let s : Shift a w (shifted w) = shift a w b h half in
+    let s : Shift a w (shift_once w) = shift a w b h half in
     let room : 0x8000 ≤ 2 * a * 2 ^ n = omega (arith, rw pow-suc at enough) in
-    let r : Renorm (2 * a) (shifted w) (renormed n (2 * a) (shifted w)) =
-    renorm n (2 * a) (shifted w) s.bounded s.some (inl s.few) (omega arith) room in
+    let r : Renorm (2 * a) (shift_once w) (renorme n (2 * a) (shift_once w)) =
+    renorm n (2 * a) (shift_once w) s.bounded s.some (inl s.few) (omega arith) room in
     subst (Renorm a w) (sym (renormed-step n a w half)) (record { resting = r.resting; back = λ f m know. s.back f m (r.back f m know) }))
     (λ (normal : 0x8000 ≤ a). renorm-stop (suc n) a w b h (omega (arith, few)) below normal)
     (cases_lt a 0x8000)

@@ -7,7 +7,7 @@ use Rattle.jbig2_base.specs.declared.error.DecodeError.{DecodeError}
 use Rattle.jbig2_base.specs.Results.{Gives}
 use Rattle.jbig2_base.specs.Grid.{bit_number}
 use Rattle.jbig2_coder.specs.Coder.{Coder, Context, Decision, Registers, fresh, decision, initial_registers}
-use Rattle.jbig2_coder.specs.Encoder.{Coding, opened, encoding, flushed, closed, with_context, encode_from, encoded, decoded_from, read_back}
+use Rattle.jbig2_coder.specs.Encoder.{Coding, initial_coding, encoding, flush_coder, with_marker, with_context, encode_from, encoded_bytes, decoded_from, read_back}
 use Rattle.jbig2_coder.specs.inner.EncoderViews.{Contexts, all_fresh, contexts_of}
 
 pub contexts_of-fresh : (known : List Context) → ((k : ℕ) → k < length known → get_or known k fresh ≡ fresh) → contexts_of known ≡ all_fresh
@@ -111,8 +111,8 @@ decoded-done d bytes asked contexts i out e h =
     e ∙ ap (λ (ys : List Bool). out ++ ys) (decoded_from-end d contexts (drop i asked) (drop_all i asked h)) ∙ append-nil out
 
 -- the loop that writes one
-pub encode_from-begin : (s : Coding) (known : List Context) (entries : List (ℕ × Bool)) → s ≡ opened → contexts_of known ≡ all_fresh
-    → encode_from opened all_fresh entries ≡ encode_from s (contexts_of known) entries
+pub encode_from-begin : (s : Coding) (known : List Context) (entries : List (ℕ × Bool)) → s ≡ initial_coding → contexts_of known ≡ all_fresh
+    → encode_from initial_coding all_fresh entries ≡ encode_from s (contexts_of known) entries
 encode_from-begin s known entries e fresh_ones = λ j. encode_from (sym e j) (sym fresh_ones j) entries
 
 encode_from-end : (s : Coding) (contexts : Contexts) (entries : List (ℕ × Bool)) → entries ≡ [] → encode_from s contexts entries ≡ s
@@ -120,11 +120,11 @@ unfolding encode_from
 encode_from-end s contexts entries e = rw e refl
 
 pub encoded-done : (s : Coding) (contexts : Contexts) (entries : List (ℕ × Bool)) (i : ℕ)
-    → encode_from opened all_fresh entries ≡ encode_from s contexts (drop i entries) → length entries ≤ i
-    → closed (flushed s).out ≡ encoded entries
-unfolding encoded
+    → encode_from initial_coding all_fresh entries ≡ encode_from s contexts (drop i entries) → length entries ≤ i
+    → with_marker (flush_coder s).out ≡ encoded_bytes entries
+unfolding encoded_bytes
 encoded-done s contexts entries i e h =
-    ap (λ (t : Coding). closed (flushed t).out) (sym (e ∙ encode_from-end s contexts (drop i entries) (drop_all i entries h)))
+    ap (λ (t : Coding). with_marker (flush_coder t).out) (sym (e ∙ encode_from-end s contexts (drop i entries) (drop_all i entries h)))
 
 pub same_ok : {X : Type 0} (x y : X) → x ≡ y → ◌≡◌ {A = Result X DecodeError} (Ok x) (Ok y)
 same_ok {X = X} x y e = ap (λ (z : X). let r : Result X DecodeError = Ok z in r) e

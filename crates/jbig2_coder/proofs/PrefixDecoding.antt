@@ -7,12 +7,12 @@ use Rattle.jbig2_base.specs.declared.error.DecodeError.{DecodeError}
 use Rattle.jbig2_coder.specs.declared.huffman_table.line.TableLine.{TableLine}
 use Rattle.jbig2_coder.specs.declared.huffman_table.levels.Level.{Level}
 use Rattle.jbig2_coder.specs.PrefixCode.{Member, CodeReading, Reads, read_code, decoded_value, value_by}
-use Rattle.jbig2_coder.specs.inner.CodeParts.{valued, value_after, range_bits}
+use Rattle.jbig2_coder.specs.inner.CodeReadings.{with_value, value_after, range_bits}
 use Rattle.jbig2_coder.specs.inner.PrefixLevels.{walk, groups_of, codes_at}
 use Rattle.jbig2_coder.proofs.PrefixWalk.{walk-reads}
 use Rattle.jbig2_coder.proofs.PrefixReading.{bits_on-add}
 
-decoded-is : (ms : List Member) (bits : List ℕ) → decoded_value ms bits ≡ valued (read_code ms bits) bits
+decoded-is : (ms : List Member) (bits : List ℕ) → decoded_value ms bits ≡ with_value (read_code ms bits) bits
 unfolding decoded_value
 decoded-is ms bits = refl
 
@@ -23,11 +23,11 @@ read-line gs ms a p q view read =
     let P : CodeReading TableLine → Type 0 = λ r. Reads p q a r in
     subst P same read
 
-valued-err : (r : CodeReading TableLine) (bits : List ℕ) (e : DecodeError) → Err e ≡ r.result → valued r bits ≡ record { result = Err e; taken = r.taken }
-valued-err r bits e h = ap (λ (a : Result TableLine DecodeError). valued (record { result = a; taken = r.taken }) bits) (sym h)
+valued-err : (r : CodeReading TableLine) (bits : List ℕ) (e : DecodeError) → Err e ≡ r.result → with_value r bits ≡ record { result = Err e; taken = r.taken }
+valued-err r bits e h = ap (λ (a : Result TableLine DecodeError). with_value (record { result = a; taken = r.taken }) bits) (sym h)
 
-valued-ok : (r : CodeReading TableLine) (bits : List ℕ) (x : TableLine) → Ok x ≡ r.result → valued r bits ≡ record { result = value_after x (drop r.taken bits); taken = r.taken + range_bits x }
-valued-ok r bits x h = ap (λ (a : Result TableLine DecodeError). valued (record { result = a; taken = r.taken }) bits) (sym h)
+valued-ok : (r : CodeReading TableLine) (bits : List ℕ) (x : TableLine) → Ok x ≡ r.result → with_value r bits ≡ record { result = value_after x (drop r.taken bits); taken = r.taken + range_bits x }
+valued-ok r bits x h = ap (λ (a : Result TableLine DecodeError). with_value (record { result = a; taken = r.taken }) bits) (sym h)
 
 decodes : (ms : List Member) (a : Result (Option ℤ) DecodeError) (n : ℕ) (p q : Place) → decoded_value ms (bits_left p) ≡ record { result = a; taken = n } → q ≡ bits_on n p → bits_left q ≡ drop n (bits_left p) → Reads p q a (decoded_value ms (bits_left p))
 decodes ms a n p q e place rest = record {

@@ -6,7 +6,7 @@ use Rattle.jbig2_base.specs.Bits.{number_after}
 use Rattle.jbig2_base.specs.Search.{least}
 use Rattle.jbig2_coder.specs.declared.huffman_table.line.TableLine.{TableLine}
 use Rattle.jbig2_coder.specs.PrefixCode.{Member, CodeReading, line_of, begins_longer, front_number, read_code}
-use Rattle.jbig2_coder.specs.inner.CodeParts.{found_or, refused, ended, is_decided, read_of}
+use Rattle.jbig2_coder.specs.inner.CodeReadings.{found_or, unknown_code, cut_off_code, is_decided, read_of}
 use Rattle.jbig2_coder.specs.inner.PrefixLevels.{read_on}
 
 number-push : (front : ℕ) (bits : List ℕ) (b : ℕ) → number_after front (bits ++ b ∷ []) ≡ 2 * number_after front bits + b
@@ -18,7 +18,7 @@ take-front [] rest = refl
 take-front (x ∷ front) rest = ap (λ (ys : List ℕ). x ∷ ys) (take-front front rest)
 
 -- k bits decide the read, or more are needed
-settle : (o : Option TableLine) (longer : Bool) (k far : ℕ) (more : CodeReading TableLine) (given : ℕ → CodeReading TableLine) → given k ≡ found_or o k (refused k) → given far ≡ more → found_or o k (cond longer more (refused k)) ≡ given (cond (is_some o || not longer) k far)
+settle : (o : Option TableLine) (longer : Bool) (k far : ℕ) (more : CodeReading TableLine) (given : ℕ → CodeReading TableLine) → given k ≡ found_or o k (unknown_code k) → given far ≡ more → found_or o k (cond longer more (unknown_code k)) ≡ given (cond (is_some o || not longer) k far)
 settle (Some line) longer k far more given here there = sym here
 settle None true k far more given here there = sym there
 settle None false k far more given here there = sym here
@@ -27,8 +27,8 @@ read-fewest : (ms : List Member) (front rest : List ℕ) → read_on ms (length 
 unfolding least
 read-fewest ms front [] =
     let n = length (front ++ []) in
-    ap (λ (ys : List ℕ). ended (length ys + 1)) (sym (append-nil front))
-    ∙ sym (cond-true (ltb n (n + 1)) (ended (n + 1)) (found_or (line_of ms (n + 1) (front_number (n + 1) (front ++ []))) (n + 1) (refused (n + 1))) (lt-ltb n (n + 1) (omega arith)))
+    ap (λ (ys : List ℕ). cut_off_code (length ys + 1)) (sym (append-nil front))
+    ∙ sym (cond-true (ltb n (n + 1)) (cut_off_code (n + 1)) (found_or (line_of ms (n + 1) (front_number (n + 1) (front ++ []))) (n + 1) (unknown_code (n + 1))) (lt-ltb n (n + 1) (omega arith)))
 read-fewest ms front (b ∷ rest) =
     let bits : List ℕ = front ++ b ∷ rest in
     let longer : List ℕ = front ++ b ∷ [] in
@@ -43,9 +43,9 @@ read-fewest ms front (b ∷ rest) =
     let at : length bits + 1 - suc n ≡ k = omega arith in
     let taken : take k bits ≡ longer = ap (λ (j : ℕ). take j bits) (sym reach) ∙ ap (λ (ys : List ℕ). take (length longer) ys) (sym whole) ∙ take-front longer rest in
     let spelled : front_number k bits ≡ v = ap (λ (ys : List ℕ). number_after 0 ys) taken ∙ number-push 0 front b in
-    let given : read_of ms bits k ≡ found_or (line_of ms k v) k (refused k) =
-    cond-false (ltb (length bits) k) (ended k) (found_or (line_of ms k (front_number k bits)) k (refused k)) (le-ltb (length bits) k (omega arith))
-    ∙ ap (λ (u : ℕ). found_or (line_of ms k u) k (refused k)) spelled in
+    let given : read_of ms bits k ≡ found_or (line_of ms k v) k (unknown_code k) =
+    cond-false (ltb (length bits) k) (cut_off_code k) (found_or (line_of ms k (front_number k bits)) k (unknown_code k)) (le-ltb (length bits) k (omega arith))
+    ∙ ap (λ (u : ℕ). found_or (line_of ms k u) k (unknown_code k)) spelled in
     let further : read_of ms bits far ≡ read_on ms k v rest =
     sym (ap (λ (j : ℕ). read_on ms j v rest) (sym reach)
     ∙ ap (λ (u : ℕ). read_on ms (length longer) u rest) (sym (number-push 0 front b))

@@ -8,7 +8,7 @@ use Rattle.std.proofs.lemmas.List.Elements.{All-nil, All-cons, All-append}
 use Rattle.std.proofs.lemmas.List.Kept.{AllPairs-cons}
 use Rattle.jbig2_coder.specs.declared.huffman_table.line.TableLine.{TableLine}
 use Rattle.jbig2_coder.specs.PrefixCode.{Member, begins, IsFree}
-use Rattle.jbig2_coder.specs.inner.PrefixLevels.{numbered, codes_at}
+use Rattle.jbig2_coder.specs.inner.PrefixLevels.{codes_of_length, codes_at}
 
 abbrev Apart : Member → Member → Type 0
 Apart a b = (begins a b ≡ false) × (begins b a ≡ false)
@@ -24,10 +24,10 @@ Later l n m = (m.bits ≡ l) × (n ≤ m.number)
 none_apart : IsFree []
 none_apart i j d h inside = absurd (omega arith)
 
-later : (l n : ℕ) (g : List TableLine) (low : ℕ) → low ≤ n → All (Later l low) (numbered l n g)
+later : (l n : ℕ) (g : List TableLine) (low : ℕ) → low ≤ n → All (Later l low) (codes_of_length l n g)
 later l n [] low h = All-nil (Later l low)
 later l n (x ∷ xs) low h =
-    All-cons (Later l low) (record { bits = l; number = n; line = x }) (numbered l (n + 1) xs) (refl, h) (later l (n + 1) xs low (omega arith))
+    All-cons (Later l low) (record { bits = l; number = n; line = x }) (codes_of_length l (n + 1) xs) (refl, h) (later l (n + 1) xs low (omega arith))
 
 above-up : (k b base : ℕ) (m : Member) → 2 * b ≤ base → Above (k + 1) base m → Above k b m
 above-up k b base m h above =
@@ -51,8 +51,8 @@ above : (k b : ℕ) (gs : List (List TableLine)) → All (Above k b) (codes_at k
 above k b [] = All-nil (Above k b)
 above k b (g ∷ gs) =
     let base = 2 * b + length g in
-    All-append (Above k b) (numbered (k + 1) (2 * b) g) (codes_at (k + 1) base gs)
-    (λ i d h. above-here k b (get_or (numbered (k + 1) (2 * b) g) i d) (later (k + 1) (2 * b) g (2 * b) (omega arith) i d h))
+    All-append (Above k b) (codes_of_length (k + 1) (2 * b) g) (codes_at (k + 1) base gs)
+    (λ i d h. above-here k b (get_or (codes_of_length (k + 1) (2 * b) g) i d) (later (k + 1) (2 * b) g (2 * b) (omega arith) i d h))
     (λ i d h. above-up k b base (get_or (codes_at (k + 1) base gs) i d) (omega arith) (above (k + 1) base gs i d h))
 
 apart-later : (l n : ℕ) (a m : Member) → a.bits ≡ l → a.number ≡ n → Later l (n + 1) m → Apart a m
@@ -74,13 +74,13 @@ apart-above l n base a m bits number below up =
       and_left (leb m.bits a.bits) (eqb (a.number / 2 ^ (a.bits - m.bits)) m.number) (lt-leb m.bits a.bits (omega (arith, up.0))),
     )
 
-free-group : (l n base : ℕ) (g : List TableLine) (rest : List Member) → n + length g ≤ base → All (Above l base) rest → IsFree rest → IsFree (numbered l n g ++ rest)
+free-group : (l n base : ℕ) (g : List TableLine) (rest : List Member) → n + length g ≤ base → All (Above l base) rest → IsFree rest → IsFree (codes_of_length l n g ++ rest)
 free-group l n base [] rest h up free = free
 free-group l n base (x ∷ xs) rest h up free =
     let a : Member = record { bits = l; number = n; line = x } in
-    AllPairs-cons Apart a (numbered l (n + 1) xs ++ rest)
-    (All-append (λ (m : Member). Apart a m) (numbered l (n + 1) xs) rest
-    (λ i d inside. apart-later l n a (get_or (numbered l (n + 1) xs) i d) refl refl (later l (n + 1) xs (n + 1) (omega arith) i d inside))
+    AllPairs-cons Apart a (codes_of_length l (n + 1) xs ++ rest)
+    (All-append (λ (m : Member). Apart a m) (codes_of_length l (n + 1) xs) rest
+    (λ i d inside. apart-later l n a (get_or (codes_of_length l (n + 1) xs) i d) refl refl (later l (n + 1) xs (n + 1) (omega arith) i d inside))
     (λ i d inside. apart-above l n base a (get_or rest i d) refl refl (omega arith) (up i d inside)))
     (free-group l (n + 1) base xs rest (omega arith) up free)
 

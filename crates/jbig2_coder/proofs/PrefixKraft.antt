@@ -6,7 +6,7 @@ use Rattle.std.proofs.lemmas.Bool.{cases_lt, cases_eq, cond-true, cond-false, lt
 use Rattle.jbig2_coder.specs.declared.huffman_table.line.TableLine.{TableLine}
 use Rattle.jbig2_coder.specs.PrefixCode.{Member, share, weight, shorter, level, longest, prefix_code, is_crowded}
 use Rattle.jbig2_coder.proofs.PrefixSums.{members-from}
-use Rattle.jbig2_coder.specs.inner.PrefixLevels.{numbered, codes_from, nodes, codes_at, groups}
+use Rattle.jbig2_coder.specs.inner.PrefixLevels.{codes_of_length, codes_from, nodes, codes_at, groups}
 
 share-none : (l len : ℕ) → l < len → share l len ≡ 0
 share-none l len h = cond-false (ltb 0 len && leb len l) (2 ^ (l - len)) 0 (and_right (ltb 0 len) (leb len l) (lt-leb len l h))
@@ -90,8 +90,8 @@ shorter-next l (x ∷ xs) =
 codes-are : (n k : ℕ) (lines : List TableLine) → codes_from n (k + 1) lines ≡ codes_at k (weight k lines) (groups n (k + 1) lines)
 codes-are zero k lines = refl
 codes-are (suc n) k lines =
-    ap (λ (m : ℕ). numbered (k + 1) m (level (k + 1) lines) ++ codes_from n (k + 1 + 1) lines) (shorter-next k lines)
-    ∙ ap (λ (ms : List Member). numbered (k + 1) (2 * weight k lines) (level (k + 1) lines) ++ ms)
+    ap (λ (m : ℕ). codes_of_length (k + 1) m (level (k + 1) lines) ++ codes_from n (k + 1 + 1) lines) (shorter-next k lines)
+    ∙ ap (λ (ms : List Member). codes_of_length (k + 1) (2 * weight k lines) (level (k + 1) lines) ++ ms)
     (codes-are n (k + 1) lines ∙ ap (λ (b : ℕ). codes_at (k + 1) b (groups n (k + 1 + 1) lines)) (weight-next k lines))
 
 -- the definition's members are those of the groups

@@ -10,7 +10,7 @@ use Rattle.jbig2_base.proofs.ReaderLemmas.{bits_on-enough, bits_on-past, end-on}
 use Rattle.jbig2_coder.specs.declared.huffman_table.line.TableLine.{TableLine}
 use Rattle.jbig2_coder.specs.declared.huffman_table.levels.Level.{Level}
 use Rattle.jbig2_coder.specs.PrefixCode.{CodeReading, Reads}
-use Rattle.jbig2_coder.specs.inner.CodeParts.{found_or, refused, ended}
+use Rattle.jbig2_coder.specs.inner.CodeReadings.{found_or, unknown_code, cut_off_code}
 use Rattle.jbig2_coder.specs.inner.PrefixLevels.{nodes, walk, walk_of, groups_of, AreLevels}
 
 -- m bits on from n bits on
@@ -77,23 +77,23 @@ no_bit [] e = refl
 no_bit (c ∷ bits) e =
     absurd (let never : ◌≡◌ {A = Option ℕ} None (Some (number_after 0 (take 1 (c ∷ bits)))) = e ∙ cond-false (ltb (length (c ∷ bits)) 1) None (Some (number_after 0 (take 1 (c ∷ bits)))) (le-ltb (length (c ∷ bits)) 1 (omega arith)) in cc)
 
-walk-ends : (gs : List (List TableLine)) (i node : ℕ) (bits : List ℕ) → ◌≡◌ {A = Option ℕ} None (bits_next 1 bits) → walk gs i node bits ≡ ended (i + 1)
+walk-ends : (gs : List (List TableLine)) (i node : ℕ) (bits : List ℕ) → ◌≡◌ {A = Option ℕ} None (bits_next 1 bits) → walk gs i node bits ≡ cut_off_code (i + 1)
 walk-ends gs i node bits none = ap (λ (bs : List ℕ). walk gs i node bs) (no_bit bits none) ∙ at_end gs
   where
-    at_end : (gs : List (List TableLine)) → walk gs i node [] ≡ ended (i + 1)
+    at_end : (gs : List (List TableLine)) → walk gs i node [] ≡ cut_off_code (i + 1)
     at_end [] = refl
     at_end (g ∷ gs) = refl
 
 -- no bit is left
-pub leaves-ended : (lines : List TableLine) (levels : List Level) (root i node : ℕ) (p q r : Place) → AtLevel lines levels root i node p q → r ≡ bits_on 1 q → bits_left r ≡ drop 1 (bits_left q) → ◌≡◌ {A = Option ℕ} None (bits_next 1 (bits_left q)) → Reads p r ((ended {A = TableLine} 0).result) (walk_of lines levels root (bits_left p))
+pub leaves-ended : (lines : List TableLine) (levels : List Level) (root i node : ℕ) (p q r : Place) → AtLevel lines levels root i node p q → r ≡ bits_on 1 q → bits_left r ≡ drop 1 (bits_left q) → ◌≡◌ {A = Option ℕ} None (bits_next 1 (bits_left q)) → Reads p r ((cut_off_code {A = TableLine} 0).result) (walk_of lines levels root (bits_left p))
 leaves-ended lines levels root i node p q r at place rest none =
-    leaves lines levels root i node p q r ((ended {A = TableLine} 0).result) at place rest (walk-ends (groups_of lines (drop i levels)) i node (bits_left q) none)
+    leaves lines levels root i node p q r ((cut_off_code {A = TableLine} 0).result) at place rest (walk-ends (groups_of lines (drop i levels)) i node (bits_left q) none)
 
 -- a bit after the last level
-pub leaves-past : (lines : List TableLine) (levels : List Level) (root i node b : ℕ) (p q r : Place) → AtLevel lines levels root i node p q → r ≡ bits_on 1 q → bits_left r ≡ drop 1 (bits_left q) → Some b ≡ bits_next 1 (bits_left q) → length levels ≤ i → Reads p r ((refused {A = TableLine} 0).result) (walk_of lines levels root (bits_left p))
+pub leaves-past : (lines : List TableLine) (levels : List Level) (root i node b : ℕ) (p q r : Place) → AtLevel lines levels root i node p q → r ≡ bits_on 1 q → bits_left r ≡ drop 1 (bits_left q) → Some b ≡ bits_next 1 (bits_left q) → length levels ≤ i → Reads p r ((unknown_code {A = TableLine} 0).result) (walk_of lines levels root (bits_left p))
 leaves-past lines levels root i node b p q r at place rest some past =
     let none : drop i levels ≡ [] = drop_all i levels past in
-    leaves lines levels root i node p q r ((refused {A = TableLine} 0).result) at place rest
+    leaves lines levels root i node p q r ((unknown_code {A = TableLine} 0).result) at place rest
     (ap (λ (vs : List Level). walk (groups_of lines vs) i node (bits_left q)) none ∙ ap (λ (bs : List ℕ). walk [] i node bs) (first_bit b (bits_left q) some))
 
 pub get-take : (n e : ℕ) (xs : List TableLine) (d : TableLine) → e < n → e < length xs → slice_get (take n xs) e ≡ Some (get_or xs e d)
@@ -122,17 +122,17 @@ abbrev pub turned : List TableLine → List Level → ℕ → ℕ → ℕ → Li
 turned lines levels i node b bits d =
     let v = get_or levels i d in
     let g = take v.count (drop v.first lines) in
-    cond (ltb (2 * node + b - length g) (nodes (groups_of lines (drop (i + 1) levels)))) (walk (groups_of lines (drop (i + 1) levels)) (i + 1) (2 * node + b - length g) bits) (refused (i + 1))
+    cond (ltb (2 * node + b - length g) (nodes (groups_of lines (drop (i + 1) levels)))) (walk (groups_of lines (drop (i + 1) levels)) (i + 1) (2 * node + b - length g) bits) (unknown_code (i + 1))
 
-pub not_found : (lines : List TableLine) (levels : List Level) (i node b : ℕ) (bits : List ℕ) (d : Level) → AreLevels lines (get_or levels i d ∷ drop (i + 1) levels) → (get_or levels i d).count ≤ 2 * node + b → walk (groups_of lines (get_or levels i d ∷ drop (i + 1) levels)) i node (b ∷ bits) ≡ cond (ltb (child-of levels i node b d) (get_or levels i d).nodes) (walk (groups_of lines (drop (i + 1) levels)) (i + 1) (child-of levels i node b d) bits) (refused (i + 1))
+pub not_found : (lines : List TableLine) (levels : List Level) (i node b : ℕ) (bits : List ℕ) (d : Level) → AreLevels lines (get_or levels i d ∷ drop (i + 1) levels) → (get_or levels i d).count ≤ 2 * node + b → walk (groups_of lines (get_or levels i d ∷ drop (i + 1) levels)) i node (b ∷ bits) ≡ cond (ltb (child-of levels i node b d) (get_or levels i d).nodes) (walk (groups_of lines (drop (i + 1) levels)) (i + 1) (child-of levels i node b d) bits) (unknown_code (i + 1))
 not_found lines levels i node b bits d are past =
     let v = get_or levels i d in
     let g = take v.count (drop v.first lines) in
     let e = 2 * node + b in
     let size = group-size lines v are.0 in
     ap (λ (o : Option TableLine). found_or o (i + 1) (turned lines levels i node b bits d)) (slice_get_past g e (omega arith))
-    ∙ ap (λ (n : ℕ). cond (ltb (e - n) (nodes (groups_of lines (drop (i + 1) levels)))) (walk (groups_of lines (drop (i + 1) levels)) (i + 1) (e - n) bits) (refused (i + 1))) size
-    ∙ ap (λ (n : ℕ). cond (ltb (child-of levels i node b d) n) (walk (groups_of lines (drop (i + 1) levels)) (i + 1) (child-of levels i node b d) bits) (refused (i + 1))) (sym are.1)
+    ∙ ap (λ (n : ℕ). cond (ltb (e - n) (nodes (groups_of lines (drop (i + 1) levels)))) (walk (groups_of lines (drop (i + 1) levels)) (i + 1) (e - n) bits) (unknown_code (i + 1))) size
+    ∙ ap (λ (n : ℕ). cond (ltb (child-of levels i node b d) n) (walk (groups_of lines (drop (i + 1) levels)) (i + 1) (child-of levels i node b d) bits) (unknown_code (i + 1))) (sym are.1)
 
 -- the child is a line of the level
 pub leaves-found : (lines : List TableLine) (levels : List Level) (root i node b : ℕ) (p q r : Place) (d : Level) (x : TableLine) → AtLevel lines levels root i node p q → r ≡ bits_on 1 q → bits_left r ≡ drop 1 (bits_left q) → Some b ≡ bits_next 1 (bits_left q) → i < length levels → 2 * node + b < (get_or levels i d).count → Reads p r (Ok (get_or lines ((get_or levels i d).first + (2 * node + b)) x)) (walk_of lines levels root (bits_left p))
@@ -146,13 +146,13 @@ leaves-found lines levels root i node b p q r d x at place rest some inside foun
     ∙ ap (λ (o : Option TableLine). found_or o (i + 1) (turned lines levels i node b (drop 1 (bits_left q)) d)) (get-take v.count e (drop v.first lines) x found within ∙ ap (λ (y : TableLine). Some y) (get_or-drop v.first lines e x)))
 
 -- the child begins no code
-pub leaves-refused : (lines : List TableLine) (levels : List Level) (root i node b : ℕ) (p q r : Place) (d : Level) → AtLevel lines levels root i node p q → r ≡ bits_on 1 q → bits_left r ≡ drop 1 (bits_left q) → Some b ≡ bits_next 1 (bits_left q) → i < length levels → (get_or levels i d).count ≤ 2 * node + b → (get_or levels i d).nodes ≤ 2 * node + b - (get_or levels i d).count → Reads p r ((refused {A = TableLine} 0).result) (walk_of lines levels root (bits_left p))
+pub leaves-refused : (lines : List TableLine) (levels : List Level) (root i node b : ℕ) (p q r : Place) (d : Level) → AtLevel lines levels root i node p q → r ≡ bits_on 1 q → bits_left r ≡ drop 1 (bits_left q) → Some b ≡ bits_next 1 (bits_left q) → i < length levels → (get_or levels i d).count ≤ 2 * node + b → (get_or levels i d).nodes ≤ 2 * node + b - (get_or levels i d).count → Reads p r ((unknown_code {A = TableLine} 0).result) (walk_of lines levels root (bits_left p))
 leaves-refused lines levels root i node b p q r d at place rest some inside past none =
     let are = level-next lines levels i d inside at.are in
-    leaves lines levels root i node p q r ((refused {A = TableLine} 0).result) at place rest
+    leaves lines levels root i node p q r ((unknown_code {A = TableLine} 0).result) at place rest
     (walk-next lines levels i node b (bits_left q) d inside some
     ∙ not_found lines levels i node b (drop 1 (bits_left q)) d are past
-    ∙ cond-false (ltb (child-of levels i node b d) (get_or levels i d).nodes) (walk (groups_of lines (drop (i + 1) levels)) (i + 1) (child-of levels i node b d) (drop 1 (bits_left q))) (refused (i + 1)) (le-ltb (child-of levels i node b d) (get_or levels i d).nodes none))
+    ∙ cond-false (ltb (child-of levels i node b d) (get_or levels i d).nodes) (walk (groups_of lines (drop (i + 1) levels)) (i + 1) (child-of levels i node b d) (drop 1 (bits_left q))) (unknown_code (i + 1)) (le-ltb (child-of levels i node b d) (get_or levels i d).nodes none))
 
 -- the child is a node of the next depth
 pub at-next : (lines : List TableLine) (levels : List Level) (root i node b : ℕ) (p q r : Place) (d : Level) → AtLevel lines levels root i node p q → r ≡ bits_on 1 q → bits_left r ≡ drop 1 (bits_left q) → Some b ≡ bits_next 1 (bits_left q) → i < length levels → (get_or levels i d).count ≤ 2 * node + b → 2 * node + b - (get_or levels i d).count < (get_or levels i d).nodes → AtLevel lines levels root (i + 1) (2 * node + b - (get_or levels i d).count) p r
@@ -163,7 +163,7 @@ at-next lines levels root i node b p q r d at place rest some inside past more =
       walks =
           sym (walk-next lines levels i node b (bits_left q) d inside some
           ∙ not_found lines levels i node b (drop 1 (bits_left q)) d are past
-          ∙ cond-true (ltb c (get_or levels i d).nodes) (walk (groups_of lines (drop (i + 1) levels)) (i + 1) c (drop 1 (bits_left q))) (refused (i + 1)) (lt-ltb c (get_or levels i d).nodes more)
+          ∙ cond-true (ltb c (get_or levels i d).nodes) (walk (groups_of lines (drop (i + 1) levels)) (i + 1) c (drop 1 (bits_left q))) (unknown_code (i + 1)) (lt-ltb c (get_or levels i d).nodes more)
           ∙ ap (λ (bs : List ℕ). walk (groups_of lines (drop (i + 1) levels)) (i + 1) c bs) (sym rest))
           ∙ at.walks;
       are = are.3;

@@ -5,9 +5,9 @@ use Rattle.std.proofs.lemmas.Bool.{cases_lt, cases_eq, cond-true, cond-false, lt
 use Rattle.std.specs.List.{slice_get}
 use Rattle.jbig2_coder.specs.declared.huffman_table.line.TableLine.{TableLine}
 use Rattle.jbig2_coder.specs.PrefixCode.{Member, CodeReading, line_of, begins_longer, read_code}
-use Rattle.jbig2_coder.specs.inner.CodeParts.{found_or, refused}
+use Rattle.jbig2_coder.specs.inner.CodeReadings.{found_or, unknown_code}
 use Rattle.jbig2_coder.proofs.PrefixFewest.{read_code-is}
-use Rattle.jbig2_coder.specs.inner.PrefixLevels.{read_on, numbered, nodes, codes_at, walk}
+use Rattle.jbig2_coder.specs.inner.PrefixLevels.{read_on, codes_of_length, nodes, codes_at, walk}
 
 -- the first line, or else the other
 abbrev pick : Option TableLine → Option TableLine → Option TableLine
@@ -20,21 +20,21 @@ same_test true y f h = sym (f refl)
 same_test false true f h = h refl
 same_test false false f h = refl
 
-line_of-numbered : (l n e : ℕ) (g : List TableLine) (rest : List Member) → line_of (numbered l n g ++ rest) l (n + e) ≡ pick (slice_get g e) (line_of rest l (n + e))
+line_of-numbered : (l n e : ℕ) (g : List TableLine) (rest : List Member) → line_of (codes_of_length l n g ++ rest) l (n + e) ≡ pick (slice_get g e) (line_of rest l (n + e))
 line_of-numbered l n e [] rest = refl
 line_of-numbered l n zero (x ∷ xs) rest =
-    cond-true (eqb l l && eqb n (n + 0)) (Some x) (line_of (numbered l (n + 1) xs ++ rest) l (n + 0)) (and_from (eqb l l) (eqb n (n + 0)) (eq-eqb l l refl) (eq-eqb n (n + 0) (omega arith)))
+    cond-true (eqb l l && eqb n (n + 0)) (Some x) (line_of (codes_of_length l (n + 1) xs ++ rest) l (n + 0)) (and_from (eqb l l) (eqb n (n + 0)) (eq-eqb l l refl) (eq-eqb n (n + 0) (omega arith)))
 line_of-numbered l n (suc e) (x ∷ xs) rest =
     let on : n + suc e ≡ n + 1 + e = omega arith in
-    cond-false (eqb l l && eqb n (n + suc e)) (Some x) (line_of (numbered l (n + 1) xs ++ rest) l (n + suc e)) (and_right (eqb l l) (eqb n (n + suc e)) (ne_eqb n (n + suc e) (λ h. omega arith)))
-    ∙ ap (λ (v : ℕ). line_of (numbered l (n + 1) xs ++ rest) l v) on
+    cond-false (eqb l l && eqb n (n + suc e)) (Some x) (line_of (codes_of_length l (n + 1) xs ++ rest) l (n + suc e)) (and_right (eqb l l) (eqb n (n + suc e)) (ne_eqb n (n + suc e) (λ h. omega arith)))
+    ∙ ap (λ (v : ℕ). line_of (codes_of_length l (n + 1) xs ++ rest) l v) on
     ∙ line_of-numbered l (n + 1) e xs rest
     ∙ ap (λ (v : ℕ). pick (slice_get xs e) (line_of rest l v)) (sym on)
 
-line_of-other : (l n : ℕ) (g : List TableLine) (rest : List Member) (k v : ℕ) → (l ≡ k → ⊥) → line_of (numbered l n g ++ rest) k v ≡ line_of rest k v
+line_of-other : (l n : ℕ) (g : List TableLine) (rest : List Member) (k v : ℕ) → (l ≡ k → ⊥) → line_of (codes_of_length l n g ++ rest) k v ≡ line_of rest k v
 line_of-other l n [] rest k v differ = refl
 line_of-other l n (x ∷ xs) rest k v differ =
-    cond-false (eqb l k && eqb n v) (Some x) (line_of (numbered l (n + 1) xs ++ rest) k v) (and_left (eqb l k) (eqb n v) (ne_eqb l k differ))
+    cond-false (eqb l k && eqb n v) (Some x) (line_of (codes_of_length l (n + 1) xs ++ rest) k v) (and_left (eqb l k) (eqb n v) (ne_eqb l k differ))
     ∙ line_of-other l (n + 1) xs rest k v differ
 
 line_of-above : (k b : ℕ) (gs : List (List TableLine)) (l v : ℕ) → l ≤ k → line_of (codes_at k b gs) l v ≡ None
@@ -53,10 +53,10 @@ begins-append (m ∷ ms) ys k v =
     or_regroup true y z = refl
     or_regroup false y z = refl
 
-begins-not_below : (l n : ℕ) (g : List TableLine) (k v : ℕ) → l ≤ k → begins_longer (numbered l n g) k v ≡ false
+begins-not_below : (l n : ℕ) (g : List TableLine) (k v : ℕ) → l ≤ k → begins_longer (codes_of_length l n g) k v ≡ false
 begins-not_below l n [] k v h = refl
 begins-not_below l n (x ∷ xs) k v h =
-    or_from (ltb k l && eqb (n / 2 ^ (l - k)) v) (begins_longer (numbered l (n + 1) xs) k v) (and_left (ltb k l) (eqb (n / 2 ^ (l - k)) v) (le-ltb k l h)) (begins-not_below l (n + 1) xs k v h)
+    or_from (ltb k l && eqb (n / 2 ^ (l - k)) v) (begins_longer (codes_of_length l (n + 1) xs) k v) (and_left (ltb k l) (eqb (n / 2 ^ (l - k)) v) (le-ltb k l h)) (begins-not_below l (n + 1) xs k v h)
 
 -- one bit further down there are two places
 halves : (q v : ℕ) → eqb (q / 2) v ≡ (eqb q (2 * v) || eqb q (2 * v + 1))
@@ -92,11 +92,11 @@ or_turn a p q r s t e f = ap (λ (x : Bool). x || r) e ∙ ap (λ (x : Bool). (p
     turned false true false t = refl
     turned false false s t = refl
 
-up-numbered : (m n l v : ℕ) (g : List TableLine) (rest : List Member) → l + 1 < m → begins_longer rest l v ≡ (begins_longer rest (l + 1) (2 * v) || begins_longer rest (l + 1) (2 * v + 1)) → begins_longer (numbered m n g ++ rest) l v ≡ (begins_longer (numbered m n g ++ rest) (l + 1) (2 * v) || begins_longer (numbered m n g ++ rest) (l + 1) (2 * v + 1))
+up-numbered : (m n l v : ℕ) (g : List TableLine) (rest : List Member) → l + 1 < m → begins_longer rest l v ≡ (begins_longer rest (l + 1) (2 * v) || begins_longer rest (l + 1) (2 * v + 1)) → begins_longer (codes_of_length m n g ++ rest) l v ≡ (begins_longer (codes_of_length m n g ++ rest) (l + 1) (2 * v) || begins_longer (codes_of_length m n g ++ rest) (l + 1) (2 * v + 1))
 up-numbered m n l v [] rest h e = e
 up-numbered m n l v (x ∷ xs) rest h e =
     or_turn (ltb l m && eqb (n / 2 ^ (m - l)) v) (ltb (l + 1) m && eqb (n / 2 ^ (m - (l + 1))) (2 * v)) (ltb (l + 1) m && eqb (n / 2 ^ (m - (l + 1))) (2 * v + 1))
-    (begins_longer (numbered m (n + 1) xs ++ rest) l v) (begins_longer (numbered m (n + 1) xs ++ rest) (l + 1) (2 * v)) (begins_longer (numbered m (n + 1) xs ++ rest) (l + 1) (2 * v + 1))
+    (begins_longer (codes_of_length m (n + 1) xs ++ rest) l v) (begins_longer (codes_of_length m (n + 1) xs ++ rest) (l + 1) (2 * v)) (begins_longer (codes_of_length m (n + 1) xs ++ rest) (l + 1) (2 * v + 1))
     (up-one m n l v h) (up-numbered m (n + 1) l v xs rest h e)
 
 up : (k b : ℕ) (gs : List (List TableLine)) (l v : ℕ) → l < k → begins_longer (codes_at k b gs) l v ≡ (begins_longer (codes_at k b gs) (l + 1) (2 * v) || begins_longer (codes_at k b gs) (l + 1) (2 * v + 1))
@@ -108,19 +108,19 @@ one_deeper : (k n : ℕ) → n / 2 ^ (k + 1 - k) ≡ n / 2
 one_deeper k n = let e : k + 1 - k ≡ 1 = omega arith in ap (λ (t : ℕ). n / 2 ^ t) e
 
 -- the codes one bit longer begin with v where 2 * v is one of them, and not where they end before
-group-begins : (k n v : ℕ) (g : List TableLine) → n ≤ 2 * v → 2 * v < n + length g → begins_longer (numbered (k + 1) n g) k v ≡ true
+group-begins : (k n v : ℕ) (g : List TableLine) → n ≤ 2 * v → 2 * v < n + length g → begins_longer (codes_of_length (k + 1) n g) k v ≡ true
 group-begins k n v [] low high = absurd (omega arith)
 group-begins k n v (x ∷ xs) low high =
     let here : Bool = ltb k (k + 1) && eqb (n / 2 ^ (k + 1 - k)) v in
-    let there : Bool = begins_longer (numbered (k + 1) (n + 1) xs) k v in
+    let there : Bool = begins_longer (codes_of_length (k + 1) (n + 1) xs) k v in
     ⊎_elim (λ (h : n ≡ 2 * v). or_left here there (and_from (ltb k (k + 1)) (eqb (n / 2 ^ (k + 1 - k)) v) (lt-ltb k (k + 1) (omega arith)) (eq-eqb (n / 2 ^ (k + 1 - k)) v (one_deeper k n ∙ (let half : n / 2 ≡ v = omega arith in half)))))
     (λ (h : n ≡ 2 * v → ⊥). or_right here there (group-begins k (n + 1) v xs (omega arith) (omega arith)))
     (cases_eq n (2 * v))
 
-group-ends : (k n v : ℕ) (g : List TableLine) → n + length g ≤ 2 * v → begins_longer (numbered (k + 1) n g) k v ≡ false
+group-ends : (k n v : ℕ) (g : List TableLine) → n + length g ≤ 2 * v → begins_longer (codes_of_length (k + 1) n g) k v ≡ false
 group-ends k n v [] h = refl
 group-ends k n v (x ∷ xs) h =
-    or_from (ltb k (k + 1) && eqb (n / 2 ^ (k + 1 - k)) v) (begins_longer (numbered (k + 1) (n + 1) xs) k v)
+    or_from (ltb k (k + 1) && eqb (n / 2 ^ (k + 1 - k)) v) (begins_longer (codes_of_length (k + 1) (n + 1) xs) k v)
     (and_right (ltb k (k + 1)) (eqb (n / 2 ^ (k + 1 - k)) v) (ne_eqb (n / 2 ^ (k + 1 - k)) v (λ e. let half : n / 2 ≡ v = sym (one_deeper k n) ∙ e in omega arith)))
     (group-ends k (n + 1) v xs (omega arith))
 
@@ -130,9 +130,9 @@ begins-nodes k b [] j = sym (le-ltb j 0 (omega arith))
 begins-nodes k b (g ∷ gs) j =
     let base = 2 * b + length g in
     let tail = codes_at (k + 1) base gs in
-    begins-append (numbered (k + 1) (2 * b) g) tail k (b + j)
+    begins-append (codes_of_length (k + 1) (2 * b) g) tail k (b + j)
     ∙ ⊎_elim (λ (h : 2 * j < length g).
-    or_left (begins_longer (numbered (k + 1) (2 * b) g) k (b + j)) (begins_longer tail k (b + j)) (group-begins k (2 * b) (b + j) g (omega arith) (omega arith))
+    or_left (begins_longer (codes_of_length (k + 1) (2 * b) g) k (b + j)) (begins_longer tail k (b + j)) (group-begins k (2 * b) (b + j) g (omega arith) (omega arith))
     ∙ sym (lt-ltb j ((length g + nodes gs + 1) / 2) (omega arith)))
     (λ (h : length g ≤ 2 * j).
     let i = 2 * j - length g in
@@ -159,7 +159,7 @@ sees-next ms k b g gs sees =
     let tail = codes_at (k + 1) (2 * b + length g) gs in
     record {
       lines = λ l v h. sees.lines l v (omega arith) ∙ line_of-other (k + 1) (2 * b) g tail l v (λ e. omega arith);
-      longer = λ l v h. sees.longer l v (omega arith) ∙ begins-append (numbered (k + 1) (2 * b) g) tail l v ∙ ap (λ (t : Bool). t || begins_longer tail l v) (begins-not_below (k + 1) (2 * b) g l v (omega arith));
+      longer = λ l v h. sees.longer l v (omega arith) ∙ begins-append (codes_of_length (k + 1) (2 * b) g) tail l v ∙ ap (λ (t : Bool). t || begins_longer tail l v) (begins-not_below (k + 1) (2 * b) g l v (omega arith));
     }
 
 found-both : (o : Option TableLine) (k : ℕ) (x y : CodeReading TableLine) → (o ≡ None → x ≡ y) → found_or o k x ≡ found_or (pick o None) k y
@@ -176,8 +176,8 @@ walk-on ms [] k b d [] sees = refl
 walk-on ms (g ∷ gs) k b d [] sees = refl
 walk-on ms [] k b d (bit ∷ bits) sees =
     let n = 2 * (b + d) + bit in
-    sym (ap (λ (o : Option TableLine). found_or o (k + 1) (cond (begins_longer ms (k + 1) n) (read_on ms (k + 1) n bits) (refused (k + 1)))) (sees.lines (k + 1) n (omega arith))
-    ∙ ap (λ (t : Bool). cond t (read_on ms (k + 1) n bits) (refused (k + 1))) (sees.longer (k + 1) n (omega arith)))
+    sym (ap (λ (o : Option TableLine). found_or o (k + 1) (cond (begins_longer ms (k + 1) n) (read_on ms (k + 1) n bits) (unknown_code (k + 1)))) (sees.lines (k + 1) n (omega arith))
+    ∙ ap (λ (t : Bool). cond t (read_on ms (k + 1) n bits) (unknown_code (k + 1))) (sees.longer (k + 1) n (omega arith)))
 walk-on ms (g ∷ gs) k b d (bit ∷ bits) sees =
     let n = 2 * (b + d) + bit in
     let e = 2 * d + bit in
@@ -187,22 +187,22 @@ walk-on ms (g ∷ gs) k b d (bit ∷ bits) sees =
     let next = sees-next ms k b g gs sees in
     let line : line_of ms (k + 1) n ≡ pick (slice_get g e) None =
     sees.lines (k + 1) n (omega arith)
-    ∙ ap (λ (v : ℕ). line_of (numbered (k + 1) (2 * b) g ++ tail) (k + 1) v) at
+    ∙ ap (λ (v : ℕ). line_of (codes_of_length (k + 1) (2 * b) g ++ tail) (k + 1) v) at
     ∙ line_of-numbered (k + 1) (2 * b) e g tail
     ∙ ap (λ (o : Option TableLine). pick (slice_get g e) o) (line_of-above (k + 1) base gs (k + 1) (2 * b + e) (omega arith)) in
-    found-both (slice_get g e) (k + 1) (cond (ltb (e - length g) (nodes gs)) (walk gs (k + 1) (e - length g) bits) (refused (k + 1))) (cond (begins_longer ms (k + 1) n) (read_on ms (k + 1) n bits) (refused (k + 1)))
+    found-both (slice_get g e) (k + 1) (cond (ltb (e - length g) (nodes gs)) (walk gs (k + 1) (e - length g) bits) (unknown_code (k + 1))) (cond (begins_longer ms (k + 1) n) (read_on ms (k + 1) n bits) (unknown_code (k + 1)))
     (λ none.
     let past = past_group g e none in
     let here : n ≡ base + (e - length g) = omega arith in
     let longer : begins_longer ms (k + 1) n ≡ ltb (e - length g) (nodes gs) =
     sees.longer (k + 1) n (omega arith)
-    ∙ begins-append (numbered (k + 1) (2 * b) g) tail (k + 1) n
+    ∙ begins-append (codes_of_length (k + 1) (2 * b) g) tail (k + 1) n
     ∙ ap (λ (t : Bool). t || begins_longer tail (k + 1) n) (begins-not_below (k + 1) (2 * b) g (k + 1) n (omega arith))
     ∙ ap (λ (v : ℕ). begins_longer tail (k + 1) v) here
     ∙ begins-nodes (k + 1) base gs (e - length g) in
-    ap (λ (r : CodeReading TableLine). cond (ltb (e - length g) (nodes gs)) r (refused (k + 1))) (walk-on ms gs (k + 1) base (e - length g) bits next ∙ ap (λ (v : ℕ). read_on ms (k + 1) v bits) (sym here))
-    ∙ ap (λ (t : Bool). cond t (read_on ms (k + 1) n bits) (refused (k + 1))) (sym longer))
-    ∙ ap (λ (o : Option TableLine). found_or o (k + 1) (cond (begins_longer ms (k + 1) n) (read_on ms (k + 1) n bits) (refused (k + 1)))) (sym line)
+    ap (λ (r : CodeReading TableLine). cond (ltb (e - length g) (nodes gs)) r (unknown_code (k + 1))) (walk-on ms gs (k + 1) base (e - length g) bits next ∙ ap (λ (v : ℕ). read_on ms (k + 1) v bits) (sym here))
+    ∙ ap (λ (t : Bool). cond t (read_on ms (k + 1) n bits) (unknown_code (k + 1))) (sym longer))
+    ∙ ap (λ (o : Option TableLine). found_or o (k + 1) (cond (begins_longer ms (k + 1) n) (read_on ms (k + 1) n bits) (unknown_code (k + 1)))) (sym line)
 
 -- the walk from the root reads by the members
 pub walk-reads : (gs : List (List TableLine)) (bits : List ℕ) → walk gs 0 0 bits ≡ read_code (codes_at 0 0 gs) bits

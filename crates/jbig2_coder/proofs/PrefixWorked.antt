@@ -7,7 +7,7 @@ use Rattle.jbig2_base.specs.Bits.{start_of, bits_left, bits_on}
 use Rattle.jbig2_coder.specs.CustomTable.{custom_table, custom_lines, range_lines}
 use Rattle.jbig2_base.specs.Search.{least}
 use Rattle.jbig2_coder.specs.PrefixCode.{prefix_code, table_of, is_crowded, weight, shorter, decoded_value, read_code}
-use Rattle.jbig2_coder.specs.inner.CodeParts.{refused, ended}
+use Rattle.jbig2_coder.specs.inner.CodeReadings.{unknown_code, cut_off_code}
 use Rattle.jbig2_coder.specs.Tables.{lines_a, line, lower, upper}
 
 -- row 15
@@ -28,11 +28,11 @@ second_of_one_bit : decoded_value (prefix_code (line 1 0 (pos 0) ∷ line 1 0 (p
 unfolding decoded_value read_code least prefix_code shorter
 second_of_one_bit = refl
 
-no_lines : decoded_value (prefix_code []) (1 ∷ []) ≡ refused 1
+no_lines : decoded_value (prefix_code []) (1 ∷ []) ≡ unknown_code 1
 unfolding decoded_value read_code least prefix_code shorter
 no_lines = refl
 
-no_bits : decoded_value (prefix_code []) [] ≡ ended 1
+no_bits : decoded_value (prefix_code []) [] ≡ cut_off_code 1
 unfolding decoded_value read_code least prefix_code shorter
 no_bits = refl
 
@@ -41,7 +41,7 @@ lower_down : decoded_value (prefix_code (lower 1 (negsuc 0) ∷ upper 1 (pos 0) 
 unfolding decoded_value read_code least prefix_code shorter
 lower_down = refl
 
-upper_past : decoded_value (prefix_code (lower 1 (negsuc 0) ∷ upper 1 (pos 0) ∷ [])) (1 ∷ 1 ∷ replicate 31 0) ≡ refused 33
+upper_past : decoded_value (prefix_code (lower 1 (negsuc 0) ∷ upper 1 (pos 0) ∷ [])) (1 ∷ 1 ∷ replicate 31 0) ≡ unknown_code 33
 unfolding decoded_value read_code least prefix_code shorter
 upper_past = refl
 

@@ -12,7 +12,7 @@ use mir.Syntax.{w32}
 use Rattle.jbig2_base.specs.Counts.{Counts}
 use Rattle.jbig2_base.specs.Grid.{bit_number}
 use Rattle.jbig2_coder.specs.Coder.{Coder, Context, Decision, Registers, decision, fresh}
-use Rattle.jbig2_coder.specs.Integers.{Reading, Range, value_of_bits, next, read, read_more, prev_of, range, ranges, are_next, next_range, signed, value_of, integer, Ids, id}
+use Rattle.jbig2_coder.specs.Integers.{Reading, Range, value_of_bits, next, read, read_more, prev_of, range, ranges, are_next, next_range, signed_number, value_of, integer, Ids, id}
 use Rattle.jbig2_coder.specs.inner.Prefixes.{Prefix, prefix, range_of, place_of}
 use Rattle.jbig2_coder.specs.inner.IntegerStates.{HasRead, prev_next}
 
@@ -101,15 +101,15 @@ prev_of-push bits b = ⊎_elim (λ (short : length bits < 8). prev-short bits b 
 
 -- values
 
-pub signed-to_z : (n : ℕ) → n < 2 ^ 32 → signed n ≡ to_z w32 n
-unfolding signed
+pub signed-to_z : (n : ℕ) → n < 2 ^ 32 → signed_number n ≡ to_z w32 n
+unfolding signed_number
 signed-to_z n h = grind (arith, nat_tests)
 
-pub signed-passed : (n : ℕ) (x : ℤ) → n < 2 ^ 32 → x ≡ to_z w32 n → to_z w32 (of_z w32 x) ≡ signed n
+pub signed-passed : (n : ℕ) (x : ℤ) → n < 2 ^ 32 → x ≡ to_z w32 n → to_z w32 (of_z w32 x) ≡ signed_number n
 signed-passed n x h e =
     ap (λ z. to_z w32 (of_z w32 z)) e ∙ ap (to_z w32) (of_z-to_z w32 n h) ∙ sym (signed-to_z n h)
 
-pub value_of-positive : (n : ℕ) → value_of false n ≡ Some (signed n)
+pub value_of-positive : (n : ℕ) → value_of false n ≡ Some (signed_number n)
 unfolding value_of
 value_of-positive n = refl
 
@@ -117,11 +117,11 @@ pub value_of-none : (n : ℕ) → n ≡ 0 → value_of true n ≡ None
 unfolding value_of
 value_of-none n h = cond-true _ _ _ (eq-eqb n 0 h)
 
-pub value_of-negative : (n m : ℕ) → n < 2 ^ 32 → m < 2 ^ 32 → (n ≡ 0 → ⊥) → (m + n) % 2 ^ 32 ≡ 0 → value_of true n ≡ Some (signed m)
+pub value_of-negative : (n m : ℕ) → n < 2 ^ 32 → m < 2 ^ 32 → (n ≡ 0 → ⊥) → (m + n) % 2 ^ 32 ≡ 0 → value_of true n ≡ Some (signed_number m)
 unfolding value_of
 value_of-negative n m h k some e =
     let f : 2 ^ 32 - n ≡ m = omega arith in
-    cond-false _ _ _ (ne_eqb n 0 some) ∙ ap (λ v. Some (signed v)) f
+    cond-false _ _ _ (ne_eqb n 0 some) ∙ ap (λ v. Some (signed_number v)) f
 
 pub bit_number-one : (b : Bool) → (bit_number b == 1) ≡ b
 bit_number-one true = refl

@@ -5,24 +5,24 @@ use Rattle.std.specs.Int.Count.{count_leading_zeros}
 use Rattle.std.proofs.lemmas.Nat.{pow_pos, pow-add, leading_top}
 use Rattle.std.proofs.lemmas.Bool.{cases_lt}
 use Rattle.std.proofs.lemmas.Bool.Decides.{nat_tests}
-use Rattle.jbig2_coder.specs.Coder.{byte_in, filled, doubled, renormed}
+use Rattle.jbig2_coder.specs.Coder.{byte_in, byte_in_if_empty, shift_left, renormd}
 use Rattle.jbig2_coder.specs.declared.arithmetic_decoder.registers.CodeRegister.{CodeRegister}
 
-pub filled-some : (bytes : List ℕ) (r : CodeRegister) → 1 ≤ r.ct → filled bytes r ≡ r
-unfolding filled
+pub filled-some : (bytes : List ℕ) (r : CodeRegister) → 1 ≤ r.ct → byte_in_if_empty bytes r ≡ r
+unfolding byte_in_if_empty
 filled-some bytes r h = grind (arith, nat_tests)
 
-pub filled-none : (bytes : List ℕ) (r : CodeRegister) → r.ct ≡ 0 → filled bytes r ≡ byte_in bytes r.c r.place
-unfolding filled
+pub filled-none : (bytes : List ℕ) (r : CodeRegister) → r.ct ≡ 0 → byte_in_if_empty bytes r ≡ byte_in bytes r.c r.place
+unfolding byte_in_if_empty
 filled-none bytes r h = grind (arith, nat_tests)
 
 pub renormed-step : (bytes : List ℕ) (n a : ℕ) (r : CodeRegister) → a < 0x8000
-    → renormed bytes (suc n) a r ≡ renormed bytes n (2 * a) (doubled (filled bytes r))
-unfolding renormed
+    → renormd bytes (suc n) a r ≡ renormd bytes n (2 * a) (shift_left (byte_in_if_empty bytes r))
+unfolding renormd
 renormed-step bytes n a r h = grind (arith, nat_tests)
 
-pub renormed-stop : (bytes : List ℕ) (n a : ℕ) (r : CodeRegister) → 0x8000 ≤ a → renormed bytes n a r ≡ record { a = a; code = r }
-unfolding renormed
+pub renormed-stop : (bytes : List ℕ) (n a : ℕ) (r : CodeRegister) → 0x8000 ≤ a → renormd bytes n a r ≡ record { a = a; code = r }
+unfolding renormd
 renormed-stop bytes zero a r h = refl
 renormed-stop bytes (suc n) a r h = grind (arith, nat_tests)
 
@@ -33,14 +33,14 @@ pub batch-room : (a k : ℕ) → a * 2 ^ suc k < 2 ^ 16 → a < 0x8000
 batch-room a k h = omega (arith, rw pow-suc at h, mul-le-mul_left a (pow_pos k))
 
 pub renormed-enough : (bytes : List ℕ) (n k a : ℕ) (r : CodeRegister) → 0x8000 ≤ a * 2 ^ n
-    → renormed bytes (n + k) a r ≡ renormed bytes n a r
+    → renormd bytes (n + k) a r ≡ renormd bytes n a r
 renormed-enough bytes zero k a r h = renormed-stop bytes (0 + k) a r (omega arith) ∙ sym (renormed-stop bytes 0 a r (omega arith))
 renormed-enough bytes (suc n) k a r h =
     let s : suc n + k ≡ suc (n + k) = omega arith in
     let room : 0x8000 ≤ 2 * a * 2 ^ n = omega (arith, rw pow-suc at h) in
     rw s (⊎_elim
     (λ (l : a < 0x8000).
-    renormed-step bytes (n + k) a r l ∙ renormed-enough bytes n k (2 * a) (doubled (filled bytes r)) room ∙ sym (renormed-step bytes n a r l))
+    renormed-step bytes (n + k) a r l ∙ renormed-enough bytes n k (2 * a) (shift_left (byte_in_if_empty bytes r)) room ∙ sym (renormed-step bytes n a r l))
     (λ (l : 0x8000 ≤ a). renormed-stop bytes (suc (n + k)) a r l ∙ sym (renormed-stop bytes (suc n) a r l))
     (cases_lt a 0x8000))
 

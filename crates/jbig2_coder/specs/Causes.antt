@@ -8,7 +8,7 @@ use Rattle.jbig2_base.specs.declared.error.DecodeError.TheVariants.{Parse, Huffm
 use Rattle.jbig2_base.specs.declared.error.ParseError.TheVariants.{UnexpectedEof}
 use Rattle.jbig2_base.specs.declared.error.HuffmanError.TheVariants.{InvalidCode, MissingTables, UnexpectedOob}
 use Rattle.jbig2_coder.specs.CustomTable.{custom_header, custom_lines, range_lines}
-use Rattle.jbig2_coder.specs.PrefixCode.{Member, front_number, longest, moved, weight}
+use Rattle.jbig2_coder.specs.PrefixCode.{Member, front_number, longest, value_of_line, weight}
 use Rattle.jbig2_coder.specs.declared.huffman_table.custom.Header.{Header}
 use Rattle.jbig2_coder.specs.declared.huffman_table.line.TableLine.{TableLine}
 
@@ -40,7 +40,7 @@ LeavesWord (negsuc n) = 2 ^ 31 ≤ n
 -- the bits of a line's range are missing, or the value does not fit signed 32 bits
 abbrev pub BreaksRange : TableLine → List ℕ → DecodeError → Type 0
 BreaksRange line bits (Huffman InvalidCode) =
-    (length bits < line.range_length) ⊎ LeavesWord (moved line (front_number line.range_length bits))
+    (length bits < line.range_length) ⊎ LeavesWord (value_of_line line (front_number line.range_length bits))
 BreaksRange line bits _ = ⊥
 
 -- A value: the fault is in its code, or after it in the range of the code's line.
@@ -60,12 +60,12 @@ BreaksNumber ms bits e = BreaksValue ms bits e
 abbrev pub BreaksSomeLine : ℕ → Header → ℤ → Place → Type 0
 BreaksSomeLine zero h low p = ⊥
 BreaksSomeLine (suc n) h low p =
-    let behind = bits_on h.prefix_bits p in
-    let range = front_number h.range_bits (bits_left behind) in
+    let after_prefix = bits_on h.prefix_bits p in
+    let range = front_number h.range_bits (bits_left after_prefix) in
     let next = low +ℤ pos (2 ^ range) in
     (int_lt low h.maximum ≡ true)
     × (((length (bits_left p) < h.prefix_bits + h.range_bits) ⊎ ((32 ≤ range) ⊎ LeavesWord next))
-    ⊎ BreaksSomeLine n h next (bits_on h.range_bits behind))
+    ⊎ BreaksSomeLine n h next (bits_on h.range_bits after_prefix))
 
 -- The lines that the header asks for: one of the range lines has a fault; or after them the lengths of the lower, the
 -- upper and the out-of-band line are not all there.

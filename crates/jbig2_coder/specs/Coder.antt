@@ -18,8 +18,8 @@ Registers = record { a : ℕ; code : CodeRegister }
 abbrev pub Coder : Type 0  -- the bytes that a decoder reads, and its registers
 Coder = record { bytes : List ℕ; registers : Registers }
 
-unfoldable pub doubled : CodeRegister → CodeRegister  -- C is shifted by one bit
-doubled r = record { c = 2 * r.c % 2 ^ 32; ct = r.ct - 1; place = r.place }
+unfoldable pub shift_left : CodeRegister → CodeRegister  -- C is shifted by one bit
+shift_left r = record { c = 2 * r.c % 2 ^ 32; ct = r.ct - 1; place = r.place }
 
 module _ (bytes : List ℕ) where  -- the bytes that are read
   unfoldable pub byte_at : ℕ → ℕ  -- the byte at a place; past the end every byte is FF
@@ -36,15 +36,15 @@ module _ (bytes : List ℕ) where  -- the bytes that are read
       if byte_at place == 0xFF then after_ff
       else record { c = (c + (0xFF00 - next * 2 ^ 8)) % 2 ^ 32; ct = 8; place = place + 1 }
 
-  unfoldable pub filled : CodeRegister → CodeRegister  -- BYTEIN, but only if no bit is left
-  filled r = if r.ct == 0 then byte_in r.c r.place else r
+  unfoldable pub byte_in_if_empty : CodeRegister → CodeRegister  -- BYTEIN, but only if no bit is left
+  byte_in_if_empty r = if r.ct == 0 then byte_in r.c r.place else r
 
   -- RENORMD (E.3.3): A and C are shifted bit by bit until A is at least 8000. Fifteen shifts are enough for any A
   -- but 0.
-  unfoldable pub renormed : ℕ → ℕ → CodeRegister → Registers
-  renormed zero a r = record { a = a; code = r }
-  renormed (suc n) a r =
-      let more = renormed n (2 * a) (doubled (filled r)) in
+  unfoldable pub renormd : ℕ → ℕ → CodeRegister → Registers
+  renormd zero a r = record { a = a; code = r }
+  renormd (suc n) a r =
+      let more = renormd n (2 * a) (shift_left (byte_in_if_empty r)) in
       if nat_lt a 0x8000 then more else record { a = a; code = r }
 
   unfoldable pub initial_registers : Registers  -- INITDEC (Figure G.1)
@@ -88,7 +88,7 @@ decision bytes registers context =
     let code : CodeRegister = record registers.code { c = chosen.c } in
     record {
       symbol = chosen.symbol;
-      registers = (if chosen.renorm then renormed bytes 15 chosen.a code else record { a = chosen.a; code = code });
+      registers = (if chosen.renorm then renormd bytes 15 chosen.a code else record { a = chosen.a; code = code });
       context = chosen.context;
     }
 

@@ -12,34 +12,34 @@ Writer = record { register : ℕ; wait : ℕ; out : List ℕ }
 abbrev pub Coding : Type 0  -- with the interval register A
 Coding = record { range : ℕ; writer : Writer }
 
-unfoldable pub opened : Coding  -- INITENC (E.2.8)
-opened = record { range = 0x8000; writer = record { register = 0; wait = 12; out = [] } }
+unfoldable pub initial_coding : Coding  -- INITENC (E.2.8)
+initial_coding = record { range = 0x8000; writer = record { register = 0; wait = 12; out = [] } }
 
-unfoldable pub plain : ℕ → List ℕ → Writer  -- BYTEOUT (E.2.7) of a byte of eight bits
-plain c out = record { register = c % 2 ^ 19; wait = 8; out = (c / 2 ^ 19 % 256) ∷ out }
+unfoldable pub eight_bits_out : ℕ → List ℕ → Writer  -- BYTEOUT (E.2.7) of a byte of eight bits
+eight_bits_out c out = record { register = c % 2 ^ 19; wait = 8; out = (c / 2 ^ 19 % 256) ∷ out }
 
-unfoldable pub stuffed : ℕ → List ℕ → Writer  -- the same of a byte of seven bits, after a byte FF
-stuffed c out = record { register = c % 2 ^ 20; wait = 7; out = (c / 2 ^ 20) ∷ out }
+unfoldable pub seven_bits_out : ℕ → List ℕ → Writer  -- the same of a byte of seven bits, after a byte FF
+seven_bits_out c out = record { register = c % 2 ^ 20; wait = 7; out = (c / 2 ^ 20) ∷ out }
 
 -- BYTEOUT (E.2.7): a carry is added to the last byte, but not to FF; after FF a stuffed bit takes the carry
 unfoldable pub byte_out : ℕ → List ℕ → Writer
-byte_out c [] = plain c []
+byte_out c [] = eight_bits_out c []
 byte_out c (last ∷ out) =
-    if last == 0xFF then stuffed c (last ∷ out)
-    else if nat_lt c (2 ^ 27) then plain c (last ∷ out)
-    else if last + 1 == 0xFF then stuffed (c % 2 ^ 27) (0xFF ∷ out)
-    else plain c ((last + 1) ∷ out)
+    if last == 0xFF then seven_bits_out c (last ∷ out)
+    else if nat_lt c (2 ^ 27) then eight_bits_out c (last ∷ out)
+    else if last + 1 == 0xFF then seven_bits_out (c % 2 ^ 27) (0xFF ∷ out)
+    else eight_bits_out c ((last + 1) ∷ out)
 
-unfoldable pub shifted : Writer → Writer  -- C is shifted by one bit, and a byte goes out if there are enough bits
-shifted w =
+unfoldable pub shift_once : Writer → Writer  -- C is shifted by one bit, and a byte goes out if there are enough bits
+shift_once w =
     if w.wait - 1 == 0 then byte_out (2 * w.register) w.out
     else record { register = 2 * w.register; wait = w.wait - 1; out = w.out }
 
 -- RENORME (E.2.6): A and C are shifted bit by bit until A is at least 8000. Fifteen shifts are enough for any A but 0.
-unfoldable pub renormed : ℕ → ℕ → Writer → Coding
-renormed zero a w = record { range = a; writer = w }
-renormed (suc n) a w =
-    let more = renormed n (2 * a) (shifted w) in
+unfoldable pub renorme : ℕ → ℕ → Writer → Coding
+renorme zero a w = record { range = a; writer = w }
+renorme (suc n) a w =
+    let more = renorme n (2 * a) (shift_once w) in
     if nat_lt a 0x8000 then more else record { range = a; writer = w }
 
 abbrev pub Narrowed : Type 0  -- A, C and the context after a decision, and whether RENORME follows
@@ -63,18 +63,18 @@ module _ (context : Context) where  -- the context of the decision
       if nat_lt rest qe then record { range = rest; register = c + qe; context = unlikely_next context; renorm = true }
       else record { range = qe; register = c; context = unlikely_next context; renorm = true }
 
-  unfoldable pub narrowed : Bool → ℕ → ℕ → Narrowed  -- ENCODE (E.2.2 and E.2.3)
-  narrowed decision a c =
+  unfoldable pub narrowed_interval : Bool → ℕ → ℕ → Narrowed  -- ENCODE (E.2.2 and E.2.3)
+  narrowed_interval decision a c =
       if (if context.likely then decision else not decision) then narrowed_likely a c
       else narrowed_unlikely a c
 
   -- the encoder after a decision is coded, and the decision's context then
   unfoldable pub encoding : Bool → Coding → record { coding : Coding; context : Context }
   encoding decision s =
-      let next = narrowed decision s.range s.writer.register in
+      let next = narrowed_interval decision s.range s.writer.register in
       let writer : Writer = record s.writer { register = next.register } in
       let as_is : Coding = record { range = next.range; writer = writer } in
-      record { coding = (if next.renorm then renormed 15 next.range writer else as_is); context = next.context }
+      record { coding = (if next.renorm then renorme 15 next.range writer else as_is); context = next.context }
 
 unfoldable pub set_bits : ℕ → ℕ → ℕ  -- SETBITS (E.2.9): C with as many low bits set as the interval allows
 set_bits a c =
@@ -82,8 +82,8 @@ set_bits a c =
     if nat_le (c + a) ones then ones - 0x8000 else ones
 
 -- FLUSH (E.2.9): C goes out in two bytes, and then the marker FF AC ends the data; a last byte FF begins the marker
-unfoldable pub flushed : Coding → Writer
-flushed s =
+unfoldable pub flush_coder : Coding → Writer
+flush_coder s =
     let first = byte_out (set_bits s.range s.writer.register * 2 ^ s.writer.wait) s.writer.out in
     byte_out (first.register * 2 ^ first.wait) first.out
 
@@ -91,8 +91,8 @@ unfoldable pub is_full : List ℕ → Bool
 is_full [] = false
 is_full (last ∷ out) = last == 0xFF
 
-unfoldable pub closed : List ℕ → List ℕ
-closed out = reverse (if is_full out then 0xAC ∷ out else 0xAC ∷ 0xFF ∷ out)
+unfoldable pub with_marker : List ℕ → List ℕ
+with_marker out = reverse (if is_full out then 0xAC ∷ out else 0xAC ∷ 0xFF ∷ out)
 
 unfoldable pub with_context : (ℕ → Context) → ℕ → Context → ℕ → Context  -- the contexts with one of them replaced
 with_context contexts k context = λ j. if j == k then context else contexts j
@@ -103,8 +103,8 @@ encode_from s contexts ((k, decision) ∷ entries) =
     let next = encoding (contexts k) decision s in
     encode_from next.coding (with_context contexts k next.context) entries
 
-unfoldable pub encoded : List (ℕ × Bool) → List ℕ  -- the bytes of a list of (context, decision)
-encoded entries = closed (flushed (encode_from opened (λ _. fresh) entries)).out
+unfoldable pub encoded_bytes : List (ℕ × Bool) → List ℕ  -- the bytes of a list of (context, decision)
+encoded_bytes entries = with_marker (flush_coder (encode_from initial_coding (λ _. fresh) entries)).out
 
 unfoldable pub decoded_from : List ℕ → Registers → (ℕ → Context) → List ℕ → List Bool  -- the decisions that are read
 decoded_from bytes registers contexts [] = []
@@ -117,4 +117,4 @@ read_back bytes asked = decoded_from bytes (initial_registers bytes) (λ _. fres
 
 abbrev pub DecodesBack : Type 0  -- what is encoded is read back, if the decoder uses the same contexts
 DecodesBack = (entries : List (ℕ × Bool))
-    → read_back (encoded entries) (map (λ (k, decision). k) entries) ≡ map (λ (k, decision). decision) entries
+    → read_back (encoded_bytes entries) (map (λ (k, decision). k) entries) ≡ map (λ (k, decision). decision) entries

@@ -1,6 +1,7 @@
 -- Integers and symbol ids (T.88, Annex A): the bits read so far give the context of each decision. A reading takes the
 -- coder's registers and a procedure's contexts. It gives a value or out of band, with registers and contexts as they
--- are then. `asked` takes the name of a procedure (6.4, 6.5), whose contexts are kept from integer to integer.
+-- are then. `integer_by` takes the name of a procedure (6.4, 6.5), whose contexts are kept from integer to
+-- integer.
 use Rattle.std.specs.Prelude.{ℕ, suc, zero, ◌+◌, ◌-◌, ◌*◌, ◌%◌, ◌^◌, Bool, true, false, not, ◌&&◌, if◌then◌else◌, ◌==◌}
 use Rattle.std.specs.Prelude.{nat_lt, List, [], ◌∷◌, ◌++◌, length, drop, slice_index_or, slice_set, Some, None, Option}
 use Rattle.std.specs.Prelude.{ℤ, pos, ◌-ℤ◌, replicate}
@@ -62,20 +63,20 @@ unfoldable pub next_range : List Range → List ℕ → Reading → Range  -- th
 next_range [] bytes r = range [] 0 0
 next_range (row ∷ rows) bytes r = if are_next row.prefix bytes r then row else next_range rows bytes r
 
-unfoldable pub signed : ℕ → ℤ  -- a number below 2 ^ 32 as a signed one of 32 bits
-signed n = if nat_lt n (2 ^ 31) then pos n else pos n -ℤ pos (2 ^ 32)
+unfoldable pub signed_number : ℕ → ℤ  -- a number below 2 ^ 32 as a signed one of 32 bits
+signed_number n = if nat_lt n (2 ^ 31) then pos n else pos n -ℤ pos (2 ^ 32)
 
 unfoldable pub value_of : Bool → ℕ → Option ℤ  -- the value, or out of band
 value_of negative sum =
-    if negative then (if sum == 0 then None else Some (signed (2 ^ 32 - sum))) else Some (signed sum)
+    if negative then (if sum == 0 then None else Some (signed_number (2 ^ 32 - sum))) else Some (signed_number sum)
 
 -- An integer (A.2): a sign, a prefix and a value.
 unfoldable pub integer : List ℕ → Registers → List Context → record { value : Option ℤ; reading : Reading }
 integer bytes registers contexts =
     let start : Reading = record { bits = []; registers = registers; contexts = contexts } in
-    let signed = read prev_of bytes start in
-    let row = next_range ranges bytes signed in
-    let before = read_more prev_of (length row.prefix) bytes signed in
+    let sign = read prev_of bytes start in
+    let row = next_range ranges bytes sign in
+    let before = read_more prev_of (length row.prefix) bytes sign in
     let after = read_more prev_of row.bits bytes before in
     let sum = (value_of_bits (drop (length before.bits) after.bits) + row.offset) % 2 ^ 32 in
     record { value = value_of (next prev_of bytes start).symbol sum; reading = after }
@@ -114,9 +115,9 @@ abbrev pub asked_integer : IntegerProcedure → Coder → Procedures → record 
 asked_integer procedure c procedures = integer c.bytes c.registers (slice_index_or procedures (index_of procedure) [])
 
 -- The next integer of a procedure, and the coder and the contexts after it.
-unfoldable pub asked : IntegerProcedure → Coder → Procedures
+unfoldable pub integer_by : IntegerProcedure → Coder → Procedures
     → record { value : Option ℤ; coder : Coder; procedures : Procedures }
-asked procedure c procedures =
+integer_by procedure c procedures =
     let i = asked_integer procedure c procedures in
     record {
       value = i.value;

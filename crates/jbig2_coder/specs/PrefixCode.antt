@@ -93,12 +93,12 @@ read_code ms bits =
 abbrev pub in_word : ℤ → Result ℤ DecodeError  -- a number that fits signed 32 bits
 in_word n = word_or (Huffman InvalidCode) n
 
-abbrev pub moved : TableLine → ℕ → ℤ  -- the low value plus the range bits, or minus them in a lower line
-moved line offset = if line.is_lower then line.range_low -ℤ pos offset else line.range_low +ℤ pos offset
+abbrev pub value_of_line : TableLine → ℕ → ℤ  -- the low value plus the range bits, or minus them in a lower line
+value_of_line line offset = if line.is_lower then line.range_low -ℤ pos offset else line.range_low +ℤ pos offset
 
 abbrev pub value_by : TableLine → Option ℕ → Result (Option ℤ) DecodeError  -- a line's value, by its range bits
 value_by line None = Err (Huffman InvalidCode)
-value_by line (Some offset) = in_word (moved line offset) >>= λ n. Ok (Some n)
+value_by line (Some offset) = in_word (value_of_line line offset) >>= λ n. Ok (Some n)
 
 -- A value read by a table (B.4): a code, and then the range bits of its line. Out of band is None, without range bits.
 unfoldable pub decoded_value : List Member → List ℕ → CodeReading (Option ℤ)
@@ -106,8 +106,8 @@ decoded_value ms bits =
     let code = read_code ms bits in
     elim code.result [
       | Ok line ↦ let value = value_by line (bits_next line.range_length (drop code.taken bits)) in
-          let behind = if line.is_out_of_band then 0 else line.range_length in
-          record { result = (if line.is_out_of_band then Ok None else value); taken = code.taken + behind }
+          let extra = if line.is_out_of_band then 0 else line.range_length in
+          record { result = (if line.is_out_of_band then Ok None else value); taken = code.taken + extra }
       | Err e ↦ record { result = Err e; taken = code.taken }
     ]
 

@@ -1,5 +1,5 @@
 pub mod Ahead
-pub mod CodeParts
+pub mod CodeReadings
 pub mod EncoderViews
 pub mod FirstCodes
 pub mod IntegerStates

@@ -3,7 +3,7 @@
 ghost use Rattle.std.specs.Prelude.{◌≡◌, ℕ, ◌+◌, ◌-◌, ◌*◌, ◌/◌, ◌^◌, ◌<◌, ◌≤◌, not, true, false, max, if◌then◌else◌};
 ghost use Rattle.jbig2_base.specs.Grid.{bit_number};
 ghost use Rattle.jbig2_coder.specs.Table.{row_of};
-ghost use Rattle.jbig2_coder.specs.Coder.{fresh, byte_at, byte_in, renormed, initial_registers, choice, likely_next, unlikely_next, decision, all_quiet};
+ghost use Rattle.jbig2_coder.specs.Coder.{fresh, byte_at, byte_in, renormd, initial_registers, choice, likely_next, unlikely_next, decision, all_quiet};
 ghost use Rattle.jbig2_coder.specs.inner.States.{Does};
 
 use crate::arithmetic_decoder::qe_table::{State, state_at};

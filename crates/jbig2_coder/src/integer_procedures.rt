@@ -2,7 +2,7 @@
 
 ghost use Rattle.std.specs.Prelude.{◌≡◌, ◌+◌, ◌<◌, length, Ok};
 ghost use Rattle.jbig2_base.specs.Results.{Gives};
-ghost use Rattle.jbig2_coder.specs.Integers.{asked, asked_integer, fresh_procedures, index_of};
+ghost use Rattle.jbig2_coder.specs.Integers.{integer_by, asked_integer, fresh_procedures, index_of};
 
 use crate::arithmetic_decoder::ArithmeticDecoder;
 use crate::integer_decoder::IntegerDecoder;
@@ -91,16 +91,16 @@ impl<A: Allocator + Clone> IntegerProcedures<A> {
 
 impl<A: Allocator> IntegerProcedures<A> {
     /// The next integer of a procedure, or `None` if it is out of band.
-    #[tactic(auto, unfolding(crate::specs::Integers::asked))]
+    #[tactic(auto, unfolding(crate::specs::Integers::integer_by))]
     pub fn ask<L: Ledger>(
         &mut self,
         procedure: IntegerProcedure,
         decoder: &mut ArithmeticDecoder<'_>,
         steps: &mut Steps<L>,
     ) -> Option<i32>
-        ensures value { result ≡ (asked procedure decoder.old self.old).value }
-        ensures coder { decoder.new ≡ (asked procedure decoder.old self.old).coder }
-        ensures procedures { self.new ≡ (asked procedure decoder.old self.old).procedures }
+        ensures value { result ≡ (integer_by procedure decoder.old self.old).value }
+        ensures coder { decoder.new ≡ (integer_by procedure decoder.old self.old).coder }
+        ensures procedures { self.new ≡ (integer_by procedure decoder.old self.old).procedures }
         ensures steps { let count = length
             (asked_integer procedure decoder.old self.old).reading.bits in
             steps.new ≡ record steps.old { decisions = steps.old.decisions + count } }

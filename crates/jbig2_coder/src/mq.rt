@@ -3,7 +3,7 @@
 ghost use Rattle.std.specs.Prelude.{◌≡◌, ◌+◌, length, vec_len, IfOk, IfErr, OnOk, Ok};
 ghost use Rattle.jbig2_base.specs.Results.{Gives};
 ghost use Rattle.jbig2_base.specs.declared.error.DecodeError.TheVariants.{OutOfMemory};
-ghost use Rattle.jbig2_coder.specs.Encoder.{encoded, read_back, DecodesBack};
+ghost use Rattle.jbig2_coder.specs.Encoder.{encoded_bytes, read_back, DecodesBack};
 ghost use Rattle.jbig2_coder.specs.inner.EncoderViews.{contexts_of, all_fresh};
 
 use crate::arithmetic_decoder::{ArithmeticDecoder, ArithmeticDecoderContext};
@@ -33,7 +33,7 @@ fn fresh_contexts<A: Allocator>(alloc: A) -> Result<Vec<ArithmeticDecoderContext
 ///
 /// Returns `OutOfMemory` if memory is refused.
 pub fn encode_list<A: Allocator + Clone>(alloc: A, list: &[(u16, bool)]) -> Result<Vec<u8, A>>
-    ensures { Gives (λ v. v.items) result (Ok (encoded list.now)) }
+    ensures { Gives (λ v. v.items) result (Ok (encoded_bytes list.now)) }
 {
     let mut contexts = fresh_contexts(alloc.clone()?)?;
     let mut encoder = ArithmeticEncoder::new(alloc);

@@ -11,7 +11,7 @@ use Rattle.jbig2_base.specs.declared.error.DecodeError.TheVariants.{OutOfMemory}
 use Rattle.hayro_jbig2.specs.Files.{ReadFile, book_at, pages_of}
 use Rattle.hayro_jbig2.specs.Image.{packed_of_page}
 use Rattle.hayro_jbig2.specs.Page.{ReadPage, grid_of_page}
-use Rattle.jbig2_commands.specs.Printed.{bitmap_head, bitmap_text, calls_text, of_file, or_fault, page_line, page_at_index, printed, Ends, Prints}
+use Rattle.jbig2_commands.specs.Printed.{bitmap_head, bitmap_text, calls_text, of_file, or_fault, page_line, page_at_index, printed_text, Ends, Prints}
 use Rattle.jbig2_commands.specs.Words.{Task, Pages, Calls, Pbm}
 use Rattle.jbig2_commands.specs.declared.fault.Fault.{Fault}
 use Rattle.jbig2_commands.specs.declared.fault.Fault.TheVariants.{Decode, Unreadable, Unwritable}
@@ -22,8 +22,8 @@ unprinted (Err f) fault k why = inr (why, Keeps-refl k)
 
 -- for want of memory
 pub starved : (strict : Bool) (task : Task) (known k : Option (List ℕ)) → Ends strict task (Some known) (Err (Decode OutOfMemory)) k k
-starved strict task None k = inr ([], tt, unprinted (printed strict task []) (Decode OutOfMemory) k (inl refl))
-starved strict task (Some bytes) k = inr (bytes, refl, unprinted (printed strict task bytes) (Decode OutOfMemory) k (inl refl))
+starved strict task None k = inr ([], tt, unprinted (printed_text strict task []) (Decode OutOfMemory) k (inl refl))
+starved strict task (Some bytes) k = inr (bytes, refl, unprinted (printed_text strict task bytes) (Decode OutOfMemory) k (inl refl))
 
 -- for want of memory, or for the reader's fault
 pub unread : (strict : Bool) (task : Task) (known k : Option (List ℕ)) (fault : Fault) → (fault ≡ Unreadable) ⊎ (fault ≡ Decode OutOfMemory) → Ends strict task (Some known) (Err fault) k k
@@ -60,24 +60,24 @@ no_text : (text : Text) (index : List ℕ) (meant : Result ReadFile DecodeError)
 no_text text index meant book fault is named = ap (λ (m : Result ReadFile DecodeError). of_file text index m) is ∙ ap (λ (m : Result ReadPage Fault). m >>= λ found. or_fault (text found)) named
 
 module _ (strict : Bool) (task : Task) (index bytes : List ℕ) (book : ReadFile) (r : Result (Unit {0}) Fault) (k k' : Option (List ℕ)) where
-  pub pages_printed : task ≡ Pages → book_at (reading_of strict) bytes ≡ Ok book → Prints (Ok (flat_map page_line (pages_of book))) r k k' → Prints (printed strict task bytes) r k k'
+  pub pages_printed : task ≡ Pages → book_at (reading_of strict) bytes ≡ Ok book → Prints (Ok (flat_map page_line (pages_of book))) r k k' → Prints (printed_text strict task bytes) r k k'
   pages_printed t is shown = subst (λ (m : Result (List ℕ) Fault). Prints m r k k')
-      (sym (ap (λ (u : Task). printed strict u bytes) t ∙ ap (λ (m : Result ReadFile DecodeError). or_fault (m >>= λ b. Ok (flat_map page_line (pages_of b)))) is))
+      (sym (ap (λ (u : Task). printed_text strict u bytes) t ∙ ap (λ (m : Result ReadFile DecodeError). or_fault (m >>= λ b. Ok (flat_map page_line (pages_of b)))) is))
       shown
 
-  pub calls_printed : (page : ReadPage) → task ≡ Calls index → book_at (reading_of strict) bytes ≡ Ok book → page_at_index index book ≡ Ok page → Prints (or_fault (calls_text (grid_of_page page))) r k k' → Prints (printed strict task bytes) r k k'
+  pub calls_printed : (page : ReadPage) → task ≡ Calls index → book_at (reading_of strict) bytes ≡ Ok book → page_at_index index book ≡ Ok page → Prints (or_fault (calls_text (grid_of_page page))) r k k' → Prints (printed_text strict task bytes) r k k'
   calls_printed page t is named shown =
-      subst (λ (m : Result (List ℕ) Fault). Prints m r k k') (sym (ap (λ (u : Task). printed strict u bytes) t ∙ text_of (λ p. calls_text (grid_of_page p)) index (book_at (reading_of strict) bytes) book page is named)) shown
+      subst (λ (m : Result (List ℕ) Fault). Prints m r k k') (sym (ap (λ (u : Task). printed_text strict u bytes) t ∙ text_of (λ p. calls_text (grid_of_page p)) index (book_at (reading_of strict) bytes) book page is named)) shown
 
-  pub bitmap_printed : (page : ReadPage) → task ≡ Pbm index → book_at (reading_of strict) bytes ≡ Ok book → page_at_index index book ≡ Ok page → Prints (or_fault (bitmap_text page)) r k k' → Prints (printed strict task bytes) r k k'
+  pub bitmap_printed : (page : ReadPage) → task ≡ Pbm index → book_at (reading_of strict) bytes ≡ Ok book → page_at_index index book ≡ Ok page → Prints (or_fault (bitmap_text page)) r k k' → Prints (printed_text strict task bytes) r k k'
   bitmap_printed page t is named shown =
-      subst (λ (m : Result (List ℕ) Fault). Prints m r k k') (sym (ap (λ (u : Task). printed strict u bytes) t ∙ text_of (λ p. bitmap_text p) index (book_at (reading_of strict) bytes) book page is named)) shown
+      subst (λ (m : Result (List ℕ) Fault). Prints m r k k') (sym (ap (λ (u : Task). printed_text strict u bytes) t ∙ text_of (λ p. bitmap_text p) index (book_at (reading_of strict) bytes) book page is named)) shown
 
 module _ (strict : Bool) (task : Task) (index bytes : List ℕ) (book : ReadFile) (fault : Fault) (k : Option (List ℕ)) where
-  pub calls_unnamed : task ≡ Calls index → book_at (reading_of strict) bytes ≡ Ok book → page_at_index index book ≡ Err fault → Prints (printed strict task bytes) (Err fault) k k
+  pub calls_unnamed : task ≡ Calls index → book_at (reading_of strict) bytes ≡ Ok book → page_at_index index book ≡ Err fault → Prints (printed_text strict task bytes) (Err fault) k k
   calls_unnamed t is named =
-      unprinted (printed strict task bytes) fault k (inr (ap (λ (u : Task). printed strict u bytes) t ∙ no_text (λ p. calls_text (grid_of_page p)) index (book_at (reading_of strict) bytes) book fault is named))
+      unprinted (printed_text strict task bytes) fault k (inr (ap (λ (u : Task). printed_text strict u bytes) t ∙ no_text (λ p. calls_text (grid_of_page p)) index (book_at (reading_of strict) bytes) book fault is named))
 
-  pub bitmap_unnamed : task ≡ Pbm index → book_at (reading_of strict) bytes ≡ Ok book → page_at_index index book ≡ Err fault → Prints (printed strict task bytes) (Err fault) k k
+  pub bitmap_unnamed : task ≡ Pbm index → book_at (reading_of strict) bytes ≡ Ok book → page_at_index index book ≡ Err fault → Prints (printed_text strict task bytes) (Err fault) k k
   bitmap_unnamed t is named =
-      unprinted (printed strict task bytes) fault k (inr (ap (λ (u : Task). printed strict u bytes) t ∙ no_text (λ p. bitmap_text p) index (book_at (reading_of strict) bytes) book fault is named))
+      unprinted (printed_text strict task bytes) fault k (inr (ap (λ (u : Task). printed_text strict u bytes) t ∙ no_text (λ p. bitmap_text p) index (book_at (reading_of strict) bytes) book fault is named))

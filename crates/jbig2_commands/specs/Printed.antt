@@ -1,5 +1,6 @@
--- What a run prints (our own rule), what it writes to standard error, and its status. `printed` takes the mode, the
--- task and a file's bytes, and gives the bytes to print, or the fault. `RunEnds`, the last, is the statement of `run`.
+-- What a run prints (our own rule), what it writes to standard error, and its status. `printed_text` takes the mode,
+-- the task and a file's bytes, and gives the bytes to print, or the fault. `RunEnds`, the last, is the statement of
+-- `run`.
 use Rattle.std.specs.Prelude.{◌≡◌, ◌⊎◌, ℕ, Bool, true, List, [], ◌++◌, Option, Some, None, IfSome, IsTrue, ok_or}
 use Rattle.std.specs.Prelude.{Result, Ok, Err, codes, if◌then◌else◌}
 use Rattle.std.specs.Fmt.{decimal}
@@ -16,7 +17,7 @@ use Rattle.hayro_jbig2.specs.Calls.{Call, Pixel, Chunk, Line, calls_of}
 use Rattle.hayro_jbig2.specs.Files.{ReadFile, book_at, page_of, pages_of}
 use Rattle.hayro_jbig2.specs.Image.{packed_of_page}
 use Rattle.hayro_jbig2.specs.Names.{no_names}
-use Rattle.hayro_jbig2.specs.Page.{ReadPage, embedded, grid_of_page}
+use Rattle.hayro_jbig2.specs.Page.{ReadPage, page_from, grid_of_page}
 use Rattle.jbig2_commands.specs.Words.{Task, Pages, Embedded, Calls, Pbm}
 use Rattle.jbig2_commands.specs.declared.fault.Fault.{Fault}
 use Rattle.jbig2_commands.specs.declared.fault.Fault.TheVariants.{Decode, NoSuchPage, Unreadable, Unwritable}
@@ -57,14 +58,14 @@ abbrev pub of_file : (ReadPage → Result (List ℕ) DecodeError) → List ℕ �
 of_file text index file = or_fault file >>= λ book. page_at_index index book >>= λ page. or_fault (text page)
 
 -- What is printed for a file's bytes, or why nothing is.
-abbrev pub printed : Bool → Task → List ℕ → Result (List ℕ) Fault
-printed strict Pages bytes =
+abbrev pub printed_text : Bool → Task → List ℕ → Result (List ℕ) Fault
+printed_text strict Pages bytes =
     or_fault (book_at (reading_of strict) bytes >>= λ book. Ok (flat_map page_line (pages_of book)))
-printed strict Embedded bytes =
-    or_fault (embedded (reading_of strict) no_names bytes >>= λ page. calls_text (grid_of_page page))
-printed strict (Calls index) bytes =
+printed_text strict Embedded bytes =
+    or_fault (page_from (reading_of strict) no_names bytes >>= λ page. calls_text (grid_of_page page))
+printed_text strict (Calls index) bytes =
     of_file (λ page. calls_text (grid_of_page page)) index (book_at (reading_of strict) bytes)
-printed strict (Pbm index) bytes = of_file bitmap_text index (book_at (reading_of strict) bytes)
+printed_text strict (Pbm index) bytes = of_file bitmap_text index (book_at (reading_of strict) bytes)
 
 -- The bytes that were meant are added to the output. Or the fault is returned and nothing is added, unless memory ran
 -- out. Where the output failed, nothing is said about its contents.
@@ -74,13 +75,13 @@ Prints (Err fault) (Ok u) old new = ⊥
 Prints meant (Err fault) old new =
     (fault ≡ Unwritable) ⊎ (((fault ≡ Decode OutOfMemory) ⊎ (meant ≡ Err fault)) × Keeps old new)
 
--- Some bytes were read, namely all that the reader has where these are known, and what `printed` gives for them is
+-- Some bytes were read, namely all that the reader has where these are known, and what `printed_text` gives for them is
 -- printed. Or the reader failed. `None` means that there is no reader.
 abbrev pub Ends : Bool → Task → Option (Option (List ℕ)) → Result (Unit {0}) Fault → Option (List ℕ) → Option (List ℕ) → Type 0
 Ends strict task None result old new = (result ≡ Err Unreadable) × Keeps old new
 Ends strict task (Some known) result old new =
     ((result ≡ Err Unreadable) × Keeps old new)
-    ⊎ ((bytes : List ℕ) × IfSome known (λ all. bytes ≡ all) × Prints (printed strict task bytes) result old new)
+    ⊎ ((bytes : List ℕ) × IfSome known (λ all. bytes ≡ all) × Prints (printed_text strict task bytes) result old new)
 
 abbrev pub fault_text : Fault → List ℕ
 fault_text Unreadable = codes "cannot read file"
@@ -89,7 +90,7 @@ fault_text (Decode e) = error_text e
 fault_text Unwritable = codes "cannot write output"
 
 abbrev pub usage_line : List ℕ
-usage_line = codes "usage: jbig2-decode [--strict] pages|embedded FILE | calls|pbm FILE INDEX\n"
+usage_line = codes "usage: jbig2-decode [--strict] pages|page_from FILE | calls|pbm FILE INDEX\n"
 
 abbrev pub fault_line : Fault → List ℕ
 fault_line fault = codes "error: " ++ fault_text fault ++ codes "\n"

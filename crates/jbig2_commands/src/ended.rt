@@ -23,7 +23,8 @@ impl Ended {
     /// The end where the words are not those of a run: writes the usage to standard error.
     pub fn refused<E: Write>(err: &mut E) -> Ended
         ensures status { result.status ≡ 2 }
-        ensures line { WritesLine result.is_written usage_line (E.contents err.old) (E.contents err.new) }
+        ensures line { WritesLine result.is_written usage_line
+            (E.contents err.old) (E.contents err.new) }
     {
         let is_written = writeln!(err, "{USAGE}").is_ok();
         Ended {

@@ -1,7 +1,7 @@
 //! The runs of the program.
 ghost use Rattle.std.specs.Prelude.{◌≡◌, ◌↔◌, ◌⊎◌, Bool, map, option_map, IsNone, IfSome, Ok, Err, IfOk, IfErr, OnOk};
 ghost use Rattle.std.specs.Str.Parse.{IsNumeral};
-ghost use Rattle.jbig2_commands.specs.Printed.{page_at_index, printed, Ends, Prints, RunEnds};
+ghost use Rattle.jbig2_commands.specs.Printed.{page_at_index, printed_text, Ends, Prints, RunEnds};
 ghost use Rattle.jbig2_commands.specs.inner.RequestViews.{HasIndex, task_view};
 ghost use Rattle.jbig2_commands.specs.Words.{request_of};
 
@@ -102,7 +102,7 @@ fn print_task<A: Allocator + Clone, O: Write>(
     out: &mut O,
 ) -> Result<(), Fault>
     requires { HasIndex (task_view request.command) }
-    ensures { Prints (printed request.entry.strict (task_view request.entry.command) bytes.now)
+    ensures { Prints (printed_text request.entry.strict (task_view request.entry.command) bytes.now)
         result (O.contents out.old) (O.contents out.new) }
 {
     let settings = DecodeSettings {

@@ -12,7 +12,7 @@ use Rattle.std.proofs.lemmas.Nat.{mul-add-lt, div-mul-add, mod-mul-add}
 use Rattle.std.proofs.Math.Seq.{drop-cons}
 use Rattle.jbig2_base.specs.Grid.{Grid, grid_of, blank, pixel, pixel_at}
 use Rattle.jbig2_base.specs.declared.error.DecodeError.{DecodeError}
-use Rattle.jbig2_base.specs.Combination.{combined, drawn_pixel, is_below, combined_pixel}
+use Rattle.jbig2_base.specs.Combination.{combined_grid, drawn_pixel, is_below, combined_pixel}
 use Rattle.jbig2_base.specs.Writes.{with_pixel}
 use Rattle.jbig2_base.proofs.GridLemmas.{grid_of-ext}
 use Rattle.jbig2_region.specs.Raster.{so_far}
@@ -136,12 +136,12 @@ outside-pixel operator page source x y i j outside inside below =
     (or_cases (is_beyond x source.width page.width) (is_beyond y source.height page.height) outside))
 
 -- so drawing it changes nothing
-outside-combined : (operator : CombinationOperator) (page source : Grid) (x y : ℤ) → IsTable page → (is_beyond x source.width page.width || is_beyond y source.height page.height) ≡ true → page ≡ combined operator page source x y
+outside-combined : (operator : CombinationOperator) (page source : Grid) (x y : ℤ) → IsTable page → (is_beyond x source.width page.width || is_beyond y source.height page.height) ≡ true → page ≡ combined_grid operator page source x y
 outside-combined operator page source x y known outside =
     known ∙ grid_of-ext page.width page.height (pixel_at page) (drawn_pixel operator page source x y) (λ i j inside below. sym (outside-pixel operator page source x y i j outside inside below))
 
 pub outside-at : (operator : CombinationOperator) (page source : Grid) (x y : ℤ) (width height columns rows : ℕ) (outside : Bool) → IsTable page → width ≡ source.width → height ≡ source.height → columns ≡ page.width → rows ≡ page.height
-    → outside ≡ (is_beyond x width columns || is_beyond y height rows) → outside ≡ true → page ≡ combined operator page source x y
+    → outside ≡ (is_beyond x width columns || is_beyond y height rows) → outside ≡ true → page ≡ combined_grid operator page source x y
 outside-at operator page source x y width height columns rows outside known wide high right bottom e off =
     outside-combined operator page source x y known (rw (sym wide, sym high, sym right, sym bottom) (sym e ∙ off))
 
@@ -202,15 +202,15 @@ cells-all h d k n values region all = rw (drop_all n values all)
 
 -- cell n of row m
 pub cell-made : (h : HalftoneHeader) (m n : ℕ) (region pattern new : Grid) (x y : ℤ) → n < h.grid_position_and_size.width → x ≡ x_of h m n → y ≡ y_of h m n
-    → new ≡ combined h.flags.combination_operator region pattern (int_shr x 8) (int_shr y 8) → new ≡ with_cell h (m * h.grid_position_and_size.width + n) pattern region
+    → new ≡ combined_grid h.flags.combination_operator region pattern (int_shr x 8) (int_shr y 8) → new ≡ with_cell h (m * h.grid_position_and_size.width + n) pattern region
 cell-made h m n region pattern new x y inside column row drawn =
     let w : ℕ = h.grid_position_and_size.width in
     let k : ℕ = m * w + n in
     let at : column_of h m n ≡ column_of h (k / w) (k % w) = sym (ap (λ (i : ℕ). column_of h i (k % w)) (div-mul-add m w n inside) ∙ ap (λ (i : ℕ). column_of h m i) (mod-mul-add m w n inside)) in
     let above : row_of h m n ≡ row_of h (k / w) (k % w) = sym (ap (λ (i : ℕ). row_of h i (k % w)) (div-mul-add m w n inside) ∙ ap (λ (i : ℕ). row_of h m i) (mod-mul-add m w n inside)) in
     drawn
-    ∙ ap (λ (z : ℤ). combined h.flags.combination_operator region pattern z (int_shr y 8)) (ap (λ (z : ℤ). int_shr z 8) column ∙ at)
-    ∙ ap (λ (z : ℤ). combined h.flags.combination_operator region pattern (column_of h (k / w) (k % w)) z) (ap (λ (z : ℤ). int_shr z 8) row ∙ above)
+    ∙ ap (λ (z : ℤ). combined_grid h.flags.combination_operator region pattern z (int_shr y 8)) (ap (λ (z : ℤ). int_shr z 8) column ∙ at)
+    ∙ ap (λ (z : ℤ). combined_grid h.flags.combination_operator region pattern (column_of h (k / w) (k % w)) z) (ap (λ (z : ℤ). int_shr z 8) row ∙ above)
 
 -- a cell that is skipped
 pub outside-known : (h : HalftoneHeader) (d : Patterns) (m n : ℕ) (x y : ℤ) (outside : Bool) → x ≡ x_of h m n → y ≡ y_of h m n → outside ≡ (is_beyond (int_shr x 8) d.width h.region_info.width || is_beyond (int_shr y 8) d.height h.region_info.height) → outside ≡ lies_outside h d m n

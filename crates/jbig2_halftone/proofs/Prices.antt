@@ -5,7 +5,7 @@ use Rattle.std.proofs.Math.Nat.{mul-le-mul_left, mul-le-mul_right}
 use Rattle.jbig2_base.specs.Counts.{Counts, most_words, overlap, words_copied}
 use Rattle.jbig2_base.specs.Grid.{Grid}
 use Rattle.jbig2_base.proofs.Prices.{most_words-few, overlap-within, written-counted}
-use Rattle.jbig2_steps.specs.Work.{CountsWithin, counted, price_of_bitmap, words_of_row}
+use Rattle.jbig2_steps.specs.Work.{CountsWithin, sum_of_counts, price_of_bitmap, words_of_row}
 use Rattle.jbig2_region.specs.GenericSteps.{price_of_region}
 use Rattle.jbig2_region.specs.Steps.{kept_pixels, row_loads, row_tests, row_words, skipping_loads, skipping_words}
 use Rattle.jbig2_region.proofs.Prices.{how_many-most, row-some, row-wide}
@@ -48,10 +48,10 @@ lanes-counted : (p : GrayScale) (taken : ℕ) → taken * taking_loads p + p.hei
 lanes-counted p taken = lanes-few taken p.height p.width (words_of_row p.width) (lanes-row p.width (words_of_row p.width) (row-wide p.width) (row-some p.width))
 
 plain-counted : (p : GrayScale) (bytes : List ℕ) (count taken w : ℕ) (before after : Counts) → w ≡ p.width → CountsPlanes p bytes count (taken * taking_loads p) before after → TakesLanes p taken before after
-    → counted after ≤ counted before + (90 * (count * (words_of_row p.width * p.height)) + 30 * (taken * (words_of_row p.width * p.height)))
+    → sum_of_counts after ≤ sum_of_counts before + (90 * (count * (words_of_row p.width * p.height)) + 30 * (taken * (words_of_row p.width * p.height)))
 plain-counted p bytes count taken zero before after is counts lanes =
     let none : p.width * p.height ≡ 0 = rw (← is) (omega arith) in
-    let kept : counted after ≡ counted before = ap (λ (c : Counts). counted c) (counts.empty none) in
+    let kept : sum_of_counts after ≡ sum_of_counts before = ap (λ (c : Counts). sum_of_counts c) (counts.empty none) in
     omega (arith, kept)
 plain-counted p bytes count taken (suc k) before after is counts lanes =
     let some : 1 ≤ p.width = omega arith in
@@ -59,7 +59,7 @@ plain-counted p bytes count taken (suc k) before after is counts lanes =
     omega (arith, few, lanes-counted p taken, counts.decisions some, counts.run_tests, counts.words, counts.loads, lanes.groups, lanes.pixels)
 
 masked-counted : (p : GrayScale) (count taken : ℕ) (before after : Counts) → CountsMasked p count (taken * taking_loads p) before after → TakesLanes p taken before after
-    → counted after ≤ counted before + (90 * (count * (words_of_row p.width * p.height)) + 30 * (taken * (words_of_row p.width * p.height)))
+    → sum_of_counts after ≤ sum_of_counts before + (90 * (count * (words_of_row p.width * p.height)) + 30 * (taken * (words_of_row p.width * p.height)))
 unfolding kept_pixels
 masked-counted p count taken before after counts lanes =
     let kept : count * kept_pixels p.skip_mask p.width p.height ≤ count * (p.width * p.height) = mul-le-mul_left count (how_many-most _ (p.width * p.height)) in
@@ -71,16 +71,16 @@ mmr-few count w h = mul-le-mul_left count (mul-le-mul_right h (omega arith))
 
 -- planes that are read, and taken
 read-counted : (p : GrayScale) (bytes : List ℕ) (count taken : ℕ) (before after : Counts) → CountsRead p bytes count taken before after
-    → counted after ≤ counted before + (90 * (count * (words_of_row p.width * p.height)) + 30 * (taken * (words_of_row p.width * p.height)) + 24 * length bytes)
+    → sum_of_counts after ≤ sum_of_counts before + (90 * (count * (words_of_row p.width * p.height)) + 30 * (taken * (words_of_row p.width * p.height)) + 24 * length bytes)
 read-counted p bytes count taken before after read = by_mmr p.use_mmr refl
   where
     by_mask : (m : Option Grid) → p.use_mmr ≡ false → p.skip_mask ≡ m
-        → counted after ≤ counted before + (90 * (count * (words_of_row p.width * p.height)) + 30 * (taken * (words_of_row p.width * p.height)) + 24 * length bytes)
+        → sum_of_counts after ≤ sum_of_counts before + (90 * (count * (words_of_row p.width * p.height)) + 30 * (taken * (words_of_row p.width * p.height)) + 24 * length bytes)
     by_mask None coded is = omega (arith, plain-counted p bytes count taken p.width before after refl (read.plain coded is) read.lanes)
     by_mask (Some mask) coded is = omega (arith, masked-counted p count taken before after (read.masked coded (ap is_some is)) read.lanes)
 
     by_mmr : (b : Bool) → p.use_mmr ≡ b
-        → counted after ≤ counted before + (90 * (count * (words_of_row p.width * p.height)) + 30 * (taken * (words_of_row p.width * p.height)) + 24 * length bytes)
+        → sum_of_counts after ≤ sum_of_counts before + (90 * (count * (words_of_row p.width * p.height)) + 30 * (taken * (words_of_row p.width * p.height)) + 24 * length bytes)
     by_mmr true is =
         let moves = read.mmr is in
         omega (arith, mmr-few count p.width p.height, lanes-counted p taken, moves.moves, moves.decisions, moves.run_tests, read.lanes.groups, read.lanes.pixels)
@@ -97,7 +97,7 @@ planes-paid w h bits n few = within (words_of_row w) few
     within : (m : ℕ) → n ≤ 2048 * (bits * (m * h)) → n ≤ 32 * ((64 * m * h + 64) * bits)
     within m few = omega arith
 
-image-counted : (p : GrayScale) (bytes : List ℕ) (count taken : ℕ) (before after : Counts) → count ≤ p.bits_per_pixel → taken ≤ count → CountsRead p bytes count taken before after → counted after ≤ counted before + (32 * (price_of_bitmap p.width p.height * p.bits_per_pixel) + 24 * length bytes)
+image-counted : (p : GrayScale) (bytes : List ℕ) (count taken : ℕ) (before after : Counts) → count ≤ p.bits_per_pixel → taken ≤ count → CountsRead p bytes count taken before after → sum_of_counts after ≤ sum_of_counts before + (32 * (price_of_bitmap p.width p.height * p.bits_per_pixel) + 24 * length bytes)
 image-counted p bytes count taken before after few less read =
     let plane : ℕ = words_of_row p.width * p.height in
     let all : ℕ = p.bits_per_pixel * plane in
@@ -156,7 +156,7 @@ mask-few : (b : Bool) (cells : ℕ) → (if b then cells else 0) ≤ cells
 mask-few true cells = omega arith
 mask-few false cells = omega arith
 
-mask-counted : (h : HalftoneHeader) (d : Patterns) (old : Counts) → counted (after_mask h d old) ≤ counted old + h.grid_position_and_size.height * h.grid_position_and_size.width
+mask-counted : (h : HalftoneHeader) (d : Patterns) (old : Counts) → sum_of_counts (after_mask h d old) ≤ sum_of_counts old + h.grid_position_and_size.height * h.grid_position_and_size.width
 mask-counted h d old =
     let few = mask-few (is_some (skip_mask h d)) (h.grid_position_and_size.height * h.grid_position_and_size.width) in
     omega (arith, few)
@@ -168,16 +168,16 @@ drawn-paid h d count taken old new few less (image, (read, drawn)) =
     let words : ℕ = words_of_cells h d 0 cells in
     let mask = mask-counted h d old in
     let values = image-counted (gray_params h d) h.bytes count taken (after_mask h d old) image few less read in
-    let draws : counted new ≤ counted image + 3 * words = written-counted words image new drawn in
+    let draws : sum_of_counts new ≤ sum_of_counts image + 3 * words = written-counted words image new drawn in
     let paid : 3 * words + cells ≤ 32 * (price_of_bitmap d.width d.height * cells) = cells-paid d.width d.height cells words (cells-few h d 0 cells) in
-    together (price_of_bitmap h.grid_position_and_size.width h.grid_position_and_size.height * (gray_params h d).bits_per_pixel) (price_of_bitmap d.width d.height) h.grid_position_and_size.width h.grid_position_and_size.height (length h.bytes) words (counted old) (counted (after_mask h d old)) (counted image) (counted new) mask values draws paid
+    together (price_of_bitmap h.grid_position_and_size.width h.grid_position_and_size.height * (gray_params h d).bits_per_pixel) (price_of_bitmap d.width d.height) h.grid_position_and_size.width h.grid_position_and_size.height (length h.bytes) words (sum_of_counts old) (sum_of_counts (after_mask h d old)) (sum_of_counts image) (sum_of_counts new) mask values draws paid
   where
     together : (planes pattern w h bytes words old mask image new : ℕ) → mask ≤ old + h * w → image ≤ mask + (32 * planes + 24 * bytes) → new ≤ image + 3 * words → 3 * words + h * w ≤ 32 * (pattern * (h * w)) → new ≤ old + 32 * (planes + pattern * (w * h) + bytes)
     together planes pattern w h bytes words old mask image new a b c d = omega arith
 
 pub halftone-stops-paid : (h : HalftoneHeader) (d : Patterns) (old new : Counts) → StopsHalftone h d old new → CountsWithin (price_of_halftone h d) old new
 halftone-stops-paid h d old new (inl none) =
-    let kept : counted new ≡ counted old = ap (λ (c : Counts). counted c) none in
+    let kept : sum_of_counts new ≡ sum_of_counts old = ap (λ (c : Counts). sum_of_counts c) none in
     omega (arith, kept)
 halftone-stops-paid h d old new (inr (count, (few, (taken, (less, drawn))))) = drawn-paid h d count taken old new few less drawn
 
@@ -191,13 +191,13 @@ words-beside : (n w m : ℕ) → 1 ≤ n → w ≤ 64 * m → 1 ≤ m → words_
 words-beside n w m many wide some =
     let all : n * w ≤ n * (64 * m) = mul-le-mul_left n wide in
     let least : 1 * 1 ≤ n * m = both in
-    begun (n * w) (n * m) (omega (arith, all)) (omega (arith, least))
+    opening (n * w) (n * m) (omega (arith, all)) (omega (arith, least))
   where
     both : 1 * 1 ≤ n * m
     both = let a : 1 * m ≤ n * m = mul-le-mul_right m many in omega (arith, a)
 
-    begun : (x k : ℕ) → x ≤ 64 * k → 1 ≤ k → words_of_row x ≤ k
-    begun x k wide some = omega arith
+    opening : (x k : ℕ) → x ≤ 64 * k → 1 ≤ k → words_of_row x ≤ k
+    opening x k wide some = omega arith
 
 collective-price : (n w h : ℕ) → 1 ≤ n → price_of_bitmap (n * w) h ≤ price_of_bitmap w h * n
 unfolding price_of_bitmap
@@ -227,7 +227,7 @@ cut-paid h cut w rows old mid new wide high few within copied =
     let patterns = subst (λ (n : ℕ). 2 * (cut * ((n + 63) / 64 * rows)) ≤ 32 * (price_of_bitmap n rows * (h.gray_max + 1))) wide (cut-price cut (h.gray_max + 1) w rows few) in
     let sized = subst (λ (n : ℕ). 2 * (cut * ((h.pattern_width + 63) / 64 * n)) ≤ 32 * (price_of_bitmap h.pattern_width n * (h.gray_max + 1))) high patterns in
     let words : cut * ((w + 63) / 64 * rows) ≡ cut * ((h.pattern_width + 63) / 64 * h.pattern_height) = ap (λ (n : ℕ). cut * ((n + 63) / 64 * rows)) wide ∙ ap (λ (n : ℕ). cut * ((h.pattern_width + 63) / 64 * n)) high in
-    let more : counted new ≡ counted mid + 2 * (cut * ((w + 63) / 64 * rows)) = ap (λ (c : Counts). counted c) copied ∙ omega arith in
+    let more : sum_of_counts new ≡ sum_of_counts mid + 2 * (cut * ((w + 63) / 64 * rows)) = ap (λ (c : Counts). sum_of_counts c) copied ∙ omega arith in
     omega (arith, price, sized, words, more, within)
 
 pub cut-stops-paid : (h : PatternHeader) (w rows : ℕ) (old mid new : Counts) → w ≡ h.pattern_width → rows ≡ h.pattern_height → CountsWithin (price_of_region (collective_header h)) old mid → StopsCut (h.gray_max + 1) ((w + 63) / 64 * rows) mid new → CountsWithin (price_of_patterns h) old new

@@ -5,14 +5,14 @@ use Rattle.std.specs.Prelude.{◌+ℤ◌, ◌-ℤ◌, int_le, List, [], ◌∷�
 use Rattle.std.specs.Prelude.{Err}
 use Rattle.std.specs.Int.{int_shr}
 use Rattle.jbig2_base.specs.Results.{◌>>=◌}
-use Rattle.jbig2_base.specs.Combination.{combined}
+use Rattle.jbig2_base.specs.Combination.{combined_grid}
 use Rattle.jbig2_base.specs.Grid.{Grid, grid_of, blank, max_side, check_sides}
 use Rattle.jbig2_base.specs.declared.error.DecodeError.{DecodeError}
 use Rattle.jbig2_base.specs.declared.error.DecodeError.TheVariants.{Region}
 use Rattle.jbig2_base.specs.declared.error.RegionError.TheVariants.{GrayScaleOutOfRange}
 use Rattle.jbig2_base.specs.Search.{code_length}
 use Rattle.jbig2_coder.specs.Coder.{Context}
-use Rattle.jbig2_region.specs.RegionInfo.{PlacedRegion, placed}
+use Rattle.jbig2_region.specs.RegionInfo.{PlacedRegion, at_location}
 use Rattle.jbig2_halftone.specs.GrayScale.{GrayScale, gray_scale_image, gray_contexts}
 use Rattle.jbig2_halftone.specs.HalftoneHeader.{HalftoneHeader}
 use Rattle.jbig2_halftone.specs.Patterns.{Patterns}
@@ -47,7 +47,7 @@ module _ (h : HalftoneHeader) where
       let columns = h.grid_position_and_size.width in
       let x = column_of (k / columns) (k % columns) in
       let y = row_of (k / columns) (k % columns) in
-      combined h.flags.combination_operator region pattern x y
+      combined_grid h.flags.combination_operator region pattern x y
 
   module _ (d : Patterns) where
     -- black where a cell is skipped: its pattern would lie wholly outside the region (HSKIP, 6.6.5.1); MMR skips none
@@ -94,7 +94,7 @@ module _ (h : HalftoneHeader) where
       let info = h.region_info
       fits ← check_sides info.width info.height
       grid ← halftone_result
-      Ok (placed info grid)
+      Ok (at_location info grid)
 
     -- The contexts after that. Where a side is refused, they are as they were.
     abbrev pub decoded_contexts : List Context → List Context

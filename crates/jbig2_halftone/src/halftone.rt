@@ -4,7 +4,7 @@ ghost use Rattle.std.specs.Int.{w32, int_shr};
 ghost use Rattle.jbig2_steps.specs.Work.{CountsWithin};
 ghost use Rattle.jbig2_base.specs.Results.{Returns, Gives, Leaves};
 ghost use Rattle.jbig2_base.specs.Counts.{WritesWithin, most_words, overlap};
-ghost use Rattle.jbig2_base.specs.Combination.{combined};
+ghost use Rattle.jbig2_base.specs.Combination.{combined_grid};
 ghost use Rattle.jbig2_base.specs.Grid.{blank, max_side};
 ghost use Rattle.jbig2_region.specs.inner.RegionViews.{region_view};
 ghost use Rattle.jbig2_halftone.specs.GrayScale.{gray_scale_image};
@@ -109,7 +109,7 @@ fn draw_cell<D: Allocator, A: Allocator, L: Ledger>(
     requires x { FitsSigned w32 (int_shr place.x 8) }
     requires y { FitsSigned w32 (int_shr place.y 8) }
     ensures value { bitmap.new
-        ≡ combined operator bitmap.old pattern.now (int_shr place.x 8) (int_shr place.y 8) }
+        ≡ combined_grid operator bitmap.old pattern.now (int_shr place.x 8) (int_shr place.y 8) }
     ensures steps { WritesWithin (overlap bitmap.old.height pattern.now.height (int_shr place.y 8)
         * most_words (overlap bitmap.old.width pattern.now.width (int_shr place.x 8)))
         steps.old steps.new }

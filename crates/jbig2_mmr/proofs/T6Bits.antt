@@ -9,7 +9,7 @@ use Rattle.jbig2_base.specs.inner.BitLists.{AreBits}
 use Rattle.jbig2_base.proofs.BitFieldLemmas.{bits-drop, byte-bits}
 use Rattle.jbig2_base.proofs.NumberLemmas.{length-bits, number-both, number-lt}
 use Rattle.jbig2_mmr.specs.T6.{ends_block}
-use Rattle.jbig2_mmr.specs.inner.T6Reading.{after_end, spell, padded}
+use Rattle.jbig2_mmr.specs.inner.T6Reading.{after_end, spell, padded_bits}
 
 -- ---- places
 -- a place at the end has no bit read
@@ -20,8 +20,8 @@ within-bits byte bit len n inside few end there =
 pub place-within : (byte bit len n : ℕ) → byte ≤ len → bit < 8 → (byte ≡ len → bit ≡ 0) → n ≤ 8 * (len - byte) - bit → (byte + (bit + n) / 8 ≤ len) × ((bit + n) % 8 < 8) × (byte + (bit + n) / 8 ≡ len → (bit + n) % 8 ≡ 0)
 place-within byte bit len n inside few end there = let fits = within-bits byte bit len n inside few end there in (omega arith, omega arith, λ e. omega arith)
 
-pub used-begun : (byte bit len left : ℕ) → byte ≤ len → bit < 8 → (byte ≡ len → bit ≡ 0) → left ≡ 8 * (len - byte) - bit → 0 < bit → byte + 1 ≡ len - left / 8
-used-begun byte bit len left inside few end e some =
+pub used-opening : (byte bit len left : ℕ) → byte ≤ len → bit < 8 → (byte ≡ len → bit ≡ 0) → left ≡ 8 * (len - byte) - bit → 0 < bit → byte + 1 ≡ len - left / 8
+used-opening byte bit len left inside few end e some =
     ⊎_elim (λ (h : byte ≡ len). let none = end h in absurd (omega arith)) (λ (o : byte ≡ len → ⊥). let before : byte < len = omega (arith, o) in omega arith) (cases_eq byte len)
 
 -- ---- numbers
@@ -97,16 +97,16 @@ zeros-same n [] p q short enough = take-replicate n p 0 (omega arith) ∙ sym (t
 zeros-same zero (x ∷ xs) p q short enough = refl
 zeros-same (suc n) (x ∷ xs) p q short enough = ap (λ (ys : List ℕ). x ∷ ys) (zeros-same n xs p q (omega arith) (omega arith))
 
-zeros-behind : (xs : List ℕ) (k n p : ℕ) → k ≤ length xs → n ≤ 24 → k + n ≤ length xs + p → take n (drop k (xs ++ replicate p 0)) ≡ take n (drop k xs ++ replicate 24 0)
-zeros-behind xs k n p inside few enough =
+zeros-following : (xs : List ℕ) (k n p : ℕ) → k ≤ length xs → n ≤ 24 → k + n ≤ length xs + p → take n (drop k (xs ++ replicate p 0)) ≡ take n (drop k xs ++ replicate 24 0)
+zeros-following xs k n p inside few enough =
     ap (λ (ys : List ℕ). take n ys) (drop-append-le k xs (replicate p 0) inside)
     ∙ zeros-same n (drop k xs) p 24 (omega (arith, length-drop k xs)) (omega arith)
 
 four-padded : (ps : List ℕ) (k n : ℕ) → k < 8 → n ≤ 24 → k ≤ length (flat_map byte_bits ps) → take n (drop k (flat_map byte_bits (four ps))) ≡ take n (drop k (flat_map byte_bits ps) ++ replicate 24 0)
-four-padded [] k n few short inside = zeros-behind [] k n 32 inside short (omega arith)
-four-padded (a ∷ []) k n few short inside = zeros-behind (byte_bits a) k n 24 inside short (omega arith)
-four-padded (a ∷ b ∷ []) k n few short inside = zeros-behind (flat_map byte_bits (a ∷ b ∷ [])) k n 16 inside short (omega arith)
-four-padded (a ∷ b ∷ c ∷ []) k n few short inside = zeros-behind (flat_map byte_bits (a ∷ b ∷ c ∷ [])) k n 8 inside short (omega arith)
+four-padded [] k n few short inside = zeros-following [] k n 32 inside short (omega arith)
+four-padded (a ∷ []) k n few short inside = zeros-following (byte_bits a) k n 24 inside short (omega arith)
+four-padded (a ∷ b ∷ []) k n few short inside = zeros-following (flat_map byte_bits (a ∷ b ∷ [])) k n 16 inside short (omega arith)
+four-padded (a ∷ b ∷ c ∷ []) k n few short inside = zeros-following (flat_map byte_bits (a ∷ b ∷ c ∷ [])) k n 8 inside short (omega arith)
 four-padded (a ∷ b ∷ c ∷ d ∷ ps) k n few short inside =
     let rest : List ℕ = drop k (flat_map byte_bits (a ∷ b ∷ c ∷ d ∷ ps)) in
     four-bits (a ∷ b ∷ c ∷ d ∷ ps) k n few short (omega (arith, length-bits (a ∷ b ∷ c ∷ d ∷ ps)))
@@ -139,7 +139,7 @@ spell-length (suc n) v xs = spell-length n (v / 2) (v % 2 ∷ xs) ∙ omega arit
 -- what a window of 24 bits says of the bits
 pub record IsWindow (window few : ℕ) (bits : List ℕ) : Type 0 where
   pub few_is : few ≡ min 24 (length bits)
-  pub value : (n : ℕ) → n ≤ 24 → window / 2 ^ (24 - n) ≡ number_after 0 (take n (padded bits))
+  pub value : (n : ℕ) → n ≤ 24 → window / 2 ^ (24 - n) ≡ number_after 0 (take n (padded_bits bits))
   pub are : AreBits bits
 
 -- ---- the end of block

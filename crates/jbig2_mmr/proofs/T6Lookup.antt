@@ -10,7 +10,7 @@ use Rattle.jbig2_base.specs.inner.BitLists.{AreBits}
 use Rattle.jbig2_base.proofs.BitFieldLemmas.{bits-take}
 use Rattle.jbig2_base.proofs.NumberLemmas.{number-front, number-lt}
 use Rattle.jbig2_mmr.specs.T6.{begins, read_code, is_prefix_free}
-use Rattle.jbig2_mmr.specs.inner.T6Reading.{spell, code_at, entry_of, padded}
+use Rattle.jbig2_mmr.specs.inner.T6Reading.{spell, code_at, entry_of, padded_bits}
 use Rattle.jbig2_mmr.proofs.T6Bits.{spell-length}
 
 -- ---- a test that holds for a stretch of numbers, by computing
@@ -23,20 +23,20 @@ at-all f e lo (suc n) i same after before =
     (cases_eq lo i)
 
 -- ---- words and their numbers
-spell-front : (n v : ℕ) (behind : List ℕ) → spell (suc n) v behind ≡ v / 2 ^ n % 2 ∷ spell n v behind
-spell-front zero v behind = let same : v / 2 ^ 0 ≡ v = omega arith in ap (λ (k : ℕ). k % 2 ∷ behind) (sym same)
-spell-front (suc n) v behind =
-    spell-front n (v / 2) (v % 2 ∷ behind)
-    ∙ ap (λ (k : ℕ). k % 2 ∷ spell n (v / 2) (v % 2 ∷ behind)) (shr-shr v 1 n ∙ ap (λ (k : ℕ). v / 2 ^ k) (let one : 1 + n ≡ suc n = omega arith in one))
+spell-front : (n v : ℕ) (following : List ℕ) → spell (suc n) v following ≡ v / 2 ^ n % 2 ∷ spell n v following
+spell-front zero v following = let same : v / 2 ^ 0 ≡ v = omega arith in ap (λ (k : ℕ). k % 2 ∷ following) (sym same)
+spell-front (suc n) v following =
+    spell-front n (v / 2) (v % 2 ∷ following)
+    ∙ ap (λ (k : ℕ). k % 2 ∷ spell n (v / 2) (v % 2 ∷ following)) (shr-shr v 1 n ∙ ap (λ (k : ℕ). v / 2 ^ k) (let one : 1 + n ≡ suc n = omega arith in one))
 
-pub spell-word : (xs behind : List ℕ) (f : ℕ) → AreBits xs → spell (length xs) (number_after f xs) behind ≡ xs ++ behind
+pub spell-word : (xs following : List ℕ) (f : ℕ) → AreBits xs → spell (length xs) (number_after f xs) following ≡ xs ++ following
 unfolding AreBits
-spell-word [] behind f are = refl
-spell-word (b ∷ xs) behind f are =
+spell-word [] following f are = refl
+spell-word (b ∷ xs) following f are =
     let v : ℕ = number_after (2 * f + b) xs in
     let high : v / 2 ^ length xs ≡ 2 * f + b = ap (λ (k : ℕ). k / 2 ^ length xs) (number-front (2 * f + b) xs) ∙ shr_high (2 * f + b) (length xs) (number_after 0 xs) (number-lt xs are.1) in
     let bit : v / 2 ^ length xs % 2 ≡ b = ap (λ (k : ℕ). k % 2) high ∙ low f b are.0 in
-    spell-front (length xs) v behind ∙ ap (λ (k : ℕ). k ∷ spell (length xs) v behind) bit ∙ ap (λ (ys : List ℕ). b ∷ ys) (spell-word xs behind (2 * f + b) are.1)
+    spell-front (length xs) v following ∙ ap (λ (k : ℕ). k ∷ spell (length xs) v following) bit ∙ ap (λ (ys : List ℕ). b ∷ ys) (spell-word xs following (2 * f + b) are.1)
   where
     low : (f b : ℕ) → b < 2 → (2 * f + b) % 2 ≡ b
     low f b h = omega arith
@@ -272,11 +272,11 @@ entry-some cs bits e short value some = some-of cs bits e (code_at cs bits) shor
 
 -- ---- a table over the next n bits, zeros after the end
 -- the first n bits, with zeros
-front-word : (n : ℕ) (bits : List ℕ) → n ≤ 24 → padded bits ≡ take n (padded bits) ++ drop n (padded bits)
-front-word n bits few = sym (take-append-drop n (padded bits))
+front-word : (n : ℕ) (bits : List ℕ) → n ≤ 24 → padded_bits bits ≡ take n (padded_bits bits) ++ drop n (padded_bits bits)
+front-word n bits few = sym (take-append-drop n (padded_bits bits))
 
-front-length : (n : ℕ) (bits : List ℕ) → n ≤ 24 → length (take n (padded bits)) ≡ n
-front-length n bits few = length-take-le n (padded bits) (omega (arith, length-append bits (replicate 24 0), length-replicate {A = ℕ} 24 0))
+front-length : (n : ℕ) (bits : List ℕ) → n ≤ 24 → length (take n (padded_bits bits)) ≡ n
+front-length n bits few = length-take-le n (padded_bits bits) (omega (arith, length-append bits (replicate 24 0), length-replicate {A = ℕ} 24 0))
 
 zeros-bits : (n : ℕ) → AreBits (replicate n 0)
 unfolding AreBits
@@ -289,29 +289,29 @@ both-bits [] ys p q = q
 both-bits (x ∷ xs) ys p q = (p.0, both-bits xs ys p.1 q)
 
 -- the code that begins the bits with zeros after them, by the number of the first n
-at-number : {A : Type 0} (cs : List (A × List ℕ)) (n number : ℕ) (bits : List ℕ) → n ≤ 24 → are_short n cs ≡ true → AreBits bits → number ≡ number_after 0 (take n (padded bits)) → code_at cs (padded bits) ≡ code_at cs (spell n number [])
+at-number : {A : Type 0} (cs : List (A × List ℕ)) (n number : ℕ) (bits : List ℕ) → n ≤ 24 → are_short n cs ≡ true → AreBits bits → number ≡ number_after 0 (take n (padded_bits bits)) → code_at cs (padded_bits bits) ≡ code_at cs (spell n number [])
 at-number cs n number bits few short are e =
-    let front : List ℕ = take n (padded bits) in
+    let front : List ℕ = take n (padded_bits bits) in
     let size : length front ≡ n = front-length n bits few in
     let word : spell n number [] ≡ front =
     ap (λ (v : ℕ). spell n v []) e ∙ ap (λ (k : ℕ). spell k (number_after 0 front) []) (sym size)
-    ∙ spell-word front [] 0 (bits-take n (padded bits) (both-bits bits (replicate 24 0) are (zeros-bits 24))) ∙ append-none front in
+    ∙ spell-word front [] 0 (bits-take n (padded_bits bits) (both-bits bits (replicate 24 0) are (zeros-bits 24))) ∙ append-none front in
     ap (λ (ys : List ℕ). code_at cs ys) (front-word n bits few)
-    ∙ at-front cs front (drop n (padded bits)) (ap (λ (k : ℕ). are_short k cs) size ∙ short)
+    ∙ at-front cs front (drop n (padded_bits bits)) (ap (λ (k : ℕ). are_short k cs) size ∙ short)
     ∙ ap (λ (ys : List ℕ). code_at cs ys) (sym word)
   where
     append-none : (xs : List ℕ) → xs ++ [] ≡ xs
     append-none [] = refl
     append-none (x ∷ xs) = ap (λ (ys : List ℕ). x ∷ ys) (append-none xs)
 
-pub lookup-none : {A : Type 0} (cs : List (A × List ℕ)) (n number : ℕ) (bits : List ℕ) → n ≤ 24 → are_short n cs ≡ true → AreBits bits → number ≡ number_after 0 (take n (padded bits)) → code_at cs (spell n number []) ≡ None → None ≡ read_code cs bits
+pub lookup-none : {A : Type 0} (cs : List (A × List ℕ)) (n number : ℕ) (bits : List ℕ) → n ≤ 24 → are_short n cs ≡ true → AreBits bits → number ≡ number_after 0 (take n (padded_bits bits)) → code_at cs (spell n number []) ≡ None → None ≡ read_code cs bits
 lookup-none cs n number bits few short are e none =
     sym (read-none cs bits (at-none cs bits (replicate 24 0) (at-number cs n number bits few short are e ∙ none)))
 
-pub lookup-short : {A : Type 0} (cs : List (A × List ℕ)) (n number : ℕ) (bits : List ℕ) (a : A) (size : ℕ) → n ≤ 24 → are_short n cs ≡ true → is_prefix_free cs ≡ true → AreBits bits → number ≡ number_after 0 (take n (padded bits)) → code_at cs (spell n number []) ≡ Some (a, size) → length bits < size → None ≡ read_code cs bits
+pub lookup-short : {A : Type 0} (cs : List (A × List ℕ)) (n number : ℕ) (bits : List ℕ) (a : A) (size : ℕ) → n ≤ 24 → are_short n cs ≡ true → is_prefix_free cs ≡ true → AreBits bits → number ≡ number_after 0 (take n (padded_bits bits)) → code_at cs (spell n number []) ≡ Some (a, size) → length bits < size → None ≡ read_code cs bits
 lookup-short cs n number bits a size few short free are e some past =
     sym (read-none cs bits (at-past cs bits (replicate 24 0) a size free (at-number cs n number bits few short are e ∙ some) past))
 
-pub lookup-some : {A : Type 0} (cs : List (A × List ℕ)) (n number : ℕ) (bits : List ℕ) (a : A) (size : ℕ) → n ≤ 24 → are_short n cs ≡ true → AreBits bits → number ≡ number_after 0 (take n (padded bits)) → code_at cs (spell n number []) ≡ Some (a, size) → size ≤ length bits → Some (a, drop size bits) ≡ read_code cs bits
+pub lookup-some : {A : Type 0} (cs : List (A × List ℕ)) (n number : ℕ) (bits : List ℕ) (a : A) (size : ℕ) → n ≤ 24 → are_short n cs ≡ true → AreBits bits → number ≡ number_after 0 (take n (padded_bits bits)) → code_at cs (spell n number []) ≡ Some (a, size) → size ≤ length bits → Some (a, drop size bits) ≡ read_code cs bits
 lookup-some cs n number bits a size few short are e some fits =
     sym (read-is cs bits a size (at-within cs bits (replicate 24 0) a size (at-number cs n number bits few short are e ∙ some) fits))

@@ -113,7 +113,7 @@ pass-turn w h b2 forward within = record {
   inside = within;
   before = λ x a. change-none x;
   between = λ x a b. absurd (omega arith);
-  behind = λ x a. ap (λ (t : Bool). differ h.black t) (change-none x) ∙ differ-right_false h.black;
+  following = λ x a. ap (λ (t : Bool). differ h.black t) (change-none x) ∙ differ-right_false h.black;
 }
 
 pub vertical-turn : (w : ℕ) (h : Head) (a1 : ℕ) → h.a0 ≤ a1 → a1 ≤ w → IsTurn w h (a1 ∷ []) a1 (record { a0 = a1; past_start = true; black = not h.black })
@@ -124,7 +124,7 @@ vertical-turn w h a1 forward within = record {
   inside = within;
   before = λ x a. turn-lt a1 x a;
   between = λ x a b. absurd (omega arith);
-  behind = λ x a. ap (λ (t : Bool). differ h.black t) (turn-le a1 x a) ∙ differ-right_true h.black;
+  following = λ x a. ap (λ (t : Bool). differ h.black t) (turn-le a1 x a) ∙ differ-right_true h.black;
 }
 
 pub runs-turn : (w : ℕ) (h : Head) (r s : ℕ) → h.a0 + r + s ≤ w → IsTurn w h ((h.a0 + r) ∷ (h.a0 + r + s) ∷ []) (h.a0 + r) (record { a0 = h.a0 + r + s; past_start = true; black = h.black })
@@ -138,7 +138,7 @@ runs-turn w h r s within =
       inside = within;
       before = λ x a. change-two c d x ∙ ap (λ (t : Bool). differ t (leb d x)) (lt-leb c x a) ∙ lt-leb d x (omega arith);
       between = λ x a b. change-two c d x ∙ ap (λ (t : Bool). differ t (leb d x)) (le-leb c x a) ∙ ap (λ (t : Bool). not t) (lt-leb d x b);
-      behind = λ x a. ap (λ (t : Bool). differ h.black t) (change-two c d x ∙ ap (λ (t : Bool). differ t (leb d x)) (le-leb c x (omega arith)) ∙ ap (λ (t : Bool). not t) (le-leb d x a)) ∙ differ-right_false h.black;
+      following = λ x a. ap (λ (t : Bool). differ h.black t) (change-two c d x ∙ ap (λ (t : Bool). differ t (leb d x)) (le-leb c x (omega arith)) ∙ ap (λ (t : Bool). not t) (le-leb d x a)) ∙ differ-right_false h.black;
     }
 
 -- ---- the modes as they are read
@@ -332,7 +332,7 @@ next-by g new one two y h bits left meant t s reading inside shorter e read firs
           (cases_lt x t.turn);
       white = λ x a. second.right x a ∙ first.right x (omega (arith, turn.ordered)) ∙ reading.white x (omega (arith, turn.forward, turn.ordered));
       other = λ x j o. second.other x j o ∙ first.other x j o ∙ reading.other x j o;
-      ahead = λ x a. at x ∙ ap (λ (b : Bool). differ b (black_at s.added x)) (reading.ahead x (omega (arith, turn.forward, turn.ordered))) ∙ turn.behind x a;
+      ahead = λ x a. at x ∙ ap (λ (b : Bool). differ b (black_at s.added x)) (reading.ahead x (omega (arith, turn.forward, turn.ordered))) ∙ turn.following x a;
       inside = turn.inside;
       first = λ e. absurd (true≢false (sym turn.past_start ∙ e));
     }

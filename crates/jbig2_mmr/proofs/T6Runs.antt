@@ -19,8 +19,8 @@ plus-zero None = refl
 plus-zero (Some r) = ap (λ (n : ℕ). Some (n, r.1)) (zero-add r.0)
 
 -- what follows a code
-abbrev behind : ℕ → Bool → (ℕ × List ℕ) → Option (ℕ × List ℕ)
-behind most black code = cond (ltb code.0 64) (Some code) (run_from most black code.1 >>= (λ rest. Some (code.0 + rest.0, rest.1)))
+abbrev following : ℕ → Bool → (ℕ × List ℕ) → Option (ℕ × List ℕ)
+following most black code = cond (ltb code.0 64) (Some code) (run_from most black code.1 >>= (λ rest. Some (code.0 + rest.0, rest.1)))
 
 plus-plus : (sum part : ℕ) (o : Option (ℕ × List ℕ)) → plus sum (o >>= (λ rest. Some (part + rest.0, rest.1))) ≡ plus (sum + part) o
 plus-plus sum part None = refl
@@ -32,20 +32,20 @@ run-start black bits = record { most = length bits; enough = omega arith; same =
 run-none : (most : ℕ) (black : Bool) (sum : ℕ) (bits : List ℕ) → None ≡ read_code (runs_of black) bits → None ≡ plus sum (run_from most black bits)
 unfolding run_from
 run-none zero black sum bits e = refl
-run-none (suc n) black sum bits e = ap (λ (o : Option (ℕ × List ℕ)). plus sum (o >>= behind n black)) e
+run-none (suc n) black sum bits e = ap (λ (o : Option (ℕ × List ℕ)). plus sum (o >>= following n black)) e
 
 pub run-fault : (black : Bool) (room sum : ℕ) (bits left : List ℕ) (meant : Option (ℕ × List ℕ)) → RunReading black sum bits meant → None ≡ read_code (runs_of black) bits → ReadRun meant room None left
 run-fault black room sum bits left meant reading e = subst (λ (o : Option (ℕ × List ℕ)). ReadRun o room None left) (run-none reading.most black sum bits e ∙ reading.same) tt
 
-run-some : (most : ℕ) (black : Bool) (sum part : ℕ) (bits left : List ℕ) → length bits ≤ most → length left < length bits → Some (part, left) ≡ read_code (runs_of black) bits → (n : ℕ) × (length left ≤ n) × (plus sum (run_from most black bits) ≡ plus sum (behind n black (part, left)))
+run-some : (most : ℕ) (black : Bool) (sum part : ℕ) (bits left : List ℕ) → length bits ≤ most → length left < length bits → Some (part, left) ≡ read_code (runs_of black) bits → (n : ℕ) × (length left ≤ n) × (plus sum (run_from most black bits) ≡ plus sum (following n black (part, left)))
 unfolding run_from
 run-some zero black sum part bits left enough shorter e = absurd (omega arith)
-run-some (suc n) black sum part bits left enough shorter e = (n, omega arith, sym (ap (λ (o : Option (ℕ × List ℕ)). plus sum (o >>= behind n black)) e))
+run-some (suc n) black sum part bits left enough shorter e = (n, omega arith, sym (ap (λ (o : Option (ℕ × List ℕ)). plus sum (o >>= following n black)) e))
 
-last : (n : ℕ) (black : Bool) (sum part : ℕ) (left : List ℕ) → part < 64 → plus sum (behind n black (part, left)) ≡ Some (sum + part, left)
+last : (n : ℕ) (black : Bool) (sum part : ℕ) (left : List ℕ) → part < 64 → plus sum (following n black (part, left)) ≡ Some (sum + part, left)
 last n black sum part left small = ap (λ (o : Option (ℕ × List ℕ)). plus sum o) (cond-true (ltb part 64) (Some (part, left)) (run_from n black left >>= (λ rest. Some (part + rest.0, rest.1))) (lt-ltb part 64 small))
 
-more : (n : ℕ) (black : Bool) (sum part : ℕ) (left : List ℕ) → 64 ≤ part → plus sum (behind n black (part, left)) ≡ plus (sum + part) (run_from n black left)
+more : (n : ℕ) (black : Bool) (sum part : ℕ) (left : List ℕ) → 64 ≤ part → plus sum (following n black (part, left)) ≡ plus (sum + part) (run_from n black left)
 more n black sum part left large =
     ap (λ (o : Option (ℕ × List ℕ)). plus sum o) (cond-false (ltb part 64) (Some (part, left)) (run_from n black left >>= (λ rest. Some (part + rest.0, rest.1))) (le-ltb part 64 large))
     ∙ plus-plus sum part (run_from n black left)

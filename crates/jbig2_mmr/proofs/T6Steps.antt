@@ -39,10 +39,10 @@ moves-most a most old new it few = record { moves = omega arith; decisions = it.
 
 -- ---- the words that a search goes over
 pub found-words : (first index lead w place : ℕ) → first ≤ index → 64 * index < w → lead < 64 → place ≡ min (64 * index + lead) w → index + 1 - first ≡ words_searched (64 * first) w place
-found-words first index lead w place begun inside few e = omega arith
+found-words first index lead w place opening inside few e = omega arith
 
 pub all-words : (first index w : ℕ) → first ≤ index → (w + 63) / 64 ≤ index → (first < index → index ≤ (w + 63) / 64) → index - first ≡ words_searched (64 * first) w w
-all-words first index w begun past within =
+all-words first index w opening past within =
     ⊎_elim
     (λ (more : first < index). let last : index ≤ (w + 63) / 64 = within more in omega arith)
     (λ (none : index ≤ first). omega arith)
@@ -76,7 +76,7 @@ abbrev pub row_moves : ℕ → ℕ → ℕ
 row_moves a0 bits = 1 + 2 * (a0 / 64) + 3 * bits
 
 pub turn-moves : (w a0 from to next before now left : ℕ) → a0 ≤ from → to ≤ next → a0 ≤ next → left < now → now ≤ before → row_moves a0 (before - now) + (1 + (words_after w a0 next + 1 + span_words from to)) ≤ row_moves next (before - left)
-turn-moves w a0 from to next before now left begun within forward shorter read = omega arith
+turn-moves w a0 from to next before now left opening within forward shorter read = omega arith
 
 pub fault-moves : (w here to a0 before now : ℕ) → here ≡ w → to ≡ w → a0 < w → row_moves a0 (before - now) + (1 + (words_after here a0 here + span_words 0 to)) ≤ 3 * ((w + 63) / 64 + before)
 fault-moves w here to a0 before now e f inside =

@@ -44,7 +44,8 @@ pub fn decode<A: Allocator, L: Ledger>(
     ensures causes { HasCause result
         (BreaksMmr strict bitmap.old.width bitmap.old.height bytes.now) }
     ensures lanes { KeepsLanes steps.old steps.new }
-    ensures work { MovesWithin (3 * (words_of bitmap.old + 8 * bytes_taken result (length bytes.now)))
+    ensures work { MovesWithin
+        (3 * (words_of bitmap.old + 8 * bytes_taken result (length bytes.now)))
         steps.old steps.new }
 {
     let height = bitmap.height();

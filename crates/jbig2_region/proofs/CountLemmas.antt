@@ -81,20 +81,20 @@ runs-add template w h input n (suc m) r =
 -- ---- clauses
 pub counts-none : (template : List AdaptiveTemplatePixel) (x y : ℕ) (g : Grid) (d : Coder) (s : List Context) (count : ℕ) → CountsRuns template x y 0 (region_state g d s) count count
 unfolding run_bytes
-counts-none template x y g d s count = λ w h input r len predicted holds. omega arith
+counts-none template x y g d s count = λ w h input r len predicted has_decoded. omega arith
 
 pub counts-then : (template : List AdaptiveTemplatePixel) (x x' y n m k : ℕ) (g0 g1 : Grid) (d0 d1 : Coder) (s0 s1 : List Context) (a b c : ℕ) → CountsRuns template x y n (region_state g0 d0 s0) a b → DecodesPixels template false x y n (region_state g0 d0 s0) (region_state g1 d1 s1) → CountsRuns template x' y m (region_state g1 d1 s1) b c → x' ≡ x + n → k ≡ n + m → CountsRuns template x y k (region_state g0 d0 s0) a c
-counts-then template x x' y n m k g0 g1 d0 d1 s0 s1 a b c one decodes two place sum = λ w h input r len predicted holds.
+counts-then template x x' y n m k g0 g1 d0 d1 s0 s1 a b c one decodes two place sum = λ w h input r len predicted has_decoded.
     let made : Region = after_pixels (row_coding template) w h input n r in
     let size : length made.pixels ≡ y * w + x' = after_pixels-length (row_coding template) w h input n r ∙ omega arith in
-    let first = one w h input r len predicted holds in
-    let second = two w h input made size (after_pixels-predicted (row_coding template) w h input n r ∙ predicted) (decodes w h input r len predicted holds) in
+    let first = one w h input r len predicted has_decoded in
+    let second = two w h input made size (after_pixels-predicted (row_coding template) w h input n r ∙ predicted) (decodes w h input r len predicted has_decoded) in
     let all : run_bytes template w h input k r ≡ run_bytes template w h input n r + run_bytes template w h input m made = ap (λ (i : ℕ). run_bytes template w h input i r) sum ∙ runs-add template w h input n m r in
     rw all (omega arith)
 
 pub counts-last : (template : List AdaptiveTemplatePixel) (x y n : ℕ) (g : Grid) (d : Coder) (s : List Context) (before after : ℕ) → after ≡ before + n → x + n ≤ g.width → g.width ≤ x + 8 → CountsRuns template x y n (region_state g d s) before after
-counts-last template x y n g d s before after is left last = λ w h input r len predicted holds.
-    let wide : g.width ≡ w = ap (λ (q : Grid). q.width) holds.pixels ∙ width-so_far w h r.pixels in
+counts-last template x y n g d s before after is left last = λ w h input r len predicted has_decoded.
+    let wide : g.width ≡ w = ap (λ (q : Grid). q.width) has_decoded.pixels ∙ width-so_far w h r.pixels in
     rw (last-runs template w h input n r x y len (omega arith) (omega arith)) (omega arith)
 
 pub counts-byte : (count after runs : ℕ) (t : Bool) → runs ≡ bit_number t → after + 8 * bit_number t ≡ count + 8 → after + 8 * runs ≡ count + 8
@@ -110,12 +110,12 @@ loads-on start before shown after done bytes so_far more kept same some =
 
 -- ---- a whole row
 pub row-nominal : (n : Neighbours) (adaptive : Option Adaptives) (p : Bool) (y : ℕ) (g : Grid) (d : Coder) (s : List Context) (before after : ℕ) → adaptive ≡ None → p ≡ false → CountsRuns (nominal_pixels n) 0 y g.width (region_state g d s) before after → CountsRow (optional_pixels n adaptive) (is_nominal_layout adaptive) p y (region_state g d s) before after
-row-nominal n adaptive p y g d s before after none coded counts = λ w h input r len is holds.
-    let wide : g.width ≡ w = ap (λ (q : Grid). q.width) holds.pixels ∙ width-so_far w h r.pixels in
+row-nominal n adaptive p y g d s before after none coded counts = λ w h input r len is has_decoded.
+    let wide : g.width ≡ w = ap (λ (q : Grid). q.width) has_decoded.pixels ∙ width-so_far w h r.pixels in
     let place : length r.pixels ≡ y * w + 0 = omega arith in
-    rw (coded, none) (subst (λ (k : ℕ). after + 8 * run_bytes (nominal_pixels n) w h input k r ≡ before + k) wide (counts w h input r place (is ∙ coded) holds))
+    rw (coded, none) (subst (λ (k : ℕ). after + 8 * run_bytes (nominal_pixels n) w h input k r ≡ before + k) wide (counts w h input r place (is ∙ coded) has_decoded))
 
 pub row-mixed : (n : Neighbours) (adaptive : Option Adaptives) (a : Adaptives) (p : Bool) (y : ℕ) (g : Grid) (d : Coder) (s : List Context) (before after : ℕ) → adaptive ≡ Some a → p ≡ false → after ≡ before + g.width → CountsRow (optional_pixels n adaptive) (is_nominal_layout adaptive) p y (region_state g d s) before after
-row-mixed n adaptive a p y g d s before after some coded counts = λ w h input r len is holds.
-    let wide : g.width ≡ w = ap (λ (q : Grid). q.width) holds.pixels ∙ width-so_far w h r.pixels in
+row-mixed n adaptive a p y g d s before after some coded counts = λ w h input r len is has_decoded.
+    let wide : g.width ≡ w = ap (λ (q : Grid). q.width) has_decoded.pixels ∙ width-so_far w h r.pixels in
     rw (coded, some) (omega arith)

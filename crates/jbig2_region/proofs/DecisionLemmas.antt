@@ -25,10 +25,10 @@ pub codes-row : (coding : Coding) (y : ℕ) (p q : Bool) (g1 : Grid) (c1 : Coder
     → DecodesPart coding q 0 y w (region_state g1 c2 s2) (region_state g3 c3 s3)
     → HasDecoded w h input (after_rows coding w h input y start) (region_state g1 c1 s1) → (after_rows coding w h input y start).predicted ≡ p
     → HasDecoded w h input (after_rows coding w h input (y + 1) start) (region_state g3 c3 s3) × ((after_rows coding w h input (y + 1) start).predicted ≡ q)
-codes-row coding y p q g1 c1 s1 c2 s2 g3 c3 s3 start w h input same after none begin codes holds predicted =
+codes-row coding y p q g1 c1 s1 c2 s2 g3 c3 s3 start w h input same after none begin codes has_decoded predicted =
     region-step coding y p q g1 c1 s1 c2 s2 g3 c3 s3 start w h input w h refl refl same after none begin
     (λ r len is held. codes w h c2.bytes r (len ∙ plus (y * w)) is held)
-    holds predicted
+    has_decoded predicted
 
 -- what the code holds after y rows
 pub record Decided (coding : Coding) (w h : ℕ) (input : List ℕ) (y : ℕ) (start : Region) (before after : ℕ) : Type 0 where
@@ -47,11 +47,11 @@ pub decided-next : (coding : Coding) (y : ℕ) (p q : Bool) (g1 : Grid) (c1 : Co
     → HasDecoded w h input (after_rows coding w h input y start) (region_state g1 c1 s1) → (after_rows coding w h input y start).predicted ≡ p
     → Decided coding w h input y start d0 d1 → d2 ≡ d1 + row_decisions coding.row_context → CountsPart coding q 0 y w (region_state g1 c2 s2) d2 d3
     → Decided coding w h input (y + 1) start d0 d3
-decided-next coding y p q g1 c1 s1 c2 s2 start w h input d0 d1 d2 d3 same none begin holds predicted before more row =
-    let at = begin-region coding y p q g1 c1 s1 c2 s2 start w h input same none begin holds predicted in
-    let begun : Region = after_ltp coding.row_context input (after_rows coding w h input y start) in
+decided-next coding y p q g1 c1 s1 c2 s2 start w h input d0 d1 d2 d3 same none begin has_decoded predicted before more row =
+    let at = begin-region coding y p q g1 c1 s1 c2 s2 start w h input same none begin has_decoded predicted in
+    let opening : Region = after_ltp coding.row_context input (after_rows coding w h input y start) in
     record {
-      total = rw (decided-row coding w h input y start) (sum d0 d1 d2 d3 (row_decisions coding.row_context) (decided_rows coding w h input y start) (decided_pixels coding w h input w begun) y before.total more (row w h input begun (at.size ∙ plus (y * w)) at.predicted at.holds));
+      total = rw (decided-row coding w h input y start) (sum d0 d1 d2 d3 (row_decisions coding.row_context) (decided_rows coding w h input y start) (decided_pixels coding w h input w opening) y before.total more (row w h input opening (at.size ∙ plus (y * w)) at.predicted at.has_decoded));
     }
   where
     sum : (d0 d1 d2 d3 rd rows row y : ℕ) → d1 ≡ d0 + (y * rd + rows) → d2 ≡ d1 + rd → d3 ≡ d2 + row → d3 ≡ d0 + ((y + 1) * rd + (rows + row))

@@ -16,16 +16,16 @@ use Rattle.jbig2_region.proofs.StoreLemmas.{Pushes, none-stored, white-next, wid
 
 -- ---- no pixel
 pub codes-none : (coding : Coding) (p : Bool) (x y : ℕ) (g : Grid) (d : Coder) (s : List Context) → DecodesPart coding p x y 0 (region_state g d s) (region_state g d s)
-codes-none coding p x y g d s = λ w h input r len predicted holds. subst (λ (n : Region). HasDecoded w h input n (region_state g d s)) (sym (after_pixels-none coding w h input r)) holds
+codes-none coding p x y g d s = λ w h input r len predicted has_decoded. subst (λ (n : Region). HasDecoded w h input n (region_state g d s)) (sym (after_pixels-none coding w h input r)) has_decoded
 
 pub codes-start : (coding : Coding) (p : Bool) (x y b : ℕ) (g : Grid) (d : Coder) (s : List Context) → DecodesPart coding p x y 0 (region_state g d s) (region_state (with_pixels g x y 0 b) d s)
-codes-start coding p x y b g d s = λ w h input r len predicted holds.
+codes-start coding p x y b g d s = λ w h input r len predicted has_decoded.
     subst (λ (n : Region). HasDecoded w h input n (region_state (with_pixels g x y 0 b) d s)) (sym (after_pixels-none coding w h input r))
-    (subst (λ (q : Grid). HasDecoded w h input r (region_state q d s)) (sym (none-stored w h r.pixels g x y b holds.pixels)) holds)
+    (subst (λ (q : Grid). HasDecoded w h input r (region_state q d s)) (sym (none-stored w h r.pixels g x y b has_decoded.pixels)) has_decoded)
 
 pub counts-none : (coding : Coding) (p : Bool) (x y : ℕ) (g : Grid) (d : Coder) (s : List Context) (count : ℕ) → CountsPart coding p x y 0 (region_state g d s) count count
 unfolding decided_pixels
-counts-none coding p x y g d s count = λ w h input r len predicted holds. omega arith
+counts-none coding p x y g d s count = λ w h input r len predicted has_decoded. omega arith
 
 -- ---- one pixel more
 -- where the next pixel of a stretch lies
@@ -34,12 +34,12 @@ record Next (w h : ℕ) (input : List ℕ) (made : Region) (x y : ℕ) (p : Bool
   pub predicted : made.predicted ≡ p
   pub left : x < w
   pub above : y < h
-  pub holds : HasDecoded w h input made (region_state g d s)
+  pub has_decoded : HasDecoded w h input made (region_state g d s)
 
 next-of : (coding : Coding) (p : Bool) (x y k : ℕ) (g0 g : Grid) (d0 d : Coder) (s0 s : List Context) → DecodesPart coding p x y k (region_state g0 d0 s0) (region_state g d s) → x + k < g.width → y < g.height
     → (w h : ℕ) (input : List ℕ) (r : Region) → length r.pixels ≡ y * w + x → r.predicted ≡ p → HasDecoded w h input r (region_state g0 d0 s0) → Next w h input (after_pixels coding w h input k r) (x + k) y p g d s
-next-of coding p x y k g0 g d0 d s0 s before left above w h input r len predicted holds =
-    let at = before w h input r len predicted holds in
+next-of coding p x y k g0 g d0 d s0 s before left above w h input r len predicted has_decoded =
+    let at = before w h input r len predicted has_decoded in
     let made : Region = after_pixels coding w h input k r in
     let wide : g.width ≡ w = ap (λ (q : Grid). q.width) at.pixels ∙ width-so_far w h made.pixels in
     let high : g.height ≡ h = ap (λ (q : Grid). q.height) at.pixels ∙ height-so_far w h made.pixels in
@@ -48,7 +48,7 @@ next-of coding p x y k g0 g d0 d s0 s before left above w h input r len predicte
       predicted = after_pixels-predicted coding w h input k r ∙ predicted;
       left = omega arith;
       above = omega arith;
-      holds = at;
+      has_decoded = at;
     }
 
 -- a grid with one pixel more
@@ -59,17 +59,17 @@ pub codes-next : (coding : Coding) (p : Bool) (x y k : ℕ) (g0 g g' : Grid) (d0
     → DecodesPart coding p x y k (region_state g0 d0 s0) (region_state g d s) → x + k < g.width → y < g.height → coding.known p g (x + k) y ≡ known → n ≡ coding.context g (x + k) y
     → PushesColour g g' (x + k) y symbol → Takes known n (counted_decoder d s before) symbol (counted_decoder d' s' after)
     → DecodesPart coding p x y (k + 1) (region_state g0 d0 s0) (region_state g' d' s')
-codes-next coding p x y k g0 g g' d0 d d' s0 s s' before after (Some c) n symbol made left above is_known is_context pushes takes = λ w h input r len predicted holds.
-    let next = next-of coding p x y k g0 g d0 d s0 s made left above w h input r len predicted holds in
-    let white = white-next w h (after_pixels coding w h input k r).pixels g (x + k) y next.holds.pixels next.size next.left next.above in
+codes-next coding p x y k g0 g g' d0 d d' s0 s s' before after (Some c) n symbol made left above is_known is_context pushes takes = λ w h input r len predicted has_decoded.
+    let next = next-of coding p x y k g0 g d0 d s0 s made left above w h input r len predicted has_decoded in
+    let white = white-next w h (after_pixels coding w h input k r).pixels g (x + k) y next.has_decoded.pixels next.size next.left next.above in
     rw (after_pixels-one coding w h input k r, takes.coder, takes.states)
-    (HasDecoded-known coding w h input (after_pixels coding w h input k r) g g' d s (x + k) y p c next.size next.left next.above next.predicted is_known (pushes c takes.symbol white) next.holds)
-codes-next coding p x y k g0 g g' d0 d d' s0 s s' before after None n symbol made left above is_known is_context pushes takes = λ w h input r len predicted holds.
-    let next = next-of coding p x y k g0 g d0 d s0 s made left above w h input r len predicted holds in
-    let white = white-next w h (after_pixels coding w h input k r).pixels g (x + k) y next.holds.pixels next.size next.left next.above in
+    (HasDecoded-known coding w h input (after_pixels coding w h input k r) g g' d s (x + k) y p c next.size next.left next.above next.predicted is_known (pushes c takes.symbol white) next.has_decoded)
+codes-next coding p x y k g0 g g' d0 d d' s0 s s' before after None n symbol made left above is_known is_context pushes takes = λ w h input r len predicted has_decoded.
+    let next = next-of coding p x y k g0 g d0 d s0 s made left above w h input r len predicted has_decoded in
+    let white = white-next w h (after_pixels coding w h input k r).pixels g (x + k) y next.has_decoded.pixels next.size next.left next.above in
     let q = decision d.bytes d.registers (get_or s n fresh) in
     rw (after_pixels-one coding w h input k r, takes.states)
-    (HasDecoded-decided coding w h input (after_pixels coding w h input k r) g g' d d' s (x + k) y n p (get_or s n fresh) q.context next.size next.left next.above next.predicted is_known is_context refl (pushes q.symbol takes.symbol white) takes.coder refl next.holds)
+    (HasDecoded-decided coding w h input (after_pixels coding w h input k r) g g' d d' s (x + k) y n p (get_or s n fresh) q.context next.size next.left next.above next.predicted is_known is_context refl (pushes q.symbol takes.symbol white) takes.coder refl next.has_decoded)
 
 -- the next pixel's own decision, if it takes one
 takes-next : (coding : Coding) (w h : ℕ) (input : List ℕ) (made : Region) (x y : ℕ) (p : Bool) (g : Grid) (d : Coder) (s : List Context) → Next w h input made x y p g d s → takes_decision coding w h made ≡ is_none (coding.known p g x y)
@@ -77,7 +77,7 @@ unfolding takes_decision
 takes-next coding w h input made x y p g d s next =
     let column : length made.pixels % w ≡ x = ap (λ (n : ℕ). n % w) next.size ∙ mod-mul-add y w x next.left in
     let row : length made.pixels / w ≡ y = ap (λ (n : ℕ). n / w) next.size ∙ div-mul-add y w x next.left in
-    rw (column, row, next.predicted, sym next.holds.pixels) refl
+    rw (column, row, next.predicted, sym next.has_decoded.pixels) refl
 
 decided-one : (coding : Coding) (w h : ℕ) (input : List ℕ) (k : ℕ) (r : Region) → decided_pixels coding w h input (k + 1) r ≡ decided_pixels coding w h input k r + bit_number (takes_decision coding w h (after_pixels coding w h input k r))
 unfolding decided_pixels
@@ -111,21 +111,21 @@ taken-digit None n d s before symbol d' s' after takes = ((decision d.bytes d.re
 pub counts-next : (coding : Coding) (p : Bool) (x y k : ℕ) (g0 g : Grid) (d0 d : Coder) (s0 s : List Context) (known : Option Bool) (c0 c1 c2 : ℕ)
     → DecodesPart coding p x y k (region_state g0 d0 s0) (region_state g d s) → CountsPart coding p x y k (region_state g0 d0 s0) c0 c1 → x + k < g.width → y < g.height → coding.known p g (x + k) y ≡ known → c2 ≡ c1 + bit_number (is_none known)
     → CountsPart coding p x y (k + 1) (region_state g0 d0 s0) c0 c2
-counts-next coding p x y k g0 g d0 d s0 s known c0 c1 c2 made counted left above is_known more = λ w h input r len predicted holds.
-    let next = next-of coding p x y k g0 g d0 d s0 s made left above w h input r len predicted holds in
+counts-next coding p x y k g0 g d0 d s0 s known c0 c1 c2 made counted left above is_known more = λ w h input r len predicted has_decoded.
+    let next = next-of coding p x y k g0 g d0 d s0 s made left above w h input r len predicted has_decoded in
     let one = takes-next coding w h input (after_pixels coding w h input k r) (x + k) y p g d s next in
-    rw (decided-one coding w h input k r, one, is_known) (sum _ _ _ _ _ (counted w h input r len predicted holds) more)
+    rw (decided-one coding w h input k r, one, is_known) (sum _ _ _ _ _ (counted w h input r len predicted has_decoded) more)
   where
     sum : (a b c n m : ℕ) → b ≡ a + n → c ≡ b + m → c ≡ a + (n + m)
     sum a b c n m one two = omega arith
 
 -- ---- several pixels
 pub codes-then : (coding : Coding) (p : Bool) (x x' y n m k : ℕ) (g0 g1 g2 : Grid) (d0 d1 d2 : Coder) (s0 s1 s2 : List Context) → DecodesPart coding p x y n (region_state g0 d0 s0) (region_state g1 d1 s1) → DecodesPart coding p x' y m (region_state g1 d1 s1) (region_state g2 d2 s2) → x' ≡ x + n → k ≡ n + m → DecodesPart coding p x y k (region_state g0 d0 s0) (region_state g2 d2 s2)
-codes-then coding p x x' y n m k g0 g1 g2 d0 d1 d2 s0 s1 s2 one two place sum = λ w h input r len predicted holds.
+codes-then coding p x x' y n m k g0 g1 g2 d0 d1 d2 s0 s1 s2 one two place sum = λ w h input r len predicted has_decoded.
     let made : Region = after_pixels coding w h input n r in
     let size : length made.pixels ≡ y * w + x' = after_pixels-length coding w h input n r ∙ omega arith in
     subst (λ (q : Region). HasDecoded w h input q (region_state g2 d2 s2)) (sym (ap (λ (i : ℕ). after_pixels coding w h input i r) sum ∙ after_pixels-add coding w h input n m r))
-    (two w h input made size (after_pixels-predicted coding w h input n r ∙ predicted) (one w h input r len predicted holds))
+    (two w h input made size (after_pixels-predicted coding w h input n r ∙ predicted) (one w h input r len predicted has_decoded))
 
 decided-add : (coding : Coding) (w h : ℕ) (input : List ℕ) (n m : ℕ) (r : Region) → decided_pixels coding w h input (n + m) r ≡ decided_pixels coding w h input n r + decided_pixels coding w h input m (after_pixels coding w h input n r)
 unfolding decided_pixels
@@ -137,11 +137,11 @@ decided-add coding w h input n (suc m) r =
     ap (λ (k : ℕ). decided_pixels coding w h input k r) next ∙ rw (decided-add coding w h input n m r, after_pixels-add coding w h input n m r) (omega arith)
 
 pub counts-then : (coding : Coding) (p : Bool) (x x' y n m k : ℕ) (g0 g1 : Grid) (d0 d1 : Coder) (s0 s1 : List Context) (c0 c1 c2 : ℕ) → DecodesPart coding p x y n (region_state g0 d0 s0) (region_state g1 d1 s1) → CountsPart coding p x y n (region_state g0 d0 s0) c0 c1 → CountsPart coding p x' y m (region_state g1 d1 s1) c1 c2 → x' ≡ x + n → k ≡ n + m → CountsPart coding p x y k (region_state g0 d0 s0) c0 c2
-counts-then coding p x x' y n m k g0 g1 d0 d1 s0 s1 c0 c1 c2 made one two place sum = λ w h input r len predicted holds.
+counts-then coding p x x' y n m k g0 g1 d0 d1 s0 s1 c0 c1 c2 made one two place sum = λ w h input r len predicted has_decoded.
     let region : Region = after_pixels coding w h input n r in
     let size : length region.pixels ≡ y * w + x' = after_pixels-length coding w h input n r ∙ omega arith in
-    let first = one w h input r len predicted holds in
-    let second = two w h input region size (after_pixels-predicted coding w h input n r ∙ predicted) (made w h input r len predicted holds) in
+    let first = one w h input r len predicted has_decoded in
+    let second = two w h input region size (after_pixels-predicted coding w h input n r ∙ predicted) (made w h input r len predicted has_decoded) in
     second ∙ add c0 c1 _ _ first ∙ sym (ap (λ (i : ℕ). c0 + decided_pixels coding w h input i r) sum ∙ ap (λ (i : ℕ). c0 + i) (decided-add coding w h input n m r))
   where
     add : (a b i j : ℕ) → b ≡ a + i → b + j ≡ a + (i + j)
@@ -152,20 +152,20 @@ after-one : (coding : Coding) (w h : ℕ) (input : List ℕ) (r : Region) → af
 after-one coding w h input r = after_pixels-one coding w h input 0 r ∙ ap (λ (q : Region). after_pixel coding w h input q) (after_pixels-none coding w h input r)
 
 pub pixel-known : (coding : Coding) (p : Bool) (x y : ℕ) (g g' : Grid) (d : Coder) (s : List Context) (c : Bool) → x < g.width → y < g.height → coding.known p g x y ≡ Some c → g' ≡ with_pixel g x y c → DecodesPart coding p x y 1 (region_state g d s) (region_state g' d s)
-pixel-known coding p x y g g' d s c left above is_known written = λ w h input r len predicted holds.
-    let wide : g.width ≡ w = ap (λ (q : Grid). q.width) holds.pixels ∙ width-so_far w h r.pixels in
-    let high : g.height ≡ h = ap (λ (q : Grid). q.height) holds.pixels ∙ height-so_far w h r.pixels in
+pixel-known coding p x y g g' d s c left above is_known written = λ w h input r len predicted has_decoded.
+    let wide : g.width ≡ w = ap (λ (q : Grid). q.width) has_decoded.pixels ∙ width-so_far w h r.pixels in
+    let high : g.height ≡ h = ap (λ (q : Grid). q.height) has_decoded.pixels ∙ height-so_far w h r.pixels in
     subst (λ (q : Region). HasDecoded w h input q (region_state g' d s)) (sym (after-one coding w h input r))
-    (HasDecoded-known coding w h input r g g' d s x y p c len (omega arith) (omega arith) predicted is_known written holds)
+    (HasDecoded-known coding w h input r g g' d s x y p c len (omega arith) (omega arith) predicted is_known written has_decoded)
 
 pub pixel-decided : (coding : Coding) (p : Bool) (x y k : ℕ) (g g' : Grid) (d d' : Coder) (s : List Context) (old new : Context) → x < g.width → y < g.height → coding.known p g x y ≡ None → k ≡ coding.context g x y → old ≡ get_or s k fresh
     → g' ≡ with_pixel g x y (decision d.bytes d.registers old).symbol → d' ≡ record d { registers = (decision d.bytes d.registers old).registers } → new ≡ (decision d.bytes d.registers old).context
     → DecodesPart coding p x y 1 (region_state g d s) (region_state g' d' (set s k new))
-pixel-decided coding p x y k g g' d d' s old new left above is_open is_context is_old written is_next is_new = λ w h input r len predicted holds.
-    let wide : g.width ≡ w = ap (λ (q : Grid). q.width) holds.pixels ∙ width-so_far w h r.pixels in
-    let high : g.height ≡ h = ap (λ (q : Grid). q.height) holds.pixels ∙ height-so_far w h r.pixels in
+pixel-decided coding p x y k g g' d d' s old new left above is_open is_context is_old written is_next is_new = λ w h input r len predicted has_decoded.
+    let wide : g.width ≡ w = ap (λ (q : Grid). q.width) has_decoded.pixels ∙ width-so_far w h r.pixels in
+    let high : g.height ≡ h = ap (λ (q : Grid). q.height) has_decoded.pixels ∙ height-so_far w h r.pixels in
     subst (λ (q : Region). HasDecoded w h input q (region_state g' d' (set s k new))) (sym (after-one coding w h input r))
-    (HasDecoded-decided coding w h input r g g' d d' s x y k p old new len (omega arith) (omega arith) predicted is_open is_context is_old written is_next is_new holds)
+    (HasDecoded-decided coding w h input r g g' d d' s x y k p old new len (omega arith) (omega arith) predicted is_open is_context is_old written is_next is_new has_decoded)
 
 pub pixel-counts : (coding : Coding) (p : Bool) (x y : ℕ) (g : Grid) (d : Coder) (s : List Context) (known : Option Bool) (before after : ℕ) → x < g.width → y < g.height → coding.known p g x y ≡ known → after ≡ before + bit_number (is_none known) → CountsPart coding p x y 1 (region_state g d s) before after
 pixel-counts coding p x y g d s known before after left above is_known more =

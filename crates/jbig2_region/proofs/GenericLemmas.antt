@@ -22,8 +22,8 @@ use Rattle.jbig2_region.specs.declared.template.AdaptiveTemplatePixel.{AdaptiveT
 pub fresh-decoded : (coding : Coding) (w h bits : ℕ) (input : List ℕ) (before grid : Grid) (first coder : Coder) (fresh states : List Context) → before ≡ blank w h false → first.bytes ≡ input → first.registers ≡ initial_registers input → fresh ≡ fresh_contexts bits
     → HasDecoded before.width before.height first.bytes (decoded_region coding before.width before.height first.bytes (no_pixels first.registers fresh)) (region_state grid coder states)
     → HasDecoded w h input (decoded_region coding w h input (no_pixels (initial_registers input) (fresh_contexts bits))) (region_state grid coder states)
-fresh-decoded coding w h bits input before grid first coder fresh states white bytes registers contexts holds =
-    let one = subst (λ (s : List Context). HasDecoded before.width before.height first.bytes (decoded_region coding before.width before.height first.bytes (no_pixels first.registers s)) (region_state grid coder states)) contexts holds in
+fresh-decoded coding w h bits input before grid first coder fresh states white bytes registers contexts has_decoded =
+    let one = subst (λ (s : List Context). HasDecoded before.width before.height first.bytes (decoded_region coding before.width before.height first.bytes (no_pixels first.registers s)) (region_state grid coder states)) contexts has_decoded in
     let two = subst (λ r. HasDecoded before.width before.height first.bytes (decoded_region coding before.width before.height first.bytes (no_pixels r (fresh_contexts bits))) (region_state grid coder states)) registers one in
     let three = subst (λ (b : List ℕ). HasDecoded before.width before.height b (decoded_region coding before.width before.height b (no_pixels (initial_registers input) (fresh_contexts bits))) (region_state grid coder states)) bytes two in
     subst (λ (g : Grid). HasDecoded g.width g.height input (decoded_region coding g.width g.height input (no_pixels (initial_registers input) (fresh_contexts bits))) (region_state grid coder states)) white three
@@ -37,14 +37,14 @@ pub region-decoded : (h : GenericHeader) (before : Grid) (grid : Grid) (first co
     → HasDecoded before.width before.height first.bytes (decoded_region (generic_coding h) before.width before.height first.bytes (no_pixels first.registers fresh)) (region_state grid coder states)
     → HasDecoded h.region_info.width h.region_info.height h.bytes (generic_region h) (region_state grid coder states)
 unfolding generic_region
-region-decoded h before grid first coder fresh states white bytes registers contexts holds =
-    fresh-decoded (generic_coding h) h.region_info.width h.region_info.height (context_bits h.template) h.bytes before grid first coder fresh states white bytes registers contexts holds
+region-decoded h before grid first coder fresh states white bytes registers contexts has_decoded =
+    fresh-decoded (generic_coding h) h.region_info.width h.region_info.height (context_bits h.template) h.bytes before grid first coder fresh states white bytes registers contexts has_decoded
 
 pub result-decoded : (h : GenericHeader) (grid : Grid) (coder : Coder) (states : List Context) → h.mmr ≡ false → HasDecoded h.region_info.width h.region_info.height h.bytes (generic_region h) (region_state grid coder states) → generic_result h ≡ Ok grid
 unfolding generic_grid
-result-decoded h grid coder states coded holds =
+result-decoded h grid coder states coded has_decoded =
     cond-false h.mmr (mmr_rows h.strict h.region_info.width h.region_info.height h.bytes >>= λ rows. Ok rows.grid) (Ok (generic_grid h)) coded
-    ∙ ap (λ (g : Grid). Ok g) (sym holds.pixels)
+    ∙ ap (λ (g : Grid). Ok g) (sym has_decoded.pixels)
 
 pub contexts-decoded : (h : GenericHeader) (before after : List Context) → h.mmr ≡ false → after ≡ (generic_region h).contexts → after ≡ contexts_after h before
 contexts-decoded h before after coded e = e ∙ sym (cond-false h.mmr before (generic_region h).contexts coded)

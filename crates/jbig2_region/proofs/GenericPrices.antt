@@ -3,7 +3,7 @@ use Rattle.std.specs.Prelude.{if◌then◌else◌}
 use Rattle.std.proofs.Common.{◌≡◌, ℕ, zero, suc, ◌+◌, ◌*◌, ◌≤◌, Bool, true, false, List, ap, arith}
 use Rattle.std.proofs.Math.Nat.{mul-le-mul_left}
 use Rattle.jbig2_base.specs.Counts.{Counts}
-use Rattle.jbig2_steps.specs.Work.{counted, price_of_bitmap, words_of_row}
+use Rattle.jbig2_steps.specs.Work.{sum_of_counts, price_of_bitmap, words_of_row}
 use Rattle.jbig2_steps.proofs.WorkLemmas.{row-paid}
 use Rattle.jbig2_region.specs.GenericSteps.{CountsCoded, read_pixels}
 use Rattle.jbig2_region.specs.Raster.{Coding, Region, row_decisions, source}
@@ -33,23 +33,23 @@ loads-few false w = omega arith
 
 -- ---- a region
 rows-few : (w h m row pixels tests words loads adaptive : ℕ) → w ≤ 64 * m → 1 ≤ m → row ≤ 1 → pixels ≤ w * h → tests ≤ 64 * m → words ≤ 64 * m → loads ≤ 12 * m → adaptive ≤ 4 → h * row + pixels + h * tests + h * words + (h * loads + pixels * adaptive) ≤ 2048 * (m * h)
-rows-few w h m row pixels tests words loads adaptive wide some begun coded tested written loaded few =
+rows-few w h m row pixels tests words loads adaptive wide some opening coded tested written loaded few =
     let across : h * w ≤ h * (64 * m) = mul-le-mul_left h wide in
     let high : h * 1 ≤ h * m = mul-le-mul_left h some in
-    let a : h * row ≤ h * 1 = mul-le-mul_left h begun in
+    let a : h * row ≤ h * 1 = mul-le-mul_left h opening in
     let b : h * tests ≤ h * (64 * m) = mul-le-mul_left h tested in
     let c : h * words ≤ h * (64 * m) = mul-le-mul_left h written in
     let d : h * loads ≤ h * (12 * m) = mul-le-mul_left h loaded in
     let e : pixels * adaptive ≤ pixels * 4 = mul-le-mul_left pixels few in
     omega (arith, across, high, a, b, c, d, e)
 
-counted-more : (template : List AdaptiveTemplatePixel) (nominal : Bool) (adaptive : ℕ) (coding : Coding) (w h : ℕ) (bytes : List ℕ) (start : Region) (before after : Counts) → 1 ≤ w → CountsRegion template nominal adaptive coding (source w h bytes start) before after → (n : ℕ) → h * row_decisions coding.row_context + coded_pixels coding w h bytes start + h * row_tests nominal w + h * row_words nominal w + (h * row_loads nominal w + coded_pixels coding w h bytes start * adaptive) ≤ n → counted after ≤ counted before + n
+counted-more : (template : List AdaptiveTemplatePixel) (nominal : Bool) (adaptive : ℕ) (coding : Coding) (w h : ℕ) (bytes : List ℕ) (start : Region) (before after : Counts) → 1 ≤ w → CountsRegion template nominal adaptive coding (source w h bytes start) before after → (n : ℕ) → h * row_decisions coding.row_context + coded_pixels coding w h bytes start + h * row_tests nominal w + h * row_words nominal w + (h * row_loads nominal w + coded_pixels coding w h bytes start * adaptive) ≤ n → sum_of_counts after ≤ sum_of_counts before + n
 counted-more template nominal adaptive coding w h bytes start before after some counts n all =
     omega (arith, counts.decisions some, counts.run_tests, counts.words, counts.loads, counts.lanes.groups, counts.lanes.pixels)
 
-pub region-paid : (template : List AdaptiveTemplatePixel) (nominal : Bool) (adaptive : ℕ) (coding : Coding) (w h : ℕ) (bytes : List ℕ) (start : Region) (before after : Counts) → adaptive ≤ 4 → CountsRegion template nominal adaptive coding (source w h bytes start) before after → counted after ≤ counted before + 32 * price_of_bitmap w h
+pub region-paid : (template : List AdaptiveTemplatePixel) (nominal : Bool) (adaptive : ℕ) (coding : Coding) (w h : ℕ) (bytes : List ℕ) (start : Region) (before after : Counts) → adaptive ≤ 4 → CountsRegion template nominal adaptive coding (source w h bytes start) before after → sum_of_counts after ≤ sum_of_counts before + 32 * price_of_bitmap w h
 region-paid template nominal adaptive coding zero h bytes start before after few counts =
-    let none : counted after ≡ counted before = ap (λ (c : Counts). counted c) (counts.empty (omega arith)) in
+    let none : sum_of_counts after ≡ sum_of_counts before = ap (λ (c : Counts). sum_of_counts c) (counts.empty (omega arith)) in
     omega (arith, none)
 region-paid template nominal adaptive coding (suc k) h bytes start before after few counts =
     let w : ℕ = suc k in
@@ -81,6 +81,6 @@ all-read w bits most =
     let each : w * (bits + 1) ≤ w * 17 = mul-le-mul_left w (omega arith) in
     omega (arith, each)
 
-pub coded-paid : (extended : Bool) (template : Template) (a : List AdaptiveTemplatePixel) (coding : Coding) (w h : ℕ) (bytes : List ℕ) (start : Region) (before after : Counts) → CountsCoded extended template a coding (source w h bytes start) before after → counted after ≤ counted before + 32 * price_of_bitmap w h
+pub coded-paid : (extended : Bool) (template : Template) (a : List AdaptiveTemplatePixel) (coding : Coding) (w h : ℕ) (bytes : List ℕ) (start : Region) (before after : Counts) → CountsCoded extended template a coding (source w h bytes start) before after → sum_of_counts after ≤ sum_of_counts before + 32 * price_of_bitmap w h
 coded-paid true template a coding w h bytes start before after counts = decided-paid coding (w * (context_bits template + 1)) w h bytes start before after (all-read w (context_bits template) (bits-most template)) counts
 coded-paid false template a coding w h bytes start before after counts = region-paid _ (is_nominal template a) (read_pixels template a) coding w h bytes start before after (read_pixels-few template a) counts

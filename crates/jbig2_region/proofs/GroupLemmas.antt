@@ -10,7 +10,7 @@ use Rattle.jbig2_coder.specs.Coder.{Coder, Context}
 use Rattle.jbig2_region.specs.inner.RegionStates.{HasDecoded, region_state}
 use Rattle.jbig2_region.specs.inner.Neighbours.{nominal_pixels, neighbours_stay, is_field, IsNear, IsLeft, SameAbove, Shows, ShowsByte, ShowsGroup, ShowsRun}
 use Rattle.jbig2_region.specs.Raster.{Region, so_far}
-use Rattle.jbig2_region.specs.Steps.{has_all, stays}
+use Rattle.jbig2_region.specs.Steps.{has_all, keeps_context}
 use Rattle.jbig2_region.specs.declared.template.neighbours.Neighbours.{Neighbours}
 use Rattle.jbig2_region.specs.declared.generic_kernel.windows.WideWindows.{WideWindows}
 use Rattle.jbig2_region.specs.declared.generic_kernel.windows.Windows.{Windows}
@@ -28,7 +28,7 @@ ones count few =
     bits.ones_shr 64 (64 - count) (omega arith) ∙ ap (λ (n : ℕ). 2 ^ n - 1) width
 
 -- contexts that stay, and stay once more
-stays-both : (template : List AdaptiveTemplatePixel) (w h : ℕ) (c : Bool) (n m : ℕ) (pixels : List Bool) → stays template w h c n pixels ≡ true → stays template w h c m (pixels ++ replicate n c) ≡ true → stays template w h c (n + m) pixels ≡ true
+stays-both : (template : List AdaptiveTemplatePixel) (w h : ℕ) (c : Bool) (n m : ℕ) (pixels : List Bool) → keeps_context template w h c n pixels ≡ true → keeps_context template w h c m (pixels ++ replicate n c) ≡ true → keeps_context template w h c (n + m) pixels ≡ true
 stays-both template w h c n m pixels one two =
     stays-from template w h c (n + m) pixels (λ k le.
     ⊎_elim
@@ -51,14 +51,14 @@ second-stays n c left v near is =
 
 -- 64 pixels, by both windows
 both-stay : (n : Neighbours) (c : Bool) (left : ℕ) (v : WideWindows) (w h x y : ℕ) (r : Region) (grid : Grid) (d : Coder) (s : List Context) → IsNear n → length r.pixels ≡ y * w + x → x + 64 < w → y < h
-    → Shows grid x y 44 v.first → Shows grid (x + 32) y 44 v.second → IsLeft grid x y left → HasDecoded w h d.bytes r (region_state grid d s) → neighbours_stay n 32 c left v.first ≡ true → neighbours_stay n 32 c left v.second ≡ true → stays (nominal_pixels n) w h c 64 r.pixels ≡ true
-both-stay n c left v w h x y r grid d s near len within above first second before holds one two =
+    → Shows grid x y 44 v.first → Shows grid (x + 32) y 44 v.second → IsLeft grid x y left → HasDecoded w h d.bytes r (region_state grid d s) → neighbours_stay n 32 c left v.first ≡ true → neighbours_stay n 32 c left v.second ≡ true → keeps_context (nominal_pixels n) w h c 64 r.pixels ≡ true
+both-stay n c left v w h x y r grid d s near len within above first second before has_decoded one two =
     let now : Grid = so_far w h r.pixels in
     let then : Grid = so_far w h (r.pixels ++ replicate 32 c) in
-    let here : Shows now x y 44 v.first = subst (λ (g : Grid). Shows g x y 44 v.first) holds.pixels first in
-    let start : IsLeft now x y left = subst (λ (g : Grid). IsLeft g x y left) holds.pixels before in
+    let here : Shows now x y 44 v.first = subst (λ (g : Grid). Shows g x y 44 v.first) has_decoded.pixels first in
+    let start : IsLeft now x y left = subst (λ (g : Grid). IsLeft g x y left) has_decoded.pixels before in
     let there : Shows then (x + 32) y 44 v.second =
-    shows-same now then (x + 32) y 44 v.second (more-above w h r.pixels (replicate 32 c) x y len) (subst (λ (g : Grid). Shows g (x + 32) y 44 v.second) holds.pixels second) in
+    shows-same now then (x + 32) y 44 v.second (more-above w h r.pixels (replicate 32 c) x y len) (subst (λ (g : Grid). Shows g (x + 32) y 44 v.second) has_decoded.pixels second) in
     let wide : now.width ≡ w = width-so_far w h r.pixels in
     let high : now.height ≡ h = height-so_far w h r.pixels in
     let stored : IsLeft (with_pixels now x y 32 (full 32 c)) (x + 32) y (full 4 c) = left-run now x y 32 c (omega arith) (omega arith) (omega arith) in
@@ -69,21 +69,21 @@ both-stay n c left v w h x y r grid d s near len within above first second befor
 
 -- the kernel's test of this many bytes: one, four or eight
 pub group-stays : (n : Neighbours) (c : Bool) (left most staying : ℕ) (v : WideWindows) (w h x y : ℕ) (r : Region) (grid : Grid) (d : Coder) (s : List Context) → IsNear n → 1 ≤ staying → staying ≤ most → length r.pixels ≡ y * w + x → x + 8 * most < w → y < h
-    → ShowsRun grid x y most v → IsLeft grid x y left → HasDecoded w h d.bytes r (region_state grid d s) → neighbours_stay n (8 * min staying 4) c left v.first ≡ true → (5 ≤ staying → (staying ≡ 8) × (neighbours_stay n 32 c left v.second ≡ true)) → stays (nominal_pixels n) w h c (8 * staying) r.pixels ≡ true
-group-stays n c left most staying v w h x y r grid d s near some within len columns above shows before holds one two =
+    → ShowsRun grid x y most v → IsLeft grid x y left → HasDecoded w h d.bytes r (region_state grid d s) → neighbours_stay n (8 * min staying 4) c left v.first ≡ true → (5 ≤ staying → (staying ≡ 8) × (neighbours_stay n 32 c left v.second ≡ true)) → keeps_context (nominal_pixels n) w h c (8 * staying) r.pixels ≡ true
+group-stays n c left most staying v w h x y r grid d s near some within len columns above shows before has_decoded one two =
     ⊎_elim
     (λ (few : staying < 5).
     let few_bytes : 8 * min staying 4 ≡ 8 * staying = omega arith in
-    let here : Shows (so_far w h r.pixels) x y (8 * min most 4 + 12) v.first = subst (λ (g : Grid). Shows g x y (8 * min most 4 + 12) v.first) holds.pixels shows.first in
-    let start : IsLeft (so_far w h r.pixels) x y left = subst (λ (g : Grid). IsLeft g x y left) holds.pixels before in
+    let here : Shows (so_far w h r.pixels) x y (8 * min most 4 + 12) v.first = subst (λ (g : Grid). Shows g x y (8 * min most 4 + 12) v.first) has_decoded.pixels shows.first in
+    let start : IsLeft (so_far w h r.pixels) x y left = subst (λ (g : Grid). IsLeft g x y left) has_decoded.pixels before in
     sym (stays-is n (8 * staying) c left v.first w h x y (8 * min most 4 + 12) r.pixels near (omega arith) (omega arith) len (omega arith) above here start)
     ∙ subst (λ (k : ℕ). neighbours_stay n k c left v.first ≡ true) few_bytes one)
     (λ (all : 5 ≤ staying).
     let eight : staying ≡ 8 = (two all).0 in
     let four : 8 * min staying 4 ≡ 32 = omega (arith, eight) in
     let whole : 64 ≡ 8 * staying = omega (arith, eight) in
-    subst (λ (k : ℕ). stays (nominal_pixels n) w h c k r.pixels ≡ true) whole
-    (both-stay n c left v w h x y r grid d s near len (omega (arith, eight)) above (shows-less grid x y (8 * min most 4 + 12) 44 v.first (omega (arith, eight)) shows.first) (shows.second (omega arith)) before holds
+    subst (λ (k : ℕ). keeps_context (nominal_pixels n) w h c k r.pixels ≡ true) whole
+    (both-stay n c left v w h x y r grid d s near len (omega (arith, eight)) above (shows-less grid x y (8 * min most 4 + 12) 44 v.first (omega (arith, eight)) shows.first) (shows.second (omega arith)) before has_decoded
     (subst (λ (k : ℕ). neighbours_stay n k c left v.first ≡ true) four one) (two all).1))
     (cases_lt staying 5)
 

@@ -63,20 +63,20 @@ turned has w h =
     ap (λ (n : ℕ). how_many has n) same
 
 -- ---- decisions
-decided-row : (coding : Coding) (w h : ℕ) (input : List ℕ) (begun : Region) (n : ℕ) → how_many (λ x. takes_decision coding w h (after_pixels coding w h input x begun)) n ≡ decided_pixels coding w h input n begun
+decided-row : (coding : Coding) (w h : ℕ) (input : List ℕ) (opening : Region) (n : ℕ) → how_many (λ x. takes_decision coding w h (after_pixels coding w h input x opening)) n ≡ decided_pixels coding w h input n opening
 unfolding how_many decided_pixels
-decided-row coding w h input begun zero = refl
-decided-row coding w h input begun (suc n) = rw (decided-row coding w h input begun n) refl
+decided-row coding w h input opening zero = refl
+decided-row coding w h input opening (suc n) = rw (decided-row coding w h input opening n) refl
 
 pub decided-places : (coding : Coding) (w h : ℕ) (input : List ℕ) (start : Region) (y : ℕ) → length start.pixels ≡ 0 → how_many (λ n. takes_decision coding w h (at_pixel coding w h input start n)) (y * w) ≡ decided_rows coding w h input y start
 unfolding decided_rows
 decided-places coding w h input start zero none = no-places (λ n. takes_decision coding w h (at_pixel coding w h input start n)) w
 decided-places coding w h input start (suc y) none =
-    let begun : Region = after_ltp coding.row_context input (after_rows coding w h input y start) in
-    more-places (λ n. takes_decision coding w h (at_pixel coding w h input start n)) (λ x. takes_decision coding w h (after_pixels coding w h input x begun)) w y _ _
+    let opening : Region = after_ltp coding.row_context input (after_rows coding w h input y start) in
+    more-places (λ n. takes_decision coding w h (at_pixel coding w h input start n)) (λ x. takes_decision coding w h (after_pixels coding w h input x opening)) w y _ _
     (decided-places coding w h input start y none)
     (λ x inside. ap (λ (r : Region). takes_decision coding w h r) (place-in-rows coding w h input start y x none inside))
-    (decided-row coding w h input begun w)
+    (decided-row coding w h input opening w)
 
 pub decisions-by-rows : (coding : Coding) (w h : ℕ) (input : List ℕ) (start : Region) → length start.pixels ≡ 0 → pixel_decisions coding w h input start ≡ decided_rows coding w h input h start
 unfolding pixel_decisions
@@ -84,10 +84,10 @@ decisions-by-rows coding w h input start none =
     turned (λ n. takes_decision coding w h (at_pixel coding w h input start n)) w h ∙ decided-places coding w h input start h none
 
 -- ---- coded rows
-coded-row : (coding : Coding) (w h : ℕ) (input : List ℕ) (begun : Region) → how_many (λ x. not (after_pixels coding w h input x begun).predicted) w ≡ w * cond begun.predicted 0 1
-coded-row coding w h input begun =
-    how_many-all (λ x. not (after_pixels coding w h input x begun).predicted) (not begun.predicted) w (λ x _. ap not (after_pixels-predicted coding w h input x begun))
-    ∙ ap (λ (k : ℕ). w * k) (one begun.predicted)
+coded-row : (coding : Coding) (w h : ℕ) (input : List ℕ) (opening : Region) → how_many (λ x. not (after_pixels coding w h input x opening).predicted) w ≡ w * cond opening.predicted 0 1
+coded-row coding w h input opening =
+    how_many-all (λ x. not (after_pixels coding w h input x opening).predicted) (not opening.predicted) w (λ x _. ap not (after_pixels-predicted coding w h input x opening))
+    ∙ ap (λ (k : ℕ). w * k) (one opening.predicted)
   where
     one : (p : Bool) → bit_number (not p) ≡ cond p 0 1
     one true = refl
@@ -97,12 +97,12 @@ coded-places : (coding : Coding) (w h : ℕ) (input : List ℕ) (start : Region)
 unfolding coded_rows
 coded-places coding w h input start zero none = no-places (λ n. not (at_pixel coding w h input start n).predicted) w ∙ omega arith
 coded-places coding w h input start (suc y) none =
-    let begun : Region = after_ltp coding.row_context input (after_rows coding w h input y start) in
-    more-places (λ n. not (at_pixel coding w h input start n).predicted) (λ x. not (after_pixels coding w h input x begun).predicted) w y _ _
+    let opening : Region = after_ltp coding.row_context input (after_rows coding w h input y start) in
+    more-places (λ n. not (at_pixel coding w h input start n).predicted) (λ x. not (after_pixels coding w h input x opening).predicted) w y _ _
     (coded-places coding w h input start y none)
     (λ x inside. ap (λ (r : Region). not r.predicted) (place-in-rows coding w h input start y x none inside))
-    (coded-row coding w h input begun)
-    ∙ sum w (coded_rows coding w h input y start) (cond begun.predicted 0 1)
+    (coded-row coding w h input opening)
+    ∙ sum w (coded_rows coding w h input y start) (cond opening.predicted 0 1)
   where
     sum : (w rows row : ℕ) → w * rows + w * row ≡ w * (rows + row)
     sum w rows row = omega arith
@@ -120,31 +120,31 @@ is_coded_run template w h bytes r = not r.predicted && is_run_byte template w h 
 run-of-row : (template : List AdaptiveTemplatePixel) (w h : ℕ) (input : List ℕ) (r : Region) (p : Bool) → r.predicted ≡ p → is_coded_run template w h input r ≡ (not p && is_run_byte template w h input r)
 run-of-row template w h input r p is = rw is refl
 
-runs-in-row : (template : List AdaptiveTemplatePixel) (row_context : Option ℕ) (w h : ℕ) (input : List ℕ) (begun : Region) (p : Bool) (n : ℕ) → begun.predicted ≡ p → how_many (λ x. is_coded_run template w h input (after_pixels (coding_with template row_context) w h input x begun)) n ≡ cond p 0 (run_bytes template w h input n begun)
+runs-in-row : (template : List AdaptiveTemplatePixel) (row_context : Option ℕ) (w h : ℕ) (input : List ℕ) (opening : Region) (p : Bool) (n : ℕ) → opening.predicted ≡ p → how_many (λ x. is_coded_run template w h input (after_pixels (coding_with template row_context) w h input x opening)) n ≡ cond p 0 (run_bytes template w h input n opening)
 unfolding how_many run_bytes
-runs-in-row template row_context w h input begun true n is =
+runs-in-row template row_context w h input opening true n is =
     let coding : Coding = coding_with template row_context in
-    how_many-all (λ x. is_coded_run template w h input (after_pixels coding w h input x begun)) false n
-    (λ x _. run-of-row template w h input (after_pixels coding w h input x begun) true (after_pixels-predicted coding w h input x begun ∙ is))
+    how_many-all (λ x. is_coded_run template w h input (after_pixels coding w h input x opening)) false n
+    (λ x _. run-of-row template w h input (after_pixels coding w h input x opening) true (after_pixels-predicted coding w h input x opening ∙ is))
     ∙ omega arith
-runs-in-row template row_context w h input begun false zero is = refl
-runs-in-row template row_context w h input begun false (suc n) is =
+runs-in-row template row_context w h input opening false zero is = refl
+runs-in-row template row_context w h input opening false (suc n) is =
     let coding : Coding = coding_with template row_context in
-    let last : is_coded_run template w h input (after_pixels coding w h input n begun) ≡ is_run_byte template w h input (after_pixels (row_coding template) w h input n begun) =
-    run-of-row template w h input (after_pixels coding w h input n begun) false (after_pixels-predicted coding w h input n begun ∙ is)
-    ∙ ap (λ (r : Region). is_run_byte template w h input r) (after_pixels-coding template row_context w h input n begun) in
-    rw (runs-in-row template row_context w h input begun false n is, last) refl
+    let last : is_coded_run template w h input (after_pixels coding w h input n opening) ≡ is_run_byte template w h input (after_pixels (row_coding template) w h input n opening) =
+    run-of-row template w h input (after_pixels coding w h input n opening) false (after_pixels-predicted coding w h input n opening ∙ is)
+    ∙ ap (λ (r : Region). is_run_byte template w h input r) (after_pixels-coding template row_context w h input n opening) in
+    rw (runs-in-row template row_context w h input opening false n is, last) refl
 
 runs-places : (template : List AdaptiveTemplatePixel) (row_context : Option ℕ) (w h : ℕ) (input : List ℕ) (start : Region) (y : ℕ) → length start.pixels ≡ 0 → how_many (λ n. is_coded_run template w h input (at_pixel (coding_with template row_context) w h input start n)) (y * w) ≡ rows_runs template true (coding_with template row_context) w h input y start
 unfolding rows_runs
 runs-places template row_context w h input start zero none = no-places (λ n. is_coded_run template w h input (at_pixel (coding_with template row_context) w h input start n)) w
 runs-places template row_context w h input start (suc y) none =
     let coding : Coding = coding_with template row_context in
-    let begun : Region = after_ltp row_context input (after_rows coding w h input y start) in
-    more-places (λ n. is_coded_run template w h input (at_pixel coding w h input start n)) (λ x. is_coded_run template w h input (after_pixels coding w h input x begun)) w y _ _
+    let opening : Region = after_ltp row_context input (after_rows coding w h input y start) in
+    more-places (λ n. is_coded_run template w h input (at_pixel coding w h input start n)) (λ x. is_coded_run template w h input (after_pixels coding w h input x opening)) w y _ _
     (runs-places template row_context w h input start y none)
     (λ x inside. ap (λ (r : Region). is_coded_run template w h input r) (place-in-rows coding w h input start y x none inside))
-    (runs-in-row template row_context w h input begun begun.predicted w refl)
+    (runs-in-row template row_context w h input opening opening.predicted w refl)
 
 -- a template without run bytes
 no-runs : (template : List AdaptiveTemplatePixel) (coding : Coding) (w h : ℕ) (input : List ℕ) (start : Region) (y : ℕ) → rows_runs template false coding w h input y start ≡ 0

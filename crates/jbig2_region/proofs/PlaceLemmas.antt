@@ -83,10 +83,10 @@ first-rows coding w h input start zero v none some =
 first-rows coding w h input start (suc y) v none some =
     let last : suc y * w ≡ suc (y * w + v) = omega arith in
     let above = first-rows coding w h input start y v none some in
-    let begun : Region = after_ltp coding.row_context input (after_rows coding w h input y start) in
+    let opening : Region = after_ltp coding.row_context input (after_rows coding w h input y start) in
     ap (λ (n : ℕ). first_pixels coding w h input start n) last
     ∙ ap (λ (r : Region). after_pixel coding w h input r) (place-in-row coding w h input start y v none (omega arith) above)
-    ∙ ap (λ (n : ℕ). after_pixels coding w h input n begun) (sym some)
+    ∙ ap (λ (n : ℕ). after_pixels coding w h input n opening) (sym some)
 
 -- pixel x of row y, whose rows above are done
 pub place-in-rows : (coding : Coding) (w h : ℕ) (input : List ℕ) (start : Region) (y x : ℕ) → length start.pixels ≡ 0 → x < w
@@ -121,5 +121,5 @@ region-empty coding w h grid coder states empty white =
     subst (λ (n : Region). HasDecoded w h coder.bytes n (region_state grid coder states)) (sym (decoded-empty coding w h coder.bytes (no_pixels coder.registers states) refl empty)) (region-start w h grid coder states white)
 
 pub region-whole : (coding : Coding) (w h n : ℕ) (input : List ℕ) (start : Region) (grid : Grid) (coder : Coder) (states : List Context) → length start.pixels ≡ 0 → (w ≡ 0 → ⊥) → n ≡ h → HasDecoded w h input (after_rows coding w h input n start) (region_state grid coder states) → HasDecoded w h input (decoded_region coding w h input start) (region_state grid coder states)
-region-whole coding w h n input start grid coder states none some all holds =
-    subst (λ (r : Region). HasDecoded w h input r (region_state grid coder states)) (ap (λ (k : ℕ). after_rows coding w h input k start) all ∙ sym (decoded-rows coding w h input start none (ne_eqb w 0 some))) holds
+region-whole coding w h n input start grid coder states none some all has_decoded =
+    subst (λ (r : Region). HasDecoded w h input r (region_state grid coder states)) (ap (λ (k : ℕ). after_rows coding w h input k start) all ∙ sym (decoded-rows coding w h input start none (ne_eqb w 0 some))) has_decoded

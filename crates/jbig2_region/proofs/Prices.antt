@@ -4,7 +4,7 @@ use Rattle.std.proofs.Common.{◌≡◌, ℕ, zero, suc, ◌+◌, ◌*◌, ◌�
 use Rattle.std.proofs.Math.Nat.{mul-le-mul_left}
 use Rattle.jbig2_base.specs.Counts.{Counts}
 use Rattle.jbig2_base.specs.Grid.{bit_number}
-use Rattle.jbig2_steps.specs.Work.{counted, price_of_bitmap, words_of_row}
+use Rattle.jbig2_steps.specs.Work.{sum_of_counts, price_of_bitmap, words_of_row}
 use Rattle.jbig2_steps.proofs.WorkLemmas.{row-paid}
 use Rattle.jbig2_region.specs.Raster.{Coding, Region, row_decisions, source}
 use Rattle.jbig2_region.specs.RefinementTemplates.{is_nominal, refinement_bits}
@@ -53,7 +53,7 @@ refinement_loads-few template a w = either (is_nominal template a)
 -- ---- a region
 -- decisions, words and loads of h rows of w pixels, each of m words
 rows-few : (w h m row pixels loads words loaded : ℕ) → w ≤ 64 * m → 1 ≤ m → row ≤ h * 1 → pixels ≤ w * h → words ≤ h * w → loads ≤ 1408 * m → loaded ≤ h * loads → row + pixels + words + loaded ≤ 2048 * (m * h)
-rows-few w h m row pixels loads words loaded wide some begun decided written few read =
+rows-few w h m row pixels loads words loaded wide some opening decided written few read =
     let across : h * w ≤ h * (64 * m) = mul-le-mul_left h wide in
     let each : h * loads ≤ h * (1408 * m) = mul-le-mul_left h few in
     let high : h * 1 ≤ h * m = mul-le-mul_left h some in
@@ -65,19 +65,19 @@ row-wide w = omega arith
 pub row-some : (w : ℕ) → 1 ≤ words_of_row w
 row-some w = omega arith
 
-counted-more : (coding : Coding) (loads w h : ℕ) (bytes : List ℕ) (start : Region) (before after : Counts) → 1 ≤ w → CountsDecided coding loads (source w h bytes start) before after → (n : ℕ) → h * row_decisions coding.row_context + pixel_decisions coding w h bytes start + h * w + h * loads ≤ n → counted after ≤ counted before + n
+counted-more : (coding : Coding) (loads w h : ℕ) (bytes : List ℕ) (start : Region) (before after : Counts) → 1 ≤ w → CountsDecided coding loads (source w h bytes start) before after → (n : ℕ) → h * row_decisions coding.row_context + pixel_decisions coding w h bytes start + h * w + h * loads ≤ n → sum_of_counts after ≤ sum_of_counts before + n
 counted-more coding loads w h bytes start before after some counts n all =
     omega (arith, counts.decisions some, counts.run_tests, counts.words, counts.loads, counts.lanes.groups, counts.lanes.pixels)
 
-pub decided-paid : (coding : Coding) (loads w h : ℕ) (bytes : List ℕ) (start : Region) (before after : Counts) → loads ≤ 1408 * words_of_row w → CountsDecided coding loads (source w h bytes start) before after → counted after ≤ counted before + 32 * price_of_bitmap w h
+pub decided-paid : (coding : Coding) (loads w h : ℕ) (bytes : List ℕ) (start : Region) (before after : Counts) → loads ≤ 1408 * words_of_row w → CountsDecided coding loads (source w h bytes start) before after → sum_of_counts after ≤ sum_of_counts before + 32 * price_of_bitmap w h
 decided-paid coding loads zero h bytes start before after few counts =
-    let none : counted after ≡ counted before = ap (λ (c : Counts). counted c) (counts.empty (omega arith)) in
+    let none : sum_of_counts after ≡ sum_of_counts before = ap (λ (c : Counts). sum_of_counts c) (counts.empty (omega arith)) in
     omega (arith, none)
 decided-paid coding loads (suc k) h bytes start before after few counts =
     let w : ℕ = suc k in
-    let begun : h * row_decisions coding.row_context ≤ h * 1 = mul-le-mul_left h (row-decides coding.row_context) in
+    let opening : h * row_decisions coding.row_context ≤ h * 1 = mul-le-mul_left h (row-decides coding.row_context) in
     let all : h * row_decisions coding.row_context + pixel_decisions coding w h bytes start + h * w + h * loads ≤ 2048 * (words_of_row w * h) =
-    rows-few w h (words_of_row w) _ _ loads _ _ (row-wide w) (row-some w) begun (pixels-decide coding w h bytes start) (same (h * w)) few (same (h * loads)) in
+    rows-few w h (words_of_row w) _ _ loads _ _ (row-wide w) (row-some w) opening (pixels-decide coding w h bytes start) (same (h * w)) few (same (h * loads)) in
     counted-more coding loads w h bytes start before after (omega arith) counts _ (row-paid w h _ all)
   where
     same : (n : ℕ) → n ≤ n

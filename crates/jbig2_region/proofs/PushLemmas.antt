@@ -192,4 +192,4 @@ no-run d d' n qe none is =
 -- a row that no decision begins
 pub begins-plain : (w h : ℕ) (g : Grid) (r : Region) (c : Coder) (s : List Context) → r.predicted ≡ false → HasDecoded w h c.bytes r (region_state g c s) → BeginsRow w h None r false c (region_state g c s)
 unfolding after_ltp
-begins-plain w h g r c s is holds = record { holds = holds; predicted = is }
+begins-plain w h g r c s is has_decoded = record { has_decoded = has_decoded; predicted = is }

@@ -71,32 +71,32 @@ after_pixel-at coding w h input r grid p x y len left predicted same =
 
 pub HasDecoded-known : (coding : Coding) (w h : ℕ) (input : List ℕ) (r : Region) (grid after : Grid) (coder : Coder) (states : List Context) (x y : ℕ) (p colour : Bool) → length r.pixels ≡ y * w + x → x < w → y < h → r.predicted ≡ p → coding.known p grid x y ≡ Some colour → after ≡ with_pixel grid x y colour → HasDecoded w h input r (region_state grid coder states) → HasDecoded w h input (after_pixel coding w h input r) (region_state after coder states)
 unfolding with_next
-HasDecoded-known coding w h input r grid after coder states x y p colour len left above predicted is_known written holds =
+HasDecoded-known coding w h input r grid after coder states x y p colour len left above predicted is_known written has_decoded =
     let made : after_pixel coding w h input r ≡ with_next input r (coding.context grid x y) (Some colour) =
-    after_pixel-at coding w h input r grid p x y len left predicted holds.pixels ∙ ap (λ (k : Option Bool). with_next input r (coding.context grid x y) k) is_known in
+    after_pixel-at coding w h input r grid p x y len left predicted has_decoded.pixels ∙ ap (λ (k : Option Bool). with_next input r (coding.context grid x y) k) is_known in
     subst (λ (n : Region). HasDecoded w h input n (region_state after coder states)) (sym made)
     (record {
-      pixels = written ∙ ap (λ (g : Grid). with_pixel g x y colour) holds.pixels ∙ so_far-push w h r.pixels x y colour len left above;
-      bytes = holds.bytes;
-      registers = holds.registers;
-      contexts = holds.contexts;
+      pixels = written ∙ ap (λ (g : Grid). with_pixel g x y colour) has_decoded.pixels ∙ so_far-push w h r.pixels x y colour len left above;
+      bytes = has_decoded.bytes;
+      registers = has_decoded.registers;
+      contexts = has_decoded.contexts;
     })
 
 pub HasDecoded-decided : (coding : Coding) (w h : ℕ) (input : List ℕ) (r : Region) (grid after : Grid) (coder next : Coder) (states : List Context) (x y k : ℕ) (p : Bool) (old new : Context) → length r.pixels ≡ y * w + x → x < w → y < h → r.predicted ≡ p → coding.known p grid x y ≡ None → k ≡ coding.context grid x y → old ≡ get_or states k fresh → after ≡ with_pixel grid x y (decision coder.bytes coder.registers old).symbol → next ≡ record coder { registers = (decision coder.bytes coder.registers old).registers } → new ≡ (decision coder.bytes coder.registers old).context → HasDecoded w h input r (region_state grid coder states) → HasDecoded w h input (after_pixel coding w h input r) (region_state after next (set states k new))
 unfolding with_next
-HasDecoded-decided coding w h input r grid after coder next states x y k p old new len left above predicted is_open is_context is_old written is_next is_new holds =
+HasDecoded-decided coding w h input r grid after coder next states x y k p old new len left above predicted is_open is_context is_old written is_next is_new has_decoded =
     let made : after_pixel coding w h input r ≡ with_next input r (coding.context grid x y) None =
-    after_pixel-at coding w h input r grid p x y len left predicted holds.pixels ∙ ap (λ (c : Option Bool). with_next input r (coding.context grid x y) c) is_open in
+    after_pixel-at coding w h input r grid p x y len left predicted has_decoded.pixels ∙ ap (λ (c : Option Bool). with_next input r (coding.context grid x y) c) is_open in
     let d : Decision = decision coder.bytes coder.registers old in
     let e : Decision = decision input r.registers (get_or r.contexts (coding.context grid x y) fresh) in
-    let context : old ≡ get_or r.contexts (coding.context grid x y) fresh = is_old ∙ ap (λ (n : ℕ). get_or states n fresh) is_context ∙ ap (λ (s : List Context). get_or s (coding.context grid x y) fresh) holds.contexts in
-    let same : d ≡ e = ap (λ (b : List ℕ). decision b coder.registers old) holds.bytes ∙ ap (λ q. decision input q old) holds.registers ∙ ap (λ (c : Context). decision input r.registers c) context in
+    let context : old ≡ get_or r.contexts (coding.context grid x y) fresh = is_old ∙ ap (λ (n : ℕ). get_or states n fresh) is_context ∙ ap (λ (s : List Context). get_or s (coding.context grid x y) fresh) has_decoded.contexts in
+    let same : d ≡ e = ap (λ (b : List ℕ). decision b coder.registers old) has_decoded.bytes ∙ ap (λ q. decision input q old) has_decoded.registers ∙ ap (λ (c : Context). decision input r.registers c) context in
     subst (λ (n : Region). HasDecoded w h input n (region_state after next (set states k new))) (sym made)
     (record {
-      pixels = written ∙ ap (λ (g : Grid). with_pixel g x y d.symbol) holds.pixels ∙ so_far-push w h r.pixels x y d.symbol len left above ∙ ap (λ (q : Decision). so_far w h (r.pixels ++ q.symbol ∷ [])) same;
-      bytes = ap (λ (c : Coder). c.bytes) is_next ∙ holds.bytes;
+      pixels = written ∙ ap (λ (g : Grid). with_pixel g x y d.symbol) has_decoded.pixels ∙ so_far-push w h r.pixels x y d.symbol len left above ∙ ap (λ (q : Decision). so_far w h (r.pixels ++ q.symbol ∷ [])) same;
+      bytes = ap (λ (c : Coder). c.bytes) is_next ∙ has_decoded.bytes;
       registers = ap (λ (c : Coder). c.registers) is_next ∙ ap (λ (q : Decision). q.registers) same;
-      contexts = ap (λ (n : Context). set states k n) (is_new ∙ ap (λ (q : Decision). q.context) same) ∙ ap (λ (n : ℕ). set states n e.context) is_context ∙ ap (λ (s : List Context). set s (coding.context grid x y) e.context) holds.contexts;
+      contexts = ap (λ (n : Context). set states k n) (is_new ∙ ap (λ (q : Decision). q.context) same) ∙ ap (λ (n : ℕ). set states n e.context) is_context ∙ ap (λ (s : List Context). set s (coding.context grid x y) e.context) has_decoded.contexts;
     })
 
 -- a decision's digit as a colour
@@ -105,27 +105,27 @@ digit-colour true n e = rw e
 digit-colour false n e = rw e
 
 -- ---- the decision that begins a row
-pub begun-plainly : (w h : ℕ) (row_context : Option ℕ) (r : Region) (p : Bool) (grid : Grid) (coder : Coder) (states : List Context) → row_context ≡ None → r.predicted ≡ p → HasDecoded w h coder.bytes r (region_state grid coder states) → BeginsRow w h row_context r p coder (region_state grid coder states)
+pub opening-plainly : (w h : ℕ) (row_context : Option ℕ) (r : Region) (p : Bool) (grid : Grid) (coder : Coder) (states : List Context) → row_context ≡ None → r.predicted ≡ p → HasDecoded w h coder.bytes r (region_state grid coder states) → BeginsRow w h row_context r p coder (region_state grid coder states)
 unfolding after_ltp
-begun-plainly w h row_context r p grid coder states none predicted holds = rw none (record { holds = holds; predicted = predicted })
+opening-plainly w h row_context r p grid coder states none predicted has_decoded = rw none (record { has_decoded = has_decoded; predicted = predicted })
 
 turned : (symbol p : Bool) → differ symbol p ≡ cond symbol (not p) p
 turned true p = refl
 turned false p = refl
 
-pub begun-decided : (w h : ℕ) (row_context : Option ℕ) (r : Region) (p symbol after : Bool) (grid : Grid) (coder next : Coder) (states : List Context) (k : ℕ) (old new : Context) → row_context ≡ Some k → r.predicted ≡ p → old ≡ get_or states k fresh → (decision coder.bytes coder.registers old).symbol ≡ symbol → after ≡ cond symbol (not p) p → next ≡ record coder { registers = (decision coder.bytes coder.registers old).registers } → new ≡ (decision coder.bytes coder.registers old).context → HasDecoded w h coder.bytes r (region_state grid coder states) → BeginsRow w h row_context r after coder (region_state grid next (set states k new))
+pub opening-decided : (w h : ℕ) (row_context : Option ℕ) (r : Region) (p symbol after : Bool) (grid : Grid) (coder next : Coder) (states : List Context) (k : ℕ) (old new : Context) → row_context ≡ Some k → r.predicted ≡ p → old ≡ get_or states k fresh → (decision coder.bytes coder.registers old).symbol ≡ symbol → after ≡ cond symbol (not p) p → next ≡ record coder { registers = (decision coder.bytes coder.registers old).registers } → new ≡ (decision coder.bytes coder.registers old).context → HasDecoded w h coder.bytes r (region_state grid coder states) → BeginsRow w h row_context r after coder (region_state grid next (set states k new))
 unfolding after_ltp
-begun-decided w h row_context r p symbol after grid coder next states k old new some predicted is_old is_symbol is_after is_next is_new holds =
+opening-decided w h row_context r p symbol after grid coder next states k old new some predicted is_old is_symbol is_after is_next is_new has_decoded =
     let d : Decision = decision coder.bytes coder.registers old in
     let e : Decision = decision coder.bytes r.registers (get_or r.contexts k fresh) in
-    let context : old ≡ get_or r.contexts k fresh = is_old ∙ ap (λ (s : List Context). get_or s k fresh) holds.contexts in
-    let same : d ≡ e = ap (λ q. decision coder.bytes q old) holds.registers ∙ ap (λ (c : Context). decision coder.bytes r.registers c) context in
+    let context : old ≡ get_or r.contexts k fresh = is_old ∙ ap (λ (s : List Context). get_or s k fresh) has_decoded.contexts in
+    let same : d ≡ e = ap (λ q. decision coder.bytes q old) has_decoded.registers ∙ ap (λ (c : Context). decision coder.bytes r.registers c) context in
     rw some (record {
-      holds = record {
-        pixels = holds.pixels;
+      has_decoded = record {
+        pixels = has_decoded.pixels;
         bytes = ap (λ (c : Coder). c.bytes) is_next;
         registers = ap (λ (c : Coder). c.registers) is_next ∙ ap (λ (q : Decision). q.registers) same;
-        contexts = ap (λ (n : Context). set states k n) (is_new ∙ ap (λ (q : Decision). q.context) same) ∙ ap (λ (s : List Context). set s k e.context) holds.contexts;
+        contexts = ap (λ (n : Context). set states k n) (is_new ∙ ap (λ (q : Decision). q.context) same) ∙ ap (λ (s : List Context). set s k e.context) has_decoded.contexts;
       };
       predicted = ap (λ (b : Bool). differ b r.predicted) (sym (ap (λ (q : Decision). q.symbol) same) ∙ is_symbol) ∙ ap (λ (b : Bool). differ symbol b) predicted ∙ turned symbol p ∙ sym is_after;
     })
@@ -210,17 +210,17 @@ pub region-step : (coding : Coding) (y : ℕ) (p q : Bool) (g1 : Grid) (c1 : Cod
     → PixelSteps coding w' y q g1 c2 s2 g3 c3 s3 w' h' c2.bytes
     → HasDecoded w h input (after_rows coding w h input y start) (region_state g1 c1 s1) → (after_rows coding w h input y start).predicted ≡ p
     → HasDecoded w h input (after_rows coding w h input (y + 1) start) (region_state g3 c3 s3) × ((after_rows coding w h input (y + 1) start).predicted ≡ q)
-region-step coding y p q g1 c1 s1 c2 s2 g3 c3 s3 start w h input w' h' ew eh ei es none begin steps holds predicted =
+region-step coding y p q g1 c1 s1 c2 s2 g3 c3 s3 start w h input w' h' ew eh ei es none begin steps has_decoded predicted =
     let made : Region = after_rows coding w h input y start in
-    let begun : Region = after_ltp coding.row_context input made in
-    let row : BeginsRow w h coding.row_context made q c1 (region_state g1 c2 s2) = begin w h g1 made predicted (subst (λ (v : List ℕ). HasDecoded w h v made (region_state g1 c1 s1)) (sym ei) holds) in
-    let begun_holds : HasDecoded w h input begun (region_state g1 c2 s2) = subst (λ (v : List ℕ). HasDecoded w h v (after_ltp coding.row_context v made) (region_state g1 c2 s2)) ei row.holds in
-    let begun_predicted : begun.predicted ≡ q = subst (λ (v : List ℕ). (after_ltp coding.row_context v made).predicted ≡ q) ei row.predicted in
+    let opening : Region = after_ltp coding.row_context input made in
+    let row : BeginsRow w h coding.row_context made q c1 (region_state g1 c2 s2) = begin w h g1 made predicted (subst (λ (v : List ℕ). HasDecoded w h v made (region_state g1 c1 s1)) (sym ei) has_decoded) in
+    let opening_holds : HasDecoded w h input opening (region_state g1 c2 s2) = subst (λ (v : List ℕ). HasDecoded w h v (after_ltp coding.row_context v made) (region_state g1 c2 s2)) ei row.has_decoded in
+    let opening_predicted : opening.predicted ≡ q = subst (λ (v : List ℕ). (after_ltp coding.row_context v made).predicted ≡ q) ei row.predicted in
     let one = subst (λ (v : ℕ). PixelSteps coding v y q g1 c2 s2 g3 c3 s3 v h' c2.bytes) ew steps in
     let two = subst (λ (v : ℕ). PixelSteps coding w y q g1 c2 s2 g3 c3 s3 w v c2.bytes) eh one in
     let here = subst (λ (v : List ℕ). PixelSteps coding w y q g1 c2 s2 g3 c3 s3 w h v) (es ∙ ei) two in (
-      subst (λ (n : Region). HasDecoded w h input n (region_state g3 c3 s3)) (sym (after_rows-one coding w h input y start)) (here begun (after_rows-length coding w h input y start none) begun_predicted begun_holds),
-      ap (λ (n : Region). n.predicted) (after_rows-one coding w h input y start) ∙ after_pixels-predicted coding w h input w begun ∙ begun_predicted,
+      subst (λ (n : Region). HasDecoded w h input n (region_state g3 c3 s3)) (sym (after_rows-one coding w h input y start)) (here opening (after_rows-length coding w h input y start none) opening_predicted opening_holds),
+      ap (λ (n : Region). n.predicted) (after_rows-one coding w h input y start) ∙ after_pixels-predicted coding w h input w opening ∙ opening_predicted,
     )
 
 pub region-start : (w h : ℕ) (grid : Grid) (coder : Coder) (states : List Context) → grid ≡ blank w h false → HasDecoded w h coder.bytes (no_pixels coder.registers states) (region_state grid coder states)

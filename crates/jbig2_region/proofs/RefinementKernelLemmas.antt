@@ -43,11 +43,11 @@ block-next template typical p r x y k g w d0 d d' s0 s s' t0 t t' pixels nine fo
       left =
           left-whole (with_pixels g x y (k + 1) (pixels * 2 + symbol)) (x + (k + 1)) y (pixels * 2 + symbol)
           (left-bit g x y k pixels pixels symbol digit.0 digit.1 wide above block.left);
-      holds =
-          codes-next coding p x y k g shown (with_pixels g x y (k + 1) (pixels * 2 + symbol)) d0 d d' s0 s s' t t' (known_of p nine) (context_of template nine four) symbol block.holds (omega arith) above known context
+      has_decoded =
+          codes-next coding p x y k g shown (with_pixels g x y (k + 1) (pixels * 2 + symbol)) d0 d d' s0 s s' t t' (known_of p nine) (context_of template nine four) symbol block.has_decoded (omega arith) above known context
           (λ c is. stored-push g x y k pixels symbol c is (omega arith) above) takes;
       decisions =
-          counts-next coding p x y k g shown d0 d s0 s (known_of p nine) t0.decisions t.decisions t'.decisions block.holds block.decisions (omega arith) above known
+          counts-next coding p x y k g shown d0 d s0 s (known_of p nine) t0.decisions t.decisions t'.decisions block.has_decoded block.decisions (omega arith) above known
           (taken-decisions (known_of p nine) (context_of template nine four) d s t symbol d' s' t' takes);
       steps = taken-others (known_of p nine) (context_of template nine four) d s t symbol d' s' t' takes ∙ ap (λ (q : Counts). let made : Counts = record q { decisions = t'.decisions } in made) block.steps;
     }
@@ -57,7 +57,7 @@ block-none coding p x y left pixels g d s t before small is = record {
   bytes = refl;
   few = omega arith;
   left = left-start g x y pixels pixels (subst (λ (n : ℕ). IsLeft g x y n) (sym is) before);
-  holds = codes-start coding p x y pixels g d s;
+  has_decoded = codes-start coding p x y pixels g d s;
   decisions = counts-none coding p x y g d s t.decisions;
   steps = refl;
 }
@@ -65,7 +65,7 @@ block-none coding p x y left pixels g d s t before small is = record {
 -- what a stored block leaves
 pub record Stored (coding : Coding) (p : Bool) (x y n : ℕ) (g : Grid) (d0 : Coder) (s0 : List Context) (count : ℕ) (pixels : ℕ) (g' : Grid) (d : Coder) (s : List Context) (count' : ℕ) : Type 0 where
   pub left : IsLeft g' (x + n) y (pixels % 16)
-  pub holds : DecodesPart coding p x y n (region_state g d0 s0) (region_state g' d s)
+  pub has_decoded : DecodesPart coding p x y n (region_state g d0 s0) (region_state g' d s)
   pub decisions : CountsPart coding p x y n (region_state g d0 s0) count count'
 
 pub block-whole : (coding : Coding) (p : Bool) (x y k n : ℕ) (g g' : Grid) (d0 d : Coder) (s0 s : List Context) (t0 t : Counts) (pixels : ℕ) → Block coding p x y k (counted_region g d0 s0 t0) pixels (counted_decoder d s t) → k ≡ n → g' ≡ with_pixels g x y n pixels
@@ -74,6 +74,6 @@ block-whole coding p x y k n g g' d0 d s0 s t0 t pixels block all stored =
     let same : with_pixels g x y k pixels ≡ g' = ap (λ (m : ℕ). with_pixels g x y m pixels) all ∙ sym stored in
     record {
       left = left-few g' (x + n) y pixels (subst (λ (q : Grid). IsLeft q (x + n) y pixels) same (subst (λ (m : ℕ). IsLeft (with_pixels g x y k pixels) (x + m) y pixels) all block.left));
-      holds = subst (λ (q : Grid). DecodesPart coding p x y n (region_state g d0 s0) (region_state q d s)) same (subst (λ (m : ℕ). DecodesPart coding p x y m (region_state g d0 s0) (region_state (with_pixels g x y k pixels) d s)) all block.holds);
+      has_decoded = subst (λ (q : Grid). DecodesPart coding p x y n (region_state g d0 s0) (region_state q d s)) same (subst (λ (m : ℕ). DecodesPart coding p x y m (region_state g d0 s0) (region_state (with_pixels g x y k pixels) d s)) all block.has_decoded);
       decisions = subst (λ (m : ℕ). CountsPart coding p x y m (region_state g d0 s0) t0.decisions t.decisions) all block.decisions;
     }

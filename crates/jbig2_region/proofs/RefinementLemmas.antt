@@ -148,14 +148,14 @@ pub refined-decoded : (h : RefinementHeader) (from : PlacedRegion) (r : Referenc
     → HasDecoded before.width before.height first.bytes (decoded_region (refinement_coding h.template h.tpgron h.adaptive_template_pixels r) before.width before.height first.bytes (no_pixels first.registers fresh)) (region_state grid coder states)
     → HasDecoded h.region_info.width h.region_info.height h.bytes (refined_region h from) (region_state grid coder states)
 unfolding refined_region
-refined-decoded h from r before grid first coder fresh states place white bytes registers contexts holds =
-    let placed = subst (λ (q : Reference). HasDecoded before.width before.height first.bytes (decoded_region (refinement_coding h.template h.tpgron h.adaptive_template_pixels q) before.width before.height first.bytes (no_pixels first.registers fresh)) (region_state grid coder states)) place holds in
+refined-decoded h from r before grid first coder fresh states place white bytes registers contexts has_decoded =
+    let placed = subst (λ (q : Reference). HasDecoded before.width before.height first.bytes (decoded_region (refinement_coding h.template h.tpgron h.adaptive_template_pixels q) before.width before.height first.bytes (no_pixels first.registers fresh)) (region_state grid coder states)) place has_decoded in
     fresh-decoded (refinement_coding h.template h.tpgron h.adaptive_template_pixels (reference_of h from)) h.region_info.width h.region_info.height (refinement_bits h.template) h.bytes before grid first coder fresh states white bytes registers contexts placed
 
 pub refined-result : (h : RefinementHeader) (from : PlacedRegion) (d : ℤ × ℤ) (grid : Grid) (coder : Coder) (states : List Context) → offset from h.region_info ≡ Ok d → HasDecoded h.region_info.width h.region_info.height h.bytes (refined_region h from) (region_state grid coder states) → refined_result h from ≡ Ok grid
 unfolding refined_grid
-refined-result h from d grid coder states near holds =
-    ap (λ (r : Result (ℤ × ℤ) DecodeError). r >>= λ d. Ok (refined_grid h from)) near ∙ ap (λ (g : Grid). Ok g) (sym holds.pixels)
+refined-result h from d grid coder states near has_decoded =
+    ap (λ (r : Result (ℤ × ℤ) DecodeError). r >>= λ d. Ok (refined_grid h from)) near ∙ ap (λ (g : Grid). Ok g) (sym has_decoded.pixels)
 
 pub refined-contexts : (h : RefinementHeader) (from : PlacedRegion) (d : ℤ × ℤ) (before after : List Context) → offset from h.region_info ≡ Ok d → after ≡ (refined_region h from).contexts → after ≡ refined_contexts h from before
 refined-contexts h from d before after near e =

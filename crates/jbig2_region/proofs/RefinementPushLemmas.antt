@@ -53,8 +53,8 @@ block-pushed template typical p r x y k j g w d0 d d' s0 s s' t0 t t' pixels con
     block sees (omega arith) (omega arith) above refl refl
     (subst (λ (known : Option Bool). Takes known (context_of template (nine_of w (k + j)) (four_of w pixels (k + j))) (counted_decoder d s t) symbol (counted_decoder d' s' t')) (sym unknown) decided))
 
-pub block-begun : (coding : Coding) (p : Bool) (x y k : ℕ) (g : Grid) (d0 d : Coder) (s0 s : List Context) (t0 t : Counts) (pixels : ℕ) → Block coding p x y k (counted_region g d0 s0 t0) pixels (counted_decoder d s t) → Block coding p x y (k + 0) (counted_region g d0 s0 t0) pixels (counted_decoder d s t)
-block-begun coding p x y k g d0 d s0 s t0 t pixels block =
+pub block-opening : (coding : Coding) (p : Bool) (x y k : ℕ) (g : Grid) (d0 d : Coder) (s0 s : List Context) (t0 t : Counts) (pixels : ℕ) → Block coding p x y k (counted_region g d0 s0 t0) pixels (counted_decoder d s t) → Block coding p x y (k + 0) (counted_region g d0 s0 t0) pixels (counted_decoder d s t)
+block-opening coding p x y k g d0 d s0 s t0 t pixels block =
     let same : k ≡ k + 0 = omega arith in
     subst (λ (n : ℕ). Block coding p x y n (counted_region g d0 s0 t0) pixels (counted_decoder d s t)) same block
 
@@ -65,7 +65,7 @@ pub block-copied : (template : RefinementTemplate) (typical p : Bool) (r : Refer
     → Block (refinement_coding template typical corners r) p x y (k + n) (counted_region g d0 s0 t0) (pixels * 2 ^ n + w.here / 2 ^ (63 - (k + n)) % 2 ^ n) (counted_decoder d s t)
 block-copied template typical p r x y k zero g w d0 d s0 s t0 t pixels sees few wide above known block =
     let none : pixels ≡ pixels * 2 ^ 0 + w.here / 2 ^ (63 - (k + 0)) % 2 ^ 0 = omega arith in
-    subst (λ (m : ℕ). Block (refinement_coding template typical corners r) p x y (k + 0) (counted_region g d0 s0 t0) m (counted_decoder d s t)) none (block-begun (refinement_coding template typical corners r) p x y k g d0 d s0 s t0 t pixels block)
+    subst (λ (m : ℕ). Block (refinement_coding template typical corners r) p x y (k + 0) (counted_region g d0 s0 t0) m (counted_decoder d s t)) none (block-opening (refinement_coding template typical corners r) p x y k g d0 d s0 s t0 t pixels block)
 block-copied template typical p r x y k (suc n) g w d0 d s0 s t0 t pixels sees few wide above known block =
     let coding : Coding = refinement_coding template typical corners r in
     let so_far : ℕ = pixels * 2 ^ n + w.here / 2 ^ (63 - (k + n)) % 2 ^ n in

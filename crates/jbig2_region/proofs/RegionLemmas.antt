@@ -15,22 +15,22 @@ use Rattle.jbig2_region.proofs.PlaceCounts.{after_pixels-coding, coded-by-rows, 
 use Rattle.jbig2_region.proofs.RasterLemmas.{after_rows-length, region-step, no-rows}
 
 -- ---- a row more
-pub record Begun (w h : ℕ) (input : List ℕ) (begun : Region) (y : ℕ) (q : Bool) (g : Grid) (c : Coder) (s : List Context) : Type 0 where
-  pub size : length begun.pixels ≡ y * w
-  pub predicted : begun.predicted ≡ q
-  pub holds : HasDecoded w h input begun (region_state g c s)
+pub record Begun (w h : ℕ) (input : List ℕ) (opening : Region) (y : ℕ) (q : Bool) (g : Grid) (c : Coder) (s : List Context) : Type 0 where
+  pub size : length opening.pixels ≡ y * w
+  pub predicted : opening.predicted ≡ q
+  pub has_decoded : HasDecoded w h input opening (region_state g c s)
 
 pub begin-region : (coding : Coding) (y : ℕ) (p q : Bool) (g1 : Grid) (c1 : Coder) (s1 : List Context) (c2 : Coder) (s2 : List Context) (start : Region) (w h : ℕ) (input : List ℕ)
     → c1.bytes ≡ input → length start.pixels ≡ 0 → ((w h : ℕ) (g : Grid) (r : Region) → r.predicted ≡ p → HasDecoded w h c1.bytes r (region_state g c1 s1) → BeginsRow w h coding.row_context r q c1 (region_state g c2 s2))
     → HasDecoded w h input (after_rows coding w h input y start) (region_state g1 c1 s1) → (after_rows coding w h input y start).predicted ≡ p
     → Begun w h input (after_ltp coding.row_context input (after_rows coding w h input y start)) y q g1 c2 s2
-begin-region coding y p q g1 c1 s1 c2 s2 start w h input same none begin holds predicted =
+begin-region coding y p q g1 c1 s1 c2 s2 start w h input same none begin has_decoded predicted =
     let made : Region = after_rows coding w h input y start in
-    let row : BeginsRow w h coding.row_context made q c1 (region_state g1 c2 s2) = begin w h g1 made predicted (subst (λ (v : List ℕ). HasDecoded w h v made (region_state g1 c1 s1)) (sym same) holds) in
+    let row : BeginsRow w h coding.row_context made q c1 (region_state g1 c2 s2) = begin w h g1 made predicted (subst (λ (v : List ℕ). HasDecoded w h v made (region_state g1 c1 s1)) (sym same) has_decoded) in
     record {
       size = after_rows-length coding w h input y start none;
       predicted = subst (λ (v : List ℕ). (after_ltp coding.row_context v made).predicted ≡ q) same row.predicted;
-      holds = subst (λ (v : List ℕ). HasDecoded w h v (after_ltp coding.row_context v made) (region_state g1 c2 s2)) same row.holds;
+      has_decoded = subst (λ (v : List ℕ). HasDecoded w h v (after_ltp coding.row_context v made) (region_state g1 c2 s2)) same row.has_decoded;
     }
 
 -- what the code holds after y rows
@@ -60,21 +60,21 @@ pub counted-next : (template : List AdaptiveTemplatePixel) (nominal : Bool) (cod
     → HasDecoded w h input (after_rows coding w h input y start) (region_state g1 c1 s1) → (after_rows coding w h input y start).predicted ≡ p
     → Counted template nominal coding w h input y start d0 d1 → d2 ≡ d1 + row_decisions coding.row_context → CountsRow template nominal q y (region_state g1 c2 s2) d2 d3
     → Counted template nominal coding w h input (y + 1) start d0 d3
-counted-next template nominal coding y p q g1 c1 s1 c2 s2 start w h input d0 d1 d2 d3 same none begin holds predicted counted more row =
-    let begun : Region = after_ltp coding.row_context input (after_rows coding w h input y start) in
-    let at = begin-region coding y p q g1 c1 s1 c2 s2 start w h input same none begin holds predicted in
+counted-next template nominal coding y p q g1 c1 s1 c2 s2 start w h input d0 d1 d2 d3 same none begin has_decoded predicted counted more row =
+    let opening : Region = after_ltp coding.row_context input (after_rows coding w h input y start) in
+    let at = begin-region coding y p q g1 c1 s1 c2 s2 start w h input same none begin has_decoded predicted in
     record {
       total =
           rw (coded-next coding w h input y start q at.predicted, runs-next template nominal coding w h input y start q at.predicted)
-          (more-total q d0 d1 d2 d3 (row_decisions coding.row_context) (rows_runs template nominal coding w h input y start) (coded_rows coding w h input y start) w (cond nominal (run_bytes template w h input w begun) 0) y counted.total more (row w h input begun at.size at.predicted at.holds));
+          (more-total q d0 d1 d2 d3 (row_decisions coding.row_context) (rows_runs template nominal coding w h input y start) (coded_rows coding w h input y start) w (cond nominal (run_bytes template w h input w opening) 0) y counted.total more (row w h input opening at.size at.predicted at.has_decoded));
     }
 
 pub predicted-next : (coding : Coding) (y : ℕ) (p q : Bool) (g1 : Grid) (c1 : Coder) (s1 : List Context) (c2 : Coder) (s2 : List Context) (start : Region) (w h : ℕ) (input : List ℕ)
     → c1.bytes ≡ input → length start.pixels ≡ 0 → ((w h : ℕ) (g : Grid) (r : Region) → r.predicted ≡ p → HasDecoded w h c1.bytes r (region_state g c1 s1) → BeginsRow w h coding.row_context r q c1 (region_state g c2 s2))
     → HasDecoded w h input (after_rows coding w h input y start) (region_state g1 c1 s1) → (after_rows coding w h input y start).predicted ≡ p
     → coded_rows coding w h input (y + 1) start ≡ coded_rows coding w h input y start + cond q 0 1
-predicted-next coding y p q g1 c1 s1 c2 s2 start w h input same none begin holds predicted =
-    coded-next coding w h input y start q (begin-region coding y p q g1 c1 s1 c2 s2 start w h input same none begin holds predicted).predicted
+predicted-next coding y p q g1 c1 s1 c2 s2 start w h input same none begin has_decoded predicted =
+    coded-next coding w h input y start q (begin-region coding y p q g1 c1 s1 c2 s2 start w h input same none begin has_decoded predicted).predicted
 
 -- loads of a row more
 pub loads-next : (q : Bool) (l0 l1 l2 row w coded a y : ℕ) → l1 ≤ l0 + (y * row + w * coded * a) → l2 ≤ l1 + (row + w * cond q 0 a) → l2 ≤ l0 + ((y + 1) * row + w * (coded + cond q 0 1) * a)
@@ -87,10 +87,10 @@ pub layout-step : (template : List AdaptiveTemplatePixel) (row_context : Option 
     → DecodesPixels template q 0 y w (region_state g1 c2 s2) (region_state g3 c3 s3)
     → HasDecoded w h input (after_rows (coding_with template row_context) w h input y start) (region_state g1 c1 s1) → (after_rows (coding_with template row_context) w h input y start).predicted ≡ p
     → HasDecoded w h input (after_rows (coding_with template row_context) w h input (y + 1) start) (region_state g3 c3 s3) × ((after_rows (coding_with template row_context) w h input (y + 1) start).predicted ≡ q)
-layout-step template row_context y p q g1 c1 s1 c2 s2 g3 c3 s3 start w h input same after none begin decodes holds predicted =
+layout-step template row_context y p q g1 c1 s1 c2 s2 g3 c3 s3 start w h input same after none begin decodes has_decoded predicted =
     region-step (coding_with template row_context) y p q g1 c1 s1 c2 s2 g3 c3 s3 start w h input w h refl refl same after none begin
     (λ r len is held. subst (λ (n : Region). HasDecoded w h c2.bytes n (region_state g3 c3 s3)) (sym (after_pixels-coding template row_context w h c2.bytes w r)) (decodes w h c2.bytes r (len ∙ plus (y * w)) is held))
-    holds predicted
+    has_decoded predicted
   where
     plus : (n : ℕ) → n ≡ n + 0
     plus n = omega arith

@@ -13,7 +13,7 @@ use Rattle.jbig2_region.specs.inner.Neighbours.{left_pixels, stretch_pixels, nom
 use Rattle.jbig2_coder.specs.Coder.{Coder, Context, Registers, fresh, all_quiet}
 use Rattle.jbig2_region.specs.inner.RegionStates.{HasDecoded, region_state}
 use Rattle.jbig2_region.specs.Raster.{Region, so_far}
-use Rattle.jbig2_region.specs.Steps.{all_of, has_all, stays, is_run_of}
+use Rattle.jbig2_region.specs.Steps.{all_of, has_all, keeps_context, is_run_of}
 use Rattle.jbig2_region.specs.inner.LongRuns.{is_run_for}
 use Rattle.jbig2_region.specs.declared.template.neighbours.Neighbours.{Neighbours}
 use Rattle.jbig2_region.specs.declared.template.neighbours.Stretch.{Stretch}
@@ -188,13 +188,13 @@ has_all-is template w h bits c x y k len left =
     let size : length (bits ++ replicate k c) ≡ y * w + (x + k) = length-append bits (replicate k c) ∙ rw (length-replicate k c, len) (omega arith) in
     rw (size, mod-mul-add y w (x + k) left, div-mul-add y w (x + k) left) refl
 
-pub stays-from : (template : List AdaptiveTemplatePixel) (w h : ℕ) (c : Bool) (n : ℕ) (bits : List Bool) → ((k : ℕ) → k ≤ n → has_all template w h c (bits ++ replicate k c) ≡ true) → stays template w h c n bits ≡ true
-unfolding stays
+pub stays-from : (template : List AdaptiveTemplatePixel) (w h : ℕ) (c : Bool) (n : ℕ) (bits : List Bool) → ((k : ℕ) → k ≤ n → has_all template w h c (bits ++ replicate k c) ≡ true) → keeps_context template w h c n bits ≡ true
+unfolding keeps_context
 stays-from template w h c zero bits each = ap (λ (l : List Bool). has_all template w h c l) (sym (append-nil bits)) ∙ each 0 (omega arith)
 stays-from template w h c (suc n) bits each = and_from _ _ (stays-from template w h c n bits (λ k le. each k (omega arith))) (each (suc n) (omega arith))
 
-pub stays-gives : (template : List AdaptiveTemplatePixel) (w h : ℕ) (c : Bool) (n : ℕ) (bits : List Bool) (k : ℕ) → stays template w h c n bits ≡ true → k ≤ n → has_all template w h c (bits ++ replicate k c) ≡ true
-unfolding stays
+pub stays-gives : (template : List AdaptiveTemplatePixel) (w h : ℕ) (c : Bool) (n : ℕ) (bits : List Bool) (k : ℕ) → keeps_context template w h c n bits ≡ true → k ≤ n → has_all template w h c (bits ++ replicate k c) ≡ true
+unfolding keeps_context
 stays-gives template w h c zero bits k is le =
     let none : k ≡ 0 = omega arith in
     rw none (ap (λ (l : List Bool). has_all template w h c l) (append-nil bits) ∙ is)
@@ -206,16 +206,16 @@ stays-gives template w h c (suc n) bits k is le =
     (cases_eq k (suc n))
 
 -- the context of pixel k of a run
-pub stays-context : (template : List AdaptiveTemplatePixel) (w h : ℕ) (c : Bool) (bits : List Bool) (x y k m : ℕ) → length bits ≡ y * w + x → x + m < w → k ≤ m → stays template w h c m bits ≡ true → context_at template (so_far w h (bits ++ replicate k c)) (x + k) y ≡ all_of template c
+pub stays-context : (template : List AdaptiveTemplatePixel) (w h : ℕ) (c : Bool) (bits : List Bool) (x y k m : ℕ) → length bits ≡ y * w + x → x + m < w → k ≤ m → keeps_context template w h c m bits ≡ true → context_at template (so_far w h (bits ++ replicate k c)) (x + k) y ≡ all_of template c
 stays-context template w h c bits x y k m len left le is = eqb-true _ _ (sym (has_all-is template w h bits c x y k len (omega arith)) ∙ stays-gives template w h c m bits k is le)
 
 -- the kernel's test is the definition's
-pub stays-is : (n : Neighbours) (m : ℕ) (c : Bool) (left : ℕ) (v : Windows) (w h x y seen : ℕ) (bits : List Bool) → IsNear n → m ≤ 32 → m + 12 ≤ seen → length bits ≡ y * w + x → x + m < w → y < h → Shows (so_far w h bits) x y seen v → IsLeft (so_far w h bits) x y left → neighbours_stay n m c left v ≡ stays (nominal_pixels n) w h c m bits
+pub stays-is : (n : Neighbours) (m : ℕ) (c : Bool) (left : ℕ) (v : Windows) (w h x y seen : ℕ) (bits : List Bool) → IsNear n → m ≤ 32 → m + 12 ≤ seen → length bits ≡ y * w + x → x + m < w → y < h → Shows (so_far w h bits) x y seen v → IsLeft (so_far w h bits) x y left → neighbours_stay n m c left v ≡ keeps_context (nominal_pixels n) w h c m bits
 stays-is n m c left v w h x y seen bits near most wide len within above shows before =
     let template : List AdaptiveTemplatePixel = nominal_pixels n in
     let g : Grid = so_far w h bits in
     let grids : ℕ → Grid = λ k. so_far w h (bits ++ replicate k c) in
-    eq_from (neighbours_stay n m c left v) (stays template w h c m bits)
+    eq_from (neighbours_stay n m c left v) (keeps_context template w h c m bits)
     (λ is.
     let one = and_parts _ _ is in
     let two = and_parts _ _ one.1 in
@@ -237,10 +237,10 @@ stays-is n m c left v w h x y seen bits near most wide len within above shows be
 pub run-parts : (n : Neighbours) (m : ℕ) (c : Bool) (left : ℕ) (v : Windows) (w h x y seen : ℕ) (r : Region) (grid : Grid) (d : Coder) (s : List Context) → IsNear n → m ≤ 32 → m + 12 ≤ seen → length r.pixels ≡ y * w + x → x + m < w → y < h → Shows grid x y seen v → IsLeft grid x y left → HasDecoded w h d.bytes r (region_state grid d s)
     → is_run_for (nominal_pixels n) w h d.bytes r c m ≡ (neighbours_stay n m c left v && (same_colour c (get_or s (all_of (nominal_pixels n) c) fresh).likely && all_quiet m d.bytes d.registers (get_or s (all_of (nominal_pixels n) c) fresh)))
 unfolding is_run_for
-run-parts n m c left v w h x y seen r grid d s near most wide len within above shows before holds =
-    let now : Shows (so_far w h r.pixels) x y seen v = subst (λ (g : Grid). Shows g x y seen v) holds.pixels shows in
-    let then : IsLeft (so_far w h r.pixels) x y left = subst (λ (g : Grid). IsLeft g x y left) holds.pixels before in
-    rw (holds.registers, holds.contexts, stays-is n m c left v w h x y seen r.pixels near most wide len within above now then) refl
+run-parts n m c left v w h x y seen r grid d s near most wide len within above shows before has_decoded =
+    let now : Shows (so_far w h r.pixels) x y seen v = subst (λ (g : Grid). Shows g x y seen v) has_decoded.pixels shows in
+    let then : IsLeft (so_far w h r.pixels) x y left = subst (λ (g : Grid). IsLeft g x y left) has_decoded.pixels before in
+    rw (has_decoded.registers, has_decoded.contexts, stays-is n m c left v w h x y seen r.pixels near most wide len within above now then) refl
 
 -- a run byte's run is one of eight pixels
 pub run-of : (template : List AdaptiveTemplatePixel) (w h : ℕ) (input : List ℕ) (r : Region) (c : Bool) → is_run_of template w h input r c ≡ is_run_for template w h input r c 8
@@ -248,15 +248,15 @@ unfolding is_run_of is_run_for
 run-of template w h input r c = refl
 
 -- a run as long as the next contexts stay, or shorter
-pub run-made : (n : Neighbours) (m all : ℕ) (c : Bool) (w h : ℕ) (r : Region) (grid : Grid) (d : Coder) (s : List Context) → m ≤ all → HasDecoded w h d.bytes r (region_state grid d s) → stays (nominal_pixels n) w h c all r.pixels ≡ true
+pub run-made : (n : Neighbours) (m all : ℕ) (c : Bool) (w h : ℕ) (r : Region) (grid : Grid) (d : Coder) (s : List Context) → m ≤ all → HasDecoded w h d.bytes r (region_state grid d s) → keeps_context (nominal_pixels n) w h c all r.pixels ≡ true
     → same_colour c (get_or s (all_of (nominal_pixels n) c) fresh).likely ≡ true → all_quiet m d.bytes d.registers (get_or s (all_of (nominal_pixels n) c) fresh) ≡ true → is_run_for (nominal_pixels n) w h d.bytes r c m ≡ true
 unfolding is_run_for
-run-made n m all c w h r grid d s few holds whole colour quiet =
+run-made n m all c w h r grid d s few has_decoded whole colour quiet =
     let template : List AdaptiveTemplatePixel = nominal_pixels n in
-    let quiet_here : all_quiet m d.bytes r.registers (get_or s (all_of template c) fresh) ≡ true = subst (λ (q : Registers). all_quiet m d.bytes q (get_or s (all_of template c) fresh) ≡ true) holds.registers quiet in
+    let quiet_here : all_quiet m d.bytes r.registers (get_or s (all_of template c) fresh) ≡ true = subst (λ (q : Registers). all_quiet m d.bytes q (get_or s (all_of template c) fresh) ≡ true) has_decoded.registers quiet in
     and_from _ _ (stays-from template w h c m r.pixels (λ k le. stays-gives template w h c all r.pixels k whole (omega arith)))
-    (and_from _ _ (subst (λ (l : List Context). same_colour c (get_or l (all_of template c) fresh).likely ≡ true) holds.contexts colour)
-    (subst (λ (l : List Context). all_quiet m d.bytes r.registers (get_or l (all_of template c) fresh) ≡ true) holds.contexts quiet_here))
+    (and_from _ _ (subst (λ (l : List Context). same_colour c (get_or l (all_of template c) fresh).likely ≡ true) has_decoded.contexts colour)
+    (subst (λ (l : List Context). all_quiet m d.bytes r.registers (get_or l (all_of template c) fresh) ≡ true) has_decoded.contexts quiet_here))
 
 -- the context that is all of a colour
 pub context-black : (n : Neighbours) (size : ℕ) → size ≡ 2 ^ neighbour_count n → size - 1 ≡ all_of (nominal_pixels n) true
@@ -280,8 +280,8 @@ uniform-number n size false all = context-white n
 
 pub not-staying : (n : Neighbours) (c : Bool) (left : ℕ) (v : Windows) (w h x y seen : ℕ) (r : Region) (grid : Grid) (d : Coder) (s : List Context) → neighbours_stay n 8 c left v ≡ false → IsNear n → 20 ≤ seen → length r.pixels ≡ y * w + x → x + 8 < w → y < h → Shows grid x y seen v → IsLeft grid x y left → HasDecoded w h d.bytes r (region_state grid d s)
     → is_run_of (nominal_pixels n) w h d.bytes r c ≡ false
-not-staying n c left v w h x y seen r grid d s other near wide len within above shows before holds =
-    run-of (nominal_pixels n) w h d.bytes r c ∙ run-parts n 8 c left v w h x y seen r grid d s near (omega arith) (omega arith) len within above shows before holds ∙ and_left _ _ other
+not-staying n c left v w h x y seen r grid d s other near wide len within above shows before has_decoded =
+    run-of (nominal_pixels n) w h d.bytes r c ∙ run-parts n 8 c left v w h x y seen r grid d s near (omega arith) (omega arith) len within above shows before has_decoded ∙ and_left _ _ other
 
 pub and-last : (a b q : Bool) → a ≡ true → b ≡ true → (a && (b && q)) ≡ q
 and-last a b q one two = rw (one, two) refl

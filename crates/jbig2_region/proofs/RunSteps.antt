@@ -16,7 +16,7 @@ use Rattle.jbig2_region.specs.inner.LongRuns.{is_run_for}
 use Rattle.jbig2_region.specs.inner.Neighbours.{IsLeft, row_coding}
 use Rattle.jbig2_region.specs.Raster.{Region, so_far, with_next, after_pixel}
 use Rattle.jbig2_region.specs.inner.Rows.{after_pixels}
-use Rattle.jbig2_region.specs.Steps.{all_of, has_all, stays, is_run_of}
+use Rattle.jbig2_region.specs.Steps.{all_of, has_all, keeps_context, is_run_of}
 use Rattle.jbig2_region.specs.inner.RowCounts.{run_bytes}
 use Rattle.jbig2_region.specs.declared.template.AdaptiveTemplatePixel.{AdaptiveTemplatePixel}
 use Rattle.jbig2_region.proofs.CountLemmas.{byte-runs, runs-add}
@@ -139,10 +139,10 @@ ran-next template c input k r quiet colour =
     λ i. record { pixels = list i; predicted = false; registers = fall i; contexts = states i }
 
 run-facts : (template : List AdaptiveTemplatePixel) (c : Bool) (w h : ℕ) (input : List ℕ) (m : ℕ) (r : Region) → is_run_for template w h input r c m ≡ true
-    → (stays template w h c m r.pixels ≡ true) × ((same_colour c (get_or r.contexts (all_of template c) fresh).likely ≡ true) × (all_quiet m input r.registers (get_or r.contexts (all_of template c) fresh) ≡ true))
+    → (keeps_context template w h c m r.pixels ≡ true) × ((same_colour c (get_or r.contexts (all_of template c) fresh).likely ≡ true) × (all_quiet m input r.registers (get_or r.contexts (all_of template c) fresh) ≡ true))
 unfolding is_run_for
 run-facts template c w h input m r is =
-    let one = and_parts (stays template w h c m r.pixels) _ is in
+    let one = and_parts (keeps_context template w h c m r.pixels) _ is in
     let two = and_parts (same_colour c (get_or r.contexts (all_of template c) fresh).likely) _ one.1 in
     (one.0, (two.0, two.1))
 
@@ -161,22 +161,22 @@ run-region template c w h input x y (suc k) m r few len left above predicted is 
     ∙ ap (λ (n : ℕ). with_next input at n None) context
     ∙ ran-next template c input k r (quiet-at m input r.registers (get_or r.contexts (all_of template c) fresh) k parts.1.1 (omega arith)) parts.1.0
 
-pub run-holds : (template : List AdaptiveTemplatePixel) (c : Bool) (g : Grid) (d d' : Coder) (s : List Context) (w h : ℕ) (input : List ℕ) (x y m : ℕ) (r : Region) → length r.pixels ≡ y * w + x → x + m < w → y < h → r.predicted ≡ false → HasDecoded w h input r (region_state g d s)
+pub run-has_decoded : (template : List AdaptiveTemplatePixel) (c : Bool) (g : Grid) (d d' : Coder) (s : List Context) (w h : ℕ) (input : List ℕ) (x y m : ℕ) (r : Region) → length r.pixels ≡ y * w + x → x + m < w → y < h → r.predicted ≡ false → HasDecoded w h input r (region_state g d s)
     → is_run_for template w h d.bytes r c m ≡ true → d' ≡ record d { registers = record d.registers { a = d.registers.a - m * (row_of (get_or s (all_of template c) fresh).row).qe } }
     → HasDecoded w h input (after_pixels (row_coding template) w h input m r) (region_state (with_pixels g x y m (full m c)) d' s)
-run-holds template c g d d' s w h input x y m r len left above predicted holds is after =
-    let same : get_or s (all_of template c) fresh ≡ get_or r.contexts (all_of template c) fresh = ap (λ (l : List Context). get_or l (all_of template c) fresh) holds.contexts in
-    let run : is_run_for template w h input r c m ≡ true = subst (λ (l : List ℕ). is_run_for template w h l r c m ≡ true) holds.bytes is in
+run-has_decoded template c g d d' s w h input x y m r len left above predicted has_decoded is after =
+    let same : get_or s (all_of template c) fresh ≡ get_or r.contexts (all_of template c) fresh = ap (λ (l : List Context). get_or l (all_of template c) fresh) has_decoded.contexts in
+    let run : is_run_for template w h input r c m ≡ true = subst (λ (l : List ℕ). is_run_for template w h l r c m ≡ true) has_decoded.bytes is in
     subst (λ (q : Region). HasDecoded w h input q (region_state (with_pixels g x y m (full m c)) d' s)) (sym (run-region template c w h input x y m m r (omega arith) len left above predicted run))
     (record {
-      pixels = run-grid w h r.pixels g c x y m holds.pixels len (omega arith) above;
-      bytes = ap (λ (q : Coder). q.bytes) after ∙ holds.bytes;
-      registers = ap (λ (q : Coder). q.registers) after ∙ ap (λ (q : Context). lowered d.registers (m * (row_of q.row).qe)) same ∙ ap (λ (q : Registers). lowered q (m * (row_of (get_or r.contexts (all_of template c) fresh).row).qe)) holds.registers;
-      contexts = holds.contexts;
+      pixels = run-grid w h r.pixels g c x y m has_decoded.pixels len (omega arith) above;
+      bytes = ap (λ (q : Coder). q.bytes) after ∙ has_decoded.bytes;
+      registers = ap (λ (q : Coder). q.registers) after ∙ ap (λ (q : Context). lowered d.registers (m * (row_of q.row).qe)) same ∙ ap (λ (q : Registers). lowered q (m * (row_of (get_or r.contexts (all_of template c) fresh).row).qe)) has_decoded.registers;
+      contexts = has_decoded.contexts;
     })
 
 -- ---- each byte of a run
-stays-part : (template : List AdaptiveTemplatePixel) (w h : ℕ) (c : Bool) (n m all : ℕ) (bits : List Bool) → n + m ≤ all → stays template w h c all bits ≡ true → stays template w h c m (bits ++ replicate n c) ≡ true
+stays-part : (template : List AdaptiveTemplatePixel) (w h : ℕ) (c : Bool) (n m all : ℕ) (bits : List Bool) → n + m ≤ all → keeps_context template w h c all bits ≡ true → keeps_context template w h c m (bits ++ replicate n c) ≡ true
 stays-part template w h c n m all bits within is =
     stays-from template w h c m (bits ++ replicate n c) (λ k le.
     let list : (bits ++ replicate n c) ++ replicate k c ≡ bits ++ replicate (n + k) c = append_assoc bits (replicate n c) (replicate k c) ∙ ap (λ (l : List Bool). bits ++ l) (replicate-append-replicate n k c) in
@@ -186,7 +186,7 @@ run-byte : (template : List AdaptiveTemplatePixel) (c : Bool) (w h : ℕ) (input
 unfolding is_run_of is_run_for
 run-byte template c w h input n m rest r sum is =
     let read : Context = get_or r.contexts (all_of template c) fresh in
-    let one = and_parts (stays template w h c m r.pixels) _ is in
+    let one = and_parts (keeps_context template w h c m r.pixels) _ is in
     let two = and_parts (same_colour c read.likely) _ one.1 in
     let quiet : all_quiet (n + (8 + rest)) input r.registers read ≡ true = subst (λ (k : ℕ). all_quiet k input r.registers read ≡ true) sum two.1 in
     and_from _ _ (stays-part template w h c n 8 m r.pixels (omega arith) one.0)
@@ -210,8 +210,8 @@ colours-apart size false some same = apart size some (sym (full-black size) ∙ 
 other-run : (template : List AdaptiveTemplatePixel) (c : Bool) (w h : ℕ) (input : List ℕ) (q : Region) → 1 ≤ length template → is_run_of template w h input q c ≡ true → is_run_of template w h input q (not c) ≡ false
 unfolding is_run_of has_all
 other-run template c w h input q some is =
-    and_left _ _ (is-false (stays template w h (not c) 8 q.pixels) (λ both.
-    let one = eqb-true _ _ (here c (and_parts (stays template w h c 8 q.pixels) _ is).0) in
+    and_left _ _ (is-false (keeps_context template w h (not c) 8 q.pixels) (λ both.
+    let one = eqb-true _ _ (here c (and_parts (keeps_context template w h c 8 q.pixels) _ is).0) in
     let two = eqb-true _ _ (here (not c) both) in
     colours-apart (length template) c some (sym one ∙ two)))
   where
@@ -219,7 +219,7 @@ other-run template c w h input q some is =
     is-false true f = absurd (f refl)
     is-false false f = refl
 
-    here : (b : Bool) → stays template w h b 8 q.pixels ≡ true → has_all template w h b q.pixels ≡ true
+    here : (b : Bool) → keeps_context template w h b 8 q.pixels ≡ true → has_all template w h b q.pixels ≡ true
     here b all = ap (λ (l : List Bool). has_all template w h b l) (sym (append-nil q.pixels)) ∙ stays-gives template w h b 8 q.pixels 0 all (omega arith)
 
 pub run-counts : (template : List AdaptiveTemplatePixel) (c : Bool) (w h : ℕ) (input : List ℕ) (x y n m rest : ℕ) (r : Region) → m ≡ 8 * n + rest → 1 ≤ length template → length r.pixels ≡ y * w + x → x % 8 ≡ 0 → x + m < w → y < h → r.predicted ≡ false → is_run_for template w h input r c m ≡ true → run_bytes template w h input (8 * n) r ≡ n

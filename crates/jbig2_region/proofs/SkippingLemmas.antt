@@ -69,11 +69,11 @@ skipping-next n skip x y k g w mask d0 d d' s0 s s' t0 t t' pixels context symbo
       left =
           left-whole (with_pixels g x y (k + 1) (pixels * 2 + symbol)) (x + (k + 1)) y (pixels * 2 + symbol)
           (left-bit g x y k pixels pixels symbol digit.0 digit.1 wide above block.left);
-      holds =
-          codes-next coding false x y k g shown (with_pixels g x y (k + 1) (pixels * 2 + symbol)) d0 d d' s0 s s' t t' colour context symbol block.holds (omega arith) above known numbered
+      has_decoded =
+          codes-next coding false x y k g shown (with_pixels g x y (k + 1) (pixels * 2 + symbol)) d0 d d' s0 s s' t t' colour context symbol block.has_decoded (omega arith) above known numbered
           (λ c is. stored-push g x y k pixels symbol c is (omega arith) above) takes;
       decisions =
-          counts-next coding false x y k g shown d0 d s0 s colour t0.decisions t.decisions t'.decisions block.holds block.decisions (omega arith) above known
+          counts-next coding false x y k g shown d0 d s0 s colour t0.decisions t.decisions t'.decisions block.has_decoded block.decisions (omega arith) above known
           (taken-decisions colour context d s t symbol d' s' t' takes);
       steps = taken-others colour context d s t symbol d' s' t' takes ∙ ap (λ (q : Counts). let made : Counts = record q { decisions = t'.decisions } in made) block.steps;
     }

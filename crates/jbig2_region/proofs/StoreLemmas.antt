@@ -226,19 +226,19 @@ unfolding so_far
 height-so_far w h bits = refl
 
 pub decodes-none : (template : List AdaptiveTemplatePixel) (p : Bool) (x y : ℕ) (g : Grid) (d : Coder) (s : List Context) → DecodesPixels template p x y 0 (region_state g d s) (region_state g d s)
-decodes-none template p x y g d s = λ w h input r len predicted holds. subst (λ (n : Region). HasDecoded w h input n (region_state g d s)) (sym (after_pixels-none (row_coding template) w h input r)) holds
+decodes-none template p x y g d s = λ w h input r len predicted has_decoded. subst (λ (n : Region). HasDecoded w h input n (region_state g d s)) (sym (after_pixels-none (row_coding template) w h input r)) has_decoded
 
 pub decodes-start : (template : List AdaptiveTemplatePixel) (p : Bool) (x y b : ℕ) (g : Grid) (d : Coder) (s : List Context) → DecodesPixels template p x y 0 (region_state g d s) (region_state (with_pixels g x y 0 b) d s)
-decodes-start template p x y b g d s = λ w h input r len predicted holds.
+decodes-start template p x y b g d s = λ w h input r len predicted has_decoded.
     subst (λ (n : Region). HasDecoded w h input n (region_state (with_pixels g x y 0 b) d s)) (sym (after_pixels-none (row_coding template) w h input r))
-    (subst (λ (q : Grid). HasDecoded w h input r (region_state q d s)) (sym (none-stored w h r.pixels g x y b holds.pixels)) holds)
+    (subst (λ (q : Grid). HasDecoded w h input r (region_state q d s)) (sym (none-stored w h r.pixels g x y b has_decoded.pixels)) has_decoded)
 
 pub decodes-decided : (template : List AdaptiveTemplatePixel) (x y k : ℕ) (g0 g g' : Grid) (d0 d d' : Coder) (s0 s : List Context) (n : ℕ) (old new : Context)
     → DecodesPixels template false x y k (region_state g0 d0 s0) (region_state g d s) → x + k < g.width → y < g.height → n ≡ context_at template g (x + k) y → old ≡ get_or s n fresh
     → Pushes g g' (x + k) y (decision d.bytes d.registers old).symbol → d' ≡ record d { registers = (decision d.bytes d.registers old).registers } → new ≡ (decision d.bytes d.registers old).context
     → DecodesPixels template false x y (k + 1) (region_state g0 d0 s0) (region_state g' d' (set s n new))
-decodes-decided template x y k g0 g g' d0 d d' s0 s n old new before left above is_context is_old pushes is_next is_new = λ w h input r len predicted holds.
-    let at = before w h input r len predicted holds in
+decodes-decided template x y k g0 g g' d0 d d' s0 s n old new before left above is_context is_old pushes is_next is_new = λ w h input r len predicted has_decoded.
+    let at = before w h input r len predicted has_decoded in
     let made : Region = after_pixels (row_coding template) w h input k r in
     let size : length made.pixels ≡ y * w + (x + k) = after_pixels-length (row_coding template) w h input k r ∙ omega arith in
     let wide : g.width ≡ w = ap (λ (q : Grid). q.width) at.pixels ∙ width-so_far w h made.pixels in
@@ -305,17 +305,17 @@ inside-states n size size' few less all same = omega arith
 
 -- ---- several pixels
 pub decodes-then : (template : List AdaptiveTemplatePixel) (p : Bool) (x x' y n m k : ℕ) (g0 g1 g2 : Grid) (d0 d1 d2 : Coder) (s0 s1 s2 : List Context) → DecodesPixels template p x y n (region_state g0 d0 s0) (region_state g1 d1 s1) → DecodesPixels template p x' y m (region_state g1 d1 s1) (region_state g2 d2 s2) → x' ≡ x + n → k ≡ n + m → DecodesPixels template p x y k (region_state g0 d0 s0) (region_state g2 d2 s2)
-decodes-then template p x x' y n m k g0 g1 g2 d0 d1 d2 s0 s1 s2 one two place sum = λ w h input r len predicted holds.
+decodes-then template p x x' y n m k g0 g1 g2 d0 d1 d2 s0 s1 s2 one two place sum = λ w h input r len predicted has_decoded.
     let made : Region = after_pixels (row_coding template) w h input n r in
     let size : length made.pixels ≡ y * w + x' = after_pixels-length (row_coding template) w h input n r ∙ omega arith in
     subst (λ (q : Region). HasDecoded w h input q (region_state g2 d2 s2)) (sym (ap (λ (i : ℕ). after_pixels (row_coding template) w h input i r) sum ∙ after_pixels-add (row_coding template) w h input n m r))
-    (two w h input made size (after_pixels-predicted (row_coding template) w h input n r ∙ predicted) (one w h input r len predicted holds))
+    (two w h input made size (after_pixels-predicted (row_coding template) w h input n r ∙ predicted) (one w h input r len predicted has_decoded))
 
 -- ---- copied pixels
 decodes-known : (template : List AdaptiveTemplatePixel) (x y k : ℕ) (g0 g g' : Grid) (d0 d : Coder) (s0 s : List Context) (c : Bool)
     → DecodesPixels template true x y k (region_state g0 d0 s0) (region_state g d s) → x + k < g.width → y < g.height → pixel g (pos (x + k)) (pos y +ℤ negsuc 0) ≡ c → Pushes g g' (x + k) y c → DecodesPixels template true x y (k + 1) (region_state g0 d0 s0) (region_state g' d s)
-decodes-known template x y k g0 g g' d0 d s0 s c before left above is pushes = λ w h input r len predicted holds.
-    let at = before w h input r len predicted holds in
+decodes-known template x y k g0 g g' d0 d s0 s c before left above is pushes = λ w h input r len predicted has_decoded.
+    let at = before w h input r len predicted has_decoded in
     let made : Region = after_pixels (row_coding template) w h input k r in
     let size : length made.pixels ≡ y * w + (x + k) = after_pixels-length (row_coding template) w h input k r ∙ omega arith in
     let wide : g.width ≡ w = ap (λ (q : Grid). q.width) at.pixels ∙ width-so_far w h made.pixels in

@@ -14,7 +14,7 @@ use Rattle.jbig2_region.proofs.RasterLemmas.{after_rows-none, region-start}
 
 pub pixels-none : (coding : Coding) (p : Bool) (x y n : ℕ) (g : Grid) (d : Coder) (s : List Context) (c : Counts) → 0 ≡ n → DecodesPixels coding p x y n (counted_region g d s c) (counted_region g d s c)
 pixels-none coding p x y n g d s c none = record {
-  holds = subst (λ (k : ℕ). DecodesPart coding p x y k (region_state g d s) (region_state g d s)) none (codes-none coding p x y g d s);
+  has_decoded = subst (λ (k : ℕ). DecodesPart coding p x y k (region_state g d s) (region_state g d s)) none (codes-none coding p x y g d s);
   width = refl;
   height = refl;
   bytes = refl;
@@ -26,11 +26,11 @@ pub pixels-then : {coding : Coding} {p : Bool} {x x' y n m : ℕ} (k : ℕ) {g0 
     → DecodesPixels coding p x y n (counted_region g0 d0 s0 c0) (counted_region g1 d1 s1 c1) → DecodesPixels coding p x' y m (counted_region g1 d1 s1 c1) (counted_region g2 d2 s2 c2) → x' ≡ x + n → k ≡ n + m
     → DecodesPixels coding p x y k (counted_region g0 d0 s0 c0) (counted_region g2 d2 s2 c2)
 pixels-then {coding = coding} {p = p} {x = x} {x' = x'} {y = y} {n = n} {m = m} k {g0 = g0} {g1 = g1} {g2 = g2} {d0 = d0} {d1 = d1} {d2 = d2} {s0 = s0} {s1 = s1} {s2 = s2} {c0 = c0} {c1 = c1} {c2 = c2} one two place sum = record {
-  holds = codes-then coding p x x' y n m k g0 g1 g2 d0 d1 d2 s0 s1 s2 one.holds two.holds place sum;
+  has_decoded = codes-then coding p x x' y n m k g0 g1 g2 d0 d1 d2 s0 s1 s2 one.has_decoded two.has_decoded place sum;
   width = two.width ∙ one.width;
   height = two.height ∙ one.height;
   bytes = two.bytes ∙ one.bytes;
-  decisions = counts-then coding p x x' y n m k g0 g1 d0 d1 s0 s1 c0.decisions c1.decisions c2.decisions one.holds one.decisions two.decisions place sum;
+  decisions = counts-then coding p x x' y n m k g0 g1 d0 d1 s0 s1 c0.decisions c1.decisions c2.decisions one.has_decoded one.decisions two.decisions place sum;
   rest = two.rest ∙ one.rest;
 }
 
@@ -39,7 +39,7 @@ pub pixels-since : {coding : Coding} {p : Bool} {x y n : ℕ} {g g' : Grid} {d d
     → DecodesPixels coding p x y n (counted_region g d s c) (counted_region g' d' s' c') → c.decisions ≡ b.decisions → rest_of c ≡ rest_of b
     → DecodesPixels coding p x y n (counted_region g d s b) (counted_region g' d' s' c')
 pixels-since {coding = coding} {p = p} {x = x} {y = y} {n = n} {g = g} {d = d} {s = s} b c c' decoded decided untouched = record {
-  holds = decoded.holds;
+  has_decoded = decoded.has_decoded;
   width = decoded.width;
   height = decoded.height;
   bytes = decoded.bytes;
@@ -53,7 +53,7 @@ pub record RowsDecoded (coding : Coding) (g0 : Grid) (d0 : Coder) (s0 : List Con
   pub width : g.width ≡ g0.width
   pub height : g.height ≡ g0.height
   pub bytes : d.bytes ≡ d0.bytes
-  pub holds : HasDecoded g0.width g0.height d0.bytes (after_rows coding g0.width g0.height d0.bytes y (no_pixels d0.registers s0)) (region_state g d s)
+  pub has_decoded : HasDecoded g0.width g0.height d0.bytes (after_rows coding g0.width g0.height d0.bytes y (no_pixels d0.registers s0)) (region_state g d s)
   pub predicted : (after_rows coding g0.width g0.height d0.bytes y (no_pixels d0.registers s0)).predicted ≡ p
   pub decisions : Decided coding g0.width g0.height d0.bytes y (no_pixels d0.registers s0) c0.decisions c.decisions
   pub rest : rest_of c ≡ rest_of c0
@@ -66,7 +66,7 @@ rows-none coding g d s c white =
       width = refl;
       height = refl;
       bytes = refl;
-      holds = subst (λ (r : Region). HasDecoded g.width g.height d.bytes r (region_state g d s)) (sym none) (region-start g.width g.height g d s white);
+      has_decoded = subst (λ (r : Region). HasDecoded g.width g.height d.bytes r (region_state g d s)) (sym none) (region-start g.width g.height g d s white);
       predicted = ap (λ (r : Region). r.predicted) none;
       decisions = decided-none coding g.width g.height d.bytes start c.decisions;
       rest = refl;
@@ -81,16 +81,16 @@ pub rows-next : {coding : Coding} {g0 : Grid} {d0 : Coder} {s0 : List Context} {
     → RowsDecoded coding g0 d0 s0 c0 (y + 1) q g' d' s' c'
 rows-next {coding = coding} {g0 = g0} {d0 = d0} {s0 = s0} {c0 = c0} {y = y} {p = p} q {g = g} {d = d} {s = s} {c = c} d1 s1 c1 g' d' s' c' rows begin same more untouched row =
     let start : Region = no_pixels d0.registers s0 in
-    let codes = subst (λ (n : ℕ). DecodesPart coding q 0 y n (region_state g d1 s1) (region_state g' d' s')) rows.width row.holds in
+    let codes = subst (λ (n : ℕ). DecodesPart coding q 0 y n (region_state g d1 s1) (region_state g' d' s')) rows.width row.has_decoded in
     let counted = subst (λ (n : ℕ). CountsPart coding q 0 y n (region_state g d1 s1) c1.decisions c'.decisions) rows.width row.decisions in
-    let next = codes-row coding y p q g d s d1 s1 g' d' s' start g0.width g0.height d0.bytes rows.bytes same refl begin codes rows.holds rows.predicted in
+    let next = codes-row coding y p q g d s d1 s1 g' d' s' start g0.width g0.height d0.bytes rows.bytes same refl begin codes rows.has_decoded rows.predicted in
     record {
       width = row.width ∙ rows.width;
       height = row.height ∙ rows.height;
       bytes = row.bytes ∙ same ∙ rows.bytes;
-      holds = next.0;
+      has_decoded = next.0;
       predicted = next.1;
-      decisions = decided-next coding y p q g d s d1 s1 start g0.width g0.height d0.bytes c0.decisions c.decisions c1.decisions c'.decisions rows.bytes refl begin rows.holds rows.predicted rows.decisions more counted;
+      decisions = decided-next coding y p q g d s d1 s1 start g0.width g0.height d0.bytes c0.decisions c.decisions c1.decisions c'.decisions rows.bytes refl begin rows.has_decoded rows.predicted rows.decisions more counted;
       rest = row.rest ∙ untouched ∙ rows.rest;
     }
 
@@ -101,7 +101,7 @@ rows-until {coding = coding} {g0 = g0} {d0 = d0} {s0 = s0} {c0 = c0} {y = y} c c
   width = rows.width;
   height = rows.height;
   bytes = rows.bytes;
-  holds = rows.holds;
+  has_decoded = rows.has_decoded;
   predicted = rows.predicted;
   decisions = subst (λ (k : ℕ). Decided coding g0.width g0.height d0.bytes y (no_pixels d0.registers s0) c0.decisions k) decided rows.decisions;
   rest = untouched ∙ rows.rest;

@@ -10,7 +10,7 @@ use Rattle.jbig2_coder.specs.Coder.{Context, initial_registers}
 use Rattle.jbig2_mmr.specs.T6.{mmr_rows, grid_of_rows, rows_of}
 use Rattle.jbig2_region.specs.GenericHeader.{GenericHeader}
 use Rattle.jbig2_region.specs.Raster.{Coding, Region, so_far, decoded_region, no_pixels, fresh_contexts}
-use Rattle.jbig2_region.specs.RegionInfo.{placed, PlacedRegion}
+use Rattle.jbig2_region.specs.RegionInfo.{at_location, PlacedRegion}
 use Rattle.jbig2_region.specs.Templates.{context_bits, row_context, template_pixels}
 use Rattle.jbig2_region.specs.declared.template.AdaptiveTemplatePixel.{AdaptiveTemplatePixel}
 use Rattle.jbig2_region.specs.declared.template.Template.{Template}
@@ -78,7 +78,7 @@ module _ (h : GenericHeader) where
   contexts_after contexts = if h.mmr then contexts else generic_region.contexts
 
   abbrev pub generic_decoded : Result PlacedRegion DecodeError
-  generic_decoded = generic_result >>= λ g. Ok (placed h.region_info g)
+  generic_decoded = generic_result >>= λ g. Ok (at_location h.region_info g)
 
 abbrev pub skipping_coding : List AdaptiveTemplatePixel → Option Grid → Coding
 skipping_coding pixels skip = record { context = context_at pixels; known = known_colour skip; row_context = None }

@@ -15,7 +15,7 @@ use Rattle.jbig2_region.specs.Raster.{Coding, Region, so_far, decoded_region, no
 use Rattle.jbig2_region.specs.RefinementHeader.{RefinementHeader}
 use Rattle.jbig2_region.specs.RefinementTemplates.{at_xy, reference_pixels, refinement_row_context, region_pixels}
 use Rattle.jbig2_region.specs.RefinementTemplates.{refinement_bits}
-use Rattle.jbig2_region.specs.RegionInfo.{PlacedRegion, placed}
+use Rattle.jbig2_region.specs.RegionInfo.{PlacedRegion, at_location}
 use Rattle.jbig2_region.specs.declared.region_info.RegionSegmentInfo.{RegionSegmentInfo}
 use Rattle.jbig2_region.specs.declared.template.AdaptiveTemplatePixel.{AdaptiveTemplatePixel}
 use Rattle.jbig2_region.specs.declared.template.RefinementTemplate.{RefinementTemplate}
@@ -102,4 +102,4 @@ module _ (h : RefinementHeader) (from : PlacedRegion) where
   refined_contexts contexts = if is_ok (offset from h.region_info) then refined_region.contexts else contexts
 
   abbrev pub refined_decoded : Result PlacedRegion DecodeError
-  refined_decoded = refined_result >>= λ g. Ok (placed h.region_info g)
+  refined_decoded = refined_result >>= λ g. Ok (at_location h.region_info g)

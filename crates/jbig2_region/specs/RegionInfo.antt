@@ -33,8 +33,8 @@ pub record PlacedRegion : Type 0 where
   pub y_location : ℕ
   pub combination_operator : CombinationOperator
 
-abbrev pub placed : RegionSegmentInfo → Grid → PlacedRegion
-placed info g = record {
+abbrev pub at_location : RegionSegmentInfo → Grid → PlacedRegion
+at_location info g = record {
   grid = g;
   x_location = info.x_location;
   y_location = info.y_location;

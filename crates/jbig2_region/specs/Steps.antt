@@ -71,15 +71,15 @@ module _ (template : List AdaptiveTemplatePixel) where
         context_at template (so_far w h bits) (length bits % w) (length bits / w) == all_of colour
 
     -- whether the next n pixels, if they have that colour, and the pixel after them all have that context
-    unfoldable pub stays : Bool → ℕ → List Bool → Bool
-    stays colour zero bits = has_all colour bits
-    stays colour (suc n) bits = stays colour n bits && has_all colour (bits ++ replicate (suc n) colour)
+    unfoldable pub keeps_context : Bool → ℕ → List Bool → Bool
+    keeps_context colour zero bits = has_all colour bits
+    keeps_context colour (suc n) bits = keeps_context colour n bits && has_all colour (bits ++ replicate (suc n) colour)
 
     -- whether the next eight pixels are a run of a colour: likely symbols, quiet, and in one context
     unfoldable pub is_run_of : List ℕ → Region → Bool → Bool
     is_run_of bytes r colour =
         let context = slice_index_or r.contexts (all_of colour) fresh in
-        stays colour 8 r.pixels && (same_colour colour context.likely && all_quiet 8 bytes r.registers context)
+        keeps_context colour 8 r.pixels && (same_colour colour context.likely && all_quiet 8 bytes r.registers context)
 
     -- whether the next pixel begins a run byte, which is not the last byte of its row
     unfoldable pub is_run_byte : List ℕ → Region → Bool

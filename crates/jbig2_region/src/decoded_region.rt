@@ -2,7 +2,7 @@
 ghost use Rattle.std.specs.Prelude.{◌≡◌, false};
 ghost use Rattle.jbig2_base.specs.Grid.{blank, blank_or_overflow};
 ghost use Rattle.jbig2_base.specs.Results.{Returns};
-ghost use Rattle.jbig2_region.specs.RegionInfo.{placed};
+ghost use Rattle.jbig2_region.specs.RegionInfo.{at_location};
 ghost use Rattle.jbig2_region.specs.inner.RegionViews.{region_view};
 
 use crate::region_info::RegionSegmentInfo;
@@ -35,7 +35,7 @@ pub struct DecodedRegion<A: Allocator> {
 impl<A: Allocator> DecodedRegion<A> {
     /// This bitmap, at the place that the region's information gives.
     pub fn new(region_info: &RegionSegmentInfo, bitmap: Bitmap<A>) -> DecodedRegion<A>
-        ensures { region_view result ≡ placed region_info.now bitmap }
+        ensures { region_view result ≡ at_location region_info.now bitmap }
     {
         DecodedRegion {
             bitmap,

@@ -3,7 +3,7 @@
 ghost use Rattle.std.specs.Prelude.{◌≡◌, ◌%◌, pos};
 ghost use Rattle.jbig2_region.specs.RefinementTemplates.{refinement_bits, refinement_template_of};
 ghost use Rattle.jbig2_region.specs.Templates.{template_of, context_bits, nominal_adaptive_pixels};
-ghost use Rattle.jbig2_region.specs.inner.PixelArrays.{filled, four_pixels};
+ghost use Rattle.jbig2_region.specs.inner.PixelArrays.{pixel_array, four_pixels};
 
 pub(crate) mod adaptive;
 pub(crate) mod generic;
@@ -48,7 +48,7 @@ impl Template {
     /// The adaptive pixels where the standard has them by default (T.88, 6.2.5.4), and (0, 0) for those that the
     /// template does not have.
     pub fn nominal_pixels(self) -> [AdaptiveTemplatePixel; 4]
-        ensures all { result ≡ filled 4 (nominal_adaptive_pixels self) }
+        ensures all { result ≡ pixel_array 4 (nominal_adaptive_pixels self) }
         ensures used { four_pixels self result ≡ nominal_adaptive_pixels self }
     {
         let unused = AdaptiveTemplatePixel { x: 0, y: 0 };

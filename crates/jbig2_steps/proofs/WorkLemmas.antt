@@ -2,27 +2,27 @@
 use Rattle.std.proofs.Common.{◌≡◌, ℕ, ◌+◌, ◌*◌, ◌/◌, ◌%◌, ◌≤◌, min, Result, Ok, Err, IfOk, ap, ◌∙◌, arith}
 use Rattle.std.specs.Prelude.{max}
 use Rattle.jbig2_steps.specs.Counts.{Counts}
-use Rattle.jbig2_steps.specs.Work.{IsWithinLimit, Paid, PaidBut, counted, price_of_bitmap, words_of_row, worth}
+use Rattle.jbig2_steps.specs.Work.{IsWithinLimit, Paid, PaidBut, sum_of_counts, price_of_bitmap, words_of_row, budget}
 use Rattle.jbig2_steps.specs.declared.work.Work.{Work}
 
 -- counts alone
-pub counts-worth : {L : Type 0} (w : Work L) (steps : Counts) (n : ℕ) → counted steps ≤ counted w.steps + n → PaidBut n w (record w { steps = steps })
-unfolding worth
+pub counts-worth : {L : Type 0} (w : Work L) (steps : Counts) (n : ℕ) → sum_of_counts steps ≤ sum_of_counts w.steps + n → PaidBut n w (record w { steps = steps })
+unfolding budget
 counts-worth {L} w steps n more = omega arith
 
 -- nothing counted
-pub kept-worth : {L : Type 0} (w : Work L) (steps : Counts) → steps ≡ w.steps → worth (record w { steps = steps }) ≡ worth w
-kept-worth {L} w steps same = ap (λ (s : Counts). worth (record w { steps = s })) same
+pub kept-worth : {L : Type 0} (w : Work L) (steps : Counts) → steps ≡ w.steps → budget (record w { steps = steps }) ≡ budget w
+kept-worth {L} w steps same = ap (λ (s : Counts). budget (record w { steps = s })) same
 
 -- decisions alone
 pub decided-worth : {L : Type 0} (w : Work L) (steps : Counts) (n most : ℕ) → steps ≡ record w.steps { decisions = w.steps.decisions + n } → n ≤ most → PaidBut most w (record w { steps = steps })
 decided-worth {L} w steps n most is few =
-    let all : counted steps ≡ counted w.steps + n = ap (λ (s : Counts). counted s) is ∙ omega arith in
+    let all : sum_of_counts steps ≡ sum_of_counts w.steps + n = ap (λ (s : Counts). sum_of_counts s) is ∙ omega arith in
     counts-worth w steps most (omega arith)
 
 -- a counter that is worth no more than before is within its limit
 pub paid-limit : {L : Type 0} (old new : Work L) → Paid old new → IsWithinLimit old new
-unfolding worth
+unfolding budget
 paid-limit {L} old new paid = omega arith
 
 -- ---- prices

@@ -1,26 +1,26 @@
 -- The work that is paid for, and the steps that are counted (our own rule; no part of the format). A unit of work pays
--- for 32 counts. The worth of a counter is what it has counted plus what its remaining units still pay for. A call that
--- does not raise the worth has paid for all that it counted.
+-- for 32 counts. The budget of a counter is what it has counted plus what its remaining units still pay for. A call
+-- that does not raise the budget has paid for all that it counted.
 use Rattle.std.specs.Prelude.{ℕ, ◌+◌, ◌*◌, ◌/◌, ◌≤◌, max}
 use Rattle.jbig2_steps.specs.Counts.{Counts}
 use Rattle.jbig2_steps.specs.declared.work.Work.{Work}
 
-abbrev pub counted : Counts → ℕ  -- the sum of all counts
-counted c = c.loads + c.words + c.decisions + c.run_tests + c.groups + c.pixels
+abbrev pub sum_of_counts : Counts → ℕ  -- the sum of all counts
+sum_of_counts c = c.loads + c.words + c.decisions + c.run_tests + c.groups + c.pixels
 
-unfoldable pub worth : {L : Type 0} → Work L → ℕ
-worth w = counted w.steps + 32 * w.left
+unfoldable pub budget : {L : Type 0} → Work L → ℕ
+budget w = sum_of_counts w.steps + 32 * w.left
 
 -- all that was counted is paid for, but for at most `ahead` counts
 abbrev pub PaidBut : {L : Type 0} → ℕ → Work L → Work L → Type 0
-PaidBut ahead old new = worth new ≤ worth old + ahead
+PaidBut ahead old new = budget new ≤ budget old + ahead
 
 abbrev pub Paid : {L : Type 0} → Work L → Work L → Type 0  -- all that was counted is paid for
-Paid old new = worth new ≤ worth old
+Paid old new = budget new ≤ budget old
 
 -- what was counted is at most what this many units pay for
 abbrev pub CountsWithin : ℕ → Counts → Counts → Type 0
-CountsWithin units old new = counted new ≤ counted old + 32 * units
+CountsWithin units old new = sum_of_counts new ≤ sum_of_counts old + 32 * units
 
 -- what was counted is at most what the units that were left pay for: this is the limit of work
 abbrev pub IsWithinLimit : {L : Type 0} → Work L → Work L → Type 0

@@ -1,7 +1,7 @@
 //! The units of work that are left, with the counts that they pay for.
 ghost use Rattle.std.specs.Prelude.{◌≡◌, ◌+◌, ◌*◌, ◌≤◌, IfOk, OnErr};
 ghost use Rattle.jbig2_steps.specs.Counts.{no_steps};
-ghost use Rattle.jbig2_steps.specs.Work.{price_of_bitmap, worth};
+ghost use Rattle.jbig2_steps.specs.Work.{price_of_bitmap, budget};
 
 use crate::Steps;
 use jbig2_permit::Permit;
@@ -45,7 +45,7 @@ impl<L: Ledger> Work<L> {
         requires enough { blank.parts ≡ 6 }
         ensures steps { result.steps ≡ no_steps }
         ensures left { result.left ≡ units }
-        ensures worth { worth result ≡ 32 * units }
+        ensures budget { budget result ≡ 32 * units }
     {
         Work {
             steps: Steps::new(permit, blank),
@@ -57,7 +57,7 @@ impl<L: Ledger> Work<L> {
     fn refuse(&mut self) -> AllocError
         ensures steps { self.new.steps ≡ self.old.steps }
         ensures none_left { self.new.left ≡ 0 }
-        ensures paid { worth self.new ≤ worth self.old }
+        ensures paid { budget self.new ≤ budget self.old }
     {
         self.left = 0;
         AllocError
@@ -69,8 +69,8 @@ impl<L: Ledger> Work<L> {
         ensures steps { self.new.steps ≡ self.old.steps }
         ensures left { IfOk result (λ _. self.new.left + units ≡ self.old.left) }
         ensures none_left { OnErr result (self.new.left ≡ 0) }
-        ensures paid { worth self.new ≤ worth self.old }
-        ensures taken { IfOk result (λ _. worth self.new + 32 * units ≡ worth self.old) }
+        ensures paid { budget self.new ≤ budget self.old }
+        ensures taken { IfOk result (λ _. budget self.new + 32 * units ≡ budget self.old) }
     {
         match self.left.checked_sub(units) {
             Some(left) => {
@@ -85,10 +85,10 @@ impl<L: Ledger> Work<L> {
     pub fn pay_bitmap(&mut self, width: u32, height: u32) -> Result<(), AllocError>
         ensures steps { self.new.steps ≡ self.old.steps }
         ensures none_left { OnErr result (self.new.left ≡ 0) }
-        ensures paid { worth self.new ≤ worth self.old }
+        ensures paid { budget self.new ≤ budget self.old }
         ensures taken { IfOk result
-            (λ _. worth self.new + 32 * price_of_bitmap width height ≡ worth self.old) }
-        ensures least { IfOk result (λ _. worth self.new + 2048 ≤ worth self.old) }
+            (λ _. budget self.new + 32 * price_of_bitmap width height ≡ budget self.old) }
+        ensures least { IfOk result (λ _. budget self.new + 2048 ≤ budget self.old) }
     {
         self.pay(price_of_bitmap(width, height))
     }
@@ -97,9 +97,9 @@ impl<L: Ledger> Work<L> {
     pub fn pay_bitmaps(&mut self, count: u64, width: u32, height: u32) -> Result<(), AllocError>
         ensures steps { self.new.steps ≡ self.old.steps }
         ensures none_left { OnErr result (self.new.left ≡ 0) }
-        ensures paid { worth self.new ≤ worth self.old }
+        ensures paid { budget self.new ≤ budget self.old }
         ensures taken { IfOk result
-            (λ _. worth self.new + 32 * (price_of_bitmap width height * count) ≡ worth self.old) }
+            (λ _. budget self.new + 32 * (price_of_bitmap width height * count) ≡ budget self.old) }
     {
         match price_of_bitmap(width, height).checked_mul(count) {
             Some(units) => self.pay(units),

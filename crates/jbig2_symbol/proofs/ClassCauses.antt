@@ -3,7 +3,7 @@ use Rattle.std.proofs.Common.{if◌then◌else◌, ◌≡◌, ◌⊎◌, inl, in
 use Rattle.std.proofs.lemmas.Bool.{and_parts, cond-false, cond-true, eqb-false, eqb-true, leb-true, ltb-true}
 use Rattle.std.specs.Prelude.{IfErr}
 use Rattle.jbig2_base.specs.Results.{◌>>=◌, refuse_if}
-use Rattle.jbig2_base.specs.Bits.{Place, aligned, start_of}
+use Rattle.jbig2_base.specs.Bits.{Place, byte_boundary, start_of}
 use Rattle.jbig2_base.specs.Fields.{bytes_at}
 use Rattle.jbig2_base.specs.Grid.{Grid, wide_or_overflow}
 use Rattle.jbig2_base.specs.Causes.{HasCause, HasCauseOrNoMemory, IsOf}
@@ -62,11 +62,11 @@ rows-cause strict size width height bytes =
     cause-if (BreaksSized strict width height (Some (pos size)) bytes) (size == 0) (raw_rows width height bytes) (mmr_bytes strict size width height bytes) (raw-cause strict size width height bytes) (mmr-cause strict size width height bytes)
 
 sized-cause : (d : SymbolInput) (width height : ℕ) (value : Option ℤ) (after : SymbolState Place)
-    → IfErr (in_band (errors.Huffman UnexpectedOob) value >>= λ number. not_negative (errors.Overflow BitmapDimension) number >>= λ size. rows_of_size d.header.strict size width height (aligned after.coding).bytes >>= λ rows. (let r : Result (Grid × SymbolState Place) DecodeError = Ok (rows.0, record after { coding = start_of rows.1 }) in r)) (BreaksSized d.header.strict width height value (aligned after.coding).bytes)
+    → IfErr (in_band (errors.Huffman UnexpectedOob) value >>= λ number. not_negative (errors.Overflow BitmapDimension) number >>= λ size. rows_of_size d.header.strict size width height (byte_boundary after.coding).bytes >>= λ rows. (let r : Result (Grid × SymbolState Place) DecodeError = Ok (rows.0, record after { coding = start_of rows.1 }) in r)) (BreaksSized d.header.strict width height value (byte_boundary after.coding).bytes)
 sized-cause d width height None after = refl
 sized-cause d width height (Some (negsuc n)) after = refl
 sized-cause d width height (Some (pos size)) after =
-    let bytes = (aligned after.coding).bytes in
+    let bytes = (byte_boundary after.coding).bytes in
     let P : DecodeError → Type 0 = BreaksSized d.header.strict width height (Some (pos size)) bytes in
     let rows = rows_of_size d.header.strict size width height bytes in
     cause-next P rows _ (rows-cause d.header.strict size width height bytes) (λ grid grid_is. tt)
@@ -74,7 +74,7 @@ sized-cause d width height (Some (pos size)) after =
 collective_causes : (d : SymbolInput) (width height : ℕ) (s : SymbolState Place) → IfErr (collective_bitmap d width height s) (BreaksCollectiveBitmap d width height s)
 unfolding collective_bitmap
 collective_causes d width height s =
-    in-steps (by_table d.tables.sizes s) _ (IsOf (by_table d.tables.sizes s)) (λ value. BreaksSized d.header.strict width height value.0 (aligned value.1.coding).bytes) (own-error (by_table d.tables.sizes s)) (λ value value_is. sized-cause d width height value.0 value.1)
+    in-steps (by_table d.tables.sizes s) _ (IsOf (by_table d.tables.sizes s)) (λ value. BreaksSized d.header.strict width height value.0 (byte_boundary value.1.coding).bytes) (own-error (by_table d.tables.sizes s)) (λ value value_is. sized-cause d width height value.0 value.1)
 
 pub collective_cause : {X : Type 0} (d : SymbolInput) (width height : ℕ) (s : SymbolState Place) (r : Result X DecodeError) → IfErr r (λ e. (e ≡ errors.OutOfMemory) ⊎ (collective_bitmap d width height s ≡ Err e))
     → HasCauseOrNoMemory r (BreaksCollectiveBitmap d width height s)

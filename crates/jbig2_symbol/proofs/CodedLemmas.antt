@@ -8,7 +8,7 @@ use Rattle.jbig2_region.specs.inner.RegionStates.{HasDecoded, region_state}
 use Rattle.jbig2_region.specs.Raster.{Coding, Region, so_far, decoded_region, no_pixels}
 use Rattle.jbig2_region.specs.Generic.{coding_of}
 use Rattle.jbig2_region.specs.Templates.{template_pixels}
-use Rattle.jbig2_region.specs.inner.PixelArrays.{filled, four_pixels}
+use Rattle.jbig2_region.specs.inner.PixelArrays.{pixel_array, four_pixels}
 use Rattle.jbig2_region.specs.declared.template.AdaptiveTemplatePixel.{AdaptiveTemplatePixel}
 use Rattle.jbig2_region.specs.declared.template.Template.{Template}
 use Rattle.jbig2_symbol.specs.SymbolBitmaps.{coded_symbol}
@@ -53,7 +53,7 @@ coded-made h t s width height white grid states next after left kept same learne
     ∙ ap (λ (c : List Context). Ok (grid, after_symbol t next c)) (sym kept)
 
 -- the same by an array of four pixels
-pub filled-made : (h : SymbolHeader) (t s : SymbolState Coded) (width height : ℕ) (white grid : Grid) (states : List Context) (next : Coder) (after left : List Context) (four : List AdaptiveTemplatePixel) → left ≡ after → t ≡ s → states ≡ t.contexts.generic → blank_or_overflow width height false ≡ Ok white → four ≡ filled 4 h.adaptive_template_pixels → HasDecoded white.width white.height t.coding.coder.bytes (decoded_region (coding_of false t.contexts.template (template_pixels false t.contexts.template (four_pixels t.contexts.template four))) white.width white.height t.coding.coder.bytes (no_pixels t.coding.coder.registers states)) (region_state grid next after) → coded_symbol h width height s ≡ Ok (grid, after_symbol t next left)
+pub filled-made : (h : SymbolHeader) (t s : SymbolState Coded) (width height : ℕ) (white grid : Grid) (states : List Context) (next : Coder) (after left : List Context) (four : List AdaptiveTemplatePixel) → left ≡ after → t ≡ s → states ≡ t.contexts.generic → blank_or_overflow width height false ≡ Ok white → four ≡ pixel_array 4 h.adaptive_template_pixels → HasDecoded white.width white.height t.coding.coder.bytes (decoded_region (coding_of false t.contexts.template (template_pixels false t.contexts.template (four_pixels t.contexts.template four))) white.width white.height t.coding.coder.bytes (no_pixels t.coding.coder.registers states)) (region_state grid next after) → coded_symbol h width height s ≡ Ok (grid, after_symbol t next left)
 filled-made h t s width height white grid states next after left four kept same learned made used holds =
     let pixels = ap (λ (a : List AdaptiveTemplatePixel). template_pixels false t.contexts.template (four_pixels t.contexts.template a)) used ∙ filled_pixels t.contexts.template h.adaptive_template_pixels in
     coded-made h t s width height white grid states next after left kept same learned made (subst (λ (p : List AdaptiveTemplatePixel). HasDecoded white.width white.height t.coding.coder.bytes (decoded_region (coding_of false t.contexts.template p) white.width white.height t.coding.coder.bytes (no_pixels t.coding.coder.registers states)) (region_state grid next after)) pixels holds)

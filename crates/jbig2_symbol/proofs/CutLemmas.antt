@@ -9,7 +9,7 @@ use Rattle.jbig2_base.specs.Grid.{Grid, grid_of, blank, wide_or_overflow}
 use Rattle.jbig2_base.specs.declared.error.DecodeError.{DecodeError}
 use Rattle.jbig2_base.specs.declared.error.DecodeError.TheVariants.{OutOfMemory, Overflow}
 use Rattle.jbig2_base.specs.declared.error.OverflowError.TheVariants.{BitmapDimension}
-use Rattle.jbig2_base.specs.inner.Filled.{filled}
+use Rattle.jbig2_base.specs.inner.GridsBefore.{grid_before}
 use Rattle.jbig2_base.specs.Bits.{bit}
 use Rattle.jbig2_base.specs.Writes.{with_pixels}
 use Rattle.jbig2_base.proofs.BitLemmas.{bit-shr}
@@ -60,7 +60,7 @@ sum-next widths k left most inside few =
 
 -- ---- rows that are not coded
 -- the next byte of a row that is not coded
-pub uncoded : (bytes : List ℕ) (before after : Grid) (w h y stride index count bits : ℕ) → y < h → 8 * index < w → count ≡ min (w - 8 * index) 8 → stride ≡ raw_stride w → bits ≡ get_or bytes (y * stride + index) 0 / 2 ^ (8 - count) → before ≡ filled w h (raw_pixel bytes (raw_stride w)) y (min w (8 * index)) → after ≡ with_pixels before (8 * index) y count bits → after ≡ filled w h (raw_pixel bytes (raw_stride w)) y (min w (8 * (index + 1)))
+pub uncoded : (bytes : List ℕ) (before after : Grid) (w h y stride index count bits : ℕ) → y < h → 8 * index < w → count ≡ min (w - 8 * index) 8 → stride ≡ raw_stride w → bits ≡ get_or bytes (y * stride + index) 0 / 2 ^ (8 - count) → before ≡ grid_before w h (raw_pixel bytes (raw_stride w)) y (min w (8 * index)) → after ≡ with_pixels before (8 * index) y count bits → after ≡ grid_before w h (raw_pixel bytes (raw_stride w)) y (min w (8 * (index + 1)))
 uncoded bytes before after w h y stride index count bits above inside few wide read is_filled written =
     let at : min w (8 * index) ≡ 8 * index = omega arith in
     let next : 8 * index + count ≡ min w (8 * (index + 1)) = omega arith in
@@ -74,9 +74,9 @@ uncoded bytes before after w h y stride index count bits above inside few wide r
     ∙ bit-shr byte (8 - count) (count - 1 - k)
     ∙ ap (λ (n : ℕ). bit byte n) place
     ∙ ap (λ (n : ℕ). bit (get_or bytes (y * raw_stride w + n) 0) (7 - (8 * index + k) % 8)) column)
-    (is_filled ∙ ap (λ (x : ℕ). filled w h f y x) at)
+    (is_filled ∙ ap (λ (x : ℕ). grid_before w h f y x) at)
     written
-    ∙ ap (λ (x : ℕ). filled w h f y x) next
+    ∙ ap (λ (x : ℕ). grid_before w h f y x) next
 
 wide-made : (w h : ℕ) (g : Grid) → wide_or_overflow w h ≡ Ok g → g ≡ blank w h false
 wide-made w h g e = made (nat_lt (65535 * 65535) (w * h)) (blank w h false) g e
@@ -118,6 +118,6 @@ raw-none w h g bytes rows rest none read made =
     let white : grid_of w h (raw_pixel rows (raw_stride w)) ≡ g = grid_of-ext w h (raw_pixel rows (raw_stride w)) (λ _ _. false) (λ i j left above. absurd (omega arith)) ∙ sym (wide-made w h g made) in
     rw (raw-read w h bytes rows rest read) (ap (λ (k : Grid). Ok (k, rest)) white)
 
-pub raw-made : (w h y : ℕ) (g : Grid) (bytes rows rest : List ℕ) → bytes_of_rows w h bytes ≡ Ok (rows, rest) → y ≡ h → g ≡ filled w h (raw_pixel rows (raw_stride w)) y 0 → raw_rows w h bytes ≡ Ok (g, rest)
+pub raw-made : (w h y : ℕ) (g : Grid) (bytes rows rest : List ℕ) → bytes_of_rows w h bytes ≡ Ok (rows, rest) → y ≡ h → g ≡ grid_before w h (raw_pixel rows (raw_stride w)) y 0 → raw_rows w h bytes ≡ Ok (g, rest)
 raw-made w h y g bytes rows rest read whole e =
     rw (raw-read w h bytes rows rest read) (ap (λ (k : Grid). Ok (k, rest)) (sym (all-filled g w h (raw_pixel rows (raw_stride w)) y whole e)))

@@ -11,7 +11,7 @@ use Rattle.jbig2_base.specs.declared.error.DecodeError.TheVariants.{OutOfMemory,
 use Rattle.jbig2_base.specs.declared.error.SymbolError.TheVariants.{NoSymbols}
 use Rattle.jbig2_base.proofs.Causes.{same-ok}
 use Rattle.jbig2_symbol.specs.SymbolReading.{ClassReadings, SymbolInput}
-use Rattle.jbig2_symbol.specs.Symbols.{export_runs, exported, exports}
+use Rattle.jbig2_symbol.specs.Symbols.{export_runs, exported_grids, exports}
 use Rattle.jbig2_symbol.specs.inner.JoinedRuns.{joined_runs}
 use Rattle.jbig2_symbol.specs.inner.SymbolViews.{all_symbols}
 use Rattle.jbig2_symbol.proofs.JoinedLemmas.{exported-joined}
@@ -23,7 +23,7 @@ all-length input new =
 
 -- what is returned after the runs
 abbrev AfterRuns : {S : Type 0} → SymbolInput → List Grid → Result (List ℕ × S) DecodeError → Result (List Grid × S) DecodeError
-AfterRuns d all read = read >>= λ runs. refuse_if (not (length (exported runs.0 all) == d.header.num_exported_symbols)) (Symbol NoSymbols) >>= λ right. Ok (exported runs.0 all, runs.1)
+AfterRuns d all read = read >>= λ runs. refuse_if (not (length (exported_grids runs.0 all) == d.header.num_exported_symbols)) (Symbol NoSymbols) >>= λ right. Ok (exported_grids runs.0 all, runs.1)
 
 -- it is the same if they are joined
 after-joined : {S : Type 0} (d : SymbolInput) (all : List Grid) (read : Result (List ℕ × S) DecodeError) → AfterRuns d all read ≡ AfterRuns d all (joined_runs read)
@@ -45,29 +45,29 @@ exports-unread r d input new count s e is (inl memory) = inl memory
 exports-unread r d input new count s e is (inr unread) = inr (after-runs r d input new count s (Err e) is unread)
 
 -- how many they are, by the program
-listed-length : (ran runs : List ℕ) (all listed : List Grid) (n : ℕ) → ran ≡ runs → ◌≡◌ {A = Result (List Grid) DecodeError} (Ok (exported ran all)) (Ok listed) → n ≡ length listed → n ≡ length (exported runs all)
-listed-length ran runs all listed n ran_is listed_is n_is = n_is ∙ ap length (sym (same-ok (exported ran all) listed listed_is)) ∙ ap (λ (rs : List ℕ). length (exported rs all)) ran_is
+listed-length : (ran runs : List ℕ) (all listed : List Grid) (n : ℕ) → ran ≡ runs → ◌≡◌ {A = Result (List Grid) DecodeError} (Ok (exported_grids ran all)) (Ok listed) → n ≡ length listed → n ≡ length (exported_grids runs all)
+listed-length ran runs all listed n ran_is listed_is n_is = n_is ∙ ap length (sym (same-ok (exported_grids ran all) listed listed_is)) ∙ ap (λ (rs : List ℕ). length (exported_grids rs all)) ran_is
 
 -- they are not as many as the header states
 pub exports-other : {S : Type 0} (r : ClassReadings S) (d : SymbolInput) (input : List (Bor Grid)) (new : List Grid) (count : ℕ) (s after : S) (runs ran : List ℕ) (listed : List Grid) (n : ℕ)
-    → count ≡ length input + length new → joined_runs (export_runs r d count s) ≡ Ok (runs, after) → ran ≡ runs → ◌≡◌ {A = Result (List Grid) DecodeError} (Ok (exported ran (all_symbols input new))) (Ok listed)
+    → count ≡ length input + length new → joined_runs (export_runs r d count s) ≡ Ok (runs, after) → ran ≡ runs → ◌≡◌ {A = Result (List Grid) DecodeError} (Ok (exported_grids ran (all_symbols input new))) (Ok listed)
     → n ≡ length listed → n ≢ d.header.num_exported_symbols → exports r d (all_symbols input new) s ≡ Err (Symbol NoSymbols)
 exports-other {S} r d input new count s after runs ran listed n is read ran_is listed_is n_is other =
     let all = all_symbols input new in
-    let size : n ≡ length (exported runs all) = listed-length ran runs all listed n ran_is listed_is n_is in
-    let apart : not (length (exported runs all) == d.header.num_exported_symbols) ≡ true = ap not (ne_eqb (length (exported runs all)) d.header.num_exported_symbols (λ same. other (size ∙ same))) in
-    let refused : Bool → Result (List Grid × S) DecodeError = λ b. refuse_if b (Symbol NoSymbols) >>= λ right. Ok (exported runs all, after) in
+    let size : n ≡ length (exported_grids runs all) = listed-length ran runs all listed n ran_is listed_is n_is in
+    let apart : not (length (exported_grids runs all) == d.header.num_exported_symbols) ≡ true = ap not (ne_eqb (length (exported_grids runs all)) d.header.num_exported_symbols (λ same. other (size ∙ same))) in
+    let refused : Bool → Result (List Grid × S) DecodeError = λ b. refuse_if b (Symbol NoSymbols) >>= λ right. Ok (exported_grids runs all, after) in
     after-runs r d input new count s (Ok (runs, after)) is read ∙ ap refused apart
 
 -- they are
 pub exports-all : {S : Type 0} (r : ClassReadings S) (d : SymbolInput) (input : List (Bor Grid)) (new : List Grid) (count : ℕ) (s after : S) (runs ran : List ℕ) (listed : List Grid) (n : ℕ)
-    → count ≡ length input + length new → joined_runs (export_runs r d count s) ≡ Ok (runs, after) → ran ≡ runs → ◌≡◌ {A = Result (List Grid) DecodeError} (Ok (exported ran (all_symbols input new))) (Ok listed)
+    → count ≡ length input + length new → joined_runs (export_runs r d count s) ≡ Ok (runs, after) → ran ≡ runs → ◌≡◌ {A = Result (List Grid) DecodeError} (Ok (exported_grids ran (all_symbols input new))) (Ok listed)
     → n ≡ length listed → n ≡ d.header.num_exported_symbols → exports r d (all_symbols input new) s ≡ Ok (listed, after)
 exports-all {S} r d input new count s after runs ran listed n is read ran_is listed_is n_is same =
     let all = all_symbols input new in
-    let size : n ≡ length (exported runs all) = listed-length ran runs all listed n ran_is listed_is n_is in
-    let as_many : not (length (exported runs all) == d.header.num_exported_symbols) ≡ false = ap not (eq-eqb (length (exported runs all)) d.header.num_exported_symbols (sym size ∙ same)) in
-    let refused : Bool → Result (List Grid × S) DecodeError = λ b. refuse_if b (Symbol NoSymbols) >>= λ right. Ok (exported runs all, after) in
+    let size : n ≡ length (exported_grids runs all) = listed-length ran runs all listed n ran_is listed_is n_is in
+    let as_many : not (length (exported_grids runs all) == d.header.num_exported_symbols) ≡ false = ap not (eq-eqb (length (exported_grids runs all)) d.header.num_exported_symbols (sym size ∙ same)) in
+    let refused : Bool → Result (List Grid × S) DecodeError = λ b. refuse_if b (Symbol NoSymbols) >>= λ right. Ok (exported_grids runs all, after) in
     after-runs r d input new count s (Ok (runs, after)) is read
     ∙ ap refused as_many
-    ∙ ap (λ (gs : List Grid). Ok (gs, after)) (ap (λ (rs : List ℕ). exported rs all) (sym ran_is) ∙ same-ok (exported ran all) listed listed_is)
+    ∙ ap (λ (gs : List Grid). Ok (gs, after)) (ap (λ (rs : List ℕ). exported_grids rs all) (sym ran_is) ∙ same-ok (exported_grids ran all) listed listed_is)

@@ -61,7 +61,7 @@ exported-all runs from (g ∷ xs) false same = rw (same from (omega arith) (omeg
 
 -- one run more
 pub exported-run : (runs : List ℕ) (all : List Grid) (k first run : ℕ) → k < length runs → first ≡ sum (take k runs) → run ≡ get_or runs k 0 → first + run ≤ length all → exported_from runs 0 (take (first + run) all) ≡ exported_from runs 0 (take first all) ++ cond (eqb (k % 2) 1) (take run (drop first all)) []
-exported-run runs all k first run inside begun is within =
+exported-run runs all k first run inside opening is within =
     let begins : 0 + length (take first all) ≡ first = omega (arith, length-take-le first all (omega arith)) in
     let few = length-take run (drop first all) in
     ap (λ (gs : List Grid). exported_from runs 0 gs) (take-add first run all)
@@ -72,7 +72,7 @@ exported-run runs all k first run inside begun is within =
     (λ i low high. ap (λ (n : ℕ). eqb (n % 2) 1) (ended-before k runs 0 i inside (omega arith) (omega (arith, few)))))
 
 pub sum-more : (runs : List ℕ) (k first run : ℕ) → k < length runs → first ≡ sum (take k runs) → run ≡ get_or runs k 0 → first + run ≡ sum (take (k + 1) runs)
-sum-more runs k first run inside begun is =
+sum-more runs k first run inside opening is =
     let zero_more : 0 + get_or runs k 0 ≡ get_or runs k 0 = omega arith in
     let next : sum (take (k + 1) runs) ≡ sum (take k runs) + get_or runs k 0 =
     ap (λ (rs : List ℕ). sum rs) (take_more runs k 0 inside)
@@ -81,9 +81,9 @@ sum-more runs k first run inside begun is =
     omega (arith, next)
 
 pub sum-within : (runs : List ℕ) (k first run count : ℕ) → k < length runs → first ≡ sum (take k runs) → run ≡ get_or runs k 0 → sum runs ≡ count → first + run ≤ count
-sum-within runs k first run count inside begun is whole =
+sum-within runs k first run count inside opening is whole =
     let part : sum (take (k + 1) runs) ≤ sum runs = sum_by-take-le (λ (n : ℕ). n) runs (k + 1) in
-    let next = sum-more runs k first run inside begun is in
+    let next = sum-more runs k first run inside opening is in
     omega (arith, part, next)
 
 -- ---- the symbols that there are
@@ -126,20 +126,20 @@ exported-none runs all before none = none
 
 -- a run of symbols that are exported, or are not
 pub exported-odd : (runs : List ℕ) (all so_far after : List Grid) (k first run : ℕ) → k < length runs → first ≡ sum (take k runs) → run ≡ get_or runs k 0 → first + run ≤ length all → k % 2 ≡ 1 → so_far ≡ exported_from runs 0 (take first all) → after ≡ so_far ++ take run (drop first all) → after ≡ exported_from runs 0 (take (first + run) all)
-exported-odd runs all so_far after k first run inside begun is within odd before pushed =
+exported-odd runs all so_far after k first run inside opening is within odd before pushed =
     let test : eqb (k % 2) 1 ≡ true = eq-eqb (k % 2) 1 odd in
     pushed
     ∙ ap (λ (gs : List Grid). gs ++ take run (drop first all)) before
     ∙ ap (λ (b : Bool). exported_from runs 0 (take first all) ++ cond b (take run (drop first all)) []) (sym test)
-    ∙ sym (exported-run runs all k first run inside begun is within)
+    ∙ sym (exported-run runs all k first run inside opening is within)
 
 pub exported-even : (runs : List ℕ) (all so_far : List Grid) (k first run : ℕ) → k < length runs → first ≡ sum (take k runs) → run ≡ get_or runs k 0 → first + run ≤ length all → (k % 2 ≡ 1 → ⊥) → so_far ≡ exported_from runs 0 (take first all) → so_far ≡ exported_from runs 0 (take (first + run) all)
-exported-even runs all so_far k first run inside begun is within even before =
+exported-even runs all so_far k first run inside opening is within even before =
     let test : eqb (k % 2) 1 ≡ false = ne_eqb (k % 2) 1 even in
     before
     ∙ sym (append-nil (exported_from runs 0 (take first all)))
     ∙ ap (λ (b : Bool). exported_from runs 0 (take first all) ++ cond b (take run (drop first all)) []) (sym test)
-    ∙ sym (exported-run runs all k first run inside begun is within)
+    ∙ sym (exported-run runs all k first run inside opening is within)
 
 pub only-memory : (error : DecodeError) (xs ys : List Grid) → (error ≡ OutOfMemory) ⊎ (◌≡◌ {A = Result (List Grid) DecodeError} (Ok xs) (Err error)) → (error ≡ OutOfMemory) ⊎ (◌≡◌ {A = Result (List Grid) DecodeError} (Ok ys) (Err error))
 only-memory error xs ys (inl memory) = inl memory

@@ -5,8 +5,8 @@ use Rattle.jbig2_base.specs.Results.{◌>>=◌}
 use Rattle.jbig2_base.specs.Grid.{Grid, bit_number}
 use Rattle.jbig2_base.specs.declared.error.DecodeError.{DecodeError}
 use Rattle.jbig2_symbol.specs.SymbolReading.{ClassReadings, SymbolInput}
-use Rattle.jbig2_symbol.specs.Symbols.{ended_runs, exported, exported_from, next_run, runs_from}
-use Rattle.jbig2_symbol.specs.inner.JoinedRuns.{joined, joined_from, joined_runs}
+use Rattle.jbig2_symbol.specs.Symbols.{ended_runs, exported_grids, exported_from, next_run, runs_from}
+use Rattle.jbig2_symbol.specs.inner.JoinedRuns.{join_runs, joined_from, joined_runs}
 
 -- ---- what is read
 
@@ -23,7 +23,7 @@ abbrev with_run : {S : Type 0} → ℕ → Result (List ℕ × S) DecodeError �
 with_run run read = read >>= λ others. Ok (run ∷ others.0, others.1)
 
 first-others : {S : Type 0} (run : ℕ) (read : Result (List ℕ × S) DecodeError) → joined_after [] 0 true (with_run run read) ≡ joined_runs (with_run run read)
-unfolding joined joined_from
+unfolding join_runs joined_from
 first-others run (Ok others) = let none : 0 + run ≡ run = omega arith in ap (λ (n : ℕ). Ok (joined_from n others.0, others.1)) none
 first-others run (Err e) = refl
 
@@ -97,7 +97,7 @@ joined-done r d zero empty left joins before after last s none apart pushed = rw
 joined-done r d (suc n) empty left joins before after last s none apart pushed = rw (none, apart, pushed) refl
 
 pub joined-none : {S : Type 0} (r : ClassReadings S) (d : SymbolInput) (n empty left : ℕ) (runs : List ℕ) (s : S) → left ≡ 0 → runs ≡ [] → joined_runs (runs_from r d n empty left s) ≡ Ok (runs, s)
-unfolding runs_from joined
+unfolding runs_from join_runs
 joined-none r d zero empty left runs s none is = rw is refl
 joined-none r d (suc n) empty left runs s none is = rw (none, is) refl
 
@@ -117,15 +117,15 @@ ended-joined (suc n ∷ runs) run from i =
     let more = ended-joined runs (suc n) (from + run) i in
     omega (arith, more)
 
-ended-all : (runs : List ℕ) (i : ℕ) → ended_runs 0 (joined runs) i % 2 ≡ ended_runs 0 runs i % 2
-unfolding joined
+ended-all : (runs : List ℕ) (i : ℕ) → ended_runs 0 (join_runs runs) i % 2 ≡ ended_runs 0 runs i % 2
+unfolding join_runs
 ended-all [] i = refl
 ended-all (run ∷ runs) i = ended-joined runs run 0 i
 
-exported-joined_from : (runs : List ℕ) (from : ℕ) (grids : List Grid) → exported_from (joined runs) from grids ≡ exported_from runs from grids
+exported-joined_from : (runs : List ℕ) (from : ℕ) (grids : List Grid) → exported_from (join_runs runs) from grids ≡ exported_from runs from grids
 unfolding exported_from
 exported-joined_from runs from [] = refl
 exported-joined_from runs from (g ∷ grids) = rw (ended-all runs from, exported-joined_from runs (from + 1) grids) refl
 
-pub exported-joined : (runs : List ℕ) (grids : List Grid) → exported (joined runs) grids ≡ exported runs grids
+pub exported-joined : (runs : List ℕ) (grids : List Grid) → exported_grids (join_runs runs) grids ≡ exported_grids runs grids
 exported-joined runs grids = exported-joined_from runs 0 grids

@@ -7,7 +7,7 @@ use Rattle.jbig2_base.specs.Fields.{bytes_at}
 use Rattle.jbig2_base.specs.Grid.{Grid}
 use Rattle.jbig2_base.proofs.Causes.{bytes-there}
 use Rattle.jbig2_base.proofs.Prices.{copied-paid, price-same, written-counted}
-use Rattle.jbig2_steps.specs.Work.{Paid, PaidBut, price_of_bitmap, words_of_row, worth}
+use Rattle.jbig2_steps.specs.Work.{Paid, PaidBut, price_of_bitmap, words_of_row, budget}
 use Rattle.jbig2_steps.specs.declared.work.Work.{Work}
 use Rattle.jbig2_steps.proofs.WorkLemmas.{counts-worth, row-paid}
 
@@ -36,7 +36,7 @@ bytes-many n bytes part rest is =
 
 -- ---- copies
 -- a copy of this size, which is paid for
-pub copy-paid : {L : Type 0} (old paid : Work L) (steps : Counts) (g : Grid) (w h : ℕ) → w ≡ g.width → h ≡ g.height → worth paid + 32 * price_of_bitmap w h ≡ worth old → steps ≡ words_copied (words_of g) paid.steps → Paid old (record paid { steps = steps })
+pub copy-paid : {L : Type 0} (old paid : Work L) (steps : Counts) (g : Grid) (w h : ℕ) → w ≡ g.width → h ≡ g.height → budget paid + 32 * price_of_bitmap w h ≡ budget old → steps ≡ words_copied (words_of g) paid.steps → Paid old (record paid { steps = steps })
 copy-paid {L} old paid steps g w h wide high taken copied =
-    let more : worth (record paid { steps = steps }) ≤ worth paid + 32 * price_of_bitmap g.width g.height = counts-worth paid steps (32 * price_of_bitmap g.width g.height) (copied-paid g paid.steps steps copied) in
+    let more : budget (record paid { steps = steps }) ≤ budget paid + 32 * price_of_bitmap g.width g.height = counts-worth paid steps (32 * price_of_bitmap g.width g.height) (copied-paid g paid.steps steps copied) in
     omega (arith, more, taken, price-same w g.width h g.height wide high)

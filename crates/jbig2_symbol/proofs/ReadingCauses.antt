@@ -17,7 +17,7 @@ use Rattle.jbig2_coder.specs.PrefixCode.{Member}
 use Rattle.jbig2_text.specs.TextCoding.{in_band}
 use Rattle.jbig2_symbol.specs.SymbolBitmaps.{instance_count, some_instances}
 use Rattle.jbig2_symbol.specs.Causes.{BreaksContexts, BreaksCount, BreaksExports, BreaksNextWidth, BreaksRunAfter, BreaksRunValue, BreaksTables, IsNoSize, custom_count}
-use Rattle.jbig2_symbol.specs.Symbols.{export_runs, exported, exports, next_run, runs_from}
+use Rattle.jbig2_symbol.specs.Symbols.{export_runs, exported_grids, exports, next_run, runs_from}
 use Rattle.jbig2_symbol.specs.HeightClasses.{next_width, size_in_word, width_by}
 use Rattle.jbig2_symbol.specs.SymbolReading.{BitmapContexts, ClassReadings, SymbolInput, SymbolReadings, first_contexts, is_refinement_template, is_template, not_negative, symbol_tables, table_for}
 use Rattle.jbig2_symbol.specs.declared.header.HuffmanTableSelection.{HuffmanTableSelection}
@@ -134,10 +134,10 @@ exports_causes : {S : Type 0} (r : ClassReadings S) (d : SymbolInput) (grids : L
 unfolding exports
 exports_causes r d grids s =
     let count = length grids in
-    in-steps (export_runs r d count s) _ (Runs r d 0 count s) (λ runs e. (e ≡ errors.Symbol symbols.NoSymbols) × (length (exported runs.0 grids) ≢ d.header.num_exported_symbols)) (runs-cause r d (count + 1048576) 0 count s) (λ runs runs_is.
-    let P : DecodeError → Type 0 = λ e. (e ≡ errors.Symbol symbols.NoSymbols) × (length (exported runs.0 grids) ≢ d.header.num_exported_symbols) in
-    let other : Bool = not (length (exported runs.0 grids) == d.header.num_exported_symbols) in
-    cause-next P (refuse_if other (errors.Symbol symbols.NoSymbols)) _ (cause-refused P other (errors.Symbol symbols.NoSymbols) (λ is. (refl, differ (length (exported runs.0 grids)) d.header.num_exported_symbols is))) (λ right right_is. tt))
+    in-steps (export_runs r d count s) _ (Runs r d 0 count s) (λ runs e. (e ≡ errors.Symbol symbols.NoSymbols) × (length (exported_grids runs.0 grids) ≢ d.header.num_exported_symbols)) (runs-cause r d (count + 1048576) 0 count s) (λ runs runs_is.
+    let P : DecodeError → Type 0 = λ e. (e ≡ errors.Symbol symbols.NoSymbols) × (length (exported_grids runs.0 grids) ≢ d.header.num_exported_symbols) in
+    let other : Bool = not (length (exported_grids runs.0 grids) == d.header.num_exported_symbols) in
+    cause-next P (refuse_if other (errors.Symbol symbols.NoSymbols)) _ (cause-refused P other (errors.Symbol symbols.NoSymbols) (λ is. (refl, differ (length (exported_grids runs.0 grids)) d.header.num_exported_symbols is))) (λ right right_is. tt))
 
 pub exports_cause : {X S : Type 0} (r : ClassReadings S) (d : SymbolInput) (grids : List Grid) (s : S) (result : Result X DecodeError) → IfErr result (λ e. (e ≡ errors.OutOfMemory) ⊎ (exports r d grids s ≡ Err e))
     → HasCauseOrNoMemory result (BreaksExports r d grids s)

@@ -4,7 +4,7 @@ use Rattle.std.specs.Prelude.{◌≡◌, ◌≢◌, ◌⊎◌, ◌<◌, ◌≤�
 use Rattle.std.specs.Prelude.{IsFalse, if◌then◌else◌, List, [], ◌∷◌, length, take, Option, Some, None, Result, Ok, ℤ}
 use Rattle.std.specs.Prelude.{pos, negsuc, ◌+ℤ◌}
 use Rattle.std.specs.Int.{w16, w32}
-use Rattle.jbig2_base.specs.Bits.{Place, aligned, bits_left}
+use Rattle.jbig2_base.specs.Bits.{Place, byte_boundary, bits_left}
 use Rattle.jbig2_base.specs.Causes.{BreaksSides, InSteps, IsOf, number_in}
 use Rattle.jbig2_base.specs.Grid.{Grid, bit_number, blank, max_side}
 use Rattle.jbig2_base.specs.declared.error.DecodeError.{DecodeError}
@@ -24,7 +24,7 @@ use Rattle.jbig2_text.specs.Causes.{prefix_causes}
 use Rattle.jbig2_text.specs.Refining.{Refining}
 use Rattle.jbig2_text.specs.Text.{Readings, TextParams}
 use Rattle.jbig2_text.specs.TextCoding.{Coded, Prefixed, by_coder, by_prefix_codes, next_id}
-use Rattle.jbig2_symbol.specs.Symbols.{export_runs, exported, next_run}
+use Rattle.jbig2_symbol.specs.Symbols.{export_runs, exported_grids, next_run}
 use Rattle.jbig2_symbol.specs.SymbolBitmaps.{aggregate_params, id_bits, instance_count, plain_id, prefixed_at}
 use Rattle.jbig2_symbol.specs.SymbolBitmaps.{raw_stride}
 use Rattle.jbig2_symbol.specs.SymbolHeader.{SymbolHeader, max_empty, max_new_symbols}
@@ -100,7 +100,7 @@ BreaksRunAfter {S} (run ∷ runs) r d empty left s e =
 abbrev pub BreaksExports : {S : Type 0} → ClassReadings S → SymbolInput → List Grid → S → DecodeError → Type 0
 BreaksExports r d grids s e =
     InSteps (export_runs r d (length grids) s) ((before : List ℕ) × BreaksRunAfter before r d 0 (length grids) s e)
-    (λ (runs, _). (e ≡ errors.Symbol NoSymbols) × (length (exported runs grids) ≢ d.header.num_exported_symbols))
+    (λ (runs, _). (e ≡ errors.Symbol NoSymbols) × (length (exported_grids runs grids) ≢ d.header.num_exported_symbols))
 
 abbrev pub IsNoSize : ℤ → Type 0  -- a number that isn't an unsigned number of 32 bits
 IsNoSize (pos n) = 4294967296 ≤ n
@@ -166,7 +166,7 @@ BreaksSized strict width height (Some (pos size)) bytes _ = ⊥
 abbrev pub BreaksCollectiveBitmap : SymbolInput → ℕ → ℕ → SymbolState Place → DecodeError → Type 0
 BreaksCollectiveBitmap d width height s e =
     InSteps (by_table d.tables.sizes s) (IsOf (by_table d.tables.sizes s) e) (λ (value, after_value).
-    BreaksSized d.header.strict width height value (aligned after_value.coding).bytes e)
+    BreaksSized d.header.strict width height value (byte_boundary after_value.coding).bytes e)
 
 -- A class that is too high for its symbols: its collective bitmap is refused, or else the first symbol cut from it.
 abbrev pub BreaksTallClass : SymbolInput → ℕ → ℕ → SymbolState Place → DecodeError → Type 0

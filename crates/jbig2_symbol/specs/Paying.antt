@@ -3,7 +3,7 @@
 -- dictionary is decoded. Everything else is paid for as it comes: height classes, runs of exports, and each bitmap
 -- before it is decoded or copied.
 use Rattle.std.specs.Prelude.{ℕ, ◌+◌, ◌*◌, ◌≤◌}
-use Rattle.jbig2_steps.specs.Work.{worth}
+use Rattle.jbig2_steps.specs.Work.{budget}
 use Rattle.jbig2_steps.specs.declared.work.Work.{Work}
 use Rattle.jbig2_text.specs.Paying.{number_steps}
 
@@ -11,7 +11,7 @@ use Rattle.jbig2_text.specs.Paying.{number_steps}
 -- else is paid for.
 abbrev pub PaidButSymbols : {L : Type 0} → ℕ → ℕ → ℕ → Work L → Work L → Type 0
 PaidButSymbols before after more old new =
-    worth new + number_steps (5 * before) ≤ worth old + number_steps (5 * after + more)
+    budget new + number_steps (5 * before) ≤ budget old + number_steps (5 * after + more)
 
 -- the same, where there are at most `most` symbols
 pub record PaysSymbols {L : Type 0} (before after most more : ℕ) (old new : Work L) : Type 0 where

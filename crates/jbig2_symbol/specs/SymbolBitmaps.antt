@@ -4,7 +4,7 @@ use Rattle.std.specs.Prelude.{ℕ, suc, ◌+◌, ◌==◌, max, true, false, ◌
 use Rattle.std.specs.Prelude.{Some, None, Result, Ok, Err, ℤ, pos, ◌-◌, ◌*◌, ◌/◌, ◌%◌, nat_lt, Bool, ◌||◌, [], ◌∷◌}
 use Rattle.std.specs.Prelude.{slice_index_or}
 use Rattle.jbig2_base.specs.Results.{◌>>=◌, refuse_if}
-use Rattle.jbig2_base.specs.Bits.{Place, aligned, start_of, bit}
+use Rattle.jbig2_base.specs.Bits.{Place, byte_boundary, start_of, bit}
 use Rattle.jbig2_base.specs.Fields.{end_of_bytes, bytes_at}
 use Rattle.jbig2_base.specs.Grid.{Grid, blank, grid_of, part_or_overflow, wide_or_overflow, check_sides}
 use Rattle.jbig2_base.specs.Search.{code_length}
@@ -179,7 +179,7 @@ collective_bitmap d width height s = do
   (value, after_value) ← by_table d.tables.sizes s
   number ← in_band (Huffman huffman.UnexpectedOob) value
   size ← not_negative (Overflow BitmapDimension) number
-  (collective, rest) ← rows_of_size d.header.strict size width height (aligned after_value.coding).bytes
+  (collective, rest) ← rows_of_size d.header.strict size width height (byte_boundary after_value.coding).bytes
   Ok (collective, record after_value { coding = start_of rest })
 
 -- this many columns of a collective bitmap, from column `from` on

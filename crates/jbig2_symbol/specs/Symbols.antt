@@ -32,8 +32,8 @@ exported_from runs from (g ∷ grids) =
     if ended_runs 0 runs from % 2 == 1 then g ∷ exported_from runs (from + 1) grids
     else exported_from runs (from + 1) grids
 
-abbrev pub exported : List ℕ → List Grid → List Grid
-exported runs grids = exported_from runs 0 grids
+abbrev pub exported_grids : List ℕ → List Grid → List Grid
+exported_grids runs grids = exported_from runs 0 grids
 
 module _ {S : Type 0} (r : ClassReadings S) (d : SymbolInput) where
   -- A run, where `left` symbols are not covered yet and `empty` runs of length 0 came before. At most 2^20 runs may be
@@ -64,8 +64,8 @@ module _ {S : Type 0} (r : ClassReadings S) (d : SymbolInput) where
   unfoldable pub exports : List Grid → S → Result (List Grid × S) DecodeError
   exports grids s = do
     (runs, after) ← export_runs (length grids) s
-    right ← refuse_if (not (length (exported runs grids) == d.header.num_exported_symbols)) (Symbol NoSymbols)
-    Ok (exported runs grids, after)
+    right ← refuse_if (not (length (exported_grids runs grids) == d.header.num_exported_symbols)) (Symbol NoSymbols)
+    Ok (exported_grids runs grids, after)
 
   abbrev pub symbols_exported : S → Result (List Grid × S) DecodeError
   symbols_exported s = new_symbols r d s >>= λ (new, after). exports (d.symbols ++ new) after
@@ -77,15 +77,15 @@ pub record Symbols : Type 0 where  -- a dictionary: the symbols that it exports,
 
 -- the dictionary, with the contexts at its end, which it keeps if the header says so
 abbrev pub dictionary_of : SymbolHeader → List Grid → SymbolContexts → Symbols
-dictionary_of h exported contexts = record {
-  exported = exported;
+dictionary_of h grids contexts = record {
+  exported = grids;
   kept = (if h.flags.bitmap_context_retained then Some (bitmap_contexts contexts) else None);
 }
 
 abbrev pub dictionary_by : {C : Type 0} → ClassReadings (SymbolState C) → SymbolInput → SymbolState C
     → Result Symbols DecodeError
 dictionary_by r d s =
-    symbols_exported r d s >>= λ (exported, after). Ok (dictionary_of d.header exported after.contexts)
+    symbols_exported r d s >>= λ (grids, after). Ok (dictionary_of d.header grids after.contexts)
 
 -- by the coding that the header names (SDHUFF), beginning with these contexts
 abbrev pub dictionary_from : SymbolInput → BitmapContexts → Result Symbols DecodeError

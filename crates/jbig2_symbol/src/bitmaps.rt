@@ -5,7 +5,7 @@ ghost use Rattle.jbig2_base.specs.Bits.{start_of};
 ghost use Rattle.jbig2_base.specs.Results.{Returns, Gives};
 ghost use Rattle.jbig2_base.specs.Counts.{WritesWithin};
 ghost use Rattle.jbig2_base.specs.Grid.{blank, wide_or_overflow};
-ghost use Rattle.jbig2_base.specs.inner.Filled.{filled};
+ghost use Rattle.jbig2_base.specs.inner.GridsBefore.{grid_before};
 ghost use Rattle.jbig2_steps.specs.Work.{Paid, price_of_bitmap};
 ghost use Rattle.jbig2_symbol.specs.SymbolBitmaps.{symbols_cut, raw_pixel, raw_stride, raw_rows, mmr_bytes, rows_of_size};
 ghost use Rattle.jbig2_symbol.specs.inner.SymbolViews.{bytes_of_rows, symbols_after, with_no_value};
@@ -30,9 +30,9 @@ fn fill_row<A: Allocator, L: Ledger>(
 )
     requires row { y < bitmap.old.height }
     requires sized { length bytes.now ≡ bitmap.old.height * raw_stride bitmap.old.width }
-    requires above { bitmap.old ≡ filled bitmap.old.width bitmap.old.height
+    requires above { bitmap.old ≡ grid_before bitmap.old.width bitmap.old.height
         (raw_pixel bytes.now (raw_stride bitmap.old.width)) y 0 }
-    ensures value { bitmap.new ≡ filled bitmap.old.width bitmap.old.height
+    ensures value { bitmap.new ≡ grid_before bitmap.old.width bitmap.old.height
         (raw_pixel bytes.now (raw_stride bitmap.old.width)) (y + 1) 0 }
     ensures steps { let words = (bitmap.old.width + 7) / 8 in
         WritesWithin words steps.old steps.new }

@@ -1,13 +1,13 @@
 //! The symbols that a dictionary exports (T.88, 6.5.10).
-ghost use Rattle.std.specs.Prelude.{◌≡◌, ◌+◌, ◌*◌, ◌<◌, ◌≤◌, ◌++◌, IfOk, length, sum, take, drop, slice_index_or, false, Ok};
+ghost use Rattle.std.specs.Prelude.{◌≡◌, ◌+◌, ◌*◌, ◌^◌, ◌<◌, ◌≤◌, ◌++◌, IfOk, length, sum, take, drop, slice_index_or, false, Ok};
 ghost use Rattle.jbig2_base.specs.Results.{Returns, Gives};
 ghost use Rattle.jbig2_base.specs.Grid.{blank};
 ghost use Rattle.jbig2_base.specs.Causes.{HasCauseOrNoMemory};
 ghost use Rattle.jbig2_steps.specs.Work.{Paid, PaidBut};
 ghost use Rattle.jbig2_text.specs.Paying.{number_steps};
-ghost use Rattle.jbig2_symbol.specs.SymbolHeader.{max_empty};
+ghost use Rattle.jbig2_symbol.specs.SymbolHeader.{max_empty, max_new_symbols};
 ghost use Rattle.jbig2_symbol.specs.Causes.{BreaksExports};
-ghost use Rattle.jbig2_symbol.specs.Symbols.{export_runs, exported, exports, next_run};
+ghost use Rattle.jbig2_symbol.specs.Symbols.{export_runs, exported_grids, exports, next_run};
 ghost use Rattle.jbig2_symbol.specs.inner.JoinedRuns.{joined_runs};
 ghost use Rattle.jbig2_symbol.specs.inner.SymbolViews.{all_symbols, input_view};
 
@@ -66,7 +66,7 @@ pub fn read_runs<R: ReadClasses<A>, M: Allocator, A: Allocator + Clone, L: Ledge
     readings: &mut R,
     work: &mut Work<L>,
 ) -> Result<Vec<u64, M>>
-    requires { count ≤ 9223372036855824384 }
+    requires { count ≤ 2 ^ 63 + max_new_symbols }
     ensures value { let d = input_view input.now in
         let meant = joined_runs (export_runs R.readings d count (R.state readings.old)) in
         Gives (λ runs. (runs.items, R.state readings.new)) result meant }
@@ -173,7 +173,7 @@ pub fn export_symbols<A: Allocator + Clone, S: Allocator, L: Ledger>(
     work: &mut Work<L>,
 ) -> Result<Vec<Bitmap<A>, A>>
     requires { sum runs.now ≡ length symbols.now + length new.now }
-    ensures value { let meant = Ok (exported runs.now (all_symbols symbols.now new.now)) in
+    ensures value { let meant = Ok (exported_grids runs.now (all_symbols symbols.now new.now)) in
         Gives (λ symbols. symbols.items) result meant }
     ensures paid { Paid work.old work.new }
 {
@@ -203,7 +203,7 @@ fn take_exports<A: Allocator + Clone, S: Allocator, L: Ledger>(
     work: &mut Work<L>,
 ) -> Result<Vec<Bitmap<A>, A>>
     requires { sum runs.now ≡ length symbols.now + length new.items }
-    ensures value { let meant = Ok (exported runs.now (all_symbols symbols.now new.items)) in
+    ensures value { let meant = Ok (exported_grids runs.now (all_symbols symbols.now new.items)) in
         Gives (λ symbols. symbols.items) result meant }
     ensures paid { Paid work.old work.new }
 {

@@ -2,7 +2,7 @@
 ghost use Rattle.std.specs.Prelude.{◌≡◌, ◌/◌, ◌%◌, ◌≤◌, IfOk, OnErr, OnOk};
 ghost use Rattle.jbig2_base.specs.Bits.{start_of};
 ghost use Rattle.jbig2_base.specs.Results.{Returns};
-ghost use Rattle.jbig2_region.specs.inner.PixelArrays.{filled};
+ghost use Rattle.jbig2_region.specs.inner.PixelArrays.{pixel_array};
 ghost use Rattle.jbig2_text.specs.inner.TextViews.{some_pixels};
 ghost use Rattle.jbig2_symbol.specs.SymbolHeader.{selection_of, other_selection_of, symbol_flags_of, coded_pixels_at, refined_pixels_at, symbol_header_at, max_new_symbols};
 ghost use Rattle.jbig2_symbol.specs.declared.header.HuffmanTableSelection.TheVariants.{TableB2, TableB3, TableB4, TableB5};
@@ -73,7 +73,7 @@ impl SymbolDictionaryHeader<'_> {
     /// others, which no template uses.
     #[tactic(auto, using(crate::proofs::UsedPixels::first_filled, crate::proofs::UsedPixels::four_filled))]
     pub(crate) fn symbol_pixels(&self) -> [AdaptiveTemplatePixel; 4]
-        ensures { result ≡ filled 4 (header_view self.now).adaptive_template_pixels }
+        ensures { result ≡ pixel_array 4 (header_view self.now).adaptive_template_pixels }
     {
         let unused = AdaptiveTemplatePixel { x: 0, y: 0 };
         let pixels = &self.adaptive_template_pixels;
@@ -161,7 +161,8 @@ fn parse_coded_pixels(
 ) -> Result<[AdaptiveTemplatePixel; 4]>
     ensures value { let meant = coded_pixels_at flags.now reader.old.bytes in
         Returns (λ pixels. (coded_pixels flags.now pixels, reader.new.bytes)) result meant }
-    ensures unused { IfOk result (λ pixels. pixels ≡ filled 4 (coded_pixels flags.now pixels)) }
+    ensures unused { IfOk result
+        (λ pixels. pixels ≡ pixel_array 4 (coded_pixels flags.now pixels)) }
 {
     if flags.use_huffman {
         return Ok([AdaptiveTemplatePixel { x: 0, y: 0 }; 4]);
@@ -176,7 +177,8 @@ fn parse_refined_pixels(
 ) -> Result<[AdaptiveTemplatePixel; 2]>
     ensures value { let meant = refined_pixels_at flags.now reader.old.bytes in
         Returns (λ pixels. (refined_pixels flags.now pixels, reader.new.bytes)) result meant }
-    ensures unused { IfOk result (λ pixels. pixels ≡ filled 2 (refined_pixels flags.now pixels)) }
+    ensures unused { IfOk result
+        (λ pixels. pixels ≡ pixel_array 2 (refined_pixels flags.now pixels)) }
 {
     if !flags.use_refagg {
         return Ok([AdaptiveTemplatePixel { x: 0, y: 0 }; 2]);
@@ -199,9 +201,9 @@ pub fn parse<'a>(reader: &mut Reader<'a>, strict: bool) -> Result<SymbolDictiona
     ensures exported { IfOk result (λ h. h.num_exported_symbols ≤ max_new_symbols) }
     ensures fresh { IfOk result (λ h. h.num_new_symbols ≤ max_new_symbols) }
     ensures unused { IfOk result (λ h. h.adaptive_template_pixels
-        ≡ filled 4 (header_view h).adaptive_template_pixels) }
+        ≡ pixel_array 4 (header_view h).adaptive_template_pixels) }
     ensures unrefined { IfOk result (λ h. h.refinement_at_pixels
-        ≡ filled 2 (header_view h).refinement_at_pixels) }
+        ≡ pixel_array 2 (header_view h).refinement_at_pixels) }
     ensures place { OnOk result (reader.new ≡ start_of reader.new.bytes) }
     ensures stays { OnErr result (reader.new ≡ reader.old) }
     ensures causes { HasCause result (BreaksSymbolHeader reader.old.bytes) }

@@ -13,7 +13,7 @@ use Rattle.jbig2_coder.specs.Causes.{AreCrowded}
 use Rattle.jbig2_coder.specs.PrefixCode.{Member, decoded_value, no_oob, table_of}
 use Rattle.jbig2_coder.proofs.Causes.{table-cause}
 use Rattle.jbig2_text.specs.Causes.{After, BreaksRun, BreaksSymbolCodes, RefusesNumber}
-use Rattle.jbig2_text.specs.SymbolCodes.{invalid_code, lines_from, next_runcode, repeated, run_at, runcodes_at, runs_at, short_lengths, symbol_codes_at, symbol_codes_from, symbol_lengths_at, value_at}
+use Rattle.jbig2_text.specs.SymbolCodes.{invalid_code, lines_from, next_runcode, with_last_repeated, run_at, runcodes_at, runs_at, short_lengths, symbol_codes_at, symbol_codes_from, symbol_lengths_at, value_at}
 use Rattle.jbig2_region.proofs.ResultCauses.{cause-if, cause-last, result-of, result-next, result-refused}
 use Rattle.jbig2_base.specs.Causes.{HasCauseOrNoMemory}
 use Rattle.jbig2_base.proofs.CauseSteps.{call-cause-or-memory}
@@ -63,7 +63,7 @@ cause-run P (pos code) so_far p why =
     cause-if P (ltb code 32) _ _ (λ short. tt) (λ long.
     cause-if P (eqb code 32) _ _ (λ at_last.
     cause-next P (bits_at invalid_code 2 p) _ (cause-bits P invalid_code 2 p (λ short. why (inl (eqb-true code 32 at_last, inl short)))) (λ n n_is.
-    cause-next P (repeated so_far (n.0 + 3)) _ (cause-next P (some_or invalid_code (slice_get so_far (length so_far - 1))) _ (cause-last_length P so_far (λ none. why (inl (eqb-true code 32 at_last, inr none)))) (λ len is. tt)) (λ lens is. tt))) (λ other.
+    cause-next P (with_last_repeated so_far (n.0 + 3)) _ (cause-next P (some_or invalid_code (slice_get so_far (length so_far - 1))) _ (cause-last_length P so_far (λ none. why (inl (eqb-true code 32 at_last, inr none)))) (λ len is. tt)) (λ lens is. tt))) (λ other.
     cause-if P (eqb code 33) _ _ (λ at_zeros.
     cause-next P (bits_at invalid_code 3 p) _ (cause-bits P invalid_code 3 p (λ short. why (inr (inl (eqb-true code 33 at_zeros, short))))) (λ n n_is. tt)) (λ more.
     cause-next P (bits_at invalid_code 7 p) _ (cause-bits P invalid_code 7 p (λ short. why (inr (inr (above code long other more, short))))) (λ n n_is. tt))))

@@ -3,7 +3,7 @@ use Rattle.std.proofs.Common.{◌≡◌, ◌⊎◌, inl, inr, ℕ, zero, suc, �
 use Rattle.std.specs.Prelude.{IfErr, ◌-ℤ◌}
 use Rattle.std.proofs.lemmas.Bool.{cond-true, eqb-false, eqb-true, lt-ltb, ltb-true}
 use Rattle.jbig2_base.specs.Results.{◌>>=◌, refuse_if}
-use Rattle.jbig2_base.specs.Bits.{Place, aligned, bits_left}
+use Rattle.jbig2_base.specs.Bits.{Place, byte_boundary, bits_left}
 use Rattle.jbig2_base.specs.Fields.{bytes_at, end_of_bytes}
 use Rattle.jbig2_base.specs.Grid.{Grid}
 use Rattle.jbig2_base.specs.declared.error.DecodeError.{DecodeError}
@@ -21,7 +21,7 @@ use Rattle.jbig2_text.specs.Causes.{After, RefusesNumber, BreaksInstance, Breaks
 use Rattle.jbig2_text.specs.Refining.{Refining}
 use Rattle.jbig2_text.specs.Text.{Reached, Readings, TextParams, after_instances, coordinate, next_cursor, strip_start, strip_delta, text_region, with_instance}
 use Rattle.jbig2_text.specs.declared.cursor.Cursor.{Cursor}
-use Rattle.jbig2_text.specs.inner.FunctionResults.{end_of_strip, reached, some_strips, strips, table_of_size}
+use Rattle.jbig2_text.specs.inner.FunctionResults.{end_of_strip, reaching, some_strips, strips, table_of_size}
 use Rattle.jbig2_text.specs.TextCoding.{Coded, Prefixed, by_coder, by_prefix_codes, in_band, next_integer, number_by_coder, prefixed_refined, prefixed_value, sized_bytes}
 use Rattle.jbig2_text.specs.TextHeader.{ArithmeticCoding, HuffmanCoding, NumberCoding, TextHeader}
 use Rattle.jbig2_text.specs.TextRegion.{blank_region, coder_of, one_of_three, one_of_two, prefix_codes_of, refining_of, region_by, region_from, text_result, text_params, text_tables}
@@ -66,7 +66,7 @@ all_instance_causes c r a p region f s =
     (cause-if P (eqb p.count 0) _ (some_strips r p region (pos 0 -ℤ dt.0) f dt.1) (λ none. tt) (λ some.
     cause-next P (strip_start r p.flags (pos 0 -ℤ dt.0) (pos 0) dt.1) _
     (cause-more (BreaksStrip c r p.flags (pos 0 -ℤ dt.0) (pos 0) dt.1) P (strip_start r p.flags (pos 0 -ℤ dt.0) (pos 0) dt.1) (cause-strip c r a p.flags (pos 0 -ℤ dt.0) (pos 0) dt.1) (λ e broken. inr (inr (inr (inr (inl (dt, dt_is, broken))))))) (λ at at_is.
-    let first = reached region at.0 f at.1 in
+    let first = reaching region at.0 f at.1 in
     cause-next P (after_instances r p (p.count - 1) first) _
     (cause-after c r a p P (p.count - 1) first (λ k below e there. inr (inr (inr (inr (inr (inl (k, omega (arith, below), (dt, dt_is, (at, at_is, there)))))))))) (λ x x_is.
     cause-next P (with_instance r p x) _
@@ -175,7 +175,7 @@ cause-prefixed table s =
     cause-next P (value_at table s.place) _ (cause-value P table s.place (λ e no. no)) (λ n is. tt)
 
 cause-bytes_of : (size : ℤ) (p : Place) → IfErr (sized_bytes size p) (LacksBytes size p)
-cause-bytes_of (pos size) p = cause-next (LacksBytes (pos size) p) (bytes_at size (aligned p).bytes) _ (cause-bytes (LacksBytes (pos size) p) size (aligned p).bytes (λ short. (refl, short))) (λ coded is. tt)
+cause-bytes_of (pos size) p = cause-next (LacksBytes (pos size) p) (bytes_at size (byte_boundary p).bytes) _ (cause-bytes (LacksBytes (pos size) p) size (byte_boundary p).bytes (λ short. (refl, short))) (λ coded is. tt)
 cause-bytes_of (negsuc size) p = refl
 
 cause-refined_there : (from : Reference) (width height : ℕ) (f : Refining) (s : Prefixed) → IfErr (prefixed_refined from width height f s) (prefix_causes.refined s)

@@ -8,7 +8,7 @@ use Rattle.jbig2_base.specs.declared.error.DecodeError.TheVariants.{OutOfMemory,
 use Rattle.jbig2_base.specs.declared.error.SymbolError.TheVariants.{TooManyInstances}
 use Rattle.jbig2_text.specs.Refining.{Refining}
 use Rattle.jbig2_text.specs.Text.{Readings, Reached, TextParams, after_instances, coordinate, next_cursor, strip_start, strip_delta, text_region, with_instance}
-use Rattle.jbig2_text.specs.inner.FunctionResults.{reached, some_strips, strips, with_last, with_next_instance}
+use Rattle.jbig2_text.specs.inner.FunctionResults.{reaching, some_strips, strips, with_last, with_next_instance}
 use Rattle.jbig2_text.specs.declared.cursor.Cursor.{Cursor}
 
 -- the next step's next step
@@ -23,8 +23,8 @@ ap-next (Err e) same = refl
 inner-step : {S : Type 0} (r : Readings S) (p : TextParams) (n : ℕ) (x : Reached S) → after_instances r p (suc n) x ≡ (with_next_instance r p x >>= λ y. after_instances r p n y)
 unfolding after_instances
 inner-step {S} r p n x =
-    ap-next (with_instance r p x) (λ y. next-next (next_cursor r p.flags y.cursor y.state) (λ c. Ok (reached y.region c.0 y.refining c.1)) (λ z. after_instances r p n z))
-    ∙ next-next (with_instance r p x) (λ y. next_cursor r p.flags y.cursor y.state >>= λ c. Ok (reached y.region c.0 y.refining c.1)) (λ z. after_instances r p n z)
+    ap-next (with_instance r p x) (λ y. next-next (next_cursor r p.flags y.cursor y.state) (λ c. Ok (reaching y.region c.0 y.refining c.1)) (λ z. after_instances r p n z))
+    ∙ next-next (with_instance r p x) (λ y. next_cursor r p.flags y.cursor y.state >>= λ c. Ok (reaching y.region c.0 y.refining c.1)) (λ z. after_instances r p n z)
 
 pub inner-next : {S : Type 0} (r : Readings S) (p : TextParams) (n k : ℕ) (x y : Reached S) (whole : Result (Reached S) DecodeError) → k < n → after_instances r p (n - k) x ≡ whole → with_next_instance r p x ≡ Ok y → after_instances r p (n - (k + 1)) y ≡ whole
 inner-next {S} r p n k x y whole below goes read =
@@ -44,14 +44,14 @@ inner-done r p n k x whole done goes =
     sym goes ∙ ap (λ m. after_instances r p m x) e
 
 -- the strips, where the first one begins here
-pub begun-is : {S : Type 0} (r : Readings S) (p : TextParams) (region : Grid) (t : ℤ) (f : Refining) (s next : S) (c : Cursor) → strip_start r p.flags t (pos 0) s ≡ Ok (c, next) → some_strips r p region t f s ≡ (after_instances r p (p.count - 1) (reached region c f next) >>= λ x. with_last r p x)
-begun-is {S} r p region t f s next c begun =
-    ap (λ (z : Result (Cursor × S) DecodeError). z >>= λ y. after_instances r p (p.count - 1) (reached region y.0 f y.1) >>= λ x. with_last r p x) begun
+pub opening-is : {S : Type 0} (r : Readings S) (p : TextParams) (region : Grid) (t : ℤ) (f : Refining) (s next : S) (c : Cursor) → strip_start r p.flags t (pos 0) s ≡ Ok (c, next) → some_strips r p region t f s ≡ (after_instances r p (p.count - 1) (reaching region c f next) >>= λ x. with_last r p x)
+opening-is {S} r p region t f s next c opening =
+    ap (λ (z : Result (Cursor × S) DecodeError). z >>= λ y. after_instances r p (p.count - 1) (reaching region y.0 f y.1) >>= λ x. with_last r p x) opening
 
 -- the strips that there are, and where they begin
 pub region-strips : {S : Type 0} (r : Readings S) (p : TextParams) (region : Grid) (f : Refining) (s next : S) (delta stript : ℤ) → nat_lt (32 * p.data_length) p.count ≡ false → strip_delta r p.flags s ≡ Ok (delta, next) → coordinate (pos 0 -ℤ delta) ≡ Ok stript → text_region r p region f s ≡ strips r p region stript f next
 unfolding text_region
-region-strips {S} r p region f s next delta stript few begun start =
+region-strips {S} r p region f s next delta stript few opening start =
     ap (λ (b : Bool). refuse_if b (Symbol TooManyInstances) >>= λ few. strip_delta r p.flags s >>= λ dt. coordinate (pos 0 -ℤ dt.0) >>= λ t. strips r p region t f dt.1) few
-    ∙ ap (λ (z : Result (ℤ × S) DecodeError). z >>= λ dt. coordinate (pos 0 -ℤ dt.0) >>= λ t. strips r p region t f dt.1) begun
+    ∙ ap (λ (z : Result (ℤ × S) DecodeError). z >>= λ dt. coordinate (pos 0 -ℤ dt.0) >>= λ t. strips r p region t f dt.1) opening
     ∙ ap (λ (z : Result ℤ DecodeError). z >>= λ t. strips r p region t f next) start

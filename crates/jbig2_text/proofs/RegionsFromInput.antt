@@ -11,7 +11,7 @@ use Rattle.jbig2_region.proofs.FromInput.{from_input-region_info, from_input-ref
 use Rattle.jbig2_region.specs.Refinement.{Reference}
 use Rattle.jbig2_text.specs.SymbolCodes.{value_at}
 use Rattle.jbig2_text.specs.Refining.{Refining}
-use Rattle.jbig2_text.specs.SymbolCodes.{next_runcode, repeated, run_at, runcodes_at, runs_at, short_lengths, symbol_codes_from, symbol_lengths_at}
+use Rattle.jbig2_text.specs.SymbolCodes.{next_runcode, with_last_repeated, run_at, runcodes_at, runs_at, short_lengths, symbol_codes_from, symbol_lengths_at}
 use Rattle.jbig2_text.specs.Text.{Readings}
 use Rattle.jbig2_text.specs.TextCoding.{Coded, Prefixed, by_coder, by_prefix_codes, in_band, number_by_coder, prefixed_bits, prefixed_refined, prefixed_value, sized_bytes}
 use Rattle.jbig2_text.specs.TextHeader.{ArithmeticCoding, HuffmanCoding, NumberCoding, TextHeader, coding_at, table_numbers_at, text_fields_at, text_flags_at, text_header_at}
@@ -35,7 +35,7 @@ from_input-short (suc count) so_far p =
     let others = from_input-short count in
     search (from_input-next, from_input-bits, others)
 
-from_input-repeated : (so_far : List ℕ) (count : ℕ) → FromInput (repeated so_far count)
+from_input-repeated : (so_far : List ℕ) (count : ℕ) → FromInput (with_last_repeated so_far count)
 from_input-repeated so_far count = search (from_input-next, from_input-some)
 
 from_input-run : (code : ℤ) (so_far : List ℕ) (p : Place) → FromInput (run_at code so_far p)

@@ -5,7 +5,7 @@ use Rattle.std.specs.Prelude.{◌≡◌, ◌<◌, ◌⊎◌, ℕ, ◌+◌, ◌/�
 use Rattle.std.specs.Prelude.{Result, Ok, Err, IfErr, ℤ, pos, negsuc, ◌≤◌, ◌-◌, ◌*◌, ◌^◌, true, false, ◌+ℤ◌, ◌-ℤ◌, ◌*ℤ◌}
 use Rattle.std.specs.Prelude.{Option, Some, None, ◌≢◌, nat_lt}
 use Rattle.std.specs.Int.{w8, w16, int_shr}
-use Rattle.jbig2_base.specs.Bits.{Place, bits_left, start_of, aligned}
+use Rattle.jbig2_base.specs.Bits.{Place, bits_left, start_of, byte_boundary}
 use Rattle.jbig2_base.specs.Causes.{number_in}
 use Rattle.jbig2_base.specs.declared.error.DecodeError.{DecodeError}
 use Rattle.jbig2_base.specs.declared.error.DecodeError.TheVariants.{Huffman, Parse, Region, Unsupported, Overflow}
@@ -276,7 +276,7 @@ LacksBits error count s e = (e ≡ error) × (length (bits_left s.place) < count
 
 -- fewer bytes than the size are left, from the next whole one on; or the size is negative
 abbrev pub LacksBytes : ℤ → Place → DecodeError → Type 0
-LacksBytes (pos size) p e = (e ≡ Parse UnexpectedEof) × (length (aligned p).bytes < size)
+LacksBytes (pos size) p e = (e ≡ Parse UnexpectedEof) × (length (byte_boundary p).bytes < size)
 LacksBytes (negsuc size) p e = e ≡ Parse UnexpectedEof
 
 -- for a refined symbol: the size of its bytes is refused, or bytes are missing

@@ -3,7 +3,7 @@
 use Rattle.std.specs.Prelude.{ℕ, zero, suc, ◌+◌, ◌-◌, nat_lt, ◌==◌, List, [], ◌∷◌, ◌++◌, length, replicate, slice_get}
 use Rattle.std.specs.Prelude.{Result, Ok, Err, ℤ, pos, negsuc, if◌then◌else◌}
 use Rattle.jbig2_base.specs.Results.{◌>>=◌, refuse_if, some_or}
-use Rattle.jbig2_base.specs.Bits.{Place, aligned, bits_left, bits_on, start_of}
+use Rattle.jbig2_base.specs.Bits.{Place, byte_boundary, bits_left, bits_on, start_of}
 use Rattle.jbig2_base.specs.Fields.{bits_at}
 use Rattle.jbig2_base.specs.declared.error.DecodeError.{DecodeError}
 use Rattle.jbig2_base.specs.declared.error.DecodeError.TheVariants.{Huffman}
@@ -34,8 +34,9 @@ short_lengths zero so_far p = Ok (so_far, p)
 short_lengths (suc count) so_far p =
     bits_at invalid_code 4 p >>= λ (len, rest). short_lengths count (so_far ++ len ∷ []) rest
 
-abbrev pub repeated : List ℕ → ℕ → Result (List ℕ) DecodeError  -- with the last length repeated this many more times
-repeated so_far count =
+-- with the last length repeated this many more times
+abbrev pub with_last_repeated : List ℕ → ℕ → Result (List ℕ) DecodeError
+with_last_repeated so_far count =
     some_or invalid_code (slice_get so_far (length so_far - 1)) >>= λ len. Ok (so_far ++ replicate count len)
 
 -- The lengths that a runcode means: itself, or the last length 3 to 6 times, or 3 to 10 or 11 to 138 zeros.
@@ -44,7 +45,7 @@ run_at (negsuc n) so_far p = Err invalid_code
 run_at (pos code) so_far p =
     if nat_lt code 32 then Ok (so_far ++ code ∷ [], p)
     else if code == 32
-    then (bits_at invalid_code 2 p >>= λ (n, rest). repeated so_far (n + 3) >>= λ lens. Ok (lens, rest))
+    then (bits_at invalid_code 2 p >>= λ (n, rest). with_last_repeated so_far (n + 3) >>= λ lens. Ok (lens, rest))
     else if code == 33 then (bits_at invalid_code 3 p >>= λ (n, rest). Ok (so_far ++ replicate (n + 3) 0, rest))
     else (bits_at invalid_code 7 p >>= λ (n, rest). Ok (so_far ++ replicate (n + 11) 0, rest))
 
@@ -79,7 +80,7 @@ symbol_codes_from count p = do
   (runcodes, after_runcodes) ← runcodes_at p
   (lens, rest) ← symbol_lengths_at count runcodes after_runcodes
   codes ← table_of (lines_from 0 lens)
-  Ok (codes, aligned rest)
+  Ok (codes, byte_boundary rest)
 
 abbrev pub symbol_codes_at : ℕ → List ℕ → Result (List Member × List ℕ) DecodeError
 symbol_codes_at count bytes = symbol_codes_from count (start_of bytes) >>= λ (codes, rest). Ok (codes, rest.bytes)

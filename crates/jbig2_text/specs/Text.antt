@@ -6,7 +6,7 @@ use Rattle.std.specs.Prelude.{Result, Ok, Err}
 use Rattle.std.specs.Int.{int_shr}
 use Rattle.std.specs.Option.{is_some}
 use Rattle.jbig2_base.specs.Results.{◌>>=◌, refuse_if, some_or}
-use Rattle.jbig2_base.specs.Combination.{combined}
+use Rattle.jbig2_base.specs.Combination.{combined_grid}
 use Rattle.jbig2_base.specs.Grid.{Grid, check_sides}
 use Rattle.jbig2_base.specs.declared.error.DecodeError.{DecodeError}
 use Rattle.jbig2_base.specs.declared.error.DecodeError.TheVariants.{Overflow, Symbol}
@@ -191,7 +191,7 @@ abbrev pub with_symbol : TextRegionFlags → Grid → Cursor → ℤ → Option 
 with_symbol flags region c ti None = Ok (region, c)
 with_symbol flags region c ti (Some g) = do
   (i, curs) ← symbol_placed flags g c.cur_s ti
-  Ok (combined flags.combination_operator region i.grid i.x i.y, record c { cur_s = curs })
+  Ok (combined_grid flags.combination_operator region i.grid i.x i.y, record c { cur_s = curs })
 
 module _ {S : Type 0} (r : Readings S) (p : TextParams) where
   -- one instance more: TI is STRIPT and CURT, then come ID and IB (steps 3 c iii to x)

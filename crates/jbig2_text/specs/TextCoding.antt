@@ -2,14 +2,14 @@
 -- its integer procedures, and by prefix codes. Symbol dictionaries read with the same states.
 use Rattle.std.specs.Prelude.{ℕ, ◌%◌, ◌^◌, ◌==◌, not, ℤ, pos, negsuc, nat_abs, List, Option, Result, Ok, Err, replicate}
 use Rattle.jbig2_base.specs.Results.{◌>>=◌, some_or}
-use Rattle.jbig2_base.specs.Bits.{Place, aligned, bits_left, bits_on, start_of}
+use Rattle.jbig2_base.specs.Bits.{Place, byte_boundary, bits_left, bits_on, start_of}
 use Rattle.jbig2_base.specs.Fields.{bits_at, bytes_at, end_of_bytes}
 use Rattle.jbig2_base.specs.Grid.{Grid}
 use Rattle.jbig2_base.specs.declared.error.DecodeError.{DecodeError}
 use Rattle.jbig2_base.specs.declared.error.DecodeError.TheVariants.{Symbol}
 use Rattle.jbig2_base.specs.declared.error.SymbolError.TheVariants.{UnexpectedOob}
 use Rattle.jbig2_coder.specs.Coder.{Coder, fresh, initial_registers}
-use Rattle.jbig2_coder.specs.Integers.{Ids, id, value_of_bits, Procedures, asked, fresh_procedures}
+use Rattle.jbig2_coder.specs.Integers.{Ids, id, value_of_bits, Procedures, integer_by, fresh_procedures}
 use Rattle.jbig2_coder.specs.PrefixCode.{Member, decoded_value}
 use Rattle.jbig2_coder.specs.declared.integer_procedures.IntegerProcedure.{IntegerProcedure}
 use Rattle.jbig2_coder.specs.declared.integer_procedures.IntegerProcedure.TheVariants.{Iads, Iadt, Iafs, Iait, Iardh}
@@ -36,14 +36,14 @@ coded_start bytes bits = record {
 -- an integer or out of band (A.2), and the state after it
 abbrev pub next_integer : IntegerProcedure → Coded → Option ℤ × Coded
 next_integer procedure s =
-    let a = asked procedure s.coder s.procedures in
+    let a = integer_by procedure s.coder s.procedures in
     (a.value, record s { coder = a.coder; procedures = a.procedures })
 
 abbrev pub next_id : Coded → ℤ × Coded  -- an id (A.3), and the state after it
 next_id s =
     let r = id s.coder.bytes s.coder.registers s.ids in
-    let behind : Coder = record s.coder { registers = r.registers } in
-    (pos (value_of_bits r.bits), record s { coder = behind; ids = record s.ids { contexts = r.contexts } })
+    let after : Coder = record s.coder { registers = r.registers } in
+    (pos (value_of_bits r.bits), record s { coder = after; ids = record s.ids { contexts = r.contexts } })
 
 -- a number, or this error where it is out of band
 abbrev pub in_band : DecodeError → Option ℤ → Result ℤ DecodeError
@@ -95,7 +95,7 @@ prefixed_bits e count s = bits_at e count s.place >>= λ (n, rest). Ok (n, recor
 
 -- this many bytes from the next whole byte on, and the place after them
 abbrev pub sized_bytes : ℤ → Place → Result (List ℕ × Place) DecodeError
-sized_bytes (pos size) p = bytes_at size (aligned p).bytes >>= λ (coded, rest). Ok (coded, start_of rest)
+sized_bytes (pos size) p = bytes_at size (byte_boundary p).bytes >>= λ (coded, rest). Ok (coded, start_of rest)
 sized_bytes (negsuc size) p = Err end_of_bytes
 
 -- A refined symbol has bytes of its own, and its coder begins there (6.4.11, steps 5 to 7).

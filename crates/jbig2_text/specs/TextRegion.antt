@@ -14,7 +14,7 @@ use Rattle.jbig2_coder.specs.Tables.{next_custom, standard, lines_a, lines_f, li
 use Rattle.jbig2_coder.specs.Tables.{lines_k, lines_l, lines_m, lines_n, lines_o}
 use Rattle.jbig2_region.specs.Raster.{fresh_contexts}
 use Rattle.jbig2_region.specs.RefinementTemplates.{refinement_bits}
-use Rattle.jbig2_region.specs.RegionInfo.{PlacedRegion, placed}
+use Rattle.jbig2_region.specs.RegionInfo.{PlacedRegion, at_location}
 use Rattle.jbig2_text.specs.Refining.{Refining}
 use Rattle.jbig2_text.specs.Text.{Readings, TextParams, text_region}
 use Rattle.jbig2_text.specs.TextCoding.{Coded, Prefixed, TextTables, by_coder, by_prefix_codes, coded_start}
@@ -118,4 +118,4 @@ module _ (h : TextHeader) where
   text_decoded symbols customs = do
     fits ← check_sides h.region_info.width h.region_info.height
     grid ← text_result symbols customs
-    Ok (placed h.region_info grid)
+    Ok (at_location h.region_info grid)

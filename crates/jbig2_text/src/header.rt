@@ -2,7 +2,7 @@
 ghost use Rattle.std.specs.Prelude.{◌≡◌, ◌≤◌, ◌%◌, ◌^◌, IfOk, OnErr, OnOk};
 ghost use Rattle.jbig2_base.specs.Bits.{start_of};
 ghost use Rattle.jbig2_base.specs.Results.{Returns, Gives};
-ghost use Rattle.jbig2_region.specs.inner.PixelArrays.{filled};
+ghost use Rattle.jbig2_region.specs.inner.PixelArrays.{pixel_array};
 ghost use Rattle.jbig2_text.specs.SymbolCodes.{max_symbols};
 ghost use Rattle.jbig2_text.specs.declared.header.TextFields.{TextFields};
 ghost use Rattle.jbig2_text.specs.TextHeader.{corner_of, signed_5, text_flags_at, table_numbers, table_numbers_at, text_fields_at, coding_at, text_header_at};
@@ -193,7 +193,7 @@ fn parse_refinement_pixels(
     ensures value { let meant = text_pixels_at flags.now.use_refinement
         flags.now.refinement_template reader.old.bytes in
         Returns (λ pixels. (text_pixels flags.now pixels, reader.new.bytes)) result meant }
-    ensures unused { IfOk result (λ pixels. pixels ≡ filled 2 (text_pixels flags.now pixels)) }
+    ensures unused { IfOk result (λ pixels. pixels ≡ pixel_array 2 (text_pixels flags.now pixels)) }
 {
     if flags.use_refinement {
         return parse_template_pixels(reader, flags.refinement_template);
@@ -209,7 +209,7 @@ fn parse_fields(reader: &mut Reader<'_>) -> Result<TextFields>
         Returns (λ fields. (fields_view fields, reader.new.bytes)) result meant }
     ensures strips { IfOk result (λ fields. fields.flags.log_strip_size ≤ 3) }
     ensures unused { let used = λ (f : TextFields). text_pixels f.flags f.refinement_at_pixels in
-        IfOk result (λ fields. fields.refinement_at_pixels ≡ filled 2 (used fields)) }
+        IfOk result (λ fields. fields.refinement_at_pixels ≡ pixel_array 2 (used fields)) }
 {
     let (use_huffman, flags) = parse_flags(reader)?;
     let table_numbers = parse_table_numbers(reader, use_huffman)?;
@@ -261,7 +261,7 @@ pub fn parse<'a, A: Allocator + Clone>(
         Gives (λ h. (header_view h, reader.new.bytes)) result meant }
     ensures strips { IfOk result (λ h. h.flags.log_strip_size ≤ 3) }
     ensures unused { IfOk result (λ h. h.refinement_at_pixels
-        ≡ filled 2 (header_view h).refinement_pixels) }
+        ≡ pixel_array 2 (header_view h).refinement_pixels) }
     ensures place { OnOk result (reader.new ≡ start_of reader.new.bytes) }
     ensures stays { OnErr result (reader.new ≡ reader.old) }
     ensures causes { HasCauseOrNoMemory result (BreaksTextHeader num_symbols reader.old.bytes) }

@@ -5,7 +5,7 @@ ghost use Rattle.jbig2_base.specs.Grid.{blank};
 ghost use Rattle.jbig2_steps.specs.Work.{Paid, PaidBut};
 ghost use Rattle.jbig2_text.specs.Paying.{number_steps};
 ghost use Rattle.jbig2_text.specs.Text.{with_symbol, with_instance, after_instances, text_region};
-ghost use Rattle.jbig2_text.specs.inner.FunctionResults.{KeepsSize, reached, some_strips, strips, with_last, with_next_instance};
+ghost use Rattle.jbig2_text.specs.inner.FunctionResults.{KeepsSize, reaching, some_strips, strips, with_last, with_next_instance};
 ghost use Rattle.jbig2_text.specs.inner.TextViews.{params_view, symbol_view};
 
 use crate::cursor::Cursor;
@@ -66,9 +66,9 @@ fn draw_instance<R: ReadInstances, A: Allocator + Clone, L: Ledger>(
     work: &mut Work<L>,
 ) -> Result<Cursor>
     requires { params.now.flags.log_strip_size ≤ 3 }
-    ensures value { let before = reached region.old cursor refining.old (R.state readings.old) in
+    ensures value { let before = reaching region.old cursor refining.old (R.state readings.old) in
         let meant = with_instance R.readings (params_view params.now) before in
-        Gives (λ next. reached region.new next refining.new (R.state readings.new)) result meant }
+        Gives (λ next. reaching region.new next refining.new (R.state readings.new)) result meant }
     ensures size { KeepsSize region.old region.new }
     ensures paid { PaidBut (number_steps 7) work.old work.new }
 {
@@ -90,9 +90,9 @@ fn draw_and_move<R: ReadInstances, A: Allocator + Clone, L: Ledger>(
     work: &mut Work<L>,
 ) -> Result<Cursor>
     requires { params.now.flags.log_strip_size ≤ 3 }
-    ensures value { let before = reached region.old cursor refining.old (R.state readings.old) in
+    ensures value { let before = reaching region.old cursor refining.old (R.state readings.old) in
         let meant = with_next_instance R.readings (params_view params.now) before in
-        Gives (λ next. reached region.new next refining.new (R.state readings.new)) result meant }
+        Gives (λ next. reaching region.new next refining.new (R.state readings.new)) result meant }
     ensures size { KeepsSize region.old region.new }
     ensures paid { PaidBut (number_steps 10) work.old work.new }
 {
@@ -111,9 +111,9 @@ fn draw_inner<R: ReadInstances, A: Allocator + Clone, L: Ledger>(
     work: &mut Work<L>,
 ) -> Result<Cursor>
     requires { params.now.flags.log_strip_size ≤ 3 }
-    ensures value { let before = reached region.old cursor refining.old (R.state readings.old) in
+    ensures value { let before = reaching region.old cursor refining.old (R.state readings.old) in
         let meant = after_instances R.readings (params_view params.now) count before in
-        Gives (λ next. reached region.new next refining.new (R.state readings.new)) result meant }
+        Gives (λ next. reaching region.new next refining.new (R.state readings.new)) result meant }
     ensures size { KeepsSize region.old region.new }
     ensures paid { PaidBut (number_steps (10 * count)) work.old work.new }
 {
@@ -137,7 +137,7 @@ fn draw_last<R: ReadInstances, A: Allocator + Clone, L: Ledger>(
     work: &mut Work<L>,
 ) -> Result<()>
     requires { params.now.flags.log_strip_size ≤ 3 }
-    ensures value { let before = reached region.old cursor refining.old (R.state readings.old) in
+    ensures value { let before = reaching region.old cursor refining.old (R.state readings.old) in
         let meant = with_last R.readings (params_view params.now) before in
         Gives (λ _. (region.new, refining.new, R.state readings.new)) result meant }
     ensures size { KeepsSize region.old region.new }

@@ -3,7 +3,7 @@ ghost use Rattle.std.specs.Prelude.{◌≡◌, ◌+◌, ◌*◌, ◌≤◌, ◌�
 ghost use Rattle.jbig2_base.specs.Results.{Returns, Gives};
 ghost use Rattle.jbig2_base.specs.Grid.{blank, blank_or_overflow, max_side};
 ghost use Rattle.jbig2_base.specs.declared.error.DecodeError.TheVariants.{OutOfMemory};
-ghost use Rattle.jbig2_steps.specs.Work.{Paid, PaidBut, price_of_bitmap, worth};
+ghost use Rattle.jbig2_steps.specs.Work.{Paid, PaidBut, price_of_bitmap, budget};
 ghost use Rattle.jbig2_text.specs.Paying.{number_steps};
 ghost use Rattle.jbig2_text.specs.Text.{refinement_deltas, refined_outline, refined_symbol};
 ghost use Rattle.jbig2_text.specs.inner.TextViews.{list_view};
@@ -92,8 +92,8 @@ pub fn new_symbol<A: Allocator, L: Ledger>(
     ensures white { IfOk result (λ b. b ≡ blank b.width b.height false) }
     ensures paid { Paid work.old work.new }
     ensures taken { IfOk result
-        (λ b. worth work.new + 32 * price_of_bitmap b.width b.height ≤ worth work.old) }
-    ensures untaken { IfErr result (λ e. (e ≡ OutOfMemory) ⊎ (worth work.new ≡ worth work.old)) }
+        (λ b. budget work.new + 32 * price_of_bitmap b.width b.height ≤ budget work.old) }
+    ensures untaken { IfErr result (λ e. (e ≡ OutOfMemory) ⊎ (budget work.new ≡ budget work.old)) }
 {
     check_sides(width, height)?;
     work.pay_bitmap(width, height)?;

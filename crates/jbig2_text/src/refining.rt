@@ -3,7 +3,7 @@ ghost use Rattle.std.specs.Prelude.{◌≡◌, ◌*◌, ◌≤◌, ◌^◌, leng
 ghost use Rattle.jbig2_base.specs.Results.{Gives};
 ghost use Rattle.jbig2_base.specs.Grid.{blank, max_side};
 ghost use Rattle.jbig2_region.specs.RefinementTemplates.{refinement_bits};
-ghost use Rattle.jbig2_region.specs.inner.PixelArrays.{two_pixels, filled};
+ghost use Rattle.jbig2_region.specs.inner.PixelArrays.{two_pixels, pixel_array};
 ghost use Rattle.jbig2_region.specs.inner.RefinementViews.{reference_view};
 ghost use Rattle.jbig2_steps.specs.Work.{PaidBut, price_of_bitmap};
 ghost use Rattle.jbig2_text.specs.Refining.{refined_with};
@@ -149,7 +149,7 @@ impl<A: Allocator> Refining<A> {
 /// The two adaptive pixels. Where there are none, these values are never used.
 #[tactic(auto, using(crate::proofs::RefiningLemmas::two_filled))]
 fn two_of(pixels: Option<[AdaptiveTemplatePixel; 2]>) -> [AdaptiveTemplatePixel; 2]
-    ensures { result ≡ filled 2 (some_pixels pixels) }
+    ensures { result ≡ pixel_array 2 (some_pixels pixels) }
 {
     match pixels {
         Some(pixels) => [pixels[0], pixels[1]],

@@ -3,7 +3,7 @@ ghost use Rattle.std.specs.Prelude.{◌≡◌, ◌≤◌, ◌^◌, ◌++◌, [],
 ghost use Rattle.jbig2_base.specs.Results.{Gives};
 ghost use Rattle.jbig2_base.specs.Bits.{start_of};
 ghost use Rattle.jbig2_coder.specs.PrefixCode.{AreShort, table_of};
-ghost use Rattle.jbig2_text.specs.SymbolCodes.{invalid_code, lines_from, short_lengths, repeated, run_at, next_runcode, runs_at, runcodes_at, symbol_lengths_at, symbol_codes_at, symbol_codes_from, max_symbols};
+ghost use Rattle.jbig2_text.specs.SymbolCodes.{invalid_code, lines_from, short_lengths, with_last_repeated, run_at, next_runcode, runs_at, runcodes_at, symbol_lengths_at, symbol_codes_at, symbol_codes_from, max_symbols};
 ghost use Rattle.jbig2_base.specs.Causes.{HasCauseOrNoMemory};
 ghost use Rattle.jbig2_text.specs.Causes.{BreaksSymbolCodes};
 
@@ -76,7 +76,7 @@ fn push_lengths<A: Allocator>(lengths: &mut Vec<u8, A>, value: u8, count: u32) -
 /// Adds this many times the last length.
 fn repeat_last<A: Allocator>(lengths: &mut Vec<u8, A>, count: u32) -> Result<()>
     requires { length lengths.old.items ≤ max_symbols }
-    ensures { Gives (λ _. lengths.new.items) result (repeated lengths.old.items count) }
+    ensures { Gives (λ _. lengths.new.items) result (with_last_repeated lengths.old.items count) }
 {
     let Some(last) = lengths.last() else {
         return Err(invalid_code());

@@ -94,7 +94,7 @@ pub fn read_symbol<'a, R: ReadInstances, A: Allocator, L: Ledger>(
 
 impl<A: Allocator> InstanceSymbol<'_, A> {
     ghost use Rattle.std.specs.Prelude.{◌≡◌, ◌*◌};
-    ghost use Rattle.jbig2_base.specs.Combination.{combined};
+    ghost use Rattle.jbig2_base.specs.Combination.{combined_grid};
     ghost use Rattle.jbig2_steps.specs.Work.{PaidBut, price_of_bitmap};
     ghost use Rattle.jbig2_text.specs.inner.TextViews.{symbol_view};
 
@@ -127,7 +127,7 @@ impl<A: Allocator> InstanceSymbol<'_, A> {
         operator: CombinationOperator,
         work: &mut Work<L>,
     )
-        ensures value { region.new ≡ combined operator region.old (symbol_view self.now) x y }
+        ensures value { region.new ≡ combined_grid operator region.old (symbol_view self.now) x y }
         ensures paid { let symbol = symbol_view self.now in
             PaidBut (32 * price_of_bitmap symbol.width symbol.height) work.old work.new }
     {

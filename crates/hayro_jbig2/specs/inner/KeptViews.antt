@@ -9,13 +9,13 @@ use Rattle.jbig2_symbol.specs.declared.dictionary.SymbolDictionary.{SymbolDictio
 use Rattle.hayro_jbig2.specs.declared.kept.Kept.{Kept}
 use Rattle.jbig2_symbol.specs.inner.SymbolViews as symbol_views
 
-abbrev pub seen : {X V : Type 0} → (X → V) → List (Kept X) → List (Kept V)
-seen view kept = map (λ k. record { segment_number = k.segment_number; value = view k.value }) kept
+abbrev pub kept_values : {X V : Type 0} → (X → V) → List (Kept X) → List (Kept V)
+kept_values view kept = map (λ k. record { segment_number = k.segment_number; value = view k.value }) kept
 
 -- the value that was looked for, if it was found
-abbrev pub found : {X V : Type 0} → (X → V) → Option (Bor X) → Option V
-found view None = None
-found view (Some value) = Some (view value.now)
+abbrev pub found_value : {X V : Type 0} → (X → V) → Option (Bor X) → Option V
+found_value view None = None
+found_value view (Some value) = Some (view value.now)
 
 abbrev pub symbols_view : {A : Type 0} → SymbolDictionary A → Symbols
 symbols_view d = symbol_views.dictionary_view d

@@ -5,7 +5,7 @@ use Rattle.jbig2_base.specs.Grid.{Grid, max_side, check_sides}
 use Rattle.jbig2_base.specs.declared.error.DecodeError.{DecodeError}
 use Rattle.jbig2_base.specs.declared.error.DecodeError.TheVariants.{OutOfMemory, Overflow}
 use Rattle.jbig2_base.specs.declared.error.OverflowError.TheVariants.{BitmapDimension}
-use Rattle.jbig2_region.specs.RegionInfo.{PlacedRegion, placed}
+use Rattle.jbig2_region.specs.RegionInfo.{PlacedRegion, at_location}
 use Rattle.jbig2_region.specs.Generic.{generic_result}
 use Rattle.jbig2_region.specs.inner.RegionViews.{region_view}
 use Rattle.jbig2_region.specs.Refinement.{refined_result}
@@ -22,7 +22,7 @@ use Rattle.hayro_jbig2.specs.declared.region.parsed_region.ParsedRegion.{ParsedR
 use Rattle.hayro_jbig2.specs.declared.region.parsed_region.ParsedRegion.TheVariants.{Text, Halftone, Generic}
 use Rattle.hayro_jbig2.specs.declared.region.parsed_region.ParsedRegion.TheVariants.{Refinement, PageRefinement}
 use Rattle.hayro_jbig2.specs.declared.region.references.References.{References}
-use Rattle.hayro_jbig2.specs.inner.KeptViews.{seen}
+use Rattle.hayro_jbig2.specs.inner.KeptViews.{kept_values}
 use Rattle.jbig2_region.specs.inner.GenericViews as generics
 use Rattle.jbig2_region.specs.inner.RefinedViews as refinements
 use Rattle.jbig2_halftone.specs.inner.HalftoneHeaderViews as halftones
@@ -44,19 +44,19 @@ initial_of (Refinement header reference) = false
 initial_of (PageRefinement header area) = false
 
 -- the grid that it decodes to
-abbrev pub drawn : {A : Type 0} → ParsedRegion A → Result Grid DecodeError
-drawn (Text header referred) = text_result (texts.header_view header) referred.symbols referred.codes
-drawn (Halftone header patterns) = halftone_result (halftones.header_view header) (dictionary_view patterns.now)
-drawn (Generic header) = generic_result (generics.header_view header)
-drawn (Refinement header reference) = refined_result (refinements.header_view header) (region_view reference.now)
-drawn (PageRefinement header area) = refined_result (refinements.header_view header) (region_view area)
+abbrev pub region_grid : {A : Type 0} → ParsedRegion A → Result Grid DecodeError
+region_grid (Text header referred) = text_result (texts.header_view header) referred.symbols referred.codes
+region_grid (Halftone header patterns) = halftone_result (halftones.header_view header) (dictionary_view patterns.now)
+region_grid (Generic header) = generic_result (generics.header_view header)
+region_grid (Refinement header reference) = refined_result (refinements.header_view header) (region_view reference.now)
+region_grid (PageRefinement header area) = refined_result (refinements.header_view header) (region_view area)
 
 -- the grid at its place, unless a side of the region is too large
 abbrev pub placed_region : {A : Type 0} → ParsedRegion A → Result PlacedRegion DecodeError
 placed_region r = do
   fits ← check_sides (info_of r).width (info_of r).height
-  g ← drawn r
-  Ok (placed (info_of r) g)
+  g ← region_grid r
+  Ok (at_location (info_of r) g)
 
 -- the limits of a halftone's grid
 pub record HasCells (header : HalftoneHeader) : Type 0 where
@@ -80,7 +80,7 @@ DecodesTo (Err e) meant = (e ≡ OutOfMemory) ⊎ (meant ≡ Err e)
 abbrev pub drawing_of : {A : Type 0} → References A → Drawing
 drawing_of r = record {
   grid = r.page.now;
-  regions = seen region_view r.regions.now;
+  regions = kept_values region_view r.regions.now;
   names = r.names.own.now;
   untouched = false;
   passed_over = nothing_passed;

@@ -4,7 +4,7 @@ ghost use Rattle.jbig2_base.specs.Grid.{max_side};
 ghost use Rattle.jbig2_base.specs.Results.{Gives};
 ghost use Rattle.jbig2_region.specs.inner.RegionViews.{region_view};
 ghost use Rattle.hayro_jbig2.specs.Image.{packed_of};
-ghost use Rattle.hayro_jbig2.specs.Page.{empty_drawing, blank_page, passing, shown, with_region};
+ghost use Rattle.hayro_jbig2.specs.Page.{empty_drawing, blank_page, passing, with_drawn_region, with_region};
 ghost use Rattle.jbig2_steps.specs.Work.{PaidBut, price_of_bitmap};
 
 use crate::drawing::passed_over::PassedOver;
@@ -39,14 +39,14 @@ impl<A: Allocator> Model for Canvas<A> {
     ghost use Rattle.std.specs.Prelude.{◌≡◌, true};
     ghost use Rattle.jbig2_region.specs.inner.RegionViews.{region_view};
     ghost use Rattle.hayro_jbig2.specs.Page.{Drawing};
-    ghost use Rattle.hayro_jbig2.specs.inner.KeptViews.{seen};
+    ghost use Rattle.hayro_jbig2.specs.inner.KeptViews.{kept_values};
     ghost use Rattle.hayro_jbig2.specs.inner.WholePages.{IsBlankPage};
 
     ghost Value = { Drawing };
 
     ghost view = { λ c. record {
       grid = c.bitmap;
-      regions = seen region_view c.regions.items;
+      regions = kept_values region_view c.regions.items;
       names = c.names;
       untouched = c.untouched;
       passed_over = c.passed_over;
@@ -108,7 +108,7 @@ impl<A: Allocator> Canvas<A> {
 
     /// Combines an immediate region with the page, at its location as signed numbers (T.88, 7.4.1).
     pub(crate) fn combine<L: Ledger>(&mut self, region: &DecodedRegion<A>, work: &mut Work<L>)
-        ensures value { Ok self.new ≡ shown self.old (Ok (region_view region.now)) }
+        ensures value { Ok self.new ≡ with_drawn_region self.old (Ok (region_view region.now)) }
         ensures paid { let source = region.now.bitmap in
             PaidBut (32 * price_of_bitmap source.width source.height) work.old work.new }
     {

@@ -1,7 +1,7 @@
 //! A number of steps that only clauses see. Its type names no ledger, so the contract of a call that makes its own
 //! counter can say how many steps were counted.
 ghost use Rattle.std.specs.Prelude.{◌≡◌, ◌+◌, ℕ};
-ghost use Rattle.jbig2_steps.specs.Work.{counted};
+ghost use Rattle.jbig2_steps.specs.Work.{sum_of_counts};
 ghost use base.Fml.{ftrue};
 
 use jbig2_base::bitmap::steps::Steps;
@@ -19,7 +19,7 @@ impl Measured for () {
 }
 
 impl<L: Ledger> Measured for Steps<L> {
-    ghost measure = { λ steps. counted steps };
+    ghost measure = { λ steps. sum_of_counts steps };
 }
 
 /// A number of steps, and steps that are counted after it.
@@ -30,7 +30,7 @@ struct Sum<'s, L: Ledger> {
 }
 
 impl<'s, L: Ledger> Measured for Sum<'s, L> {
-    ghost measure = { λ sum. sum.before.now + counted sum.steps.now };
+    ghost measure = { λ sum. sum.before.now + sum_of_counts sum.steps.now };
 }
 
 /// A number. Nothing else is in it.
@@ -85,7 +85,7 @@ impl Counted {
 
     /// What these steps add up to.
     pub(crate) fn of<L: Ledger>(steps: &Steps<L>) -> Counted
-        ensures { result ≡ counted steps.now }
+        ensures { result ≡ sum_of_counts steps.now }
     {
         Counted {
             tally: Snapshot::of(&Tally::of(steps)),
@@ -94,7 +94,7 @@ impl Counted {
 
     /// Adds these steps.
     pub(crate) fn add<L: Ledger>(&mut self, steps: &Steps<L>)
-        ensures { self.new ≡ self.old + counted steps.now }
+        ensures { self.new ≡ self.old + sum_of_counts steps.now }
     {
         let sum = Sum {
             before: self,

@@ -7,7 +7,7 @@ ghost use Rattle.hayro_jbig2.specs.Names.{symbol_dictionary_at, with_symbols, pa
 ghost use Rattle.hayro_jbig2.specs.inner.KeptViews.{patterns_view, symbols_view};
 ghost use Rattle.hayro_jbig2.specs.Causes.{BreaksExtension};
 ghost use Rattle.jbig2_base.specs.Causes.{HasCause};
-ghost use Rattle.jbig2_steps.specs.Work.{Paid, worth};
+ghost use Rattle.jbig2_steps.specs.Work.{Paid, budget};
 ghost use Rattle.jbig2_halftone.specs.Steps.{price_of_patterns};
 ghost use Rattle.jbig2_halftone.specs.inner.PatternViews.{header_view};
 
@@ -63,7 +63,7 @@ fn pay_patterns<L: Ledger>(header: &PatternDictionaryHeader<'_>, work: &mut Work
     ensures memory { IfErr result (λ e. e ≡ DecodeError.OutOfMemory) }
     ensures paid { Paid work.old work.new }
     ensures taken { let price = price_of_patterns (header_view header.now) in
-        IfOk result (λ _. worth work.new + 32 * price ≡ worth work.old) }
+        IfOk result (λ _. budget work.new + 32 * price ≡ budget work.old) }
 {
     let count = u64::from(header.num_patterns) + 1;
     let (width, height) = (

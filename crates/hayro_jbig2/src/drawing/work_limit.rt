@@ -23,7 +23,11 @@ impl Model for WorkLimit {
 
     ghost Value = { Limit };
 
-    ghost view = { λ limit. record { units = limit.units; left = limit.left; steps = limit.counted } };
+    ghost view = { λ limit. record {
+      units = limit.units;
+      left = limit.left;
+      steps = limit.counted;
+    } };
 }
 
 impl WorkLimit {

@@ -9,8 +9,8 @@ ghost use Rattle.jbig2_base.specs.inner.SegmentViews.{segment_view, segment_view
 ghost use Rattle.hayro_jbig2.specs.WorkLimit.{Takes};
 ghost use Rattle.hayro_jbig2.specs.Names.{globals_at, shared_from, kept_by, no_names, nothing_shared, or_shared_without};
 ghost use Rattle.hayro_jbig2.specs.Returned.{IsReturned};
-ghost use Rattle.hayro_jbig2.specs.inner.KeptViews.{found};
-ghost use Rattle.jbig2_steps.specs.Work.{IsWithinLimit, Paid, worth};
+ghost use Rattle.hayro_jbig2.specs.inner.KeptViews.{found_value};
+ghost use Rattle.jbig2_steps.specs.Work.{IsWithinLimit, Paid, budget};
 
 use crate::drawing::dictionaries::{extension, keep_patterns, keep_symbols, keep_table};
 use crate::drawing::passed_over::PassedOver;
@@ -66,7 +66,7 @@ impl<A: Allocator> Globals<A> {
 
     /// In salvage, the error of lenient reading that ended the list of their segments early.
     pub fn fault(&self) -> Option<&DecodeError>
-        ensures { found (λ e. e) result ≡ self.now.fault }
+        ensures { found_value (λ e. e) result ≡ self.now.fault }
     {
         self.fault.as_ref()
     }
@@ -224,7 +224,7 @@ fn shared_within<A: Allocator + Clone, L: Ledger>(
     ensures paid { Paid work.old work.new }
     ensures limit { IsWithinLimit work.old work.new }
     ensures taken { IfOk result
-        (λ _. worth work.new + 32 * (1024 * length segments.now) ≤ worth work.old) }
+        (λ _. budget work.new + 32 * (1024 * length segments.now) ≤ budget work.old) }
 {
     let mut globals = Globals::empty(alloc.clone()?, fault)?;
     let mut workspace = Workspace::new(alloc)?;

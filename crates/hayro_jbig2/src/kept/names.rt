@@ -4,7 +4,7 @@ ghost use Rattle.std.specs.Prelude.{◌≡◌, Ok};
 ghost use Rattle.jbig2_base.specs.Results.{Gives};
 ghost use Rattle.hayro_jbig2.specs.Names.{no_names, kept_under, kept_of};
 ghost use Rattle.hayro_jbig2.specs.Regions.{patterns_for};
-ghost use Rattle.hayro_jbig2.specs.inner.KeptViews.{found, patterns_view, seen, symbols_view};
+ghost use Rattle.hayro_jbig2.specs.inner.KeptViews.{found_value, patterns_view, kept_values, symbols_view};
 
 use crate::kept::{Kept, kept_of};
 use jbig2_base::error::Result;
@@ -24,14 +24,14 @@ pub(crate) struct KeptNames<A: Allocator> {
 
 impl<A: Allocator> Model for KeptNames<A> {
     ghost use Rattle.hayro_jbig2.specs.Names.{Names};
-    ghost use Rattle.hayro_jbig2.specs.inner.KeptViews.{patterns_view, seen, symbols_view};
+    ghost use Rattle.hayro_jbig2.specs.inner.KeptViews.{patterns_view, kept_values, symbols_view};
 
     ghost Value = { Names };
 
     ghost view = { λ n. record {
-      symbols = seen symbols_view n.symbols.items;
+      symbols = kept_values symbols_view n.symbols.items;
       codes = n.tables.items;
-      patterns = seen patterns_view n.patterns.items;
+      patterns = kept_values patterns_view n.patterns.items;
     } };
 }
 
@@ -110,7 +110,7 @@ impl<A: Allocator> KeptNames<A> {
     }
 
     fn symbols(&self) -> &[Kept<SymbolDictionary<A>>]
-        ensures { seen symbols_view result.now ≡ self.now.symbols }
+        ensures { kept_values symbols_view result.now ≡ self.now.symbols }
     {
         &self.symbols
     }
@@ -122,7 +122,7 @@ impl<A: Allocator> KeptNames<A> {
     }
 
     fn patterns(&self) -> &[Kept<PatternDictionary<A>>]
-        ensures { seen patterns_view result.now ≡ self.now.patterns }
+        ensures { kept_values patterns_view result.now ≡ self.now.patterns }
     {
         &self.patterns
     }
@@ -139,7 +139,7 @@ pub(crate) struct Lookup<'a, A: Allocator> {
 
 impl<'a, A: Allocator> Lookup<'a, A> {
     pub(crate) fn symbols(&self, number: u32) -> Option<&'a SymbolDictionary<A>>
-        ensures { found symbols_view result
+        ensures { found_value symbols_view result
             ≡ kept_of number self.now.own.now.symbols self.now.globals.now.symbols }
     {
         let own = self.own.symbols();
@@ -148,7 +148,7 @@ impl<'a, A: Allocator> Lookup<'a, A> {
     }
 
     pub(crate) fn table(&self, number: u32) -> Option<&'a HuffmanTable<A>>
-        ensures { found (λ code. code) result
+        ensures { found_value (λ code. code) result
             ≡ kept_of number self.now.own.now.codes self.now.globals.now.codes }
     {
         let own = self.own.tables();
@@ -157,7 +157,7 @@ impl<'a, A: Allocator> Lookup<'a, A> {
     }
 
     pub(crate) fn patterns(&self, number: u32) -> Option<&'a PatternDictionary<A>>
-        ensures { found patterns_view result
+        ensures { found_value patterns_view result
             ≡ kept_of number self.now.own.now.patterns self.now.globals.now.patterns }
     {
         let own = self.own.patterns();

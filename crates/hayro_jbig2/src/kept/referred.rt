@@ -4,9 +4,9 @@ ghost use Rattle.jbig2_base.specs.Results.{Gives};
 ghost use Rattle.jbig2_base.specs.Causes.{HasCauseOrNoMemory};
 ghost use Rattle.hayro_jbig2.specs.Causes.{BreaksReferred};
 ghost use Rattle.hayro_jbig2.specs.Names.{with_dictionary, with_table, with_number, with_numbers, referred_by};
-ghost use Rattle.hayro_jbig2.specs.inner.KeptViews.{found, symbols_view};
+ghost use Rattle.hayro_jbig2.specs.inner.KeptViews.{found_value, symbols_view};
 ghost use Rattle.hayro_jbig2.specs.inner.Prices.{price_of_symbols};
-ghost use Rattle.jbig2_steps.specs.Work.{Paid, worth};
+ghost use Rattle.jbig2_steps.specs.Work.{Paid, budget};
 
 use crate::kept::names::Lookup;
 use jbig2_base::bitmap::Bitmap;
@@ -81,7 +81,7 @@ impl<'a, A: Allocator> ReferredSegments<'a, A> {
     /// Adds a custom table. `None` is refused by strict reading, and else adds nothing.
     fn add_table(&mut self, strict: bool, table: Option<&'a HuffmanTable<A>>) -> Result<()>
         ensures { Gives (λ _. self.new) result
-            (with_table strict (found (λ code. code) table.entry) self.old) }
+            (with_table strict (found_value (λ code. code) table.entry) self.old) }
     {
         match table {
             Some(table) => {
@@ -112,7 +112,7 @@ impl<A: Allocator> ReferredSegments<'_, A> {
         ensures memory { IfErr result (λ e. e ≡ DecodeError.OutOfMemory) }
         ensures paid { Paid work.old work.new }
         ensures taken { let price = price_of_symbols (length self.now.symbols) in
-            IfOk result (λ _. worth work.new + 32 * price ≡ worth work.old) }
+            IfOk result (λ _. budget work.new + 32 * price ≡ budget work.old) }
     {
         work.pay((self.symbols.len() as u64).saturating_mul(SYMBOL))?;
         Ok(())

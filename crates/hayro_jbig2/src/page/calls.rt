@@ -4,7 +4,7 @@ ghost use Rattle.jbig2_base.specs.Grid.{Grid};
 ghost use Rattle.jbig2_base.specs.Bits.{bit};
 ghost use Rattle.hayro_jbig2.specs.Calls.{row_of, singles, line_calls, calls_of, IsCountable, Sends};
 ghost use Rattle.hayro_jbig2.specs.inner.RunViews.{bytes_of_run, run_of, IsColourOf, IsRunAt};
-ghost use Rattle.jbig2_steps.specs.Work.{CountsWithin, counted, price_of_bitmap};
+ghost use Rattle.jbig2_steps.specs.Work.{CountsWithin, sum_of_counts, price_of_bitmap};
 
 use crate::page::decoder::Decoder;
 use jbig2_base::bitmap::Bitmap;
@@ -23,7 +23,7 @@ fn byte_colour<A: Allocator, L: Ledger>(
 ) -> Option<bool>
     requires { x + 8 ≤ bitmap.now.width }
     ensures colour { IsColourOf (take 8 (drop x (row_of bitmap.now y))) result }
-    ensures steps { counted steps.new ≡ counted steps.old + 1 }
+    ensures steps { sum_of_counts steps.new ≡ sum_of_counts steps.old + 1 }
 {
     let pixels = bitmap.load_pixels(x, y, 8, steps);
     if pixels == 0xFF {
@@ -47,7 +47,7 @@ fn run<A: Allocator, L: Ledger>(
     ensures value { result
         ≡ run_of ((bitmap.now.width - x) / 8) black (drop x (row_of bitmap.now y)) }
     ensures within { result ≤ (bitmap.now.width - x) / 8 }
-    ensures steps { counted steps.new ≤ counted steps.old + result + 1 }
+    ensures steps { sum_of_counts steps.new ≤ sum_of_counts steps.old + result + 1 }
 {
     let end = find_colour(bitmap, y, x, !black, steps);
     (end - x) / 8
@@ -63,7 +63,7 @@ fn run_at<A: Allocator, L: Ledger>(
 ) -> Option<(bool, u32)>
     requires { x + 8 ≤ bitmap.now.width }
     ensures run { IsRunAt ((bitmap.now.width - x) / 8) (drop x (row_of bitmap.now y)) result }
-    ensures steps { counted steps.new ≤ counted steps.old + bytes_of_run result + 2 }
+    ensures steps { sum_of_counts steps.new ≤ sum_of_counts steps.old + bytes_of_run result + 2 }
 {
     match byte_colour(bitmap, x, y, steps) {
         Some(black) => Some((black, run(bitmap, x, y, black, steps))),
@@ -95,7 +95,7 @@ fn push_pixels<A: Allocator, D: Decoder, L: Ledger>(
     requires countable { IsCountable D.conduct decoder.old }
     ensures calls { Sends D.conduct (singles (take (end - x) (drop x (row_of bitmap.now y)))) result
         decoder.old decoder.new }
-    ensures steps { counted steps.new ≡ counted steps.old + 1 }
+    ensures steps { sum_of_counts steps.new ≡ sum_of_counts steps.old + 1 }
 {
     let count = (end - x).max(1);
     let pixels = bitmap.load_pixels(x, y, count, steps);
@@ -118,7 +118,7 @@ fn push_row<A: Allocator, D: Decoder, L: Ledger>(
 ) -> Result<()>
     requires { IsCountable D.conduct decoder.old }
     ensures calls { Sends D.conduct (line_calls bitmap.now y) result decoder.old decoder.new }
-    ensures steps { counted steps.new ≤ counted steps.old + bitmap.now.width + 1 }
+    ensures steps { sum_of_counts steps.new ≤ sum_of_counts steps.old + bitmap.now.width + 1 }
 {
     let width = bitmap.width();
     let mut x = 0;

@@ -1,7 +1,7 @@
 //! Decodes a page: to calls on a `Decoder`, to a byte or a bit for each pixel, or into a context that lends its rows.
 ghost use Rattle.std.specs.Prelude.{◌≡◌, ◌+◌, ◌-◌, ◌*◌, ◌<◌, ◌≤◌, Bool, IfErr, IfOk, IsTrue, OnErr, length, pos};
 ghost use Rattle.jbig2_base.specs.Results.{Gives, Leaves};
-ghost use Rattle.jbig2_base.specs.Combination.{combined};
+ghost use Rattle.jbig2_base.specs.Combination.{combined_grid};
 ghost use Rattle.jbig2_base.specs.Grid.{Grid, blank};
 ghost use Rattle.jbig2_base.specs.Table.{IsTable};
 ghost use Rattle.jbig2_base.specs.declared.bitmap.operator.CombinationOperator.{CombinationOperator};
@@ -11,7 +11,7 @@ ghost use Rattle.hayro_jbig2.specs.Image.{image_of_page, packed_of_page, packed_
 ghost use Rattle.hayro_jbig2.specs.Page.{segments_drawn, drawing_of_page, grid_of_page, draws_over, blank_page, UntouchedIsBlank};
 ghost use Rattle.hayro_jbig2.specs.Returned.{IsReturned};
 ghost use Rattle.hayro_jbig2.specs.WorkLimit.{Takes};
-ghost use Rattle.jbig2_steps.specs.Work.{IsWithinLimit, Paid, price_of_bitmap, worth};
+ghost use Rattle.jbig2_steps.specs.Work.{IsWithinLimit, Paid, price_of_bitmap, budget};
 
 use crate::drawing::Drawer;
 use crate::drawing::canvas::Canvas;
@@ -107,7 +107,7 @@ impl<'a, A: Allocator + Clone> Page<'a, A> {
         ensures paid { Paid work.old work.new }
         ensures taken { let page = self.now.initial_page in
             let price = price_of_bitmap page.width page.height in
-            IfOk result (λ _. worth work.new + 32 * price ≤ worth work.old) }
+            IfOk result (λ _. budget work.new + 32 * price ≤ budget work.old) }
     {
         let _globals = &self.globals;
         let canvas = self.drawn(work)?;
@@ -179,7 +179,7 @@ impl<'a, A: Allocator + Clone> Page<'a, A> {
         ensures paid { Paid work.old work.new }
         ensures taken { let page = self.now.initial_page in
             let price = price_of_bitmap page.width page.height in
-            IfOk result (λ _. worth work.new + 32 * price ≤ worth work.old) }
+            IfOk result (λ _. budget work.new + 32 * price ≤ budget work.old) }
     {
         let mut context = DecoderContext::new(self.segments.as_vec().allocator().clone()?)?;
         self.draw_within(&mut context, work)?;
@@ -243,7 +243,7 @@ impl<'a, A: Allocator + Clone> Page<'a, A> {
         ensures paid { Paid work.old work.new }
         ensures ahead { let page = self.now.initial_page in
             let price = price_of_bitmap page.width page.height in
-            IfOk result (λ _. worth work.new + 64 * price ≤ worth work.old) }
+            IfOk result (λ _. budget work.new + 64 * price ≤ budget work.old) }
     {
         let _globals = &self.globals;
         let drawn = self.draw_onto(&mut context.canvas, work);
@@ -257,7 +257,7 @@ impl<'a, A: Allocator + Clone> Page<'a, A> {
         ensures paid { Paid work.old work.new }
         ensures ahead { let page = self.now.initial_page in
             let price = price_of_bitmap page.width page.height in
-            IfOk result (λ _. worth work.new + 64 * price ≤ worth work.old) }
+            IfOk result (λ _. budget work.new + 64 * price ≤ budget work.old) }
     {
         let mut canvas = Canvas::new(self.segments.as_vec().allocator().clone()?)?;
         self.draw_onto(&mut canvas, work)?;
@@ -285,8 +285,8 @@ impl<'a, A: Allocator + Clone> Page<'a, A> {
         ensures untouched { UntouchedIsBlank }
         ensures direct { (operator : CombinationOperator) (black : Bool) (region : Grid) →
             IsTable region → IsTrue (draws_over operator black)
-            → combined operator (blank region.width region.height black) region (pos 0) (pos 0) ≡
-            region }
+            → combined_grid operator (blank region.width region.height black) region
+            (pos 0) (pos 0) ≡ region }
         ensures errors { D.conduct.refusals decoder.new ≡ D.conduct.refusals decoder.old
             → IfErr result IsReturned }
     {
@@ -347,7 +347,7 @@ impl<'a, A: Allocator + Clone> Page<'a, A> {
         ensures paid { Paid work.old work.new }
         ensures ahead { let page = self.now.initial_page in
             let price = price_of_bitmap page.width page.height in
-            IfOk result (λ _. worth work.new + 64 * price ≤ worth work.old) }
+            IfOk result (λ _. budget work.new + 64 * price ≤ budget work.old) }
     {
         match &self.globals {
             Ok(Some(globals)) => self.draw_with(globals.names(), canvas, work),
@@ -372,7 +372,7 @@ impl<'a, A: Allocator + Clone> Page<'a, A> {
         ensures paid { Paid work.old work.new }
         ensures ahead { let page = self.now.initial_page in
             let price = price_of_bitmap page.width page.height in
-            IfOk result (λ _. worth work.new + 64 * price ≤ worth work.old) }
+            IfOk result (λ _. budget work.new + 64 * price ≤ budget work.old) }
     {
         let page = &self.initial_page;
         // One bitmap for clearing the page, one for handing it out.

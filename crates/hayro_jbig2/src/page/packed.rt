@@ -4,7 +4,7 @@ ghost use Rattle.jbig2_base.specs.Bits.{bit};
 ghost use Rattle.jbig2_base.specs.Counts.{words_loaded};
 ghost use Rattle.hayro_jbig2.specs.Image.{packed_byte, packed_part, row_bytes};
 ghost use Rattle.hayro_jbig2.specs.inner.BufferBytes.{top_byte, word_byte, Fills};
-ghost use Rattle.jbig2_steps.specs.Work.{counted};
+ghost use Rattle.jbig2_steps.specs.Work.{sum_of_counts};
 
 use crate::page::image::wrapped;
 use jbig2_base::bitmap::Bitmap;
@@ -105,7 +105,7 @@ pub(crate) fn write_packed<A: Allocator, L: Ledger>(
 )
     requires { start + length buf.old ≤ row_bytes width * u32.MAX }
     ensures value { buf.new ≡ packed_part width bitmap.now start (length buf.old) }
-    ensures steps { counted steps.new ≤ counted steps.old + length buf.old }
+    ensures steps { sum_of_counts steps.new ≤ sum_of_counts steps.old + length buf.old }
 {
     let row_bytes = width.div_ceil(8) as usize;
     let (mut place, mut column, mut y) = (0, 0, 0);

@@ -7,7 +7,7 @@ ghost use Rattle.hayro_jbig2.specs.inner.KeptViews.{patterns_view};
 ghost use Rattle.hayro_jbig2.specs.inner.ParsedRegions.{IsDecodable, DecodesTo};
 ghost use Rattle.hayro_jbig2.specs.Causes.{BreaksPatternReference};
 ghost use Rattle.jbig2_base.specs.Causes.{HasCause};
-ghost use Rattle.jbig2_steps.specs.Work.{Paid, worth};
+ghost use Rattle.jbig2_steps.specs.Work.{Paid, budget};
 ghost use Rattle.jbig2_halftone.specs.Steps.{price_of_halftone};
 ghost use Rattle.jbig2_halftone.specs.inner.HalftoneHeaderViews.{header_view};
 ghost use Rattle.jbig2_halftone.specs.inner.DictionaryViews.{dictionary_view};
@@ -75,7 +75,7 @@ pub(crate) fn pay_cells<A: Allocator, L: Ledger>(
     ensures paid { Paid work.old work.new }
     ensures taken { let dictionary = dictionary_view patterns.now in
         let price = price_of_halftone (header_view header.now) dictionary in
-        IfOk result (λ _. worth work.new + 32 * price ≡ worth work.old) }
+        IfOk result (λ _. budget work.new + 32 * price ≡ budget work.old) }
 {
     let grid = &header.grid_position_and_size;
     let planes = u64::from(code_length(patterns.patterns.len()));

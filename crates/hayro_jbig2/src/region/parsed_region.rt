@@ -3,9 +3,9 @@ ghost use Rattle.std.specs.Prelude.{◌≡◌, ◌≤◌, ◌+◌, ◌*◌, IfEr
 ghost use Rattle.jbig2_base.specs.Results.{Gives};
 ghost use Rattle.jbig2_base.specs.Grid.{blank};
 ghost use Rattle.jbig2_region.specs.inner.RegionViews.{region_view};
-ghost use Rattle.hayro_jbig2.specs.inner.ParsedRegions.{IsDecodable, placed_region, drawn, info_of, initial_of};
+ghost use Rattle.hayro_jbig2.specs.inner.ParsedRegions.{IsDecodable, placed_region, region_grid, info_of, initial_of};
 ghost use Rattle.hayro_jbig2.specs.inner.Prices.{counts_of, price_besides, price_of_info};
-ghost use Rattle.jbig2_steps.specs.Work.{Paid, PaidBut, price_of_bitmap, worth};
+ghost use Rattle.jbig2_steps.specs.Work.{Paid, PaidBut, price_of_bitmap, budget};
 
 use crate::drawing::workspace::{MOST_CONTEXTS, Workspace};
 use crate::kept::referred::ReferredSegments;
@@ -81,7 +81,7 @@ impl<'a, 'n, 'r, A: Allocator + Clone> ParsedRegion<'a, 'n, 'r, A> {
         ensures memory { IfErr result (λ e. e ≡ DecodeError.OutOfMemory) }
         ensures paid { Paid work.old work.new }
         ensures taken { IfOk result
-            (λ _. worth work.new + 32 * price_besides self.now ≡ worth work.old) }
+            (λ _. budget work.new + 32 * price_besides self.now ≡ budget work.old) }
     {
         match self {
             ParsedRegion::Text { referred, .. } => referred.pay_symbols(work),
@@ -97,7 +97,7 @@ impl<'a, 'n, 'r, A: Allocator + Clone> ParsedRegion<'a, 'n, 'r, A> {
         ensures memory { IfErr result (λ e. e ≡ DecodeError.OutOfMemory) }
         ensures paid { Paid work.old work.new }
         ensures taken { let price = price_of_info self.now * count + price_besides self.now in
-            IfOk result (λ _. worth work.new + 32 * price ≡ worth work.old) }
+            IfOk result (λ _. budget work.new + 32 * price ≡ budget work.old) }
     {
         self.pay_besides(work)?;
         let info = self.region_info();
@@ -115,7 +115,7 @@ impl<'a, 'n, 'r, A: Allocator + Clone> ParsedRegion<'a, 'n, 'r, A> {
         requires parsed { IsDecodable self.now }
         requires coloured { let info = info_of self.now in
             bitmap.old ≡ blank info.width info.height (initial_of self.now) }
-        ensures value { Gives (λ _. bitmap.new) result (drawn self.now) }
+        ensures value { Gives (λ _. bitmap.new) result (region_grid self.now) }
         ensures paid { PaidBut (counts_of self.now) work.old work.new }
     {
         let (alloc, tables) = (&workspace.alloc, &workspace.standard_tables);
@@ -136,7 +136,7 @@ impl<'a, 'n, 'r, A: Allocator + Clone> ParsedRegion<'a, 'n, 'r, A> {
         requires parsed { IsDecodable self.now }
         requires coloured { let info = info_of self.now in
             bitmap.old ≡ blank info.width info.height (initial_of self.now) }
-        ensures value { Gives (λ _. bitmap.new) result (drawn self.now) }
+        ensures value { Gives (λ _. bitmap.new) result (region_grid self.now) }
         ensures paid { PaidBut (counts_of self.now) work.old work.new }
     {
         match self {
@@ -182,7 +182,7 @@ impl<'a, 'n, 'r, A: Allocator + Clone> ParsedRegion<'a, 'n, 'r, A> {
         ensures value { Gives (λ region. region_view region) result (placed_region self.entry) }
         ensures paid { Paid work.old work.new }
         ensures ahead { IfOk result (λ region. let page = region.bitmap in
-            worth work.new + 32 * price_of_bitmap page.width page.height ≤ worth work.old) }
+            budget work.new + 32 * price_of_bitmap page.width page.height ≤ budget work.old) }
     {
         let info = self.region_info();
         check_sides(info.width, info.height)?;

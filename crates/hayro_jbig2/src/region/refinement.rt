@@ -9,7 +9,7 @@ ghost use Rattle.jbig2_region.specs.RefinementHeader.{IsRefinement};
 ghost use Rattle.jbig2_region.specs.inner.RefinedViews.{header_view};
 ghost use Rattle.hayro_jbig2.specs.Names.{first_kept};
 ghost use Rattle.hayro_jbig2.specs.Regions.{page_area, referred_region, refinement_at};
-ghost use Rattle.hayro_jbig2.specs.inner.KeptViews.{found, seen};
+ghost use Rattle.hayro_jbig2.specs.inner.KeptViews.{found_value, kept_values};
 ghost use Rattle.hayro_jbig2.specs.inner.PageViews.{near_area};
 ghost use Rattle.hayro_jbig2.specs.inner.ParsedRegions.{IsDecodable, DecodesTo};
 ghost use Rattle.hayro_jbig2.specs.Causes.{BreaksRefinement};
@@ -38,7 +38,8 @@ fn region_named<'a, A: Allocator>(
     regions: &'a [Kept<DecodedRegion<A>>],
     number: u32,
 ) -> Option<&'a DecodedRegion<A>>
-    ensures { found region_view result ≡ first_kept number (seen region_view regions.now) }
+    ensures { found_value region_view result
+        ≡ first_kept number (kept_values region_view regions.now) }
 {
     first_under(regions, number)
 }
@@ -50,8 +51,8 @@ fn referred_region<'a, A: Allocator>(
     numbers: &[u32],
     regions: &'a [Kept<DecodedRegion<A>>],
 ) -> Result<Option<&'a DecodedRegion<A>>>
-    ensures { Returns (λ r. found region_view r) result
-        (referred_region strict numbers.now (seen region_view regions.now)) }
+    ensures { Returns (λ r. found_value region_view r) result
+        (referred_region strict numbers.now (kept_values region_view regions.now)) }
 {
     let Some(number) = numbers.first() else {
         return Ok(None);
@@ -132,11 +133,11 @@ pub(crate) fn parse_refinement<'a, 'n, 'r, A: Allocator + Clone, L: Ledger>(
 ) -> Result<ParsedRegion<'a, 'n, 'r, A>>
     ensures value { DecodesTo result
         (refinement_at references.now.names.strict is_intermediate references.now.page.now
-        (seen region_view references.now.regions.now) (segment_view segment.now)) }
+        (kept_values region_view references.now.regions.now) (segment_view segment.now)) }
     ensures parsed { IfOk result (λ region. IsDecodable region) }
     ensures causes { HasCauseOrNoMemory result
         (BreaksRefinement references.now.names.strict is_intermediate references.now.page.now
-        (seen region_view references.now.regions.now) (segment_view segment.now)) }
+        (kept_values region_view references.now.regions.now) (segment_view segment.now)) }
     ensures paid { Paid work.old work.new }
 {
     let strict = references.names.strict;

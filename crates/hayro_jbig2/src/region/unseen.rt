@@ -1,7 +1,7 @@
 //! Leaves out rows of immediate regions that lie below the page.
 ghost use Rattle.std.specs.Prelude.{◌≡◌, ◌≤◌, ◌<◌, ◌-ℤ◌, ℕ, pos};
 ghost use Rattle.std.specs.Int.{w32, cast_signed};
-ghost use Rattle.hayro_jbig2.specs.Page.{Drawing, shown};
+ghost use Rattle.hayro_jbig2.specs.Page.{Drawing, with_drawn_region};
 ghost use Rattle.hayro_jbig2.specs.inner.ParsedRegions.{IsDecodable, placed_region};
 
 use crate::region::parsed_region::ParsedRegion;
@@ -31,7 +31,8 @@ impl<'a, 'n, 'r, A: Allocator + Clone> ParsedRegion<'a, 'n, 'r, A> {
         requires { IsDecodable self }
         ensures decodable { IsDecodable result }
         ensures shown { (d : Drawing) → d.grid.height ≡ page_height →
-            shown d (placed_region result) ≡ shown d (placed_region self.entry) }
+            with_drawn_region d (placed_region result)
+            ≡ with_drawn_region d (placed_region self.entry) }
     {
         match self {
             ParsedRegion::Generic { mut header } => {

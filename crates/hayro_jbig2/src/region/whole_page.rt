@@ -3,7 +3,7 @@ ghost use Rattle.std.specs.Prelude.{◌≡◌, ◌⊎◌, true, false, IfErr};
 ghost use Rattle.jbig2_base.specs.Results.{Gives};
 ghost use Rattle.jbig2_base.specs.declared.error.DecodeError.TheVariants.{OutOfMemory};
 ghost use Rattle.hayro_jbig2.specs.Page.{draws_over};
-ghost use Rattle.hayro_jbig2.specs.inner.ParsedRegions.{IsDecodable, drawn, info_of, initial_of};
+ghost use Rattle.hayro_jbig2.specs.inner.ParsedRegions.{IsDecodable, region_grid, info_of, initial_of};
 ghost use Rattle.hayro_jbig2.specs.inner.WholePages.{IsBlankPage, IsWhole};
 ghost use Rattle.jbig2_steps.specs.Work.{Paid};
 
@@ -68,7 +68,7 @@ impl<'a, 'n, 'r, A: Allocator + Clone> ParsedRegion<'a, 'n, 'r, A> {
     ) -> Result<()>
         requires parsed { IsDecodable self }
         requires whole { IsWhole (info_of self) (initial_of self) page.old }
-        ensures value { Gives (λ _. page.new) result (drawn self.entry) }
+        ensures value { Gives (λ _. page.new) result (region_grid self.entry) }
         ensures err { IfErr result (λ e. (e ≡ OutOfMemory) ⊎ (page.new ≡ page.old)) }
         ensures paid { Paid work.old work.new }
     {

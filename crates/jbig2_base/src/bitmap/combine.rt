@@ -2,7 +2,7 @@
 ghost use Rattle.std.specs.Prelude.{◌≡◌, ℕ, true, ◌+◌, ◌-◌, ◌*◌, ◌/◌, ◌^◌, ◌<◌, ◌≤◌, min, pos, ◌-ℤ◌};
 ghost use Rattle.jbig2_base.specs.Blocks.{CombinesBlock, LiesOn, with_block};
 ghost use Rattle.jbig2_base.specs.inner.Combines.{HasEnds, block_of};
-ghost use Rattle.jbig2_base.specs.Combination.{combined, combined_pixel};
+ghost use Rattle.jbig2_base.specs.Combination.{combined_grid, combined_pixel};
 ghost use Rattle.jbig2_base.specs.Counts.{overlap, most_words, source_combined, WritesWithin};
 ghost use Rattle.jbig2_base.specs.Table.{IsTable};
 ghost use Rattle.jbig2_base.specs.Bits.{bit};
@@ -65,7 +65,7 @@ impl<A: Allocator> Bitmap<A> {
         operator: CombinationOperator,
         steps: &mut Steps<L>,
     )
-        ensures value { self.new ≡ combined operator self.old other.now x y }
+        ensures value { self.new ≡ combined_grid operator self.old other.now x y }
         ensures exact { steps.new ≡ source_combined self.old other.now x y steps.old }
         ensures steps { WritesWithin (overlap self.old.height other.now.height y
             * most_words (overlap self.old.width other.now.width x)) steps.old steps.new }
@@ -133,7 +133,7 @@ fn combine_part<A: Allocator, B: Allocator, L: Ledger>(
     operator: CombinationOperator,
     steps: &mut Steps<L>,
 )
-    ensures value { page.new ≡ combined operator page.old source.now x y }
+    ensures value { page.new ≡ combined_grid operator page.old source.now x y }
     ensures exact { steps.new ≡ source_combined page.old source.now x y steps.old }
     ensures steps { WritesWithin (overlap page.old.height source.now.height y
         * most_words (overlap page.old.width source.now.width x)) steps.old steps.new }

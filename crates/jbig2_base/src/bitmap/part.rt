@@ -4,7 +4,7 @@ ghost use Rattle.std.specs.Prelude.{◌≡◌, ◌+◌, ◌/◌, ◌<◌, ◌≤
 ghost use Rattle.jbig2_base.specs.Results.{Gives};
 ghost use Rattle.jbig2_base.specs.Counts.{words_copied, words_of};
 ghost use Rattle.jbig2_base.specs.Grid.{part_of, part_or_overflow};
-ghost use Rattle.jbig2_base.specs.inner.Filled.{filled, pixel_of_part};
+ghost use Rattle.jbig2_base.specs.inner.GridsBefore.{grid_before, pixel_of_part};
 
 use crate::bitmap::Bitmap;
 use crate::bitmap::steps::Steps;
@@ -36,9 +36,10 @@ fn copy_row<A: Allocator, B: Allocator, L: Ledger>(
     requires columns { area.left + area.width ≤ 4294967295 }
     requires rows { area.top + area.height ≤ 4294967295 }
     requires row { y < area.height }
-    requires above { part.old ≡ filled area.width area.height (pixel_of_part bitmap.now area) y 0 }
+    requires above { part.old
+        ≡ grid_before area.width area.height (pixel_of_part bitmap.now area) y 0 }
     ensures value { part.new
-        ≡ filled area.width area.height (pixel_of_part bitmap.now area) (y + 1) 0 }
+        ≡ grid_before area.width area.height (pixel_of_part bitmap.now area) (y + 1) 0 }
     ensures steps { steps.new ≡ words_copied ((area.width + 63) / 64) steps.old }
 {
     for word in 0..area.width.div_ceil(64) {

@@ -18,9 +18,10 @@ abbrev pub seen_registers : BufferedRegisters → Registers
 seen_registers registers = record { a = registers.a; code = seen_of registers.code }
 
 -- the number that this many bytes after a place make, with each byte inverted
-abbrev pub spelled : List ℕ → ℕ → ℕ → ℕ
-spelled bytes place zero = 0
-spelled bytes place (suc n) = (0xFF - byte_at bytes (place + 1)) * 2 ^ (8 * n) + spelled bytes (place + 1) n
+abbrev pub inverted_bytes : List ℕ → ℕ → ℕ → ℕ
+inverted_bytes bytes place zero = 0
+inverted_bytes bytes place (suc n) =
+    (0xFF - byte_at bytes (place + 1)) * 2 ^ (8 * n) + inverted_bytes bytes (place + 1) n
 
 -- The lowest bits are this many whole bytes after a place, and none of them comes after a byte FF. `ct` bits are above.
 pub record Reads (bytes : List ℕ) (ct ahead place : ℕ) (code : CodeBuffer) : Type 0 where
@@ -31,7 +32,7 @@ pub record Reads (bytes : List ℕ) (ct ahead place : ℕ) (code : CodeBuffer) :
   pub read : code.place ≡ place + ahead
   pub within : code.place ≤ length bytes
   pub plain : (i : ℕ) → i < ahead → byte_at bytes (place + i) ≢ 0xFF
-  pub spells : code.c % 2 ^ (48 - ct) ≡ spelled bytes place ahead * 2 ^ (48 - code.bits)
+  pub spells : code.c % 2 ^ (48 - ct) ≡ inverted_bytes bytes place ahead * 2 ^ (48 - code.bits)
 
 pub record IsAhead (bytes : List ℕ) (code : CodeBuffer) : Type 0 where
   pub ct : ℕ
@@ -40,8 +41,8 @@ pub record IsAhead (bytes : List ℕ) (code : CodeBuffer) : Type 0 where
   pub reads : Reads bytes ct ahead place code
 
 -- the register after this many shifts
-abbrev pub shifted : ℕ → CodeBuffer → CodeBuffer
-shifted k code = record { c = code.c * 2 ^ k % 2 ^ 64; bits = code.bits - k; place = code.place }
+abbrev pub shift_buffer : ℕ → CodeBuffer → CodeBuffer
+shift_buffer k code = record { c = code.c * 2 ^ k % 2 ^ 64; bits = code.bits - k; place = code.place }
 
 -- How far A may fall in quiet decisions (T.88, E.3). Below 8000 a renormalization follows. At the upper half of C or
 -- below it, the lower part of the interval is chosen.

@@ -15,8 +15,8 @@ pub record HasRead (name : List Bool → ℕ) (start : Counts) (r : Reading) (pl
 
 -- What a call states about an integer's bits, after any number of them.
 abbrev pub IfRead : (Reading → Type 0) → ℕ → Coder → List Context → Counts → Type 0
-IfRead told prev coder contexts steps =
-    (start : Counts) (r : Reading) → HasRead prev_of start r prev coder contexts steps → told r
+IfRead claim prev coder contexts steps =
+    (start : Counts) (r : Reading) → HasRead prev_of start r prev coder contexts steps → claim r
 
 -- The same relation holds again after the call has read more bits.
 abbrev pub GoesOn : (Reading → Reading) → ℕ → Coder → List Context → Counts → ℕ → Coder → List Context → Counts → Type 0

@@ -4,7 +4,7 @@ use Rattle.std.specs.Prelude.{drop, slice_get, if◌then◌else◌}
 use Rattle.jbig2_coder.specs.declared.huffman_table.line.TableLine.{TableLine}
 use Rattle.jbig2_coder.specs.declared.huffman_table.levels.Level.{Level}
 use Rattle.jbig2_coder.specs.PrefixCode.{Member, CodeReading, shorter, level, line_of, begins_longer}
-use Rattle.jbig2_coder.specs.inner.CodeParts.{found_or, refused, ended}
+use Rattle.jbig2_coder.specs.inner.CodeReadings.{found_or, unknown_code, cut_off_code}
 
 -- the lines of each level
 abbrev pub groups_of : List TableLine → List Level → List (List TableLine)
@@ -17,21 +17,21 @@ groups zero l lines = []
 groups (suc n) l lines = level l lines ∷ groups n (l + 1) lines
 
 -- the codes n, n + 1 and so on, of l bits
-abbrev pub numbered : ℕ → ℕ → List TableLine → List Member
-numbered l n [] = []
-numbered l n (x ∷ xs) = record { bits = l; number = n; line = x } ∷ numbered l (n + 1) xs
+abbrev pub codes_of_length : ℕ → ℕ → List TableLine → List Member
+codes_of_length l n [] = []
+codes_of_length l n (x ∷ xs) = record { bits = l; number = n; line = x } ∷ codes_of_length l (n + 1) xs
 
 -- the codes of n lengths from l on
 abbrev pub codes_from : ℕ → ℕ → List TableLine → List Member
 codes_from zero l lines = []
-codes_from (suc n) l lines = numbered l (shorter l lines) (level l lines) ++ codes_from n (l + 1) lines
+codes_from (suc n) l lines = codes_of_length l (shorter l lines) (level l lines) ++ codes_from n (l + 1) lines
 
 -- A read bit by bit: k bits of a code are taken, and they make the number v.
 abbrev pub read_on : List Member → ℕ → ℕ → List ℕ → CodeReading TableLine
-read_on ms k v [] = ended (k + 1)
+read_on ms k v [] = cut_off_code (k + 1)
 read_on ms k v (b ∷ bits) =
     found_or (line_of ms (k + 1) (2 * v + b)) (k + 1)
-    (if begins_longer ms (k + 1) (2 * v + b) then read_on ms (k + 1) (2 * v + b) bits else refused (k + 1))
+    (if begins_longer ms (k + 1) (2 * v + b) then read_on ms (k + 1) (2 * v + b) bits else unknown_code (k + 1))
 
 -- how many inner nodes are above the groups, if each has at most two children
 abbrev pub nodes : List (List TableLine) → ℕ
@@ -41,15 +41,16 @@ nodes (g ∷ gs) = (length g + nodes gs + 1) / 2
 -- the members, after b codes of k bits are used
 abbrev pub codes_at : ℕ → ℕ → List (List TableLine) → List Member
 codes_at k b [] = []
-codes_at k b (g ∷ gs) = numbered (k + 1) (2 * b) g ++ codes_at (k + 1) (2 * b + length g) gs
+codes_at k b (g ∷ gs) = codes_of_length (k + 1) (2 * b) g ++ codes_at (k + 1) (2 * b + length g) gs
 
 -- The walk down the groups: d is the number of the inner node, and k bits are taken.
 abbrev pub walk : List (List TableLine) → ℕ → ℕ → List ℕ → CodeReading TableLine
-walk gs k d [] = ended (k + 1)
-walk [] k d (b ∷ bits) = refused (k + 1)
+walk gs k d [] = cut_off_code (k + 1)
+walk [] k d (b ∷ bits) = unknown_code (k + 1)
 walk (g ∷ gs) k d (b ∷ bits) =
     found_or (slice_get g (2 * d + b)) (k + 1)
-    (if nat_lt (2 * d + b - length g) (nodes gs) then walk gs (k + 1) (2 * d + b - length g) bits else refused (k + 1))
+    (if nat_lt (2 * d + b - length g) (nodes gs) then walk gs (k + 1) (2 * d + b - length g) bits
+    else unknown_code (k + 1))
 
 -- the walk from a node down the levels
 abbrev pub walk_of : List TableLine → List Level → ℕ → List ℕ → CodeReading TableLine

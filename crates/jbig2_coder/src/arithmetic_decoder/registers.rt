@@ -1,8 +1,8 @@
 //! The registers of the arithmetic decoder, and how bytes go into them (T.88, Annex G).
 
 ghost use Rattle.std.specs.Prelude.{◌≡◌, ◌+◌, ◌-◌, ◌*◌, ◌/◌, ◌^◌, ◌<◌, ◌≤◌, length};
-ghost use Rattle.jbig2_coder.specs.Coder.{byte_at, byte_in, renormed};
-ghost use Rattle.jbig2_coder.specs.inner.Ahead.{IsAhead, seen_of, seen_registers, shifted};
+ghost use Rattle.jbig2_coder.specs.Coder.{byte_at, byte_in, renormd};
+ghost use Rattle.jbig2_coder.specs.inner.Ahead.{IsAhead, seen_of, seen_registers, shift_buffer};
 
 /// The code register C, the bits of it that are left before the next byte is read (CT), and the
 /// place of the byte that was read last.
@@ -132,7 +132,7 @@ impl BufferedRegisters {
         requires bits { shifts ≤ self.old.code.bits }
         requires room { self.old.a * 2 ^ shifts < 2 ^ 16 }
         ensures { self.new ≡
-            record { a = self.old.a * 2 ^ shifts; code = shifted shifts self.old.code } }
+            record { a = self.old.a * 2 ^ shifts; code = shift_buffer shifts self.old.code } }
     {
         self.a <<= shifts;
         self.code.c <<= shifts;
@@ -159,8 +159,8 @@ impl BufferedRegisters {
         requires ahead { IsAhead bytes.now self.old.code }
         requires empty { self.old.code.bits ≡ 0 }
         ensures ahead { IsAhead bytes.now self.new.code }
-        ensures same { renormed bytes.now 15 self.old.a (seen_of self.old.code)
-            ≡ renormed bytes.now 15 self.new.a (seen_of self.new.code) }
+        ensures same { renormd bytes.now 15 self.old.a (seen_of self.old.code)
+            ≡ renormd bytes.now 15 self.new.a (seen_of self.new.code) }
         ensures a { self.new.a ≡ 2 * self.old.a }
     {
         let read = byte_in(bytes, (self.code.c >> 32) as u32, self.code.place);
@@ -179,8 +179,8 @@ impl BufferedRegisters {
         requires half { self.old.a < 0x8000 }
         requires ahead { IsAhead bytes.now self.old.code }
         ensures ahead { IsAhead bytes.now self.new.code }
-        ensures same { renormed bytes.now 15 self.old.a (seen_of self.old.code)
-            ≡ renormed bytes.now 15 self.new.a (seen_of self.new.code) }
+        ensures same { renormd bytes.now 15 self.old.a (seen_of self.old.code)
+            ≡ renormd bytes.now 15 self.new.a (seen_of self.new.code) }
         ensures more { self.old.a < self.new.a }
         ensures below { self.new.a < 0x10000 }
     {
@@ -200,7 +200,7 @@ impl BufferedRegisters {
         requires below { self.old.a < 0x10000 }
         requires ahead { IsAhead bytes.now self.old.code }
         ensures value { seen_registers self.new
-            ≡ renormed bytes.now 15 self.old.a (seen_of self.old.code) }
+            ≡ renormd bytes.now 15 self.old.a (seen_of self.old.code) }
         ensures ahead { IsAhead bytes.now self.new.code }
         ensures normal { 0x8000 ≤ self.new.a }
         ensures below { self.new.a < 0x10000 }
@@ -217,7 +217,7 @@ impl BufferedRegisters {
         requires half { self.old.a < 0x8000 }
         requires ahead { IsAhead bytes.now self.old.code }
         ensures value { seen_registers self.new
-            ≡ renormed bytes.now 15 self.old.a (seen_of self.old.code) }
+            ≡ renormd bytes.now 15 self.old.a (seen_of self.old.code) }
         ensures ahead { IsAhead bytes.now self.new.code }
         ensures normal { 0x8000 ≤ self.new.a }
         ensures below { self.new.a < 0x10000 }

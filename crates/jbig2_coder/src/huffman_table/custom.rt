@@ -2,7 +2,7 @@
 ghost use Rattle.std.specs.Prelude.{◌≡◌, ◌+◌, ◌≤◌, ◌<◌, ◌^◌, drop, length, OnOk, IfOk};
 ghost use Rattle.jbig2_base.specs.Bits.{bits_left, bits_on};
 ghost use Rattle.jbig2_coder.specs.CustomTable.{left_at, next_low, custom_header, custom_line, range_lines, end_lines, concat, custom_lines, GivesAt};
-ghost use Rattle.jbig2_coder.specs.inner.CodeParts.{HasWidths};
+ghost use Rattle.jbig2_coder.specs.inner.CodeReadings.{HasWidths};
 ghost use Rattle.jbig2_coder.specs.PrefixCode.{AreShort};
 
 use super::line::TableLine;

@@ -39,7 +39,8 @@ pub(super) fn push_level<A: Allocator>(
     length: u8,
     by_length: &mut Vec<TableLine, A>,
 ) -> Result<()>
-    ensures items { OnOk result (by_length.new.items ≡ by_length.old.items ++ level length lines.now) }
+    ensures items { OnOk result (by_length.new.items
+        ≡ by_length.old.items ++ level length lines.now) }
     ensures memory { IfErr result (λ e. e ≡ OutOfMemory) }
 {
     for line in lines {

@@ -27,7 +27,7 @@ pub struct TableLine {
 
 impl TableLine {
     ghost use Rattle.std.specs.Prelude.{◌≡◌, ◌≤◌, drop, pos, ◌-ℤ◌};
-    ghost use Rattle.jbig2_coder.specs.PrefixCode.{in_word, moved, value_by};
+    ghost use Rattle.jbig2_coder.specs.PrefixCode.{in_word, value_of_line, value_by};
     ghost use Rattle.jbig2_base.specs.Causes.{HasCause};
     ghost use Rattle.jbig2_coder.specs.Causes.{BreaksRange};
     ghost use Rattle.jbig2_coder.specs.Tables.{line, lower, out_of_band};
@@ -73,7 +73,8 @@ impl TableLine {
 
     /// The low value plus the range bits, or minus them in a lower line, if it fits 64 bits.
     fn moved(&self, offset: u32) -> Option<i64>
-        ensures { SomeIff result (FitsSigned w64 (moved self.now offset)) (moved self.now offset) }
+        ensures { SomeIff result (FitsSigned w64 (value_of_line self.now offset))
+            (value_of_line self.now offset) }
     {
         if self.is_lower {
             self.range_low.checked_sub(i64::from(offset))
@@ -84,7 +85,7 @@ impl TableLine {
 
     /// The value for these range bits. Outside signed 32 bits it is an invalid code.
     fn value(&self, offset: u32) -> Result<i32>
-        ensures { result ≡ in_word (moved self.now offset) }
+        ensures { result ≡ in_word (value_of_line self.now offset) }
     {
         let Some(value) = self.moved(offset) else {
             return Err(HuffmanError::InvalidCode.into());

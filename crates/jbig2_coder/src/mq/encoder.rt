@@ -4,7 +4,7 @@ ghost use Rattle.std.specs.Prelude.{◌≡◌, ℕ, ◌+◌, ◌-◌, ◌*◌, �
 ghost use Rattle.std.specs.Bool.{OnFalse};
 ghost use Rattle.jbig2_base.specs.Results.{Gives};
 ghost use Rattle.jbig2_base.specs.declared.error.DecodeError.TheVariants.{OutOfMemory};
-ghost use Rattle.jbig2_coder.specs.Encoder.{opened, plain, stuffed, byte_out, shifted, renormed, narrowed, encoding, set_bits, flushed, is_full, closed};
+ghost use Rattle.jbig2_coder.specs.Encoder.{initial_coding, eight_bits_out, seven_bits_out, byte_out, shift_once, renorme, narrowed_interval, encoding, set_bits, flush_coder, is_full, with_marker};
 ghost use Rattle.jbig2_coder.specs.inner.EncoderViews.{writer_of, coding_of, HasRoom};
 
 use crate::arithmetic_decoder::ArithmeticDecoderContext;
@@ -31,10 +31,10 @@ pub struct Registers {
 const CARRY: u32 = 0x800_0000;
 
 /// Writes the top eight bits of `c`, below the carry.
-#[tactic(auto, unfolding(crate::specs::Encoder::plain))]
+#[tactic(auto, unfolding(crate::specs::Encoder::eight_bits_out))]
 fn plain<A: Allocator>(bytes: &mut Vec<u8, A>, c: u32) -> Result<CodeRegister>
     ensures value { IfOk result
-        (λ code. writer_of bytes.new.items code ≡ plain c (reverse bytes.old.items)) }
+        (λ code. writer_of bytes.new.items code ≡ eight_bits_out c (reverse bytes.old.items)) }
     ensures err { IfErr result (λ e. e ≡ OutOfMemory) }
     ensures bits { IfOk result (λ code. code.ct ≡ 8) }
     ensures bound { IfOk result (λ code. code.c < 2 ^ 19) }
@@ -47,11 +47,11 @@ fn plain<A: Allocator>(bytes: &mut Vec<u8, A>, c: u32) -> Result<CodeRegister>
 }
 
 /// Writes the carry of `c` and its top seven bits after a byte FF.
-#[tactic(auto, unfolding(crate::specs::Encoder::stuffed))]
+#[tactic(auto, unfolding(crate::specs::Encoder::seven_bits_out))]
 fn stuffed<A: Allocator>(bytes: &mut Vec<u8, A>, c: u32) -> Result<CodeRegister>
     requires { c < 2 ^ 28 }
     ensures value { IfOk result
-        (λ code. writer_of bytes.new.items code ≡ stuffed c (reverse bytes.old.items)) }
+        (λ code. writer_of bytes.new.items code ≡ seven_bits_out c (reverse bytes.old.items)) }
     ensures err { IfErr result (λ e. e ≡ OutOfMemory) }
     ensures bits { IfOk result (λ code. code.ct ≡ 7) }
     ensures bound { IfOk result (λ code. code.c < 2 ^ 20) }
@@ -103,12 +103,12 @@ fn byte_out<A: Allocator>(bytes: &mut Vec<u8, A>, c: u32) -> Result<CodeRegister
 }
 
 /// Shifts A and C by one bit.
-#[tactic(auto, unfolding(crate::specs::Encoder::shifted))]
+#[tactic(auto, unfolding(crate::specs::Encoder::shift_once))]
 fn shift<A: Allocator>(bytes: &mut Vec<u8, A>, registers: Registers) -> Result<Registers>
     requires half { registers.a < 0x8000 }
     requires room { HasRoom registers.a registers.code }
     ensures value { IfOk result (λ r. writer_of bytes.new.items r.code
-        ≡ shifted (writer_of bytes.old.items registers.code)) }
+        ≡ shift_once (writer_of bytes.old.items registers.code)) }
     ensures range { IfOk result (λ r. r.a ≡ 2 * registers.a) }
     ensures err { IfErr result (λ e. e ≡ OutOfMemory) }
     ensures room { IfOk result (λ r. HasRoom r.a r.code) }
@@ -130,7 +130,7 @@ fn renormalize<A: Allocator>(bytes: &mut Vec<u8, A>, registers: Registers) -> Re
     requires below { registers.a < 0x10000 }
     requires room { HasRoom registers.a registers.code }
     ensures value { IfOk result (λ r. coding_of bytes.new.items r
-        ≡ renormed 15 registers.a (writer_of bytes.old.items registers.code)) }
+        ≡ renorme 15 registers.a (writer_of bytes.old.items registers.code)) }
     ensures err { IfErr result (λ e. e ≡ OutOfMemory) }
     ensures normal { IfOk result (λ r. 0x8000 ≤ r.a) }
     ensures below { IfOk result (λ r. r.a < 0x10000) }
@@ -149,7 +149,7 @@ fn narrow(registers: &mut Registers, context: &mut ArithmeticDecoderContext, dec
     requires normal { 0x8000 ≤ registers.old.a }
     requires below { registers.old.a < 0x10000 }
     requires room { registers.old.code.c < 2 ^ 28 }
-    ensures value { narrowed context.old decision registers.old.a registers.old.code.c
+    ensures value { narrowed_interval context.old decision registers.old.a registers.old.code.c
         ≡ record {
           range = registers.new.a;
           register = registers.new.code.c;
@@ -214,7 +214,7 @@ fn is_full(bytes: &[u8]) -> bool
 
 /// Adds the marker FF AC to the bytes (E.2.9). A last byte FF begins the marker.
 fn close<A: Allocator>(bytes: &mut Vec<u8, A>) -> Result<()>
-    ensures value { OnOk result (bytes.new.items ≡ closed (reverse bytes.old.items)) }
+    ensures value { OnOk result (bytes.new.items ≡ with_marker (reverse bytes.old.items)) }
     ensures err { IfErr result (λ e. e ≡ OutOfMemory) }
 {
     if is_full(bytes) {
@@ -245,9 +245,9 @@ impl<A: Allocator> Model for ArithmeticEncoder<A> {
 
 impl<A: Allocator> ArithmeticEncoder<A> {
     /// An encoder that has written nothing (INITENC, E.2.8).
-    #[tactic(auto, unfolding(crate::specs::Encoder::opened))]
+    #[tactic(auto, unfolding(crate::specs::Encoder::initial_coding))]
     pub fn new(alloc: A) -> Self
-        ensures { result ≡ opened }
+        ensures { result ≡ initial_coding }
     {
         ArithmeticEncoder {
             registers: Registers {
@@ -276,7 +276,7 @@ impl<A: Allocator> ArithmeticEncoder<A> {
 
     /// The bytes, with the marker FF AC at the end (FLUSH, E.2.9).
     pub fn finish(self) -> Result<Vec<u8, A>>
-        ensures { Gives (λ v. v.items) result (Ok (closed (flushed self).out)) }
+        ensures { Gives (λ v. v.items) result (Ok (with_marker (flush_coder self).out)) }
     {
         let ArithmeticEncoder {
             registers,

@@ -7,8 +7,8 @@ use Rattle.jbig2_mmr.specs.T6.{begins, ends_block, Head, black_at}
 
 -- the lowest n bits of a number, high bit first, and then other bits
 abbrev pub spell : ℕ → ℕ → List ℕ → List ℕ
-spell zero v behind = behind
-spell (suc n) v behind = spell n (v / 2) (v % 2 ∷ behind)
+spell zero v following = following
+spell (suc n) v following = spell n (v / 2) (v % 2 ∷ following)
 
 -- data, and the bits of it that are left to read
 pub record Rest : Type 0 where
@@ -30,8 +30,8 @@ abbrev pub after_end : List ℕ → List ℕ
 after_end bits = if ends_block bits then drop 24 bits else bits
 
 -- the bits, and zeros after them
-abbrev pub padded : List ℕ → List ℕ
-padded bits = bits ++ replicate 24 0
+abbrev pub padded_bits : List ℕ → List ℕ
+padded_bits bits = bits ++ replicate 24 0
 
 -- what was read, and the bits after it
 abbrev pub with_rest : {A : Type 0} → Option A → List ℕ → Option (A × List ℕ)
@@ -80,4 +80,4 @@ pub record IsTurn (w : ℕ) (h : Head) (added : List ℕ) (turn : ℕ) (next : H
   pub inside : next.a0 ≤ w
   pub before : (x : ℕ) → x < turn → black_at added x ≡ false
   pub between : (x : ℕ) → turn ≤ x → x < next.a0 → black_at added x ≡ true
-  pub behind : (x : ℕ) → next.a0 ≤ x → differ h.black (black_at added x) ≡ next.black
+  pub following : (x : ℕ) → next.a0 ≤ x → differ h.black (black_at added x) ≡ next.black

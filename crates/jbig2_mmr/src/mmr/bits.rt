@@ -4,7 +4,7 @@ ghost use Rattle.jbig2_base.specs.Bits.{number_after};
 ghost use Rattle.jbig2_mmr.specs.T6.{read_code, run, bits_of, ends_block, is_prefix_free, runs_of};
 ghost use Rattle.jbig2_mmr.specs.T6Codes.{modes};
 ghost use Rattle.jbig2_base.specs.inner.BitLists.{AreBits};
-ghost use Rattle.jbig2_mmr.specs.inner.T6Reading.{with_rest, ReadRun, after_end, padded};
+ghost use Rattle.jbig2_mmr.specs.inner.T6Reading.{with_rest, ReadRun, after_end, padded_bits};
 ghost use Rattle.jbig2_mmr.specs.inner.T6Steps.{IsNearMode};
 
 use crate::mmr::codes::modes::MODES;
@@ -62,7 +62,7 @@ impl<'a> CodeReader<'a> {
     #[inline(always)]
     fn window(&self) -> u32
         ensures value { (n : ℕ) → n ≤ 24 → result / 2 ^ (24 - n) ≡
-            number_after 0 (take n (padded self.now.left)) }
+            number_after 0 (take n (padded_bits self.now.left)) }
         ensures bits { AreBits self.now.left }
         ensures bound { result < 2 ^ 24 }
     {

@@ -6,7 +6,7 @@ use Rattle.jbig2_base.specs.Grid.{Grid, blank}
 use Rattle.jbig2_coder.specs.Coder.{Context}
 use Rattle.jbig2_region.specs.Steps.{CountsRegion}
 use Rattle.jbig2_region.specs.inner.Neighbours.{DecodesPixels, IsNear, neighbour_count, nominal_pixels, row_coding}
-use Rattle.jbig2_region.specs.inner.RegionStates.{CountedRegion, RegionState, source_of, uncounted}
+use Rattle.jbig2_region.specs.inner.RegionStates.{CountedRegion, RegionState, source_of, without_counts}
 use Rattle.jbig2_region.specs.inner.RowCounts.{CountsRuns}
 use Rattle.jbig2_region.specs.declared.template.neighbours.Neighbours.{Neighbours}
 
@@ -18,13 +18,15 @@ pub record FitsRow (n : Neighbours) (y : ℕ) (g : Grid) (s : List Context) : Ty
   pub row : y < g.height
 
 pub record DecodesRow (n : Neighbours) (y : ℕ) (start end : CountedRegion) : Type 0 where
-  pub holds : DecodesPixels (nominal_pixels n) false 0 y start.grid.width (uncounted start) (uncounted end)
+  pub has_decoded :
+      DecodesPixels (nominal_pixels n) false 0 y start.grid.width (without_counts start) (without_counts end)
   pub width : end.grid.width ≡ start.grid.width
   pub height : end.grid.height ≡ start.grid.height
   pub bytes : end.coder.bytes ≡ start.coder.bytes
   pub contexts : length end.contexts ≡ length start.contexts
   pub decisions :
-      CountsRuns (nominal_pixels n) 0 y start.grid.width (uncounted start) start.counts.decisions end.counts.decisions
+      CountsRuns (nominal_pixels n) 0 y start.grid.width (without_counts start) start.counts.decisions
+      end.counts.decisions
   pub run_tests : end.counts.run_tests ≤ start.counts.run_tests + (start.grid.width - 1) / 8
   pub loads : end.counts.loads ≤ start.counts.loads + 2 * ((start.grid.width - 1) / 64 + 2)
   pub words : end.counts.words ≤ start.counts.words + ((start.grid.width - 1) / 8 + 1)

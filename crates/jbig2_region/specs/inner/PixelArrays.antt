@@ -20,14 +20,14 @@ pixels_view mmr template (Regular a) = take (adaptive_pixel_count mmr false temp
 pixels_view mmr template (Extended a) = take (adaptive_pixel_count mmr true template) a
 
 -- An array of this many pixels that begins with these. The others lie at (0, 0), and no template uses them.
-abbrev pub filled : ℕ → List AdaptiveTemplatePixel → List AdaptiveTemplatePixel
-filled zero a = []
-filled (suc count) [] = right 0 0 ∷ filled count []
-filled (suc count) (first ∷ others) = first ∷ filled count others
+abbrev pub pixel_array : ℕ → List AdaptiveTemplatePixel → List AdaptiveTemplatePixel
+pixel_array zero a = []
+pixel_array (suc count) [] = right 0 0 ∷ pixel_array count []
+pixel_array (suc count) (first ∷ others) = first ∷ pixel_array count others
 
 abbrev pub IsFilled : GenericTemplatePixels → List AdaptiveTemplatePixel → Type 0
-IsFilled (Regular a) pixels = a ≡ filled 4 pixels
-IsFilled (Extended a) pixels = a ≡ filled 12 pixels
+IsFilled (Regular a) pixels = a ≡ pixel_array 4 pixels
+IsFilled (Extended a) pixels = a ≡ pixel_array 12 pixels
 
 -- the pixels of the code's array of two that a template has
 abbrev pub two_pixels : RefinementTemplate → List AdaptiveTemplatePixel → List AdaptiveTemplatePixel

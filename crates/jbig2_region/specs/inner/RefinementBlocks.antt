@@ -6,7 +6,7 @@ use Rattle.jbig2_region.specs.Raster.{Coding}
 use Rattle.jbig2_region.specs.Refinement.{Reference, refinement_coding}
 use Rattle.jbig2_region.specs.inner.DecodedPixels.{DecodesPart, CountsPart}
 use Rattle.jbig2_region.specs.inner.Neighbours.{IsLeft}
-use Rattle.jbig2_region.specs.inner.RegionStates.{CountedDecoder, CountedRegion, region_state, uncounted}
+use Rattle.jbig2_region.specs.inner.RegionStates.{CountedDecoder, CountedRegion, region_state, without_counts}
 use Rattle.jbig2_region.specs.inner.RefinementWindows.{SeesRows, corners, known_of, nine_of}
 use Rattle.jbig2_region.specs.declared.refinement_kernel.windows.RefinementWindows.{RefinementWindows}
 use Rattle.jbig2_region.specs.declared.template.RefinementTemplate.{RefinementTemplate}
@@ -18,10 +18,10 @@ pub record Block (coding : Coding) (p : Bool) (x y k : ℕ) (start : CountedRegi
   pub bytes : d.coder.bytes ≡ start.coder.bytes
   pub few : pixels < 16 * 2 ^ k
   pub left : IsLeft (with_pixels start.grid x y k pixels) (x + k) y pixels
-  pub holds :
-      DecodesPart coding p x y k (uncounted start)
+  pub has_decoded :
+      DecodesPart coding p x y k (without_counts start)
       (region_state (with_pixels start.grid x y k pixels) d.coder d.contexts)
-  pub decisions : CountsPart coding p x y k (uncounted start) start.counts.decisions d.counts.decisions
+  pub decisions : CountsPart coding p x y k (without_counts start) start.counts.decisions d.counts.decisions
   pub steps : d.counts ≡ record start.counts { decisions = d.counts.decisions }
 
 -- the colour of n pixels, from the k-th on, is not known

@@ -48,8 +48,8 @@ abbrev pub region_with : Grid → DecoderState → RegionState
 region_with grid d = region_state grid d.coder d.contexts
 
 -- the region without its counts
-abbrev pub uncounted : CountedRegion → RegionState
-uncounted s = region_state s.grid s.coder s.contexts
+abbrev pub without_counts : CountedRegion → RegionState
+without_counts s = region_state s.grid s.coder s.contexts
 
 -- what a region is decoded from, if this is how it begins
 abbrev pub source_of : RegionState → Source
@@ -73,7 +73,7 @@ pub record HasDecoded (w h : ℕ) (input : List ℕ) (r : Region) (held : Region
 -- the same after the start of a row, and whether the row is predicted
 pub record BeginsRow (w h : ℕ) (row_context : Option ℕ) (r : Region) (is_predicted : Bool) (before : Coder)
     (held : RegionState) : Type 0 where
-  pub holds : HasDecoded w h before.bytes (after_ltp row_context before.bytes r) held
+  pub has_decoded : HasDecoded w h before.bytes (after_ltp row_context before.bytes r) held
   pub predicted : (after_ltp row_context before.bytes r).predicted ≡ is_predicted
 
 -- A whole region is decoded, from the present state of the coder and the contexts.

@@ -56,6 +56,6 @@ module _ (template : List AdaptiveTemplatePixel) where
   unfoldable pub rows_runs : Bool → Coding → ℕ → ℕ → List ℕ → ℕ → Region → ℕ
   rows_runs nominal coding w h bytes zero r = 0
   rows_runs nominal coding w h bytes (suc n) r =
-      let begun = after_ltp coding.row_context bytes (after_rows coding w h bytes n r) in
+      let opening = after_ltp coding.row_context bytes (after_rows coding w h bytes n r) in
       rows_runs nominal coding w h bytes n r
-      + (if begun.predicted then 0 else if nominal then run_bytes w h bytes w begun else 0)
+      + (if opening.predicted then 0 else if nominal then run_bytes w h bytes w opening else 0)

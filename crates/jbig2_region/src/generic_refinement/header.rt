@@ -3,7 +3,7 @@ ghost use Rattle.std.specs.Prelude.{◌≡◌, IfOk};
 ghost use Rattle.jbig2_base.specs.Fields.{Parses};
 ghost use Rattle.jbig2_region.specs.RefinementHeader.{IsRefinement, refinement_header_at};
 ghost use Rattle.jbig2_region.specs.inner.RefinedViews.{header_view};
-ghost use Rattle.jbig2_region.specs.inner.PixelArrays.{filled};
+ghost use Rattle.jbig2_region.specs.inner.PixelArrays.{pixel_array};
 ghost use Rattle.jbig2_base.specs.Causes.{HasCause};
 ghost use Rattle.jbig2_region.specs.Causes.{BreaksRefinementHeader};
 
@@ -41,7 +41,7 @@ pub fn parse<'a>(reader: &mut Reader<'a>) -> Result<GenericRefinementRegionHeade
         (refinement_header_at reader.old.bytes) }
     ensures parsed { IfOk result (λ h. IsRefinement (header_view h)) }
     ensures unused { IfOk result (λ h. h.adaptive_template_pixels
-        ≡ filled 2 (header_view h).adaptive_template_pixels) }
+        ≡ pixel_array 2 (header_view h).adaptive_template_pixels) }
     ensures causes { HasCause result (BreaksRefinementHeader reader.old.bytes) }
 {
     let mut ahead = reader.duplicate();

@@ -165,7 +165,8 @@ pub fn decode_rows<M: Allocator, A: Allocator, L: Ledger>(
 )
     requires near { IsNear neighbours }
     requires ready { IsReady (neighbour_count neighbours) bitmap.old contexts.old }
-    ensures region { DecodesRegion (skipping_coding (nominal_pixels neighbours) (skip_of skip.entry))
+    ensures region { DecodesRegion
+        (skipping_coding (nominal_pixels neighbours) (skip_of skip.entry))
         (region_state bitmap.old decoder.old contexts.old)
         (region_state bitmap.new decoder.new contexts.new) }
     ensures steps { CountsSkipping (skip_of skip.entry) bitmap.old.width bitmap.old.height

@@ -3,7 +3,7 @@ ghost use Rattle.std.specs.Prelude.{◌≡◌, ◌≤◌, false, [], ◌∷◌, 
 ghost use Rattle.jbig2_base.specs.Results.{Returns};
 ghost use Rattle.jbig2_base.specs.Fields.{Parses};
 ghost use Rattle.jbig2_region.specs.RefinementTemplates.{refinement_pixels_at};
-ghost use Rattle.jbig2_region.specs.inner.PixelArrays.{two_pixels, IsFilled, filled, four_pixels, is_extended, pixels_view};
+ghost use Rattle.jbig2_region.specs.inner.PixelArrays.{two_pixels, IsFilled, pixel_array, four_pixels, is_extended, pixels_view};
 ghost use Rattle.jbig2_region.specs.Templates.{FitsTemplate, adaptive_pixel_at, adaptive_pixel_count, adaptive_pixels_at, free_pixel_at, is_earlier, takes_extended};
 ghost use Rattle.jbig2_base.specs.Causes.{HasCause};
 ghost use Rattle.jbig2_region.specs.Causes.{BreaksPixels, BreaksRefinementPixels};
@@ -72,7 +72,7 @@ fn parse_twelve(reader: &mut Reader<'_>) -> Result<[AdaptiveTemplatePixel; 12]>
 
 /// Four pixels, of which only the first is used.
 fn first_alone(first: AdaptiveTemplatePixel) -> [AdaptiveTemplatePixel; 4]
-    ensures { result ≡ filled 4 (first ∷ []) }
+    ensures { result ≡ pixel_array 4 (first ∷ []) }
 {
     let unused = AdaptiveTemplatePixel { x: 0, y: 0 };
     [first, unused, unused, unused]
@@ -90,7 +90,7 @@ pub fn parse_adaptive_template_pixels(
 ) -> Result<[AdaptiveTemplatePixel; 4]>
     ensures parses { Parses reader.old reader.new result (four_pixels template)
         (adaptive_pixels_at (adaptive_pixel_count false false template) reader.old.bytes) }
-    ensures unused { IfOk result (λ pixels. pixels ≡ filled 4 (four_pixels template pixels)) }
+    ensures unused { IfOk result (λ pixels. pixels ≡ pixel_array 4 (four_pixels template pixels)) }
 {
     let mut ahead = reader.duplicate();
     let pixels = match template {
@@ -142,7 +142,7 @@ pub fn parse_template_pixels(
 ) -> Result<[AdaptiveTemplatePixel; 2]>
     ensures parses { Parses reader.old reader.new result (two_pixels template)
         (refinement_pixels_at template reader.old.bytes) }
-    ensures unused { IfOk result (λ pixels. pixels ≡ filled 2 (two_pixels template pixels)) }
+    ensures unused { IfOk result (λ pixels. pixels ≡ pixel_array 2 (two_pixels template pixels)) }
     ensures causes { HasCause result (BreaksRefinementPixels template reader.old.bytes) }
 {
     match template {

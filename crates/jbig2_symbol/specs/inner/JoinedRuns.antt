@@ -12,10 +12,10 @@ joined_from run (zero ∷ next ∷ runs) = joined_from (run + next) runs
 joined_from run (suc n ∷ runs) = run ∷ joined_from (suc n) runs
 
 -- all runs; the first stays also where it is empty
-unfoldable pub joined : List ℕ → List ℕ
-joined [] = []
-joined (run ∷ runs) = joined_from run runs
+unfoldable pub join_runs : List ℕ → List ℕ
+join_runs [] = []
+join_runs (run ∷ runs) = joined_from run runs
 
 -- the runs that were read
 abbrev pub joined_runs : {S : Type 0} → Result (List ℕ × S) DecodeError → Result (List ℕ × S) DecodeError
-joined_runs read = read >>= λ (runs, after). Ok (joined runs, after)
+joined_runs read = read >>= λ (runs, after). Ok (join_runs runs, after)

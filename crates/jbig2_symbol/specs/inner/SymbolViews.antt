@@ -7,7 +7,7 @@ use Rattle.jbig2_base.specs.declared.error.DecodeError.{DecodeError}
 use Rattle.jbig2_base.specs.declared.error.DecodeError.TheVariants.{Huffman, Overflow}
 use Rattle.jbig2_base.specs.declared.error.HuffmanError.TheVariants.{UnexpectedOob}
 use Rattle.jbig2_base.specs.declared.error.OverflowError.TheVariants.{BitmapDimension}
-use Rattle.jbig2_base.specs.Bits.{Place, aligned}
+use Rattle.jbig2_base.specs.Bits.{Place, byte_boundary}
 use Rattle.jbig2_base.specs.Fields.{bytes_at}
 use Rattle.jbig2_base.specs.Grid.{Grid, bit_number, wide_or_overflow}
 use Rattle.jbig2_text.specs.TextCoding.{Coded, in_band}
@@ -63,7 +63,7 @@ size_of_rows d s = do
   (value, after_value) ← by_table d.tables.sizes s
   number ← in_band (Huffman UnexpectedOob) value
   size ← not_negative (Overflow BitmapDimension) number
-  Ok (size, record after_value { coding = aligned after_value.coding })
+  Ok (size, record after_value { coding = byte_boundary after_value.coding })
 
 -- the error of a class that is too high for its symbols: that of its collective bitmap, or else of its first symbol
 abbrev pub tall_class : SymbolInput → ℕ → ℕ → SymbolState Place → Result (Unit {0}) DecodeError

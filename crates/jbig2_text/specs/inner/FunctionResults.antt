@@ -71,8 +71,8 @@ abbrev pub s_after : TextRegionFlags → Grid → ℤ → Result ℤ DecodeError
 s_after flags g curs = if is_last_along_s flags then Ok curs else far_end flags g curs
 
 -- ---- instances
-abbrev pub reached : {S : Type 0} → Grid → Cursor → Refining → S → Reached S
-reached region c f s = record { region = region; cursor = c; refining = f; state = s }
+abbrev pub reaching : {S : Type 0} → Grid → Cursor → Refining → S → Reached S
+reaching region c f s = record { region = region; cursor = c; refining = f; state = s }
 
 -- whether a strip may end with this IDS
 abbrev pub end_of_strip : Bool → Result (Option ℤ) DecodeError → Result (Unit {0}) DecodeError
@@ -84,7 +84,7 @@ module _ {S : Type 0} (r : Readings S) (p : TextParams) where
   with_next_instance x = do
     y ← with_instance r p x
     (cursor, after) ← next_cursor r p.flags y.cursor y.state
-    Ok (reached y.region cursor y.refining after)
+    Ok (reaching y.region cursor y.refining after)
 
   -- the last instance, and then the end of its strip
   abbrev pub with_last : Reached S → Result (Grid × Refining × S) DecodeError
@@ -97,7 +97,7 @@ module _ {S : Type 0} (r : Readings S) (p : TextParams) where
   abbrev pub some_strips : Grid → ℤ → Refining → S → Result (Grid × Refining × S) DecodeError
   some_strips region stript f s = do
     (cursor, after) ← strip_start r p.flags stript (pos 0) s
-    x ← after_instances r p (p.count - 1) (reached region cursor f after)
+    x ← after_instances r p (p.count - 1) (reaching region cursor f after)
     with_last x
 
   abbrev pub strips : Grid → ℤ → Refining → S → Result (Grid × Refining × S) DecodeError

@@ -1,7 +1,7 @@
 use Rattle.std.proofs.Common.{◌∙◌, sym, arith}
 use Rattle.std.proofs.lemmas.Bool.{cond-false, cond-true}
 use Rattle.jbig2_base.specs.inner.SegmentViews.{header_view, segment_views}
-use Rattle.hayro_jbig2.specs.Files.{associated, lacks_page}
+use Rattle.hayro_jbig2.specs.Files.{association_check, lacks_page}
 use Rattle.hayro_jbig2.proofs.LeftLemmas.{left-first}
 use Rattle.hayro_jbig2.proofs.file.check_associations.Goals as goal
 
@@ -9,7 +9,7 @@ pub loop-segment-preserved : goal.loop-segment-preserved
 loop-segment-preserved g c =
     let segment = c.segment-item.result in
     sym
-    (left-first (λ left. associated c.args.strict (segment_views left)) c.args.segments.now c.loop-segment.segment-index segment (omega arith) c.segment-item.is
+    (left-first (λ left. association_check c.args.strict (segment_views left)) c.args.segments.now c.loop-segment.segment-index segment (omega arith) c.segment-item.is
     ∙ cond-false (lacks_page c.args.strict (header_view segment.header)) _ _ (sym c.lacks_page.ensures ∙ c.if-lacks_page.false))
     ∙ c.loop-segment.invariant
 
@@ -18,5 +18,5 @@ returns-then-lacks_page g c =
     let segment = c.segment-item.result in
     rw c.into.ensures
     (sym c.loop-segment.invariant
-    ∙ left-first (λ left. associated c.args.strict (segment_views left)) c.args.segments.now c.loop-segment.segment-index segment (omega arith) c.segment-item.is
+    ∙ left-first (λ left. association_check c.args.strict (segment_views left)) c.args.segments.now c.loop-segment.segment-index segment (omega arith) c.segment-item.is
     ∙ cond-true (lacks_page c.args.strict (header_view segment.header)) _ _ (sym c.lacks_page.ensures ∙ c.if-lacks_page.true))

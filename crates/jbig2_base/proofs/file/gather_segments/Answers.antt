@@ -1,7 +1,7 @@
 use Rattle.std.proofs.Common.{◌≡◌, length, arith, [], List, inr, sym, ◌∙◌, ap}
 use Rattle.std.proofs.lemmas.List.{map_push, nil_from_length}
 use Rattle.std.specs.Vec.Iter.{into_iter_items}
-use Rattle.jbig2_base.specs.File.{gathered}
+use Rattle.jbig2_base.specs.File.{with_data}
 use Rattle.jbig2_base.specs.Segment.{SegmentView}
 use Rattle.jbig2_base.specs.inner.SegmentViews.{header_views, header_view, segment_views, segment_view}
 use Rattle.jbig2_base.specs.declared.segment.Segment.{Segment}
@@ -16,9 +16,9 @@ loop-header-init g c =
     record {
       counted = c.into_iter-header-iterator.ensures.into_iter_gives.1 ∙ c.args.headers.ok.0 ∙ ap (λ (hs : List (SegmentHeader g.row.A.Denot)). length hs) (sym c.into_iter-header-iterator.ensures.into_iter_gives.0);
       gathers =
-          ap (λ (ss : List (Segment g.row.A.Denot)). with_front (segment_views ss) (gathered c.args.reading (header_views (into_iter_items c.into_iter-header-iterator.result)) bytes)) c.new-segments.ensures.items
-          ∙ front-none (gathered c.args.reading (header_views (into_iter_items c.into_iter-header-iterator.result)) bytes)
-          ∙ ap (λ (hs : List (SegmentHeader g.row.A.Denot)). gathered c.args.reading (header_views hs) bytes) c.into_iter-header-iterator.ensures.into_iter_gives.0;
+          ap (λ (ss : List (Segment g.row.A.Denot)). with_front (segment_views ss) (with_data c.args.reading (header_views (into_iter_items c.into_iter-header-iterator.result)) bytes)) c.new-segments.ensures.items
+          ∙ front-none (with_data c.args.reading (header_views (into_iter_items c.into_iter-header-iterator.result)) bytes)
+          ∙ ap (λ (hs : List (SegmentHeader g.row.A.Denot)). with_data c.args.reading (header_views hs) bytes) c.into_iter-header-iterator.ensures.into_iter_gives.0;
     }
 
 pub loop-header-preserved : goal.loop-header-preserved
@@ -26,14 +26,14 @@ loop-header-preserved g c =
     let front = segment_views c.loop-header.segments.items in
     let bytes = c.loop-header.reader.bytes in
     let hs = header_views (into_iter_items c.next.new.self) in
-    let meant = gathered c.args.reading (header_views c.args.headers.items) c.args.reader.now.bytes in
+    let meant = with_data c.args.reading (header_views c.args.headers.items) c.args.reader.now.bytes in
     let rest = c.parse_segment_data.new.reader.bytes in
     record {
       counted = omega (arith, c.loop-header.invariant.counted, c.in-Some.ensures.steps.1, ap length c.in-Some.ensures.steps.0);
       gathers =
-          ap (λ (ps : List SegmentView). with_front ps (gathered c.args.reading hs rest)) (ap (λ (ss : List (Segment g.row.A.Denot)). segment_views ss) c.in_ok-push-in-Ok.ensures.items ∙ map_push (λ (s : Segment g.row.A.Denot). segment_view s) c.loop-header.segments.items c.in-Ok.segment)
+          ap (λ (ps : List SegmentView). with_front ps (with_data c.args.reading hs rest)) (ap (λ (ss : List (Segment g.row.A.Denot)). segment_views ss) c.in_ok-push-in-Ok.ensures.items ∙ map_push (λ (s : Segment g.row.A.Denot). segment_view s) c.loop-header.segments.items c.in-Ok.segment)
           ∙ gathers_one front c.args.reading (header_view c.in-Some.header) hs bytes rest (segment_view c.in-Ok.segment) meant
-          (ap (λ (ks : List (SegmentHeader g.row.A.Denot)). with_front front (gathered c.args.reading (header_views ks) bytes)) (sym c.in-Some.ensures.steps.0) ∙ c.loop-header.invariant.gathers)
+          (ap (λ (ks : List (SegmentHeader g.row.A.Denot)). with_front front (with_data c.args.reading (header_views ks) bytes)) (sym c.in-Some.ensures.steps.0) ∙ c.loop-header.invariant.gathers)
           c.in-Ok.ensures.parses.value;
     }
 
@@ -41,16 +41,16 @@ pub returns-in-Err : goal.returns-in-Err
 returns-in-Err g c =
     let front = segment_views c.loop-header.segments.items in
     let bytes = c.loop-header.reader.bytes in
-    inr (gathers_none front c.args.reading (header_view c.in-Some.header) (header_views (into_iter_items c.next.new.self)) bytes c.in-Err.error (gathered c.args.reading (header_views c.args.headers.items) c.args.reader.now.bytes)
-    (ap (λ (ks : List (SegmentHeader g.row.A.Denot)). with_front front (gathered c.args.reading (header_views ks) bytes)) (sym c.in-Some.ensures.steps.0) ∙ c.loop-header.invariant.gathers)
+    inr (gathers_none front c.args.reading (header_view c.in-Some.header) (header_views (into_iter_items c.next.new.self)) bytes c.in-Err.error (with_data c.args.reading (header_views c.args.headers.items) c.args.reader.now.bytes)
+    (ap (λ (ks : List (SegmentHeader g.row.A.Denot)). with_front front (with_data c.args.reading (header_views ks) bytes)) (sym c.in-Some.ensures.steps.0) ∙ c.loop-header.invariant.gathers)
     c.in-Err.ensures.parses.value (sym c.if-is_salvaged.ensures.value))
 
 pub returns-then-is_salvaged : goal.returns-then-is_salvaged
 returns-then-is_salvaged g c =
     let front = segment_views c.loop-header.segments.items in
     let bytes = c.loop-header.reader.bytes in
-    gathers_drops front c.args.reading (header_view c.in-Some.header) (header_views (into_iter_items c.next.new.self)) bytes c.in-Err.error (gathered c.args.reading (header_views c.args.headers.items) c.args.reader.now.bytes)
-    (ap (λ (ks : List (SegmentHeader g.row.A.Denot)). with_front front (gathered c.args.reading (header_views ks) bytes)) (sym c.in-Some.ensures.steps.0) ∙ c.loop-header.invariant.gathers)
+    gathers_drops front c.args.reading (header_view c.in-Some.header) (header_views (into_iter_items c.next.new.self)) bytes c.in-Err.error (with_data c.args.reading (header_views c.args.headers.items) c.args.reader.now.bytes)
+    (ap (λ (ks : List (SegmentHeader g.row.A.Denot)). with_front front (with_data c.args.reading (header_views ks) bytes)) (sym c.in-Some.ensures.steps.0) ∙ c.loop-header.invariant.gathers)
     c.in-Err.ensures.parses.value (sym c.if-is_salvaged.ensures.value)
 
 pub returns : goal.returns
@@ -58,5 +58,5 @@ returns g c =
     let front = segment_views c.loop-header.segments.items in
     let bytes = c.loop-header.reader.bytes in
     let none : into_iter_items c.loop-header.header-iterator ≡ [] = nil_from_length (into_iter_items c.loop-header.header-iterator) (sym c.loop-header.invariant.counted ∙ c.in-None.ensures.steps.0) in
-    gathers_all front c.args.reading bytes (gathered c.args.reading (header_views c.args.headers.items) c.args.reader.now.bytes)
-    (ap (λ (ks : List (SegmentHeader g.row.A.Denot)). with_front front (gathered c.args.reading (header_views ks) bytes)) (sym none) ∙ c.loop-header.invariant.gathers)
+    gathers_all front c.args.reading bytes (with_data c.args.reading (header_views c.args.headers.items) c.args.reader.now.bytes)
+    (ap (λ (ks : List (SegmentHeader g.row.A.Denot)). with_front front (with_data c.args.reading (header_views ks) bytes)) (sym none) ∙ c.loop-header.invariant.gathers)

@@ -17,8 +17,8 @@ pub loop-reader-init : goal.loop-reader-init
 loop-reader-init g c =
     let bytes = c.args.bytes.now in
     let meant = sequential c.args.reading bytes in
-    let begun : c.new-reader.result.bytes ≡ bytes = ap (λ (p : Place). p.bytes) c.new-reader.ensures in
-    subst (λ (left : List ℕ). Reads (segment_views c.new-segments.result.items) c.args.reading left meant) (sym begun)
+    let opening : c.new-reader.result.bytes ≡ bytes = ap (λ (p : Place). p.bytes) c.new-reader.ensures in
+    subst (λ (left : List ℕ). Reads (segment_views c.new-segments.result.items) c.args.reading left meant) (sym opening)
     (Reads-as [] (segment_views c.new-segments.result.items) c.args.reading bytes meant (sym (ap (λ (ss : List (Segment g.row.A.Denot)). segment_views ss) c.new-segments.ensures.items)) (begins c.args.reading bytes))
 
 pub returns-then-last : goal.returns-then-last

@@ -299,8 +299,8 @@ fn combine_run<L: Ledger>(
     ensures same_reference { words.new.words.ghost_name ≡ words.old.words.ghost_name }
     ensures packed { HasShape shape words.new.words.now }
     ensures value { grid_in shape words.new.words.now
-        ≡ with_run operator (grid_in shape words.old.words.now) (64 * run.word + run.offset) run.y run.count
-        (λ i. bit bits (63 - i % 64)) }
+        ≡ with_run operator (grid_in shape words.old.words.now)
+        (64 * run.word + run.offset) run.y run.count (λ i. bit bits (63 - i % 64)) }
     ensures steps { steps.new
         ≡ record steps.old { loads = steps.old.loads + 1; words = steps.old.words + 1 } }
 {

@@ -36,10 +36,10 @@ returns-clause-contexts g c =
     let h = c.args.header.now in
     let decoded = as-coded h (λ (a : List AdaptiveTemplatePixel). DecodesRegion (coding_of h.tpgdon h.template (template_pixels (is_extended h.adaptive_template_pixels) h.template a)) (region_state c.args.bitmap.now c.new-decoder.result c.deref_mut.result.now) (region_state c.decode_coded.new.bitmap c.decode_coded.new.decoder c.decode_coded.new.contexts)) c.if-header.false c.decode_coded.ensures.region in
     let fresh : c.deref_mut.result.now ≡ fresh_contexts (context_bits c.args.header.now.template) = c.deref_mut.ensures.value ∙ sym (same-ok _ _ c.in_ok-fresh_contexts.ensures) ∙ ap (λ (n : ℕ). fresh_contexts n) c.context_bits.ensures in
-    let holds : HasDecoded c.args.header.now.region_info.width c.args.header.now.region_info.height c.args.header.now.bytes.now (generic_region (header_view c.args.header.now)) (region_state c.decode_coded.new.bitmap c.decode_coded.new.decoder c.decode_coded.new.contexts) =
+    let has_decoded : HasDecoded c.args.header.now.region_info.width c.args.header.now.region_info.height c.args.header.now.bytes.now (generic_region (header_view c.args.header.now)) (region_state c.decode_coded.new.bitmap c.decode_coded.new.decoder c.decode_coded.new.contexts) =
     region-decoded (header_view c.args.header.now) c.args.bitmap.now c.decode_coded.new.bitmap c.new-decoder.result c.decode_coded.new.decoder c.deref_mut.result.now c.decode_coded.new.contexts c.requires.white c.new-decoder.ensures.bytes c.new-decoder.ensures.registers fresh decoded in
     contexts-decoded (header_view c.args.header.now) c.args.contexts.now.items _ c.if-header.false
-    (whole-slice c.fresh_contexts.new.contexts.len c.decode_coded.new.contexts (drop (length c.decode_coded.new.contexts) c.fresh_contexts.new.contexts.items) (c.decode_coded.auto.contexts ∙ c.deref_mut.ensures.len) ∙ holds.contexts)
+    (whole-slice c.fresh_contexts.new.contexts.len c.decode_coded.new.contexts (drop (length c.decode_coded.new.contexts) c.fresh_contexts.new.contexts.items) (c.decode_coded.auto.contexts ∙ c.deref_mut.ensures.len) ∙ has_decoded.contexts)
 
 pub returns-clause-steps : goal.returns-clause-steps
 returns-clause-steps g c =

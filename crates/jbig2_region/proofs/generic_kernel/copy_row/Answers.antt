@@ -13,7 +13,7 @@ loop-index-init g c =
     record {
       width = refl;
       height = refl;
-      holds = λ template coder states. subst (λ (n : ℕ). DecodesPixels template true 0 c.args.y n (region_state c.args.bitmap.now coder states) (region_state c.args.bitmap.now coder states)) none (decodes-none template true 0 c.args.y c.args.bitmap.now coder states);
+      has_decoded = λ template coder states. subst (λ (n : ℕ). DecodesPixels template true 0 c.args.y n (region_state c.args.bitmap.now coder states) (region_state c.args.bitmap.now coder states)) none (decodes-none template true 0 c.args.y c.args.bitmap.now coder states);
       loads = omega arith;
       words = omega arith;
       decisions = refl;
@@ -30,10 +30,10 @@ loop-index-preserved g c =
     record {
       width = ap (λ (q : Grid). q.width) stored ∙ c.loop-index.invariant.width;
       height = ap (λ (q : Grid). q.height) stored ∙ c.loop-index.invariant.height;
-      holds = λ template coder states.
+      has_decoded = λ template coder states.
           decodes-then template true 0 (c.loop-index.index * 64) c.args.y (min (c.loop-index.index * 64) c.args.bitmap.now.width) c.min-count.result (min ((c.loop-index.index + 1) * 64) c.args.bitmap.now.width)
           c.args.bitmap.now c.loop-index.bitmap c.store_pixels.new.self coder coder coder states states states
-          (c.loop-index.invariant.holds template coder states)
+          (c.loop-index.invariant.has_decoded template coder states)
           (subst (λ (q : Grid). DecodesPixels template true (c.loop-index.index * 64) c.args.y c.min-count.result (region_state c.loop-index.bitmap coder states) (region_state q coder states)) (sym stored)
           (decodes-copied template (c.loop-index.index * 64) c.args.y c.min-count.result c.pixels_above-bits.result c.loop-index.bitmap coder states c.pixels_above-bits.ensures.bits (omega (arith, c.loop-index.invariant.width)) (omega (arith, c.loop-index.invariant.height))))
           (omega arith) next;
@@ -47,4 +47,4 @@ loop-index-preserved g c =
 pub returns-clause-pixels : goal.returns-clause-pixels
 returns-clause-pixels g c = λ template coder states.
     let all : min (c.loop-index.index * 64) c.args.bitmap.now.width ≡ c.args.bitmap.now.width = omega (arith, c.width-width.ensures.value, c.div_ceil-index-end.ensures) in
-    subst (λ (n : ℕ). DecodesPixels template true 0 c.args.y n (region_state c.args.bitmap.now coder states) (region_state c.loop-index.bitmap coder states)) all (c.loop-index.invariant.holds template coder states)
+    subst (λ (n : ℕ). DecodesPixels template true 0 c.args.y n (region_state c.args.bitmap.now coder states) (region_state c.loop-index.bitmap coder states)) all (c.loop-index.invariant.has_decoded template coder states)

@@ -10,7 +10,7 @@ abbrev pub invariant-loop-index : goal.invariant-loop-index
 invariant-loop-index g l = record {
   width : l.bitmap.width ≡ l.initial.bitmap.width;
   height : l.bitmap.height ≡ l.initial.bitmap.height;
-  holds : (template : List AdaptiveTemplatePixel) (coder : Coder) (states : List Context) → DecodesPixels template true 0 l.fn.y (min (l.index * 64) l.initial.bitmap.width) (region_state l.initial.bitmap coder states) (region_state l.bitmap coder states);
+  has_decoded : (template : List AdaptiveTemplatePixel) (coder : Coder) (states : List Context) → DecodesPixels template true 0 l.fn.y (min (l.index * 64) l.initial.bitmap.width) (region_state l.initial.bitmap coder states) (region_state l.bitmap coder states);
   loads : l.steps.loads ≡ l.initial.steps.loads + l.index;
   words : l.steps.words ≡ l.initial.steps.words + l.index;
   decisions : l.steps.decisions ≡ l.initial.steps.decisions;

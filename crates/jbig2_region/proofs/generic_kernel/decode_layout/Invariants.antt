@@ -14,7 +14,7 @@ invariant-loop-y g l = record {
   width : l.bitmap.width ≡ l.initial.bitmap.width;
   height : l.bitmap.height ≡ l.initial.bitmap.height;
   bytes : l.decoder.bytes ≡ l.initial.decoder.bytes;
-  holds : HasDecoded l.initial.bitmap.width l.initial.bitmap.height l.initial.decoder.bytes (after_rows (layout_coding l.fn.layout l.fn.row_context) l.initial.bitmap.width l.initial.bitmap.height l.initial.decoder.bytes l.y (no_pixels l.initial.decoder.registers l.initial.contexts)) (region_state l.bitmap l.decoder l.contexts);
+  has_decoded : HasDecoded l.initial.bitmap.width l.initial.bitmap.height l.initial.decoder.bytes (after_rows (layout_coding l.fn.layout l.fn.row_context) l.initial.bitmap.width l.initial.bitmap.height l.initial.decoder.bytes l.y (no_pixels l.initial.decoder.registers l.initial.contexts)) (region_state l.bitmap l.decoder l.contexts);
   predicted : (after_rows (layout_coding l.fn.layout l.fn.row_context) l.initial.bitmap.width l.initial.bitmap.height l.initial.decoder.bytes l.y (no_pixels l.initial.decoder.registers l.initial.contexts)).predicted ≡ l.predicted;
   none : l.y ≡ 0 → l.steps ≡ l.initial.steps;
   decisions : Counted (layout_pixels l.fn.layout) (is_nominal_layout l.fn.layout.adaptive) (layout_coding l.fn.layout l.fn.row_context) l.initial.bitmap.width l.initial.bitmap.height l.initial.decoder.bytes l.y (no_pixels l.initial.decoder.registers l.initial.contexts) l.initial.steps.decisions l.steps.decisions;

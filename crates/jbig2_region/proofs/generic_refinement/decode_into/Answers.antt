@@ -30,10 +30,10 @@ returns-clause-contexts g c =
     let fits_dx : SFits w32 c.in_ok-dx.dx = search rules in
     let fits_dy : SFits w32 c.in_ok-dx.dy = search rules in
     let place = offset-value (header_view c.args.header.now) (region_view c.args.reference.now) (c.in_ok-dx.dx, c.in_ok-dx.dy) (to_z w32 (of_z w32 c.in_ok-dx.dx)) (to_z w32 (of_z w32 c.in_ok-dx.dy)) (to_z-of_z w32 c.in_ok-dx.dx fits_dx) (to_z-of_z w32 c.in_ok-dx.dy fits_dy) near in
-    let holds : HasDecoded c.args.header.now.region_info.width c.args.header.now.region_info.height c.args.header.now.bytes.now (refined_region (header_view c.args.header.now) (region_view c.args.reference.now)) (region_state c.decode_bitmap.new.bitmap c.decode_bitmap.new.decoder c.decode_bitmap.new.contexts) =
+    let has_decoded : HasDecoded c.args.header.now.region_info.width c.args.header.now.region_info.height c.args.header.now.bytes.now (refined_region (header_view c.args.header.now) (region_view c.args.reference.now)) (region_state c.decode_bitmap.new.bitmap c.decode_bitmap.new.decoder c.decode_bitmap.new.contexts) =
     refined-decoded (header_view c.args.header.now) (region_view c.args.reference.now) _ c.args.bitmap.now c.decode_bitmap.new.bitmap c.new-decoder.result c.decode_bitmap.new.decoder c.deref_mut.result.now c.decode_bitmap.new.contexts place c.requires.white c.new-decoder.ensures.bytes c.new-decoder.ensures.registers fresh c.decode_bitmap.ensures.region in
     refined-contexts (header_view c.args.header.now) (region_view c.args.reference.now) (c.in_ok-dx.dx, c.in_ok-dx.dy) c.args.contexts.now.items _ near
-    (whole-slice c.fresh_contexts.new.contexts.len c.decode_bitmap.new.contexts (drop (length c.decode_bitmap.new.contexts) c.fresh_contexts.new.contexts.items) (c.decode_bitmap.auto.contexts ∙ c.deref_mut.ensures.len) ∙ holds.contexts)
+    (whole-slice c.fresh_contexts.new.contexts.len c.decode_bitmap.new.contexts (drop (length c.decode_bitmap.new.contexts) c.fresh_contexts.new.contexts.items) (c.decode_bitmap.auto.contexts ∙ c.deref_mut.ensures.len) ∙ has_decoded.contexts)
 
 pub returns-clause-steps : goal.returns-clause-steps
 returns-clause-steps g c =

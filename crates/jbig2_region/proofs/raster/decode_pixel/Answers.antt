@@ -13,7 +13,7 @@ pub returns-in-Some-clause-decoded : goal.returns-in-Some-clause-decoded
 returns-in-Some-clause-decoded g c =
     let same : c.set_pixel.new.steps.decisions ≡ c.args.steps.now.decisions = ap (λ (t : Counts). t.decisions) c.set_pixel.ensures.steps ∙ ap (λ (t : Counts). t.decisions) c.known_colour.ensures.steps in
     record {
-      holds = pixel-known (g.C.PixelCoding.coding c.args.coding.now) c.args.row.predicted c.args.x c.args.row.y c.args.bitmap.now c.set_pixel.new.self c.args.decoder.now c.args.contexts.now c.in-Some.colour c.requires.column c.requires.row (sym c.known_colour.ensures.value ∙ c.in-Some.is) c.set_pixel.ensures.value;
+      has_decoded = pixel-known (g.C.PixelCoding.coding c.args.coding.now) c.args.row.predicted c.args.x c.args.row.y c.args.bitmap.now c.set_pixel.new.self c.args.decoder.now c.args.contexts.now c.in-Some.colour c.requires.column c.requires.row (sym c.known_colour.ensures.value ∙ c.in-Some.is) c.set_pixel.ensures.value;
       width = ap (λ (b : Grid). b.width) c.set_pixel.ensures.value;
       height = ap (λ (b : Grid). b.height) c.set_pixel.ensures.value;
       bytes = refl;
@@ -29,7 +29,7 @@ returns-clause-decoded g c =
     let read : c.context-context.new.steps.decisions ≡ c.known_colour.new.steps.decisions = ap (λ (t : Counts). t.decisions) c.context-context.ensures.steps in
     let asked : c.known_colour.new.steps.decisions ≡ c.args.steps.now.decisions = ap (λ (t : Counts). t.decisions) c.known_colour.ensures.steps in
     record {
-      holds =
+      has_decoded =
           pixel-decided (g.C.PixelCoding.coding c.args.coding.now) c.args.row.predicted c.args.x c.args.row.y c.context-context.result c.args.bitmap.now c.set_pixel-2.new.self c.args.decoder.now c.decode-symbol.new.self c.args.contexts.now (get_or c.args.contexts.now c.context-context.result c.index-contexts-context.result) c.decode-symbol.new.context c.requires.column c.requires.row
           (search rules) c.context-context.ensures.value
           (get_or_default c.args.contexts.now c.context-context.result c.index-contexts-context.result fresh inside)

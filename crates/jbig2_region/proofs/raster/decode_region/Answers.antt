@@ -31,17 +31,17 @@ loop-y-preserved g c =
     let w : ℕ = c.args.bitmap.now.width in
     let begin =
     subst (λ (k : Option ℕ). (w h : ℕ) (grid : Grid) (r : Region) → r.predicted ≡ c.loop-y.predicted → HasDecoded w h c.loop-y.decoder.bytes r (region_state grid c.loop-y.decoder c.loop-y.contexts) → BeginsRow w h k r c.begin_row-predicted.result c.loop-y.decoder (region_state grid c.begin_row-predicted.new.decoder c.begin_row-predicted.new.contexts)) c.row_context.ensures.value c.begin_row-predicted.ensures.row in
-    let begun = c.begin_row-predicted.ensures.steps in
+    let opening = c.begin_row-predicted.ensures.steps in
     let more : c.begin_row-predicted.new.steps.decisions ≡ c.loop-y.steps.decisions + row_decisions coding.row_context =
-    ap (λ (s : Counts). s.decisions) begun ∙ ap (λ (k : Option ℕ). c.loop-y.steps.decisions + row_decisions k) c.row_context.ensures.value in
-    let same_words : c.begin_row-predicted.new.steps.words ≡ c.loop-y.steps.words = ap (λ (s : Counts). s.words) begun in
-    let same_loads : c.begin_row-predicted.new.steps.loads ≡ c.loop-y.steps.loads = ap (λ (s : Counts). s.loads) begun in
+    ap (λ (s : Counts). s.decisions) opening ∙ ap (λ (k : Option ℕ). c.loop-y.steps.decisions + row_decisions k) c.row_context.ensures.value in
+    let same_words : c.begin_row-predicted.new.steps.words ≡ c.loop-y.steps.words = ap (λ (s : Counts). s.words) opening in
+    let same_loads : c.begin_row-predicted.new.steps.loads ≡ c.loop-y.steps.loads = ap (λ (s : Counts). s.loads) opening in
     let written : c.decode_row.new.steps.words ≤ c.loop-y.steps.words + w =
     subst (λ (n : ℕ). c.decode_row.new.steps.words ≤ n + w) same_words (subst (λ (n : ℕ). c.decode_row.new.steps.words ≤ c.begin_row-predicted.new.steps.words + n) c.loop-y.invariant.rows.width (omega (arith, c.decode_row.ensures.words))) in
     let loaded : c.decode_row.new.steps.loads ≤ c.loop-y.steps.loads + w * (g.C.PixelCoding.bits c.args.coding.now + g.C.PixelCoding.known_loads c.args.coding.now) =
     subst (λ (n : ℕ). c.decode_row.new.steps.loads ≤ n + w * (g.C.PixelCoding.bits c.args.coding.now + g.C.PixelCoding.known_loads c.args.coding.now)) same_loads (subst (λ (n : ℕ). c.decode_row.new.steps.loads ≤ c.begin_row-predicted.new.steps.loads + n * (g.C.PixelCoding.bits c.args.coding.now + g.C.PixelCoding.known_loads c.args.coding.now)) c.loop-y.invariant.rows.width c.decode_row.ensures.loads) in
     record {
-      rows = rows-next c.begin_row-predicted.result c.begin_row-predicted.new.decoder c.begin_row-predicted.new.contexts c.begin_row-predicted.new.steps c.decode_row.new.bitmap c.decode_row.new.decoder c.decode_row.new.contexts c.decode_row.new.steps c.loop-y.invariant.rows begin c.begin_row-predicted.ensures.bytes more (ap (λ (s : Counts). rest_of s) begun) c.decode_row.ensures.decoded;
+      rows = rows-next c.begin_row-predicted.result c.begin_row-predicted.new.decoder c.begin_row-predicted.new.contexts c.begin_row-predicted.new.steps c.decode_row.new.bitmap c.decode_row.new.decoder c.decode_row.new.contexts c.decode_row.new.steps c.loop-y.invariant.rows begin c.begin_row-predicted.ensures.bytes more (ap (λ (s : Counts). rest_of s) opening) c.decode_row.ensures.decoded;
       none = λ never. absurd (omega arith);
       words = tests-next c.args.steps.now.words c.loop-y.steps.words c.decode_row.new.steps.words w c.loop-y.y c.loop-y.invariant.words written;
       loads = tests-next c.args.steps.now.loads c.loop-y.steps.loads c.decode_row.new.steps.loads (w * (g.C.PixelCoding.bits c.args.coding.now + g.C.PixelCoding.known_loads c.args.coding.now)) c.loop-y.y c.loop-y.invariant.loads loaded;
@@ -50,7 +50,7 @@ loop-y-preserved g c =
 pub returns-clause-region : goal.returns-clause-region
 returns-clause-region g c =
     region-whole (g.C.PixelCoding.coding c.args.coding.now) c.args.bitmap.now.width c.args.bitmap.now.height c.loop-y.y c.args.decoder.now.bytes (no_pixels c.args.decoder.now.registers c.args.contexts.now) c.loop-y.bitmap c.loop-y.decoder c.loop-y.contexts
-    refl (λ none. c.if-width-eq0.false (c.width.ensures.value ∙ none)) (omega arith) c.loop-y.invariant.rows.holds
+    refl (λ none. c.if-width-eq0.false (c.width.ensures.value ∙ none)) (omega arith) c.loop-y.invariant.rows.has_decoded
 
 pub returns-clause-steps : goal.returns-clause-steps
 returns-clause-steps g c =

@@ -91,7 +91,7 @@ returns-clause-decoded g c =
     block-whole (windowed_coding c.args.coding.now) c.args.row.predicted c.args.stretch.x c.args.row.y c.loop-done-3.done c.args.stretch.count c.args.bitmap.now c.store_pixels.new.self c.args.decoder.now c.loop-done-3.decoder c.args.contexts.now c.loop-done-3.contexts c.args.steps.now c.loop-done-3.steps c.loop-done-3.pixels
     c.loop-done-3.invariant.block (omega arith) c.store_pixels.ensures.value in
     record {
-      holds = whole.holds;
+      has_decoded = whole.has_decoded;
       width = ap (λ (b : Grid). b.width) c.store_pixels.ensures.value;
       height = ap (λ (b : Grid). b.height) c.store_pixels.ensures.value;
       bytes = c.loop-done-3.invariant.block.bytes;

@@ -38,17 +38,17 @@ loop-y-preserved g c =
     let untouched : rest_of c.lowered-windows.new.steps ≡ rest_of c.decode_block-pixels.new.steps = ap (λ (t : Counts). rest_of t) lowered in
     let words : c.lowered-windows.new.steps.words ≡ c.decode_block-pixels.new.steps.words = ap (λ (t : Counts). t.words) lowered in
     let loads : c.lowered-windows.new.steps.loads ≡ c.decode_block-pixels.new.steps.loads + 1 = ap (λ (t : Counts). t.loads) lowered in
-    let begun = c.begin_row-predicted.ensures.steps in
+    let opening = c.begin_row-predicted.ensures.steps in
     let more : c.begin_row-predicted.new.steps.decisions ≡ c.loop-y.steps.decisions + row_decisions coding.row_context =
-    ap (λ (s : Counts). s.decisions) begun ∙ ap (λ (k : Option ℕ). c.loop-y.steps.decisions + row_decisions k) c.typical_context-row_context.ensures.value in
-    let same_words : c.begin_row-predicted.new.steps.words ≡ c.loop-y.steps.words = ap (λ (s : Counts). s.words) begun in
-    let same_loads : c.begin_row-predicted.new.steps.loads ≡ c.loop-y.steps.loads = ap (λ (s : Counts). s.loads) begun in
+    ap (λ (s : Counts). s.decisions) opening ∙ ap (λ (k : Option ℕ). c.loop-y.steps.decisions + row_decisions k) c.typical_context-row_context.ensures.value in
+    let same_words : c.begin_row-predicted.new.steps.words ≡ c.loop-y.steps.words = ap (λ (s : Counts). s.words) opening in
+    let same_loads : c.begin_row-predicted.new.steps.loads ≡ c.loop-y.steps.loads = ap (λ (s : Counts). s.loads) opening in
     let written : c.lowered-windows.new.steps.words ≤ c.loop-y.steps.words + w = omega (arith, words, same_words, c.decode_block-pixels.ensures.words, c.requires.some) in
     let wide : c.decode_block-pixels.new.bitmap.width ≡ w = decoded.width ∙ c.loop-y.invariant.rows.width in
     record {
       rows =
           rows-until c.decode_block-pixels.new.steps c.lowered-windows.new.steps
-          (rows-next c.begin_row-predicted.result c.begin_row-predicted.new.decoder c.begin_row-predicted.new.contexts c.begin_row-predicted.new.steps c.decode_block-pixels.new.bitmap c.decode_block-pixels.new.decoder c.decode_block-pixels.new.contexts c.decode_block-pixels.new.steps c.loop-y.invariant.rows begin c.begin_row-predicted.ensures.bytes more (ap (λ (s : Counts). rest_of s) begun) decoded)
+          (rows-next c.begin_row-predicted.result c.begin_row-predicted.new.decoder c.begin_row-predicted.new.contexts c.begin_row-predicted.new.steps c.decode_block-pixels.new.bitmap c.decode_block-pixels.new.decoder c.decode_block-pixels.new.contexts c.decode_block-pixels.new.steps c.loop-y.invariant.rows begin c.begin_row-predicted.ensures.bytes more (ap (λ (s : Counts). rest_of s) opening) decoded)
           decided untouched;
       words = tests-next c.windows_at-windows.new.steps.words c.loop-y.steps.words c.lowered-windows.new.steps.words w c.loop-y.y c.loop-y.invariant.words written;
       loads = omega (arith, loads, same_loads, c.decode_block-pixels.ensures.loads, c.loop-y.invariant.loads);
@@ -61,7 +61,7 @@ loop-y-preserved g c =
 pub returns-clause-region : goal.returns-clause-region
 returns-clause-region g c =
     region-whole (windowed_coding c.args.coding.now) c.args.bitmap.now.width c.args.bitmap.now.height c.loop-y.y c.args.decoder.now.bytes (no_pixels c.args.decoder.now.registers c.args.contexts.now) c.loop-y.bitmap c.loop-y.decoder c.loop-y.contexts
-    refl (λ none. absurd (omega (arith, c.requires.some))) (omega arith) c.loop-y.invariant.rows.holds
+    refl (λ none. absurd (omega (arith, c.requires.some))) (omega arith) c.loop-y.invariant.rows.has_decoded
 
 pub returns-clause-steps : goal.returns-clause-steps
 returns-clause-steps g c =

@@ -4,14 +4,14 @@ use Rattle.jbig2_region.specs.inner.RefinementBlocks.{Block, MovesBlock}
 use Rattle.jbig2_region.specs.inner.RefinementLanes.{Lanes}
 use Rattle.jbig2_region.specs.inner.RefinementWindows.{context_of, corners, four_of, nine_of}
 use Rattle.jbig2_region.proofs.RefinementLaneLemmas.{lanes-next}
-use Rattle.jbig2_region.proofs.RefinementPushLemmas.{block-begun, block-pushed, context-shown, pixels-more}
+use Rattle.jbig2_region.proofs.RefinementPushLemmas.{block-opening, block-pushed, context-shown, pixels-more}
 use Rattle.jbig2_region.proofs.refinement_kernel.push_pixels.Goals as goal
 use Rattle.jbig2_region.specs.inner.RegionStates.{counted_decoder}
 
 pub loop-init : goal.loop-init
 loop-init g c = record {
   block = λ typical p r x y start sees few wide above unknown block.
-      block-begun (refinement_coding c.args.template typical corners r) p x y c.args.offset start.grid start.coder c.args.decoder.now start.contexts c.args.contexts.now start.counts c.args.steps.now c.args.pixels block;
+      block-opening (refinement_coding c.args.template typical corners r) p x y c.args.offset start.grid start.coder c.args.decoder.now start.contexts c.args.contexts.now start.counts c.args.steps.now c.args.pixels block;
   room = subst (λ (n : ℕ). c.args.pixels < 16 * 2 ^ n) (omega arith) c.requires.room;
   bound = c.lanes_context-context.ensures.bound;
   lanes = λ more.

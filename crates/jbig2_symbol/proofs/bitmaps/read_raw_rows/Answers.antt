@@ -1,7 +1,7 @@
 use Rattle.std.proofs.Common.{◌≡◌, ℕ, ◌+◌, ◌*◌, ◌/◌, ◌≤◌, ap, subst, arith, rules}
 use Rattle.jbig2_base.specs.Counts.{WritesWithin}
 use Rattle.jbig2_base.specs.Grid.{Grid}
-use Rattle.jbig2_steps.specs.Work.{worth}
+use Rattle.jbig2_steps.specs.Work.{budget}
 use Rattle.jbig2_symbol.proofs.CutLemmas.{raw-made, raw-none, wide-blank}
 use Rattle.jbig2_base.proofs.FillLemmas.{blank-filled}
 use Rattle.jbig2_symbol.proofs.PayingLemmas.{raw-paid, row-worth}
@@ -31,5 +31,5 @@ returns-clause-value g c = raw-made c.args.width c.args.height c.loop-y.y c.loop
 pub returns-clause-paid : goal.returns-clause-paid
 returns-clause-paid g c =
     let all : c.loop-y.y ≡ c.args.height = omega arith in
-    let rows = subst (λ (n : ℕ). worth c.loop-y.work ≤ worth c.pay_bitmap.new.self + 3 * (n * ((c.args.width + 7) / 8))) all c.loop-y.invariant.paid in
+    let rows = subst (λ (n : ℕ). budget c.loop-y.work ≤ budget c.pay_bitmap.new.self + 3 * (n * ((c.args.width + 7) / 8))) all c.loop-y.invariant.paid in
     omega (arith, rows, raw-paid c.args.width c.args.height, c.in_ok-pay_bitmap.ensures.taken)

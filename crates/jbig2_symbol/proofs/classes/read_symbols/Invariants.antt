@@ -1,7 +1,7 @@
 use Rattle.std.proofs.Common.{◌≡◌, ◌+◌, ◌-◌, ◌*◌, ◌≤◌, length}
 use Rattle.jbig2_symbol.specs.HeightClasses.{symbols_from}
 use Rattle.jbig2_symbol.specs.inner.SymbolViews.{concat, input_view}
-use Rattle.jbig2_steps.specs.Work.{worth}
+use Rattle.jbig2_steps.specs.Work.{budget}
 use Rattle.jbig2_text.specs.Paying.{number_steps}
 use Rattle.jbig2_symbol.proofs.classes.read_symbols.Given as goal
 
@@ -13,7 +13,7 @@ invariant-loop-width g l =
           concat l.bitmaps.items (symbols_from r.readings (input_view l.input) l.widths.left l.height l.widths.width l.widths.total l.bitmaps.items (r.state l.readings))
           ≡ concat l.fn.bitmaps.items (symbols_from r.readings (input_view l.input) (l.input.header.now.num_new_symbols - length l.fn.bitmaps.items) l.height 0 0 l.fn.bitmaps.items (r.state l.fn.readings));
       all : length l.bitmaps.items + l.widths.left ≡ l.input.header.now.num_new_symbols;
-      paid : worth l.work + number_steps (5 * length l.fn.bitmaps.items) ≤ worth l.fn.work + number_steps (5 * length l.bitmaps.items);
+      paid : budget l.work + number_steps (5 * length l.fn.bitmaps.items) ≤ budget l.fn.work + number_steps (5 * length l.bitmaps.items);
     }
 
 abbrev pub decreases-loop-width : goal.decreases-loop-width

@@ -1,7 +1,7 @@
 use Rattle.std.proofs.Common.{◌≡◌, ℕ, ◌+◌, ◌≤◌, List, get_or, length, refl, sym, ap, ◌∙◌, arith}
 use Rattle.jbig2_base.specs.Grid.{Grid}
 use Rattle.jbig2_base.proofs.Causes.{same-ok}
-use Rattle.jbig2_steps.specs.Work.{worth}
+use Rattle.jbig2_steps.specs.Work.{budget}
 use Rattle.jbig2_symbol.specs.inner.SymbolViews.{all_symbols}
 use Rattle.jbig2_symbol.proofs.ExportedLemmas.{all-length, exported-even, exported-none, exported-odd, only-memory, sum-more, sum-within}
 use Rattle.jbig2_symbol.proofs.exports.export_symbols.Goals as goal
@@ -35,7 +35,7 @@ loop-k-preserved g c =
             ∙ exported-even runs all c.loop-k.exported.items c.loop-k.k c.loop-k.first run (omega arith) c.loop-k.invariant.first refl within (λ odd. omega arith) c.loop-k.invariant.pushed
       ];
       paid = elim c.if-k-eq1.branch [
-        | then-k-eq1+in-Ok w ↦ let p : worth c.if-k-eq1.work ≤ worth c.loop-k.work = rw w.work-is w.push_symbols.ensures.paid in omega (arith, p, c.loop-k.invariant.paid)
+        | then-k-eq1+in-Ok w ↦ let p : budget c.if-k-eq1.work ≤ budget c.loop-k.work = rw w.work-is w.push_symbols.ensures.paid in omega (arith, p, c.loop-k.invariant.paid)
         | else-k-eq1 w ↦ rw w.work-is c.loop-k.invariant.paid
       ];
     }

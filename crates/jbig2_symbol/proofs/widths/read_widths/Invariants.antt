@@ -2,7 +2,7 @@ use Rattle.std.proofs.Common.{◌≡◌, ◌+◌, ◌≤◌, length}
 use Rattle.std.specs.Prelude.{sum}
 use Rattle.jbig2_symbol.specs.HeightClasses.{widths_from}
 use Rattle.jbig2_symbol.specs.inner.SymbolViews.{concat, input_view}
-use Rattle.jbig2_steps.specs.Work.{worth}
+use Rattle.jbig2_steps.specs.Work.{budget}
 use Rattle.jbig2_text.specs.Paying.{number_steps}
 use Rattle.jbig2_symbol.proofs.widths.read_widths.Given as goal
 
@@ -13,7 +13,7 @@ invariant-loop-width g l =
       total : l.widths.total ≡ sum l.each.items;
       reads : concat l.each.items (widths_from r.readings (input_view l.input) l.widths.left l.widths.width l.widths.total (r.state l.readings)) ≡ widths_from r.readings (input_view l.input) l.room 0 0 (r.state l.fn.readings);
       all : length l.each.items + l.widths.left ≡ l.room;
-      paid : worth l.work ≤ worth l.fn.work + number_steps (length l.each.items);
+      paid : budget l.work ≤ budget l.fn.work + number_steps (length l.each.items);
     }
 
 abbrev pub decreases-loop-width : goal.decreases-loop-width

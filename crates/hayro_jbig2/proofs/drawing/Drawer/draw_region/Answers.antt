@@ -2,7 +2,7 @@ use Rattle.std.proofs.Common.{false, Result, ap, arith}
 use Rattle.jbig2_base.specs.Reading.{is_strict}
 use Rattle.jbig2_base.specs.inner.SegmentViews.{segment_view}
 use Rattle.jbig2_base.specs.declared.error.DecodeError.{DecodeError}
-use Rattle.hayro_jbig2.specs.Page.{Drawing, immediate, region_at, shown}
+use Rattle.hayro_jbig2.specs.Page.{Drawing, immediate, region_at, with_drawn_region}
 use Rattle.hayro_jbig2.specs.declared.drawing.passed_over.PassedOver.{PassedOver}
 use Rattle.hayro_jbig2.proofs.Direct.{drawn-either, passed}
 use Rattle.hayro_jbig2.proofs.drawing.Drawer.draw_region.Goals as goal
@@ -11,14 +11,14 @@ pub returns-in-Ok-clause-value : goal.returns-in-Ok-clause-value
 unfolding immediate
 returns-in-Ok-clause-value g c =
     let d : Drawing = c.args.canvas.now in
-    let meant : Result Drawing DecodeError = shown d (region_at (is_strict c.args.self.now.reading) c.args.self.now.globals.now c.args.kind false (segment_view c.args.segment.now) d) in
+    let meant : Result Drawing DecodeError = with_drawn_region d (region_at (is_strict c.args.self.now.reading) c.args.self.now.globals.now c.args.kind false (segment_view c.args.segment.now) d) in
     drawn-either (is_strict c.args.self.now.reading) c.args.segment.now.header.segment_number d c.show_region.new.canvas meant c.in-Ok.ensures.value
 
 pub returns-in-Err-clause-value : goal.returns-in-Err-clause-value
 unfolding immediate
 returns-in-Err-clause-value g c =
     let d : Drawing = c.args.canvas.now in
-    let meant : Result Drawing DecodeError = shown d (region_at (is_strict c.args.self.now.reading) c.args.self.now.globals.now c.args.kind false (segment_view c.args.segment.now) d) in
+    let meant : Result Drawing DecodeError = with_drawn_region d (region_at (is_strict c.args.self.now.reading) c.args.self.now.globals.now c.args.kind false (segment_view c.args.segment.now) d) in
     passed (is_strict c.args.self.now.reading) c.args.segment.now.header.segment_number d c.show_region.new.canvas c.pass_over.new.canvas meant c.in-Err.error _
     c.in-Err.ensures.value c.in-Err.ensures.err c.pass_over.ensures.memory c.pass_over.ensures.value
 

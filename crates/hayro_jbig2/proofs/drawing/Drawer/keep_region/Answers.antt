@@ -7,7 +7,7 @@ use Rattle.jbig2_base.specs.declared.error.DecodeError.{DecodeError}
 use Rattle.jbig2_region.specs.RegionInfo.{PlacedRegion}
 use Rattle.jbig2_region.specs.inner.RegionViews.{region_view}
 use Rattle.hayro_jbig2.specs.Page.{Drawing, intermediate, region_at}
-use Rattle.hayro_jbig2.specs.inner.KeptViews.{seen}
+use Rattle.hayro_jbig2.specs.inner.KeptViews.{kept_values}
 use Rattle.hayro_jbig2.specs.inner.ParsedRegions.{placed_region, drawing_of}
 use Rattle.hayro_jbig2.proofs.Direct.{kept-refused, led, led-to, refused-too, stored}
 use Rattle.hayro_jbig2.proofs.drawing.Drawer.keep_region.Goals as goal
@@ -16,7 +16,7 @@ pub returns-clause-value : goal.returns-clause-value
 unfolding intermediate
 returns-clause-value g c =
     let d : Drawing = c.args.canvas.now in
-    let inside : Drawing = record { grid = c.canvas.inside.bitmap; regions = seen region_view c.canvas.inside.regions.items; names = c.canvas.inside.names; untouched = c.canvas.inside.untouched; passed_over = c.canvas.inside.passed_over } in
+    let inside : Drawing = record { grid = c.canvas.inside.bitmap; regions = kept_values region_view c.canvas.inside.regions.items; names = c.canvas.inside.names; untouched = c.canvas.inside.untouched; passed_over = c.canvas.inside.passed_over } in
     let meant : Result PlacedRegion DecodeError = region_at (is_strict c.args.self.now.reading) c.args.self.now.globals.now c.args.kind true (segment_view c.args.segment.now) d in
     let leads : meant ≡ placed_region c.in_ok-parsed.parsed = led c.references-references.result (is_strict c.args.self.now.reading) c.args.self.now.globals.now c.args.kind true (segment_view c.args.segment.now) c.canvas.inside.bitmap c.deref.result.now c.canvas.inside.regions.items c.canvas.inside.names c.canvas.inside.untouched c.canvas.inside.passed_over d (placed_region c.in_ok-parsed.parsed) c.references-references.ensures.strict c.references-references.ensures.globals c.references-references.ensures.drawing c.deref.ensures.value c.canvas.view_is c.in_ok-parsed.ensures.value in
     subst (λ (a : Result Drawing DecodeError). Gives (λ _. c.store.new.self) c.store.result a)

@@ -7,8 +7,8 @@ use Rattle.jbig2_base.specs.inner.SegmentViews.{segment_view}
 use Rattle.jbig2_region.specs.RegionInfo.{PlacedRegion}
 use Rattle.jbig2_region.specs.inner.RegionViews.{region_view}
 use Rattle.jbig2_base.specs.declared.error.DecodeError.{DecodeError}
-use Rattle.hayro_jbig2.specs.Page.{Drawing, region_at, shown}
-use Rattle.hayro_jbig2.specs.inner.KeptViews.{seen}
+use Rattle.hayro_jbig2.specs.Page.{Drawing, region_at, with_drawn_region}
+use Rattle.hayro_jbig2.specs.inner.KeptViews.{kept_values}
 use Rattle.hayro_jbig2.specs.inner.ParsedRegions.{placed_region, drawing_of, info_of, initial_of}
 use Rattle.hayro_jbig2.specs.inner.WholePages.{IsBlankPage, IsWhole, after_immediate}
 use Rattle.hayro_jbig2.proofs.Direct.{led, left-as-was, refused-too, shown-refused, whole-gives}
@@ -34,24 +34,24 @@ returns-clause-value g c =
     let d : Drawing = c.args.canvas.now in
     let meant : Result PlacedRegion DecodeError = region_at (is_strict c.args.self.now.reading) c.args.self.now.globals.now c.args.kind false (segment_view c.args.segment.now) d in
     let leads : meant ≡ placed_region c.in_ok-parsed.parsed = led c.references-references.result (is_strict c.args.self.now.reading) c.args.self.now.globals.now c.args.kind false (segment_view c.args.segment.now) c.canvas.inside.bitmap c.deref.result.now c.canvas.inside.regions.items c.canvas.inside.names c.canvas.inside.untouched c.canvas.inside.passed_over d (placed_region c.in_ok-parsed.parsed) c.references-references.ensures.strict c.references-references.ensures.globals c.references-references.ensures.drawing c.deref.ensures.value c.canvas.view_is c.in_ok-parsed.ensures.value in
-    let drawn : Ok c.combine.new.self ≡ shown d (Ok (region_view c.in_ok-region.region)) = c.combine.ensures.value ∙ ap (λ (b : Drawing). shown b (Ok (region_view c.in_ok-region.region))) c.canvas.view_is in
+    let drawn : Ok c.combine.new.self ≡ with_drawn_region d (Ok (region_view c.in_ok-region.region)) = c.combine.ensures.value ∙ ap (λ (b : Drawing). with_drawn_region b (Ok (region_view c.in_ok-region.region))) c.canvas.view_is in
     let height : d.grid.height ≡ c.height.result = sym (c.height.ensures.value ∙ ap (λ (b : Drawing). b.grid.height) c.canvas.view_is) in
     cut-shown d c.combine.new.self meant (placed_region c.in_ok-parsed.parsed) (placed_region c.above_end-seen.result) (region_view c.in_ok-region.region) leads (c.above_end-seen.ensures.shown d height) c.in_ok-region.ensures.value drawn
 
 pub returns-then-makes_up-clause-value : goal.returns-then-makes_up-clause-value
 returns-then-makes_up-clause-value g c =
     let d : Drawing = c.args.canvas.now in
-    let inside : Drawing = record { grid = c.canvas.inside.bitmap; regions = seen region_view c.canvas.inside.regions.items; names = c.canvas.inside.names; untouched = c.canvas.inside.untouched; passed_over = c.canvas.inside.passed_over } in
+    let inside : Drawing = record { grid = c.canvas.inside.bitmap; regions = kept_values region_view c.canvas.inside.regions.items; names = c.canvas.inside.names; untouched = c.canvas.inside.untouched; passed_over = c.canvas.inside.passed_over } in
     let meant : Result PlacedRegion DecodeError = region_at (is_strict c.args.self.now.reading) c.args.self.now.globals.now c.args.kind false (segment_view c.args.segment.now) d in
     let leads : meant ≡ placed_region c.in_ok-parsed.parsed = led c.references-references.result (is_strict c.args.self.now.reading) c.args.self.now.globals.now c.args.kind false (segment_view c.args.segment.now) c.canvas.inside.bitmap c.deref.result.now c.canvas.inside.regions.items c.canvas.inside.names c.canvas.inside.untouched c.canvas.inside.passed_over d (placed_region c.in_ok-parsed.parsed) c.references-references.ensures.strict c.references-references.ensures.globals c.references-references.ensures.drawing c.deref.ensures.value c.canvas.view_is c.in_ok-parsed.ensures.value in
     let is_blank : IsBlankPage false c.canvas.inside.bitmap = subst (λ (p : Grid). IsBlankPage false p) (sym (ap (λ (b : Drawing). b.grid) c.canvas.view_is)) (c.is_white-is_white.ensures c.if-is_white.true) in
     let whole : IsWhole (info_of c.in_ok-parsed.parsed) (initial_of c.in_ok-parsed.parsed) c.canvas.inside.bitmap = c.makes_up.ensures c.if-makes_up.true is_blank in
-    subst (λ (b : Drawing). Gives (λ _. record inside { grid = c.decode_onto.new.page; untouched = false }) c.decode_onto.result (shown b meant)) c.canvas.view_is
+    subst (λ (b : Drawing). Gives (λ _. record inside { grid = c.decode_onto.new.page; untouched = false }) c.decode_onto.result (with_drawn_region b meant)) c.canvas.view_is
     (whole-gives c.in_ok-parsed.parsed meant inside c.decode_onto.new.page c.decode_onto.result whole leads c.decode_onto.ensures.value)
 
 pub returns-then-makes_up-clause-err : goal.returns-then-makes_up-clause-err
 returns-then-makes_up-clause-err g c =
-    let inside : Drawing = record { grid = c.canvas.inside.bitmap; regions = seen region_view c.canvas.inside.regions.items; names = c.canvas.inside.names; untouched = c.canvas.inside.untouched; passed_over = c.canvas.inside.passed_over } in
+    let inside : Drawing = record { grid = c.canvas.inside.bitmap; regions = kept_values region_view c.canvas.inside.regions.items; names = c.canvas.inside.names; untouched = c.canvas.inside.untouched; passed_over = c.canvas.inside.passed_over } in
     left-as-was inside c.args.canvas.now c.decode_onto.new.page c.decode_onto.result c.canvas.view_is c.decode_onto.ensures.err
 
 pub returns-in_err-parsed-clause-value : goal.returns-in_err-parsed-clause-value

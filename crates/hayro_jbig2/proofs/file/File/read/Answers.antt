@@ -13,7 +13,7 @@ use Rattle.jbig2_base.specs.declared.file_header.FileHeader.{FileHeader}
 use Rattle.jbig2_base.specs.declared.reading.Reading.{Reading}
 use Rattle.jbig2_base.specs.declared.reading.Reading.TheVariants.{Lenient}
 use Rattle.hayro_jbig2.specs.Causes.{IsFromInput}
-use Rattle.hayro_jbig2.specs.Files.{PageInFile, associated, book_at, by_pages, pages_in_file, left_out_of, miscounts, of_page, shared_by}
+use Rattle.hayro_jbig2.specs.Files.{PageInFile, association_check, book_at, by_pages, pages_in_file, left_out_of, miscounts, of_page, shared_by}
 use Rattle.hayro_jbig2.specs.Names.{Shared}
 use Rattle.hayro_jbig2.specs.inner.ByPages.{by_page_view}
 use Rattle.jbig2_base.proofs.FromInput.{from_input-file}
@@ -26,7 +26,7 @@ use Rattle.hayro_jbig2.proofs.file.File.read.Goals.{else-strict-via-then-strict+
 
 -- a file of which each step was taken
 book-made : (reading : Reading) (bytes : List ℕ) (file : FileHeader × List SegmentView) (parts : List SegmentView × List (List SegmentView)) (pages : List PageInFile) (globals : Result Shared DecodeError) (left_out : List DecodeError) (fault : Option DecodeError)
-    → file_at reading bytes ≡ Ok file → associated (is_strict reading) file.1 ≡ Ok tt → of_page 0 file.1 ≡ parts.0 → by_pages file.1 ≡ parts.1
+    → file_at reading bytes ≡ Ok file → association_check (is_strict reading) file.1 ≡ Ok tt → of_page 0 file.1 ≡ parts.0 → by_pages file.1 ≡ parts.1
     → (is_strict reading && miscounts file.0.number_of_pages (length parts.1)) ≡ false → pages_in_file reading parts.1 ≡ Ok pages → shared_by reading pages parts.0 ≡ globals → left_out_of reading parts.1 ≡ left_out → fault_of reading (file_at Lenient bytes) ≡ fault
     → book_at reading bytes ≡ Ok (record { reading = reading; pages = pages; globals = globals; left_out = left_out; fault = fault })
 unfolding book_at
@@ -34,7 +34,7 @@ book-made reading bytes file parts pages globals left_out fault read known share
 
 -- a file whose pages are refused
 book-unfiled : (reading : Reading) (bytes : List ℕ) (file : FileHeader × List SegmentView) (parts : List SegmentView × List (List SegmentView)) (e : DecodeError)
-    → file_at reading bytes ≡ Ok file → associated (is_strict reading) file.1 ≡ Ok tt → by_pages file.1 ≡ parts.1
+    → file_at reading bytes ≡ Ok file → association_check (is_strict reading) file.1 ≡ Ok tt → by_pages file.1 ≡ parts.1
     → (is_strict reading && miscounts file.0.number_of_pages (length parts.1)) ≡ false → (e ≡ OutOfMemory) ⊎ (pages_in_file reading parts.1 ≡ Err e) → (e ≡ OutOfMemory) ⊎ (book_at reading bytes ≡ Err e)
 unfolding book_at
 book-unfiled reading bytes file parts e read known own counted (inl memory) = inl memory
@@ -42,7 +42,7 @@ book-unfiled reading bytes file parts e read known own counted (inr unfiled) = i
 
 -- a file that has not as many pages as its header states
 book-miscounted : (reading : Reading) (bytes : List ℕ) (file : FileHeader × List SegmentView) (parts : List SegmentView × List (List SegmentView))
-    → file_at reading bytes ≡ Ok file → associated (is_strict reading) file.1 ≡ Ok tt → by_pages file.1 ≡ parts.1
+    → file_at reading bytes ≡ Ok file → association_check (is_strict reading) file.1 ≡ Ok tt → by_pages file.1 ≡ parts.1
     → (is_strict reading && miscounts file.0.number_of_pages (length parts.1)) ≡ true → book_at reading bytes ≡ Err (Format PageCountMismatch)
 unfolding book_at
 book-miscounted reading bytes file parts read known own counted = rw (read, known, own, counted)
@@ -62,7 +62,7 @@ returns-clause-value g c =
     let mode : c.is_strict-strict.result ≡ is_strict reading = c.is_strict-strict.ensures in
     let file : FileHeader × List SegmentView = file_view c.in_ok-file.file in
     let parts : List SegmentView × List (List SegmentView) = by_page_view c.in_ok-segments.segments in
-    let known : associated (is_strict reading) file.1 ≡ Ok tt = ap (λ b. associated b file.1) (sym mode) ∙ ap (λ s. associated c.is_strict-strict.result (segment_views s)) (sym c.deref.ensures.value) ∙ c.in_ok-check_associations.ensures in
+    let known : association_check (is_strict reading) file.1 ≡ Ok tt = ap (λ b. association_check b file.1) (sym mode) ∙ ap (λ s. association_check c.is_strict-strict.result (segment_views s)) (sym c.deref.ensures.value) ∙ c.in_ok-check_associations.ensures in
     let split = parts-are (of_page 0 file.1) (by_pages file.1) parts c.in_ok-segments.ensures in
     let length_is : length parts.1 ≡ length c.in_ok-segments.segments.pages.items = length-map c.in_ok-segments.segments.pages.items _ in
     let counted : (is_strict reading && miscounts file.0.number_of_pages (length parts.1)) ≡ false = elim c.else-strict.branch [
@@ -118,7 +118,7 @@ returns-in_err-pages-clause-value g c =
     let mode : c.is_strict-strict.result ≡ is_strict reading = c.is_strict-strict.ensures in
     let file : FileHeader × List SegmentView = file_view c.in_ok-file.file in
     let parts : List SegmentView × List (List SegmentView) = by_page_view c.in_ok-segments.segments in
-    let known : associated (is_strict reading) file.1 ≡ Ok tt = ap (λ b. associated b file.1) (sym mode) ∙ ap (λ s. associated c.is_strict-strict.result (segment_views s)) (sym c.deref.ensures.value) ∙ c.in_ok-check_associations.ensures in
+    let known : association_check (is_strict reading) file.1 ≡ Ok tt = ap (λ b. association_check b file.1) (sym mode) ∙ ap (λ s. association_check c.is_strict-strict.result (segment_views s)) (sym c.deref.ensures.value) ∙ c.in_ok-check_associations.ensures in
     let split = parts-are (of_page 0 file.1) (by_pages file.1) parts c.in_ok-segments.ensures in
     let length_is : length parts.1 ≡ length c.in_ok-segments.segments.pages.items = length-map c.in_ok-segments.segments.pages.items _ in
     let counted : (is_strict reading && miscounts file.0.number_of_pages (length parts.1)) ≡ false = elim c.else-strict.branch [
@@ -139,7 +139,7 @@ returns-then-miscounts-clause-causes g c =
     let mode : c.is_strict-strict.result ≡ is_strict reading = c.is_strict-strict.ensures in
     let file : FileHeader × List SegmentView = file_view c.in_ok-file.file in
     let parts : List SegmentView × List (List SegmentView) = by_page_view c.in_ok-segments.segments in
-    let known : associated (is_strict reading) file.1 ≡ Ok tt = ap (λ b. associated b file.1) (sym mode) ∙ ap (λ s. associated c.is_strict-strict.result (segment_views s)) (sym c.deref.ensures.value) ∙ c.in_ok-check_associations.ensures in
+    let known : association_check (is_strict reading) file.1 ≡ Ok tt = ap (λ b. association_check b file.1) (sym mode) ∙ ap (λ s. association_check c.is_strict-strict.result (segment_views s)) (sym c.deref.ensures.value) ∙ c.in_ok-check_associations.ensures in
     let split = parts-are (of_page 0 file.1) (by_pages file.1) parts c.in_ok-segments.ensures in
     let length_is : length parts.1 ≡ length c.in_ok-segments.segments.pages.items = length-map c.in_ok-segments.segments.pages.items _ in
     let counted : (is_strict reading && miscounts file.0.number_of_pages (length parts.1)) ≡ true =

@@ -3,7 +3,7 @@ use Rattle.std.specs.List.{range_with_len, flat_map}
 use Rattle.hayro_jbig2.specs.Calls.{line_calls, calls_of}
 use Rattle.hayro_jbig2.proofs.Runs.{lines-first, lines-start}
 use Rattle.hayro_jbig2.proofs.Sending.{half_none, half_as, goes_on, stops_at}
-use Rattle.jbig2_steps.specs.Work.{counted}
+use Rattle.jbig2_steps.specs.Work.{sum_of_counts}
 use Rattle.hayro_jbig2.proofs.Paying.{rows-next, rows-paid}
 use Rattle.hayro_jbig2.proofs.page.calls.push_bitmap.Goals as goal
 
@@ -30,9 +30,9 @@ loop-y-preserved g c =
     }
 
 pub returns-clause-paid : goal.returns-clause-paid
-returns-clause-paid g c = rows-paid c.args.bitmap.now.width c.args.bitmap.now.height c.loop-y.y (counted c.args.steps.now) (counted c.loop-y.steps) (omega arith) c.loop-y.invariant.steps
+returns-clause-paid g c = rows-paid c.args.bitmap.now.width c.args.bitmap.now.height c.loop-y.y (sum_of_counts c.args.steps.now) (sum_of_counts c.loop-y.steps) (omega arith) c.loop-y.invariant.steps
 
 pub returns-in-Err-clause-paid : goal.returns-in-Err-clause-paid
 returns-in-Err-clause-paid g c =
-    rows-paid c.args.bitmap.now.width c.args.bitmap.now.height (c.loop-y.y + 1) (counted c.args.steps.now) (counted c.push_row.new.steps) (omega arith)
-    (rows-next (counted c.args.steps.now) (counted c.loop-y.steps) (counted c.push_row.new.steps) c.loop-y.y c.args.bitmap.now.width c.loop-y.invariant.steps c.push_row.ensures.steps)
+    rows-paid c.args.bitmap.now.width c.args.bitmap.now.height (c.loop-y.y + 1) (sum_of_counts c.args.steps.now) (sum_of_counts c.push_row.new.steps) (omega arith)
+    (rows-next (sum_of_counts c.args.steps.now) (sum_of_counts c.loop-y.steps) (sum_of_counts c.push_row.new.steps) c.loop-y.y c.args.bitmap.now.width c.loop-y.invariant.steps c.push_row.ensures.steps)

@@ -1,5 +1,5 @@
 use Rattle.std.proofs.Common.{◌+◌, ◌-◌, ◌*◌, ◌≤◌}
-use Rattle.jbig2_steps.specs.Work.{counted}
+use Rattle.jbig2_steps.specs.Work.{sum_of_counts}
 use Rattle.std.specs.List.{range_with_len, flat_map}
 use Rattle.hayro_jbig2.specs.Calls.{calls_of, line_calls}
 use Rattle.hayro_jbig2.proofs.Sending.{Half}
@@ -8,5 +8,5 @@ use Rattle.hayro_jbig2.proofs.page.calls.push_bitmap.Given as goal
 abbrev pub invariant-loop-y : goal.invariant-loop-y
 invariant-loop-y g l = record {
   sent : Half g.D.Decoder.conduct (calls_of l.bitmap) (flat_map (line_calls l.bitmap) (range_with_len l.y (l.bitmap.height - l.y))) l.fn.decoder l.decoder;
-  steps : counted l.steps ≤ counted l.fn.steps + l.y * (l.bitmap.width + 1);
+  steps : sum_of_counts l.steps ≤ sum_of_counts l.fn.steps + l.y * (l.bitmap.width + 1);
 }

@@ -1,5 +1,5 @@
 use Rattle.std.proofs.Common.{◌+◌, ◌-◌, ◌≤◌}
-use Rattle.jbig2_steps.specs.Work.{counted}
+use Rattle.jbig2_steps.specs.Work.{sum_of_counts}
 use Rattle.hayro_jbig2.specs.Calls.{line_calls}
 use Rattle.hayro_jbig2.proofs.Runs.{left_calls}
 use Rattle.hayro_jbig2.proofs.Sending.{Half}
@@ -9,7 +9,7 @@ abbrev pub invariant-loop-x : goal.invariant-loop-x
 invariant-loop-x g l = record {
   within : l.x ≤ l.width;
   sent : Half g.D.Decoder.conduct (line_calls l.bitmap l.y) (left_calls l.bitmap l.y l.x) l.fn.decoder l.decoder;
-  steps : counted l.steps ≤ counted l.fn.steps + l.x;
+  steps : sum_of_counts l.steps ≤ sum_of_counts l.fn.steps + l.x;
 }
 
 abbrev pub decreases-loop-x : goal.decreases-loop-x

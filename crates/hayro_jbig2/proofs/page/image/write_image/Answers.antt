@@ -3,13 +3,13 @@ use Rattle.std.proofs.lemmas.List.FromFn.{fill_by_all}
 use Rattle.jbig2_base.specs.Grid.{pixel_at}
 use Rattle.hayro_jbig2.specs.Image.{shade, image_of}
 use Rattle.jbig2_base.specs.Counts.{Counts}
-use Rattle.jbig2_steps.specs.Work.{counted}
+use Rattle.jbig2_steps.specs.Work.{sum_of_counts}
 use Rattle.hayro_jbig2.proofs.Paying.{pixels-paid}
 use Rattle.hayro_jbig2.proofs.Shades.{shades-more}
 use Rattle.hayro_jbig2.proofs.page.image.write_image.Goals as goal
 
-one-load : (old new : Counts) → new ≡ record old { loads = old.loads + 1 } → counted new ≡ counted old + 1
-one-load old new loaded = ap (λ (s : Counts). counted s) loaded ∙ omega arith
+one-load : (old new : Counts) → new ≡ record old { loads = old.loads + 1 } → sum_of_counts new ≡ sum_of_counts old + 1
+one-load old new loaded = ap (λ (s : Counts). sum_of_counts s) loaded ∙ omega arith
 
 pub loop-place-preserved : goal.loop-place-preserved
 loop-place-preserved g c =
@@ -18,7 +18,7 @@ loop-place-preserved g c =
     let left : c.loop-place.place < length c.loop-place.buf = c.loop-place-test.true in
     let few : c.min-count.result ≤ 64 = grind (arith) in
     let narrow : c.loop-place.x + c.min-count.result ≤ w = grind (arith) in
-    let counted-load : counted c.load_pixels-word.new.steps ≡ counted c.loop-place.steps + 1 = one-load c.loop-place.steps c.load_pixels-word.new.steps c.load_pixels-word.ensures.steps in
+    let counted-load : sum_of_counts c.load_pixels-word.new.steps ≡ sum_of_counts c.loop-place.steps + 1 = one-load c.loop-place.steps c.load_pixels-word.new.steps c.load_pixels-word.ensures.steps in
     let some : 1 ≤ c.min-count.result = grind (arith) in
     record {
       sized = c.put_shades.ensures.sized ∙ kept.sized;
@@ -38,4 +38,4 @@ returns-clause-value g c =
 
 pub returns-clause-paid : goal.returns-clause-paid
 returns-clause-paid g c =
-    pixels-paid c.args.initial_page.now.width c.args.initial_page.now.height c.loop-place.place (counted c.args.steps.now) (counted c.loop-place.steps) (omega (arith, c.loop-place.invariant.within, c.loop-place.invariant.sized)) c.loop-place.invariant.steps
+    pixels-paid c.args.initial_page.now.width c.args.initial_page.now.height c.loop-place.place (sum_of_counts c.args.steps.now) (sum_of_counts c.loop-place.steps) (omega (arith, c.loop-place.invariant.within, c.loop-place.invariant.sized)) c.loop-place.invariant.steps

@@ -2,7 +2,7 @@ use Rattle.std.proofs.Common.{◌≡◌, ◌+◌, ◌*◌, ◌/◌, ◌%◌, ◌
 use Rattle.std.specs.List.{range_with_len}
 use Rattle.std.proofs.lemmas.List.FromFn.{fill_by_all}
 use Rattle.jbig2_base.specs.Counts.{Counts, words_loaded}
-use Rattle.jbig2_steps.specs.Work.{counted}
+use Rattle.jbig2_steps.specs.Work.{sum_of_counts}
 use Rattle.hayro_jbig2.specs.Image.{packed_byte, packed_part, row_bytes}
 use Rattle.hayro_jbig2.proofs.PackedRows.{values-from}
 use Rattle.hayro_jbig2.proofs.RowValues.{value-at, values-more}
@@ -10,15 +10,15 @@ use Rattle.hayro_jbig2.proofs.page.packed.write_packed.Goals as goal
 use Rattle.hayro_jbig2.proofs.page.packed.write_packed.Goals.{then-count-eq0, else-count-eq0}
 
 -- whole words take a load for each eight bytes, and the rest of a word one for a byte at least
-put-whole : (first old new : Counts) (place count : ℕ) → counted old ≤ counted first + place → new ≡ words_loaded (count / 8) old → counted new ≤ counted first + (place + count)
+put-whole : (first old new : Counts) (place count : ℕ) → sum_of_counts old ≤ sum_of_counts first + place → new ≡ words_loaded (count / 8) old → sum_of_counts new ≤ sum_of_counts first + (place + count)
 put-whole first old new place count before loaded =
-    let all : counted new ≡ counted old + count / 8 = ap (λ (s : Counts). counted s) loaded ∙ omega arith in
+    let all : sum_of_counts new ≡ sum_of_counts old + count / 8 = ap (λ (s : Counts). sum_of_counts s) loaded ∙ omega arith in
     omega (arith, all, before)
 
-put-rest : (first old mid new : Counts) (place none count : ℕ) → counted old ≤ counted first + place → mid ≡ words_loaded (none / 8) old → none ≡ 0 → new ≡ words_loaded 1 mid → 1 ≤ count → counted new ≤ counted first + (place + count)
+put-rest : (first old mid new : Counts) (place none count : ℕ) → sum_of_counts old ≤ sum_of_counts first + place → mid ≡ words_loaded (none / 8) old → none ≡ 0 → new ≡ words_loaded 1 mid → 1 ≤ count → sum_of_counts new ≤ sum_of_counts first + (place + count)
 put-rest first old mid new place none count before whole empty loaded some =
-    let one : counted mid ≡ counted old + none / 8 = ap (λ (s : Counts). counted s) whole ∙ omega arith in
-    let two : counted new ≡ counted mid + 1 = ap (λ (s : Counts). counted s) loaded ∙ omega arith in
+    let one : sum_of_counts mid ≡ sum_of_counts old + none / 8 = ap (λ (s : Counts). sum_of_counts s) whole ∙ omega arith in
+    let two : sum_of_counts new ≡ sum_of_counts mid + 1 = ap (λ (s : Counts). sum_of_counts s) loaded ∙ omega arith in
     omega (arith, one, two, before)
 
 pub loop-place-preserved : goal.loop-place-preserved
@@ -49,7 +49,7 @@ loop-place-preserved g c =
       | then-count-eq0 b ↦ λ i below. rw (b.buf-is) (b.put_rest-count.ensures.puts.bytes i (rw (b.count-is) at below))
       | else-count-eq0 b ↦ λ i below. rw (b.buf-is) (c.put_words-count.ensures.puts.bytes i (rw (b.count-is) at below))
     ] in
-    let steps : counted c.if-count-eq0.steps ≤ counted c.args.steps.now + (place + c.if-count-eq0.count) = elim c.if-count-eq0.branch [
+    let steps : sum_of_counts c.if-count-eq0.steps ≤ sum_of_counts c.args.steps.now + (place + c.if-count-eq0.count) = elim c.if-count-eq0.branch [
       | then-count-eq0 b ↦ rw (b.count-is, b.steps-is) (put-rest c.args.steps.now c.loop-place.steps c.put_words-count.new.steps b.put_rest-count.new.steps place _ _ kept.steps c.put_words-count.ensures.steps b.if-count-eq0.true b.put_rest-count.ensures.steps b.put_rest-count.ensures.some)
       | else-count-eq0 b ↦ rw (b.count-is, b.steps-is) (put-whole c.args.steps.now c.loop-place.steps c.put_words-count.new.steps place _ kept.steps c.put_words-count.ensures.steps)
     ] in

@@ -1,6 +1,6 @@
 use Rattle.std.proofs.Common.{◌≡◌, ◌+◌, ◌-◌, ◌*◌, ◌/◌, ◌%◌, ◌<◌, ◌≤◌, ℕ, get_or, length}
 use Rattle.hayro_jbig2.specs.Image.{packed_byte, row_bytes}
-use Rattle.jbig2_steps.specs.Work.{counted}
+use Rattle.jbig2_steps.specs.Work.{sum_of_counts}
 use Rattle.hayro_jbig2.proofs.page.packed.write_packed.Given as goal
 
 abbrev pub invariant-loop-place : goal.invariant-loop-place
@@ -10,7 +10,7 @@ invariant-loop-place g l = record {
   reached : l.place < length l.buf → l.start + l.place ≡ l.y * row_bytes l.width + l.column;
   column : l.place < length l.buf → l.column < row_bytes l.width;
   written : (k : ℕ) → k < l.place → get_or l.buf k 0 ≡ packed_byte l.bitmap ((l.start + k) % row_bytes l.width) ((l.start + k) / row_bytes l.width);
-  steps : counted l.steps ≤ counted l.fn.steps + l.place;
+  steps : sum_of_counts l.steps ≤ sum_of_counts l.fn.steps + l.place;
 }
 
 abbrev pub decreases-loop-place : goal.decreases-loop-place

@@ -8,7 +8,7 @@ use Rattle.jbig2_base.proofs.bitmap.colour.find_colour.Goals as goal
 pub returns-then-others-count-clause-value : goal.returns-then-others-count-clause-value
 returns-then-others-count-clause-value g c =
     search-found (λ (x : ℕ). pixel_at c.args.bitmap.now x c.args.y) c.load_pixels-pixels.result c.min-count.result c.leading_others-others.result c.args.from c.args.bitmap.now.width c.loop-x.x c.args.black
-    c.loop-x.invariant.begun (omega (arith, c.min-count.ensures, c.width-width.ensures.value)) c.load_pixels-pixels.ensures.bits c.if-others-count.true c.leading_others-others.ensures.before (c.leading_others-others.ensures.found c.if-others-count.true) c.loop-x.invariant.before
+    c.loop-x.invariant.opening (omega (arith, c.min-count.ensures, c.width-width.ensures.value)) c.load_pixels-pixels.ensures.bits c.if-others-count.true c.leading_others-others.ensures.before (c.leading_others-others.ensures.found c.if-others-count.true) c.loop-x.invariant.before
 
 pub returns-then-others-count-clause-steps : goal.returns-then-others-count-clause-steps
 returns-then-others-count-clause-steps g c =
@@ -16,11 +16,11 @@ returns-then-others-count-clause-steps g c =
     let x : ℕ = c.loop-x.x in
     let whole = c.loop-x.invariant.whole c.loop-x-test.true in
     loaded-more c.args.steps.now c.loop-x.steps c.load_pixels-pixels.new.steps ((x - from + 63) / 64) _ c.loop-x.invariant.steps c.load_pixels-pixels.ensures.steps
-    (let stops : (x - from + 63) / 64 + 1 ≡ words_searched from c.args.bitmap.now.width (x + c.leading_others-others.result) = search-stops from c.args.bitmap.now.width x c.leading_others-others.result c.loop-x.invariant.begun whole (omega (arith, c.min-count.ensures, c.if-others-count.true)) (omega (arith, c.min-count.ensures, c.if-others-count.true, c.width-width.ensures.value)) in omega (arith, stops))
+    (let stops : (x - from + 63) / 64 + 1 ≡ words_searched from c.args.bitmap.now.width (x + c.leading_others-others.result) = search-stops from c.args.bitmap.now.width x c.leading_others-others.result c.loop-x.invariant.opening whole (omega (arith, c.min-count.ensures, c.if-others-count.true)) (omega (arith, c.min-count.ensures, c.if-others-count.true, c.width-width.ensures.value)) in omega (arith, stops))
 
 pub loop-x-init : goal.loop-x-init
 loop-x-init g c = record {
-  begun = omega arith;
+  opening = omega arith;
   within = omega (arith, c.requires, c.width-width.ensures.value);
   before = λ x low high. absurd (omega (arith, low, high));
   whole = λ inside. omega arith;
@@ -33,9 +33,9 @@ loop-x-preserved g c =
     let x : ℕ = c.loop-x.x in
     let all : c.leading_others-others.result ≡ c.min-count.result = omega (arith, c.if-others-count.false, c.leading_others-others.ensures.within) in
     let whole = c.loop-x.invariant.whole c.loop-x-test.true in
-    let goes = search-goes from c.width-width.result x c.min-count.result c.loop-x.invariant.begun c.loop-x-test.true whole c.min-count.ensures in
+    let goes = search-goes from c.width-width.result x c.min-count.result c.loop-x.invariant.opening c.loop-x-test.true whole c.min-count.ensures in
     record {
-      begun = omega arith;
+      opening = omega arith;
       within = omega (arith, c.min-count.ensures, c.leading_others-others.ensures.within);
       before = search-before (λ (x : ℕ). pixel_at c.args.bitmap.now x c.args.y) c.load_pixels-pixels.result c.min-count.result c.leading_others-others.result c.args.from c.loop-x.x c.args.black c.load_pixels-pixels.ensures.bits c.leading_others-others.ensures.within c.leading_others-others.ensures.before c.loop-x.invariant.before;
       whole = λ inside. omega (arith, inside, all, whole, c.min-count.ensures);

@@ -5,7 +5,7 @@ use Rattle.jbig2_base.proofs.bitmap.colour.find_colour.Given as goal
 
 abbrev pub invariant-loop-x : goal.invariant-loop-x
 invariant-loop-x g l = record {
-  begun : l.from ≤ l.x;
+  opening : l.from ≤ l.x;
   within : l.x ≤ l.width;
   before : (x : ℕ) → l.from ≤ x → x < l.x → pixel_at l.bitmap x l.y ≡ not l.black;
   whole : l.x < l.width → (l.x - l.from) % 64 ≡ 0;

@@ -1,6 +1,6 @@
 use Rattle.std.proofs.Common.{◌≡◌, ℕ, ◌%◌, ◌^◌, List, [], ◌∷◌, reverse, drop, sym, ap, ◌∙◌, subst, Result, IfOk}
 use Rattle.jbig2_base.specs.declared.error.DecodeError.{DecodeError}
-use Rattle.jbig2_coder.specs.Encoder.{Writer, plain, stuffed}
+use Rattle.jbig2_coder.specs.Encoder.{Writer, eight_bits_out, seven_bits_out}
 use Rattle.jbig2_coder.specs.inner.EncoderViews.{writer_of}
 use Rattle.jbig2_coder.specs.declared.mq.encoder.CodeRegister.{CodeRegister}
 use Rattle.jbig2_coder.proofs.Encoders.{byte_out-none, byte_out-full, byte_out-below, byte_out-carry_full, byte_out-carry}
@@ -41,7 +41,7 @@ returns-then-last-2-clause-value g c =
     let h = last-read _ c.args.bytes.now.items c.in-Some.last c.deref.ensures.value c.in-Some.ensures in
     written c.stuffed-then-last-2.result c.stuffed-then-last-2.new.bytes.items _ _
     (byte_out-carry_full c.args.c c.in-Some.last out _ h c.if-c-lt-CARRY.false c.if-last-2.true
-    ∙ ap (λ (ys : List ℕ). stuffed (c.args.c % 2 ^ 27) ys) (sym c.replace_last.ensures))
+    ∙ ap (λ (ys : List ℕ). seven_bits_out (c.args.c % 2 ^ 27) ys) (sym c.replace_last.ensures))
     c.stuffed-then-last-2.ensures.value
 
 pub returns-clause-value : goal.returns-clause-value
@@ -50,5 +50,5 @@ returns-clause-value g c =
     let h = last-read _ c.args.bytes.now.items c.in-Some.last c.deref.ensures.value c.in-Some.ensures in
     written c.plain-2.result c.plain-2.new.bytes.items _ _
     (byte_out-carry c.args.c c.in-Some.last out _ h c.if-last.false c.if-c-lt-CARRY.false c.if-last-2.false
-    ∙ ap (λ (ys : List ℕ). plain c.args.c ys) (sym c.replace_last.ensures))
+    ∙ ap (λ (ys : List ℕ). eight_bits_out c.args.c ys) (sym c.replace_last.ensures))
     c.plain-2.ensures.value

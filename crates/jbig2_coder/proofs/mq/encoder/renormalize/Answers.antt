@@ -1,12 +1,12 @@
 use Rattle.std.proofs.Common.{◌≡◌, ℕ, ◌*◌, sym, ◌∙◌, arith}
-use Rattle.jbig2_coder.specs.Encoder.{Writer, shifted, renormed}
+use Rattle.jbig2_coder.specs.Encoder.{Writer, shift_once, renorme}
 use Rattle.jbig2_coder.specs.inner.EncoderViews.{writer_of}
 use Rattle.jbig2_coder.proofs.Encoders.{renormed-turn, renormed-stop}
 use Rattle.jbig2_coder.proofs.mq.encoder.renormalize.Goals as goal
 
 -- what a turn of the code leaves
-turned : (a b : ℕ) (v w : Writer) → w ≡ v → b ≡ 2 * a → renormed 15 (2 * a) v ≡ renormed 15 b w
-turned a b v w e h = λ i. renormed 15 (sym h i) (sym e i)
+turned : (a b : ℕ) (v w : Writer) → w ≡ v → b ≡ 2 * a → renorme 15 (2 * a) v ≡ renorme 15 b w
+turned a b v w e h = λ i. renorme 15 (sym h i) (sym e i)
 
 pub loop-registers-preserved : goal.loop-registers-preserved
 loop-registers-preserved g c =
@@ -17,7 +17,7 @@ loop-registers-preserved g c =
       same =
           c.loop-registers.invariant.same
           ∙ renormed-turn a w c.loop-registers.invariant.some c.loop-registers-test.true
-          ∙ turned a _ (shifted w) _ c.in_ok-registers.ensures.value range;
+          ∙ turned a _ (shift_once w) _ c.in_ok-registers.ensures.value range;
       some = omega arith;
       below = omega arith;
       room = c.in_ok-registers.ensures.room;

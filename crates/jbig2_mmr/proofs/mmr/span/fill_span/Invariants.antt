@@ -10,7 +10,7 @@ invariant-loop-x g l = record {
   lanes : KeepsLanes l.fn.steps l.steps;
   open_work : l.x < l.to → MovesWithin (l.x / 64 - l.from / 64) l.fn.steps l.steps;
   work : MovesWithin (span_words l.from l.to) l.fn.steps l.steps;
-  begun : l.from ≤ l.x;
+  opening : l.from ≤ l.x;
   within : l.x ≤ l.to;
   painted : IsSpan l.fn.bitmap l.bitmap l.y l.from l.x l.black;
 }

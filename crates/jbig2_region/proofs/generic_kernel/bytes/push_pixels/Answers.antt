@@ -17,7 +17,7 @@ loop-init g c = record {
   made = omega arith;
   context = c.context-context.ensures.value;
   left = λ grid x y stands. left-start grid x y (c.args.left % 2 ^ 0) c.args.left stands.beside;
-  holds = λ grid x y stands. decodes-start (nominal_pixels c.args.neighbours) _ x y (c.args.left % 2 ^ 0) grid c.args.decoder.now c.args.contexts.now;
+  has_decoded = λ grid x y stands. decodes-start (nominal_pixels c.args.neighbours) _ x y (c.args.left % 2 ^ 0) grid c.args.decoder.now c.args.contexts.now;
   steps = no-decisions c.args.steps.now 0 refl;
 }
 
@@ -38,14 +38,14 @@ loop-preserved g c =
           left-whole (with_pixels grid x y (k + 1) ((b * 2 + symbol) % 2 ^ (k + 1))) (x + (k + 1)) y (b * 2 + symbol)
           (subst (λ (n : ℕ). IsLeft (with_pixels grid x y (k + 1) n) (x + (k + 1)) y ((b * 2 + symbol) % 16)) (sym next.0)
           (left-bit grid x y k b byte symbol _ c.decode-symbol.ensures.value (omega (arith, stands.columns)) stands.row (c.loop.invariant.left grid x y stands)));
-      holds = λ grid x y stands.
+      has_decoded = λ grid x y stands.
           let shown = with_pixels grid x y k byte in
           let is_context =
           c.loop.invariant.context
           ∙ register-context c.args.neighbours grid shown x y k 20 c.loop.register b c.args.windows c.requires.near (omega arith) (omega arith) c.loop.invariant.moved (stored-above grid x y k byte) stands.shows (c.loop.invariant.left grid x y stands) in
           subst (λ (n : ℕ). DecodesPixels (nominal_pixels c.args.neighbours) false x y (k + 1) (region_state grid c.args.decoder.now c.args.contexts.now) (region_state (with_pixels grid x y (k + 1) n) c.decode-symbol.new.self (set c.loop.contexts c.loop.context c.decode-symbol.new.context))) (sym next.0)
           (decodes-bit (nominal_pixels c.args.neighbours) x y k grid c.args.decoder.now c.loop.decoder c.decode-symbol.new.self c.args.contexts.now c.loop.contexts c.loop.context byte symbol c.index-contexts-context.result c.decode-symbol.new.context
-          (c.loop.invariant.holds grid x y stands) (omega (arith, stands.columns)) stands.row is_context inside c.decode-symbol.ensures.value c.decode-symbol.ensures.coder c.decode-symbol.ensures.context);
+          (c.loop.invariant.has_decoded grid x y stands) (omega (arith, stands.columns)) stands.row is_context inside c.decode-symbol.ensures.value c.decode-symbol.ensures.coder c.decode-symbol.ensures.context);
       steps = more-decisions c.args.steps.now c.loop.steps c.decode-symbol.new.steps k 1 (k + 1) c.loop.invariant.steps c.decode-symbol.ensures.steps refl;
     }
 
@@ -69,7 +69,7 @@ returns-clause-pixels g c =
     let all : c.loop.counter ≡ c.args.count = omega arith in
     let bits : c.loop.beside % 2 ^ c.loop.counter ≡ c.from.result % (1 * 2 ^ c.args.count % 2 ^ 64) = rw (all, c.from.ensures) (sym (low-bits c.loop.beside c.args.count (omega arith))) in
     subst (λ (b : ℕ). PushesPixels c.args.neighbours c.args.count c.args.left c.args.windows c.args.count b (decoder_state c.args.decoder.now c.args.contexts.now) (decoder_state c.loop.decoder c.loop.contexts)) bits
-    (subst (λ (n : ℕ). PushesPixels c.args.neighbours c.args.count c.args.left c.args.windows n (c.loop.beside % 2 ^ c.loop.counter) (decoder_state c.args.decoder.now c.args.contexts.now) (decoder_state c.loop.decoder c.loop.contexts)) all c.loop.invariant.holds)
+    (subst (λ (n : ℕ). PushesPixels c.args.neighbours c.args.count c.args.left c.args.windows n (c.loop.beside % 2 ^ c.loop.counter) (decoder_state c.args.decoder.now c.args.contexts.now) (decoder_state c.loop.decoder c.loop.contexts)) all c.loop.invariant.has_decoded)
 
 pub returns-clause-bound : goal.returns-clause-bound
 returns-clause-bound g c = rw (low-bits c.from.result c.args.count (omega arith)) (mod_below c.from.result (2 ^ c.args.count) (pow_pos c.args.count))

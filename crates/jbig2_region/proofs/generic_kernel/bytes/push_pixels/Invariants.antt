@@ -13,6 +13,6 @@ invariant-loop g l = record {
   made : l.beside ≡ l.fn.left * 2 ^ l.counter + l.beside % 2 ^ l.counter;
   context : l.context ≡ cut_of l.fn.neighbours l.register l.beside;
   left : (grid : Grid) (x y : ℕ) → IsAtPixels grid x y l.fn.count l.fn.left l.fn.windows → IsLeft (with_pixels grid x y l.counter (l.beside % 2 ^ l.counter)) (x + l.counter) y l.beside;
-  holds : PushesPixels l.fn.neighbours l.fn.count l.fn.left l.fn.windows l.counter (l.beside % 2 ^ l.counter) (decoder_state l.initial.decoder l.initial.contexts) (decoder_state l.decoder l.contexts);
+  has_decoded : PushesPixels l.fn.neighbours l.fn.count l.fn.left l.fn.windows l.counter (l.beside % 2 ^ l.counter) (decoder_state l.initial.decoder l.initial.contexts) (decoder_state l.decoder l.contexts);
   steps : l.steps ≡ record l.initial.steps { decisions = l.initial.steps.decisions + l.counter };
 }

@@ -30,7 +30,7 @@ loop-y-init g c =
       width = refl;
       height = refl;
       bytes = refl;
-      holds = subst (λ (n : Region). HasDecoded w h input n (region_state c.args.bitmap.now c.args.decoder.now c.args.contexts.now)) (sym none) (region-start w h c.args.bitmap.now c.args.decoder.now c.args.contexts.now c.requires.white);
+      has_decoded = subst (λ (n : Region). HasDecoded w h input n (region_state c.args.bitmap.now c.args.decoder.now c.args.contexts.now)) (sym none) (region-start w h c.args.bitmap.now c.args.decoder.now c.args.contexts.now c.requires.white);
       predicted = ap (λ (n : Region). n.predicted) none;
       none = λ _. refl;
       decisions = counted-none (nominal_pixels c.args.neighbours) true (row_coding (nominal_pixels c.args.neighbours)) w h input start c.args.steps.now.decisions;
@@ -59,10 +59,10 @@ loop-y-preserved g c =
     subst (λ (q : Grid). DecodesPixels template false 0 y w (region_state c.loop-y.bitmap c.loop-y.decoder c.loop-y.contexts) (region_state q c.push_row-pixels.new.decoder c.push_row-pixels.new.contexts)) stored
     (subst (λ (n : ℕ). DecodesPixels template false 0 y n (region_state c.loop-y.bitmap c.loop-y.decoder c.loop-y.contexts) (region_state (with_pixels c.loop-y.bitmap 0 y c.width-width.result pixels) c.push_row-pixels.new.decoder c.push_row-pixels.new.contexts)) whole
     (c.push_row-pixels.ensures.pixels c.loop-y.bitmap y row)) in
-    let begin : (w h : ℕ) (grid : Grid) (r : Region) → r.predicted ≡ false → HasDecoded w h c.loop-y.decoder.bytes r (region_state grid c.loop-y.decoder c.loop-y.contexts) → BeginsRow w h None r false c.loop-y.decoder (region_state grid c.loop-y.decoder c.loop-y.contexts) = λ w h grid r is holds. begins-plain w h grid r c.loop-y.decoder c.loop-y.contexts is holds in
+    let begin : (w h : ℕ) (grid : Grid) (r : Region) → r.predicted ≡ false → HasDecoded w h c.loop-y.decoder.bytes r (region_state grid c.loop-y.decoder c.loop-y.contexts) → BeginsRow w h None r false c.loop-y.decoder (region_state grid c.loop-y.decoder c.loop-y.contexts) = λ w h grid r is has_decoded. begins-plain w h grid r c.loop-y.decoder c.loop-y.contexts is has_decoded in
     let next =
     layout-step template None y false false c.loop-y.bitmap c.loop-y.decoder c.loop-y.contexts c.loop-y.decoder c.loop-y.contexts c.store_pixels.new.self c.push_row-pixels.new.decoder c.push_row-pixels.new.contexts start w h input
-    c.loop-y.invariant.bytes refl refl begin decodes c.loop-y.invariant.holds c.loop-y.invariant.predicted in
+    c.loop-y.invariant.bytes refl refl begin decodes c.loop-y.invariant.has_decoded c.loop-y.invariant.predicted in
     let counts : CountsRuns template 0 y c.loop-y.bitmap.width (region_state c.loop-y.bitmap c.loop-y.decoder c.loop-y.contexts) c.loop-y.steps.decisions c.push_row-pixels.new.steps.decisions =
     subst (λ (n : ℕ). CountsRuns template 0 y n (region_state c.loop-y.bitmap c.loop-y.decoder c.loop-y.contexts) c.loop-y.steps.decisions c.push_row-pixels.new.steps.decisions) (sym wide) (c.push_row-pixels.ensures.decisions c.loop-y.bitmap y row) in
     let decided : c.push_row-pixels.new.steps.decisions ≡ c.store_pixels.new.steps.decisions = sym (ap (λ (t : Counts). t.decisions) c.store_pixels.ensures.steps) in
@@ -77,13 +77,13 @@ loop-y-preserved g c =
       width = after ∙ c.loop-y.invariant.width;
       height = ap (λ (q : Grid). q.height) c.store_pixels.ensures.value ∙ c.loop-y.invariant.height;
       bytes = c.push_row-pixels.ensures.bytes ∙ c.loop-y.invariant.bytes;
-      holds = next.0;
+      has_decoded = next.0;
       predicted = next.1;
       none = λ never. absurd (omega arith);
       decisions =
           counted-next template true coding y false false c.loop-y.bitmap c.loop-y.decoder c.loop-y.contexts c.loop-y.decoder c.loop-y.contexts start w h input
           c.args.steps.now.decisions c.loop-y.steps.decisions c.loop-y.steps.decisions c.store_pixels.new.steps.decisions
-          c.loop-y.invariant.bytes refl begin c.loop-y.invariant.holds c.loop-y.invariant.predicted c.loop-y.invariant.decisions (omega arith) counted;
+          c.loop-y.invariant.bytes refl begin c.loop-y.invariant.has_decoded c.loop-y.invariant.predicted c.loop-y.invariant.decisions (omega arith) counted;
       run_tests = tests-next c.args.steps.now.run_tests c.loop-y.steps.run_tests c.store_pixels.new.steps.run_tests (row_tests true w) y c.loop-y.invariant.run_tests (omega (arith, tested, whole, c.push_row-pixels.ensures.run_tests));
       words = tests-next c.args.steps.now.words c.loop-y.steps.words c.store_pixels.new.steps.words (row_words true w) y c.loop-y.invariant.words (omega (arith, written, c.push_row-pixels.ensures.words));
       loads = loaded ∙ c.push_row-pixels.ensures.loads ∙ c.loop-y.invariant.loads;
@@ -101,7 +101,7 @@ loop-y-preserved g c =
 pub returns-clause-region : goal.returns-clause-region
 returns-clause-region g c =
     region-whole (row_coding (nominal_pixels c.args.neighbours)) c.args.bitmap.now.width c.args.bitmap.now.height c.loop-y.y c.args.decoder.now.bytes (no_pixels c.args.decoder.now.registers c.args.contexts.now) c.loop-y.bitmap c.loop-y.decoder c.loop-y.contexts
-    refl (λ none. absurd (omega (arith, c.requires.some))) (omega arith) c.loop-y.invariant.holds
+    refl (λ none. absurd (omega (arith, c.requires.some))) (omega arith) c.loop-y.invariant.has_decoded
 
 pub returns-clause-steps : goal.returns-clause-steps
 returns-clause-steps g c =

@@ -13,7 +13,7 @@ invariant-loop-y g l = record {
   width : l.bitmap.width ≡ l.initial.bitmap.width;
   height : l.bitmap.height ≡ l.initial.bitmap.height;
   bytes : l.decoder.bytes ≡ l.initial.decoder.bytes;
-  holds : HasDecoded l.initial.bitmap.width l.initial.bitmap.height l.initial.decoder.bytes (after_rows (row_coding (nominal_pixels l.fn.neighbours)) l.initial.bitmap.width l.initial.bitmap.height l.initial.decoder.bytes l.y (no_pixels l.initial.decoder.registers l.initial.contexts)) (region_state l.bitmap l.decoder l.contexts);
+  has_decoded : HasDecoded l.initial.bitmap.width l.initial.bitmap.height l.initial.decoder.bytes (after_rows (row_coding (nominal_pixels l.fn.neighbours)) l.initial.bitmap.width l.initial.bitmap.height l.initial.decoder.bytes l.y (no_pixels l.initial.decoder.registers l.initial.contexts)) (region_state l.bitmap l.decoder l.contexts);
   predicted : (after_rows (row_coding (nominal_pixels l.fn.neighbours)) l.initial.bitmap.width l.initial.bitmap.height l.initial.decoder.bytes l.y (no_pixels l.initial.decoder.registers l.initial.contexts)).predicted ≡ false;
   none : l.y ≡ 0 → l.steps ≡ l.initial.steps;
   decisions : Counted (nominal_pixels l.fn.neighbours) true (row_coding (nominal_pixels l.fn.neighbours)) l.initial.bitmap.width l.initial.bitmap.height l.initial.decoder.bytes l.y (no_pixels l.initial.decoder.registers l.initial.contexts) l.initial.steps.decisions l.steps.decisions;

@@ -16,7 +16,7 @@ loop-init g c = record {
   bytes = refl;
   few = omega arith;
   shows = λ grid y shows. shows;
-  holds = λ grid y row. decodes-start (nominal_pixels c.args.neighbours) false 0 y 0 grid c.args.decoder.now c.args.contexts.now;
+  has_decoded = λ grid y row. decodes-start (nominal_pixels c.args.neighbours) false 0 y 0 grid c.args.decoder.now c.args.contexts.now;
   decisions = λ grid y row. counts-none (nominal_pixels c.args.neighbours) 0 y grid c.args.decoder.now c.args.contexts.now c.args.steps.now.decisions;
   run_tests = omega arith;
   loads = refl;
@@ -41,17 +41,17 @@ loop-preserved g c =
           subst (λ (n : ℕ). Shows grid (8 * (k + 1)) y n c.right_by-shown.result) less
           (subst (λ (n : ℕ). Shows grid n y (64 - 8 * k - 8) c.right_by-shown.result) (sym sum)
           (c.right_by-shown.ensures grid (8 * k) y (64 - 8 * k) (omega arith) (c.loop.invariant.shows grid y shows)));
-      holds = λ grid y row.
+      has_decoded = λ grid y row.
           let mid : Grid = with_pixels grid 0 y (8 * k) pixels in
           let made : Grid = with_pixels grid 0 y (8 * (k + 1)) (pixels * 256 + byte) in
           let stored : with_pixels mid (8 * k) y 8 byte ≡ made = stored-next grid y (8 * k) 8 (8 * (k + 1)) pixels byte c.push_byte-byte.ensures.bound sum (omega (arith, row.wide)) row.row in
           decodes-then (nominal_pixels c.args.neighbours) false 0 (8 * k) y (8 * k) 8 (8 * (k + 1)) grid mid made c.args.decoder.now c.loop.decoder c.push_byte-byte.new.decoder c.args.contexts.now c.loop.contexts c.push_byte-byte.new.contexts
-          (c.loop.invariant.holds grid y row)
+          (c.loop.invariant.has_decoded grid y row)
           (subst (λ (q : Grid). DecodesPixels (nominal_pixels c.args.neighbours) false (8 * k) y 8 (region_state mid c.loop.decoder c.loop.contexts) (region_state q c.push_byte-byte.new.decoder c.push_byte-byte.new.contexts)) stored (c.push_byte-byte.ensures.pixels mid (8 * k) y (stands grid y row)))
           place sum;
       decisions = λ grid y row.
           counts-then (nominal_pixels c.args.neighbours) 0 (8 * k) y (8 * k) 8 (8 * (k + 1)) grid (with_pixels grid 0 y (8 * k) pixels) c.args.decoder.now c.loop.decoder c.args.contexts.now c.loop.contexts c.args.steps.now.decisions c.loop.steps.decisions c.push_byte-byte.new.steps.decisions
-          (c.loop.invariant.decisions grid y row) (c.loop.invariant.holds grid y row)
+          (c.loop.invariant.decisions grid y row) (c.loop.invariant.has_decoded grid y row)
           (c.push_byte-byte.ensures.decisions (with_pixels grid 0 y (8 * k) pixels) (8 * k) y (omega arith) (stands grid y row)) place sum;
       run_tests = omega (arith, c.push_byte-byte.ensures.run_tests, c.loop.invariant.run_tests);
       loads = c.push_byte-byte.ensures.loads ∙ c.loop.invariant.loads;
@@ -89,7 +89,7 @@ returns-clause-pixels g c = λ grid y row.
     let shifted : pixels * 2 ^ count + last ≡ pixels * (1 * 2 ^ count % 2 ^ 64) + last = ap (λ (n : ℕ). pixels * n + last) (sym (one-shifted count (omega arith))) in
     subst (λ (b : ℕ). DecodesPixels (nominal_pixels c.args.neighbours) false 0 y c.args.width (region_state grid c.args.decoder.now c.args.contexts.now) (region_state (with_pixels grid 0 y c.args.width b) c.push_pixels-last.new.decoder c.push_pixels-last.new.contexts)) shifted
     (decodes-then (nominal_pixels c.args.neighbours) false 0 (8 * k) y (8 * k) count c.args.width grid mid made c.args.decoder.now c.loop.decoder c.push_pixels-last.new.decoder c.args.contexts.now c.loop.contexts c.push_pixels-last.new.contexts
-    (c.loop.invariant.holds grid y row)
+    (c.loop.invariant.has_decoded grid y row)
     (subst (λ (q : Grid). DecodesPixels (nominal_pixels c.args.neighbours) false (8 * k) y count (region_state mid c.loop.decoder c.loop.contexts) (region_state q c.push_pixels-last.new.decoder c.push_pixels-last.new.contexts)) stored (c.push_pixels-last.ensures.pixels mid (8 * k) y stands))
     place sum)
 
@@ -101,7 +101,7 @@ returns-clause-decisions g c = λ grid y row.
     let sum : c.args.width ≡ 8 * k + count = omega (arith, whole) in
     let mid : Grid = with_pixels grid 0 y (8 * k) c.loop.pixels in
     counts-then (nominal_pixels c.args.neighbours) 0 (8 * k) y (8 * k) count c.args.width grid mid c.args.decoder.now c.loop.decoder c.args.contexts.now c.loop.contexts c.args.steps.now.decisions c.loop.steps.decisions c.push_pixels-last.new.steps.decisions
-    (c.loop.invariant.decisions grid y row) (c.loop.invariant.holds grid y row)
+    (c.loop.invariant.decisions grid y row) (c.loop.invariant.has_decoded grid y row)
     (counts-last (nominal_pixels c.args.neighbours) (8 * k) y count mid c.loop.decoder c.loop.contexts c.loop.steps.decisions c.push_pixels-last.new.steps.decisions (ap (λ (s : Counts). s.decisions) c.push_pixels-last.ensures.steps) (omega (arith, sum, row.wide)) (omega (arith, sum, row.wide)))
     (omega arith) sum
 

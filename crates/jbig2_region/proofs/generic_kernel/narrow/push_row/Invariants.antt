@@ -11,7 +11,7 @@ invariant-loop g l = record {
   bytes : l.decoder.bytes ≡ l.initial.decoder.bytes;
   few : l.pixels < 2 ^ (8 * l.counter);
   shows : (grid : Grid) (y : ℕ) → Shows grid 0 y 64 l.fn.windows → Shows grid (8 * l.counter) y (64 - 8 * l.counter) l.shown;
-  holds : PushesRow l.fn.neighbours l.fn.width l.fn.windows (8 * l.counter) l.pixels (decoder_state l.initial.decoder l.initial.contexts) (decoder_state l.decoder l.contexts);
+  has_decoded : PushesRow l.fn.neighbours l.fn.width l.fn.windows (8 * l.counter) l.pixels (decoder_state l.initial.decoder l.initial.contexts) (decoder_state l.decoder l.contexts);
   decisions : CountsRowPixels l.fn.neighbours l.fn.width l.fn.windows (8 * l.counter) (decoder_state l.initial.decoder l.initial.contexts) l.initial.steps.decisions l.steps.decisions;
   run_tests : l.steps.run_tests ≤ l.initial.steps.run_tests + l.counter;
   loads : l.steps.loads ≡ l.initial.steps.loads;

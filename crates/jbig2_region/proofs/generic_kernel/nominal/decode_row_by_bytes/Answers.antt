@@ -25,7 +25,7 @@ loop-group-init g c =
       bytes = refl;
       few = omega arith;
       left = subst (λ (n : ℕ). IsLeft c.args.bitmap.now n c.args.y 0) start (left-none c.args.bitmap.now c.args.y);
-      holds = subst (λ (n : ℕ). DecodesPixels (nominal_pixels c.args.neighbours) false 0 c.args.y n (region_state c.args.bitmap.now c.args.decoder.now c.args.contexts.now) (region_state c.args.bitmap.now c.args.decoder.now c.args.contexts.now)) start
+      has_decoded = subst (λ (n : ℕ). DecodesPixels (nominal_pixels c.args.neighbours) false 0 c.args.y n (region_state c.args.bitmap.now c.args.decoder.now c.args.contexts.now) (region_state c.args.bitmap.now c.args.decoder.now c.args.contexts.now)) start
           (decodes-none (nominal_pixels c.args.neighbours) false 0 c.args.y c.args.bitmap.now c.args.decoder.now c.args.contexts.now);
       decisions = subst (λ (n : ℕ). CountsRuns (nominal_pixels c.args.neighbours) 0 c.args.y n (region_state c.args.bitmap.now c.args.decoder.now c.args.contexts.now) c.words_at-here.new.steps.decisions c.words_at-here.new.steps.decisions) start
           (counts-none (nominal_pixels c.args.neighbours) 0 c.args.y c.args.bitmap.now c.args.decoder.now c.args.contexts.now c.words_at-here.new.steps.decisions);
@@ -74,17 +74,17 @@ loop-group-preserved g c =
       left = subst (λ (n : ℕ). IsLeft made n c.args.y (c.push_group-pixels.result % 16)) column
           (subst (λ (q : Grid). IsLeft q (64 * c.loop-group.group + 8 * bytes) c.args.y (c.push_group-pixels.result % 16)) (sym c.store_pixels.ensures.value)
           (left-stored mid (64 * c.loop-group.group) c.args.y (8 * bytes) c.push_group-pixels.result (omega (arith, c.div_ceil-group-end.ensures, c.min-bytes.ensures)) (omega (arith, stands.columns)) stands.row));
-      holds =
+      has_decoded =
           decodes-then (nominal_pixels c.args.neighbours) false 0 (64 * c.loop-group.group) c.args.y (8 * here) (8 * bytes) (8 * then)
           c.args.bitmap.now mid made c.args.decoder.now c.loop-group.decoder c.push_group-pixels.new.decoder c.args.contexts.now c.loop-group.contexts c.push_group-pixels.new.contexts
-          c.loop-group.invariant.holds
+          c.loop-group.invariant.has_decoded
           (subst (λ (q : Grid). DecodesPixels (nominal_pixels c.args.neighbours) false (64 * c.loop-group.group) c.args.y (8 * bytes) (region_state mid c.loop-group.decoder c.loop-group.contexts) (region_state q c.push_group-pixels.new.decoder c.push_group-pixels.new.contexts)) (sym c.store_pixels.ensures.value)
           (c.push_group-pixels.ensures.pixels mid (64 * c.loop-group.group) c.args.y stands)) start sum;
       decisions =
           subst (λ (b : ℕ). CountsRuns (nominal_pixels c.args.neighbours) 0 c.args.y (8 * then) (region_state c.args.bitmap.now c.args.decoder.now c.args.contexts.now) c.words_at-here.new.steps.decisions b) decided
           (counts-then (nominal_pixels c.args.neighbours) 0 (64 * c.loop-group.group) c.args.y (8 * here) (8 * bytes) (8 * then)
           c.args.bitmap.now mid c.args.decoder.now c.loop-group.decoder c.args.contexts.now c.loop-group.contexts c.words_at-here.new.steps.decisions c.loop-group.steps.decisions c.push_group-pixels.new.steps.decisions
-          c.loop-group.invariant.decisions c.loop-group.invariant.holds
+          c.loop-group.invariant.decisions c.loop-group.invariant.has_decoded
           (subst (λ (b : ℕ). CountsRuns (nominal_pixels c.args.neighbours) (64 * c.loop-group.group) c.args.y (8 * bytes) (region_state mid c.loop-group.decoder c.loop-group.contexts) b c.push_group-pixels.new.steps.decisions) same (c.push_group-pixels.ensures.decisions mid (64 * c.loop-group.group) c.args.y (omega arith) stands)) start sum);
       run_tests = omega (arith, next, ap (λ (s : Counts). s.run_tests) c.words_after-after.ensures.steps, ap (λ (s : Counts). s.run_tests) c.store_pixels.ensures.steps, c.push_group-pixels.ensures.run_tests, c.loop-group.invariant.run_tests);
       before = subst (λ (n : ℕ). ShowsBefore made n c.args.y c.loop-group.here) on
@@ -108,7 +108,7 @@ loop-group-preserved g c =
 
 pub returns : goal.returns
 returns g c = record {
-  holds =
+  has_decoded =
       let whole : ℕ = (c.width-width.result - 1) / 8 in
       let x : ℕ = 8 * whole in
       let n : ℕ = c.width-width.result - x in
@@ -138,7 +138,7 @@ returns g c = record {
       } in
       decodes-then (nominal_pixels c.args.neighbours) false 0 x c.args.y x n c.args.bitmap.now.width
       c.args.bitmap.now c.loop-group.bitmap c.store_pixels-2.new.self c.args.decoder.now c.loop-group.decoder c.push_pixels-last.new.decoder c.args.contexts.now c.loop-group.contexts c.push_pixels-last.new.contexts
-      (subst (λ (k : ℕ). DecodesPixels (nominal_pixels c.args.neighbours) false 0 c.args.y (8 * k) (region_state c.args.bitmap.now c.args.decoder.now c.args.contexts.now) (region_state c.loop-group.bitmap c.loop-group.decoder c.loop-group.contexts)) all c.loop-group.invariant.holds)
+      (subst (λ (k : ℕ). DecodesPixels (nominal_pixels c.args.neighbours) false 0 c.args.y (8 * k) (region_state c.args.bitmap.now c.args.decoder.now c.args.contexts.now) (region_state c.loop-group.bitmap c.loop-group.decoder c.loop-group.contexts)) all c.loop-group.invariant.has_decoded)
       (subst (λ (q : Grid). DecodesPixels (nominal_pixels c.args.neighbours) false x c.args.y n (region_state c.loop-group.bitmap c.loop-group.decoder c.loop-group.contexts) (region_state q c.push_pixels-last.new.decoder c.push_pixels-last.new.contexts)) (sym c.store_pixels-2.ensures.value)
       (c.push_pixels-last.ensures.pixels c.loop-group.bitmap x c.args.y stands)) (omega arith) sum;
   width = search rules;
@@ -156,7 +156,7 @@ returns g c = record {
       c.args.bitmap.now c.loop-group.bitmap c.args.decoder.now c.loop-group.decoder c.args.contexts.now c.loop-group.contexts c.args.steps.now.decisions c.loop-group.steps.decisions c.store_pixels-2.new.steps.decisions
       (subst (λ (b : ℕ). CountsRuns (nominal_pixels c.args.neighbours) 0 c.args.y (8 * whole) (region_state c.args.bitmap.now c.args.decoder.now c.args.contexts.now) b c.loop-group.steps.decisions) same
       (subst (λ (k : ℕ). CountsRuns (nominal_pixels c.args.neighbours) 0 c.args.y (8 * k) (region_state c.args.bitmap.now c.args.decoder.now c.args.contexts.now) c.words_at-here.new.steps.decisions c.loop-group.steps.decisions) all c.loop-group.invariant.decisions))
-      (subst (λ (k : ℕ). DecodesPixels (nominal_pixels c.args.neighbours) false 0 c.args.y (8 * k) (region_state c.args.bitmap.now c.args.decoder.now c.args.contexts.now) (region_state c.loop-group.bitmap c.loop-group.decoder c.loop-group.contexts)) all c.loop-group.invariant.holds)
+      (subst (λ (k : ℕ). DecodesPixels (nominal_pixels c.args.neighbours) false 0 c.args.y (8 * k) (region_state c.args.bitmap.now c.args.decoder.now c.args.contexts.now) (region_state c.loop-group.bitmap c.loop-group.decoder c.loop-group.contexts)) all c.loop-group.invariant.has_decoded)
       (counts-last (nominal_pixels c.args.neighbours) x c.args.y n c.loop-group.bitmap c.loop-group.decoder c.loop-group.contexts c.loop-group.steps.decisions c.store_pixels-2.new.steps.decisions (search rules) (omega (arith, c.width-width.ensures.value, c.loop-group.invariant.width)) (omega (arith, c.width-width.ensures.value, c.loop-group.invariant.width)))
       (omega arith) sum;
   run_tests = search rules;

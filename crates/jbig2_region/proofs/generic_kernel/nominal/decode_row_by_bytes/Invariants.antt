@@ -12,7 +12,7 @@ invariant-loop-group g l = record {
   bytes : l.decoder.bytes ≡ l.initial.decoder.bytes;
   few : l.left < 16;
   left : IsLeft l.bitmap (8 * min (8 * l.group) l.whole) l.fn.y l.left;
-  holds : DecodesPixels (nominal_pixels l.fn.neighbours) false 0 l.fn.y (8 * min (8 * l.group) l.whole) (region_state l.initial.bitmap l.initial.decoder l.initial.contexts) (region_state l.bitmap l.decoder l.contexts);
+  has_decoded : DecodesPixels (nominal_pixels l.fn.neighbours) false 0 l.fn.y (8 * min (8 * l.group) l.whole) (region_state l.initial.bitmap l.initial.decoder l.initial.contexts) (region_state l.bitmap l.decoder l.contexts);
   decisions : CountsRuns (nominal_pixels l.fn.neighbours) 0 l.fn.y (8 * min (8 * l.group) l.whole) (region_state l.initial.bitmap l.initial.decoder l.initial.contexts) l.initial.steps.decisions l.steps.decisions;
   run_tests : l.steps.run_tests ≤ l.initial.steps.run_tests + min (8 * l.group) l.whole;
   before : ShowsBefore l.bitmap (64 * l.group) l.fn.y l.before;

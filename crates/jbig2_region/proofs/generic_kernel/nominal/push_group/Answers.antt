@@ -20,7 +20,7 @@ loop-done-init g c = record {
   shown = λ some grid x y group. byte-first grid x y c.args.bytes c.args.windows group;
   few = omega arith;
   left = λ grid x y stands. left-start grid x y 0 c.args.left stands.beside;
-  holds = λ grid x y stands. decodes-start (nominal_pixels c.args.neighbours) false x y 0 grid c.args.decoder.now c.args.contexts.now;
+  has_decoded = λ grid x y stands. decodes-start (nominal_pixels c.args.neighbours) false x y 0 grid c.args.decoder.now c.args.contexts.now;
   decisions = λ grid x y aligned stands. counts-none (nominal_pixels c.args.neighbours) x y grid c.args.decoder.now c.args.contexts.now c.args.steps.now.decisions;
   run_tests = omega arith;
   loads = refl;
@@ -68,17 +68,17 @@ loop-done-preserved g c =
           subst (λ (n : ℕ). IsLeft (with_pixels grid x y (8 * (done + bytes)) c.join-pixels.result) n y (taken % 16)) (next x)
           (subst (λ (q : Grid). IsLeft q (x + 8 * done + 8 * bytes) y (taken % 16)) (stored grid x y group)
           (left-stored (with_pixels grid x y (8 * done) pixels) (x + 8 * done) y (8 * bytes) taken (omega (arith, c.push_bytes-taken.ensures.some)) (omega (arith, group.columns, within)) group.row));
-      holds = λ grid x y group.
+      has_decoded = λ grid x y group.
           let mid : Grid = with_pixels grid x y (8 * done) pixels in
           let made : Grid = with_pixels grid x y (8 * (done + bytes)) c.join-pixels.result in
           decodes-then (nominal_pixels c.args.neighbours) false x (x + 8 * done) y (8 * done) (8 * bytes) (8 * (done + bytes)) grid mid made c.args.decoder.now c.loop-done.decoder c.push_bytes-taken.new.decoder c.args.contexts.now c.loop-done.contexts c.push_bytes-taken.new.contexts
-          (c.loop-done.invariant.holds grid x y group)
+          (c.loop-done.invariant.has_decoded grid x y group)
           (subst (λ (q : Grid). DecodesPixels (nominal_pixels c.args.neighbours) false (x + 8 * done) y (8 * bytes) (region_state mid c.loop-done.decoder c.loop-done.contexts) (region_state q c.push_bytes-taken.new.decoder c.push_bytes-taken.new.contexts)) (stored grid x y group) (c.push_bytes-taken.ensures.pixels mid (x + 8 * done) y (stands grid x y group)))
           refl sum;
       decisions = λ grid x y aligned group.
           let mid : Grid = with_pixels grid x y (8 * done) pixels in
           counts-then (nominal_pixels c.args.neighbours) x (x + 8 * done) y (8 * done) (8 * bytes) (8 * (done + bytes)) grid mid c.args.decoder.now c.loop-done.decoder c.args.contexts.now c.loop-done.contexts c.args.steps.now.decisions c.loop-done.steps.decisions c.push_bytes-taken.new.steps.decisions
-          (c.loop-done.invariant.decisions grid x y aligned group) (c.loop-done.invariant.holds grid x y group)
+          (c.loop-done.invariant.decisions grid x y aligned group) (c.loop-done.invariant.has_decoded grid x y group)
           (c.push_bytes-taken.ensures.decisions mid (x + 8 * done) y (omega (arith, aligned)) (stands grid x y group)) refl sum;
       run_tests = omega (arith, c.push_bytes-taken.ensures.run_tests, c.loop-done.invariant.run_tests);
       loads = c.push_bytes-taken.ensures.loads ∙ c.loop-done.invariant.loads;
@@ -89,7 +89,7 @@ loop-done-preserved g c =
 pub returns-clause-pixels : goal.returns-clause-pixels
 returns-clause-pixels g c =
     let all : c.loop-done.done ≡ c.args.bytes = omega (arith, c.loop-done.invariant.within) in
-    subst (λ (n : ℕ). PushesGroup c.args.neighbours c.args.bytes c.args.left c.args.windows n c.loop-done.pixels (decoder_state c.args.decoder.now c.args.contexts.now) (decoder_state c.loop-done.decoder c.loop-done.contexts)) all c.loop-done.invariant.holds
+    subst (λ (n : ℕ). PushesGroup c.args.neighbours c.args.bytes c.args.left c.args.windows n c.loop-done.pixels (decoder_state c.args.decoder.now c.args.contexts.now) (decoder_state c.loop-done.decoder c.loop-done.contexts)) all c.loop-done.invariant.has_decoded
 
 pub returns-clause-decisions : goal.returns-clause-decisions
 returns-clause-decisions g c =

@@ -15,7 +15,7 @@ invariant-loop-done g l = record {
   shown : l.done < l.fn.bytes → AreAtByte l.fn.bytes l.done l.fn.windows l.shown;
   few : l.pixels < 2 ^ (8 * l.done);
   left : (grid : Grid) (x y : ℕ) → IsAtGroup grid x y l.fn.bytes l.fn.left l.fn.windows → IsLeft (with_pixels grid x y (8 * l.done) l.pixels) (x + 8 * l.done) y l.beside;
-  holds : PushesGroup l.fn.neighbours l.fn.bytes l.fn.left l.fn.windows l.done l.pixels (decoder_state l.initial.decoder l.initial.contexts) (decoder_state l.decoder l.contexts);
+  has_decoded : PushesGroup l.fn.neighbours l.fn.bytes l.fn.left l.fn.windows l.done l.pixels (decoder_state l.initial.decoder l.initial.contexts) (decoder_state l.decoder l.contexts);
   decisions : CountsGroup l.fn.neighbours l.fn.bytes l.fn.left l.fn.windows l.done (decoder_state l.initial.decoder l.initial.contexts) l.initial.steps.decisions l.steps.decisions;
   run_tests : l.steps.run_tests ≤ l.initial.steps.run_tests + l.done;
   loads : l.steps.loads ≡ l.initial.steps.loads;

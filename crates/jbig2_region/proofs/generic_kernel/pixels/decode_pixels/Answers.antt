@@ -18,7 +18,7 @@ loop-offset-init g c =
       few = c.requires.small;
       above = λ i j less. refl;
       left = subst (λ (n : ℕ). IsLeft c.args.bitmap.now n c.args.place.y c.args.place.left) place c.requires.left;
-      holds = decodes-none (mixed_pixels c.args.neighbours c.args.adaptive.now) _ c.args.place.x c.args.place.y c.args.bitmap.now c.args.decoder.now c.args.contexts.now;
+      has_decoded = decodes-none (mixed_pixels c.args.neighbours c.args.adaptive.now) _ c.args.place.x c.args.place.y c.args.bitmap.now c.args.decoder.now c.args.contexts.now;
       decisions = omega arith;
       words = omega arith;
       run_tests = refl;
@@ -45,9 +45,9 @@ loop-offset-preserved g c =
       left =
           subst (λ (q : Grid). IsLeft q (c.args.place.x + (c.loop-offset.offset + 1)) c.args.place.y ((c.loop-offset.left * 2 + c.decode-symbol.result) % 16)) (sym stored)
           (left-pixel c.loop-offset.bitmap c.args.place.x c.args.place.y c.loop-offset.offset c.loop-offset.left c.decode-symbol.result _ c.decode-symbol.ensures.value (omega arith) (omega arith) c.loop-offset.invariant.left);
-      holds =
+      has_decoded =
           decodes-pixel (mixed_pixels c.args.neighbours c.args.adaptive.now) c.args.place.x c.args.place.y c.loop-offset.offset c.args.bitmap.now c.loop-offset.bitmap c.store_pixels.new.self c.args.decoder.now c.loop-offset.decoder c.decode-symbol.new.self c.args.contexts.now c.loop-offset.contexts c.mixed_context-context.result c.decode-symbol.result c.index-contexts-context.result c.decode-symbol.new.context
-          c.loop-offset.invariant.holds (omega arith) (omega arith) c.mixed_context-context.ensures.value inside stored c.decode-symbol.ensures.value c.decode-symbol.ensures.coder c.decode-symbol.ensures.context;
+          c.loop-offset.invariant.has_decoded (omega arith) (omega arith) c.mixed_context-context.ensures.value inside stored c.decode-symbol.ensures.value c.decode-symbol.ensures.coder c.decode-symbol.ensures.context;
       decisions = ap (λ (s : Counts). s.decisions) steps ∙ omega (arith, c.loop-offset.invariant.decisions);
       words = ap (λ (s : Counts). s.words) steps ∙ omega (arith, c.loop-offset.invariant.words);
       run_tests = ap (λ (s : Counts). s.run_tests) steps ∙ c.loop-offset.invariant.run_tests;

@@ -12,7 +12,7 @@ invariant-loop-offset g l = record {
   few : l.left < 16;
   above : SameAbove l.initial.bitmap l.bitmap l.fn.place.y;
   left : IsLeft l.bitmap (l.fn.place.x + l.offset) l.fn.place.y l.left;
-  holds : DecodesPixels (mixed_pixels l.fn.neighbours l.fn.adaptive) false l.fn.place.x l.fn.place.y l.offset (region_state l.initial.bitmap l.initial.decoder l.initial.contexts) (region_state l.bitmap l.decoder l.contexts);
+  has_decoded : DecodesPixels (mixed_pixels l.fn.neighbours l.fn.adaptive) false l.fn.place.x l.fn.place.y l.offset (region_state l.initial.bitmap l.initial.decoder l.initial.contexts) (region_state l.bitmap l.decoder l.contexts);
   decisions : l.steps.decisions ≡ l.initial.steps.decisions + l.offset;
   words : l.steps.words ≡ l.initial.steps.words + l.offset;
   run_tests : l.steps.run_tests ≡ l.initial.steps.run_tests;

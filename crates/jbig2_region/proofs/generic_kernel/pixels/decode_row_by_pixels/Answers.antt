@@ -15,7 +15,7 @@ loop-index-init g c =
       bytes = refl;
       few = omega arith;
       left = subst (λ (n : ℕ). IsLeft c.args.bitmap.now n c.args.y 0) none (left-none c.args.bitmap.now c.args.y);
-      holds =
+      has_decoded =
           subst (λ (n : ℕ). DecodesPixels (mixed_pixels c.args.neighbours c.args.adaptive.now) false 0 c.args.y n (region_state c.args.bitmap.now c.args.decoder.now c.args.contexts.now) (region_state c.args.bitmap.now c.args.decoder.now c.args.contexts.now)) none
           (decodes-none (mixed_pixels c.args.neighbours c.args.adaptive.now) false 0 c.args.y c.args.bitmap.now c.args.decoder.now c.args.contexts.now);
       decisions = omega arith;
@@ -36,10 +36,10 @@ loop-index-preserved g c =
       bytes = c.decode_pixels-left.ensures.bytes ∙ c.loop-index.invariant.bytes;
       few = c.decode_pixels-left.ensures.small;
       left = subst (λ (n : ℕ). IsLeft c.decode_pixels-left.new.bitmap n c.args.y c.decode_pixels-left.result) place c.decode_pixels-left.ensures.left;
-      holds =
+      has_decoded =
           decodes-then (mixed_pixels c.args.neighbours c.args.adaptive.now) false 0 (c.loop-index.index * 32) c.args.y (min (c.loop-index.index * 32) c.args.bitmap.now.width) c.min-count.result (min ((c.loop-index.index + 1) * 32) c.args.bitmap.now.width)
           c.args.bitmap.now c.loop-index.bitmap c.decode_pixels-left.new.bitmap c.args.decoder.now c.loop-index.decoder c.decode_pixels-left.new.decoder c.args.contexts.now c.loop-index.contexts c.decode_pixels-left.new.contexts
-          c.loop-index.invariant.holds c.decode_pixels-left.ensures.pixels (omega arith) next;
+          c.loop-index.invariant.has_decoded c.decode_pixels-left.ensures.pixels (omega arith) next;
       decisions = omega (arith, c.decode_pixels-left.ensures.decisions, c.loop-index.invariant.decisions);
       words = omega (arith, c.decode_pixels-left.ensures.words, c.loop-index.invariant.words);
       run_tests = c.decode_pixels-left.ensures.run_tests ∙ c.loop-index.invariant.run_tests;

@@ -11,7 +11,7 @@ invariant-loop-index g l = record {
   bytes : l.decoder.bytes ≡ l.initial.decoder.bytes;
   few : l.left < 16;
   left : IsLeft l.bitmap (min (l.index * 32) l.initial.bitmap.width) l.fn.y l.left;
-  holds : DecodesPixels (mixed_pixels l.fn.neighbours l.fn.adaptive) false 0 l.fn.y (min (l.index * 32) l.initial.bitmap.width) (region_state l.initial.bitmap l.initial.decoder l.initial.contexts) (region_state l.bitmap l.decoder l.contexts);
+  has_decoded : DecodesPixels (mixed_pixels l.fn.neighbours l.fn.adaptive) false 0 l.fn.y (min (l.index * 32) l.initial.bitmap.width) (region_state l.initial.bitmap l.initial.decoder l.initial.contexts) (region_state l.bitmap l.decoder l.contexts);
   decisions : l.steps.decisions ≡ l.initial.steps.decisions + min (l.index * 32) l.initial.bitmap.width;
   words : l.steps.words ≡ l.initial.steps.words + min (l.index * 32) l.initial.bitmap.width;
   run_tests : l.steps.run_tests ≡ l.initial.steps.run_tests;

@@ -34,7 +34,7 @@ returns-clause-decoded g c =
     block-whole (skipping_coding (nominal_pixels c.args.neighbours) (skip_of c.args.skip)) false c.args.place.x c.args.place.y c.loop-offset.offset c.args.place.count c.args.bitmap.now c.store_pixels.new.self c.args.decoder.now c.loop-offset.decoder c.args.contexts.now c.loop-offset.contexts c.mask_at-mask.new.steps c.loop-offset.steps c.loop-offset.pixels
     c.loop-offset.invariant (omega arith) c.store_pixels.ensures.value in
     record {
-      holds = whole.holds;
+      has_decoded = whole.has_decoded;
       width = ap (λ (b : Grid). b.width) c.store_pixels.ensures.value;
       height = ap (λ (b : Grid). b.height) c.store_pixels.ensures.value;
       bytes = c.loop-offset.invariant.bytes;

@@ -6,7 +6,7 @@ use Rattle.jbig2_region.specs.{inner.RegionViews.{skip_of}, Steps.{skipping_load
 use Rattle.jbig2_region.specs.inner.RegionStates.{BeginsRow, HasDecoded, region_state}
 use Rattle.jbig2_region.specs.inner.Neighbours.{nominal_pixels}
 use Rattle.jbig2_region.proofs.PlaceLemmas.{region-empty, region-whole}
-use Rattle.jbig2_region.proofs.RasterLemmas.{begun-plainly}
+use Rattle.jbig2_region.proofs.RasterLemmas.{opening-plainly}
 use Rattle.jbig2_region.proofs.RegionLemmas.{tests-next}
 use Rattle.jbig2_region.proofs.SkippingLemmas.{skipping-empty, skipping-region}
 use Rattle.jbig2_region.proofs.StretchLemmas.{rows-next, rows-none}
@@ -33,7 +33,7 @@ loop-y-preserved g c =
     let coding : Coding = skipping_coding (nominal_pixels c.args.neighbours) (skip_of c.args.skip) in
     let w : ℕ = c.args.bitmap.now.width in
     let begin : (w h : ℕ) (grid : Grid) (r : Region) → r.predicted ≡ false → HasDecoded w h c.loop-y.decoder.bytes r (region_state grid c.loop-y.decoder c.loop-y.contexts) → BeginsRow w h coding.row_context r false c.loop-y.decoder (region_state grid c.loop-y.decoder c.loop-y.contexts) =
-    λ w h grid r plain holds. begun-plainly w h None r false grid c.loop-y.decoder c.loop-y.contexts refl plain holds in
+    λ w h grid r plain has_decoded. opening-plainly w h None r false grid c.loop-y.decoder c.loop-y.contexts refl plain has_decoded in
     let more : c.loop-y.steps.decisions ≡ c.loop-y.steps.decisions + 0 = omega arith in
     let written : c.decode_row.new.steps.words ≤ c.loop-y.steps.words + skipping_words w = subst (λ (n : ℕ). c.decode_row.new.steps.words ≤ c.loop-y.steps.words + skipping_words n) c.loop-y.invariant.rows.width c.decode_row.ensures.words in
     let loaded : c.decode_row.new.steps.loads ≤ c.loop-y.steps.loads + skipping_loads w = subst (λ (n : ℕ). c.decode_row.new.steps.loads ≤ c.loop-y.steps.loads + skipping_loads n) c.loop-y.invariant.rows.width c.decode_row.ensures.loads in
@@ -47,7 +47,7 @@ loop-y-preserved g c =
 pub returns-clause-region : goal.returns-clause-region
 returns-clause-region g c =
     region-whole (skipping_coding (nominal_pixels c.args.neighbours) (skip_of c.args.skip)) c.args.bitmap.now.width c.args.bitmap.now.height c.loop-y.y c.args.decoder.now.bytes (no_pixels c.args.decoder.now.registers c.args.contexts.now) c.loop-y.bitmap c.loop-y.decoder c.loop-y.contexts
-    refl (λ none. c.if-width-eq0.false (c.width.ensures.value ∙ none)) (omega arith) c.loop-y.invariant.rows.holds
+    refl (λ none. c.if-width-eq0.false (c.width.ensures.value ∙ none)) (omega arith) c.loop-y.invariant.rows.has_decoded
 
 pub returns-clause-steps : goal.returns-clause-steps
 returns-clause-steps g c =

@@ -1,6 +1,6 @@
 use Rattle.std.proofs.Common.{◌∙◌, ap, arith, subst, sym}
 use Rattle.jbig2_region.specs.inner.RegionViews.{region_view}
-use Rattle.hayro_jbig2.specs.Page.{shown}
+use Rattle.hayro_jbig2.specs.Page.{with_drawn_region}
 use Rattle.hayro_jbig2.specs.declared.region.parsed_region.ParsedRegion.{ParsedRegion}
 use Rattle.hayro_jbig2.specs.inner.ParsedRegions.{IsDecodable, placed_region}
 use Rattle.hayro_jbig2.proofs.SeenRows.{generic-shown, refined-shown}
@@ -12,7 +12,7 @@ returns-else-header-clause-shown g c = λ d height.
     let parsed = subst (λ (r : ParsedRegion _). IsDecodable r) c.in-Generic.is c.requires in
     generic-shown g.row.A.Denot c.in-Generic.header rows.result d parsed c.if-header.false rows.ensures.fewer
     (λ j n row is less. rows.ensures.others j n (omega (arith, row, height)) is less)
-    ∙ ap (λ (r : ParsedRegion _). shown d (placed_region r)) (sym c.in-Generic.is)
+    ∙ ap (λ (r : ParsedRegion _). with_drawn_region d (placed_region r)) (sym c.in-Generic.is)
 
 pub returns-else-height-header-clause-shown : goal.returns-else-height-header-clause-shown
 returns-else-height-header-clause-shown g c = λ d height.
@@ -21,7 +21,7 @@ returns-else-height-header-clause-shown g c = λ d height.
     let parsed = subst (λ (r : ParsedRegion _). IsDecodable r) c.in-Refinement.is c.requires in
     refined-shown header (region_view c.in-Refinement.reference.now) rows.result d parsed rows.ensures.fewer (omega (arith, c.if-height-header.false, c.height.ensures.value))
     (λ j n row is less. rows.ensures.others j n (omega (arith, row, height)) is less)
-    ∙ ap (λ (r : ParsedRegion _). shown d (placed_region r)) (sym c.in-Refinement.is)
+    ∙ ap (λ (r : ParsedRegion _). with_drawn_region d (placed_region r)) (sym c.in-Refinement.is)
 
 pub returns-else-height-header-2-clause-shown : goal.returns-else-height-header-2-clause-shown
 returns-else-height-header-2-clause-shown g c = λ d height.
@@ -30,4 +30,4 @@ returns-else-height-header-2-clause-shown g c = λ d height.
     let parsed = subst (λ (r : ParsedRegion _). IsDecodable r) c.in-PageRefinement.is c.requires in
     refined-shown header (region_view c.in-PageRefinement.area) rows.result d parsed rows.ensures.fewer (omega (arith, c.if-height-header-2.false, c.height-in-PageRefinement.ensures.value))
     (λ j n row is less. rows.ensures.others j n (omega (arith, row, height)) is less)
-    ∙ ap (λ (r : ParsedRegion _). shown d (placed_region r)) (sym c.in-PageRefinement.is)
+    ∙ ap (λ (r : ParsedRegion _). with_drawn_region d (placed_region r)) (sym c.in-PageRefinement.is)

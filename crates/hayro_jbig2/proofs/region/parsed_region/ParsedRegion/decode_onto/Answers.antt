@@ -2,13 +2,13 @@ use Rattle.std.proofs.Common.{◌≡◌, ◌≤◌, inl, ap, arith}
 use Rattle.std.proofs.lemmas.Result.{err_from_is_err_and}
 use Rattle.jbig2_base.specs.declared.error.DecodeError.TheVariants.{OutOfMemory}
 use Rattle.jbig2_region.specs.declared.region_info.RegionSegmentInfo.{RegionSegmentInfo}
-use Rattle.jbig2_steps.specs.Work.{worth}
+use Rattle.jbig2_steps.specs.Work.{budget}
 use Rattle.hayro_jbig2.proofs.Paying.{blank-memory, placed-paid}
 use Rattle.hayro_jbig2.proofs.region.parsed_region.ParsedRegion.decode_onto.Goals as goal
 
 pub returns-in-Ok-clause-paid : goal.returns-in-Ok-clause-paid
 returns-in-Ok-clause-paid g c =
-    placed-paid c.args.self (worth c.args.work.now) (worth c.pay_bitmaps.new.work) (worth c.decode_into.new.work) c.in_ok-pay_bitmaps.ensures.taken c.decode_into.ensures.paid
+    placed-paid c.args.self (budget c.args.work.now) (budget c.pay_bitmaps.new.work) (budget c.decode_into.new.work) c.in_ok-pay_bitmaps.ensures.taken c.decode_into.ensures.paid
 
 pub returns-in_err-reinitialize-in-Err-clause-value : goal.returns-in_err-reinitialize-in-Err-clause-value
 returns-in_err-reinitialize-in-Err-clause-value g c =
@@ -21,8 +21,8 @@ returns-in_err-reinitialize-in-Err-clause-value g c =
 
 pub returns-in_err-reinitialize-in-Err-clause-paid : goal.returns-in_err-reinitialize-in-Err-clause-paid
 returns-in_err-reinitialize-in-Err-clause-paid g c =
-    placed-paid c.args.self (worth c.args.work.now) (worth c.pay_bitmaps.new.work) (worth c.decode_into.new.work) c.in_ok-pay_bitmaps.ensures.taken c.decode_into.ensures.paid
+    placed-paid c.args.self (budget c.args.work.now) (budget c.pay_bitmaps.new.work) (budget c.decode_into.new.work) c.in_ok-pay_bitmaps.ensures.taken c.decode_into.ensures.paid
 
 pub returns-clause-paid : goal.returns-clause-paid
 returns-clause-paid g c =
-    placed-paid c.args.self (worth c.args.work.now) (worth c.pay_bitmaps.new.work) (worth c.decode_into.new.work) c.in_ok-pay_bitmaps.ensures.taken c.decode_into.ensures.paid
+    placed-paid c.args.self (budget c.args.work.now) (budget c.pay_bitmaps.new.work) (budget c.decode_into.new.work) c.in_ok-pay_bitmaps.ensures.taken c.decode_into.ensures.paid

@@ -31,7 +31,7 @@ loop-word-preserved g c =
     let first : ℕ = l.left / 64 in
     let word : ℕ = c.loop-word.word in
     let place : ℕ = l.from_y * from.stride + l.from / 64 + (word - first) in
-    let begun : first + 1 ≤ word = c.loop-word.auto.word in
+    let opening : first + 1 ≤ word = c.loop-word.auto.word in
     record {
       same_reference = c.combine_run-in-loop-word.ensures.same_reference ∙ c.loop-word.invariant.same_reference;
       packed = c.combine_run-in-loop-word.ensures.packed;

@@ -1,6 +1,6 @@
 use Rattle.std.proofs.Common.{ℕ, ◌-◌, ◌*◌, ◌^◌, ◌≤◌, ◌∙◌, ap, subst, sym, arith}
 use Rattle.std.specs.Int.Count.{count_leading_zeros}
-use Rattle.jbig2_coder.specs.inner.Ahead.{IsAhead, seen_of, seen_registers, shifted}
+use Rattle.jbig2_coder.specs.inner.Ahead.{IsAhead, seen_of, seen_registers, shift_buffer}
 use Rattle.jbig2_coder.specs.declared.arithmetic_decoder.registers.BufferedRegisters.{BufferedRegisters}
 use Rattle.jbig2_coder.proofs.Ahead.{renormed-shifts, shifted-ahead}
 use Rattle.jbig2_coder.proofs.Renorm.{leading-full, leading-half, leading-room, renormed-stop}
@@ -18,7 +18,7 @@ returns-clause-value c =
     let half = leading-half c.args.self.now.a c.requires.some c.requires.half in
     ap seen_registers c.shift.ensures
     ∙ sym (renormed-shifts c.args.bytes.now k c.args.self.now.a c.args.self.now.code c.requires.ahead c.if-shifts-self.false c.requires.some (omega (arith, half)) (leading-room c.args.self.now.a k c.requires.some c.requires.half (omega arith))
-    ∙ renormed-stop c.args.bytes.now 15 (c.args.self.now.a * 2 ^ k) (seen_of (shifted k c.args.self.now.code)) (leading-full c.args.self.now.a c.requires.some c.requires.half))
+    ∙ renormed-stop c.args.bytes.now 15 (c.args.self.now.a * 2 ^ k) (seen_of (shift_buffer k c.args.self.now.code)) (leading-full c.args.self.now.a c.requires.some c.requires.half))
 
 pub returns-clause-ahead : goal.returns-clause-ahead
 returns-clause-ahead c =

@@ -1,5 +1,5 @@
 use Rattle.std.proofs.Common.{◌≡◌, ℕ, ◌+◌, ◌*◌, ◌^◌, List, reverse, sym, ap, ◌∙◌, arith}
-use Rattle.jbig2_coder.specs.Encoder.{Coding, byte_out, flushed, closed}
+use Rattle.jbig2_coder.specs.Encoder.{Coding, byte_out, flush_coder, with_marker}
 use Rattle.jbig2_coder.specs.inner.EncoderViews.{coding_of, HasRoom}
 use Rattle.jbig2_coder.proofs.Encoders.{shift-fits, flushed-code}
 use Rattle.jbig2_coder.proofs.ListSteps.{same_ok}
@@ -13,11 +13,11 @@ returns g c =
     let once = ap (λ (n : ℕ). n * 2 ^ s.writer.wait) (sym c.set_bits.ensures.value)
     ∙ shift-fits c.set_bits.result s.writer.wait (low + s.range) c.self.invariant.room.room (omega arith) in
     let twice = shift-fits c.in_ok-first.first.c c.in_ok-first.first.ct (c.in_ok-first.first.c + 0x10000) room.room (omega arith) in
-    let out : reverse c.byte_out-2.new.bytes.items ≡ (flushed s).out =
+    let out : reverse c.byte_out-2.new.bytes.items ≡ (flush_coder s).out =
     flushed-code s c.in_ok-first.first c.in_ok-byte_out.field-0 c.byte_out.new.bytes.items c.byte_out-2.new.bytes.items
     (c.in_ok-first.ensures.value ∙ ap (λ (n : ℕ). byte_out n s.writer.out) (sym once))
     (c.in_ok-byte_out.ensures.value ∙ ap (λ (n : ℕ). byte_out n (reverse c.byte_out.new.bytes.items)) (sym twice)) in
     same_ok _ _
-    (ap (λ (t : Coding). closed (flushed t).out) (sym c.self.view_is)
-    ∙ ap (λ (ys : List ℕ). closed ys) (sym out)
+    (ap (λ (t : Coding). with_marker (flush_coder t).out) (sym c.self.view_is)
+    ∙ ap (λ (ys : List ℕ). with_marker ys) (sym out)
     ∙ sym c.in_ok-close.ensures.value)

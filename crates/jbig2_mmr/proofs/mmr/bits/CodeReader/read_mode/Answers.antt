@@ -6,7 +6,7 @@ use Rattle.jbig2_mmr.specs.declared.mmr.codes.modes.TheConstants.{MODES}
 use Rattle.jbig2_mmr.specs.T6.{read_code}
 use Rattle.jbig2_mmr.specs.T6Codes.{modes}
 use Rattle.jbig2_base.specs.inner.BitLists.{AreBits}
-use Rattle.jbig2_mmr.specs.inner.T6Reading.{Rest, padded}
+use Rattle.jbig2_mmr.specs.inner.T6Reading.{Rest, padded_bits}
 use Rattle.jbig2_mmr.specs.inner.T6Steps.{IsNear}
 use Rattle.jbig2_mmr.proofs.T6Distances.{distance-is, kind-near}
 use Rattle.jbig2_mmr.proofs.T6Lookup.{lookup-none, lookup-short, lookup-some}
@@ -15,13 +15,13 @@ use Rattle.jbig2_mmr.proofs.mmr.bits.CodeReader.read_mode.Goals as goal
 use Rattle.jbig2_mmr.proofs.mmr.bits.CodeReader.read_mode.Goals.{then-size-eq0-via-then-size-eq0, then-size-eq0-via-else-size-eq0+then-size-few}
 
 -- the mode that was found, and the bits after its code
-found : (v size : ℕ) (bits left : List ℕ) → v < 128 → AreBits bits → v ≡ number_after 0 (take 7 (padded bits)) → size ≡ get_or MODES v 0 % 8 → (size ≡ 0 → ⊥) → size ≤ length bits → left ≡ drop size bits → Some (mode_of (get_or MODES v 0 / 8), left) ≡ read_code modes bits
-found v size bits left small are number is some there behind =
-    ap (λ (ys : List ℕ). let pair : Option (Mode × List ℕ) = Some (mode_of (get_or MODES v 0 / 8), ys) in pair) (behind ∙ ap (λ (n : ℕ). drop n bits) is)
+found : (v size : ℕ) (bits left : List ℕ) → v < 128 → AreBits bits → v ≡ number_after 0 (take 7 (padded_bits bits)) → size ≡ get_or MODES v 0 % 8 → (size ≡ 0 → ⊥) → size ≤ length bits → left ≡ drop size bits → Some (mode_of (get_or MODES v 0 / 8), left) ≡ read_code modes bits
+found v size bits left small are number is some there following =
+    ap (λ (ys : List ℕ). let pair : Option (Mode × List ℕ) = Some (mode_of (get_or MODES v 0 / 8), ys) in pair) (following ∙ ap (λ (n : ℕ). drop n bits) is)
     ∙ lookup-some modes 7 v bits (mode_of (get_or MODES v 0 / 8)) (get_or MODES v 0 % 8) (omega arith) modes-short are number (mode-some v small (λ none. some (is ∙ none))) (omega (arith, is, there))
 
 shorter-by : (size : ℕ) (bits left : List ℕ) → (size ≡ 0 → ⊥) → size ≤ length bits → left ≡ drop size bits → length left < length bits
-shorter-by size bits left some there behind = omega (arith, some, ap length behind, length-drop size bits)
+shorter-by size bits left some there following = omega (arith, some, ap length following, length-drop size bits)
 
 pub returns-then-size-eq0-clause-value : goal.returns-then-size-eq0-clause-value
 returns-then-size-eq0-clause-value c =

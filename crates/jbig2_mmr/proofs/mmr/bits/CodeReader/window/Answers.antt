@@ -3,7 +3,7 @@ use Rattle.std.specs.List.{flat_map}
 use Rattle.std.proofs.lemmas.List.{take_rest, length-drop}
 use Rattle.jbig2_base.specs.Bits.{byte_bits, number_after}
 use Rattle.jbig2_base.specs.inner.BitLists.{AreBits}
-use Rattle.jbig2_mmr.specs.inner.T6Reading.{Rest, padded}
+use Rattle.jbig2_mmr.specs.inner.T6Reading.{Rest, padded_bits}
 use Rattle.jbig2_base.proofs.BitFieldLemmas.{bits-drop, byte-bits}
 use Rattle.jbig2_base.proofs.NumberLemmas.{length-bits}
 use Rattle.jbig2_mmr.proofs.T6Bits.{within-bits, window-is}
@@ -27,4 +27,4 @@ returns-clause-value c =
     (c.first_word.ensures.value ∙ ap (λ (ys : List ℕ). get_or ys 0 0 * 16777216 + (get_or ys 1 0 * 65536 + (get_or ys 2 0 * 256 + get_or ys 3 0))) rest) refl refl refl refl
     (subst (λ (ys : List ℕ). get_or ys 0 0 < 256) rest c.first_word.ensures.bytes.0) (subst (λ (ys : List ℕ). get_or ys 1 0 < 256) rest c.first_word.ensures.bytes.1) (subst (λ (ys : List ℕ). get_or ys 2 0 < 256) rest c.first_word.ensures.bytes.2) (subst (λ (ys : List ℕ). get_or ys 3 0 < 256) rest c.first_word.ensures.bytes.3)
     c.self.invariant.1 short there
-    ∙ ap (λ (ys : List ℕ). number_after 0 (take n (padded ys))) left
+    ∙ ap (λ (ys : List ℕ). number_after 0 (take n (padded_bits ys))) left

@@ -8,8 +8,8 @@ unfoldable pub is_before : ℕ → ℕ → ℕ → ℕ → Bool
 is_before y x i j = nat_lt j y || (j == y && nat_lt i x)
 
 -- the pixels of f before column x of row y, and white from there on
-abbrev pub filled : ℕ → ℕ → (ℕ → ℕ → Bool) → ℕ → ℕ → Grid
-filled w h f y x = grid_of w h (λ i j. is_before y x i j && f i j)
+abbrev pub grid_before : ℕ → ℕ → (ℕ → ℕ → Bool) → ℕ → ℕ → Grid
+grid_before w h f y x = grid_of w h (λ i j. is_before y x i j && f i j)
 
 -- the pixel at column x of row y of a part
 abbrev pub pixel_of_part : Grid → Area → ℕ → ℕ → Bool

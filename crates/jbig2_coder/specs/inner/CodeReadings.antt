@@ -18,11 +18,11 @@ use Rattle.jbig2_coder.specs.PrefixCode.{value_by}
 abbrev pub code_of : ℕ → List TableLine → List TableLine → ℕ
 code_of l lines earlier = shorter l lines + length (level l earlier)
 
-abbrev pub ended : {A : Type 0} → ℕ → CodeReading A
-ended k = record { result = Err (Parse UnexpectedEof); taken = k }
+abbrev pub cut_off_code : {A : Type 0} → ℕ → CodeReading A
+cut_off_code k = record { result = Err (Parse UnexpectedEof); taken = k }
 
-abbrev pub refused : {A : Type 0} → ℕ → CodeReading A
-refused k = record { result = Err (Huffman InvalidCode); taken = k }
+abbrev pub unknown_code : {A : Type 0} → ℕ → CodeReading A
+unknown_code k = record { result = Err (Huffman InvalidCode); taken = k }
 
 -- the line that was found, or else another reading
 abbrev pub found_or : Option TableLine → ℕ → CodeReading TableLine → CodeReading TableLine
@@ -38,7 +38,7 @@ is_decided ms bits k = is_some (line_of ms k (front_number k bits)) || not (begi
 -- what the first k bits give, if fewer bits are not enough
 abbrev pub read_of : List Member → List ℕ → ℕ → CodeReading TableLine
 read_of ms bits k =
-    if nat_lt (length bits) k then ended k else found_or (line_of ms k (front_number k bits)) k (refused k)
+    if nat_lt (length bits) k then cut_off_code k else found_or (line_of ms k (front_number k bits)) k (unknown_code k)
 
 abbrev pub some_value : Result ℤ DecodeError → Result (Option ℤ) DecodeError
 some_value r = r >>= λ n. Ok (Some n)
@@ -52,8 +52,8 @@ abbrev pub range_bits : TableLine → ℕ
 range_bits line = if line.is_out_of_band then 0 else line.range_length
 
 -- the value of a code's line, after the bits of the code
-abbrev pub valued : CodeReading TableLine → List ℕ → CodeReading (Option ℤ)
-valued reading bits =
+abbrev pub with_value : CodeReading TableLine → List ℕ → CodeReading (Option ℤ)
+with_value reading bits =
     elim reading.result [
       | Ok line ↦ record { result = value_after line (drop reading.taken bits); taken = reading.taken + range_bits line }
       | Err e ↦ record { result = Err e; taken = reading.taken }
