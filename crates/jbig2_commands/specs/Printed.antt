@@ -90,7 +90,7 @@ fault_text (Decode e) = error_text e
 fault_text Unwritable = codes "cannot write output"
 
 abbrev pub usage_line : List ℕ
-usage_line = codes "usage: jbig2-decode [--strict] pages|page_from FILE | calls|pbm FILE INDEX\n"
+usage_line = codes "usage: jbig2-decode [--strict] pages|embedded FILE | calls|pbm FILE INDEX\n"
 
 abbrev pub fault_line : Fault → List ℕ
 fault_line fault = codes "error: " ++ fault_text fault ++ codes "\n"
