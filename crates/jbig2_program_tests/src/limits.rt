@@ -41,7 +41,7 @@ fn left_of(
 
 /// The packed rows that a context holds.
 fn rows_of(alloc: Global, context: &DecoderContext<Global>) -> Result<Vec<u8>> {
-    let drawn = context.drawn();
+    let drawn = context.drawn_page();
     let mut rows = Vec::new(alloc);
     rows.resize(drawn.size(), 0)?;
     drawn.read_at(0, &mut rows);

@@ -23,7 +23,7 @@ fn drawn(
     let page = Page::new_embedded(alloc, &bytes, None, &DecodeSettings { strict })?;
     page.draw_in(context)?;
     let mut row = [0];
-    let drawn = context.drawn();
+    let drawn = context.drawn_page();
     if drawn.size() == 1 {
         drawn.read_at(0, &mut row);
     }

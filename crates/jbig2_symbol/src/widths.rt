@@ -74,7 +74,7 @@ impl RunningWidths {
         ensures value { let before = self.old in
             let meant = width_by before.left before.width before.total difference in
             Returns (λ next. with_total self.new.total next) result meant }
-        ensures moved { IfOk result (λ next. IsNextWidth self.old next self.new) }
+        ensures next_width { IfOk result (λ next. IsNextWidth self.old next self.new) }
     {
         let Some(difference) = difference else {
             return Ok(None);
@@ -108,7 +108,7 @@ impl RunningWidths {
             let state = R.state readings.old in
             HasCause result
             (BreaksNextWidth R.readings d before.left before.width before.total state) }
-        ensures moved { IfOk result (λ next. IsNextWidth self.old next self.new) }
+        ensures next_width { IfOk result (λ next. IsNextWidth self.old next self.new) }
         ensures paid { PaidBut (number_steps 1) work.old work.new }
     {
         let difference = readings.width_difference(input, work)?;

@@ -81,7 +81,7 @@ impl<A: Allocator> Canvas<A> {
     }
 
     /// The page as packed rows.
-    pub(crate) fn drawn(&self) -> DrawnPage<'_, A>
+    pub(crate) fn drawn_page(&self) -> DrawnPage<'_, A>
         ensures { result ≡ packed_of self.now.grid.width self.now.grid.height self.now.grid }
     {
         DrawnPage::new(&self.bitmap, self.is_white())

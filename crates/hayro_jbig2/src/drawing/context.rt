@@ -78,11 +78,11 @@ impl<A: Allocator> DecoderContext<A> {
 
     /// The page that was drawn last, as packed rows. After a page that was refused, it is what was drawn before the
     /// fault. After memory ran out it may be any page.
-    pub fn drawn(&self) -> DrawnPage<'_, A>
+    pub fn drawn_page(&self) -> DrawnPage<'_, A>
         ensures { let page = self.now.drawing.grid in
             result ≡ packed_of page.width page.height page }
     {
-        self.canvas.drawn()
+        self.canvas.drawn_page()
     }
 
     /// Sets how many units of work each page may take that is decoded in this context from now on; `None` means no

@@ -35,7 +35,7 @@ fn put_shades(buf: &mut [u8], place: usize, count: usize, word: u64)
 
 /// Column `x` of row `y`; after the last column of a row comes the first one of the next row.
 #[inline(always)]
-pub(crate) fn wrapped(x: usize, y: u32, width: usize) -> (usize, u32)
+pub(crate) fn next_place(x: usize, y: u32, width: usize) -> (usize, u32)
     requires some { 0 < width }
     requires within { x ≤ width }
     requires few { y < u32.MAX }
@@ -68,6 +68,6 @@ pub(crate) fn write_image<A: Allocator, L: Ledger>(
         let count = (width - x).min(buf.len() - place).min(64);
         put_shades(buf, place, count, word);
         place += count;
-        (x, y) = wrapped(x + count, y, width);
+        (x, y) = next_place(x + count, y, width);
     }
 }

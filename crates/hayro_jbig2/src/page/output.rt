@@ -110,7 +110,7 @@ impl<'a, A: Allocator + Clone> Page<'a, A> {
             IfOk result (λ _. budget work.new + 32 * price ≤ budget work.old) }
     {
         let _globals = &self.globals;
-        let canvas = self.drawn(work)?;
+        let canvas = self.draw_new_canvas(work)?;
         write_image(canvas.page(), &self.initial_page, buf, &mut work.steps);
         Ok(())
     }
@@ -183,7 +183,7 @@ impl<'a, A: Allocator + Clone> Page<'a, A> {
     {
         let mut context = DecoderContext::new(self.segments.as_vec().allocator().clone()?)?;
         self.draw_within(&mut context, work)?;
-        context.drawn().read_at(0, buf);
+        context.drawn_page().read_at(0, buf);
         Ok(())
     }
 
@@ -196,11 +196,11 @@ impl<'a, A: Allocator + Clone> Page<'a, A> {
         ensures errors { IfErr result IsReturned }
     {
         self.draw_in(context)?;
-        Ok(context.drawn())
+        Ok(context.drawn_page())
     }
 
     /// Draws the page in a context, which earlier pages may have used. The context then holds the page:
-    /// `DecoderContext::drawn` lends its packed rows, and `DecoderContext::passed_over` says what was passed over.
+    /// `DecoderContext::drawn_page` lends its packed rows, and `DecoderContext::passed_over` says what was passed over.
     ///
     /// Returns the first fault of a segment that lenient reading does not pass over.
     /// At most 32 steps are counted for each unit of the context's limit, after an error too.
@@ -252,7 +252,7 @@ impl<'a, A: Allocator + Clone> Page<'a, A> {
     }
 
     /// Draws the page on a fresh canvas.
-    fn drawn<L: Ledger>(&self, work: &mut Work<L>) -> Result<Canvas<A>>
+    fn draw_new_canvas<L: Ledger>(&self, work: &mut Work<L>) -> Result<Canvas<A>>
         ensures value { Gives (λ canvas. canvas.grid) result (grid_of_page self.now) }
         ensures paid { Paid work.old work.new }
         ensures ahead { let page = self.now.initial_page in

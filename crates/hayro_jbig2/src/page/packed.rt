@@ -6,7 +6,7 @@ ghost use Rattle.hayro_jbig2.specs.Image.{packed_byte, packed_part, row_bytes};
 ghost use Rattle.hayro_jbig2.specs.inner.BufferBytes.{top_byte, word_byte, Fills};
 ghost use Rattle.jbig2_steps.specs.Work.{sum_of_counts};
 
-use crate::page::image::wrapped;
+use crate::page::image::next_place;
 use jbig2_base::bitmap::Bitmap;
 use jbig2_base::bitmap::steps::Steps;
 use std::alloc::Allocator;
@@ -54,7 +54,7 @@ fn put_rest<A: Allocator, L: Ledger>(
     ensures some { 1 ≤ result }
     ensures most { result ≤ most }
     ensures steps { steps.new ≡ words_loaded 1 steps.old }
-    ensures puts { Fills (λ i. packed_byte bitmap.now (column + i) y) place result buf.old buf.new }
+    ensures bytes { Fills (λ i. packed_byte bitmap.now (column + i) y) place result buf.old buf.new }
 {
     let word = bitmap.load_pixels(8 * column as u32, y, 64, steps);
     let count = most.min(8 - column % 8);
@@ -77,7 +77,7 @@ fn put_words<A: Allocator, L: Ledger>(
     requires inside { place + most ≤ length buf.old }
     ensures most { result ≤ most }
     ensures steps { steps.new ≡ words_loaded (result / 8) steps.old }
-    ensures puts { Fills (λ i. packed_byte bitmap.now (column + i) y) place result buf.old buf.new }
+    ensures bytes { Fills (λ i. packed_byte bitmap.now (column + i) y) place result buf.old buf.new }
 {
     if column % 8 != 0 || y >= bitmap.height() {
         return 0;
@@ -120,6 +120,6 @@ pub(crate) fn write_packed<A: Allocator, L: Ledger>(
             count = put_rest(bitmap, column, y, most, buf, place, steps);
         }
         place += count;
-        (column, y) = wrapped(column + count, y, row_bytes);
+        (column, y) = next_place(column + count, y, row_bytes);
     }
 }

@@ -30,7 +30,7 @@ impl<'a, 'n, 'r, A: Allocator + Clone> ParsedRegion<'a, 'n, 'r, A> {
     pub(crate) fn above_end(self, page_height: u32) -> ParsedRegion<'a, 'n, 'r, A>
         requires { IsDecodable self }
         ensures decodable { IsDecodable result }
-        ensures shown { (d : Drawing) → d.grid.height ≡ page_height →
+        ensures same_page { (d : Drawing) → d.grid.height ≡ page_height →
             with_drawn_region d (placed_region result)
             ≡ with_drawn_region d (placed_region self.entry) }
     {

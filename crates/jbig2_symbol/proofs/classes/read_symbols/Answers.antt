@@ -30,7 +30,7 @@ returns-in-Err-symbol_bitmap-clause-value g c =
     let some = rw c.in-Ok-Some.field-0-is at c.in-Ok-Some.ensures in
     let after = c.read_next.new.self in
     let pair : ℕ × ℕ = (c.in-Ok-Some.width, after.total) in
-    symbols-undrawn r.readings (input_view c.args.input.now) c.loop-width.widths.left after.left c.args.height c.loop-width.widths.width c.loop-width.widths.total c.loop-width.bitmaps.items (r.state c.loop-width.readings) (r.state c.read_next.new.readings) (Some pair) pair c.in-Err-symbol_bitmap.error _ (let more = some.moved.0 in omega arith) refl some.value c.loop-width.invariant.reads (rw c.deref.ensures.value at c.in-Err-symbol_bitmap.ensures.value)
+    symbols-undrawn r.readings (input_view c.args.input.now) c.loop-width.widths.left after.left c.args.height c.loop-width.widths.width c.loop-width.widths.total c.loop-width.bitmaps.items (r.state c.loop-width.readings) (r.state c.read_next.new.readings) (Some pair) pair c.in-Err-symbol_bitmap.error _ (let more = some.next_width.0 in omega arith) refl some.value c.loop-width.invariant.reads (rw c.deref.ensures.value at c.in-Err-symbol_bitmap.ensures.value)
 
 pub loop-width-preserved : goal.loop-width-preserved
 loop-width-preserved g c =
@@ -40,9 +40,9 @@ loop-width-preserved g c =
     let pair : ℕ × ℕ = (c.in-Ok-Some.width, after.total) in
     record {
       reads =
-          rw some.moved.1
-          (sym (symbols-next r.readings (input_view c.args.input.now) c.loop-width.widths.left after.left c.args.height c.loop-width.widths.width c.loop-width.widths.total c.loop-width.bitmaps.items c.push.new.self.items c.in-Ok.symbol (r.state c.loop-width.readings) (r.state c.read_next.new.readings) (r.state c.symbol_bitmap.new.self) (Some pair) pair (let more = some.moved.0 in omega arith) refl c.in_ok-push.ensures.items some.value (rw c.deref.ensures.value at c.in-Ok.ensures.value))
+          rw some.next_width.1
+          (sym (symbols-next r.readings (input_view c.args.input.now) c.loop-width.widths.left after.left c.args.height c.loop-width.widths.width c.loop-width.widths.total c.loop-width.bitmaps.items c.push.new.self.items c.in-Ok.symbol (r.state c.loop-width.readings) (r.state c.read_next.new.readings) (r.state c.symbol_bitmap.new.self) (Some pair) pair (let more = some.next_width.0 in omega arith) refl c.in_ok-push.ensures.items some.value (rw c.deref.ensures.value at c.in-Ok.ensures.value))
           ∙ c.loop-width.invariant.reads);
-      all = omega (arith, some.moved.0, length-append c.loop-width.bitmaps.items (c.in-Ok.symbol ∷ []), ap length c.in_ok-push.ensures.items, c.loop-width.invariant.all);
+      all = omega (arith, some.next_width.0, length-append c.loop-width.bitmaps.items (c.in-Ok.symbol ∷ []), ap length c.in_ok-push.ensures.items, c.loop-width.invariant.all);
       paid = omega (arith, c.read_next.ensures.paid, c.symbol_bitmap.ensures.paid, length-append c.loop-width.bitmaps.items (c.in-Ok.symbol ∷ []), ap length c.in_ok-push.ensures.items, c.loop-width.invariant.paid);
     }

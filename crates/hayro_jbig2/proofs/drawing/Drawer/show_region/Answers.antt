@@ -22,7 +22,7 @@ returns-in_err-region-clause-value g c =
     let meant : Result PlacedRegion DecodeError = region_at (is_strict c.args.self.now.reading) c.args.self.now.globals.now c.args.kind false (segment_view c.args.segment.now) d in
     let leads : meant ≡ placed_region c.in_ok-parsed.parsed = led c.references-references.result (is_strict c.args.self.now.reading) c.args.self.now.globals.now c.args.kind false (segment_view c.args.segment.now) c.canvas.inside.bitmap c.deref.result.now c.canvas.inside.regions.items c.canvas.inside.names c.canvas.inside.untouched c.canvas.inside.passed_over d (placed_region c.in_ok-parsed.parsed) c.references-references.ensures.strict c.references-references.ensures.globals c.references-references.ensures.drawing c.deref.ensures.value c.canvas.view_is c.in_ok-parsed.ensures.value in
     let height : d.grid.height ≡ c.height.result = sym (c.height.ensures.value ∙ ap (λ (b : Drawing). b.grid.height) c.canvas.view_is) in
-    rw (e.1, e.2) (cut-refused d meant (placed_region c.in_ok-parsed.parsed) (placed_region c.above_end-seen.result) c.in_err-region.field-0.0 leads (c.above_end-seen.ensures.shown d height) c.in_err-region.ensures.value)
+    rw (e.1, e.2) (cut-refused d meant (placed_region c.in_ok-parsed.parsed) (placed_region c.above_end-seen.result) c.in_err-region.field-0.0 leads (c.above_end-seen.ensures.same_page d height) c.in_err-region.ensures.value)
 
 pub returns-in_err-region-clause-err : goal.returns-in_err-region-clause-err
 returns-in_err-region-clause-err g c =
@@ -36,7 +36,7 @@ returns-clause-value g c =
     let leads : meant ≡ placed_region c.in_ok-parsed.parsed = led c.references-references.result (is_strict c.args.self.now.reading) c.args.self.now.globals.now c.args.kind false (segment_view c.args.segment.now) c.canvas.inside.bitmap c.deref.result.now c.canvas.inside.regions.items c.canvas.inside.names c.canvas.inside.untouched c.canvas.inside.passed_over d (placed_region c.in_ok-parsed.parsed) c.references-references.ensures.strict c.references-references.ensures.globals c.references-references.ensures.drawing c.deref.ensures.value c.canvas.view_is c.in_ok-parsed.ensures.value in
     let drawn : Ok c.combine.new.self ≡ with_drawn_region d (Ok (region_view c.in_ok-region.region)) = c.combine.ensures.value ∙ ap (λ (b : Drawing). with_drawn_region b (Ok (region_view c.in_ok-region.region))) c.canvas.view_is in
     let height : d.grid.height ≡ c.height.result = sym (c.height.ensures.value ∙ ap (λ (b : Drawing). b.grid.height) c.canvas.view_is) in
-    cut-shown d c.combine.new.self meant (placed_region c.in_ok-parsed.parsed) (placed_region c.above_end-seen.result) (region_view c.in_ok-region.region) leads (c.above_end-seen.ensures.shown d height) c.in_ok-region.ensures.value drawn
+    cut-shown d c.combine.new.self meant (placed_region c.in_ok-parsed.parsed) (placed_region c.above_end-seen.result) (region_view c.in_ok-region.region) leads (c.above_end-seen.ensures.same_page d height) c.in_ok-region.ensures.value drawn
 
 pub returns-then-makes_up-clause-value : goal.returns-then-makes_up-clause-value
 returns-then-makes_up-clause-value g c =

@@ -7,7 +7,7 @@ use Rattle.hayro_jbig2.proofs.page.Page.draw.Goals as goal
 pub returns-clause-value : goal.returns-clause-value
 returns-clause-value g c =
     packed-drawn c.args.self.now c.draw_in.new.context.drawing.grid c.in_ok-draw_in.ensures.value
-    ∙ ap (λ (rows : List ℕ). let r : Result (List ℕ) DecodeError = Ok rows in r) (sym c.drawn.ensures)
+    ∙ ap (λ (rows : List ℕ). let r : Result (List ℕ) DecodeError = Ok rows in r) (sym c.drawn_page.ensures)
 
 pub returns-in_err-draw_in-clause-value : goal.returns-in_err-draw_in-clause-value
 returns-in_err-draw_in-clause-value g c =

@@ -9,17 +9,17 @@ use Rattle.hayro_jbig2.proofs.page.Page.write_packed.Goals as goal
 
 pub read_at-requires : goal.read_at-requires
 read_at-requires g c =
-    let is : packed_of_page c.args.self.now ≡ Ok c.drawn.result =
+    let is : packed_of_page c.args.self.now ≡ Ok c.drawn_page.result =
     packed-drawn c.args.self.now c.draw_within.new.context.drawing.grid (grid-is c.args.self.now c.draw_within.new.context.drawing c.in_ok-draw_within.ensures.drawing)
-    ∙ ap (λ (rows : List ℕ). let r : Result (List ℕ) DecodeError = Ok rows in r) (sym c.drawn.ensures) in
-    omega (arith, c.requires, page-size c.args.self.now c.drawn.result is)
+    ∙ ap (λ (rows : List ℕ). let r : Result (List ℕ) DecodeError = Ok rows in r) (sym c.drawn_page.ensures) in
+    omega (arith, c.requires, page-size c.args.self.now c.drawn_page.result is)
 
 pub returns-clause-value : goal.returns-clause-value
 returns-clause-value g c =
-    let drawn : List ℕ = c.drawn.result in
+    let drawn : List ℕ = c.drawn_page.result in
     let is : packed_of_page c.args.self.now ≡ Ok drawn =
     packed-drawn c.args.self.now c.draw_within.new.context.drawing.grid (grid-is c.args.self.now c.draw_within.new.context.drawing c.in_ok-draw_within.ensures.drawing)
-    ∙ ap (λ (rows : List ℕ). let r : Result (List ℕ) DecodeError = Ok rows in r) (sym c.drawn.ensures) in
+    ∙ ap (λ (rows : List ℕ). let r : Result (List ℕ) DecodeError = Ok rows in r) (sym c.drawn_page.ensures) in
     let whole : length c.args.buf.now ≡ length drawn = c.requires ∙ sym (page-size c.args.self.now drawn is) in
     is
     ∙ ap (λ (xs : List ℕ). Ok xs) (sym (c.read_at.ensures ∙ ap (λ (n : ℕ). take n drawn) whole ∙ take_all (length drawn) drawn (omega arith)))

@@ -23,8 +23,8 @@ loop-place-preserved g c =
     record {
       sized = c.put_shades.ensures.sized ∙ kept.sized;
       within = rw (c.put_shades.ensures.sized) (grind (arith));
-      reached = λ more. omega (arith, kept.reached left, c.wrapped.ensures.place);
-      column = λ more. c.wrapped.ensures.inside;
+      reached = λ more. omega (arith, kept.reached left, c.next_place.ensures.place);
+      column = λ more. c.next_place.ensures.inside;
       written = shades-more c.args.bitmap.now w c.loop-place.place c.loop-place.x c.loop-place.y c.min-count.result c.load_pixels-word.result c.loop-place.buf c.put_shades.new.buf (kept.reached left) narrow few c.load_pixels-word.ensures.bits kept.written c.put_shades.ensures.before c.put_shades.ensures.bytes;
       steps = omega (arith, kept.steps, counted-load);
     }

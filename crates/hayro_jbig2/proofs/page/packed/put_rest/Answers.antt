@@ -2,8 +2,8 @@ use Rattle.std.proofs.Common.{◌∙◌, arith}
 use Rattle.hayro_jbig2.proofs.PackedRows.{byte-pixels}
 use Rattle.hayro_jbig2.proofs.page.packed.put_rest.Goals as goal
 
-pub returns-clause-puts : goal.returns-clause-puts
-returns-clause-puts g c = record {
+pub returns-clause-bytes : goal.returns-clause-bytes
+returns-clause-bytes g c = record {
   sized = c.put_bytes.ensures.sized;
   before = c.put_bytes.ensures.before;
   bytes = λ i below. c.put_bytes.ensures.bytes i below ∙ byte-pixels c.args.bitmap.now c.load_pixels-word.result c.args.column i c.args.y (omega (arith, below)) c.load_pixels-word.ensures.bits;

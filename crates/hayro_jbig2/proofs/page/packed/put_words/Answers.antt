@@ -29,8 +29,8 @@ loop-index-preserved g c =
       steps = loaded-more c.args.steps.now c.loop-index.steps c.load-word.new.steps index (index + 1) c.loop-index.invariant.steps c.load-word.ensures.steps refl;
     }
 
-pub returns-clause-puts : goal.returns-clause-puts
-returns-clause-puts g c = puts-all (λ (i : ℕ). packed_byte c.args.bitmap.now (c.args.column + i) c.args.y) c.args.place (8 * c.loop-index.index) _ c.args.buf.now c.loop-index.buf (omega arith) c.loop-index.invariant.puts
+pub returns-clause-bytes : goal.returns-clause-bytes
+returns-clause-bytes g c = puts-all (λ (i : ℕ). packed_byte c.args.bitmap.now (c.args.column + i) c.args.y) c.args.place (8 * c.loop-index.index) _ c.args.buf.now c.loop-index.buf (omega arith) c.loop-index.invariant.puts
 
 pub returns-clause-steps : goal.returns-clause-steps
 returns-clause-steps g c = loaded-as c.args.steps.now c.loop-index.steps c.loop-index.index _ c.loop-index.invariant.steps (omega arith)

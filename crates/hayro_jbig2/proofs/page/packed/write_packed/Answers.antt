@@ -38,16 +38,16 @@ loop-place-preserved g c =
     ] in
     let narrow : column + c.if-count-eq0.count ≤ row_bytes w = rw (rows) (grind (arith)) in
     let sized : length c.if-count-eq0.buf ≡ length c.loop-place.buf = elim c.if-count-eq0.branch [
-      | then-count-eq0 b ↦ rw (b.buf-is) (b.put_rest-count.ensures.puts.sized ∙ c.put_words-count.ensures.puts.sized)
-      | else-count-eq0 b ↦ rw (b.buf-is) (c.put_words-count.ensures.puts.sized)
+      | then-count-eq0 b ↦ rw (b.buf-is) (b.put_rest-count.ensures.bytes.sized ∙ c.put_words-count.ensures.bytes.sized)
+      | else-count-eq0 b ↦ rw (b.buf-is) (c.put_words-count.ensures.bytes.sized)
     ] in
     let before : (k : ℕ) → k < place → get_or c.if-count-eq0.buf k 0 ≡ get_or c.loop-place.buf k 0 = elim c.if-count-eq0.branch [
-      | then-count-eq0 b ↦ λ k early. rw (b.buf-is) (b.put_rest-count.ensures.puts.before k early ∙ c.put_words-count.ensures.puts.before k early)
-      | else-count-eq0 b ↦ λ k early. rw (b.buf-is) (c.put_words-count.ensures.puts.before k early)
+      | then-count-eq0 b ↦ λ k early. rw (b.buf-is) (b.put_rest-count.ensures.bytes.before k early ∙ c.put_words-count.ensures.bytes.before k early)
+      | else-count-eq0 b ↦ λ k early. rw (b.buf-is) (c.put_words-count.ensures.bytes.before k early)
     ] in
     let put : (i : ℕ) → i < c.if-count-eq0.count → get_or c.if-count-eq0.buf (place + i) 0 ≡ packed_byte c.args.bitmap.now (column + i) y = elim c.if-count-eq0.branch [
-      | then-count-eq0 b ↦ λ i below. rw (b.buf-is) (b.put_rest-count.ensures.puts.bytes i (rw (b.count-is) at below))
-      | else-count-eq0 b ↦ λ i below. rw (b.buf-is) (c.put_words-count.ensures.puts.bytes i (rw (b.count-is) at below))
+      | then-count-eq0 b ↦ λ i below. rw (b.buf-is) (b.put_rest-count.ensures.bytes.bytes i (rw (b.count-is) at below))
+      | else-count-eq0 b ↦ λ i below. rw (b.buf-is) (c.put_words-count.ensures.bytes.bytes i (rw (b.count-is) at below))
     ] in
     let steps : sum_of_counts c.if-count-eq0.steps ≤ sum_of_counts c.args.steps.now + (place + c.if-count-eq0.count) = elim c.if-count-eq0.branch [
       | then-count-eq0 b ↦ rw (b.count-is, b.steps-is) (put-rest c.args.steps.now c.loop-place.steps c.put_words-count.new.steps b.put_rest-count.new.steps place _ _ kept.steps c.put_words-count.ensures.steps b.if-count-eq0.true b.put_rest-count.ensures.steps b.put_rest-count.ensures.some)
@@ -56,8 +56,8 @@ loop-place-preserved g c =
     record {
       sized = sized ∙ kept.sized;
       within = rw (sized) (grind (arith));
-      reached = λ more. rw (rows) (omega (arith, kept.reached left, c.wrapped.ensures.place, ap (λ (n : ℕ). y * n) rows));
-      column = λ more. omega (arith, c.wrapped.ensures.inside, rows);
+      reached = λ more. rw (rows) (omega (arith, kept.reached left, c.next_place.ensures.place, ap (λ (n : ℕ). y * n) rows));
+      column = λ more. omega (arith, c.next_place.ensures.inside, rows);
       written = values-more value place c.if-count-eq0.count c.loop-place.buf c.if-count-eq0.buf kept.written before (λ i below. put i below
           ∙ value-at byte (row_bytes w) (c.args.start + (place + i)) y (column + i) (omega (arith, kept.reached left)) (omega (arith, below, narrow)));
       steps = steps;

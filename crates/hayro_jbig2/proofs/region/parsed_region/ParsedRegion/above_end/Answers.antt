@@ -6,16 +6,16 @@ use Rattle.hayro_jbig2.specs.inner.ParsedRegions.{IsDecodable, placed_region}
 use Rattle.hayro_jbig2.proofs.SeenRows.{generic-shown, refined-shown}
 use Rattle.hayro_jbig2.proofs.region.parsed_region.ParsedRegion.above_end.Goals as goal
 
-pub returns-else-header-clause-shown : goal.returns-else-header-clause-shown
-returns-else-header-clause-shown g c = λ d height.
+pub returns-else-header-clause-same_page : goal.returns-else-header-clause-same_page
+returns-else-header-clause-same_page g c = λ d height.
     let rows = c.rows_above_end-header in
     let parsed = subst (λ (r : ParsedRegion _). IsDecodable r) c.in-Generic.is c.requires in
     generic-shown g.row.A.Denot c.in-Generic.header rows.result d parsed c.if-header.false rows.ensures.fewer
     (λ j n row is less. rows.ensures.others j n (omega (arith, row, height)) is less)
     ∙ ap (λ (r : ParsedRegion _). with_drawn_region d (placed_region r)) (sym c.in-Generic.is)
 
-pub returns-else-height-header-clause-shown : goal.returns-else-height-header-clause-shown
-returns-else-height-header-clause-shown g c = λ d height.
+pub returns-else-height-header-clause-same_page : goal.returns-else-height-header-clause-same_page
+returns-else-height-header-clause-same_page g c = λ d height.
     let header = c.in-Refinement.header in
     let rows = c.rows_above_end-header-in-Refinement in
     let parsed = subst (λ (r : ParsedRegion _). IsDecodable r) c.in-Refinement.is c.requires in
@@ -23,8 +23,8 @@ returns-else-height-header-clause-shown g c = λ d height.
     (λ j n row is less. rows.ensures.others j n (omega (arith, row, height)) is less)
     ∙ ap (λ (r : ParsedRegion _). with_drawn_region d (placed_region r)) (sym c.in-Refinement.is)
 
-pub returns-else-height-header-2-clause-shown : goal.returns-else-height-header-2-clause-shown
-returns-else-height-header-2-clause-shown g c = λ d height.
+pub returns-else-height-header-2-clause-same_page : goal.returns-else-height-header-2-clause-same_page
+returns-else-height-header-2-clause-same_page g c = λ d height.
     let header = c.in-PageRefinement.header in
     let rows = c.rows_above_end-header-in-PageRefinement in
     let parsed = subst (λ (r : ParsedRegion _). IsDecodable r) c.in-PageRefinement.is c.requires in

@@ -1,6 +1,6 @@
 use Rattle.std.proofs.lemmas.Result.{err_from_is_err_and}
 use Rattle.hayro_jbig2.proofs.DrawnPages.{grid-is, grid-refused}
-use Rattle.hayro_jbig2.proofs.page.Page.drawn.Goals as goal
+use Rattle.hayro_jbig2.proofs.page.Page.draw_new_canvas.Goals as goal
 
 pub returns-clause-value : goal.returns-clause-value
 returns-clause-value g c = grid-is c.args.self.now c.draw_onto.new.canvas c.in_ok-draw_onto.ensures.value
