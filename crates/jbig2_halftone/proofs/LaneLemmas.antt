@@ -2,7 +2,7 @@
 use Rattle.std.proofs.Common.{◌≡◌, ℕ, zero, suc, ◌+◌, ◌-◌, ◌*◌, ◌/◌, ◌%◌, ◌^◌, ◌<◌, ◌≤◌, Bool, true, false, not, eqb, List, [], ◌∷◌, get_or, set, get_or-set_same, get_or-set_other, length, refl, sym, ap, ◌∙◌, ⊎_elim, arith, bit_and}
 use Rattle.std.proofs.lemmas.Bool.{cases_eq, cases_lt, ne_eqb}
 use Rattle.std.proofs.lemmas.Simd.{length-chunk, get_or-chunk, get_or-put_chunk_at, get_or-put_chunk_above, get_or-put_chunk_below, get_or-zip2, length-zip2}
-use Rattle.jbig2_base.proofs.BitLemmas.{bit_number-bit}
+use Rattle.jbig2_base.proofs.BitLemmas.{bit-mod, bit-shr, bit_number-bit}
 use Rattle.jbig2_base.specs.Grid.{differ, Grid, bit_number, pixel_at}
 use Rattle.std.specs.Prelude.{if◌then◌else◌}
 use Rattle.std.specs.List.{All}
@@ -110,6 +110,18 @@ pub record TakenTo (plane : Grid) (y x : ℕ) (old new : List ℕ) : Type 0 wher
   pub others : (k : ℕ) → x ≤ k → get_or new k 0 ≡ get_or old k 0
 
 -- a group of eight values more
+-- eight pixels of a word, as a byte
+pub byte-pixels : (plane : Grid) (y n word : ℕ) → ((k : ℕ) → k < 64 → bit word (63 - k) ≡ pixel_at plane (64 * (n / 8) + k) y)
+    → (k : ℕ) → k < 8 → bit (word / 2 ^ (56 - 8 * (n % 8)) % 2 ^ 8) (8 - 1 - k) ≡ pixel_at plane (8 * n + k) y
+byte-pixels plane y n word bits k inside =
+    let at : 56 - 8 * (n % 8) + (8 - 1 - k) ≡ 63 - (8 * (n % 8) + k) = omega arith in
+    let column : 64 * (n / 8) + (8 * (n % 8) + k) ≡ 8 * n + k = omega arith in
+    bit-mod (word / 2 ^ (56 - 8 * (n % 8))) 8 (8 - 1 - k) (omega arith)
+    ∙ bit-shr word (56 - 8 * (n % 8)) (8 - 1 - k)
+    ∙ ap (λ (j : ℕ). bit word j) at
+    ∙ bits (8 * (n % 8) + k) (omega arith)
+    ∙ ap (λ (x : ℕ). pixel_at plane x y) column
+
 pub row-group : (plane : Grid) (y x byte : ℕ) (old mid group : List ℕ) → x + 8 ≤ length mid → length group ≡ 8
     → ((k : ℕ) → k < 8 → get_or group k 0 ≡ next_value (get_or (chunk x 8 mid) k 0) (bit byte (7 - k)))
     → ((k : ℕ) → k < 8 → bit byte (8 - 1 - k) ≡ pixel_at plane (x + k) y) → TakenTo plane y x old mid → TakenTo plane y (x + 8) old (put_chunk x mid group)

@@ -19,19 +19,21 @@ fn add_row<A: Allocator, L: Ledger>(
     values: &mut [u32],
     steps: &mut Steps<L>,
 )
+    requires row { y < plane.now.height }
     requires sized { length values.old ≡ plane.now.width }
     requires small { All (λ v. v < 2 ^ 31) values.old }
     ensures value { TakesRow plane.now y values.old values.new }
     ensures steps { steps.new ≡ after_lanes plane.now.width steps.old }
 {
     let width = plane.width();
+    let words = plane.row_words(y);
     let groups = width / LANES;
     for group in 0..groups {
-        let x = LANES * group;
-        let place = x as usize;
-        let byte = plane.load_pixels(x, y, LANES, steps) as u32;
+        let place = (LANES * group) as usize;
+        let shift = 56 - LANES * (group % 8);
+        let byte = (words.load(group as usize / 8, steps) >> shift) % 256;
         let lanes = u32x8::from_slice(&values[place..]);
-        next_group(byte, lanes, steps).copy_to_slice(&mut values[place..]);
+        next_group(byte as u32, lanes, steps).copy_to_slice(&mut values[place..]);
     }
     for x in LANES * groups..width {
         let black = plane.get_pixel(x, y, steps) == 1;

@@ -1,9 +1,10 @@
-use Rattle.std.proofs.Common.{◌≡◌, Bool, ℕ, ◌+◌, ◌-◌, ◌*◌, ◌/◌, get_or, ap, subst, ◌∙◌, arith}
+use Rattle.std.proofs.Common.{◌≡◌, Bool, ℕ, ◌+◌, ◌-◌, ◌*◌, ◌/◌, ◌%◌, ◌^◌, ◌<◌, get_or, ap, subst, ◌∙◌, arith}
 use Rattle.std.specs.Simd.Lanes.{put_chunk}
 use Rattle.jbig2_base.specs.Counts.{Counts}
+use Rattle.jbig2_base.specs.Bits.{bit}
 use Rattle.jbig2_base.specs.Grid.{pixel_at}
 use Rattle.jbig2_halftone.specs.inner.NextValues.{next_value}
-use Rattle.jbig2_halftone.proofs.LaneLemmas.{TakenTo, row-start, row-group, row-pixel, chunk-small, lanes_to, lanes-start, lanes-group, lanes-pixel, black-of}
+use Rattle.jbig2_halftone.proofs.LaneLemmas.{TakenTo, byte-pixels, row-start, row-group, row-pixel, chunk-small, lanes_to, lanes-start, lanes-group, lanes-pixel, black-of}
 use Rattle.jbig2_halftone.proofs.gray_scale.lanes.add_row.Goals as goal
 
 pub loop-group-init : goal.loop-group-init
@@ -17,13 +18,16 @@ pub loop-group-preserved : goal.loop-group-preserved
 loop-group-preserved g c =
     let x : ℕ = 8 * c.loop-group.group in
     let next : x + 8 ≡ 8 * (c.loop-group.group + 1) = omega arith in
+    let group : ℕ = c.loop-group.group in
+    let bits : (k : ℕ) → k < 64 → bit c.load.result (63 - k) ≡ pixel_at c.args.plane.now (64 * (group / 8) + k) c.args.y =
+    λ k inside. ap (λ (word : ℕ). bit word (63 - k)) c.load.ensures.value ∙ c.row_words-words.ensures.bits (group / 8) k (omega (arith, c.row_words-words.ensures.sized)) inside in
     record {
       taken =
           subst (λ (k : ℕ). TakenTo c.args.plane.now c.args.y k c.args.values.now (put_chunk x c.loop-group.values c.next_group.result)) next
-          (row-group c.args.plane.now c.args.y x c.load_pixels-byte.result c.args.values.now c.loop-group.values c.next_group.result (omega arith) c.next_group.ensures.lanes c.next_group.ensures.value c.load_pixels-byte.ensures.bits c.loop-group.invariant.taken);
+          (row-group c.args.plane.now c.args.y x (c.load.result / 2 ^ (56 - 8 * (group % 8)) % 2 ^ 8) c.args.values.now c.loop-group.values c.next_group.result (omega arith) c.next_group.ensures.lanes c.next_group.ensures.value (byte-pixels c.args.plane.now c.args.y group c.load.result bits) c.loop-group.invariant.taken);
       counts =
           lanes-group c.loop-group.group c.args.steps.now c.loop-group.steps c.next_group.new.steps c.loop-group.invariant.counts
-          (c.next_group.ensures.steps ∙ ap (λ (s : Counts). record s { groups = s.groups + 1 }) c.load_pixels-byte.ensures.steps);
+          (c.next_group.ensures.steps ∙ ap (λ (s : Counts). record s { groups = s.groups + 1 }) c.load.ensures.steps);
     }
 
 pub loop-x-init : goal.loop-x-init
