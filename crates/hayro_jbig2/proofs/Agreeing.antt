@@ -4,7 +4,7 @@ use Rattle.std.specs.Prelude.{IfOk}
 use Rattle.jbig2_base.specs.Results.{◌>>=◌, refuse_if}
 use Rattle.jbig2_base.specs.declared.error.DecodeError.{DecodeError}
 
--- What the strict answer gives, seen by view, the lenient one gives.
+-- What strict reading gives, seen by view, lenient reading gives.
 abbrev pub Agrees : {A B : Type 0} → (A → B) → Result A DecodeError → Result B DecodeError → Type 0
 Agrees view strict lenient = IfOk strict (λ x. lenient ≡ Ok (view x))
 
@@ -57,7 +57,7 @@ pub same-guard : {A : Type 0} (b : Bool) (e : DecodeError) (r s : Result A Decod
 same-guard true e r s same = tt
 same-guard false e r s same = same
 
--- What the strict answer gives stands in relation R to what the lenient one gives.
+-- Relation R is between what strict reading gives and what lenient reading gives.
 abbrev pub Relates : {A B : Type 0} → (A → B → Type 0) → Result A DecodeError → Result B DecodeError → Type 0
 Relates {A = A} {B = B} R strict lenient = IfOk strict (λ (x : A). (y : B) × (lenient ≡ Ok y) × R x y)
 

@@ -14,7 +14,7 @@ use Rattle.std.specs.declared.vec.Vec.{Vec}
 use Rattle.jbig2_base.specs.Segment.{SegmentView}
 use Rattle.jbig2_base.specs.inner.SegmentViews.{segment_view, segment_views}
 use Rattle.jbig2_base.specs.declared.segment.Segment.{Segment}
-use Rattle.hayro_jbig2.specs.inner.ByPages.{pages_view, first_place_of, HoldsByPage}
+use Rattle.hayro_jbig2.specs.inner.ByPages.{pages_view, first_place_of, HasSegments}
 use Rattle.hayro_jbig2.specs.declared.file.segments_by_page.SegmentsByPage.{SegmentsByPage}
 use Rattle.hayro_jbig2.specs.Files.{numbers_after, of_page, by_pages}
 
@@ -31,7 +31,7 @@ is_known n ns = n == 0 || is_among n ns
 abbrev with_page_number : ℕ → List ℕ → List ℕ
 with_page_number n ns = cond (is_known n ns) ns (ns ++ n ∷ [])
 
--- ---- where a number stands
+-- ---- the place of a number
 
 none-head : (b : Bool) (o : Option ℕ) → cond b (Some 0) (option_map suc o) ≡ None → (b ≡ false) × (o ≡ None)
 none-head true o none = absurd (cc)
@@ -148,7 +148,7 @@ map-apart {X} n f g (m ∷ ms) same none =
     let apart = or_parts (m == n) (is_among n ms) none in
     ap (λ (x : X). x ∷ map g ms) (same m apart.0) ∙ ap (λ (xs : List X). f m ∷ xs) (map-apart n f g ms same apart.1)
 
--- one stands at this place, and the others agree
+-- one is at this place, and the others agree
 abbrev SetAt : {X : Type 0} → (f g : ℕ → X) → ℕ → List ℕ → ℕ → Type 0
 SetAt f g n ns i = (i < length ns) × (map g ns ≡ set (map f ns) i (g n)) × (get_or (map f ns) i (g n) ≡ f n)
 
@@ -229,26 +229,26 @@ tests-next false false apart = refl
 same_test : (m n : ℕ) → is_eq (nat_cmp m n) ≡ (m == n)
 same_test m n = tests-next (nat_lt m n) (m == n) (λ less. ne_eqb m n (λ e. let below : m < n = ltb-true m n less in omega arith))
 
-counted : {A : Type 0} (s : SegmentsByPage A) (ps : List SegmentView) → HoldsByPage s ps → length s.pages.items ≡ length (numbers_after [] ps)
+counted : {A : Type 0} (s : SegmentsByPage A) (ps : List SegmentView) → HasSegments s ps → length s.pages.items ≡ length (numbers_after [] ps)
 counted {A} s ps holds =
     sym (length-map s.pages.items (λ (v : Vec (Segment A) A). segment_views v.items))
     ∙ ap (λ (pages : List (List SegmentView)). length pages) holds.pages
     ∙ length-map (numbers_after [] ps) (λ n. of_page n ps)
 
 -- the page at the place of a number
-in_page : {A : Type 0} (s : SegmentsByPage A) (ps : List SegmentView) (n i : ℕ) → get nat_cmp s.places n ≡ Some i → HoldsByPage s ps → (first_place_of n (numbers_after [] ps) ≡ Some i) × (i < length s.pages.items) × (get_or (by_pages ps) i (of_page n ps) ≡ of_page n ps)
+in_page : {A : Type 0} (s : SegmentsByPage A) (ps : List SegmentView) (n i : ℕ) → get nat_cmp s.places n ≡ Some i → HasSegments s ps → (first_place_of n (numbers_after [] ps) ≡ Some i) × (i < length s.pages.items) × (get_or (by_pages ps) i (of_page n ps) ≡ of_page n ps)
 in_page s ps n i at holds =
     let there : first_place_of n (numbers_after [] ps) ≡ Some i = sym (holds.found n) ∙ at in
     let same = map-at n (λ m. of_page m ps) (λ m. of_page m ps) (numbers_after [] ps) i (λ m apart. refl) (are_pages ps).differ there in
     (there, omega (arith, same.0, counted s ps holds), same.2)
 
-pub within : {A : Type 0} (s : SegmentsByPage A) (ps : List SegmentView) (n i : ℕ) → get nat_cmp s.places n ≡ Some i → HoldsByPage s ps → i < length s.pages.items
+pub within : {A : Type 0} (s : SegmentsByPage A) (ps : List SegmentView) (n i : ℕ) → get nat_cmp s.places n ≡ Some i → HasSegments s ps → i < length s.pages.items
 within s ps n i at holds = (in_page s ps n i at holds).1
 
 module _ {A : Type 0} (s t : SegmentsByPage A) (x : Segment A) (ps : List SegmentView) where
-  -- one that stands outside of the pages
-  pub holds-shared : x.header.page_association ≡ 0 → t.shared.items ≡ s.shared.items ++ x ∷ [] → t.pages ≡ s.pages → t.places ≡ s.places → HoldsByPage s ps → HoldsByPage t (ps ++ segment_view x ∷ [])
-  holds-shared here shared pages places holds =
+  -- one that is outside of the pages
+  pub has-shared : x.header.page_association ≡ 0 → t.shared.items ≡ s.shared.items ++ x ∷ [] → t.pages ≡ s.pages → t.places ≡ s.places → HasSegments s ps → HasSegments t (ps ++ segment_view x ∷ [])
+  has-shared here shared pages places holds =
       let p = segment_view x in
       let ns = numbers_after [] ps in
       let numbers = numbers-known ps p (or_left (p.header.page_association == 0) (is_among p.header.page_association ns) (eq-eqb p.header.page_association 0 here)) in
@@ -259,8 +259,8 @@ module _ {A : Type 0} (s t : SegmentsByPage A) (x : Segment A) (ps : List Segmen
       }
 
   -- one of a page that is known
-  pub holds-known : (i : ℕ) (own y : Vec (Segment A) A) → (x.header.page_association == 0) ≡ false → get nat_cmp s.places x.header.page_association ≡ Some i → own ≡ get_or s.pages.items i own → y.items ≡ own.items ++ x ∷ [] → t.shared ≡ s.shared → t.pages.items ≡ set s.pages.items i y → t.places ≡ s.places → HoldsByPage s ps → HoldsByPage t (ps ++ segment_view x ∷ [])
-  holds-known i own y above at is more shared pages places holds =
+  pub has-known : (i : ℕ) (own y : Vec (Segment A) A) → (x.header.page_association == 0) ≡ false → get nat_cmp s.places x.header.page_association ≡ Some i → own ≡ get_or s.pages.items i own → y.items ≡ own.items ++ x ∷ [] → t.shared ≡ s.shared → t.pages.items ≡ set s.pages.items i y → t.places ≡ s.places → HasSegments s ps → HasSegments t (ps ++ segment_view x ∷ [])
+  has-known i own y above at is more shared pages places holds =
       let p = segment_view x in
       let n = p.header.page_association in
       let there = in_page s ps n i at holds in
@@ -280,8 +280,8 @@ module _ {A : Type 0} (s t : SegmentsByPage A) (x : Segment A) (ps : List Segmen
       }
 
   -- the first one of a page
-  pub holds-new : (k : ℕ) (y : Vec (Segment A) A) → k ≡ length s.pages.items → (x.header.page_association == 0) ≡ false → get nat_cmp s.places x.header.page_association ≡ None → y.items ≡ x ∷ [] → t.shared ≡ s.shared → t.pages.items ≡ s.pages.items ++ y ∷ [] → Updates nat_cmp s.places t.places x.header.page_association (Some k) → HoldsByPage s ps → HoldsByPage t (ps ++ segment_view x ∷ [])
-  holds-new k y count above at one shared pages places holds =
+  pub has-new : (k : ℕ) (y : Vec (Segment A) A) → k ≡ length s.pages.items → (x.header.page_association == 0) ≡ false → get nat_cmp s.places x.header.page_association ≡ None → y.items ≡ x ∷ [] → t.shared ≡ s.shared → t.pages.items ≡ s.pages.items ++ y ∷ [] → Updates nat_cmp s.places t.places x.header.page_association (Some k) → HasSegments s ps → HasSegments t (ps ++ segment_view x ∷ [])
+  has-new k y count above at one shared pages places holds =
       let p = segment_view x in
       let n = p.header.page_association in
       let ns = numbers_after [] ps in
@@ -303,14 +303,14 @@ module _ {A : Type 0} (s t : SegmentsByPage A) (x : Segment A) (ps : List Segmen
             ∙ sym (ap (λ (ms : List ℕ). first_place_of m ms) numbers ∙ place_of-push n m ns none);
       }
 
--- Those that came are held, and the rest follow them.
-pub record HoldsSome {A : Type 0} (s : SegmentsByPage A) (rest all : List SegmentView) : Type 0 where
+-- It has those that came, and the rest follow them.
+pub record HasSomeSegments {A : Type 0} (s : SegmentsByPage A) (rest all : List SegmentView) : Type 0 where
   pub came : List SegmentView
-  pub holds : HoldsByPage s came
+  pub holds : HasSegments s came
   pub all_are : came ++ rest ≡ all
 
-pub holds-none : {A : Type 0} (s : SegmentsByPage A) (rest all : List SegmentView) → s.shared.items ≡ [] → s.pages.items ≡ [] → s.places.entries ≡ [] → rest ≡ all → HoldsSome s rest all
-holds-none {A} s rest all shared pages places is = record {
+pub has-none : {A : Type 0} (s : SegmentsByPage A) (rest all : List SegmentView) → s.shared.items ≡ [] → s.pages.items ≡ [] → s.places.entries ≡ [] → rest ≡ all → HasSomeSegments s rest all
+has-none {A} s rest all shared pages places is = record {
   came = [];
   holds = record {
     shared = ap (λ (xs : List (Segment A)). segment_views xs) shared;
@@ -320,16 +320,16 @@ holds-none {A} s rest all shared pages places is = record {
   all_are = is;
 }
 
-pub holds-more : {A : Type 0} (s t : SegmentsByPage A) (p : SegmentView) (before rest all : List SegmentView) → before ≡ p ∷ rest → (some : HoldsSome s before all) → HoldsByPage t (some.came ++ p ∷ []) → HoldsSome t rest all
-holds-more s t p before rest all is some more = record {
+pub has-more : {A : Type 0} (s t : SegmentsByPage A) (p : SegmentView) (before rest all : List SegmentView) → before ≡ p ∷ rest → (some : HasSomeSegments s before all) → HasSegments t (some.came ++ p ∷ []) → HasSomeSegments t rest all
+has-more s t p before rest all is some more = record {
   came = some.came ++ p ∷ [];
   holds = more;
   all_are = append_assoc some.came (p ∷ []) rest ∙ ap (λ (ps : List SegmentView). some.came ++ ps) (sym is) ∙ some.all_are;
 }
 
 -- all segments were put to their pages
-pub holds-all : {A : Type 0} (s : SegmentsByPage A) (rest all : List SegmentView) → length rest ≡ 0 → HoldsSome s rest all → (of_page 0 all ≡ segment_views s.shared.items) × (by_pages all ≡ pages_view s.pages.items)
-holds-all s [] all none some =
+pub has-all : {A : Type 0} (s : SegmentsByPage A) (rest all : List SegmentView) → length rest ≡ 0 → HasSomeSegments s rest all → (of_page 0 all ≡ segment_views s.shared.items) × (by_pages all ≡ pages_view s.pages.items)
+has-all s [] all none some =
     let whole : some.came ≡ all = sym (append-nil some.came) ∙ some.all_are in
     (ap (λ (ps : List SegmentView). of_page 0 ps) (sym whole) ∙ sym some.holds.shared, ap (λ (ps : List SegmentView). by_pages ps) (sym whole) ∙ sym some.holds.pages)
-holds-all s (p ∷ ps) all none some = absurd (omega arith)
+has-all s (p ∷ ps) all none some = absurd (omega arith)

@@ -39,19 +39,19 @@ pub differ : (m n : ℕ) → not (m == n) ≡ true → m ≢ n
 differ m n apart same = false≢true (sym (not-true (m == n) apart) ∙ eq-eqb m n same)
 
 -- ---- associations and counts
-abbrev StandsOutside : SegmentView → Type 0
-StandsOutside p = (p.header.page_association ≡ 0) × IsTrue (needs_page p.header.segment_type)
+abbrev IsOutside : SegmentView → Type 0
+IsOutside p = (p.header.page_association ≡ 0) × IsTrue (needs_page p.header.segment_type)
 
 associated-cause : (P : DecodeError → Type 0) (strict : Bool) (ps : List SegmentView)
-    → (IsTrue strict → Any StandsOutside ps → P (errors.Segment segments.MissingPageAssociation)) → IfErr (association_check strict ps) P
+    → (IsTrue strict → Any IsOutside ps → P (errors.Segment segments.MissingPageAssociation)) → IfErr (association_check strict ps) P
 associated-cause P strict [] why = tt
 associated-cause P strict (p ∷ ps) why =
     cause-if P (lacks_page strict p.header) (Err (errors.Segment segments.MissingPageAssociation)) (association_check strict ps)
     (λ lacks.
     let both = and_parts (strict && p.header.page_association == 0) (needs_page p.header.segment_type) lacks in
     let outside = and_parts strict (p.header.page_association == 0) both.0 in
-    why outside.0 (at-first StandsOutside p ps (eqb-true p.header.page_association 0 outside.1, both.1)))
-    (λ stands. associated-cause P strict ps (λ is some. why is (at-later StandsOutside p ps some)))
+    why outside.0 (at-first IsOutside p ps (eqb-true p.header.page_association 0 outside.1, both.1)))
+    (λ is_at. associated-cause P strict ps (λ is some. why is (at-later IsOutside p ps some)))
 
 miscounted : (count : Option ℕ) (n : ℕ) → miscounts count n ≡ true → (t : ℕ) × (count ≡ Some t) × (t ≢ n)
 miscounted None n wrong = absurd (false≢true wrong)

@@ -66,7 +66,7 @@ pub returned_error : {Y : Type 0} (meant : Result Y DecodeError) (e : DecodeErro
 returned_error meant e is (inl memory) = inl memory
 returned_error meant e is (inr refused) = inr (IfErr-at_err IsFromInput refused (of-result meant is))
 
--- an answer of a call that meets a definition
+-- a result of a call that meets a definition
 pub returned : {X Y : Type 0} (view : X → Y) (r : Result X DecodeError) (meant : Result Y DecodeError) → base.FromInput meant → Gives view r meant → IfErr r IsReturned
 returned view (Ok x) meant is gives = tt
 returned view (Err e) meant is gives = returned_error meant e is gives

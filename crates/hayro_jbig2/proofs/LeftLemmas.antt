@@ -1,4 +1,4 @@
--- What is left of a list where a loop stands: the element there, and what is left after it.
+-- What is left of a list at a turn of a loop: the element there, and what is left after it.
 use Rattle.std.proofs.Common.{◌≡◌, ℕ, ◌+◌, ◌<◌, List, ◌∷◌, length, drop, get_or, sym, ap, ◌∙◌}
 use Rattle.std.proofs.lemmas.List.{at_drop_more}
 

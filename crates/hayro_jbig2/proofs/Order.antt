@@ -1,4 +1,4 @@
--- The order of segments of different numbers, and what stands after the end of a page.
+-- The order of segments of different numbers, and what is after the end of a page.
 use Rattle.std.proofs.Common.{◌≡◌, ◌≢◌, ℕ, ◌<◌, Bool, true, false, cond, nat_lt, List, [], ◌∷◌, ◌++◌, Option, Result, Ok, Err, refl, sym, ap, ◌∙◌, arith}
 use Rattle.std.proofs.lemmas.Bool.{cond-true, cond-false, cond_both, ltb-true, ltb-false, lt-ltb, le-ltb}
 use Rattle.jbig2_base.specs.Results.{◌>>=◌}

@@ -17,7 +17,7 @@ values-more value place count before after written kept put k below =
     ap (λ (n : ℕ). get_or after n 0) (sym at) ∙ put (k - place) (omega (arith, late, below)) ∙ ap value at)
     (cases_lt k place)
 
--- the place that stands after y rows and x columns
+-- the place after y rows and x columns
 pub value-at : (value : ℕ → ℕ → ℕ) (wide n y x : ℕ) → n ≡ y * wide + x → x < wide → value x y ≡ value (n % wide) (n / wide)
 value-at value wide n y x whole inside =
     let column : n % wide ≡ x = ap (λ (m : ℕ). m % wide) whole ∙ mod-mul-add y wide x inside in

@@ -90,12 +90,12 @@ file_header_causes bytes =
     cause-next P (bytes_at 8 bytes) _ (cause-bytes P 8 bytes (λ short. wide (omega arith))) (λ front front_is.
     let at_front = bytes-there 8 bytes front front_is in
     let first : take 8 bytes ≡ front.0 = ap (λ (x : List ℕ × List ℕ). x.0) at_front.1 in
-    let behind : drop 8 bytes ≡ front.1 = ap (λ (x : List ℕ × List ℕ). x.1) at_front.1 in
-    let left : length front.1 + 8 ≡ length bytes = omega (arith, ap length behind, length-drop 8 bytes, at_front.0) in
+    let after : drop 8 bytes ≡ front.1 = ap (λ (x : List ℕ × List ℕ). x.1) at_front.1 in
+    let left : length front.1 + 8 ≡ length bytes = omega (arith, ap length after, length-drop 8 bytes, at_front.0) in
     cause-next P (refuse_if (not (is_identification front.0)) _) _ (cause-refused P (not (is_identification front.0)) _ (λ other. (at_front.0, λ same. other-front front.0 other (sym first ∙ same)))) (λ known known_is.
     cause-next P (number_at w8 front.1) _ (cause-number P w8 front.1 (λ short. wide (omega arith))) (λ flags flags_is.
     let at_flags = number-there w8 front.1 flags flags_is in
-    let value : from_be_bytes w8 (take 1 (drop 8 bytes)) ≡ flags.0 = ap (λ (bs : List ℕ). from_be_bytes w8 (take 1 bs)) behind ∙ ap (λ (x : ℕ × List ℕ). x.0) at_flags.1 in
+    let value : from_be_bytes w8 (take 1 (drop 8 bytes)) ≡ flags.0 = ap (λ (bs : List ℕ). from_be_bytes w8 (take 1 bs)) after ∙ ap (λ (x : ℕ × List ℕ). x.0) at_flags.1 in
     let last : drop 1 front.1 ≡ flags.1 = ap (λ (x : ℕ × List ℕ). x.1) at_flags.1 in
     let size : length flags.1 + 9 ≡ length bytes = omega (arith, ap length last, length-drop 1 front.1, at_flags.0) in
     cause-next P (refuse_if (not (eqb (flags.0 / 16) 0)) _) _ (cause-refused P (not (eqb (flags.0 / 16) 0)) _ (λ set. (omega (arith, at_flags.0), omega (arith, reserved flags.0 set)))) (λ clear clear_is.

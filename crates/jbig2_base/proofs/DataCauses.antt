@@ -55,8 +55,8 @@ no-marker : (bytes : List ℕ) (flags place : ℕ) → ((k : ℕ) → k < length
     → (k : ℕ) → place ≤ k → k + 6 ≤ length bytes → take 2 (drop k bytes) ≢ end_marker flags
 no-marker bytes flags place none k after room = λ same.
     let there : is_end_marker flags (drop k bytes) ≡ true = marker-there flags (drop k bytes) (omega (arith, room, length-drop k bytes)) same in
-    let behind : drop (k - place) (drop place bytes) ≡ drop k bytes = drop-drop (k - place) place bytes ∙ ap (λ (m : ℕ). drop m bytes) (omega (arith, after)) in
-    true≢false (sym there ∙ ap (λ (ys : List ℕ). is_end_marker flags ys) (sym behind) ∙ none (k - place) (omega (arith, length-drop place bytes, after, room)))
+    let beyond : drop (k - place) (drop place bytes) ≡ drop k bytes = drop-drop (k - place) place bytes ∙ ap (λ (m : ℕ). drop m bytes) (omega (arith, after)) in
+    true≢false (sym there ∙ ap (λ (ys : List ℕ). is_end_marker flags ys) (sym beyond) ∙ none (k - place) (omega (arith, length-drop place bytes, after, room)))
 
 pub unknown-result : (P : DecodeError → Type 0) (bytes : List ℕ) → ((e : DecodeError) → BreaksData None bytes e → P e) → IfResult (λ (n : ℕ). n ≤ length bytes) P (unknown_length_of bytes)
 unfolding unknown_length_of

@@ -22,13 +22,13 @@ before-column : (y x i j : ℕ) → j ≡ y → i < x → is_before y x i j ≡ 
 unfolding is_before
 before-column y x i j here left = or_right _ _ (and_from _ _ (eq-eqb j y here) (lt-ltb i x left))
 
-behind-column : (y x i j : ℕ) → j ≡ y → x ≤ i → is_before y x i j ≡ false
+after-column : (y x i j : ℕ) → j ≡ y → x ≤ i → is_before y x i j ≡ false
 unfolding is_before
-behind-column y x i j here right = or_from _ _ (le-ltb j y (omega arith)) (and_right _ _ (le-ltb i x right))
+after-column y x i j here right = or_from _ _ (le-ltb j y (omega arith)) (and_right _ _ (le-ltb i x right))
 
-behind-row : (y x i j : ℕ) → y < j → is_before y x i j ≡ false
+after-row : (y x i j : ℕ) → y < j → is_before y x i j ≡ false
 unfolding is_before
-behind-row y x i j below = or_from _ _ (le-ltb j y (omega arith)) (and_left _ _ (ne_eqb j y (λ e. omega arith)))
+after-row y x i j below = or_from _ _ (le-ltb j y (omega arith)) (and_left _ _ (ne_eqb j y (λ e. omega arith)))
 
 before-none : (i j : ℕ) → is_before 0 0 i j ≡ false
 unfolding is_before
@@ -44,8 +44,8 @@ row-whole w y i j left =
     (λ (rest : y ≤ j).
     ⊎_elim (λ (here : j < y + 1). before-column y w i j (omega arith) left ∙ sym (before-row (y + 1) 0 i j here))
     (λ (below : y + 1 ≤ j).
-    behind-row y w i j (omega arith)
-    ∙ sym (⊎_elim (λ (far : y + 1 < j). behind-row (y + 1) 0 i j far) (λ (near : j ≤ y + 1). behind-column (y + 1) 0 i j (omega arith) (omega arith)) (cases_lt (y + 1) j)))
+    after-row y w i j (omega arith)
+    ∙ sym (⊎_elim (λ (far : y + 1 < j). after-row (y + 1) 0 i j far) (λ (near : j ≤ y + 1). after-column (y + 1) 0 i j (omega arith) (omega arith)) (cases_lt (y + 1) j)))
     (cases_lt j (y + 1)))
     (cases_lt j y)
 
@@ -82,7 +82,7 @@ filled-store w h f y x count bits before after within above reads is_filled writ
         ∙ reads (i - x) (omega arith)
         ∙ ap (λ (k : ℕ). f k y) column
         ∙ ap (λ (b : Bool). b && f i y) (sym (before-column y (x + count) i y refl new)))
-        (λ (out : x + count ≤ i). old i y left above (after_field x y count i y out) (behind-column y x i y refl (omega arith) ∙ sym (behind-column y (x + count) i y refl out)))
+        (λ (out : x + count ≤ i). old i y left above (after_field x y count i y out) (after-column y x i y refl (omega arith) ∙ sym (after-column y (x + count) i y refl out)))
         (cases_lt i (x + count)))
         (cases_lt i x)
 
@@ -91,7 +91,7 @@ filled-store w h f y x count bits before after within above reads is_filled writ
         ⊎_elim (λ (over : j < y). old i j left up (other_row x y count i j (λ e. omega arith)) (before-row y x i j over ∙ sym (before-row y (x + count) i j over)))
         (λ (rest : y ≤ j).
         ⊎_elim
-        (λ (below : y < j). old i j left up (other_row x y count i j (λ e. omega arith)) (behind-row y x i j below ∙ sym (behind-row y (x + count) i j below)))
+        (λ (below : y < j). old i j left up (other_row x y count i j (λ e. omega arith)) (after-row y x i j below ∙ sym (after-row y (x + count) i j below)))
         (λ (equal : j ≤ y). let is : j ≡ y = omega arith in rw is (here i left))
         (cases_lt y j))
         (cases_lt j y)

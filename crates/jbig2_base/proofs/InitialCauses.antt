@@ -27,9 +27,9 @@ is-information _ is = absurd (false≢true is)
 other-information : (kind : SegmentType) → is_page_information kind ≡ false → kind ≡ types.PageInformation → ⊥
 other-information kind other same = true≢false (sym (ap is_page_information same) ∙ other)
 
-pub all-behind : {X : Type 0} (P : X → Type 0) (x : X) (xs : List X) → P x → All P xs → All P (x ∷ xs)
-all-behind P x xs first rest zero d below = first
-all-behind P x xs first rest (suc k) d below = rest k d (omega (arith, below))
+pub all-after : {X : Type 0} (P : X → Type 0) (x : X) (xs : List X) → P x → All P xs → All P (x ∷ xs)
+all-after P x xs first rest zero d below = first
+all-after P x xs first rest (suc k) d below = rest k d (omega (arith, below))
 
 first-holds : (P : List ℕ → Type 0) (bytes : List ℕ) (ps : List SegmentView) → FirstInformation (λ bs. bs ≡ bytes) ps → P bytes → FirstInformation P ps
 first-holds P bytes [] is holds = is
@@ -49,7 +49,7 @@ first-result P (p ∷ ps) why =
     (λ other.
     let differs : p.header.segment_type ≢ types.PageInformation = other-information p.header.segment_type other in
     result-map (λ (q : SegmentView). FirstInformation (λ bs. bs ≡ q.bytes) ps) (λ (q : SegmentView). FirstInformation (λ bs. bs ≡ q.bytes) (p ∷ ps)) P (first_information ps) (λ q later. inr (differs, later))
-    (first-result P ps (λ none. why (all-behind (λ q. q.header.segment_type ≢ types.PageInformation) p ps differs none))))
+    (first-result P ps (λ none. why (all-after (λ q. q.header.segment_type ≢ types.PageInformation) p ps differs none))))
 
 -- ---- the stripes
 is-stripe : (kind : SegmentType) → is_end_of_stripe kind ≡ true → kind ≡ types.EndOfStripe
@@ -80,7 +80,7 @@ result-height p given =
 none-tells : (ps : List SegmentView) → stripes_height ps ≡ 0 → All (λ p. StatesHeight p → ⊥) ps
 none-tells [] none = λ k d below. absurd (omega (arith, below))
 none-tells (p ∷ ps) none =
-    all-behind (λ q. StatesHeight q → ⊥) p ps (λ given. omega (arith, result-height p given, none)) (none-tells ps (omega (arith, none)))
+    all-after (λ q. StatesHeight q → ⊥) p ps (λ given. omega (arith, result-height p given, none)) (none-tells ps (omega (arith, none)))
 
 too-much : (p : SegmentView) → 65535 < stripe_height p → TellsTooMuch p
 too-much p =

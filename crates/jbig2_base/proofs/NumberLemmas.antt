@@ -1,4 +1,4 @@
--- Numbers that bits and bytes spell.
+-- The numbers of bits and of bytes.
 use Rattle.std.proofs.Common.{◌≡◌, ℕ, zero, suc, ◌+◌, ◌-◌, ◌*◌, ◌/◌, ◌%◌, ◌^◌, ◌<◌, ◌≤◌, ltb, List, [], ◌∷◌, ◌++◌, length, take, drop, get_or, min, Option, Some, None, refl, sym, ◌∙◌, ap, subst, arith, pow-suc, zero-add, ⊎_elim, length-drop}
 use Rattle.std.specs.List.{flat_map}
 use Rattle.std.specs.Int.{w64, from_be_bytes}

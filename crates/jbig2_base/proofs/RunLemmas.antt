@@ -31,7 +31,7 @@ run-out operator page x y count row i j out right below =
         ⊎_elim
         (λ (before : i < x). before_field x y count i j before)
         (λ (low : x ≤ i).
-        ⊎_elim (λ (high : i < x + count). absurd (out here low high)) (λ (behind : x + count ≤ i). after_field x y count i j behind) (cases_lt i (x + count)))
+        ⊎_elim (λ (high : i < x + count). absurd (out here low high)) (λ (beyond : x + count ≤ i). after_field x y count i j beyond) (cases_lt i (x + count)))
         (cases_lt i x))
         (λ (other : j ≡ y → ⊥). other_row x y count i j other)
         (cases_eq j y)
@@ -50,8 +50,8 @@ run-is operator page x y count row f inside outside =
     ⊎_elim
     (λ (high : i < x + count).
     inside i j right below here low high ∙ sym (cond-true (eqb j y && leb x i && ltb i (x + count)) (combined_pixel operator (pixel_at page i j) (row i)) (pixel_at page i j) (in_field x y count i j here low high)))
-    (λ (behind : x + count ≤ i).
-    outside i j right below (λ a b c. absurd (omega arith)) ∙ sym (cond-false (eqb j y && leb x i && ltb i (x + count)) (combined_pixel operator (pixel_at page i j) (row i)) (pixel_at page i j) (after_field x y count i j behind)))
+    (λ (beyond : x + count ≤ i).
+    outside i j right below (λ a b c. absurd (omega arith)) ∙ sym (cond-false (eqb j y && leb x i && ltb i (x + count)) (combined_pixel operator (pixel_at page i j) (row i)) (pixel_at page i j) (after_field x y count i j beyond)))
     (cases_lt i (x + count)))
     (cases_lt i x))
     (λ (other : j ≡ y → ⊥).
@@ -139,9 +139,9 @@ run_pixel operator stride words word offset y count bits v i one each same =
     (λ (high : i < x + count).
     cond-true (bit mask b) (combined_pixel operator (packed_pixel stride words i y) (bit bits b)) (packed_pixel stride words i y) (mask-inside offset count b one (omega arith) (omega arith))
     ∙ sym (cond-true test (combined_pixel operator (packed_pixel stride words i y) (bit bits b)) (packed_pixel stride words i y) (in_field x y count i y refl low high)))
-    (λ (behind : x + count ≤ i).
+    (λ (beyond : x + count ≤ i).
     cond-false (bit mask b) (combined_pixel operator (packed_pixel stride words i y) (bit bits b)) (packed_pixel stride words i y) (mask-below offset count b one (omega arith))
-    ∙ sym (cond-false test (combined_pixel operator (packed_pixel stride words i y) (bit bits b)) (packed_pixel stride words i y) (after_field x y count i y behind)))
+    ∙ sym (cond-false test (combined_pixel operator (packed_pixel stride words i y) (bit bits b)) (packed_pixel stride words i y) (after_field x y count i y beyond)))
     (cases_lt i (x + count)))
     (cases_lt i x)
 

@@ -88,9 +88,9 @@ numbers-within w (suc count) bytes =
     let size : ℕ = byte_len w in
     let all : suc count * size ≡ size + count * size = omega arith in
     let first : from_be_bytes w (take size (take (suc count * size) bytes)) ≡ from_be_bytes w (take size bytes) = ap (λ (ys : List ℕ). from_be_bytes w ys) (take-take size (suc count * size) bytes (omega (arith, all))) in
-    let behind : drop size (take (suc count * size) bytes) ≡ take (count * size) (drop size bytes) = ap (λ (m : ℕ). drop size (take m bytes)) all ∙ drop-take size (count * size) bytes in
+    let after : drop size (take (suc count * size) bytes) ≡ take (count * size) (drop size bytes) = ap (λ (m : ℕ). drop size (take m bytes)) all ∙ drop-take size (count * size) bytes in
     ap (λ (n : ℕ). n ∷ numbers_in w count (drop size (take (suc count * size) bytes))) first
-    ∙ ap (λ (ys : List ℕ). from_be_bytes w (take size bytes) ∷ numbers_in w count ys) behind
+    ∙ ap (λ (ys : List ℕ). from_be_bytes w (take size bytes) ∷ numbers_in w count ys) after
     ∙ ap (λ (ns : List ℕ). from_be_bytes w (take size bytes) ∷ ns) (numbers-within w count (drop size bytes))
 
 -- some number is not below the segment's own

@@ -68,12 +68,12 @@ pub unknown_refused : (bytes start : List ℕ) (e : DecodeError) → start ≡ b
 unknown_refused bytes start e same is = unknown_by bytes (Err e) (ap coded_front_at (sym same) ∙ is)
 
 pub unknown_unmarked : (bytes start rest tail : List ℕ) (flags : ℕ) (e : DecodeError) → start ≡ bytes → coded_front_at start ≡ Ok (flags, rest) → tail ≡ rest → first_end_marker flags tail ≡ Err e → unknown_length_of bytes ≡ Err e
-unknown_unmarked bytes start rest tail flags e same is behind none =
+unknown_unmarked bytes start rest tail flags e same is after none =
     unknown_by bytes (Ok (flags, rest)) (ap coded_front_at (sym same) ∙ is)
-    ∙ ap (λ (r : Result ℕ DecodeError). r >>= λ place. Ok (18 + adaptive_bytes flags + place + 6)) (ap (λ (ys : List ℕ). first_end_marker flags ys) (sym behind) ∙ none)
+    ∙ ap (λ (r : Result ℕ DecodeError). r >>= λ place. Ok (18 + adaptive_bytes flags + place + 6)) (ap (λ (ys : List ℕ). first_end_marker flags ys) (sym after) ∙ none)
 
 pub unknown_marked : (bytes start rest tail : List ℕ) (flags place adaptive : ℕ) → start ≡ bytes → coded_front_at start ≡ Ok (flags, rest) → tail ≡ rest → first_end_marker flags tail ≡ Ok place → adaptive ≡ adaptive_bytes flags → unknown_length_of bytes ≡ Ok (18 + adaptive + place + 6)
-unknown_marked bytes start rest tail flags place adaptive same is behind found size =
+unknown_marked bytes start rest tail flags place adaptive same is after found size =
     unknown_by bytes (Ok (flags, rest)) (ap coded_front_at (sym same) ∙ is)
-    ∙ ap (λ (r : Result ℕ DecodeError). r >>= λ p. Ok (18 + adaptive_bytes flags + p + 6)) (ap (λ (ys : List ℕ). first_end_marker flags ys) (sym behind) ∙ found)
+    ∙ ap (λ (r : Result ℕ DecodeError). r >>= λ p. Ok (18 + adaptive_bytes flags + p + 6)) (ap (λ (ys : List ℕ). first_end_marker flags ys) (sym after) ∙ found)
     ∙ ap (λ (n : ℕ). Ok (18 + n + place + 6)) (sym size)

@@ -131,7 +131,7 @@ stored stride words x y count bits word v i read some one each same =
     (λ (high : i < x + count).
     let place : 63 - i % 64 - shift ≡ x + count - 1 - i = omega arith in
     now ∙ field-inside word shift count bits (63 - i % 64) (omega arith) (omega arith) ∙ ap (λ (b : ℕ). bit bits b) place ∙ sym (cond-true _ (bit bits (x + count - 1 - i)) (packed_pixel stride words i y) (in_field x y count i y refl low high)))
-    (λ (behind : x + count ≤ i). now ∙ field-below word shift count bits (63 - i % 64) (omega arith) ∙ old ∙ sym (cond-false _ (bit bits (x + count - 1 - i)) (packed_pixel stride words i y) (after_field x y count i y behind)))
+    (λ (beyond : x + count ≤ i). now ∙ field-below word shift count bits (63 - i % 64) (omega arith) ∙ old ∙ sym (cond-false _ (bit bits (x + count - 1 - i)) (packed_pixel stride words i y) (after_field x y count i y beyond)))
     (cases_lt i (x + count)))
     (cases_lt i x)
 
@@ -147,7 +147,7 @@ stored-grid w h stride words x y count bits word v packed read some columns abov
     (λ (row : j ≡ y).
     ⊎_elim
     (λ (before : i < x). before_field x y count i j before)
-    (λ (low : x ≤ i). after_field x y count i j (⊎_elim (λ (high : i < x + count). absurd (ne row (omega arith))) (λ (behind : x + count ≤ i). behind) (cases_lt i (x + count))))
+    (λ (low : x ≤ i). after_field x y count i j (⊎_elim (λ (high : i < x + count). absurd (ne row (omega arith))) (λ (beyond : x + count ≤ i). beyond) (cases_lt i (x + count))))
     (cases_lt i x))
     (λ (other : j ≡ y → ⊥). other_row x y count i j other)
     (cases_eq j y))))

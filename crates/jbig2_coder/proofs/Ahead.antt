@@ -324,7 +324,7 @@ empty-seen bytes code h none = empty-read bytes h.ct h.ahead h.place code h.read
 abbrev pub read-in : CodeRegister → CodeBuffer
 read-in r = record { c = r.c * 2 % 2 ^ 32 * 2 ^ 32; bits = r.ct - 1; place = r.place }
 
--- no byte is ahead, and nothing stands below the bits
+-- no byte is ahead, and there is nothing below the bits
 none-ahead : (bytes : List ℕ) (ct : ℕ) (code : CodeBuffer) → ct < 8 → code.bits ≡ ct → code.c < 2 ^ 64 → code.place ≤ length bytes → code.c % 2 ^ (48 - ct) ≡ 0 → IsAhead bytes code
 none-ahead bytes ct code few all small within whole = record {
   ct = ct;

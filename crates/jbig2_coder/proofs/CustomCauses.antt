@@ -22,7 +22,7 @@ use Rattle.jbig2_coder.specs.declared.huffman_table.line.TableLine.{TableLine}
 use Rattle.jbig2_coder.proofs.Causes.{table-cause, word-cause}
 
 -- ---- parts of the causes, under names of their own
--- the range length of the line that stands here
+-- the range length of the line at this place
 abbrev range_at : Header → Place → ℕ
 range_at h p = front_number h.range_bits (bits_left (bits_on h.prefix_bits p))
 
@@ -76,9 +76,9 @@ how-many : (p : Place) → length (bits_left p) ≡ 8 * length p.bytes - p.bit
 unfolding bits_left
 how-many p = length-drop p.bit (flat_map byte_bits p.bytes) ∙ ap (λ (n : ℕ). n - p.bit) (bits-of p.bytes)
 
--- how many bits are left behind a field that is there
-left-behind : (n : ℕ) (p : Place) → n ≤ length (bits_left p) → length (bits_left (bits_on n p)) + n ≡ length (bits_left p)
-left-behind n p enough =
+-- how many bits are left after a field that is there
+left-after : (n : ℕ) (p : Place) → n ≤ length (bits_left p) → length (bits_left (bits_on n p)) + n ≡ length (bits_left p)
+left-after n p enough =
     let k = (p.bit + n) / 8 in
     let q : Place = record { bytes = drop k p.bytes; bit = (p.bit + n) % 8 } in
     let at : length (bits_left (bits_on n p)) ≡ length (bits_left q) = ap (λ (r : Place). length (bits_left r)) (bits_on-enough n p enough) in
@@ -101,7 +101,7 @@ field-there e count p x is =
       enough = both.0;
       number = both.1;
       place = read.1;
-      left = ap (λ (q : Place). length (bits_left q) + count) (sym read.1) ∙ left-behind count p both.0;
+      left = ap (λ (q : Place). length (bits_left q) + count) (sym read.1) ∙ left-after count p both.0;
     }
 
 -- ---- a line
@@ -158,8 +158,8 @@ line-there h low p x is =
     )
 
 -- ---- lines
-cause-behind : (P : DecodeError → Type 0) (before : List TableLine) (s : Step (List TableLine)) → CauseAt P s → CauseAt P (concat before s)
-cause-behind P before s why = cause-on P s _ why (λ lines is. tt)
+cause-after : (P : DecodeError → Type 0) (before : List TableLine) (s : Step (List TableLine)) → CauseAt P s → CauseAt P (concat before s)
+cause-after P before s why = cause-on P s _ why (λ lines is. tt)
 
 cause-lines : (P : DecodeError → Type 0) (n : ℕ) (h : Header) (low : ℤ) (p : Place) → (BreaksSomeLine n h low p → P (Huffman InvalidCode)) → CauseAt P (range_lines_in n h low p)
 cause-lines P zero h low p why = tt
@@ -170,7 +170,7 @@ cause-lines P (suc n) h low p why =
     (λ more. cause-on P (custom_line h low p) next (cause-line P h low p (λ breaks. why (more, inl breaks)))
     (λ x is.
     let there = line-there h low p x is in
-    cause-behind P (x.0.0 ∷ []) (range_lines_in n h x.0.1 x.1)
+    cause-after P (x.0.0 ∷ []) (range_lines_in n h x.0.1 x.1)
     (cause-lines P n h x.0.1 x.1 (λ later. why (
       more,
       inr
@@ -205,7 +205,7 @@ cause-end P h p why =
     let first = field-there e n p below below_is in
     cause-on P (field e n below.1) _ (cause-field P e n below.1 (λ short. why (two h.has_out_of_band size n (omega (arith, first.left))))) (λ above above_is.
     let second = field-there e n below.1 above above_is in
-    cause-behind P (lower below.0 (h.minimum -ℤ pos 1) ∷ upper above.0 h.maximum ∷ []) (last_line h above.1)
+    cause-after P (lower below.0 (h.minimum -ℤ pos 1) ∷ upper above.0 h.maximum ∷ []) (last_line h above.1)
     (cause-last P h above.1 (λ oob short. why (three h.has_out_of_band size n oob (omega (arith, first.left, second.left)))))))
 
 -- ---- the table
@@ -224,7 +224,7 @@ cause-custom_lines P p at_end at_code =
     cause-on P (custom_header p) _ (cause-header P p at_end) (λ h h_is.
     cause-on P (range_lines h.0 h.1) _
     (cause-lines P (length (bits_left h.1) + 1) h.0 h.0.minimum h.1 (λ breaks. at_code (h.0, h.1, h_is, inl breaks))) (λ ranges ranges_is.
-    cause-behind P ranges.0 (end_lines h.0 ranges.1) (cause-end P h.0 ranges.1 (λ short. at_code (h.0, h.1, h_is, inr (ranges.0, ranges.1, ranges_is, short))))))
+    cause-after P ranges.0 (end_lines h.0 ranges.1) (cause-end P h.0 ranges.1 (λ short. at_code (h.0, h.1, h_is, inr (ranges.0, ranges.1, ranges_is, short))))))
 
 custom_causes : (p : Place) → CauseAt (BreaksCustom p) (custom_table p)
 unfolding custom_table
@@ -233,7 +233,7 @@ custom_causes p =
     cause-on P (custom_lines p) _ (cause-custom_lines P p (λ short. short) (λ breaks. inl breaks))
     (λ lines is. cause-left P lines.1 (table_of lines.0) (table-cause P lines.0 (λ crowded. inr (lines.0, lines.1, is, crowded))))
 
--- the error of a call that gives the table's answer, wherever it leaves the reader
+-- the error of a call with the table's result, wherever it leaves the reader
 pub custom_cause : {X : Type 0} (view : X → List Member) (p q : Place) (r : Result X DecodeError) → GivesAt view r q (custom_table p) → HasCauseOrNoMemory r (BreaksCustom p)
 unfolding HasCauseOrNoMemory
 custom_cause view p q (Ok x) is = tt

@@ -141,7 +141,7 @@ pub lines-ranges : (p q : Place) (h : Header) (s : Step (List TableLine)) → Ok
 lines-ranges p q h s header is =
     lines-header p (Ok (h, q)) header ∙ ap (λ (t : Step (List TableLine)). t >>= λ ranges. concat ranges.0 (end_lines h ranges.1)) is
 
--- a custom table, from what its lines answer
+-- a custom table, from the results of its lines
 pub table-lines : (p : Place) (s : Step (List TableLine)) → custom_lines p ≡ s → custom_table p ≡ (s >>= λ lines. left_at lines.1 (table_of lines.0))
 unfolding custom_table
 table-lines p s is = ap (λ (t : Step (List TableLine)). t >>= λ lines. left_at lines.1 (table_of lines.0)) is
@@ -150,7 +150,7 @@ table-lines p s is = ap (λ (t : Step (List TableLine)). t >>= λ lines. left_at
 pub gives-refusal : {A B : Type 0} (e : DecodeError) (q : Place) (s : Step A) (whole : Step B) → (s ≡ Err (e, q) → whole ≡ Err (e, q)) → (e ≡ OutOfMemory) ⊎ (s ≡ Err (e, q)) → (e ≡ OutOfMemory) ⊎ (whole ≡ Err (e, q))
 gives-refusal e q s whole step given = ⊎_elim (λ (m : e ≡ OutOfMemory). inl m) (λ (is : s ≡ Err (e, q)). inr (step is)) given
 
--- an answer that was given, with its place
+-- a result that was given, with its place
 pub gives-at : {X Y : Type 0} (view : X → Y) (r : Result X DecodeError) (p : Place) (meant : Result Y DecodeError) → Gives view r meant → GivesAt view r p (left_at p meant)
 gives-at view (Ok x) p meant given = ap (λ (m : Result _ DecodeError). left_at p m) given
 gives-at view (Err e) p meant given =

@@ -146,7 +146,7 @@ depth-next lines levels i code codes next d at shallow inside enters =
     let nodes_is = before lines levels i d inside at.are in
     let fits = depth-room lines levels i code codes d at shallow inside in
     let twice : 2 ^ (i + 1) ≡ 2 * 2 ^ i = rw (add-one, pow-suc) (omega arith) in
-    let behind : lv.nodes ≡ nodes (groups_of lines (drop (i + 1) levels)) = are.1 in
+    let beyond : lv.nodes ≡ nodes (groups_of lines (drop (i + 1) levels)) = are.1 in
     record {
       right = λ v c small some.
           let B : FirstCode → Type 0 = λ y. Begins lines levels v y in
@@ -280,7 +280,7 @@ are-drop (suc n) lines [] are = tt
 are-drop (suc n) lines (v ∷ vs) are = are-drop n lines vs are.3
 
 -- after the first eight levels
-pub behind-eight : (lines : List TableLine) (levels : List Level) (d : Level) → AreLevels lines levels → 8 ≤ length levels → ((get_or levels 7 d).nodes ≡ nodes (groups_of lines (drop 8 levels))) × ((get_or levels 7 d).nodes ≤ length lines) × AreLevels lines (drop 8 levels)
-behind-eight lines levels d are many =
+pub after-eight : (lines : List TableLine) (levels : List Level) (d : Level) → AreLevels lines levels → 8 ≤ length levels → ((get_or levels 7 d).nodes ≡ nodes (groups_of lines (drop 8 levels))) × ((get_or levels 7 d).nodes ≤ length lines) × AreLevels lines (drop 8 levels)
+after-eight lines levels d are many =
     let next = level-next lines levels 7 d (omega arith) (are-drop 7 lines levels are) in
     (next.1, omega (arith, next.2), next.3)

@@ -30,13 +30,13 @@ free-left : (p : Place) (r : Result (List Member) DecodeError) → IfOk r IsFree
 free-left p (Ok table) is = is
 free-left p (Err e) is = tt
 
-free-behind : (lines : Step (List TableLine)) → IfOk (lines >>= λ xs. left_at xs.1 (table_of xs.0)) (λ table. IsFree table.0)
-free-behind (Ok lines) = free-left lines.1 (table_of lines.0) (free-listed lines.0)
-free-behind (Err e) = tt
+free-after : (lines : Step (List TableLine)) → IfOk (lines >>= λ xs. left_at xs.1 (table_of xs.0)) (λ table. IsFree table.0)
+free-after (Ok lines) = free-left lines.1 (table_of lines.0) (free-listed lines.0)
+free-after (Err e) = tt
 
 free-custom : (p : Place) → IfOk (custom_table p) (λ table. IsFree table.0)
 unfolding custom_table
-free-custom p = free-behind (custom_lines p)
+free-custom p = free-after (custom_lines p)
 
 free-standard : All IsFree standard_codes
 unfolding standard_codes

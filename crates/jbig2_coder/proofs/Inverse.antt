@@ -7,7 +7,7 @@ use Rattle.jbig2_coder.proofs.InverseBytes.{Valid, first}
 use Rattle.jbig2_coder.proofs.InverseShift.{KnowsAt}
 use Rattle.jbig2_coder.proofs.InverseNarrow.{Narrowing}
 use Rattle.jbig2_coder.proofs.InverseFlush.{Flush}
-use Rattle.jbig2_coder.proofs.InverseEncode.{Begun, opened-opening, Resting-opening, Entry, entry, narrowing_of, encode_from-entry, encode-back}
+use Rattle.jbig2_coder.proofs.InverseEncode.{BetweenDecisions, initial-between, resting-between, Entry, entry, narrowing_of, encode_from-entry, encode-back}
 use Rattle.jbig2_coder.proofs.InverseRead.{Closing}
 use Rattle.jbig2_coder.proofs.InverseDraw.{Together}
 use Rattle.jbig2_coder.proofs.InverseDecide.{IfResult, tell}
@@ -30,7 +30,7 @@ unfolding decoded_from
 decoded_from-entry bytes r contexts k asked = refl
 
 -- what the end knows of the encoder after the first entry
-ends-next : (f : ℕ → ℕ) (m : ℕ) (s : Coding) (contexts : Contexts) (e : ℕ × Bool) (es : List (ℕ × Bool)) → Begun s
+ends-next : (f : ℕ → ℕ) (m : ℕ) (s : Coding) (contexts : Contexts) (e : ℕ × Bool) (es : List (ℕ × Bool)) → BetweenDecisions s
     → Ends f m (encode_from s contexts (e ∷ es))
     → KnowsAt f m (encoding (contexts e.0) e.1 s).coding.range (encoding (contexts e.0) e.1 s).coding.writer
 ends-next f m s contexts e es b h =
@@ -45,7 +45,7 @@ ends-next f m s contexts e es b h =
 
 decodes-from : (bytes : List ℕ) (m : ℕ) → Closing (byte_at bytes) m
     → (es : List (ℕ × Bool)) (s : Coding) (contexts : Contexts) (r : Registers)
-    → Begun s → Together (byte_at bytes) m s r → Ends (byte_at bytes) m (encode_from s contexts es)
+    → BetweenDecisions s → Together (byte_at bytes) m s r → Ends (byte_at bytes) m (encode_from s contexts es)
     → decoded_from bytes r contexts (map (λ e. e.0) es) ≡ map (λ e. e.1) es
 decodes-from bytes m closing [] s contexts r b t h = decoded_from-none bytes r contexts
 decodes-from bytes m closing (e ∷ es) s contexts r b t h =
@@ -58,7 +58,7 @@ decodes-from bytes m closing (e ∷ es) s contexts r b t h =
     let g : Ends (byte_at bytes) m (encode_from c.coding (with_context contexts e.0 c.context) es) =
     rw (encode_from-entry s contexts e es) at h in
     let ih : decoded_from bytes z.registers (with_context contexts e.0 c.context) (map (λ e. e.0) es) ≡ map (λ e. e.1) es =
-    decodes-from bytes m closing es c.coding (with_context contexts e.0 c.context) z.registers (Resting-opening c.coding i.resting) given.follows g in
+    decodes-from bytes m closing es c.coding (with_context contexts e.0 c.context) z.registers (resting-between c.coding i.resting) given.follows g in
     decoded_from-entry bytes r contexts e.0 (map (λ e. e.0) es)
     ∙ (λ j. given.symbol j ∷ decoded_from bytes z.registers (with_context contexts e.0 (given.context j)) (map (λ e. e.0) es))
     ∙ ap (λ (ds : List Bool). e.1 ∷ ds) ih
@@ -73,8 +73,8 @@ unfolding read_back
 decodes-some e es out bytes eo eb =
     let x : Context = all_fresh e.0 in
     let c : Encoding = encoding x e.1 initial_coding in
-    let n : Narrowing x e.1 initial_coding.range initial_coding.writer.register = narrowing_of x e.1 initial_coding opened-opening in
-    let i : Entry x e.1 initial_coding n c.coding = entry x e.1 initial_coding n opened-opening in
+    let n : Narrowing x e.1 initial_coding.range initial_coding.writer.register = narrowing_of x e.1 initial_coding initial-between in
+    let i : Entry x e.1 initial_coding n c.coding = entry x e.1 initial_coding n initial-between in
     let m : ℕ = length out in
     let f : ℕ → ℕ = byte_at bytes in
     let whole : first f m ≡ out = ap (λ (b : List ℕ). first (byte_at b) m) eb ∙ first-closed out in
@@ -85,9 +85,9 @@ decodes-some e es out bytes eo eb =
     eo ∙ ap (λ (s : Coding). (flush_coder s).out) (encode_from-entry initial_coding all_fresh e es) in
     let closing : Closing f m =
     subst (λ (b : List ℕ). Closing (byte_at b) m) (sym eb) (Closing-closed out (subst Valid (sym last) flush.valid)) in
-    let next : KnowsAt f m c.coding.range c.coding.writer = ends-next f m initial_coding all_fresh e es opened-opening ends in
+    let next : KnowsAt f m c.coding.range c.coding.writer = ends-next f m initial_coding all_fresh e es initial-between ends in
     let know : KnowsAt f m initial_coding.range initial_coding.writer = i.narrow f m (i.renorm f m next) in
-    decodes-from bytes m closing (e ∷ es) initial_coding all_fresh (initial_registers bytes) opened-opening (start bytes m closing know) ends
+    decodes-from bytes m closing (e ∷ es) initial_coding all_fresh (initial_registers bytes) initial-between (start bytes m closing know) ends
 
 decoded-none : (bytes : List ℕ) → read_back bytes [] ≡ []
 unfolding read_back

@@ -1,5 +1,5 @@
 -- The number that bytes spell. A list has its last byte first; a byte after FF has seven bits of its own, and
--- its top bit stands where the lowest of the FF does.
+-- its top bit is where the lowest of the FF is.
 use Rattle.std.proofs.Common.{◌≡◌, ℕ, zero, suc, ◌+◌, ◌*◌, ◌^◌, ◌≤◌, cond, eqb, List, [], ◌∷◌, length, refl, arith, ⊎_elim, ◌⊎◌, inl, inr, le_refl, mul-le-mul_right}
 use Rattle.std.proofs.lemmas.Nat.{pow-add}
 use Rattle.std.proofs.lemmas.Bool.{cases_eq, cond-true, cond-false, eq-eqb, ne_eqb}

@@ -32,14 +32,14 @@ first-reverse (b ∷ r) q bytes e =
     λ i. last i ∷ ih i
 
 -- what follows it
-byte-behind : (r q bytes : List ℕ) (n : ℕ) → bytes ≡ reverse r ++ q → byte_at bytes (length r + n) ≡ get_or q n 255
-byte-behind r q bytes n e =
+byte-after : (r q bytes : List ℕ) (n : ℕ) → bytes ≡ reverse r ++ q → byte_at bytes (length r + n) ≡ get_or q n 255
+byte-after r q bytes n e =
     byte_at-is bytes (length r + n) ∙ ap (λ (s : List ℕ). get_or s (length r + n) 255) e
     ∙ ap (λ k. get_or (reverse r ++ q) (k + n) 255) (sym (length-reverse r))
     ∙ get_or-append-add (reverse r) q n 255
 
 byte-next : (r q bytes : List ℕ) → bytes ≡ reverse r ++ q → byte_at bytes (length r) ≡ get_or q 0 255
-byte-next r q bytes e = ap (byte_at bytes) (let e : length r ≡ length r + 0 = omega arith in e) ∙ byte-behind r q bytes 0 e
+byte-next r q bytes e = ap (byte_at bytes) (let e : length r ≡ length r + 0 = omega arith in e) ∙ byte-after r q bytes 0 e
 
 closed-full_is : (r : List ℕ) → is_full r ≡ true → with_marker r ≡ reverse r ++ 0xAC ∷ []
 closed-full_is r h =
@@ -81,7 +81,7 @@ Closing-closed r valid =
     (λ (h : is_full r ≡ false).
     let e : with_marker r ≡ reverse r ++ 0xFF ∷ 0xAC ∷ [] = closed-plain_is r h in
     let next : f (length r) ≡ 0xFF = byte-next r (0xFF ∷ 0xAC ∷ []) (with_marker r) e in
-    let after : f (length r + 1) ≡ 0xAC = byte-behind r (0xFF ∷ 0xAC ∷ []) (with_marker r) 1 e in
+    let after : f (length r + 1) ≡ 0xAC = byte-after r (0xFF ∷ 0xAC ∷ []) (with_marker r) 1 e in
     record {
       valid = v;
       full = λ n l k. omega (arith, next);

@@ -11,7 +11,7 @@ use Rattle.jbig2_coder.proofs.InverseByteOut.{low, time}
 use Rattle.jbig2_coder.proofs.InverseKnows.{Fits, Seen-fits}
 use Rattle.jbig2_coder.proofs.InverseShift.{KnowsAt}
 use Rattle.jbig2_coder.proofs.InverseNarrow.{Narrowing, Upper, Lower}
-use Rattle.jbig2_coder.proofs.InverseEncode.{Begun, at_part, part-bounded, Entry, entry, narrowing_of, encoding-quiet_is, encoding-renorm_is}
+use Rattle.jbig2_coder.proofs.InverseEncode.{BetweenDecisions, at_part, part-bounded, Entry, entry, narrowing_of, encoding-quiet_is, encoding-renorm_is}
 use Rattle.jbig2_coder.proofs.InverseRead.{Closing}
 use Rattle.jbig2_coder.proofs.InverseDraw.{FollowsAt, Follows-below, Together, together}
 
@@ -46,7 +46,7 @@ lower-code c v p lo b u e h =
     left z q = omega arith
 
 pick-lower : (f : ℕ → ℕ) (m : ℕ) (x : Context) (d : Bool) (s : Coding) (n : Narrowing x d s.range s.writer.register) (r : CodeRegister) (v : ℕ)
-    → Begun s → (l : Lower x d s.range s.writer.register n.range n.register n.next n.renorm) → FollowsAt f m s.range s.writer r v
+    → BetweenDecisions s → (l : Lower x d s.range s.writer.register n.range n.register n.next n.renorm) → FollowsAt f m s.range s.writer r v
     → KnowsAt f m n.range (at_part x d s n) → KnowsAt f m s.range s.writer → Picked f m x d s n r v
 pick-lower f m x d s n r v b l h know before =
     let w : Writer = at_part x d s n in
@@ -72,7 +72,7 @@ pick-lower f m x d s n r v b l h know before =
     }
 
 pick : (f : ℕ → ℕ) (m : ℕ) (x : Context) (d : Bool) (s : Coding) (n : Narrowing x d s.range s.writer.register) (r : CodeRegister) (v : ℕ)
-    → Begun s → FollowsAt f m s.range s.writer r v → KnowsAt f m n.range (at_part x d s n) → KnowsAt f m s.range s.writer → Picked f m x d s n r v
+    → BetweenDecisions s → FollowsAt f m s.range s.writer r v → KnowsAt f m n.range (at_part x d s n) → KnowsAt f m s.range s.writer → Picked f m x d s n r v
 pick f m x d s n r v b h know before =
     ⊎_elim
     (λ (u : Upper x d s.range s.writer.register n.range n.register n.next n.renorm). pick-upper f m x d s n r v u h know)
@@ -108,7 +108,7 @@ tell-quiet bytes m x d s n r v same e p =
     (record { symbol = refl; context = refl; follows = record { number = v; same = refl; follows = p.follows } }))
 
 tell-renorm : (bytes : List ℕ) (m : ℕ) (x : Context) (d : Bool) (s : Coding) (n : Narrowing x d s.range s.writer.register) (r : Registers) (v : ℕ)
-    → Closing (byte_at bytes) m → Begun s → r.a ≡ s.range → n.renorm ≡ true → Picked (byte_at bytes) m x d s n r.code v
+    → Closing (byte_at bytes) m → BetweenDecisions s → r.a ≡ s.range → n.renorm ≡ true → Picked (byte_at bytes) m x d s n r.code v
     → KnowsAt (byte_at bytes) m (encoding x d s).coding.range (encoding x d s).coding.writer → IfResult bytes m d (encoding x d s) (decision bytes r x)
 tell-renorm bytes m x d s n r v closing b same e p know =
     let w : Writer = at_part x d s n in
@@ -124,7 +124,7 @@ tell-renorm bytes m x d s n r v closing b same e p know =
       follows = together bytes m 15 n.range w (record r.code { c = p.c }) v closing (part-bounded x d s n b) b.some (inr (n.moves e)) n.below (omega (arith, n.some)) later p.follows;
     }))
 
-pub tell : (bytes : List ℕ) (m : ℕ) (x : Context) (d : Bool) (s : Coding) (r : Registers) → Closing (byte_at bytes) m → Begun s
+pub tell : (bytes : List ℕ) (m : ℕ) (x : Context) (d : Bool) (s : Coding) (r : Registers) → Closing (byte_at bytes) m → BetweenDecisions s
     → Together (byte_at bytes) m s r
     → KnowsAt (byte_at bytes) m (encoding x d s).coding.range (encoding x d s).coding.writer → IfResult bytes m d (encoding x d s) (decision bytes r x)
 tell bytes m x d s r closing b t know =

@@ -12,19 +12,19 @@ use Rattle.jbig2_coder.proofs.InverseNarrow.{Narrowing, narrowing}
 use Rattle.jbig2_coder.proofs.InverseFlush.{Flush, flush}
 
 -- What holds between two decisions, and before the first one too.
-pub record Begun (s : Coding) : Type 0 where
+pub record BetweenDecisions (s : Coding) : Type 0 where
   pub bounded : Bounded s.range s.writer
   pub some : 1 ≤ s.writer.wait
   pub few : (s.writer.wait ≤ 11) ⊎ (s.range ≡ 0x8000)
   pub normal : 0x8000 ≤ s.range
   pub below : s.range < 0x10000
 
-pub Resting-opening : (s : Coding) → Resting s → Begun s
-Resting-opening s r = record { bounded = r.bounded; some = r.some; few = inl r.few; normal = r.normal; below = r.below }
+pub resting-between : (s : Coding) → Resting s → BetweenDecisions s
+resting-between s r = record { bounded = r.bounded; some = r.some; few = inl r.few; normal = r.normal; below = r.below }
 
-pub opened-opening : Begun initial_coding
+pub initial-between : BetweenDecisions initial_coding
 unfolding initial_coding
-opened-opening =
+initial-between =
     record {
       bounded = record { some = omega arith; few = omega arith; room = omega arith; valid = tt };
       some = omega arith;
@@ -43,7 +43,7 @@ pub record Entry (x : Context) (d : Bool) (s : Coding) (n : Narrowing x d s.rang
   pub renorm : (f : ℕ → ℕ) (m : ℕ) → KnowsAt f m t.range t.writer → KnowsAt f m n.range (at_part x d s n)
   pub narrow : (f : ℕ → ℕ) (m : ℕ) → KnowsAt f m n.range (at_part x d s n) → KnowsAt f m s.range s.writer
 
-pub part-bounded : (x : Context) (d : Bool) (s : Coding) (n : Narrowing x d s.range s.writer.register) → Begun s → Bounded n.range (at_part x d s n)
+pub part-bounded : (x : Context) (d : Bool) (s : Coding) (n : Narrowing x d s.range s.writer.register) → BetweenDecisions s → Bounded n.range (at_part x d s n)
 part-bounded x d s n b =
     let h : (n.register + n.range) * 2 ^ s.writer.wait ≤ (s.writer.register + s.range) * 2 ^ s.writer.wait =
     mul-le-mul_right (2 ^ s.writer.wait) n.high in
@@ -61,7 +61,7 @@ part-back x d s n f m k =
     Knows-wider f m (low w) (low w + s.range) (time w) (low (at_part x d s n)) (low (at_part x d s n) + n.range) w.out
     (omega (arith, n.low)) (omega (arith, n.high)) k
 
-entry-quiet : (x : Context) (d : Bool) (s : Coding) (n : Narrowing x d s.range s.writer.register) → Begun s → n.renorm ≡ false
+entry-quiet : (x : Context) (d : Bool) (s : Coding) (n : Narrowing x d s.range s.writer.register) → BetweenDecisions s → n.renorm ≡ false
     → Entry x d s n (record { range = n.range; writer = at_part x d s n })
 entry-quiet x d s n b e =
     let q = n.quiet e in
@@ -71,7 +71,7 @@ entry-quiet x d s n b e =
       narrow = part-back x d s n;
     }
 
-entry-renorm : (x : Context) (d : Bool) (s : Coding) (n : Narrowing x d s.range s.writer.register) → Begun s → n.renorm ≡ true
+entry-renorm : (x : Context) (d : Bool) (s : Coding) (n : Narrowing x d s.range s.writer.register) → BetweenDecisions s → n.renorm ≡ true
     → Entry x d s n (renorme 15 n.range (at_part x d s n))
 entry-renorm x d s n b e =
     let r : Renorm n.range (at_part x d s n) (renorme 15 n.range (at_part x d s n)) =
@@ -91,7 +91,7 @@ encoding-renorm_is x d s n e =
     encoding-renorm s x n.next d n.range n.register
     (n.is ∙ (λ i. record { range = n.range; register = n.register; context = n.next; renorm = e i }))
 
-pub entry : (x : Context) (d : Bool) (s : Coding) (n : Narrowing x d s.range s.writer.register) → Begun s → Entry x d s n (encoding x d s).coding
+pub entry : (x : Context) (d : Bool) (s : Coding) (n : Narrowing x d s.range s.writer.register) → BetweenDecisions s → Entry x d s n (encoding x d s).coding
 entry x d s n b =
     ⊎_elim
     (λ (e : n.renorm ≡ true).
@@ -100,8 +100,8 @@ entry x d s n b =
     subst (λ (t : Encoding). Entry x d s n t.coding) (sym (encoding-quiet_is x d s n e)) (entry-quiet x d s n b e))
     (cases_Bool n.renorm)
 
--- the narrowing of an encoder that has begun
-pub narrowing_of : (x : Context) (d : Bool) (s : Coding) → Begun s → Narrowing x d s.range s.writer.register
+-- the narrowing of an encoder between two decisions
+pub narrowing_of : (x : Context) (d : Bool) (s : Coding) → BetweenDecisions s → Narrowing x d s.range s.writer.register
 narrowing_of x d s b = narrowing x d s.range s.writer.register b.normal b.below
 
 pub encode_from-entry : (s : Coding) (contexts : Contexts) (e : ℕ × Bool) (es : List (ℕ × Bool))
@@ -119,7 +119,7 @@ pub encode-back : (es : List (ℕ × Bool)) (s : Coding) (contexts : Contexts) �
 encode-back [] s contexts rest = subst (λ (t : Coding). Flush s (flush_coder t)) (sym (encode_from-none s contexts)) (flush s rest)
 encode-back (e ∷ es) s contexts rest =
     let x : Context = contexts e.0 in
-    let b : Begun s = Resting-opening s rest in
+    let b : BetweenDecisions s = resting-between s rest in
     let n : Narrowing x e.1 s.range s.writer.register = narrowing_of x e.1 s b in
     let t : Encoding = encoding x e.1 s in
     let i : Entry x e.1 s n t.coding = entry x e.1 s n b in

@@ -114,7 +114,7 @@ Knows-put f m hi a c r w p k =
       under = k.under;
     }
 
--- what the decoder has read, when it stands at place p: the bytes up to p, or all of them and ones after them
+-- what the decoder has read at place p: the bytes up to p, or all of them and ones after them
 pub record Inside (f : ℕ → ℕ) (m p v k : ℕ) : Type 0 where
   pub before : p < m
   pub number : v ≡ value (first f (suc p))

@@ -28,7 +28,7 @@ are-kept lines more (v ∷ vs) are =
     let longer = length-append lines more in
     (omega (arith, are.0), are.1 ∙ ap nodes (sym (groups-kept lines more vs are.3)), omega (arith, are.2), are-kept lines more vs are.3)
 
--- What stands after the lengths above depth.
+-- What is after the lengths above depth.
 pub record Built (lines sorted : List TableLine) (levels : List Level) (count depth : ℕ) : Type 0 where
   pub groups : groups_of sorted (reverse levels) ≡ groups (longest lines - depth) (depth + 1) lines
   pub are : AreLevels sorted (reverse levels)

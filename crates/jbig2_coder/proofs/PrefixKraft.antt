@@ -158,7 +158,7 @@ length-groups : (n l : ℕ) (lines : List TableLine) → length (groups n l line
 length-groups zero l lines = refl
 length-groups (suc n) l lines = let rest = length-groups n (l + 1) lines in omega arith
 
--- a table is crowded exactly where more than one node stands at the root
+-- a table is crowded exactly where more than one node is at the root
 pub is_crowded-is : (lines : List TableLine) → is_crowded lines ≡ ltb 1 (nodes (groups (longest lines) 1 lines))
 unfolding is_crowded
 is_crowded-is lines =

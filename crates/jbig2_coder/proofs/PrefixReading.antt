@@ -52,7 +52,7 @@ at-root lines levels root p are few = record {
   rest = refl;
 }
 
--- where a read ends with this answer, one bit on
+-- where a read ends with this result, one bit on
 leaves : (lines : List TableLine) (levels : List Level) (root i node : ℕ) (p q r : Place) (a : Result TableLine DecodeError) → AtLevel lines levels root i node p q → r ≡ bits_on 1 q → bits_left r ≡ drop 1 (bits_left q) → walk (groups_of lines (drop i levels)) i node (bits_left q) ≡ record { result = a; taken = i + 1 } → Reads p r a (walk_of lines levels root (bits_left p))
 leaves lines levels root i node p q r a at place rest ends =
     let whole : walk_of lines levels root (bits_left p) ≡ record { result = a; taken = i + 1 } = sym at.walks ∙ ends in

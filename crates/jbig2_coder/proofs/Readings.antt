@@ -1,4 +1,4 @@
--- Reading bits: their number, PREV, and how a call's state stands to what was read.
+-- Reading bits: their number, PREV, and how a call's state relates to what was read.
 use Rattle.std.specs.Prelude.{◌==◌, ◌&&◌, not, if◌then◌else◌}
 use Rattle.std.proofs.Common.{◌≡◌, ℕ, zero, suc, ◌+◌, ◌-◌, ◌*◌, ◌%◌, ◌^◌, ◌<◌, ◌≤◌, Bool, true, false, List, [], ◌∷◌, ◌++◌, length, drop, get_or, set, ℤ, Some, None, refl, sym, ap, ◌∙◌, arith, subst, add-one, length-append, length-drop, ⊎_elim}
 use Rattle.std.proofs.Math.Nat.{pow-suc, pow-le-pow_right}
@@ -287,11 +287,11 @@ by_ones r1 r2 r3 r4 r5 true true true true false = refl
 by_ones r1 r2 r3 r4 r5 true true true true true = refl
 
 -- the readings from one on
-abbrev behind : ℕ → List ℕ → Reading → Reading
-behind n b r = read_more prev_of n b r
+abbrev beyond : ℕ → List ℕ → Reading → Reading
+beyond n b r = read_more prev_of n b r
 
 after_ones : (b : List ℕ) (r : Reading) (d0 d1 d2 d3 d4 : Bool)
-    → read_more prev_of (length (row_by d0 d1 d2 d3 d4).prefix) b r ≡ (prefix_by (behind 1 b r) (behind 2 b r) (behind 3 b r) (behind 4 b r) (behind 5 b r) d0 d1 d2 d3 d4).reading
+    → read_more prev_of (length (row_by d0 d1 d2 d3 d4).prefix) b r ≡ (prefix_by (beyond 1 b r) (beyond 2 b r) (beyond 3 b r) (beyond 4 b r) (beyond 5 b r) d0 d1 d2 d3 d4).reading
 after_ones b r false d1 d2 d3 d4 = refl
 after_ones b r true false d2 d3 d4 = refl
 after_ones b r true true false d3 d4 = refl

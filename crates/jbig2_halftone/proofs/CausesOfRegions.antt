@@ -34,7 +34,7 @@ LacksRows strict w h bytes = BreaksMmr strict w h bytes (Region InvalidMmrData)
 abbrev APlaneLacksRows : GrayScale → List ℕ → Type 0
 APlaneLacksRows p bytes = (k : ℕ) × (k < p.bits_per_pixel) × LacksRows p.strict p.width p.height (plane_start p bytes k)
 
--- how many bytes the rows used, a begun one whole
+-- how many bytes the rows used: the last counts whole, if only some of its bits are used
 used : ℕ → ℕ → List ℕ → ℕ
 used w h bytes = length bytes - length (rows_of w h bytes).left / 8
 

@@ -123,7 +123,7 @@ apart-below x (pos n) s p i e apart inside =
     le-ltb n s
     (⊎_elim
     (λ (before : int_le (x +ℤ pos s) (pos 0) ≡ true). grind (arith, ints))
-    (λ (behind : int_le (pos p) x ≡ true). grind (arith, ints))
+    (λ (beyond : int_le (pos p) x ≡ true). grind (arith, ints))
     (or_cases (int_le (x +ℤ pos s) (pos 0)) (int_le (pos p) x) apart))
 
 outside-pixel : (operator : CombinationOperator) (page source : Grid) (x y : ℤ) (i j : ℕ) → (is_beyond x source.width page.width || is_beyond y source.height page.height) ≡ true → i < page.width → j < page.height → drawn_pixel operator page source x y i j ≡ pixel_at page i j

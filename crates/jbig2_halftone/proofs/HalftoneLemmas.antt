@@ -48,7 +48,7 @@ pub image-of-planes : (p : GrayScale) (bytes : List ℕ) → image_is_too_large 
 unfolding gray_scale_image
 image-of-planes p bytes fits = rw fits refl
 
--- an exact answer is one
+-- an exact result is one
 pub answers-gives : {X Y : Type 0} (view : X → Y) (result : Result X DecodeError) (drawn meant : Result Y DecodeError) → meant ≡ drawn → Returns view result drawn → Gives view result meant
 answers-gives view (Ok x) drawn meant same answers = same ∙ answers
 answers-gives view (Err e) drawn meant same answers = inr (same ∙ answers)
@@ -66,7 +66,7 @@ pub code-length-few : (n bits : ℕ) → bits ≡ code_length n → bits ≤ 16 
 code-length-few n bits same few = omega (arith, same)
 
 -- ---- lenient mode
--- an answer that is no refusal
+-- a result that is no refusal
 abbrev pub Succeeds : {X : Type 0} → Result X DecodeError → Type 0
 Succeeds {X} r = (x : X) × (r ≡ Ok x)
 

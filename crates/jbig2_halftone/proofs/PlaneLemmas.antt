@@ -160,7 +160,7 @@ mmr-sized p before left result white e = subst (λ (g : Grid). mmr_rows p.strict
 
 pub plane-made : (p : GrayScale) (before grid : Grid) (left : List ℕ) (used : ℕ) (rest : List ℕ) → before ≡ blank p.width p.height false → mmr_rows p.strict before.width before.height left ≡ Ok (record { grid = grid; used = used }) → rest ≡ drop used left → mmr_plane p left ≡ Ok (grid, rest)
 unfolding mmr_plane
-plane-made p before grid left used rest white e behind = rw (mmr-sized p before left (Ok (record { grid = grid; used = used })) white e, behind)
+plane-made p before grid left used rest white e beyond = rw (mmr-sized p before left (Ok (record { grid = grid; used = used })) white e, beyond)
 
 pub plane-fault : (p : GrayScale) (before : Grid) (left : List ℕ) (error : DecodeError) → before ≡ blank p.width p.height false → mmr_rows p.strict before.width before.height left ≡ Err error → mmr_plane p left ≡ Err error
 unfolding mmr_plane

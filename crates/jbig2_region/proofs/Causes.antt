@@ -20,7 +20,7 @@ use Rattle.jbig2_region.specs.RegionInfo.{region_info_at}
 use Rattle.jbig2_region.specs.declared.region_info.RegionSegmentInfo.{RegionSegmentInfo}
 
 -- ---- places
--- what stands from byte k on
+-- what is there from byte k on
 pub record At (k : ℕ) (bytes rest : List ℕ) : Type 0 where
   pub same : drop k bytes ≡ rest
   pub size : k + length rest ≡ length bytes

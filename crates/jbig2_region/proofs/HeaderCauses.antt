@@ -25,7 +25,7 @@ use Rattle.jbig2_region.specs.declared.template.RefinementTemplate.TheVariants a
 use Rattle.jbig2_region.proofs.Causes.{At, at-next, info-cause, info-there, rows-cause, value-next}
 use Rattle.jbig2_region.proofs.PixelCauses.{cause-pixels, cause-refinement_pixels, pixels-there}
 
--- a number that stands after a place
+-- a number after a place
 number-after : (w : Width) (k j : ℕ) (bytes rest : List ℕ) → At k bytes rest → number_in w j rest ≡ number_in w (k + j) bytes
 number-after w k j bytes rest at =
     ap (λ (l : List ℕ). from_be_bytes w (take (byte_len w) l)) (ap (λ (l : List ℕ). drop j l) (sym at.same) ∙ drop-drop j k bytes)

@@ -69,7 +69,7 @@ late (negsuc x) (pos zero) is = absurd (false≢true (sym is))
 late x (pos (suc y)) is = inl (omega (arith, ints))
 late x (negsuc y) is = absurd (false≢true (sym is))
 
--- the pixel that stands at this byte and the next one
+-- the pixel at this byte and the next one
 abbrev pub IsLateIn : ℕ → List ℕ → Type 0
 IsLateIn place bytes = IsLate (cast_signed w8 (number_in w8 place bytes)) (cast_signed w8 (number_in w8 (place + 1) bytes))
 

@@ -131,10 +131,10 @@ left-bytes g y done b small wide above =
     (subst (λ (n : ℕ). IsLeft (with_pixels g 0 y (8 * done) b) n y (0 * 2 ^ (8 * done) + b)) column
     (left-after g 0 y (8 * done) 0 b small (omega arith) above (left-none g y)))
 
--- where a row stands, its next byte does
-pub stands-next : (g : Grid) (y width done count b : ℕ) (w v : Windows) → IsAtRow g y width w → b < 2 ^ (8 * done) → 8 * done + count ≤ width → done ≤ 5
+-- at a place of a row, the next byte is the next of its pixels
+pub at_pixels-next : (g : Grid) (y width done count b : ℕ) (w v : Windows) → IsAtRow g y width w → b < 2 ^ (8 * done) → 8 * done + count ≤ width → done ≤ 5
     → Shows g (8 * done) y (64 - 8 * done) v → IsAtPixels (with_pixels g 0 y (8 * done) b) (8 * done) y count (b % 16) v
-stands-next g y width done count b w v row small within few shows = record {
+at_pixels-next g y width done count b w v row small within few shows = record {
   columns = omega (arith, row.wide);
   row = row.row;
   shows = shows-same g (with_pixels g 0 y (8 * done) b) (8 * done) y 20 v (stored-above g 0 y (8 * done) b) (shows-less g (8 * done) y (64 - 8 * done) 20 v (omega arith) shows);

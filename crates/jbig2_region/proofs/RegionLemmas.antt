@@ -15,7 +15,7 @@ use Rattle.jbig2_region.proofs.PlaceCounts.{after_pixels-coding, coded-by-rows, 
 use Rattle.jbig2_region.proofs.RasterLemmas.{after_rows-length, region-step, no-rows}
 
 -- ---- a row more
-pub record Begun (w h : ℕ) (input : List ℕ) (opening : Region) (y : ℕ) (q : Bool) (g : Grid) (c : Coder) (s : List Context) : Type 0 where
+pub record AtRowStart (w h : ℕ) (input : List ℕ) (opening : Region) (y : ℕ) (q : Bool) (g : Grid) (c : Coder) (s : List Context) : Type 0 where
   pub size : length opening.pixels ≡ y * w
   pub predicted : opening.predicted ≡ q
   pub has_decoded : HasDecoded w h input opening (region_state g c s)
@@ -23,7 +23,7 @@ pub record Begun (w h : ℕ) (input : List ℕ) (opening : Region) (y : ℕ) (q 
 pub begin-region : (coding : Coding) (y : ℕ) (p q : Bool) (g1 : Grid) (c1 : Coder) (s1 : List Context) (c2 : Coder) (s2 : List Context) (start : Region) (w h : ℕ) (input : List ℕ)
     → c1.bytes ≡ input → length start.pixels ≡ 0 → ((w h : ℕ) (g : Grid) (r : Region) → r.predicted ≡ p → HasDecoded w h c1.bytes r (region_state g c1 s1) → BeginsRow w h coding.row_context r q c1 (region_state g c2 s2))
     → HasDecoded w h input (after_rows coding w h input y start) (region_state g1 c1 s1) → (after_rows coding w h input y start).predicted ≡ p
-    → Begun w h input (after_ltp coding.row_context input (after_rows coding w h input y start)) y q g1 c2 s2
+    → AtRowStart w h input (after_ltp coding.row_context input (after_rows coding w h input y start)) y q g1 c2 s2
 begin-region coding y p q g1 c1 s1 c2 s2 start w h input same none begin has_decoded predicted =
     let made : Region = after_rows coding w h input y start in
     let row : BeginsRow w h coding.row_context made q c1 (region_state g1 c2 s2) = begin w h g1 made predicted (subst (λ (v : List ℕ). HasDecoded w h v made (region_state g1 c1 s1)) (sym same) has_decoded) in

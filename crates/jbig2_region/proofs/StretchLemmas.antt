@@ -72,7 +72,7 @@ rows-none coding g d s c white =
       rest = refl;
     }
 
--- a row is begun, at d1, s1 and c1, and decoded
+-- a row starts at d1, s1 and c1, and is decoded
 pub rows-next : {coding : Coding} {g0 : Grid} {d0 : Coder} {s0 : List Context} {c0 : Counts} {y : ℕ} {p : Bool} (q : Bool) {g : Grid} {d : Coder} {s : List Context} {c : Counts} (d1 : Coder) (s1 : List Context) (c1 : Counts) (g' : Grid) (d' : Coder) (s' : List Context) (c' : Counts)
     → RowsDecoded coding g0 d0 s0 c0 y p g d s c
     → ((w h : ℕ) (grid : Grid) (r : Region) → r.predicted ≡ p → HasDecoded w h d.bytes r (region_state grid d s) → BeginsRow w h coding.row_context r q d (region_state grid d1 s1))

@@ -36,7 +36,7 @@ abbrev At : {A : Type 0} → List ℕ → ℕ → A × List ℕ → Type 0
 At bytes m x = IsAtPlace bytes m x.1
 
 -- ---- adaptive pixels
--- so many of them, two bytes each
+-- this many of them, two bytes each
 result-pixels : (P : DecodeError → Type 0) (count : ℕ) (bytes rest : List ℕ) (k : ℕ) → IsAtPlace bytes k rest → (length bytes < k + 2 * count → P end_of_bytes)
     → (BreaksPixels count k bytes (errors.Template InvalidAtPixel) → P (errors.Template InvalidAtPixel)) → IfResult (adaptive_pixels_at count rest) P (At bytes (k + 2 * count))
 result-pixels P count bytes rest k from why late =

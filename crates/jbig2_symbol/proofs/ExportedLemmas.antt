@@ -17,7 +17,7 @@ use Rattle.jbig2_symbol.specs.Symbols.{ended_runs, exported_from}
 abbrev is_exported : List ℕ → ℕ → Bool
 is_exported runs i = eqb (ended_runs 0 runs i % 2) 1
 
--- no run ends before it has begun
+-- no run ends before its start
 ended-none : (runs : List ℕ) (from i : ℕ) → i < from → ended_runs from runs i ≡ 0
 unfolding ended_runs
 ended-none [] from i before = refl

@@ -19,7 +19,7 @@ use Rattle.jbig2_base.specs.Causes.{HasCauseOrNoMemory}
 use Rattle.jbig2_base.proofs.CauseSteps.{call-cause-or-memory}
 
 -- ---- bits and codes
--- an answer has its own error
+-- a result has its own error
 pub own-error : {A : Type 0} (P : DecodeError → Type 0) (r : Result A DecodeError) → ((e : DecodeError) → r ≡ Err e → P e) → IfErr r P
 own-error P (Ok x) why = tt
 own-error P (Err e) why = why e refl

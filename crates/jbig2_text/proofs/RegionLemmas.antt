@@ -8,7 +8,7 @@ use Rattle.jbig2_text.specs.Text.{Readings, TextParams, text_region}
 use Rattle.jbig2_text.specs.TextHeader.{TextHeader}
 use Rattle.jbig2_text.specs.TextRegion.{refining_of, region_from, text_params}
 
--- what a part of an answer is
+-- what a part of a result is
 pub gives-part : {X Y Z : Type 0} (view : X → Y) (part : Y → Z) (r : Result X DecodeError) (meant : Result Y DecodeError) → Gives view r meant → Gives (λ x. part (view x)) r (meant >>= λ y. Ok (part y))
 gives-part {X} {Y} {Z} view part (Ok x) meant is = ap (λ (m : Result Y DecodeError). m >>= λ y. Ok (part y)) is
 gives-part {X} {Y} {Z} view part (Err e) meant (inl memory) = inl memory

@@ -21,8 +21,8 @@ abbrev pub first_place_of : ℕ → List ℕ → Option ℕ
 first_place_of n [] = None
 first_place_of n (m ∷ ms) = if m == n then Some 0 else option_map suc (first_place_of n ms)
 
--- It holds the segments ps by their pages. Each page is found by its number.
-pub record HoldsByPage {A : Type 0} (s : SegmentsByPage A) (ps : List SegmentView) : Type 0 where
+-- It has the segments ps by their pages. Each page is found by its number.
+pub record HasSegments {A : Type 0} (s : SegmentsByPage A) (ps : List SegmentView) : Type 0 where
   pub shared : segment_views s.shared.items ≡ of_page 0 ps
   pub pages : pages_view s.pages.items ≡ by_pages ps
   pub found : (n : ℕ) → get nat_cmp s.places n ≡ first_place_of n (numbers_after [] ps)

@@ -4,7 +4,7 @@ ghost use Rattle.jbig2_base.specs.Results.{Gives};
 ghost use Rattle.jbig2_base.specs.Segment.{SegmentView};
 ghost use Rattle.jbig2_base.specs.inner.SegmentViews.{segment_view, segment_views};
 ghost use Rattle.jbig2_base.specs.declared.error.DecodeError.TheVariants.{OutOfMemory};
-ghost use Rattle.hayro_jbig2.specs.inner.ByPages.{HoldsByPage, by_page_view};
+ghost use Rattle.hayro_jbig2.specs.inner.ByPages.{HasSegments, by_page_view};
 ghost use Rattle.hayro_jbig2.specs.Files.{by_pages, of_page};
 
 use jbig2_base::error::Result;
@@ -48,9 +48,9 @@ impl<'a, A: Allocator + Clone> SegmentsByPage<'a, A> {
 
     /// Adds a segment at the end of those of its page, or of association 0.
     fn add(&mut self, segment: Segment<'a, A>) -> Result<()>
-        requires { (ps : List SegmentView) × HoldsByPage self.old ps }
-        ensures { (ps : List SegmentView) → HoldsByPage self.old ps
-            → MatchResult result (λ _. HoldsByPage self.new (ps ++ segment_view segment.entry ∷ []))
+        requires { (ps : List SegmentView) × HasSegments self.old ps }
+        ensures { (ps : List SegmentView) → HasSegments self.old ps
+            → MatchResult result (λ _. HasSegments self.new (ps ++ segment_view segment.entry ∷ []))
             (λ e. e ≡ OutOfMemory) }
     {
         let number = segment.header.page_association;

@@ -47,7 +47,7 @@ book-miscounted : (reading : Reading) (bytes : List ℕ) (file : FileHeader × L
 unfolding book_at
 book-miscounted reading bytes file parts read known own counted = rw (read, known, own, counted)
 
--- what an answer of two parts has
+-- what a result of two parts has
 parts-are : (shared : List SegmentView) (pages : List (List SegmentView)) (parts : List SegmentView × List (List SegmentView)) → (let meant : Result (List SegmentView × List (List SegmentView)) DecodeError = Ok (shared, pages) in meant) ≡ Ok parts → (shared ≡ parts.0) × (pages ≡ parts.1)
 parts-are shared pages parts e =
     let same : (let both : List SegmentView × List (List SegmentView) = (shared, pages) in both) ≡ parts = cc in

@@ -9,7 +9,7 @@ use Rattle.jbig2_base.specs.declared.error.SegmentError.TheVariants.{MissingEndM
 use Rattle.jbig2_base.proofs.SearchLemmas.{place-is}
 use Rattle.jbig2_base.proofs.segment.end_marker.first_end_marker.Goals as goal
 
--- what stands for a place, and for none
+-- what is returned for a place, and for none
 found : (n place : ℕ) → Result ℕ DecodeError
 found n place = cond (ltb place n) (Ok place) (Err (Segment MissingEndMarker))
 

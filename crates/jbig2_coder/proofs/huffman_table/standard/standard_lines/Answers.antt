@@ -3,7 +3,7 @@ use Rattle.jbig2_coder.specs.declared.huffman_table.line.TableLine.{TableLine}
 use Rattle.jbig2_coder.specs.Tables.{standard_tables, lines_a, lines_b, lines_c, lines_d, lines_e, lines_f, lines_g, lines_h, lines_i, lines_j, lines_k, lines_l, lines_m, lines_n, lines_o}
 use Rattle.jbig2_coder.proofs.huffman_table.standard.standard_lines.Goals as goal
 
--- the table that stands there
+-- the table at this place
 at : (i k : ℕ) (lines : List TableLine) → i ≡ k → get_or standard_tables k [] ≡ lines → lines ≡ get_or standard_tables i []
 at i k lines e same = sym (ap (λ (n : ℕ). get_or standard_tables n []) e ∙ same)
 

@@ -16,8 +16,8 @@ loop-init g c = record {
   moved = omega (arith, c.register-register.ensures.value);
   made = omega arith;
   context = c.context-context.ensures.value;
-  left = λ grid x y stands. left-start grid x y (c.args.left % 2 ^ 0) c.args.left stands.beside;
-  has_decoded = λ grid x y stands. decodes-start (nominal_pixels c.args.neighbours) _ x y (c.args.left % 2 ^ 0) grid c.args.decoder.now c.args.contexts.now;
+  left = λ grid x y is_at. left-start grid x y (c.args.left % 2 ^ 0) c.args.left is_at.beside;
+  has_decoded = λ grid x y is_at. decodes-start (nominal_pixels c.args.neighbours) _ x y (c.args.left % 2 ^ 0) grid c.args.decoder.now c.args.contexts.now;
   steps = no-decisions c.args.steps.now 0 refl;
 }
 
@@ -34,18 +34,18 @@ loop-preserved g c =
       moved = register-next c.loop.register (register_of c.args.neighbours c.args.windows) k c.loop.invariant.moved;
       made = next.1;
       context = ap (λ (n : ℕ). n + symbol) c.context-higher.ensures.value ∙ cut-digit c.args.neighbours (c.loop.register * 2) b symbol c.requires.near c.decode-symbol.ensures.digit;
-      left = λ grid x y stands.
+      left = λ grid x y is_at.
           left-whole (with_pixels grid x y (k + 1) ((b * 2 + symbol) % 2 ^ (k + 1))) (x + (k + 1)) y (b * 2 + symbol)
           (subst (λ (n : ℕ). IsLeft (with_pixels grid x y (k + 1) n) (x + (k + 1)) y ((b * 2 + symbol) % 16)) (sym next.0)
-          (left-bit grid x y k b byte symbol _ c.decode-symbol.ensures.value (omega (arith, stands.columns)) stands.row (c.loop.invariant.left grid x y stands)));
-      has_decoded = λ grid x y stands.
+          (left-bit grid x y k b byte symbol _ c.decode-symbol.ensures.value (omega (arith, is_at.columns)) is_at.row (c.loop.invariant.left grid x y is_at)));
+      has_decoded = λ grid x y is_at.
           let shown = with_pixels grid x y k byte in
           let is_context =
           c.loop.invariant.context
-          ∙ register-context c.args.neighbours grid shown x y k 20 c.loop.register b c.args.windows c.requires.near (omega arith) (omega arith) c.loop.invariant.moved (stored-above grid x y k byte) stands.shows (c.loop.invariant.left grid x y stands) in
+          ∙ register-context c.args.neighbours grid shown x y k 20 c.loop.register b c.args.windows c.requires.near (omega arith) (omega arith) c.loop.invariant.moved (stored-above grid x y k byte) is_at.shows (c.loop.invariant.left grid x y is_at) in
           subst (λ (n : ℕ). DecodesPixels (nominal_pixels c.args.neighbours) false x y (k + 1) (region_state grid c.args.decoder.now c.args.contexts.now) (region_state (with_pixels grid x y (k + 1) n) c.decode-symbol.new.self (set c.loop.contexts c.loop.context c.decode-symbol.new.context))) (sym next.0)
           (decodes-bit (nominal_pixels c.args.neighbours) x y k grid c.args.decoder.now c.loop.decoder c.decode-symbol.new.self c.args.contexts.now c.loop.contexts c.loop.context byte symbol c.index-contexts-context.result c.decode-symbol.new.context
-          (c.loop.invariant.has_decoded grid x y stands) (omega (arith, stands.columns)) stands.row is_context inside c.decode-symbol.ensures.value c.decode-symbol.ensures.coder c.decode-symbol.ensures.context);
+          (c.loop.invariant.has_decoded grid x y is_at) (omega (arith, is_at.columns)) is_at.row is_context inside c.decode-symbol.ensures.value c.decode-symbol.ensures.coder c.decode-symbol.ensures.context);
       steps = more-decisions c.args.steps.now c.loop.steps c.decode-symbol.new.steps k 1 (k + 1) c.loop.invariant.steps c.decode-symbol.ensures.steps refl;
     }
 

@@ -6,7 +6,7 @@ use Rattle.jbig2_base.specs.Writes.{with_pixels}
 use Rattle.jbig2_region.specs.inner.PushedPixels.{IsAtPixels, IsAtRow}
 use Rattle.jbig2_region.specs.inner.Neighbours.{DecodesPixels, Shows, nominal_pixels}
 use Rattle.jbig2_region.proofs.CountLemmas.{counts-last, counts-none, counts-then}
-use Rattle.jbig2_region.proofs.PushLemmas.{few-next, one-shifted, row-fits, stands-next, stored-next}
+use Rattle.jbig2_region.proofs.PushLemmas.{few-next, one-shifted, row-fits, at_pixels-next, stored-next}
 use Rattle.jbig2_region.proofs.StoreLemmas.{decodes-start, decodes-then}
 use Rattle.jbig2_region.proofs.generic_kernel.narrow.push_row.Goals as goal
 use Rattle.jbig2_region.specs.inner.RegionStates.{region_state}
@@ -31,8 +31,8 @@ loop-preserved g c =
     let byte : ℕ = c.push_byte-byte.result in
     let sum : 8 * (k + 1) ≡ 8 * k + 8 = omega arith in
     let place : 8 * k ≡ 0 + 8 * k = omega arith in
-    let stands : (grid : Grid) (y : ℕ) → IsAtRow grid y c.args.width c.args.windows → IsAtPixels (with_pixels grid 0 y (8 * k) pixels) (8 * k) y 9 (pixels % 16) c.loop.shown = λ grid y row.
-    stands-next grid y c.args.width k 9 pixels c.args.windows c.loop.shown row c.loop.invariant.few (omega arith) (omega arith) (c.loop.invariant.shows grid y row.shows) in
+    let is_at : (grid : Grid) (y : ℕ) → IsAtRow grid y c.args.width c.args.windows → IsAtPixels (with_pixels grid 0 y (8 * k) pixels) (8 * k) y 9 (pixels % 16) c.loop.shown = λ grid y row.
+    at_pixels-next grid y c.args.width k 9 pixels c.args.windows c.loop.shown row c.loop.invariant.few (omega arith) (omega arith) (c.loop.invariant.shows grid y row.shows) in
     record {
       bytes = c.push_byte-byte.ensures.bytes ∙ c.loop.invariant.bytes;
       few = few-next pixels byte (8 * k) 8 (8 * (k + 1)) c.loop.invariant.few c.push_byte-byte.ensures.bound sum;
@@ -47,12 +47,12 @@ loop-preserved g c =
           let stored : with_pixels mid (8 * k) y 8 byte ≡ made = stored-next grid y (8 * k) 8 (8 * (k + 1)) pixels byte c.push_byte-byte.ensures.bound sum (omega (arith, row.wide)) row.row in
           decodes-then (nominal_pixels c.args.neighbours) false 0 (8 * k) y (8 * k) 8 (8 * (k + 1)) grid mid made c.args.decoder.now c.loop.decoder c.push_byte-byte.new.decoder c.args.contexts.now c.loop.contexts c.push_byte-byte.new.contexts
           (c.loop.invariant.has_decoded grid y row)
-          (subst (λ (q : Grid). DecodesPixels (nominal_pixels c.args.neighbours) false (8 * k) y 8 (region_state mid c.loop.decoder c.loop.contexts) (region_state q c.push_byte-byte.new.decoder c.push_byte-byte.new.contexts)) stored (c.push_byte-byte.ensures.pixels mid (8 * k) y (stands grid y row)))
+          (subst (λ (q : Grid). DecodesPixels (nominal_pixels c.args.neighbours) false (8 * k) y 8 (region_state mid c.loop.decoder c.loop.contexts) (region_state q c.push_byte-byte.new.decoder c.push_byte-byte.new.contexts)) stored (c.push_byte-byte.ensures.pixels mid (8 * k) y (is_at grid y row)))
           place sum;
       decisions = λ grid y row.
           counts-then (nominal_pixels c.args.neighbours) 0 (8 * k) y (8 * k) 8 (8 * (k + 1)) grid (with_pixels grid 0 y (8 * k) pixels) c.args.decoder.now c.loop.decoder c.args.contexts.now c.loop.contexts c.args.steps.now.decisions c.loop.steps.decisions c.push_byte-byte.new.steps.decisions
           (c.loop.invariant.decisions grid y row) (c.loop.invariant.has_decoded grid y row)
-          (c.push_byte-byte.ensures.decisions (with_pixels grid 0 y (8 * k) pixels) (8 * k) y (omega arith) (stands grid y row)) place sum;
+          (c.push_byte-byte.ensures.decisions (with_pixels grid 0 y (8 * k) pixels) (8 * k) y (omega arith) (is_at grid y row)) place sum;
       run_tests = omega (arith, c.push_byte-byte.ensures.run_tests, c.loop.invariant.run_tests);
       loads = c.push_byte-byte.ensures.loads ∙ c.loop.invariant.loads;
       words = c.push_byte-byte.ensures.words ∙ c.loop.invariant.words;
@@ -83,14 +83,14 @@ returns-clause-pixels g c = λ grid y row.
     let sum : c.args.width ≡ 8 * k + count = omega (arith, whole) in
     let place : 8 * k ≡ 0 + 8 * k = omega arith in
     let mid : Grid = with_pixels grid 0 y (8 * k) pixels in
-    let stands : IsAtPixels mid (8 * k) y count (pixels % 16) c.loop.shown = stands-next grid y c.args.width k count pixels c.args.windows c.loop.shown row c.loop.invariant.few (omega (arith, sum)) (omega (arith, whole)) (c.loop.invariant.shows grid y row.shows) in
+    let is_at : IsAtPixels mid (8 * k) y count (pixels % 16) c.loop.shown = at_pixels-next grid y c.args.width k count pixels c.args.windows c.loop.shown row c.loop.invariant.few (omega (arith, sum)) (omega (arith, whole)) (c.loop.invariant.shows grid y row.shows) in
     let made : Grid = with_pixels grid 0 y c.args.width (pixels * 2 ^ count + last) in
     let stored : with_pixels mid (8 * k) y count last ≡ made = stored-next grid y (8 * k) count c.args.width pixels last c.push_pixels-last.ensures.bound sum (omega (arith, row.wide)) row.row in
     let shifted : pixels * 2 ^ count + last ≡ pixels * (1 * 2 ^ count % 2 ^ 64) + last = ap (λ (n : ℕ). pixels * n + last) (sym (one-shifted count (omega arith))) in
     subst (λ (b : ℕ). DecodesPixels (nominal_pixels c.args.neighbours) false 0 y c.args.width (region_state grid c.args.decoder.now c.args.contexts.now) (region_state (with_pixels grid 0 y c.args.width b) c.push_pixels-last.new.decoder c.push_pixels-last.new.contexts)) shifted
     (decodes-then (nominal_pixels c.args.neighbours) false 0 (8 * k) y (8 * k) count c.args.width grid mid made c.args.decoder.now c.loop.decoder c.push_pixels-last.new.decoder c.args.contexts.now c.loop.contexts c.push_pixels-last.new.contexts
     (c.loop.invariant.has_decoded grid y row)
-    (subst (λ (q : Grid). DecodesPixels (nominal_pixels c.args.neighbours) false (8 * k) y count (region_state mid c.loop.decoder c.loop.contexts) (region_state q c.push_pixels-last.new.decoder c.push_pixels-last.new.contexts)) stored (c.push_pixels-last.ensures.pixels mid (8 * k) y stands))
+    (subst (λ (q : Grid). DecodesPixels (nominal_pixels c.args.neighbours) false (8 * k) y count (region_state mid c.loop.decoder c.loop.contexts) (region_state q c.push_pixels-last.new.decoder c.push_pixels-last.new.contexts)) stored (c.push_pixels-last.ensures.pixels mid (8 * k) y is_at))
     place sum)
 
 pub returns-clause-decisions : goal.returns-clause-decisions

@@ -54,7 +54,7 @@ loop-group-preserved g c =
     let on : 64 * c.loop-group.group + 64 ≡ 64 * (c.loop-group.group + 1) = omega arith in
     let further : 64 * c.loop-group.group + 72 ≡ 64 * (c.loop-group.group + 1) + 8 = omega arith in
     let back : c.loop-group.group ≡ c.loop-group.group + 1 - 1 = omega arith in
-    let stands : IsAtGroup c.loop-group.bitmap (64 * c.loop-group.group) c.args.y bytes c.loop-group.left c.windows_between-windows.result = record {
+    let is_at : IsAtGroup c.loop-group.bitmap (64 * c.loop-group.group) c.args.y bytes c.loop-group.left c.windows_between-windows.result = record {
       columns = omega (arith, column, c.width-width.ensures.value, c.loop-group.invariant.width, c.requires.some);
       row = omega (arith, c.requires.row, c.loop-group.invariant.height);
       shows = c.windows_between-windows.ensures c.loop-group.bitmap (64 * c.loop-group.group) c.args.y bytes c.loop-group.invariant.before c.loop-group.invariant.here c.words_after-after.ensures.value;
@@ -73,19 +73,19 @@ loop-group-preserved g c =
       few = omega arith;
       left = subst (λ (n : ℕ). IsLeft made n c.args.y (c.push_group-pixels.result % 16)) column
           (subst (λ (q : Grid). IsLeft q (64 * c.loop-group.group + 8 * bytes) c.args.y (c.push_group-pixels.result % 16)) (sym c.store_pixels.ensures.value)
-          (left-stored mid (64 * c.loop-group.group) c.args.y (8 * bytes) c.push_group-pixels.result (omega (arith, c.div_ceil-group-end.ensures, c.min-bytes.ensures)) (omega (arith, stands.columns)) stands.row));
+          (left-stored mid (64 * c.loop-group.group) c.args.y (8 * bytes) c.push_group-pixels.result (omega (arith, c.div_ceil-group-end.ensures, c.min-bytes.ensures)) (omega (arith, is_at.columns)) is_at.row));
       has_decoded =
           decodes-then (nominal_pixels c.args.neighbours) false 0 (64 * c.loop-group.group) c.args.y (8 * here) (8 * bytes) (8 * then)
           c.args.bitmap.now mid made c.args.decoder.now c.loop-group.decoder c.push_group-pixels.new.decoder c.args.contexts.now c.loop-group.contexts c.push_group-pixels.new.contexts
           c.loop-group.invariant.has_decoded
           (subst (λ (q : Grid). DecodesPixels (nominal_pixels c.args.neighbours) false (64 * c.loop-group.group) c.args.y (8 * bytes) (region_state mid c.loop-group.decoder c.loop-group.contexts) (region_state q c.push_group-pixels.new.decoder c.push_group-pixels.new.contexts)) (sym c.store_pixels.ensures.value)
-          (c.push_group-pixels.ensures.pixels mid (64 * c.loop-group.group) c.args.y stands)) start sum;
+          (c.push_group-pixels.ensures.pixels mid (64 * c.loop-group.group) c.args.y is_at)) start sum;
       decisions =
           subst (λ (b : ℕ). CountsRuns (nominal_pixels c.args.neighbours) 0 c.args.y (8 * then) (region_state c.args.bitmap.now c.args.decoder.now c.args.contexts.now) c.words_at-here.new.steps.decisions b) decided
           (counts-then (nominal_pixels c.args.neighbours) 0 (64 * c.loop-group.group) c.args.y (8 * here) (8 * bytes) (8 * then)
           c.args.bitmap.now mid c.args.decoder.now c.loop-group.decoder c.args.contexts.now c.loop-group.contexts c.words_at-here.new.steps.decisions c.loop-group.steps.decisions c.push_group-pixels.new.steps.decisions
           c.loop-group.invariant.decisions c.loop-group.invariant.has_decoded
-          (subst (λ (b : ℕ). CountsRuns (nominal_pixels c.args.neighbours) (64 * c.loop-group.group) c.args.y (8 * bytes) (region_state mid c.loop-group.decoder c.loop-group.contexts) b c.push_group-pixels.new.steps.decisions) same (c.push_group-pixels.ensures.decisions mid (64 * c.loop-group.group) c.args.y (omega arith) stands)) start sum);
+          (subst (λ (b : ℕ). CountsRuns (nominal_pixels c.args.neighbours) (64 * c.loop-group.group) c.args.y (8 * bytes) (region_state mid c.loop-group.decoder c.loop-group.contexts) b c.push_group-pixels.new.steps.decisions) same (c.push_group-pixels.ensures.decisions mid (64 * c.loop-group.group) c.args.y (omega arith) is_at)) start sum);
       run_tests = omega (arith, next, ap (λ (s : Counts). s.run_tests) c.words_after-after.ensures.steps, ap (λ (s : Counts). s.run_tests) c.store_pixels.ensures.steps, c.push_group-pixels.ensures.run_tests, c.loop-group.invariant.run_tests);
       before = subst (λ (n : ℕ). ShowsBefore made n c.args.y c.loop-group.here) on
           (shows-before made (64 * c.loop-group.group) c.args.y c.loop-group.here
@@ -114,7 +114,7 @@ returns g c = record {
       let n : ℕ = c.width-width.result - x in
       let all : min (8 * c.loop-group.group) whole ≡ whole = omega (arith, c.div_ceil-group-end.ensures) in
       let sum : c.args.bitmap.now.width ≡ x + n = omega (arith, c.width-width.ensures.value, c.requires.some) in
-      let stands : IsAtPixels c.loop-group.bitmap x c.args.y n c.loop-group.left c.last_windows-windows.result = record {
+      let is_at : IsAtPixels c.loop-group.bitmap x c.args.y n c.loop-group.left c.last_windows-windows.result = record {
         columns = omega (arith, c.width-width.ensures.value, c.loop-group.invariant.width);
         row = omega (arith, c.requires.row, c.loop-group.invariant.height);
         shows = shows-less c.loop-group.bitmap x c.args.y 64 20 c.last_windows-windows.result (omega arith)
@@ -140,7 +140,7 @@ returns g c = record {
       c.args.bitmap.now c.loop-group.bitmap c.store_pixels-2.new.self c.args.decoder.now c.loop-group.decoder c.push_pixels-last.new.decoder c.args.contexts.now c.loop-group.contexts c.push_pixels-last.new.contexts
       (subst (λ (k : ℕ). DecodesPixels (nominal_pixels c.args.neighbours) false 0 c.args.y (8 * k) (region_state c.args.bitmap.now c.args.decoder.now c.args.contexts.now) (region_state c.loop-group.bitmap c.loop-group.decoder c.loop-group.contexts)) all c.loop-group.invariant.has_decoded)
       (subst (λ (q : Grid). DecodesPixels (nominal_pixels c.args.neighbours) false x c.args.y n (region_state c.loop-group.bitmap c.loop-group.decoder c.loop-group.contexts) (region_state q c.push_pixels-last.new.decoder c.push_pixels-last.new.contexts)) (sym c.store_pixels-2.ensures.value)
-      (c.push_pixels-last.ensures.pixels c.loop-group.bitmap x c.args.y stands)) (omega arith) sum;
+      (c.push_pixels-last.ensures.pixels c.loop-group.bitmap x c.args.y is_at)) (omega arith) sum;
   width = search rules;
   height = search rules;
   bytes = search rules;

@@ -19,9 +19,9 @@ loop-done-init g c = record {
   small = c.requires.small;
   shown = λ some grid x y group. byte-first grid x y c.args.bytes c.args.windows group;
   few = omega arith;
-  left = λ grid x y stands. left-start grid x y 0 c.args.left stands.beside;
-  has_decoded = λ grid x y stands. decodes-start (nominal_pixels c.args.neighbours) false x y 0 grid c.args.decoder.now c.args.contexts.now;
-  decisions = λ grid x y aligned stands. counts-none (nominal_pixels c.args.neighbours) x y grid c.args.decoder.now c.args.contexts.now c.args.steps.now.decisions;
+  left = λ grid x y is_at. left-start grid x y 0 c.args.left is_at.beside;
+  has_decoded = λ grid x y is_at. decodes-start (nominal_pixels c.args.neighbours) false x y 0 grid c.args.decoder.now c.args.contexts.now;
+  decisions = λ grid x y aligned is_at. counts-none (nominal_pixels c.args.neighbours) x y grid c.args.decoder.now c.args.contexts.now c.args.steps.now.decisions;
   run_tests = omega arith;
   loads = refl;
   words = refl;
@@ -46,7 +46,7 @@ loop-done-preserved g c =
     let next : (x : ℕ) → x + 8 * done + 8 * bytes ≡ x + 8 * (done + bytes) = λ x. omega arith in
     let sum : 8 * (done + bytes) ≡ 8 * done + 8 * bytes = omega arith in
     let within : done + bytes ≤ c.args.bytes = omega (arith, c.push_bytes-taken.ensures.most, c.most_bytes-most.ensures.within) in
-    let stands : (grid : Grid) (x y : ℕ) → IsAtGroup grid x y c.args.bytes c.args.left c.args.windows → IsAtBytes (with_pixels grid x y (8 * done) pixels) (x + 8 * done) y c.most_bytes-most.result c.loop-done.beside c.loop-done.shown = λ grid x y group. record {
+    let is_at : (grid : Grid) (x y : ℕ) → IsAtGroup grid x y c.args.bytes c.args.left c.args.windows → IsAtBytes (with_pixels grid x y (8 * done) pixels) (x + 8 * done) y c.most_bytes-most.result c.loop-done.beside c.loop-done.shown = λ grid x y group. record {
       columns = omega (arith, group.columns, c.most_bytes-most.ensures.within);
       row = group.row;
       shows =
@@ -73,13 +73,13 @@ loop-done-preserved g c =
           let made : Grid = with_pixels grid x y (8 * (done + bytes)) c.join-pixels.result in
           decodes-then (nominal_pixels c.args.neighbours) false x (x + 8 * done) y (8 * done) (8 * bytes) (8 * (done + bytes)) grid mid made c.args.decoder.now c.loop-done.decoder c.push_bytes-taken.new.decoder c.args.contexts.now c.loop-done.contexts c.push_bytes-taken.new.contexts
           (c.loop-done.invariant.has_decoded grid x y group)
-          (subst (λ (q : Grid). DecodesPixels (nominal_pixels c.args.neighbours) false (x + 8 * done) y (8 * bytes) (region_state mid c.loop-done.decoder c.loop-done.contexts) (region_state q c.push_bytes-taken.new.decoder c.push_bytes-taken.new.contexts)) (stored grid x y group) (c.push_bytes-taken.ensures.pixels mid (x + 8 * done) y (stands grid x y group)))
+          (subst (λ (q : Grid). DecodesPixels (nominal_pixels c.args.neighbours) false (x + 8 * done) y (8 * bytes) (region_state mid c.loop-done.decoder c.loop-done.contexts) (region_state q c.push_bytes-taken.new.decoder c.push_bytes-taken.new.contexts)) (stored grid x y group) (c.push_bytes-taken.ensures.pixels mid (x + 8 * done) y (is_at grid x y group)))
           refl sum;
       decisions = λ grid x y aligned group.
           let mid : Grid = with_pixels grid x y (8 * done) pixels in
           counts-then (nominal_pixels c.args.neighbours) x (x + 8 * done) y (8 * done) (8 * bytes) (8 * (done + bytes)) grid mid c.args.decoder.now c.loop-done.decoder c.args.contexts.now c.loop-done.contexts c.args.steps.now.decisions c.loop-done.steps.decisions c.push_bytes-taken.new.steps.decisions
           (c.loop-done.invariant.decisions grid x y aligned group) (c.loop-done.invariant.has_decoded grid x y group)
-          (c.push_bytes-taken.ensures.decisions mid (x + 8 * done) y (omega (arith, aligned)) (stands grid x y group)) refl sum;
+          (c.push_bytes-taken.ensures.decisions mid (x + 8 * done) y (omega (arith, aligned)) (is_at grid x y group)) refl sum;
       run_tests = omega (arith, c.push_bytes-taken.ensures.run_tests, c.loop-done.invariant.run_tests);
       loads = c.push_bytes-taken.ensures.loads ∙ c.loop-done.invariant.loads;
       words = c.push_bytes-taken.ensures.words ∙ c.loop-done.invariant.words;

@@ -1,11 +1,11 @@
 use Rattle.std.proofs.Common.{◌≡◌, length}
 use Rattle.std.specs.Vec.Iter.{into_iter_items, into_iter_len}
 use Rattle.jbig2_base.specs.inner.SegmentViews.{segment_views}
-use Rattle.hayro_jbig2.proofs.ByPages.{HoldsSome}
+use Rattle.hayro_jbig2.proofs.ByPages.{HasSomeSegments}
 use Rattle.hayro_jbig2.proofs.file.segments_by_page.SegmentsByPage.new.Given as goal
 
 abbrev pub invariant-loop-segment : goal.invariant-loop-segment
 invariant-loop-segment g l = record {
   counted : into_iter_len l.segment-iterator ≡ length (into_iter_items l.segment-iterator);
-  holds : HoldsSome l.by_page (segment_views (into_iter_items l.segment-iterator)) (segment_views l.fn.segments.items);
+  holds : HasSomeSegments l.by_page (segment_views (into_iter_items l.segment-iterator)) (segment_views l.fn.segments.items);
 }

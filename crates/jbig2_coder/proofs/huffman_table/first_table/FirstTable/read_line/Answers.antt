@@ -7,7 +7,7 @@ use Rattle.jbig2_coder.specs.declared.huffman_table.levels.Level.{Level}
 use Rattle.jbig2_coder.specs.declared.huffman_table.first_table.FirstCode.{FirstCode}
 use Rattle.jbig2_coder.specs.PrefixCode.{Reads}
 use Rattle.jbig2_coder.specs.inner.PrefixLevels.{walk_of}
-use Rattle.jbig2_coder.proofs.FirstLemmas.{first-found, first-longer, behind-eight}
+use Rattle.jbig2_coder.proofs.FirstLemmas.{first-found, first-longer, after-eight}
 use Rattle.jbig2_coder.proofs.huffman_table.first_table.FirstTable.read_line.Goals as goal
 
 pub bounds-self-byte : goal.bounds-self-byte
@@ -40,7 +40,7 @@ returns-then-byte-self-2-clause-reads c =
     let none : Level = record { first = 0; count = 0; nodes = 0 } in
     let from = c.args.self.now.longer in
     let small : v < 256 = next-small 8 v p c.in-Some.ensures in
-    let deep = behind-eight lines levels none c.requires.levels (omega arith) in
+    let deep = after-eight lines levels none c.requires.levels (omega arith) in
     let all : take (length levels - 8) (drop 8 levels) ≡ drop 8 levels = take_all (length levels - 8) (drop 8 levels) (omega (arith, length-drop 8 levels)) in
     let P : List Level → Type 0 = λ vs. Reads q r a (walk_of lines vs (v - from) (bits_left q)) in
     first-longer lines levels v from a p q r c.in-Some.ensures small c.requires.first.longer c.if-byte-self.true (omega (arith, deep.0, c.if-byte-self-2.true)) c.advance-then-byte-self-2.ensures.place c.advance-then-byte-self-2.ensures.rest (subst P all c.read_line-then-byte-self-2.ensures.reads)
