@@ -57,7 +57,7 @@ class Pages(unittest.TestCase):
         self.assertEqual((page.number, page.to_pbm()), (1, b"P4\n8 1\n\0"))
         self.assertEqual(hayro_jbig2.sizes(TEXT), [(1, 8, 1)])
 
-    def test_what_was_passed_over_is_told(self):
+    def test_what_was_passed_over_is_reported(self):
         self.assertEqual(hayro_jbig2.decode(TEXT, globals=GLOBALS).passed_over, hayro_jbig2.PassedOver(0, None))
         # Row R2.1: the region, segment 1, has no operator.
         stream = bytes.fromhex(

@@ -189,7 +189,7 @@ const FAULTS: &[(Words, &str, &[u8])] = &[
 ];
 
 #[test]
-fn faults_are_told_and_nothing_is_printed(rt: HostRuntime) {
+fn faults_are_reported_and_nothing_is_printed(rt: HostRuntime) {
     for (words, file, err) in FAULTS {
         assert!(rt;
             ends_so(rt.alloc(), words, file, (1, b"", err)),

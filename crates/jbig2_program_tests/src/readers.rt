@@ -57,7 +57,7 @@ fn first_wrong_patience(alloc: Global) -> Result<Option<usize>> {
 }
 
 #[test]
-fn a_reader_that_fails_is_told_and_a_slow_one_changes_nothing(rt: HostRuntime) {
+fn a_failing_reader_is_reported_and_a_slow_one_changes_nothing(rt: HostRuntime) {
     let mut wrong = first_wrong_patience(rt.alloc());
     if wrong == Err(DecodeError::OutOfMemory) {
         wrong = first_wrong_patience(rt.alloc());
