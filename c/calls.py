@@ -186,9 +186,9 @@ def compare_pages(library, example):
     printed = subprocess.run([example, name], stdout=subprocess.PIPE)
     wanted = b"".join(b"P4\n%d %d\n" % (width, height) + rows for width, height, rows in pages)
     check(printed.returncode == 0 and printed.stdout == wanted, "the example prints the pages")
-    told = subprocess.run([example, example], stdout=subprocess.PIPE, stderr=subprocess.PIPE)
+    ended = subprocess.run([example, example], stdout=subprocess.PIPE, stderr=subprocess.PIPE)
     wanted = (1, b"", b"error: invalid JBIG2 file header\n")
-    check((told.returncode, told.stdout, told.stderr) == wanted, "an error is told")
+    check((ended.returncode, ended.stdout, ended.stderr) == wanted, "an error is reported")
 
 
 def main(path, example):

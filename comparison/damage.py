@@ -209,8 +209,8 @@ def run_all(runner, samples, options):
         fault = wrong(runner, ended, words)
         if fault:
             tally.wrong += 1
-            told = " ".join(word or kept(data, f"damaged-{options.seed}-{turn}") for word in words)
-            print(f"run {turn} ({sample.name}) {fault}: {told}", flush=True)
+            outcome = " ".join(word or kept(data, f"damaged-{options.seed}-{turn}") for word in words)
+            print(f"run {turn} ({sample.name}) {fault}: {outcome}", flush=True)
         if (turn + 1) % REPORT == 0:
             print(tally.line(options.first, turn + 1), flush=True)
     print(tally.line(options.first, turn + 1))

@@ -168,8 +168,8 @@ def main():
             failed += ended.signal != 0
             how = "drawn" if ended.status == 0 else ended.fault.decode(errors="replace").strip()
             most = ended.seconds * (MOST / side) ** power
-            told = f"{ended.seconds:8.2f} s, {ended.memory >> 20:5} MiB, at {MOST} {most:9.0f} s"
-            print(f"{name:46} {len(data):6} bytes {told}, {how}", flush=True)
+            cost = f"{ended.seconds:8.2f} s, {ended.memory >> 20:5} MiB, at {MOST} {most:9.0f} s"
+            print(f"{name:46} {len(data):6} bytes {cost}, {how}", flush=True)
     return 1 if failed else 0
 
 

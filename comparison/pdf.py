@@ -60,8 +60,8 @@ def main():
                 ours, theirs = drawn_of(pdf, room / pdf.stem)
                 same = ours == bitmap(meant)
                 wrong += not same
-                told = "" if ours == theirs else ", another by Poppler"
-                print(f"{file.name} {pdf.stem}: {'same' if same else 'different'}{told}")
+                note = "" if ours == theirs else ", another by Poppler"
+                print(f"{file.name} {pdf.stem}: {'same' if same else 'different'}{note}")
     sys.exit(1 if wrong else 0)
 
 

@@ -105,9 +105,9 @@ build_library() {
 
 # Links a program as the gate does: link_program OBJECT PROGRAM.
 link_program() {
-    local told
-    told=$("$kit/bin/rattle-link" --target x86_64-unknown-linux-gnu --toolchain "$kit/toolchain" -o "$2" "$1" \
+    local output
+    output=$("$kit/bin/rattle-link" --target x86_64-unknown-linux-gnu --toolchain "$kit/toolchain" -o "$2" "$1" \
         "$kit/c/libos_c.a" "$kit/c/liblibc_c.a" 2>&1) && return
-    echo "$told" >&2
+    echo "$output" >&2
     return 1
 }

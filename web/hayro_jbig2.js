@@ -199,12 +199,12 @@ export class Decoder {
     const [, width, height] = this.#numbers([4, 4, 4], `hayro_jbig2_${kind}_get_info`, handle, ...index);
     return this.#held((context) => {
       this.#call(`hayro_jbig2_${kind}_draw`, handle, ...index, context);
-      const told = this.#numbers([8, 4, 4], "hayro_jbig2_context_get_passed_over", context);
+      const counts = this.#numbers([8, 4, 4], "hayro_jbig2_context_get_passed_over", context);
       return {
         width,
         height,
         data: this.#pixels(context, width, height),
-        passedOver: passedOver(told),
+        passedOver: passedOver(counts),
         leftOut: salvage ? this.#leftOut(kind, handle) : null,
       };
     }, "hayro_jbig2_context_new");
@@ -212,8 +212,8 @@ export class Decoder {
 
   /** What salvage left out of what a handle holds. */
   #leftOut(kind, handle) {
-    const told = this.#numbers([8, 4, 4, 8, 4, 4], `hayro_jbig2_${kind}_get_left_out`, handle);
-    return { passedOver: passedOver(told), pages: told[3], firstPage: errorOf(told[4]), rest: errorOf(told[5]) };
+    const counts = this.#numbers([8, 4, 4, 8, 4, 4], `hayro_jbig2_${kind}_get_left_out`, handle);
+    return { passedOver: passedOver(counts), pages: counts[3], firstPage: errorOf(counts[4]), rest: errorOf(counts[5]) };
   }
 
   /** The pixels of the page that was drawn last in a context. */

@@ -72,7 +72,7 @@ class FieldsTest(unittest.TestCase):
         self.assertIn("not page count in file header", difference(Echo(forgives=True), other))
 
     def test_runs_are_written_and_compared_again(self):
-        with tempfile.TemporaryDirectory() as folder, contextlib.redirect_stdout(io.StringIO()) as told:
+        with tempfile.TemporaryDirectory() as folder, contextlib.redirect_stdout(io.StringIO()) as output:
             name = os.path.join(folder, "runs.gz")
             with unittest.mock.patch("sys.argv", ["fields.py", "--count", "6", "--seed", "2"]):
                 options = options_of()
@@ -81,7 +81,7 @@ class FieldsTest(unittest.TestCase):
             made = [run for run in made_runs(options) if run.meant]
             self.assertEqual(list(written_runs([name])), made)
             self.assertEqual(compare_all(Echo(), written_runs([name]), options, None), 0)
-        self.assertEqual(told.getvalue().count(f"to run 5: {len(made)} files compared, 0 wrong"), 2)
+        self.assertEqual(output.getvalue().count(f"to run 5: {len(made)} files compared, 0 wrong"), 2)
 
 
 if __name__ == "__main__":

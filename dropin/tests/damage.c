@@ -1,4 +1,4 @@
-/* Damaged streams, globals and files: what is drawn of them all the same, and what the listener is told. */
+/* Damaged streams, globals and files: what is drawn of them, and which messages the listener gets. */
 #define _POSIX_C_SOURCE 200809L /* setenv */
 #include "support.h"
 

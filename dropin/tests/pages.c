@@ -1,4 +1,4 @@
-/* Pages of files and of streams one after the other, and what the listener is told. */
+/* Pages of files and of streams one after the other, and which messages the listener gets. */
 #include "support.h"
 
 #include <string.h>

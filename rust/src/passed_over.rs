@@ -21,7 +21,7 @@ pub struct PassedSegment {
 }
 
 /// What salvage left out of globals, a page or a file, besides [`DecoderContext::passed_over`]. Other readings leave out
-/// nothing that is told here.
+/// nothing of this.
 ///
 /// [`DecoderContext::passed_over`]: crate::DecoderContext::passed_over
 #[derive(Debug, Clone, Copy, Default, PartialEq, Eq)]

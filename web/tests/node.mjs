@@ -92,12 +92,12 @@ const BAD_SYMBOLS = "00000001 00 00 01 0000000F 0009 00000001 00000001 5F8080004
 const JUNK = "20".repeat(16);
 const HEADER = "974A42320D0A1A0A 03";
 
-/** What a page in salvage comes to: its first row's first pixel, and what is told, as texts. */
+/** What salvage gives of a page: its height, its first pixel, and what was left out, as texts. */
 function salvaged(bytes, options = {}) {
   const { height, data, passedOver, leftOut } = decoder.decode(bytes, { ...options, salvage: true });
   const texts = [leftOut.passedOver.error, leftOut.firstPage, leftOut.rest].map((error) => error?.error ?? "");
-  const told = [passedOver.count, passedOver.error?.error ?? "", leftOut.passedOver.count, leftOut.pages, ...texts];
-  return [height, data[0] === 0 ? "black" : "white", ...told].join(" ").trim();
+  const fields = [passedOver.count, passedOver.error?.error ?? "", leftOut.passedOver.count, leftOut.pages, ...texts];
+  return [height, data[0] === 0 ? "black" : "white", ...fields].join(" ").trim();
 }
 
 /** Damaged pages, globals and files, which lenient reading refuses. */

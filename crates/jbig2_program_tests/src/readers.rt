@@ -73,11 +73,11 @@ fn errors_over_a_reader_have_the_texts_of_their_cause(rt: HostRuntime) {
         assert!(rt; text.as_str() == "unsupported feature");
     }
     let fault = io::Error::from(ErrorKind::TimedOut);
-    let (Ok(told), Ok(text)) = (
+    let (Ok(expected), Ok(text)) = (
         fault.to_string(rt.alloc()),
         Jbig2Error::Io(fault).to_string(rt.alloc()),
     ) else {
         return;
     };
-    assert!(rt; text.as_str() == told.as_str());
+    assert!(rt; text.as_str() == expected.as_str());
 }

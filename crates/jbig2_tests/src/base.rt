@@ -20,24 +20,18 @@ const PAGE: [u8; 19] = [
 fn bits_and_bytes_are_read(rt: HostRuntime) {
     let bytes = [0xA0, 1, 0, 2, 0, 0, 0, 3, 0xFF, 0xFF, 0xFF, 0xFE, 4, 5, 6];
     let mut reader = Reader::new(&bytes);
-    assert!(rt; reader.read_bit() == Some(1));
-    assert!(rt; reader.read_bits(2) == Some(0b01));
-    assert!(rt; reader.peek_bits(13) == Some(1));
+    let bits = (reader.read_bit(), reader.read_bits(2), reader.peek_bits(13));
+    assert!(rt; bits == (Some(1), Some(0b01), Some(1)));
     reader.advance(1);
     reader.align();
-    assert!(rt; reader.read_nonzero_byte() == Some(1));
-    assert!(rt; reader.read_u16() == Some(2));
-    assert!(rt; reader.read_u32() == Some(3));
-    assert!(rt; reader.read_i32() == Some(-2));
-    assert!(rt; reader.read_byte() == Some(4));
+    let first = (reader.read_nonzero_byte(), reader.read_u16());
+    let numbers = (reader.read_u32(), reader.read_i32(), reader.read_byte());
+    assert!(rt; first == (Some(1), Some(2)) && numbers == (Some(3), Some(-2), Some(4)));
     assert!(rt; reader.peek_bytes(2) == Some(&[5, 6]));
     assert!(rt; reader.read_bytes(1) == Some(&[5]));
-    assert!(rt; reader.duplicate().read_byte() == Some(6));
-    assert!(rt; reader.tail() == [6].as_slice());
-    assert!(rt; !reader.at_end());
-    assert!(rt; reader.read_bits(8) == Some(6));
-    assert!(rt; reader.at_end());
-    assert!(rt; reader.peek_bits(1).is_none());
+    assert!(rt; reader.duplicate().read_byte() == Some(6) && reader.tail() == [6].as_slice());
+    let end = (reader.at_end(), reader.read_bits(8), reader.at_end());
+    assert!(rt; end == (false, Some(6), true) && reader.peek_bits(1).is_none());
 }
 
 #[test]

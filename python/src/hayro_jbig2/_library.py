@@ -141,10 +141,10 @@ class _Handle:
 
     def _left_out(self) -> LeftOut:
         """What salvage left out of globals, a page or a file."""
-        told = _LeftOut()
-        _check(getattr(_LIBRARY, f"hayro_jbig2_{self.kind}_get_left_out")(self.handle, told))
-        passed_over = _passed_over(told.segments, told.segment, told.error)
-        return LeftOut(passed_over, told.pages, _error_or_none(told.page_error), _error_or_none(told.list_error))
+        raw = _LeftOut()
+        _check(getattr(_LIBRARY, f"hayro_jbig2_{self.kind}_get_left_out")(self.handle, raw))
+        passed_over = _passed_over(raw.segments, raw.segment, raw.error)
+        return LeftOut(passed_over, raw.pages, _error_or_none(raw.page_error), _error_or_none(raw.list_error))
 
 
 class Globals(_Handle):
@@ -170,9 +170,9 @@ class _Context(_Handle):
         rows = bytearray((size.width + 7) // 8 * size.height)
         place = (c_uint8 * len(rows)).from_buffer(rows)
         _check(_LIBRARY.hayro_jbig2_context_rows(self.handle, 0, place, len(rows)))
-        told = _PassedOver()
-        _check(_LIBRARY.hayro_jbig2_context_get_passed_over(self.handle, told))
-        passed_over = _passed_over(told.count, told.segment, told.error)
+        raw = _PassedOver()
+        _check(_LIBRARY.hayro_jbig2_context_get_passed_over(self.handle, raw))
+        passed_over = _passed_over(raw.count, raw.segment, raw.error)
         return Page(*size, memoryview(rows).toreadonly(), passed_over, left_out)
 
 

@@ -24,10 +24,10 @@ impl Context {
         self.passed_over = PassedOver::default();
         let handle = self.handle()?;
         let drawn = result(call(handle));
-        let mut told = ffi::PassedOver::default();
+        let mut raw = ffi::PassedOver::default();
         // SAFETY: the rules of the header.
-        result(unsafe { ffi::hayro_jbig2_context_get_passed_over(handle, &mut told) })?;
-        self.passed_over = passed_over(told.count, told.segment, told.error);
+        result(unsafe { ffi::hayro_jbig2_context_get_passed_over(handle, &mut raw) })?;
+        self.passed_over = passed_over(raw.count, raw.segment, raw.error);
         drawn
     }
 

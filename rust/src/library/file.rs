@@ -102,7 +102,7 @@ impl Handle {
 
     fn left_out(&mut self) -> Result<LeftOut> {
         // SAFETY: the rules of the header.
-        left_out(|told| unsafe { ffi::hayro_jbig2_file_get_left_out(self.0.as_ptr(), told) })
+        left_out(|raw| unsafe { ffi::hayro_jbig2_file_get_left_out(self.0.as_ptr(), raw) })
     }
 
     fn draw(&mut self, index: usize, context: &mut Context) -> Result<()> {

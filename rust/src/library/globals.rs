@@ -38,8 +38,8 @@ impl Globals {
     /// What was left out of them.
     pub(crate) fn left_out(&self) -> Result<LeftOut> {
         // SAFETY: the rules of the header.
-        let call = |globals, told| unsafe { ffi::hayro_jbig2_globals_get_left_out(globals, told) };
-        self.with(|globals| left_out(|told| call(globals, told)))
+        let call = |globals, raw| unsafe { ffi::hayro_jbig2_globals_get_left_out(globals, raw) };
+        self.with(|globals| left_out(|raw| call(globals, raw)))
     }
 
     /// Makes a call that is handed the globals.

@@ -43,21 +43,21 @@ impl Reading {
     }
 }
 
-/// What a call tells of the segments that were passed over.
+/// The segments that were passed over, from the numbers of a call.
 fn passed_over(count: usize, segment_number: u32, error: u32) -> PassedOver {
     let first = numbers::error_of(error).map(|error| PassedSegment { segment_number, error });
     PassedOver { count, first }
 }
 
-/// What a call tells of what was left out.
+/// What was left out, from the numbers that a call writes.
 fn left_out(call: impl FnOnce(*mut ffi::LeftOut) -> u32) -> Result<LeftOut> {
-    let mut told = ffi::LeftOut::default();
-    result(call(&mut told))?;
+    let mut raw = ffi::LeftOut::default();
+    result(call(&mut raw))?;
     Ok(LeftOut {
-        passed_over: passed_over(told.segments, told.segment, told.error),
-        pages: told.pages,
-        first_page: numbers::error_of(told.page_error),
-        rest: numbers::error_of(told.list_error),
+        passed_over: passed_over(raw.segments, raw.segment, raw.error),
+        pages: raw.pages,
+        first_page: numbers::error_of(raw.page_error),
+        rest: numbers::error_of(raw.list_error),
     })
 }
 

@@ -32,8 +32,8 @@ impl Page {
     /// What was left out of the list of its segments.
     pub(crate) fn left_out(&self) -> Result<LeftOut> {
         // SAFETY: the rules of the header.
-        let call = |page: &mut Handle, told| unsafe { ffi::hayro_jbig2_page_get_left_out(page.0.as_ptr(), told) };
-        self.handle.with(|page| left_out(|told| call(page, told)))
+        let call = |page: &mut Handle, raw| unsafe { ffi::hayro_jbig2_page_get_left_out(page.0.as_ptr(), raw) };
+        self.handle.with(|page| left_out(|raw| call(page, raw)))
     }
 
     pub(crate) fn info(&self) -> Result<PageInfo> {
