@@ -267,7 +267,7 @@ impl<'a, A: Allocator + Clone> File<'a, A> {
     }
 
     /// The file that `bytes` hold.
-    #[tactic(auto, using(crate::proofs::Causes::file_cause), unfolding(crate::specs::Files::book_at))]
+    #[tactic(auto, unfolding(crate::specs::Files::book_at))]
     fn read(
         alloc: A,
         bytes: &'a [u8],

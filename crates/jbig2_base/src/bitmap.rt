@@ -64,7 +64,6 @@ impl<A: Allocator> Bitmap<A> {
 
     /// A white bitmap. Its sides may have any length if their product is at most 65535 * 65535. A
     /// larger product is refused (`OverflowError::BitmapDimension`).
-    #[tactic(auto, using(crate::proofs::DataCauses::wide_cause))]
     pub fn new_wide(alloc: A, width: u32, height: u32) -> Result<Bitmap<A>>
         ensures value { Gives (λ b. b) result (wide_or_overflow width height) }
         ensures causes { HasCauseOrNoMemory result (BreaksArea width height) }

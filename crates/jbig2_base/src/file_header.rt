@@ -61,7 +61,7 @@ fn page_count(reader: &mut Reader<'_>, unknown: bool) -> Result<Option<u32>>
 ///
 /// Returns `FormatError::InvalidHeader` if the bytes do not begin with the identification string,
 /// and `FormatError::ReservedBits` if a reserved bit of the flags is set. Takes no memory.
-#[tactic(auto, using(crate::proofs::Causes::file_header_cause), unfolding(crate::specs::File::file_header_at))]
+#[tactic(auto, unfolding(crate::specs::File::file_header_at))]
 pub(crate) fn parse_file_header(reader: &mut Reader<'_>) -> Result<FileHeader>
     ensures value { Returns (λ h. (h, reader.new.bytes)) result (file_header_at reader.old.bytes) }
     ensures causes { HasCause result (BreaksFileHeader reader.old.bytes) }

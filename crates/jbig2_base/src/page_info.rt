@@ -159,7 +159,7 @@ fn resolution(number: u32) -> Option<u32>
 ///
 /// Returns `ParseError::UnexpectedEof` if there are too few bytes, and leaves the reader where it
 /// was. Takes no memory.
-#[tactic(auto, using(crate::proofs::PageCauses::information_cause), unfolding(crate::specs::PageInfo::information_at))]
+#[tactic(auto, unfolding(crate::specs::PageInfo::information_at))]
 pub fn parse_page_information(reader: &mut Reader<'_>) -> Result<PageInformation>
     ensures causes { HasCause result (BreaksInformation reader.old.bytes) }
     ensures parses { Parses reader.old reader.new result (λ p. p)
@@ -275,7 +275,6 @@ impl InitialPage {
     /// Returns `FormatError::MissingPageInfo`, `UnknownPageHeight` or `EmptyPage`,
     /// `ParseError::UnexpectedEof` if the segment is too short, or `OverflowError::BitmapDimension`
     /// if a side is above 65535 pixels. Takes no memory.
-    #[tactic(auto, using(crate::proofs::InitialCauses::initial_page_by_cause))]
     pub fn with_height<A: Allocator>(
         segments: &[Segment<'_, A>],
         known_height: u32,

@@ -250,7 +250,7 @@ fn data_length(strict: bool, kind: SegmentType, number: u32) -> Result<Option<u3
 /// In strict mode a type that is not in the list returns `SegmentError::UnknownType`. An unknown
 /// length returns `SegmentError::InvalidUnknownLength` unless the segment is an immediate generic
 /// region. An error leaves the reader where it was.
-#[tactic(auto, using(crate::proofs::SegmentCauses::header_cause), unfolding(crate::specs::Segment::header_at))]
+#[tactic(auto, unfolding(crate::specs::Segment::header_at))]
 pub fn parse_segment_header<A: Allocator>(
     alloc: A,
     reader: &mut Reader<'_>,

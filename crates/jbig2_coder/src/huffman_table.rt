@@ -54,7 +54,6 @@ impl<A: Allocator + Clone> HuffmanTable<A> {
     ///
     /// It is refused as an invalid code exactly if the codes do not fit, that is if the sum of 2^-length
     /// over the lengths above 0 exceeds 1. No code of a table begins another, however the table is made.
-    #[tactic(auto, using(crate::proofs::FreeTables::tables_are_free, crate::proofs::Causes::table_cause))]
     pub fn build(alloc: A, lines: &[TableLine]) -> Result<HuffmanTable<A>>
         requires { AreShort lines.now }
         ensures table { Gives (λ t. t) result (table_of lines.now) }

@@ -65,7 +65,6 @@ fn zeros<A: Allocator>(alloc: A, width: u32, height: u32) -> Result<Vec<u32, A>>
 /// Returns `OverflowError::BitmapDimension` for a side above 65535 with at least 1 bit for each pixel; in strict mode
 /// `RegionError::InvalidMmrData` where MMR data has a fault or lacks a row; `OutOfMemory`. Only after this last error
 /// the content of `contexts` is not specified.
-#[tactic(auto, using(crate::proofs::CausesOfRegions::gray_scale_cause), unfolding(crate::specs::GrayScale::gray_scale_image))]
 pub fn decode_gray_scale_image<M: Allocator, A: Allocator + Clone, B: Allocator, L: Ledger>(
     alloc: A,
     bytes: &[u8],

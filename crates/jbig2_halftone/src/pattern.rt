@@ -216,7 +216,7 @@ fn decode_collective<A: Allocator, B: Allocator, L: Ledger>(
 /// Returns `OverflowError::BitmapDimension` where the patterns side by side have more than 65535 columns; in strict
 /// mode `RegionError::InvalidMmrData` where MMR data has a fault or lacks a row; `OutOfMemory`. Only after this last
 /// error the content of `contexts` is not specified.
-#[tactic(auto, using(crate::proofs::CausesOfRegions::pattern_cause), unfolding(crate::specs::Patterns::patterns_decoded))]
+#[tactic(auto, unfolding(crate::specs::Patterns::patterns_decoded))]
 pub fn decode<A: Allocator + Clone, B: Allocator, L: Ledger>(
     alloc: A,
     header: &PatternDictionaryHeader<'_>,

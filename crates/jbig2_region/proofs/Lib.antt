@@ -11,6 +11,7 @@ pub mod GenericLemmas
 pub mod GenericPrices
 pub mod GroupLemmas
 pub mod HeaderCauses
+pub mod ParsedCauses
 pub mod PixelCauses
 pub mod PixelLemmas
 pub mod PlaceCounts

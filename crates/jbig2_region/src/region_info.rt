@@ -29,7 +29,7 @@ pub struct RegionSegmentInfo {
 /// Returns `ParseError::UnexpectedEof` if there are too few bytes,
 /// `RegionError::InvalidCombinationOperator` if the flags have the number of no operator, or
 /// `Unsupported` if they ask for colours. An error leaves the reader where it was. Takes no memory.
-#[tactic(auto, using(crate::proofs::Causes::info_has_cause), unfolding(crate::specs::RegionInfo::region_info_at))]
+#[tactic(auto, unfolding(crate::specs::RegionInfo::region_info_at))]
 pub fn parse_region_segment_info(reader: &mut Reader<'_>) -> Result<RegionSegmentInfo>
     ensures parses { Parses reader.old reader.new result (λ info. info)
         (region_info_at reader.old.bytes) }

@@ -107,7 +107,7 @@ pub fn read_drawn_class<R: ReadSymbols<A>, A: Allocator + Clone, L: Ledger>(
 }
 
 /// Reads one more height class.
-#[tactic(auto, using(crate::proofs::ClassCauses::height_class_cause), unfolding(crate::specs::HeightClasses::height_class))]
+#[tactic(auto, unfolding(crate::specs::HeightClasses::height_class))]
 fn read_height_class<R: ReadClasses<A>, A: Allocator + Clone, L: Ledger>(
     input: &SymbolInput<'_, A>,
     symbols: &mut NewSymbols<A>,

@@ -123,7 +123,7 @@ impl<A: Allocator + Clone> CodedSymbols<'_, A> {
     }
 
     /// Reads a symbol that is refined from another one or aggregated from several (T.88, 6.5.8.2).
-    #[tactic(auto, using(crate::proofs::SymbolCauses::coded_aggregate_cause), unfolding(crate::specs::SymbolBitmaps::coded_aggregate, crate::specs::SymbolBitmaps::instance_count))]
+    #[tactic(auto, unfolding(crate::specs::SymbolBitmaps::coded_aggregate, crate::specs::SymbolBitmaps::instance_count))]
     fn read_aggregate<L: Ledger>(
         &mut self,
         input: &SymbolInput<'_, A>,

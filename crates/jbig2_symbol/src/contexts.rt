@@ -85,7 +85,7 @@ fn duplicate_contexts<A: Allocator + Clone>(
 ///
 /// Returns `SymbolError::Invalid` where there are none, or where they have other templates;
 /// `OutOfMemory` where there is no memory for them.
-#[tactic(auto, using(crate::proofs::ReadingCauses::contexts_cause), unfolding(crate::specs::SymbolReading::first_contexts))]
+#[tactic(auto, unfolding(crate::specs::SymbolReading::first_contexts))]
 pub fn first_contexts<A: Allocator + Clone>(
     alloc: A,
     flags: &SymbolDictionaryFlags,

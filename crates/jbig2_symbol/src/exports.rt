@@ -194,7 +194,6 @@ pub fn export_symbols<A: Allocator + Clone, S: Allocator, L: Ledger>(
 
 /// Does the same, but moves the new symbols where exactly these are exported, instead of copying
 /// them.
-#[tactic(auto, using(crate::proofs::ExportedLemmas::exported_new))]
 fn take_exports<A: Allocator + Clone, S: Allocator, L: Ledger>(
     alloc: A,
     runs: &[u64],
@@ -218,7 +217,6 @@ fn take_exports<A: Allocator + Clone, S: Allocator, L: Ledger>(
 ///
 /// Returns the errors of `read_runs`; `SymbolError::NoSymbols` where their number is not the
 /// header's; `OutOfMemory` where there is no memory for them.
-#[tactic(auto, using(crate::proofs::ReadingCauses::exports_cause))]
 pub fn read_exports<R: ReadClasses<A>, A: Allocator + Clone, L: Ledger>(
     alloc: A,
     input: &SymbolInput<'_, A>,

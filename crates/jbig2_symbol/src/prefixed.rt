@@ -121,7 +121,7 @@ impl<'a, A: Allocator + Clone> PrefixedSymbols<'a, A> {
     }
 
     /// Reads a symbol that is refined from another one or aggregated from several (T.88, 6.5.8.2).
-    #[tactic(auto, using(crate::proofs::SymbolCauses::prefixed_aggregate_cause), unfolding(crate::specs::SymbolBitmaps::prefixed_aggregate, crate::specs::SymbolBitmaps::instance_count))]
+    #[tactic(auto, unfolding(crate::specs::SymbolBitmaps::prefixed_aggregate, crate::specs::SymbolBitmaps::instance_count))]
     fn read_aggregate<L: Ledger>(
         &mut self,
         input: &SymbolInput<'_, A>,
@@ -161,7 +161,7 @@ impl<'a, A: Allocator + Clone> PrefixedSymbols<'a, A> {
     }
 
     /// Reads the collective bitmap of a height class (T.88, 6.5.9).
-    #[tactic(auto, using(crate::proofs::ClassCauses::collective_cause), unfolding(crate::specs::SymbolBitmaps::collective_bitmap))]
+    #[tactic(auto, unfolding(crate::specs::SymbolBitmaps::collective_bitmap))]
     fn read_collective<L: Ledger>(
         &mut self,
         alloc: A,
@@ -192,7 +192,7 @@ impl<'a, A: Allocator + Clone> PrefixedSymbols<'a, A> {
     /// Refuses a height class that is too high for a symbol. The error is that of its collective
     /// bitmap, if it has one, or else that of the first symbol (T.88, 6.5.9). The bitmap is made
     /// only where strict mode has to decode MMR data.
-    #[tactic(auto, using(crate::proofs::ClassCauses::tall_class_cause), unfolding(crate::specs::SymbolBitmaps::collective_bitmap))]
+    #[tactic(auto, unfolding(crate::specs::SymbolBitmaps::collective_bitmap))]
     fn refuse_tall_class<L: Ledger>(
         &mut self,
         alloc: A,

@@ -37,7 +37,7 @@ fn table_for<'a, A: Allocator>(
 /// The tables of a dictionary. It takes the custom ones that it refers to in their order.
 ///
 /// Returns `HuffmanError::MissingTables` where it refers to too few, also without prefix codes.
-#[tactic(auto, using(crate::proofs::ReadingCauses::symbol_tables_cause), unfolding(crate::specs::SymbolReading::symbol_tables))]
+#[tactic(auto, unfolding(crate::specs::SymbolReading::symbol_tables))]
 pub fn symbol_tables<'a, A: Allocator>(
     flags: &SymbolDictionaryFlags,
     standard: &'a StandardHuffmanTables<A>,

@@ -1,5 +1,6 @@
 -- The steps of reading the codes of symbols.
-use Rattle.std.proofs.Common.{◌≡◌, ℕ, zero, suc, ◌+◌, ◌-◌, ◌<◌, ◌≤◌, List, [], ◌∷◌, ◌++◌, length, Result, Ok, Err, refl, sym, ◌∙◌, ap, arith, inl, inr, ◌⊎◌}
+use Rattle.std.proofs.Common.{◌≡◌, ℕ, zero, suc, ◌+◌, ◌-◌, ◌<◌, ◌≤◌, List, [], ◌∷◌, ◌++◌, length, drop, get_or, pos, Result, Ok, Err, refl, sym, ◌∙◌, ap, arith, inl, inr, ◌⊎◌}
+use Rattle.std.proofs.lemmas.List.{append_assoc, drop_more}
 use Rattle.std.proofs.lemmas.Bool.{cond-true, cond-false, lt-ltb, le-ltb}
 use Rattle.jbig2_base.specs.Results.{◌>>=◌}
 use Rattle.jbig2_base.specs.Bits.{Place}
@@ -7,7 +8,9 @@ use Rattle.jbig2_base.specs.Fields.{bits_at}
 use Rattle.jbig2_base.specs.declared.error.DecodeError.{DecodeError}
 use Rattle.jbig2_base.specs.declared.error.DecodeError.TheVariants.{OutOfMemory}
 use Rattle.jbig2_coder.specs.PrefixCode.{Member}
-use Rattle.jbig2_text.specs.SymbolCodes.{invalid_code, short_lengths, next_runcode, runs_at}
+use Rattle.jbig2_coder.specs.Tables.{line}
+use Rattle.jbig2_coder.specs.declared.huffman_table.line.TableLine.{TableLine}
+use Rattle.jbig2_text.specs.SymbolCodes.{invalid_code, lines_from, short_lengths, next_runcode, runs_at}
 
 -- what is read: lengths, and the place after them
 abbrev pub Lengths : Type 0
@@ -64,3 +67,14 @@ unfolding runs_at
 runs-done k count ms lens p whole done goes =
     let e : count - k ≡ 0 = omega arith in
     sym goes ∙ ap (λ m. runs_at m count ms lens p) e
+
+-- one more line of the numbers from 0 on
+pub lines-next : (lens : List ℕ) (n : ℕ) (before after all : List TableLine) (x : TableLine) → n < length lens → before ++ lines_from n (drop n lens) ≡ all → x ≡ line (get_or lens n 0) 0 (pos n) → after ≡ before ++ x ∷ []
+    → after ++ lines_from (n + 1) (drop (n + 1) lens) ≡ all
+lines-next lens n before after all x inside so_far one pushed =
+    let rest : List TableLine = lines_from (n + 1) (drop (n + 1) lens) in
+    ap (λ (xs : List TableLine). xs ++ rest) pushed
+    ∙ append_assoc before (x ∷ []) rest
+    ∙ ap (λ (y : TableLine). before ++ y ∷ rest) one
+    ∙ sym (ap (λ (ls : List ℕ). before ++ lines_from n ls) (drop_more lens n 0 inside))
+    ∙ so_far

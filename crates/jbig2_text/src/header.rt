@@ -249,7 +249,7 @@ fn parse_coding<A: Allocator + Clone>(
 /// `parse_region_segment_info`; `HuffmanError::InvalidCode` where the codes of the symbols' ids end
 /// early, do not fit or are not as many as the symbols; `OutOfMemory` where there is no memory for
 /// them.
-#[tactic(auto, using(crate::proofs::CausesOfHeaders::text_header_cause), unfolding(crate::specs::TextHeader::text_header_at))]
+#[tactic(auto, unfolding(crate::specs::TextHeader::text_header_at))]
 pub fn parse<'a, A: Allocator + Clone>(
     alloc: A,
     reader: &mut Reader<'a>,

@@ -206,7 +206,6 @@ fn read_symbol_codes<A: Allocator + Clone>(
 /// Returns `ParseError::UnexpectedEof` where the bits end in a runcode; `HuffmanError::InvalidCode`
 /// where they end elsewhere, for codes that do not fit, where no length comes before a repeated
 /// one, and for more lengths than symbols; `OutOfMemory`.
-#[tactic(auto, using(crate::proofs::Causes::symbol_code_cause))]
 pub fn parse_symbol_codes<A: Allocator + Clone>(
     alloc: A,
     reader: &mut Reader<'_>,

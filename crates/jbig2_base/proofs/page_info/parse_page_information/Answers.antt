@@ -9,3 +9,26 @@ unfolding information_at
 returns-in_err-striping-clause-causes c =
     let e = err_from_is_err_and c.from_residual-in_err-striping.result c.from_residual-in_err-striping.ensures.1 in
     rw (e.1, e.2) (information_cause c.args.reader.now.bytes (Err c.in_err-striping.field-0.0) (search rules))
+
+pub returns-in_err-width-clause-causes : goal.returns-in_err-width-clause-causes
+unfolding information_at
+returns-in_err-width-clause-causes c = information_cause c.args.reader.now.bytes _ (search rules)
+
+pub returns-in_err-height-clause-causes : goal.returns-in_err-height-clause-causes
+unfolding information_at
+returns-in_err-height-clause-causes c = information_cause c.args.reader.now.bytes _ (search rules)
+
+pub returns-in_err-x_resolution-clause-causes : goal.returns-in_err-x_resolution-clause-causes
+unfolding information_at
+returns-in_err-x_resolution-clause-causes c = information_cause c.args.reader.now.bytes _ (search rules)
+
+pub returns-in_err-y_resolution-clause-causes : goal.returns-in_err-y_resolution-clause-causes
+unfolding information_at
+returns-in_err-y_resolution-clause-causes c = information_cause c.args.reader.now.bytes _ (search rules)
+
+pub returns-in_err-flags-clause-causes : goal.returns-in_err-flags-clause-causes
+unfolding information_at
+returns-in_err-flags-clause-causes c = information_cause c.args.reader.now.bytes _ (search rules)
+
+pub returns-clause-causes : goal.returns-clause-causes
+returns-clause-causes c = information_cause c.args.reader.now.bytes _ tt

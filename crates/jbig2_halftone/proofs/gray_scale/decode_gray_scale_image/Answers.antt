@@ -1,8 +1,7 @@
-use Rattle.std.proofs.Common.{◌≡◌, ◌⊎◌, ℕ, ◌++◌, false, List, length, take, drop, Result, Ok, Err, sym, ap, ◌∙◌, arith, rules}
-use Rattle.std.specs.Prelude.{IfErr}
+use Rattle.std.proofs.Common.{◌≡◌, ℕ, ◌++◌, false, List, length, take, drop, Result, Ok, sym, ap, ◌∙◌, arith, rules}
 use Rattle.std.proofs.Math.Seq.{take-append_seam}
 use Rattle.jbig2_base.specs.declared.error.DecodeError.{DecodeError}
-use Rattle.jbig2_base.specs.declared.error.DecodeError.TheVariants.{OutOfMemory}
+use Rattle.jbig2_base.proofs.CauseSteps.{err-gives}
 use Rattle.jbig2_halftone.specs.GrayScale.{GrayScale, gray_scale_image, image_is_too_large}
 use Rattle.jbig2_halftone.specs.inner.HalftoneViews.{gray_view}
 use Rattle.jbig2_halftone.proofs.CausesOfRegions.{gray_scale_cause}
@@ -21,16 +20,33 @@ returns-in_err-clone-clause-stopped g c = on-any c.from_residual.result _ (stops
 pub returns-in_err-values-clause-stopped : goal.returns-in_err-values-clause-stopped
 returns-in_err-values-clause-stopped g c = on-any c.from_residual-in_err-values.result _ (stops-none (gray_view c.args.params.now) c.args.bytes.now c.args.steps.now)
 
+pub returns-then-too_long-clause-value : goal.returns-then-too_long-clause-value
+unfolding gray_scale_image
+returns-then-too_long-clause-value g c = search rules
+
+pub returns-in_err-add_planes-clause-value : goal.returns-in_err-add_planes-clause-value
+returns-in_err-add_planes-clause-value g c =
+    let p : GrayScale = gray_view c.args.params.now in
+    let fits : image_is_too_large p ≡ false = search rules in
+    grind (arith, image-of-planes p c.args.bytes.now fits)
+
+pub returns-then-too_long-clause-causes : goal.returns-then-too_long-clause-causes
+unfolding gray_scale_image
+returns-then-too_long-clause-causes g c = gray_scale_cause (gray_view c.args.params.now) c.args.bytes.now _ (search rules)
+
+pub returns-in_err-clone-clause-causes : goal.returns-in_err-clone-clause-causes
+unfolding gray_scale_image
+returns-in_err-clone-clause-causes g c = gray_scale_cause (gray_view c.args.params.now) c.args.bytes.now _ (search rules)
+
+pub returns-in_err-values-clause-causes : goal.returns-in_err-values-clause-causes
+unfolding gray_scale_image
+returns-in_err-values-clause-causes g c = gray_scale_cause (gray_view c.args.params.now) c.args.bytes.now _ (search rules)
+
 pub returns-in_err-add_planes-clause-paid : goal.returns-in_err-add_planes-clause-paid
 returns-in_err-add_planes-clause-paid g c = image-stops-paid (gray_view c.args.params.now) c.args.bytes.now c.args.steps.now c.add_planes.new.steps c.in_err-add_planes.ensures.stopped
 
 pub returns-in_err-add_planes-clause-causes : goal.returns-in_err-add_planes-clause-causes
-returns-in_err-add_planes-clause-causes g c =
-    let p : GrayScale = gray_view c.args.params.now in
-    let fits : image_is_too_large p ≡ false = search rules in
-    let same = image-of-planes p c.args.bytes.now fits in
-    let refused : IfErr c.from_residual-in_err-add_planes.result (λ e. (e ≡ OutOfMemory) ⊎ (gray_scale_image p c.args.bytes.now ≡ Err e)) = grind (arith, same) in
-    gray_scale_cause p c.args.bytes.now c.from_residual-in_err-add_planes.result refused
+returns-in_err-add_planes-clause-causes g c = gray_scale_cause (gray_view c.args.params.now) c.args.bytes.now _ (err-gives _ _ _ (returns-in_err-add_planes-clause-value g c))
 
 pub returns-clause-paid : goal.returns-clause-paid
 returns-clause-paid g c = image-paid (gray_view c.args.params.now) c.args.bytes.now c.args.steps.now c.add_planes.new.steps c.in_ok-add_planes.ensures.steps
@@ -50,3 +66,6 @@ returns-clause-value g c =
     image-of-planes p c.args.bytes.now fits
     ∙ c.in_ok-add_planes.ensures.value
     ∙ ap (λ (values : List ℕ). (let all : Result (List ℕ) DecodeError = Ok values in all)) (filled-whole c.add_planes.new.values c.in_ok-values.values.items c.in_ok-values.values.len sized)
+
+pub returns-clause-causes : goal.returns-clause-causes
+returns-clause-causes g c = gray_scale_cause (gray_view c.args.params.now) c.args.bytes.now _ tt

@@ -1,5 +1,7 @@
-use Rattle.std.proofs.Common.{◌≡◌, ◌+◌, ◌≤◌, length, arith}
+use Rattle.std.proofs.Common.{rules, ◌≡◌, ◌+◌, ◌≤◌, length, arith}
 use Rattle.jbig2_halftone.specs.inner.PatternViews.{header_view}
+use Rattle.jbig2_halftone.specs.Patterns.{patterns_decoded}
+use Rattle.jbig2_halftone.proofs.CausesOfRegions.{pattern_cause}
 use Rattle.jbig2_halftone.proofs.DrawSteps.{on-any}
 use Rattle.jbig2_halftone.proofs.PatternLemmas.{collective-stops, cut-counts, cut-lanes, cut-length, cut-sized, dictionary-stops, few-patterns, stops-lanes}
 use Rattle.jbig2_halftone.proofs.Prices.{collective-paid, cut-paid, cut-stops-paid}
@@ -38,3 +40,22 @@ returns-in_err-patterns-clause-paid g c = cut-stops-paid (header_view c.args.hea
 
 pub returns-clause-paid : goal.returns-clause-paid
 returns-clause-paid g c = cut-paid (header_view c.args.header.now) (c.args.header.now.num_patterns + 1) c.from-width.result c.from-height.result c.args.steps.now c.decode_collective.new.steps c.cut_patterns.new.steps c.from-width.ensures c.from-height.ensures (omega arith) c.decode_collective.ensures.paid c.in_ok-patterns.ensures.steps
+
+pub returns-then-columns-from-clause-causes : goal.returns-then-columns-from-clause-causes
+unfolding patterns_decoded
+returns-then-columns-from-clause-causes g c = pattern_cause (header_view c.args.header.now) _ (search rules)
+
+pub returns-in_err-clone-clause-causes : goal.returns-in_err-clone-clause-causes
+unfolding patterns_decoded
+returns-in_err-clone-clause-causes g c = pattern_cause (header_view c.args.header.now) _ (search rules)
+
+pub returns-in_err-collective-clause-causes : goal.returns-in_err-collective-clause-causes
+unfolding patterns_decoded
+returns-in_err-collective-clause-causes g c = pattern_cause (header_view c.args.header.now) _ (search rules)
+
+pub returns-in_err-patterns-clause-causes : goal.returns-in_err-patterns-clause-causes
+unfolding patterns_decoded
+returns-in_err-patterns-clause-causes g c = pattern_cause (header_view c.args.header.now) _ (search rules)
+
+pub returns-clause-causes : goal.returns-clause-causes
+returns-clause-causes g c = pattern_cause (header_view c.args.header.now) _ tt

@@ -32,3 +32,8 @@ returns-in-Err-clause-paid g c = omega (arith, kept-worth c.pay_bitmap.new.self 
 
 pub returns-in_err-push-clause-paid : goal.returns-in_err-push-clause-paid
 returns-in_err-push-clause-paid g c = omega (arith, copy-paid c.loop-width.work c.pay_bitmap.new.self c.part.new.steps (part_of c.args.collective.now (record { left = c.loop-width.left; top = 0; width = get_or c.args.widths.now c.loop-width.width-index 0; height = c.args.height })) _ _ refl refl c.in_ok-pay_bitmap.ensures.taken c.in-Ok.ensures.steps, c.loop-width.invariant.paid)
+
+pub overflow_add-left : goal.overflow_add-left
+overflow_add-left g c =
+    let next = sum-next c.args.widths.now c.loop-width.width-index c.loop-width.left 4294967295 (omega arith) c.loop-width.invariant.place in
+    omega (arith, next)

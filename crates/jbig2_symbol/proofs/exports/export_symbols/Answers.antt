@@ -1,7 +1,10 @@
-use Rattle.std.proofs.Common.{◌≡◌, ℕ, ◌+◌, ◌≤◌, List, get_or, length, refl, sym, ap, ◌∙◌, arith}
+use Rattle.std.proofs.Common.{◌≡◌, ℕ, ◌+◌, ◌≤◌, List, Ok, get_or, length, take, refl, sym, ap, ◌∙◌, arith}
+use Rattle.std.specs.Prelude.{sum}
+use Rattle.std.proofs.lemmas.List.{take_all}
 use Rattle.jbig2_base.specs.Grid.{Grid}
 use Rattle.jbig2_base.proofs.Causes.{same-ok}
 use Rattle.jbig2_steps.specs.Work.{budget}
+use Rattle.jbig2_symbol.specs.Symbols.{exported_from}
 use Rattle.jbig2_symbol.specs.inner.SymbolViews.{all_symbols}
 use Rattle.jbig2_symbol.proofs.ExportedLemmas.{all-length, exported-even, exported-none, exported-odd, only-memory, sum-more, sum-within}
 use Rattle.jbig2_symbol.proofs.exports.export_symbols.Goals as goal
@@ -15,6 +18,11 @@ push_symbols-requires g c = sum-within c.args.runs.now c.loop-k.k c.loop-k.first
 
 pub returns-in-Err-clause-value : goal.returns-in-Err-clause-value
 returns-in-Err-clause-value g c = only-memory c.in-Err.error _ _ c.in-Err.ensures.value
+
+pub overflow_add-first : goal.overflow_add-first
+overflow_add-first g c =
+    let few = sum-within c.args.runs.now c.loop-k.k c.loop-k.first _ _ (omega arith) c.loop-k.invariant.first refl c.requires in
+    omega (arith, few)
 
 pub loop-k-preserved : goal.loop-k-preserved
 loop-k-preserved g c =
@@ -39,3 +47,13 @@ loop-k-preserved g c =
         | else-k-eq1 w ↦ rw w.work-is c.loop-k.invariant.paid
       ];
     }
+
+pub returns-clause-value : goal.returns-clause-value
+returns-clause-value g c =
+    let runs : List ℕ = c.args.runs.now in
+    let all : List Grid = all_symbols c.args.symbols.now c.args.new.now in
+    let done : take c.loop-k.k runs ≡ runs = take_all c.loop-k.k runs (omega arith) in
+    let many : length all ≡ length c.args.symbols.now + length c.args.new.now = all-length c.args.symbols.now c.args.new.now in
+    let first : c.loop-k.first ≡ sum runs = c.loop-k.invariant.first ∙ ap sum done in
+    let whole : length all ≤ c.loop-k.first = omega (arith, many, first, c.requires) in
+    ap Ok (sym (c.loop-k.invariant.pushed ∙ ap (λ (gs : List Grid). exported_from runs 0 gs) (take_all c.loop-k.first all whole)))

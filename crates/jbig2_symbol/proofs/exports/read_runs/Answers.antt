@@ -90,3 +90,15 @@ returns-clause-value g c =
     let apart = not-joined c.loop.joins c.loop.left none c.loop.invariant.apart in
     sym c.loop.invariant.reads
     ∙ joined-done r.readings (input_view c.args.input.now) (c.args.count + 1048576 - c.loop.counter) c.loop.empty c.loop.left c.loop.joins c.loop.runs.items c.push-2.new.self.items c.loop.last (r.state c.loop.readings) none apart c.in_ok-push-2.ensures.items
+
+pub returns-clause-whole : goal.returns-clause-whole
+returns-clause-whole g c =
+    let none : c.loop.left ≡ 0 = elim c.loop-test.branch [ else-loop-test w ↦ omega arith | then-loop-test+then-left-eq0 w ↦ omega arith ] in
+    let pushed = sum-pushed c.loop.runs.items c.push-2.new.self.items c.loop.last c.in_ok-push-2.ensures.items in
+    omega (arith, none, pushed, c.loop.invariant.covered)
+
+pub overflow_add-last : goal.overflow_add-last
+overflow_add-last g c = omega (arith, c.loop.invariant.covered, c.in-Ok.ensures.within)
+
+pub overflow_sub-left : goal.overflow_sub-left
+overflow_sub-left g c = omega (arith, c.in-Ok.ensures.within)

@@ -1,4 +1,4 @@
-use Rattle.std.proofs.Common.{◌≡◌, ◌⊎◌, ℕ, Bool, true, false, ◌&&◌, List, ◌++◌, length, Option, Result, Ok, Err, inl, inr, sym, ap, subst, ◌∙◌}
+use Rattle.std.proofs.Common.{rules, ◌≡◌, ◌⊎◌, ℕ, Bool, true, false, ◌&&◌, List, ◌++◌, length, Option, Result, Ok, Err, inl, inr, sym, ap, subst, ◌∙◌}
 use Rattle.std.specs.Prelude.{IfErr}
 use Rattle.std.proofs.lemmas.List.{length-map}
 use Rattle.std.proofs.lemmas.Result.{err_from_is_err_and}
@@ -55,6 +55,11 @@ parts-are shared pages parts e =
 
 kept-is : {X : Type 0} (meant kept : X) → (let r : Result X DecodeError = Ok meant in r) ≡ Ok kept → meant ≡ kept
 kept-is meant kept e = cc
+
+-- what is kept is refused for want of memory alone
+memory-is : {Y : Type 0} (y : Y) (e : DecodeError) → (e ≡ OutOfMemory) ⊎ ((let kept : Result Y DecodeError = Ok y in kept) ≡ Err e) → e ≡ OutOfMemory
+memory-is y e (inl memory) = memory
+memory-is {Y} y e (inr same) = absurd (let never : (let kept : Result Y DecodeError = Ok y in kept) ≡ Err e = same in cc)
 
 pub returns-clause-value : goal.returns-clause-value
 returns-clause-value g c =
@@ -153,3 +158,42 @@ returns-clause-taken g c =
     let parts : List SegmentView × List (List SegmentView) = by_page_view c.in_ok-segments.segments in
     let split = parts-are (of_page 0 file.1) (by_pages file.1) parts c.in_ok-segments.ensures in
     rw (c.in_ok-file.ensures.value, split.0, sym c.deref-2.ensures.value, sym c.deref-3.ensures.value) c.in_ok-globals.ensures.taken
+
+pub returns-in_err-fault-clause-causes : goal.returns-in_err-fault-clause-causes
+unfolding book_at
+returns-in_err-fault-clause-causes g c = file_cause c.args.reading c.args.bytes.now _ (search rules)
+
+pub returns-in_err-file-clause-causes : goal.returns-in_err-file-clause-causes
+unfolding book_at
+returns-in_err-file-clause-causes g c = file_cause c.args.reading c.args.bytes.now _ (search rules)
+
+pub returns-in_err-check_associations-clause-causes : goal.returns-in_err-check_associations-clause-causes
+unfolding book_at
+returns-in_err-check_associations-clause-causes g c = file_cause c.args.reading c.args.bytes.now _ (search rules)
+
+pub returns-in_err-segments-clause-causes : goal.returns-in_err-segments-clause-causes
+unfolding book_at
+returns-in_err-segments-clause-causes g c = file_cause c.args.reading c.args.bytes.now _ (search rules)
+
+pub returns-in_err-globals-clause-causes : goal.returns-in_err-globals-clause-causes
+returns-in_err-globals-clause-causes g c =
+    let e = err_from_is_err_and c.from_residual-in_err-globals.result c.from_residual-in_err-globals.ensures.1 in
+    rw (e.1, e.2) (file_cause c.args.reading c.args.bytes.now (Err c.in_err-globals.field-0.0) (inl (memory-is _ _ c.in_err-globals.ensures.value)))
+
+pub returns-clause-causes : goal.returns-clause-causes
+returns-clause-causes g c = file_cause c.args.reading c.args.bytes.now _ tt
+
+pub returns-in_err-clone-clause-causes : goal.returns-in_err-clone-clause-causes
+returns-in_err-clone-clause-causes g c = file_cause c.args.reading c.args.bytes.now _ (search rules)
+
+pub returns-in_err-clone-2-clause-causes : goal.returns-in_err-clone-2-clause-causes
+returns-in_err-clone-2-clause-causes g c = file_cause c.args.reading c.args.bytes.now _ (search rules)
+
+pub returns-in_err-clone-3-clause-causes : goal.returns-in_err-clone-3-clause-causes
+returns-in_err-clone-3-clause-causes g c = file_cause c.args.reading c.args.bytes.now _ (search rules)
+
+pub returns-in_err-clone-4-clause-causes : goal.returns-in_err-clone-4-clause-causes
+returns-in_err-clone-4-clause-causes g c = file_cause c.args.reading c.args.bytes.now _ (search rules)
+
+pub returns-in_err-clone-5-clause-causes : goal.returns-in_err-clone-5-clause-causes
+returns-in_err-clone-5-clause-causes g c = file_cause c.args.reading c.args.bytes.now _ (search rules)

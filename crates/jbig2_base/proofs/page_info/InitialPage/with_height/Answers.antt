@@ -16,3 +16,9 @@ pub returns-clause-causes : goal.returns-clause-causes
 returns-clause-causes g c =
     initial_page_by_cause c.args.known_height (segment_views c.args.segments.now) c.initial_page_with.result
     (err-answers (λ (page : InitialPage). page) c.initial_page_with.result (initial_page_by c.args.known_height (segment_views c.args.segments.now)) (search rules))
+
+pub returns-in_err-first-clause-causes : goal.returns-in_err-first-clause-causes
+returns-in_err-first-clause-causes g c = initial_page_by_cause c.args.known_height (segment_views c.args.segments.now) _ (search rules)
+
+pub returns-in_err-information-clause-causes : goal.returns-in_err-information-clause-causes
+returns-in_err-information-clause-causes g c = initial_page_by_cause c.args.known_height (segment_views c.args.segments.now) _ (search rules)

@@ -5,6 +5,7 @@ use Rattle.jbig2_coder.proofs.PrefixBuilding.{Built, built-next, built-crowded, 
 use Rattle.jbig2_coder.specs.inner.PrefixLevels.{groups_of}
 use Rattle.jbig2_coder.proofs.Causes.{table_cause}
 use Rattle.jbig2_coder.proofs.PrefixFree.{free-codes}
+use Rattle.jbig2_coder.proofs.FreeTables.{tables_are_free}
 use Rattle.jbig2_coder.proofs.huffman_table.HuffmanTable.build.Goals as goal
 
 pub loop-depth-preserved : goal.loop-depth-preserved
@@ -48,3 +49,42 @@ returns-clause-table g c =
 
 pub returns-clause-free : goal.returns-clause-free
 returns-clause-free g c = free-codes 0 0 (groups_of c.loop-depth.by_length.items c.reverse.new.self.items)
+
+pub returns-in_err-clone-clause-law : goal.returns-in_err-clone-clause-law
+returns-in_err-clone-clause-law g c = tables_are_free
+
+pub returns-in_err-by_length-clause-law : goal.returns-in_err-by_length-clause-law
+returns-in_err-by_length-clause-law g c = tables_are_free
+
+pub returns-in_err-levels-clause-law : goal.returns-in_err-levels-clause-law
+returns-in_err-levels-clause-law g c = tables_are_free
+
+pub returns-in_err-push_level-clause-law : goal.returns-in_err-push_level-clause-law
+returns-in_err-push_level-clause-law g c = tables_are_free
+
+pub returns-in_err-push-clause-law : goal.returns-in_err-push-clause-law
+returns-in_err-push-clause-law g c = tables_are_free
+
+pub returns-then-nodes-gt-ROOTS-clause-law : goal.returns-then-nodes-gt-ROOTS-clause-law
+returns-then-nodes-gt-ROOTS-clause-law g c = tables_are_free
+
+pub returns-clause-law : goal.returns-clause-law
+returns-clause-law g c = tables_are_free
+
+pub returns-in_err-clone-clause-causes : goal.returns-in_err-clone-clause-causes
+returns-in_err-clone-clause-causes g c = table_cause c.args.lines.now _ (search rules)
+
+pub returns-in_err-by_length-clause-causes : goal.returns-in_err-by_length-clause-causes
+returns-in_err-by_length-clause-causes g c = table_cause c.args.lines.now _ (search rules)
+
+pub returns-in_err-levels-clause-causes : goal.returns-in_err-levels-clause-causes
+returns-in_err-levels-clause-causes g c = table_cause c.args.lines.now _ (search rules)
+
+pub returns-in_err-push_level-clause-causes : goal.returns-in_err-push_level-clause-causes
+returns-in_err-push_level-clause-causes g c = table_cause c.args.lines.now _ (search rules)
+
+pub returns-in_err-push-clause-causes : goal.returns-in_err-push-clause-causes
+returns-in_err-push-clause-causes g c = table_cause c.args.lines.now _ (search rules)
+
+pub returns-clause-causes : goal.returns-clause-causes
+returns-clause-causes g c = table_cause c.args.lines.now _ (search rules)

@@ -1,0 +1,20 @@
+use Rattle.std.proofs.Common.{rules}
+use Rattle.jbig2_symbol.specs.SymbolBitmaps.{coded_aggregate, instance_count}
+use Rattle.jbig2_symbol.specs.inner.SymbolViews.{coded_view, input_view}
+use Rattle.jbig2_symbol.proofs.SymbolCauses.{coded_aggregate_cause}
+use Rattle.jbig2_symbol.proofs.coded.CodedSymbols.read_aggregate.Goals as goal
+
+pub returns-in_err-number-clause-causes : goal.returns-in_err-number-clause-causes
+unfolding coded_aggregate instance_count
+returns-in_err-number-clause-causes g c =
+    coded_aggregate_cause (input_view c.args.input.now) c.args.new.now c.args.size.width c.args.size.height (coded_view c.args.self.now) _ (search rules)
+
+pub returns-in_err-count-clause-causes : goal.returns-in_err-count-clause-causes
+unfolding coded_aggregate instance_count
+returns-in_err-count-clause-causes g c =
+    coded_aggregate_cause (input_view c.args.input.now) c.args.new.now c.args.size.width c.args.size.height (coded_view c.args.self.now) _ (search rules)
+
+pub returns-clause-causes : goal.returns-clause-causes
+unfolding coded_aggregate instance_count
+returns-clause-causes g c =
+    coded_aggregate_cause (input_view c.args.input.now) c.args.new.now c.args.size.width c.args.size.height (coded_view c.args.self.now) _ (search rules)
