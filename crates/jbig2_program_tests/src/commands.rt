@@ -35,7 +35,7 @@ const UNDECODABLE: &str =
 type Words = &'static [&'static str];
 
 /// The status of a run, its output, and what it writes to standard error.
-type End<'e> = (u8, &'e [u8], &'e [u8]);
+pub type End<'e> = (u8, &'e [u8], &'e [u8]);
 
 /// Whether a run ends with this. Returns `DecodeError::OutOfMemory` where the run reports that
 /// memory ran out.
@@ -66,7 +66,7 @@ fn ends_once(alloc: Global, words: &[&str], text: &str, expected: End<'_>) -> Re
 }
 
 /// The same; a run that ran out of memory is run again.
-fn ends_so(alloc: Global, words: &[&str], text: &str, expected: End<'_>) -> bool {
+pub fn ends_so(alloc: Global, words: &[&str], text: &str, expected: End<'_>) -> bool {
     let mut ends = ends_once(alloc, words, text, expected);
     if ends == Err(DecodeError::OutOfMemory) {
         ends = ends_once(alloc, words, text, expected);

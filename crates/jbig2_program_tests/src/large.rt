@@ -1,7 +1,7 @@
 //! Tests files and pages at the limits of what a run must accept.
 use crate::bytes::bytes_of;
-use hayro_jbig2::{DecodeError, Jbig2Decoder, Jbig2Error, Result};
-use jbig2_commands::run;
+use crate::commands::ends_so;
+use hayro_jbig2::{DecodeError, Jbig2Decoder, Jbig2Error};
 use std::alloc::Global;
 use std::io::Cursor;
 
@@ -44,35 +44,6 @@ const WHITE: &[u8] = b"push_pixel_chunk false 1\nnext_line\n";
 const BLACK: &[u8] = b"push_pixel_chunk true 1\nnext_line\n";
 
 const TOO_MANY_INSTANCES: &[u8] = b"error: too many symbol instances\n";
-
-const OUT_OF_MEMORY: &[u8] = b"error: out of memory\n";
-
-/// Whether a run that reads the bytes in this text ends with this.
-fn ends_once(
-    alloc: Global,
-    words: &[&str],
-    text: &str,
-    expected: (u8, &[u8], &[u8]),
-) -> Result<bool> {
-    let bytes = bytes_of(alloc, text)?;
-    let mut out = Vec::with_capacity(alloc, 256)?;
-    let mut err = Vec::with_capacity(alloc, 256)?;
-    let mut reader = Cursor::new(bytes.as_slice());
-    let status = run(alloc, words, Some(&mut reader), &mut out, &mut err);
-    if err.as_slice() == OUT_OF_MEMORY {
-        return Err(DecodeError::OutOfMemory);
-    }
-    Ok((status, out.as_slice(), err.as_slice()) == expected)
-}
-
-/// The same; a run that ran out of memory is run again.
-fn ends_so(alloc: Global, words: &[&str], text: &str, expected: (u8, &[u8], &[u8])) -> bool {
-    let mut ends = ends_once(alloc, words, text, expected);
-    if ends == Err(DecodeError::OutOfMemory) {
-        ends = ends_once(alloc, words, text, expected);
-    }
-    ends == Ok(true)
-}
 
 #[test]
 fn large_pages_end_as_they_must(rt: HostRuntime) {

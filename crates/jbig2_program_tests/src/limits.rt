@@ -48,29 +48,75 @@ fn rows_of(alloc: Global, context: &DecoderContext<Global>) -> Result<Vec<u8>> {
     Ok(rows)
 }
 
-/// Whether a page is drawn within the work that it takes and within any greater limit, and refused within a smaller
-/// limit, as when memory runs out. What is left must be right each time, and the context must then draw the page
-/// without a limit.
-fn page_holds(alloc: Global, page: &Page<'_, Global>) -> Result<bool> {
-    let mut context = DecoderContext::new(alloc)?;
-    page.draw_in(&mut context)?;
-    if context.work_left().is_some() {
-        return Ok(false);
-    }
-    let rows = rows_of(alloc, &context)?;
+/// Whether the packed rows that a context holds are these.
+fn shows(alloc: Global, rows: &[u8], context: &DecoderContext<Global>) -> Result<bool> {
+    Ok(rows_of(alloc, context)?.as_slice() == rows)
+}
+
+/// The work that a page takes.
+fn work_of(page: &Page<'_, Global>, context: &mut DecoderContext<Global>) -> u64 {
     let most: u64 = 1 << 40;
-    let (_, left) = left_of(page, most, &mut context);
-    let taken = most.saturating_sub(left.unwrap_or(0));
+    let (_, left) = left_of(page, most, context);
+    most.saturating_sub(left.unwrap_or(0))
+}
+
+/// Whether a page is refused within this limit, as when memory runs out, and nothing of the limit is left.
+fn is_refused(page: &Page<'_, Global>, work: u64, context: &mut DecoderContext<Global>) -> bool {
+    left_of(page, work, context) == (Err(DecodeError::OutOfMemory), Some(0))
+}
+
+/// Whether a page takes all of this limit.
+fn takes_all(page: &Page<'_, Global>, work: u64, context: &mut DecoderContext<Global>) -> bool {
+    left_of(page, work, context) == (Ok(()), Some(0))
+}
+
+/// Whether a page shows these rows within the work that it takes, and is refused within each smaller limit.
+fn limits_hold(
+    alloc: Global,
+    page: &Page<'_, Global>,
+    rows: &[u8],
+    context: &mut DecoderContext<Global>,
+) -> Result<bool> {
+    let taken = work_of(page, context);
     for work in 0..taken {
-        if left_of(page, work, &mut context) != (Err(DecodeError::OutOfMemory), Some(0)) {
+        if !is_refused(page, work, context) {
             return Ok(false);
         }
     }
-    let exact = left_of(page, taken, &mut context);
-    let is_drawn = exact == (Ok(()), Some(0)) && rows_of(alloc, &context)? == rows;
+    Ok(takes_all(page, taken, context) && shows(alloc, rows, context)?)
+}
+
+/// Whether a page shows these rows without a limit.
+fn is_drawn_without(
+    alloc: Global,
+    page: &Page<'_, Global>,
+    rows: &[u8],
+    context: &mut DecoderContext<Global>,
+) -> Result<bool> {
     context.set_work_limit(None);
-    page.draw_in(&mut context)?;
-    Ok(is_drawn && context.work_left().is_none() && rows_of(alloc, &context)? == rows)
+    page.draw_in(context)?;
+    Ok(context.work_left().is_none() && shows(alloc, rows, context)?)
+}
+
+/// Whether a page is drawn within the work that it takes and within any greater limit, and refused within a smaller
+/// limit, as when memory runs out. What is left must be right each time, and the context must then draw the page
+/// without a limit.
+fn holds_in(
+    alloc: Global,
+    page: &Page<'_, Global>,
+    context: &mut DecoderContext<Global>,
+) -> Result<bool> {
+    page.draw_in(context)?;
+    let is_unlimited = context.work_left().is_none();
+    let rows = rows_of(alloc, context)?;
+    let holds = is_unlimited && limits_hold(alloc, page, &rows, context)?;
+    Ok(holds && is_drawn_without(alloc, page, &rows, context)?)
+}
+
+/// Whether that is so in a context of its own.
+fn page_holds(alloc: Global, page: &Page<'_, Global>) -> Result<bool> {
+    let mut context = DecoderContext::new(alloc)?;
+    holds_in(alloc, page, &mut context)
 }
 
 fn lenient_holds(alloc: Global, text: &str) -> Result<bool> {
@@ -170,8 +216,30 @@ fn a_reader_is_decoded_within_a_limit(rt: HostRuntime) {
     assert!(rt; holds == Ok(true));
 }
 
-/// How many of these units are left after a white page of 8 by 1 pixels: after it is drawn, then after it is read, and
-/// then after its calls are made.
+/// How many units are left after a white page of 8 by 1 pixels: after it is drawn, then after it is read, and then after
+/// its calls are made.
+fn left_after_each<L: Ledger>(
+    page: &Page<'_, Global>,
+    context: &mut DecoderContext<Global>,
+    work: &mut Work<L>,
+) -> Result<[u64; 3]> {
+    if page.dimensions() != (8, 1) {
+        return Err(DecodeError::Unsupported);
+    }
+    page.draw_within(context, work)?;
+    let drawn = work.left;
+    let mut image = [7; 8];
+    page.read_within(&mut image, work)?;
+    let read = work.left;
+    let mut rows = WhiteRows::new(8);
+    page.decode_within(&mut rows, context, work)?;
+    if image != [255; 8] || !rows.is_white(1) {
+        return Err(DecodeError::Unsupported);
+    }
+    Ok([drawn, read, work.left])
+}
+
+/// How many of these units are left after each of the three.
 fn left_by_page<L: Ledger>(alloc: Global, units: u64, blank: Blank) -> Result<[u64; 3]>
     requires name { blank.name ≡ L.name }
     requires parts { blank.parts ≡ L.parts }
@@ -179,22 +247,9 @@ fn left_by_page<L: Ledger>(alloc: Global, units: u64, blank: Blank) -> Result<[u
 {
     let bytes = bytes_of(alloc, "P")?;
     let page = Page::new_embedded(alloc, &bytes, None, &LENIENT)?;
-    if page.dimensions() != (8, 1) {
-        return Err(DecodeError::Unsupported);
-    }
     let mut context = DecoderContext::new(alloc)?;
     let mut work: Work<L> = Work::within(Permit::grant(), blank, units);
-    page.draw_within(&mut context, &mut work)?;
-    let drawn = work.left;
-    let mut image = [7; 8];
-    page.read_within(&mut image, &mut work)?;
-    let read = work.left;
-    let mut rows = WhiteRows::new(8);
-    page.decode_within(&mut rows, &mut context, &mut work)?;
-    if image != [255; 8] || !rows.is_white(1) {
-        return Err(DecodeError::Unsupported);
-    }
-    Ok([drawn, read, work.left])
+    left_after_each(&page, &mut context, &mut work)
 }
 
 /// The same for 10,000 units.
@@ -212,23 +267,27 @@ fn pages_take_units_of_a_counter(rt: HostRuntime) {
     assert!(rt; left == Ok([8_720, 7_440, 6_160]));
 }
 
-/// How many of 10,000 units are left after a white page of 8 by 1 pixels is written as bytes, and then as packed rows.
-fn left_by_images(alloc: Global) -> Result<[Option<u64>; 2]> {
-    let bytes = bytes_of(alloc, "P")?;
-    let page = Page::new_embedded(alloc, &bytes, None, &LENIENT)?;
+/// How many units are left after a white page of 8 by 1 pixels is written as bytes, and then as packed rows.
+fn left_after_images(page: &Page<'_, Global>, limit: &mut WorkLimit) -> Result<[Option<u64>; 2]> {
     if page.dimensions() != (8, 1) {
         return Err(DecodeError::Unsupported);
     }
-    let mut limit = WorkLimit::new(Some(10_000));
     let mut image = [7; 8];
-    page.read_image_within(&mut image, &mut limit)?;
+    page.read_image_within(&mut image, limit)?;
     let read = limit.left();
     let mut rows = [7; 1];
-    page.read_packed_within(&mut rows, &mut limit)?;
-    if image != [255; 8] || rows != [0] || WorkLimit::new(None).left().is_some() {
+    page.read_packed_within(&mut rows, limit)?;
+    if image != [255; 8] || rows != [0] {
         return Err(DecodeError::Unsupported);
     }
     Ok([read, limit.left()])
+}
+
+/// How many of 10,000 units are left after both.
+fn left_by_images(alloc: Global) -> Result<[Option<u64>; 2]> {
+    let bytes = bytes_of(alloc, "P")?;
+    let page = Page::new_embedded(alloc, &bytes, None, &LENIENT)?;
+    left_after_images(&page, &mut WorkLimit::new(Some(10_000)))
 }
 
 #[test]
@@ -238,4 +297,5 @@ fn images_take_units_of_a_limit(rt: HostRuntime) {
         left = left_by_images(rt.alloc());
     }
     assert!(rt; left == Ok([Some(8_720), Some(7_440)]));
+    assert!(rt; WorkLimit::new(None).left().is_none());
 }

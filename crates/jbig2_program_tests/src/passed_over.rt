@@ -12,7 +12,27 @@ const TWO_FAULTS: &str = "P G8@3=05@27=05 G8@3=06@27=06 G8@3=07";
 /// The same page without faults.
 const NO_FAULT: &str = "P G8";
 
-/// What was passed over in a page, and its packed row.
+const NOTHING: PassedOver = PassedOver {
+    count: 0,
+    first: None,
+};
+
+const TWO: PassedOver = PassedOver {
+    count: 2,
+    first: Some(PassedSegment {
+        segment_number: 5,
+        error: DecodeError::Region(RegionError::InvalidCombinationOperator),
+    }),
+};
+
+/// Pages that show the same, whether reading is strict, and what is passed over.
+const PAGES: &[(&str, bool, PassedOver)] = &[
+    (NO_FAULT, false, NOTHING),
+    (TWO_FAULTS, false, TWO),
+    (NO_FAULT, true, NOTHING),
+];
+
+/// The packed row of a page that a context draws.
 fn drawn(
     alloc: Global,
     text: &str,
@@ -31,25 +51,21 @@ fn drawn(
 }
 
 /// Whether a context reports what was passed over in the page drawn last, and not in a page before it.
+fn holds_in(alloc: Global, context: &mut DecoderContext<Global>) -> Result<bool> {
+    let whole = drawn(alloc, NO_FAULT, true, context)?;
+    for (text, strict, passed_over) in PAGES {
+        let row = drawn(alloc, text, *strict, context)?;
+        if row != whole || context.passed_over() != passed_over {
+            return Ok(false);
+        }
+    }
+    Ok(true)
+}
+
+/// Whether that is so for a context of its own.
 fn holds(alloc: Global) -> Result<bool> {
     let mut context = DecoderContext::new(alloc)?;
-    let nothing = PassedOver {
-        count: 0,
-        first: None,
-    };
-    let two = PassedOver {
-        count: 2,
-        first: Some(PassedSegment {
-            segment_number: 5,
-            error: DecodeError::Region(RegionError::InvalidCombinationOperator),
-        }),
-    };
-    let whole = drawn(alloc, NO_FAULT, false, &mut context)?;
-    let is_first = *context.passed_over() == nothing;
-    let with_faults = drawn(alloc, TWO_FAULTS, false, &mut context)?;
-    let is_second = *context.passed_over() == two && with_faults == whole;
-    drawn(alloc, NO_FAULT, true, &mut context)?;
-    Ok(is_first && is_second && *context.passed_over() == nothing)
+    holds_in(alloc, &mut context)
 }
 
 #[test]

@@ -17,7 +17,7 @@ const MOST_PIXELS: u64 = 1 << 24;
 
 /// The number of symbols of a dictionary, that number in codes of table B.1, and how many export runs of no symbols
 /// come before the one that exports all.
-const DICTIONARIES: [(u32, &str, u32); 4] = [
+const DICTIONARIES: &[(u32, &str, u32)] = &[
     (1000, "1100000001011011000", 1),
     (65536, "1101111111011110000", 1),
     (1048576, "11100000000000011101111111011110000", 1),
@@ -183,31 +183,50 @@ fn page_with_dictionary(alloc: Global, count: u32, export: &str, empty: u32) -> 
     Ok(bytes)
 }
 
+/// Whether the page of these bytes is drawn white.
+fn is_white(alloc: Global, bytes: &[u8], context: &mut DecoderContext<Global>) -> Result<bool> {
+    page_holds(&alloc, bytes, true, &Answer::Calls(WHITE), context)
+}
+
 /// Whether the page after each dictionary is white.
-fn dictionaries_hold(alloc: Global) -> Result<bool> {
-    let mut context = DecoderContext::new(alloc)?;
+fn dictionaries_hold_in(alloc: Global, context: &mut DecoderContext<Global>) -> Result<bool> {
     for (count, export, empty) in DICTIONARIES {
-        let bytes = page_with_dictionary(alloc, count, export, empty)?;
-        if !page_holds(&alloc, &bytes, true, &Answer::Calls(WHITE), &mut context)? {
+        let bytes = page_with_dictionary(alloc, *count, export, *empty)?;
+        if !is_white(alloc, &bytes, context)? {
             return Ok(false);
         }
     }
     Ok(true)
 }
 
-/// The first size that is not drawn, if there is one.
-fn first_wrong_size(alloc: Global) -> Result<Option<(u32, u32)>> {
+/// Whether that is so in a context of its own.
+fn dictionaries_hold(alloc: Global) -> Result<bool> {
     let mut context = DecoderContext::new(alloc)?;
-    let mut bytes = bytes_of(alloc, "P G8")?;
+    dictionaries_hold_in(alloc, &mut context)
+}
+
+/// The first size in which these bytes are not drawn, if there is one.
+fn first_wrong_size_in(
+    alloc: Global,
+    bytes: &mut [u8],
+    context: &mut DecoderContext<Global>,
+) -> Result<Option<(u32, u32)>> {
     for width in SIDES {
         for height in SIDES {
             let small = u64::from(width) * u64::from(height) <= MOST_PIXELS;
-            if small && !size_holds(&mut bytes, width, height, &mut context, alloc)? {
+            if small && !size_holds(bytes, width, height, context, alloc)? {
                 return Ok(Some((width, height)));
             }
         }
     }
     Ok(None)
+}
+
+/// The same, in a context of its own.
+fn first_wrong_size(alloc: Global) -> Result<Option<(u32, u32)>> {
+    let mut bytes = bytes_of(alloc, "P G8")?;
+    let mut context = DecoderContext::new(alloc)?;
+    first_wrong_size_in(alloc, &mut bytes, &mut context)
 }
 
 #[test]
