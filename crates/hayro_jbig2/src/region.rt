@@ -12,7 +12,6 @@ pub(crate) mod parsed_region;
 pub(crate) mod references;
 mod refinement;
 mod text;
-mod unseen;
 mod whole_page;
 
 use crate::drawing::workspace::Workspace;

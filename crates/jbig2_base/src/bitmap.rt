@@ -32,9 +32,16 @@ pub const MAX_DIMENSION: u32 = 65535;
 pub const MAX_AREA: u64 = 65535 * 65535;
 
 /// A grid of black and white pixels.
-#[derive(Debug, Drop)]
+#[derive(Debug)]
 pub struct Bitmap<A: Allocator> {
     rows: PackedRows<A>,
+}
+
+// Not derived: where a bitmap is dropped, a proof has one call then, instead of a step for each field.
+impl<A: Allocator> Drop for Bitmap<A> {
+    fn drop(self) {
+        let Bitmap { rows: _ } = self;
+    }
 }
 
 impl<A: Allocator> Model for Bitmap<A> {

@@ -28,11 +28,20 @@ use std::marker::Model;
 const ROOTS: usize = 1;
 
 /// A table of prefix codes, with the codes and their lines.
-#[derive(Drop)]
 pub struct HuffmanTable<A: Allocator> {
     lines: Vec<TableLine, A>,
     levels: Vec<Level, A>,
     first: FirstTable,
+}
+
+impl<A: Allocator> Drop for HuffmanTable<A> {
+    fn drop(self) {
+        let HuffmanTable {
+            lines: _,
+            levels: _,
+            first: _,
+        } = self;
+    }
 }
 
 impl<A: Allocator> Model for HuffmanTable<A> {

@@ -20,11 +20,20 @@ use std::sync::ledger::Ledger;
 
 /// The coder, and what the contexts of the integer procedures and of the symbols' ids have learned
 /// (T.88, Annex A). Text regions and symbol dictionaries use it.
-#[derive(Drop)]
 pub struct CodedReadings<'a, A: Allocator> {
     pub decoder: ArithmeticDecoder<'a>,
     pub procedures: IntegerProcedures<A>,
     pub ids: SymbolIdDecoder<A>,
+}
+
+impl<A: Allocator> Drop for CodedReadings<'_, A> {
+    fn drop(self) {
+        let CodedReadings {
+            decoder: _,
+            procedures: _,
+            ids: _,
+        } = self;
+    }
 }
 
 impl<'a, A: Allocator + Clone> CodedReadings<'a, A> {

@@ -31,10 +31,18 @@ pub struct TextParams<'a, A: Allocator> {
 }
 
 /// The symbol of an instance, as it is in the list or refined.
-#[derive(Drop)]
 pub enum InstanceSymbol<'a, A: Allocator> {
     Shared(&'a Bitmap<A>),
     Refined(Bitmap<A>),
+}
+
+impl<A: Allocator> Drop for InstanceSymbol<'_, A> {
+    fn drop(self) {
+        match self {
+            InstanceSymbol::Shared(_) => {}
+            InstanceSymbol::Refined(_) => {}
+        }
+    }
 }
 
 /// Reads whether the symbol is refined, where symbols may be.

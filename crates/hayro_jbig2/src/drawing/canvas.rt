@@ -23,7 +23,6 @@ use std::sync::ledger::Ledger;
 
 /// The page that is drawn, what its segments keep, and the memory that drawing uses. The next page
 /// uses it all again, and its result does not depend on what was there before.
-#[derive(Drop)]
 pub(crate) struct Canvas<A: Allocator> {
     pub(crate) bitmap: Bitmap<A>,
     pub(crate) regions: Vec<Kept<DecodedRegion<A>>, A>,
@@ -33,6 +32,20 @@ pub(crate) struct Canvas<A: Allocator> {
     /// The colour that the page begins in, and has while it is untouched.
     pub(crate) default_pixel: bool,
     pub(crate) workspace: Workspace<A>,
+}
+
+impl<A: Allocator> Drop for Canvas<A> {
+    fn drop(self) {
+        let Canvas {
+            bitmap: _,
+            regions: _,
+            names: _,
+            untouched: _,
+            passed_over: _,
+            default_pixel: _,
+            workspace: _,
+        } = self;
+    }
 }
 
 impl<A: Allocator> Model for Canvas<A> {

@@ -18,7 +18,6 @@ use std::sync::ledger::{Blank, Ledger};
 
 /// The memory that decoding a page uses, and that the next page uses again. A page's result does not depend on what was
 /// there before. The context holds the page that was drawn last, and the limit of the work that each page may take.
-#[derive(Drop)]
 pub struct DecoderContext<A: Allocator> {
     pub(crate) canvas: Canvas<A>,
     /// The units of work that a page may take.
@@ -27,6 +26,17 @@ pub struct DecoderContext<A: Allocator> {
     work_left: Option<u64>,
     /// How many steps it counted.
     counted: Counted,
+}
+
+impl<A: Allocator> Drop for DecoderContext<A> {
+    fn drop(self) {
+        let DecoderContext {
+            canvas: _,
+            work_limit: _,
+            work_left: _,
+            counted: _,
+        } = self;
+    }
 }
 
 impl<A: Allocator> Model for DecoderContext<A> {

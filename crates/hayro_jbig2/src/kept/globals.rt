@@ -31,11 +31,20 @@ use std::sync::ledger::{Blank, Ledger};
 
 /// Decoded segments that several pages share. The pages' segments may refer to them by their
 /// numbers (T.88, 7.3).
-#[derive(Drop)]
 pub struct Globals<A: Allocator> {
     names: KeptNames<A>,
     passed_over: PassedOver,
     fault: Option<DecodeError>,
+}
+
+impl<A: Allocator> Drop for Globals<A> {
+    fn drop(self) {
+        let Globals {
+            names: _,
+            passed_over: _,
+            fault: _,
+        } = self;
+    }
 }
 
 impl<A: Allocator> Model for Globals<A> {

@@ -15,11 +15,20 @@ use std::alloc::Allocator;
 use std::marker::Model;
 
 /// What segments keep for later ones, each kind in the order of the segments.
-#[derive(Drop)]
 pub(crate) struct KeptNames<A: Allocator> {
     symbols: Vec<Kept<SymbolDictionary<A>>, A>,
     tables: Vec<Kept<HuffmanTable<A>>, A>,
     patterns: Vec<Kept<PatternDictionary<A>>, A>,
+}
+
+impl<A: Allocator> Drop for KeptNames<A> {
+    fn drop(self) {
+        let KeptNames {
+            symbols: _,
+            tables: _,
+            patterns: _,
+        } = self;
+    }
 }
 
 impl<A: Allocator> Model for KeptNames<A> {

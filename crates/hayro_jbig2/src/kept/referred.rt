@@ -26,11 +26,20 @@ const MAX_SYMBOLS: usize = 1 << 20;
 
 /// The symbols and the custom tables that a segment refers to, and the contexts that the last of
 /// its dictionaries kept, if any.
-#[derive(Drop)]
 pub(crate) struct ReferredSegments<'a, A: Allocator> {
     pub(crate) symbols: Vec<&'a Bitmap<A>, A>,
     pub(crate) tables: Vec<&'a HuffmanTable<A>, A>,
     pub(crate) retained_contexts: Option<&'a RetainedContexts<A>>,
+}
+
+impl<A: Allocator> Drop for ReferredSegments<'_, A> {
+    fn drop(self) {
+        let ReferredSegments {
+            symbols: _,
+            tables: _,
+            retained_contexts: _,
+        } = self;
+    }
 }
 
 impl<'a, A: Allocator> Model for ReferredSegments<'a, A> {

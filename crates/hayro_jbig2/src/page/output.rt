@@ -181,9 +181,9 @@ impl<'a, A: Allocator + Clone> Page<'a, A> {
             let price = price_of_bitmap page.width page.height in
             IfOk result (λ _. budget work.new + 32 * price ≤ budget work.old) }
     {
-        let mut context = DecoderContext::new(self.segments.as_vec().allocator().clone()?)?;
-        self.draw_within(&mut context, work)?;
-        context.drawn_page().read_at(0, buf);
+        let _globals = &self.globals;
+        let new_canvas = self.draw_new_canvas(work)?;
+        new_canvas.drawn_page().read_at(0, buf);
         Ok(())
     }
 

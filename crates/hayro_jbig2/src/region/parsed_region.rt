@@ -1,8 +1,10 @@
 //! Decodes a region whose header was parsed (T.88, 7.4.3 and 7.4.5 to 7.4.7).
-ghost use Rattle.std.specs.Prelude.{◌≡◌, ◌≤◌, ◌+◌, ◌*◌, IfErr, IfOk};
+ghost use Rattle.std.specs.Prelude.{◌≡◌, ◌≤◌, ◌<◌, ◌+◌, ◌*◌, ◌-ℤ◌, ℕ, IfErr, IfOk, pos};
+ghost use Rattle.std.specs.Int.{w32, cast_signed};
 ghost use Rattle.jbig2_base.specs.Results.{Gives};
 ghost use Rattle.jbig2_base.specs.Grid.{blank};
 ghost use Rattle.jbig2_region.specs.inner.RegionViews.{region_view};
+ghost use Rattle.hayro_jbig2.specs.Page.{Drawing, with_drawn_region};
 ghost use Rattle.hayro_jbig2.specs.inner.ParsedRegions.{IsDecodable, placed_region, region_grid, info_of, initial_of};
 ghost use Rattle.hayro_jbig2.specs.inner.Prices.{counts_of, price_besides, price_of_info};
 ghost use Rattle.jbig2_steps.specs.Work.{Paid, PaidBut, price_of_bitmap, budget};
@@ -26,7 +28,6 @@ use std::alloc::Allocator;
 use std::sync::ledger::Ledger;
 
 /// What is needed to decode a region: its header with the coded bytes, and what it refers to.
-#[derive(Drop)]
 pub(crate) enum ParsedRegion<'a, 'n, 'r, A: Allocator> {
     Text {
         header: TextRegionHeader<'a, A>,
@@ -48,6 +49,43 @@ pub(crate) enum ParsedRegion<'a, 'n, 'r, A: Allocator> {
         /// The page's area that is refined.
         area: DecodedRegion<A>,
     },
+}
+
+impl<A: Allocator> Drop for ParsedRegion<'_, '_, '_, A> {
+    fn drop(self) {
+        match self {
+            ParsedRegion::Text {
+                header: _,
+                referred: _,
+            } => {}
+            ParsedRegion::Halftone {
+                header: _,
+                patterns: _,
+            } => {}
+            ParsedRegion::Generic { header: _ } => {}
+            ParsedRegion::Refinement {
+                header: _,
+                reference: _,
+            } => {}
+            ParsedRegion::PageRefinement { header: _, area: _ } => {}
+        }
+    }
+}
+
+/// How many of a region's rows, from its first one on, do not lie below a page of this height.
+fn rows_above_end(info: &RegionSegmentInfo, page_height: u32) -> u32
+    ensures fewer { result ≤ info.now.height }
+    ensures others { (j n : ℕ) → j < page_height →
+        pos j -ℤ cast_signed w32 info.now.y_location ≡ pos n → n < info.now.height → n < result }
+{
+    let above_end = i64::from(page_height) - i64::from(info.y_location.cast_signed());
+    if above_end <= 0 {
+        return 0;
+    }
+    if above_end < i64::from(info.height) {
+        return above_end as u32;
+    }
+    info.height
 }
 
 impl<'a, 'n, 'r, A: Allocator + Clone> ParsedRegion<'a, 'n, 'r, A> {
@@ -167,6 +205,47 @@ impl<'a, 'n, 'r, A: Allocator + Clone> ParsedRegion<'a, 'n, 'r, A> {
             }
             ParsedRegion::PageRefinement { header, area } => {
                 generic_refinement::decode_into(header, area, bitmap, contexts, &mut work.steps)
+            }
+        }
+    }
+
+    /// The region without the rows that lie below a page of this height, where these change no pixel of the page and no
+    /// error: in regions by the arithmetic coder, except text, halftones, and a refinement whose height is refused.
+    pub(crate) fn above_end(self, page_height: u32) -> ParsedRegion<'a, 'n, 'r, A>
+        requires { IsDecodable self }
+        ensures decodable { IsDecodable result }
+        ensures same_page { (d : Drawing) → d.grid.height ≡ page_height →
+            with_drawn_region d (placed_region result)
+            ≡ with_drawn_region d (placed_region self.entry) }
+    {
+        match self {
+            ParsedRegion::Generic { mut header } => {
+                if header.mmr {
+                    return ParsedRegion::Generic { header };
+                }
+                header.region_info.height = rows_above_end(&header.region_info, page_height);
+                ParsedRegion::Generic { header }
+            }
+            ParsedRegion::Refinement {
+                mut header,
+                reference,
+            } => {
+                if reference.bitmap.height() < header.region_info.height {
+                    return ParsedRegion::Refinement { header, reference };
+                }
+                header.region_info.height = rows_above_end(&header.region_info, page_height);
+                ParsedRegion::Refinement { header, reference }
+            }
+            ParsedRegion::PageRefinement { mut header, area } => {
+                if area.bitmap.height() < header.region_info.height {
+                    return ParsedRegion::PageRefinement { header, area };
+                }
+                header.region_info.height = rows_above_end(&header.region_info, page_height);
+                ParsedRegion::PageRefinement { header, area }
+            }
+            ParsedRegion::Text { header, referred } => ParsedRegion::Text { header, referred },
+            ParsedRegion::Halftone { header, patterns } => {
+                ParsedRegion::Halftone { header, patterns }
             }
         }
     }
