@@ -30,7 +30,7 @@ use Rattle.jbig2_symbol.specs.Symbols.{Symbols}
 use Rattle.jbig2_text.specs.TextHeader.{TextHeader, text_header_at}
 use Rattle.hayro_jbig2.specs.Files.{PageInFile, ReadFile, association_check, book_at, by_pages, ends_of, before_pages, pages_in_file, page_in_file, lacks_page, left_out_of, miscounts, of_page, page_in, page_of, shared_by}
 use Rattle.hayro_jbig2.specs.Lenient.{LenientReadingAgrees, ReadingsAgree, SalvageAgrees}
-use Rattle.hayro_jbig2.specs.Names.{Names, Referred, Shared, nothing_shared, or_shared_without, extension, first_kept, kept_by, kept_of, no_names, pattern_dictionary_at, referred_by, symbol_dictionary_at, with_code, with_dictionary, with_number, with_numbers, with_patterns, with_symbols, with_table, globals_at, shared_from}
+use Rattle.hayro_jbig2.specs.Names.{Names, ReferredValues, KeptGlobals, nothing_shared, or_shared_without, extension, first_kept, kept_by, kept_of, no_names, pattern_dictionary_at, referred_by, symbol_dictionary_at, with_code, with_dictionary, with_number, with_numbers, with_patterns, with_symbols, with_table, globals_at, shared_from}
 use Rattle.hayro_jbig2.specs.Page.{Drawing, ReadPage, beginning_of, drawing_of_page, page_from, ends_page, immediate, intermediate, with_names, or_left_out, or_passed_over, blank_page, region_at, regions_height, segment_by, segment_on, segments_drawn, with_drawn_region, known_height}
 use Rattle.hayro_jbig2.specs.Regions.{generic_at, halftone_at, patterns_for, referred_region, refinement_at, text_at}
 use Rattle.hayro_jbig2.specs.declared.kept.Kept.{Kept}
@@ -44,15 +44,15 @@ use Rattle.hayro_jbig2.proofs.AgreeingTexts.{lenient_text, text-header-agrees, t
 use Rattle.hayro_jbig2.proofs.SegmentTypes.{of_type}
 
 -- ---- what a segment refers to
-table-same : (code : Option (List Member)) (r : Referred) → Same (with_table true code r) (with_table false code r)
+table-same : (code : Option (List Member)) (r : ReferredValues) → Same (with_table true code r) (with_table false code r)
 table-same (Some code) r = refl
 table-same None r = tt
 
-either-same : (s : Option Symbols) (code : Option (List Member)) (r : Referred) → Same (option_map_or (λ d. with_dictionary d r) s (with_table true code r)) (option_map_or (λ d. with_dictionary d r) s (with_table false code r))
+either-same : (s : Option Symbols) (code : Option (List Member)) (r : ReferredValues) → Same (option_map_or (λ d. with_dictionary d r) s (with_table true code r)) (option_map_or (λ d. with_dictionary d r) s (with_table false code r))
 either-same (Some s) code r = same-itself (with_dictionary s r)
 either-same None code r = table-same code r
 
-numbers-same : (own shared : Names) (numbers : List ℕ) (r : Referred) → Same (with_numbers true own shared numbers r) (with_numbers false own shared numbers r)
+numbers-same : (own shared : Names) (numbers : List ℕ) (r : ReferredValues) → Same (with_numbers true own shared numbers r) (with_numbers false own shared numbers r)
 numbers-same own shared [] r = refl
 numbers-same own shared (number ∷ numbers) r =
     same-next (with_number true own shared number r) (with_number false own shared number r) _ _ (either-same (kept_of number own.symbols shared.symbols) (kept_of number own.codes shared.codes) r) (λ more. numbers-same own shared numbers more)
@@ -96,11 +96,11 @@ kept-same shared types.Tables h bytes own = same-itself (with_code (of_type type
 kept-same shared types.Extension h bytes own = same-next (extension true bytes) (extension false bytes) (λ known. Ok own) (λ known. Ok own) (extension-same bytes) (λ known. refl)
 kept-same shared _ h bytes own = refl
 
-without-same : (number : ℕ) (shared : Shared) (r s : Result Names DecodeError) → Same r s → Same (or_shared_without Strict number shared r) (or_shared_without Lenient number shared s)
+without-same : (number : ℕ) (shared : KeptGlobals) (r s : Result Names DecodeError) → Same r s → Same (or_shared_without Strict number shared r) (or_shared_without Lenient number shared s)
 without-same number shared (Ok names) s same = ap (λ (t : Result Names DecodeError). or_shared_without Lenient number shared t) same
 without-same number shared (Err e) s same = tt
 
-named-same : (ps : List SegmentView) (shared : Shared) → Same (shared_from Strict ps shared) (shared_from Lenient ps shared)
+named-same : (ps : List SegmentView) (shared : KeptGlobals) → Same (shared_from Strict ps shared) (shared_from Lenient ps shared)
 named-same [] shared = refl
 named-same (p ∷ ps) shared =
     let kept : Result Names DecodeError = kept_by true no_names p shared.names in
@@ -109,11 +109,11 @@ named-same (p ∷ ps) shared =
     (without-same p.header.segment_number shared kept other (kept-same no_names p.header.segment_type p.header p.bytes shared.names)) (λ more. named-same ps more)
 
 -- salvage names what lenient reading does
-without-salvaged : (number : ℕ) (shared : Shared) (r : Result Names DecodeError) → Same (or_shared_without Lenient number shared r) (or_shared_without Salvage number shared r)
+without-salvaged : (number : ℕ) (shared : KeptGlobals) (r : Result Names DecodeError) → Same (or_shared_without Lenient number shared r) (or_shared_without Salvage number shared r)
 without-salvaged number shared (Ok names) = refl
 without-salvaged number shared (Err e) = tt
 
-named-salvaged : (ps : List SegmentView) (shared : Shared) → Same (shared_from Lenient ps shared) (shared_from Salvage ps shared)
+named-salvaged : (ps : List SegmentView) (shared : KeptGlobals) → Same (shared_from Lenient ps shared) (shared_from Salvage ps shared)
 named-salvaged [] shared = refl
 named-salvaged (p ∷ ps) shared =
     let kept : Result Names DecodeError = kept_by false no_names p shared.names in
@@ -241,7 +241,7 @@ associated-same (p ∷ ps) = same-guard (lacks_page true p.header) (Segment Miss
 record Milder (one other : Reading) : Type 0 where
   lists : (bytes : List ℕ) → Same (sequential one bytes) (sequential other bytes)
   files : (bytes : List ℕ) → Same (file_at one bytes) (file_at other bytes)
-  kept_of : (ps : List SegmentView) (shared : Shared) → Same (shared_from one ps shared) (shared_from other ps shared)
+  kept_of : (ps : List SegmentView) (shared : KeptGlobals) → Same (shared_from one ps shared) (shared_from other ps shared)
   drawn : (globals : Names) (ps : List SegmentView) (d : Drawing) → Same (segments_drawn one globals ps d) (segments_drawn other globals ps d)
   begins : (ps : List SegmentView) → Same (beginning_of one ps) (beginning_of other ps)
   strictly : (b : Bool) (e : DecodeError) → Same (refuse_if (is_strict one && b) e) (refuse_if (is_strict other && b) e)

@@ -20,7 +20,7 @@ use Rattle.jbig2_symbol.specs.SymbolReading.{BitmapContexts, ClassReadings, Symb
 use Rattle.jbig2_symbol.specs.Symbols.{dictionary_by, dictionary_from, exported_grids, exports, export_runs, next_run, runs_from, symbols_decoded, symbols_exported}
 use Rattle.jbig2_text.specs.Refining.{Refining}
 use Rattle.jbig2_text.specs.Text.{Readings, TextParams}
-use Rattle.jbig2_text.specs.TextCoding.{Coded, Prefixed, by_coder, by_prefix_codes, in_band, next_id}
+use Rattle.jbig2_text.specs.TextCoding.{CodedState, PrefixedState, by_coder, by_prefix_codes, in_band, next_id}
 use Rattle.hayro_jbig2.proofs.Agreeing.{Agrees, Same, agrees-then, same-if, same-itself, same-next, same-of, same-option, same-then}
 use Rattle.hayro_jbig2.proofs.AgreeingRegions.{mmr-same}
 use Rattle.hayro_jbig2.proofs.AgreeingTexts.{lenient_params, text-region-same}
@@ -50,18 +50,18 @@ instances-same r alone p width height f s =
     same-if (eqb p.count 1) _ _ (put_together r p width height f s) (put_together r (lenient_params p) width height f s)
     (same-itself (alone s >>= λ id. refined_alone r p.symbols id.0 width height f id.1)) (together-same r p width height f s)
 
-coded-instances-same : (p : TextParams) (width height : ℕ) (s : SymbolState Coded) → Same (coded_instances p width height s) (coded_instances (lenient_params p) width height s)
+coded-instances-same : (p : TextParams) (width height : ℕ) (s : SymbolState CodedState) → Same (coded_instances p width height s) (coded_instances (lenient_params p) width height s)
 coded-instances-same p width height s =
     same-next (by_instances by_coder (λ c. Ok (next_id c)) p width height s.contexts.refining s.coding) (by_instances by_coder (λ c. Ok (next_id c)) (lenient_params p) width height s.contexts.refining s.coding) _ _
     (instances-same by_coder (λ c. Ok (next_id c)) p width height s.contexts.refining s.coding) (λ symbol. refl)
 
-coded-aggregate-same : (d : SymbolInput) (new : List Grid) (width height : ℕ) (s : SymbolState Coded) → Same (coded_aggregate d new width height s) (coded_aggregate (leniently d) new width height s)
+coded-aggregate-same : (d : SymbolInput) (new : List Grid) (width height : ℕ) (s : SymbolState CodedState) → Same (coded_aggregate d new width height s) (coded_aggregate (leniently d) new width height s)
 unfolding coded_aggregate
 coded-aggregate-same d new width height s = same-then (instance_count (by_procedure _ s)) _ _ (λ count. coded-instances-same (aggregate_params d new count.0) width height count.1)
 
 prefixed-instances-same : (d : SymbolInput) (p : TextParams) (width height : ℕ) (s : SymbolState Place) → Same (prefixed_instances d p width height s) (prefixed_instances (leniently d) (lenient_params p) width height s)
 prefixed-instances-same d p width height s =
-    let alone : Prefixed → Result (ℤ × Prefixed) DecodeError = plain_id _ in
+    let alone : PrefixedState → Result (ℤ × PrefixedState) DecodeError = plain_id _ in
     same-next (by_instances by_prefix_codes alone p width height s.contexts.refining (prefixed_at d s.coding)) (by_instances by_prefix_codes alone (lenient_params p) width height s.contexts.refining (prefixed_at d s.coding)) _ _
     (instances-same by_prefix_codes alone p width height s.contexts.refining (prefixed_at d s.coding)) (λ symbol. refl)
 
@@ -69,11 +69,11 @@ prefixed-aggregate-same : (d : SymbolInput) (new : List Grid) (width height : �
 unfolding prefixed_aggregate
 prefixed-aggregate-same d new width height s = same-then (instance_count (by_table d.tables.counts s)) _ _ (λ count. prefixed-instances-same d (aggregate_params d new count.0) width height count.1)
 
-coded-symbol-same : (h : SymbolHeader) (width height : ℕ) (s : SymbolState Coded) → Same (coded_symbol h width height s) (coded_symbol (lenient_symbols h) width height s)
+coded-symbol-same : (h : SymbolHeader) (width height : ℕ) (s : SymbolState CodedState) → Same (coded_symbol h width height s) (coded_symbol (lenient_symbols h) width height s)
 unfolding coded_symbol
 coded-symbol-same h width height s = same-then (fits_symbol width height) _ _ (λ fits. refl)
 
-coded-bitmap-same : (d : SymbolInput) (new : List Grid) (width height : ℕ) (s : SymbolState Coded) → Same (coded_bitmap d new width height s) (coded_bitmap (leniently d) new width height s)
+coded-bitmap-same : (d : SymbolInput) (new : List Grid) (width height : ℕ) (s : SymbolState CodedState) → Same (coded_bitmap d new width height s) (coded_bitmap (leniently d) new width height s)
 unfolding coded_bitmap
 coded-bitmap-same d new width height s =
     same-if d.header.flags.use_refagg (coded_aggregate d new width height s) (coded_aggregate (leniently d) new width height s) (coded_symbol d.header width height s) (coded_symbol (lenient_symbols d.header) width height s)

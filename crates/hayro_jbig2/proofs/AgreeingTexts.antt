@@ -10,7 +10,7 @@ use Rattle.jbig2_base.specs.declared.error.SymbolError.TheVariants.{OutOfRange, 
 use Rattle.jbig2_coder.specs.PrefixCode.{Member}
 use Rattle.jbig2_region.specs.RegionInfo.{region_info_at}
 use Rattle.jbig2_text.specs.Refining.{Refining}
-use Rattle.jbig2_text.specs.Text.{Reached, Readings, TextParams, after_instances, coordinate, next_cursor, instance_symbol, plain_symbol, refined_symbol, strip_start, strip_delta, symbol_of, t_in_strip, text_region, with_instance, with_symbol}
+use Rattle.jbig2_text.specs.Text.{TextState, Readings, TextParams, after_instances, coordinate, next_cursor, instance_symbol, plain_symbol, refined_symbol, strip_start, strip_delta, symbol_of, t_in_strip, text_region, with_instance, with_symbol}
 use Rattle.jbig2_text.specs.TextCoding.{by_coder, by_prefix_codes}
 use Rattle.jbig2_text.specs.TextHeader.{NumberCoding, TextHeader, ArithmeticCoding, HuffmanCoding, coding_at, text_fields_at, text_header_at}
 use Rattle.jbig2_text.specs.TextRegion.{coder_of, prefix_codes_of, refining_of, region_by, region_from, text_result, text_decoded, text_params}
@@ -31,14 +31,14 @@ instance-symbol-same {S = S} r p id f s =
     (same-itself (refined_symbol r p.symbols id f ri.1 >>= λ g. Ok (Some g.0, g.1, g.2)))
     (same-next (plain_symbol p.strict (symbol_of p.symbols id)) (plain_symbol false (symbol_of p.symbols id)) _ _ (symbol-same p.strict (symbol_of p.symbols id)) (λ g. refl)))
 
-with-instance-same : {S : Type 0} (r : Readings S) (p : TextParams) (x : Reached S) → Same (with_instance r p x) (with_instance r (lenient_params p) x)
+with-instance-same : {S : Type 0} (r : Readings S) (p : TextParams) (x : TextState S) → Same (with_instance r p x) (with_instance r (lenient_params p) x)
 unfolding with_instance
 with-instance-same r p x =
     same-then (t_in_strip r p.flags x.state) _ _ (λ curt. same-then (coordinate (x.cursor.strip_t +ℤ curt.0)) _ _ (λ ti. same-then (r.id curt.1) _ _ (λ id.
     same-next (instance_symbol r p id.0 x.refining id.1) (instance_symbol r (lenient_params p) id.0 x.refining id.1) _ _ (instance-symbol-same r p id.0 x.refining id.1) (λ ib.
     same-itself (with_symbol p.flags x.region x.cursor ti ib.0 >>= λ more. Ok (record { region = more.0; cursor = more.1; refining = ib.1; state = ib.2 }))))))
 
-after-instances-same : {S : Type 0} (r : Readings S) (p : TextParams) (n : ℕ) (x : Reached S) → Same (after_instances r p n x) (after_instances r (lenient_params p) n x)
+after-instances-same : {S : Type 0} (r : Readings S) (p : TextParams) (n : ℕ) (x : TextState S) → Same (after_instances r p n x) (after_instances r (lenient_params p) n x)
 unfolding after_instances
 after-instances-same r p zero x = refl
 after-instances-same r p (suc n) x =

@@ -230,89 +230,89 @@ same_test : (m n : ℕ) → is_eq (nat_cmp m n) ≡ (m == n)
 same_test m n = tests-next (nat_lt m n) (m == n) (λ less. ne_eqb m n (λ e. let below : m < n = ltb-true m n less in omega arith))
 
 counted : {A : Type 0} (s : SegmentsByPage A) (ps : List SegmentView) → HasSegments s ps → length s.pages.items ≡ length (numbers_after [] ps)
-counted {A} s ps holds =
+counted {A} s ps has =
     sym (length-map s.pages.items (λ (v : Vec (Segment A) A). segment_views v.items))
-    ∙ ap (λ (pages : List (List SegmentView)). length pages) holds.pages
+    ∙ ap (λ (pages : List (List SegmentView)). length pages) has.pages
     ∙ length-map (numbers_after [] ps) (λ n. of_page n ps)
 
 -- the page at the place of a number
 in_page : {A : Type 0} (s : SegmentsByPage A) (ps : List SegmentView) (n i : ℕ) → get nat_cmp s.places n ≡ Some i → HasSegments s ps → (first_place_of n (numbers_after [] ps) ≡ Some i) × (i < length s.pages.items) × (get_or (by_pages ps) i (of_page n ps) ≡ of_page n ps)
-in_page s ps n i at holds =
-    let there : first_place_of n (numbers_after [] ps) ≡ Some i = sym (holds.found n) ∙ at in
+in_page s ps n i at has =
+    let there : first_place_of n (numbers_after [] ps) ≡ Some i = sym (has.found n) ∙ at in
     let same = map-at n (λ m. of_page m ps) (λ m. of_page m ps) (numbers_after [] ps) i (λ m apart. refl) (are_pages ps).differ there in
-    (there, omega (arith, same.0, counted s ps holds), same.2)
+    (there, omega (arith, same.0, counted s ps has), same.2)
 
 pub within : {A : Type 0} (s : SegmentsByPage A) (ps : List SegmentView) (n i : ℕ) → get nat_cmp s.places n ≡ Some i → HasSegments s ps → i < length s.pages.items
-within s ps n i at holds = (in_page s ps n i at holds).1
+within s ps n i at has = (in_page s ps n i at has).1
 
 module _ {A : Type 0} (s t : SegmentsByPage A) (x : Segment A) (ps : List SegmentView) where
   -- one that is outside of the pages
   pub has-shared : x.header.page_association ≡ 0 → t.shared.items ≡ s.shared.items ++ x ∷ [] → t.pages ≡ s.pages → t.places ≡ s.places → HasSegments s ps → HasSegments t (ps ++ segment_view x ∷ [])
-  has-shared here shared pages places holds =
+  has-shared here shared pages places has =
       let p = segment_view x in
       let ns = numbers_after [] ps in
       let numbers = numbers-known ps p (or_left (p.header.page_association == 0) (is_among p.header.page_association ns) (eq-eqb p.header.page_association 0 here)) in
       record {
-        shared = ap (λ (xs : List (Segment A)). segment_views xs) shared ∙ map_push (λ (y : Segment A). segment_view y) s.shared.items x ∙ ap (λ (own : List SegmentView). own ++ p ∷ []) holds.shared ∙ sym (of_page-more p ps 0 here);
-        pages = ap (λ v. pages_view v.items) pages ∙ holds.pages ∙ sym (by_pages-shared ps p here);
-        found = λ n. ap (λ m. get nat_cmp m n) places ∙ holds.found n ∙ ap (λ (ms : List ℕ). first_place_of n ms) (sym numbers);
+        shared = ap (λ (xs : List (Segment A)). segment_views xs) shared ∙ map_push (λ (y : Segment A). segment_view y) s.shared.items x ∙ ap (λ (own : List SegmentView). own ++ p ∷ []) has.shared ∙ sym (of_page-more p ps 0 here);
+        pages = ap (λ v. pages_view v.items) pages ∙ has.pages ∙ sym (by_pages-shared ps p here);
+        found = λ n. ap (λ m. get nat_cmp m n) places ∙ has.found n ∙ ap (λ (ms : List ℕ). first_place_of n ms) (sym numbers);
       }
 
   -- one of a page that is known
   pub has-known : (i : ℕ) (own y : Vec (Segment A) A) → (x.header.page_association == 0) ≡ false → get nat_cmp s.places x.header.page_association ≡ Some i → own ≡ get_or s.pages.items i own → y.items ≡ own.items ++ x ∷ [] → t.shared ≡ s.shared → t.pages.items ≡ set s.pages.items i y → t.places ≡ s.places → HasSegments s ps → HasSegments t (ps ++ segment_view x ∷ [])
-  has-known i own y above at is more shared pages places holds =
+  has-known i own y above at is more shared pages places has =
       let p = segment_view x in
       let n = p.header.page_association in
-      let there = in_page s ps n i at holds in
+      let there = in_page s ps n i at has in
       let numbers = numbers-known ps p (or_right (n == 0) (is_among n (numbers_after [] ps)) (placed n (numbers_after [] ps) i there.0)) in
       let before : segment_views own.items ≡ of_page n ps =
       sym (get_or-map (λ (v : Vec (Segment A) A). segment_views v.items) s.pages.items i own (of_page n ps) there.1 ∙ ap (λ (v : Vec (Segment A) A). segment_views v.items) (sym is))
-      ∙ ap (λ (own_segments : List (List SegmentView)). get_or own_segments i (of_page n ps)) holds.pages ∙ there.2 in
+      ∙ ap (λ (own_segments : List (List SegmentView)). get_or own_segments i (of_page n ps)) has.pages ∙ there.2 in
       record {
-        shared = ap (λ v. segment_views v.items) shared ∙ holds.shared ∙ sym (of_page-same p ps 0 (flipped n 0 above));
+        shared = ap (λ v. segment_views v.items) shared ∙ has.shared ∙ sym (of_page-same p ps 0 (flipped n 0 above));
         pages =
             ap (λ (vs : List (Vec (Segment A) A)). pages_view vs) pages
             ∙ map-set (λ (v : Vec (Segment A) A). segment_views v.items) s.pages.items i y
-            ∙ ap (λ (own_segments : List (List SegmentView)). set own_segments i (segment_views y.items)) holds.pages
+            ∙ ap (λ (own_segments : List (List SegmentView)). set own_segments i (segment_views y.items)) has.pages
             ∙ ap (λ (own_segments : List SegmentView). set (by_pages ps) i own_segments) (ap (λ (xs : List (Segment A)). segment_views xs) more ∙ map_push (λ (z : Segment A). segment_view z) own.items x ∙ ap (λ (own_segments : List SegmentView). own_segments ++ p ∷ []) before)
             ∙ sym (by_pages-known ps p i there.0);
-        found = λ m. ap (λ v. get nat_cmp v m) places ∙ holds.found m ∙ ap (λ (ms : List ℕ). first_place_of m ms) (sym numbers);
+        found = λ m. ap (λ v. get nat_cmp v m) places ∙ has.found m ∙ ap (λ (ms : List ℕ). first_place_of m ms) (sym numbers);
       }
 
   -- the first one of a page
   pub has-new : (k : ℕ) (y : Vec (Segment A) A) → k ≡ length s.pages.items → (x.header.page_association == 0) ≡ false → get nat_cmp s.places x.header.page_association ≡ None → y.items ≡ x ∷ [] → t.shared ≡ s.shared → t.pages.items ≡ s.pages.items ++ y ∷ [] → Updates nat_cmp s.places t.places x.header.page_association (Some k) → HasSegments s ps → HasSegments t (ps ++ segment_view x ∷ [])
-  has-new k y count above at one shared pages places holds =
+  has-new k y count above at one shared pages places has =
       let p = segment_view x in
       let n = p.header.page_association in
       let ns = numbers_after [] ps in
-      let none : first_place_of n ns ≡ None = sym (holds.found n) ∙ at in
+      let none : first_place_of n ns ≡ None = sym (has.found n) ∙ at in
       let numbers = numbers-new ps p (or_from (n == 0) (is_among n ns) above (unplaced n ns none)) in
       record {
-        shared = ap (λ v. segment_views v.items) shared ∙ holds.shared ∙ sym (of_page-same p ps 0 (flipped n 0 above));
+        shared = ap (λ v. segment_views v.items) shared ∙ has.shared ∙ sym (of_page-same p ps 0 (flipped n 0 above));
         pages =
             ap (λ (vs : List (Vec (Segment A) A)). pages_view vs) pages
             ∙ map_push (λ (v : Vec (Segment A) A). segment_views v.items) s.pages.items y
-            ∙ ap (λ (own_segments : List (List SegmentView)). own_segments ++ segment_views y.items ∷ []) holds.pages
+            ∙ ap (λ (own_segments : List (List SegmentView)). own_segments ++ segment_views y.items ∷ []) has.pages
             ∙ ap (λ (xs : List (Segment A)). by_pages ps ++ segment_views xs ∷ []) one
             ∙ sym (by_pages-new ps p above none);
         found = λ m.
             places.0 m
             ∙ ap (λ (b : Bool). cond b (Some k) (get nat_cmp s.places m)) (same_test n m)
-            ∙ ap (λ (i : ℕ). cond (n == m) (Some i) (get nat_cmp s.places m)) (count ∙ counted s ps holds)
-            ∙ ap (λ (o : Option ℕ). cond (n == m) (Some (length ns)) o) (holds.found m)
+            ∙ ap (λ (i : ℕ). cond (n == m) (Some i) (get nat_cmp s.places m)) (count ∙ counted s ps has)
+            ∙ ap (λ (o : Option ℕ). cond (n == m) (Some (length ns)) o) (has.found m)
             ∙ sym (ap (λ (ms : List ℕ). first_place_of m ms) numbers ∙ place_of-push n m ns none);
       }
 
 -- It has those that came, and the rest follow them.
 pub record HasSomeSegments {A : Type 0} (s : SegmentsByPage A) (rest all : List SegmentView) : Type 0 where
   pub came : List SegmentView
-  pub holds : HasSegments s came
+  pub has : HasSegments s came
   pub all_are : came ++ rest ≡ all
 
 pub has-none : {A : Type 0} (s : SegmentsByPage A) (rest all : List SegmentView) → s.shared.items ≡ [] → s.pages.items ≡ [] → s.places.entries ≡ [] → rest ≡ all → HasSomeSegments s rest all
 has-none {A} s rest all shared pages places is = record {
   came = [];
-  holds = record {
+  has = record {
     shared = ap (λ (xs : List (Segment A)). segment_views xs) shared;
     pages = ap (λ (vs : List (Vec (Segment A) A)). pages_view vs) pages;
     found = λ n. ap (λ es. lookup (is_at (nat_cmp n)) es) places;
@@ -323,7 +323,7 @@ has-none {A} s rest all shared pages places is = record {
 pub has-more : {A : Type 0} (s t : SegmentsByPage A) (p : SegmentView) (before rest all : List SegmentView) → before ≡ p ∷ rest → (some : HasSomeSegments s before all) → HasSegments t (some.came ++ p ∷ []) → HasSomeSegments t rest all
 has-more s t p before rest all is some more = record {
   came = some.came ++ p ∷ [];
-  holds = more;
+  has = more;
   all_are = append_assoc some.came (p ∷ []) rest ∙ ap (λ (ps : List SegmentView). some.came ++ ps) (sym is) ∙ some.all_are;
 }
 
@@ -331,5 +331,5 @@ has-more s t p before rest all is some more = record {
 pub has-all : {A : Type 0} (s : SegmentsByPage A) (rest all : List SegmentView) → length rest ≡ 0 → HasSomeSegments s rest all → (of_page 0 all ≡ segment_views s.shared.items) × (by_pages all ≡ pages_view s.pages.items)
 has-all s [] all none some =
     let whole : some.came ≡ all = sym (append-nil some.came) ∙ some.all_are in
-    (ap (λ (ps : List SegmentView). of_page 0 ps) (sym whole) ∙ sym some.holds.shared, ap (λ (ps : List SegmentView). by_pages ps) (sym whole) ∙ sym some.holds.pages)
+    (ap (λ (ps : List SegmentView). of_page 0 ps) (sym whole) ∙ sym some.has.shared, ap (λ (ps : List SegmentView). by_pages ps) (sym whole) ∙ sym some.has.pages)
 has-all s (p ∷ ps) all none some = absurd (omega arith)

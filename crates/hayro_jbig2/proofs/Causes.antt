@@ -51,7 +51,7 @@ associated-cause P strict (p ∷ ps) why =
     let both = and_parts (strict && p.header.page_association == 0) (needs_page p.header.segment_type) lacks in
     let outside = and_parts strict (p.header.page_association == 0) both.0 in
     why outside.0 (at-first IsOutside p ps (eqb-true p.header.page_association 0 outside.1, both.1)))
-    (λ is_at. associated-cause P strict ps (λ is some. why is (at-later IsOutside p ps some)))
+    (λ has_page. associated-cause P strict ps (λ is some. why is (at-later IsOutside p ps some)))
 
 miscounted : (count : Option ℕ) (n : ℕ) → miscounts count n ≡ true → (t : ℕ) × (count ≡ Some t) × (t ≢ n)
 miscounted None n wrong = absurd (false≢true wrong)

@@ -24,7 +24,7 @@ use Rattle.jbig2_region.proofs.FromInput.{from_input-generic, from_input-generic
 use Rattle.jbig2_symbol.specs.Symbols.{Symbols}
 use Rattle.jbig2_symbol.proofs.FromInput.{from_input-symbol_header, from_input-symbols_decoded}
 use Rattle.jbig2_text.proofs.RegionsFromInput.{from_input-text, from_input-text_header}
-use Rattle.hayro_jbig2.specs.Names.{Names, Referred, Shared, extension, nothing_shared, or_shared_without, kept_by, no_names, pattern_dictionary_at, symbol_dictionary_at, with_code, with_dictionary, with_number, with_numbers, with_patterns, with_symbols, with_table, globals_at, shared_from}
+use Rattle.hayro_jbig2.specs.Names.{Names, ReferredValues, KeptGlobals, extension, nothing_shared, or_shared_without, kept_by, no_names, pattern_dictionary_at, symbol_dictionary_at, with_code, with_dictionary, with_number, with_numbers, with_patterns, with_symbols, with_table, globals_at, shared_from}
 use Rattle.hayro_jbig2.specs.Files.{PageInFile, ReadFile, association_check, book_at, by_pages, before_pages, pages_in_file, page_in_file, miscounts, of_page, shared_by}
 use Rattle.hayro_jbig2.specs.Image.{first_page}
 use Rattle.hayro_jbig2.specs.Page.{Drawing, ReadPage, beginning_of, page_from, grid_of_page, immediate, intermediate, with_names, or_left_out, or_passed_over, blank_page, drawing_of_page, region_at, segment_by, segment_on, segments_drawn, with_drawn_region, known_height}
@@ -35,15 +35,15 @@ use Rattle.hayro_jbig2.specs.declared.region.RegionKind.TheVariants as kinds
 use Rattle.hayro_jbig2.proofs.SegmentTypes.{of_type, of-segment}
 
 -- ---- what a segment refers to
-from_input-with_table : (strict : Bool) (code : Option (List Member)) (r : Referred) → FromInput (with_table strict code r)
+from_input-with_table : (strict : Bool) (code : Option (List Member)) (r : ReferredValues) → FromInput (with_table strict code r)
 from_input-with_table strict (Some code) r = tt
 from_input-with_table strict None r = search (from_input-next, from_input-refusal)
 
-from_input-with_either : (strict : Bool) (s : Option Symbols) (code : Option (List Member)) (r : Referred) → FromInput (option_map_or (λ d. with_dictionary d r) s (with_table strict code r))
+from_input-with_either : (strict : Bool) (s : Option Symbols) (code : Option (List Member)) (r : ReferredValues) → FromInput (option_map_or (λ d. with_dictionary d r) s (with_table strict code r))
 from_input-with_either strict (Some s) code r = search (from_input-next, from_input-refusal)
 from_input-with_either strict None code r = from_input-with_table strict code r
 
-from_input-with_numbers : (strict : Bool) (own shared : Names) (numbers : List ℕ) (r : Referred) → FromInput (with_numbers strict own shared numbers r)
+from_input-with_numbers : (strict : Bool) (own shared : Names) (numbers : List ℕ) (r : ReferredValues) → FromInput (with_numbers strict own shared numbers r)
 from_input-with_numbers strict own shared [] r = tt
 from_input-with_numbers strict own shared (number ∷ numbers) r =
     from_input-next (with_number strict own shared number r) _ (from_input-with_either strict _ _ r) (λ more. from_input-with_numbers strict own shared numbers more)
@@ -132,11 +132,11 @@ from_input-kept_by strict shared _ h bytes own = tt
 pub from_input-kept : (strict : Bool) (shared : Names) (p : SegmentView) (own : Names) → FromInput (kept_by strict shared p own)
 from_input-kept strict shared p own = from_input-kept_by strict shared p.header.segment_type p.header p.bytes own
 
-from_input-shared-without : (reading : Reading) (number : ℕ) (shared : Shared) (r : Result Names DecodeError) → FromInput r → FromInput (or_shared_without reading number shared r)
+from_input-shared-without : (reading : Reading) (number : ℕ) (shared : KeptGlobals) (r : Result Names DecodeError) → FromInput r → FromInput (or_shared_without reading number shared r)
 from_input-shared-without reading number shared (Ok names) is = tt
 from_input-shared-without reading number shared (Err e) is = from_input-if (is_salvaged reading e) _ (Err e) tt is
 
-pub from_input-named : (reading : Reading) (ps : List SegmentView) (shared : Shared) → FromInput (shared_from reading ps shared)
+pub from_input-named : (reading : Reading) (ps : List SegmentView) (shared : KeptGlobals) → FromInput (shared_from reading ps shared)
 from_input-named reading [] shared = tt
 from_input-named reading (p ∷ ps) shared =
     let kept : Result Names DecodeError = kept_by (is_strict reading) no_names p shared.names in

@@ -94,7 +94,7 @@ rows-few width height words n wide some few =
     let across : height * (width + 1) ≤ height * (65 * words) = mul-le-mul_left height (omega arith) in
     omega (arith, across)
 
--- what is counted for n rows of a page
+-- the steps of the rows that are handed out are within the page's price
 pub rows-paid : (width height rows old new : ℕ) → rows ≤ height → new ≤ old + rows * (width + 1) → new ≤ old + 32 * price_of_bitmap width height
 rows-paid width height rows old new within few =
     let all : rows * (width + 1) ≤ height * (width + 1) = mul-le-mul_right (width + 1) within in

@@ -14,7 +14,7 @@ use Rattle.jbig2_base.specs.declared.reading.Reading.{Reading}
 use Rattle.jbig2_base.specs.declared.reading.Reading.TheVariants.{Lenient, Salvage}
 use Rattle.hayro_jbig2.specs.Files.{PageInFile, ReadFile, book_at, before_pages, pages_in_file, page_in_file, numbers_after, of_page, page_in, page_of}
 use Rattle.hayro_jbig2.specs.Lenient.{HasBeginning, SalvageRefusesLittle}
-use Rattle.hayro_jbig2.specs.Names.{Names, Shared}
+use Rattle.hayro_jbig2.specs.Names.{Names, KeptGlobals}
 use Rattle.hayro_jbig2.specs.Page.{ReadPage, beginning_of, drawing_of_page, page_from, blank_page, segments_drawn}
 use Rattle.hayro_jbig2.proofs.Books.{file-of_book, filled_from, mapped, number-of_filed}
 use Rattle.hayro_jbig2.proofs.ByPages.{is_among, no_segments}
@@ -80,7 +80,7 @@ fine-leaf bytes book index page h at =
     let file = file-of_book Salvage bytes book h in
     let all = filled_from Salvage bytes file.0 book file.1 h in
     let leaf = mapped (page_in book) (slice_get book.pages index) page at in
-    let shared : IsFine book.globals = subst (λ (r : Result Shared DecodeError). IsFine r) (sym all.shared) (fine-shared book.pages (of_page 0 file.0.1)) in
+    let shared : IsFine book.globals = subst (λ (r : Result KeptGlobals DecodeError). IsFine r) (sym all.shared) (fine-shared book.pages (of_page 0 file.0.1)) in
     subst (λ (p : ReadPage). IsFine (drawing_of_page p)) leaf.is (fine-drawing (page_in book leaf.from) all.mode (fine-next book.globals _ shared (λ s. refl)))
 
 pub salvage_refuses_little : SalvageRefusesLittle

@@ -11,14 +11,14 @@ use Rattle.jbig2_halftone.specs.GrayScale.{gray_scale_image}
 use Rattle.jbig2_halftone.specs.Halftone.{cells_drawn, gray_params, halftone_result, pattern_for, with_cell}
 use Rattle.jbig2_halftone.specs.HalftoneHeader.{HalftoneHeader}
 use Rattle.jbig2_halftone.specs.Patterns.{Patterns}
-use Rattle.jbig2_mmr.specs.T6.{Decoded, rows_of, mmr_rows}
+use Rattle.jbig2_mmr.specs.T6.{DecodedRows, rows_of, mmr_rows}
 use Rattle.jbig2_region.specs.{RegionInfo.{PlacedRegion}, Generic.{generic_result, generic_grid, generic_region}}
 use Rattle.jbig2_region.specs.GenericHeader.{GenericHeader}
 use Rattle.jbig2_region.specs.Raster.{so_far}
 use Rattle.jbig2_region.specs.Refinement.{offset, refined_result, refined_grid, refined_region}
 use Rattle.jbig2_region.specs.RefinementHeader.{RefinementHeader}
 use Rattle.jbig2_text.specs.Refining.{Refining}
-use Rattle.jbig2_text.specs.Text.{Reached, Readings, TextParams, after_instances, coordinate, next_cursor, instance_symbol, strip_start, strip_delta, symbol_placed, t_in_strip, text_region, with_instance, with_symbol}
+use Rattle.jbig2_text.specs.Text.{TextState, Readings, TextParams, after_instances, coordinate, next_cursor, instance_symbol, strip_start, strip_delta, symbol_placed, t_in_strip, text_region, with_instance, with_symbol}
 use Rattle.jbig2_text.specs.declared.cursor.Cursor.{Cursor}
 use Rattle.jbig2_text.specs.declared.header.TextRegionFlags.{TextRegionFlags}
 use Rattle.jbig2_text.specs.inner.FunctionResults.{end_of_strip}
@@ -51,7 +51,7 @@ combined-made w h op page source x y made =
     (pixels, ap (λ (n : ℕ). grid_of n page.height pixels) (ap (λ (q : Grid). q.width) made.1) ∙ ap (λ (n : ℕ). grid_of w n pixels) (ap (λ (q : Grid). q.height) made.1))
 
 -- ---- generic regions
-rows-grid : (t : Bool) (e : DecodeError) (r : Decoded) (g : Grid) → ((if t then Err e else Ok r) >>= λ rows. Ok rows.grid) ≡ Ok g → g ≡ r.grid
+rows-grid : (t : Bool) (e : DecodeError) (r : DecodedRows) (g : Grid) → ((if t then Err e else Ok r) >>= λ rows. Ok rows.grid) ≡ Ok g → g ≡ r.grid
 rows-grid true e r g is = absurd (let never : bad {X = Grid} e ≡ good g = is in cc)
 rows-grid false e r g is = ok-same r.grid g is
 
@@ -120,10 +120,10 @@ symbol-made {w} {v} flags region c ti (Some g) made =
     value-is (λ more. Made w v more.0) (combined_grid flags.combination_operator region i.0.grid i.0.x i.0.y, record c { cur_s = i.1 })
     (combined-made w v flags.combination_operator region i.0.grid i.0.x i.0.y made))
 
-instance-made : {w v : ℕ} {S : Type 0} (r : Readings S) (p : TextParams) (x : Reached S) → Made w v x.region → OnValue (λ y. Made w v y.region) (with_instance r p x)
+instance-made : {w v : ℕ} {S : Type 0} (r : Readings S) (p : TextParams) (x : TextState S) → Made w v x.region → OnValue (λ y. Made w v y.region) (with_instance r p x)
 unfolding with_instance
 instance-made {w} {v} {S} r p x made =
-    let P : Reached S → Type 0 = λ y. Made w v y.region in
+    let P : TextState S → Type 0 = λ y. Made w v y.region in
     value-next P (t_in_strip r p.flags x.state) _ (λ t t_is.
     value-next P (coordinate (x.cursor.strip_t +ℤ t.0)) _ (λ ti ti_is.
     value-next P (r.id t.1) _ (λ id id_is.
@@ -131,11 +131,11 @@ instance-made {w} {v} {S} r p x made =
     value-next P (with_symbol p.flags x.region x.cursor ti ib.0) _ (λ more more_is.
     value-is P (record { region = more.0; cursor = more.1; refining = ib.1; state = ib.2 }) (symbol-made p.flags x.region x.cursor ti ib.0 made more more_is))))))
 
-instances-made : {w v : ℕ} {S : Type 0} (r : Readings S) (p : TextParams) (n : ℕ) (x : Reached S) → Made w v x.region → OnValue (λ y. Made w v y.region) (after_instances r p n x)
+instances-made : {w v : ℕ} {S : Type 0} (r : Readings S) (p : TextParams) (n : ℕ) (x : TextState S) → Made w v x.region → OnValue (λ y. Made w v y.region) (after_instances r p n x)
 unfolding after_instances
-instances-made {w} {v} {S} r p zero x made = value-is (λ (y : Reached S). Made w v y.region) x made
+instances-made {w} {v} {S} r p zero x made = value-is (λ (y : TextState S). Made w v y.region) x made
 instances-made {w} {v} {S} r p (suc n) x made =
-    let P : Reached S → Type 0 = λ y. Made w v y.region in
+    let P : TextState S → Type 0 = λ y. Made w v y.region in
     value-next P (with_instance r p x) _ (λ y y_is.
     value-next P (next_cursor r p.flags y.cursor y.state) _ (λ c c_is.
     instances-made r p n (record y { cursor = c.0; state = c.1 }) (instance-made r p x made y y_is)))

@@ -18,7 +18,7 @@ use Rattle.jbig2_base.specs.declared.reading.Reading.TheVariants.{Lenient, Salva
 use Rattle.jbig2_base.proofs.FromInput.{FromInput, IsFromInput, from_input-header, from_input-segment, from_input-segment_data}
 use Rattle.hayro_jbig2.specs.Files.{PageInFile, association_check, book_at, by_pages, before_pages, pages_in_file, page_in_file, shared_by}
 use Rattle.hayro_jbig2.specs.Lenient.{HasBeginning}
-use Rattle.hayro_jbig2.specs.Names.{Names, Shared, globals_at, kept_by, shared_from, no_names, nothing_shared, or_shared_without}
+use Rattle.hayro_jbig2.specs.Names.{Names, KeptGlobals, globals_at, kept_by, shared_from, no_names, nothing_shared, or_shared_without}
 use Rattle.hayro_jbig2.specs.Page.{Drawing, IsSide, beginning_of, ends_page, or_left_out, segment_by, segment_on, segments_drawn}
 use Rattle.hayro_jbig2.proofs.FromInput.{from_input-filed, from_input-kept, from_input-segment_by}
 
@@ -79,11 +79,11 @@ fine-by Sequential bytes = fine-sequential bytes
 fine-by RandomAccess bytes = fine-next (headers_in (length bytes) Salvage bytes) _ (fine-headers (length bytes) bytes) (λ hs. fine-gathered hs.0 hs.1)
 
 -- ---- globals
-fine-without : (number : ℕ) (shared : Shared) (r : Result Names DecodeError) → FromInput r → IsFine (or_shared_without Salvage number shared r)
+fine-without : (number : ℕ) (shared : KeptGlobals) (r : Result Names DecodeError) → FromInput r → IsFine (or_shared_without Salvage number shared r)
 fine-without number shared (Ok names) is = refl
 fine-without number shared (Err e) is = rw (left-out e is) refl
 
-pub fine-named : (ps : List SegmentView) (shared : Shared) → IsFine (shared_from Salvage ps shared)
+pub fine-named : (ps : List SegmentView) (shared : KeptGlobals) → IsFine (shared_from Salvage ps shared)
 fine-named [] shared = refl
 fine-named (p ∷ ps) shared =
     let kept : Result Names DecodeError = kept_by false no_names p shared.names in

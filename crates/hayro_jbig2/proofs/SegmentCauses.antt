@@ -26,7 +26,7 @@ use Rattle.jbig2_region.proofs.HeaderCauses.{offset_causes, refinement_header_ca
 use Rattle.jbig2_region.proofs.ResultCauses.{cause-more}
 use Rattle.jbig2_symbol.specs.Symbols.{Symbols}
 use Rattle.hayro_jbig2.specs.Causes.{BreaksExtension, BreaksPatternReference, BreaksReferred, BreaksRefinement}
-use Rattle.hayro_jbig2.specs.Names.{Names, Referred, first_kept, kept_of, referred_by, with_dictionary, with_number, with_numbers, with_table, extension}
+use Rattle.hayro_jbig2.specs.Names.{Names, ReferredValues, first_kept, kept_of, referred_by, with_dictionary, with_number, with_numbers, with_table, extension}
 use Rattle.hayro_jbig2.specs.Regions.{page_area, patterns_for, referred_region, refinement_at}
 use Rattle.hayro_jbig2.specs.declared.kept.Kept.{Kept}
 use Rattle.hayro_jbig2.proofs.Causes.{at-first, at-later}
@@ -47,7 +47,7 @@ symbols_in s = length (exported_of s)
 abbrev symbols_under : Names → Names → List ℕ → ℕ
 symbols_under own shared numbers = length (exported_under own shared numbers)
 
-abbrev with_either : Bool → Option Symbols → Option (List Member) → Referred → Result Referred DecodeError
+abbrev with_either : Bool → Option Symbols → Option (List Member) → ReferredValues → Result ReferredValues DecodeError
 with_either strict s code r = option_map_or (λ d. with_dictionary d r) s (with_table strict code r)
 
 -- what holds of the last step's value holds of the whole
@@ -61,7 +61,7 @@ ok-holds P (Ok y) x is same =
     subst P values is
 ok-holds P (Err e) x is same = absurd (cc)
 
-either-cause : (P : DecodeError → Type 0) (strict : Bool) (s : Option Symbols) (code : Option (List Member)) (r : Referred)
+either-cause : (P : DecodeError → Type 0) (strict : Bool) (s : Option Symbols) (code : Option (List Member)) (r : ReferredValues)
     → (1048576 < length r.symbols + symbols_in s → P (Overflow SymbolCount))
     → (IsTrue strict → s ≡ None → code ≡ None → P (Segment InvalidReference)) → IfErr (with_either strict s code r) P
 either-cause P strict (Some s) code r many none =
@@ -73,14 +73,14 @@ either-cause P strict None (Some code) r many none = tt
 either-cause P strict None None r many none =
     cause-next P (refuse_if strict _) _ (cause-refused P strict _ (λ is. none is refl refl)) (λ known known_is. tt)
 
-grown : (strict : Bool) (s : Option Symbols) (code : Option (List Member)) (r : Referred) → IfOk (with_either strict s code r) (λ more. length more.symbols ≡ length r.symbols + symbols_in s)
+grown : (strict : Bool) (s : Option Symbols) (code : Option (List Member)) (r : ReferredValues) → IfOk (with_either strict s code r) (λ more. length more.symbols ≡ length r.symbols + symbols_in s)
 grown strict (Some s) code r =
-    ok-last (λ (more : Referred). length more.symbols ≡ length r.symbols + length s.exported) (refuse_if (nat_lt 1048576 (length (r.symbols ++ s.exported))) _) _ (λ few. length-append r.symbols s.exported)
+    ok-last (λ (more : ReferredValues). length more.symbols ≡ length r.symbols + length s.exported) (refuse_if (nat_lt 1048576 (length (r.symbols ++ s.exported))) _) _ (λ few. length-append r.symbols s.exported)
 grown strict None (Some code) r = omega arith
 grown strict None None r =
-    ok-last (λ (more : Referred). length more.symbols ≡ length r.symbols + 0) (refuse_if strict _) _ (λ known. omega arith)
+    ok-last (λ (more : ReferredValues). length more.symbols ≡ length r.symbols + 0) (refuse_if strict _) _ (λ known. omega arith)
 
-numbers-cause : (P : DecodeError → Type 0) (strict : Bool) (own shared : Names) (numbers : List ℕ) (r : Referred)
+numbers-cause : (P : DecodeError → Type 0) (strict : Bool) (own shared : Names) (numbers : List ℕ) (r : ReferredValues)
     → (1048576 < length r.symbols + symbols_under own shared numbers → P (Overflow SymbolCount))
     → (IsTrue strict → Any (NamesNothing own shared) numbers → P (Segment InvalidReference)) → IfErr (with_numbers strict own shared numbers r) P
 numbers-cause P strict own shared [] r many none = tt
@@ -92,7 +92,7 @@ numbers-cause P strict own shared (number ∷ numbers) r many none =
     (either-cause P strict s code r (λ over. many (omega (arith, over, together))) (λ is no_symbols no_code.
     none is (at-first (NamesNothing own shared) number numbers (no_symbols, no_code))))
     (λ more more_is.
-    let size = ok-holds (λ (x : Referred). length x.symbols ≡ length r.symbols + symbols_in s) (with_either strict s code r) more (grown strict s code r) more_is in
+    let size = ok-holds (λ (x : ReferredValues). length x.symbols ≡ length r.symbols + symbols_in s) (with_either strict s code r) more (grown strict s code r) more_is in
     numbers-cause P strict own shared numbers more (λ over. many (omega (arith, over, size, together))) (λ is some. none is (at-later (NamesNothing own shared) number numbers some)))
 
 pub referred_cause : {X : Type 0} (strict : Bool) (own shared : Names) (numbers : List ℕ) (r : Result X DecodeError) → IfErr r (λ e. (e ≡ OutOfMemory) ⊎ (referred_by strict own shared numbers ≡ Err e))

@@ -2,7 +2,7 @@
 use Rattle.std.proofs.Common.{◌≡◌, ℕ, ◌+◌, List, [], ◌∷◌, ◌++◌, refl, sym, subst, ◌∙◌, ap}
 use Rattle.std.proofs.lemmas.List.{append_assoc, append-nil}
 use Rattle.jbig2_base.specs.declared.error.DecodeError.{DecodeError}
-use Rattle.hayro_jbig2.specs.Calls.{Call, Conduct, Makes, Stopped, after_calls}
+use Rattle.hayro_jbig2.specs.Calls.{Call, Conduct, Makes, IsStopped, after_calls}
 
 after_calls-append : {P : Type 0} (step : P → Call → P) (p : P) (cs ds : List Call) → after_calls step p (cs ++ ds) ≡ after_calls step (after_calls step p cs) ds
 after_calls-append step p [] ds = refl
@@ -37,7 +37,7 @@ half_done d all old new h = (h.picture ∙ ap (λ (cs : List Call). after_calls 
 
 -- one of these calls was refused
 pub stops_at : {S : Type 0} (d : Conduct S) {all rest cs : List Call} {e : DecodeError} {old mid new : S} (others : List Call)
-    → rest ≡ cs ++ others → Half d all rest old mid → Stopped d cs e mid new → Stopped d all e old new
+    → rest ≡ cs ++ others → Half d all rest old mid → IsStopped d cs e mid new → IsStopped d all e old new
 stops_at {S} d {all} {rest} {cs} {e} {old} {mid} {new} others is h stopped = record {
   made = h.made ++ stopped.made;
   refused = stopped.refused;
@@ -55,7 +55,7 @@ stops_at {S} d {all} {rest} {cs} {e} {old} {mid} {new} others is h stopped = rec
 
 -- one call, refused
 pub one_stops : {S : Type 0} (d : Conduct S) (call : Call) (e : DecodeError) (old new : S)
-    → (d.picture new ≡ d.picture old) × (d.refusals new ≡ d.refusals old + 1) × d.refuses (d.picture old) call e → Stopped d (call ∷ []) e old new
+    → (d.picture new ≡ d.picture old) × (d.refusals new ≡ d.refusals old + 1) × d.refuses (d.picture old) call e → IsStopped d (call ∷ []) e old new
 one_stops d call e old new refused =
     let P : d.Picture → Type 0 = λ p. d.refuses p call e in
     record { made = []; refused = call; others = []; split = refl; picture = refused.0; counted = refused.1; own = subst P (sym refused.0) refused.2 }

@@ -19,7 +19,7 @@ use Rattle.jbig2_base.specs.declared.reading.Reading.{Reading}
 use Rattle.jbig2_base.specs.declared.reading.Reading.TheVariants.{Lenient}
 use Rattle.hayro_jbig2.specs.Files.{PageInFile, ReadFile, association_check, book_at, by_pages, ends_of, before_pages, pages_in_file, page_in_file, left_out_of, miscounts, of_page, page_in, page_of, shared_by}
 use Rattle.hayro_jbig2.specs.Image.{first_page, first_size}
-use Rattle.hayro_jbig2.specs.Names.{Shared}
+use Rattle.hayro_jbig2.specs.Names.{KeptGlobals}
 use Rattle.hayro_jbig2.specs.Page.{HasSides, IsSide, ReadPage, beginning_of, known_height}
 
 -- what holds of the last step's value
@@ -81,7 +81,7 @@ page-sides (p ∷ ps) (suc index) all = page-sides ps index all.1
 abbrev AllSides : ReadFile → Type 0
 AllSides book = AllByRecursion FileSides book.pages
 
-filed-all : (reading : Reading) (left_out : List DecodeError) (fault : Option DecodeError) (pages : Result (List PageInFile) DecodeError) (globals : List PageInFile → Result Shared DecodeError) → IfOk pages (AllByRecursion FileSides)
+filed-all : (reading : Reading) (left_out : List DecodeError) (fault : Option DecodeError) (pages : Result (List PageInFile) DecodeError) (globals : List PageInFile → Result KeptGlobals DecodeError) → IfOk pages (AllByRecursion FileSides)
     → IfOk (pages >>= λ ps. let made : Result ReadFile DecodeError = Ok (record { reading = reading; pages = ps; globals = globals ps; left_out = left_out; fault = fault }) in made) AllSides
 filed-all reading left_out fault (Ok ps) globals all = all
 filed-all reading left_out fault (Err e) globals all = tt

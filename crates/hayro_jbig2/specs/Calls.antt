@@ -111,7 +111,7 @@ module _ {S : Type 0} (d : Conduct S) where
       (d.picture new ≡ after_calls d.step (d.picture old) calls) × (d.refusals new ≡ d.refusals old)
 
   -- The first calls of the list were made, and the call after them was refused with this error, the Decoder's own.
-  pub record Stopped (calls : List Call) (e : DecodeError) (old new : S) : Type 0 where
+  pub record IsStopped (calls : List Call) (e : DecodeError) (old new : S) : Type 0 where
     pub made : List Call
     pub refused : Call
     pub others : List Call
@@ -123,13 +123,13 @@ module _ {S : Type 0} (d : Conduct S) where
   -- All of the calls were made, or one was refused, and its error is returned.
   abbrev pub Sends : List Call → Result (Unit {0}) DecodeError → S → S → Type 0
   Sends calls (Ok u) old new = Makes calls old new
-  Sends calls (Err e) old new = Stopped calls e old new
+  Sends calls (Err e) old new = IsStopped calls e old new
 
   -- What decoding does, where the page's definition gives a grid or an error: it makes exactly the calls that draw the
   -- grid, or returns that error and makes no call. Besides, the Decoder may refuse a call, or memory may run out before
   -- any.
   abbrev pub Decodes : Result Grid DecodeError → Result (Unit {0}) DecodeError → S → S → Type 0
   Decodes (Ok g) (Ok u) old new = Makes (calls_of g) old new
-  Decodes (Ok g) (Err e) old new = Stopped (calls_of g) e old new ⊎ ((e ≡ OutOfMemory) × Makes [] old new)
+  Decodes (Ok g) (Err e) old new = IsStopped (calls_of g) e old new ⊎ ((e ≡ OutOfMemory) × Makes [] old new)
   Decodes (Err f) (Ok u) old new = ⊥
   Decodes (Err f) (Err e) old new = ((e ≡ f) ⊎ (e ≡ OutOfMemory)) × Makes [] old new

@@ -17,7 +17,7 @@ use Rattle.jbig2_base.specs.declared.page_info.InitialPage.{InitialPage}
 use Rattle.jbig2_base.specs.declared.reading.Reading.{Reading}
 use Rattle.jbig2_base.specs.declared.reading.Reading.TheVariants.{Lenient}
 use Rattle.jbig2_base.specs.declared.segment.SegmentType.{SegmentType}
-use Rattle.hayro_jbig2.specs.Names.{shared_from, names_of, nothing_shared, Shared}
+use Rattle.hayro_jbig2.specs.Names.{shared_from, names_of, nothing_shared, KeptGlobals}
 use Rattle.hayro_jbig2.specs.Page.{ReadPage, beginning_of, region_type}
 use Rattle.jbig2_base.specs.declared.segment.SegmentType.TheVariants as types
 
@@ -30,7 +30,7 @@ pub record PageInFile : Type 0 where
 pub record ReadFile : Type 0 where
   pub reading : Reading
   pub pages : List PageInFile
-  pub globals : Result Shared DecodeError
+  pub globals : Result KeptGlobals DecodeError
   pub left_out : List DecodeError
   pub fault : Option DecodeError
 
@@ -102,7 +102,7 @@ module _ (reading : Reading) where
   left_out_of all = flat_map (λ own. error_of (page_in_file own)) all
 
   -- What these pages share: the names that segments of no page keep. It is empty without pages, since nothing shows it.
-  abbrev pub shared_by : List PageInFile → List SegmentView → Result Shared DecodeError
+  abbrev pub shared_by : List PageInFile → List SegmentView → Result KeptGlobals DecodeError
   shared_by [] shared = Ok (nothing_shared None)
   shared_by (page ∷ pages) shared = shared_from reading shared (nothing_shared None)
 

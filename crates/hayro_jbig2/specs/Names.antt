@@ -52,35 +52,35 @@ no_names = record { symbols = []; codes = []; patterns = [] }
 
 -- What a list of numbers refers to: all the symbols, all the codes of custom tables, and the contexts that the last
 -- symbol dictionary kept, if it kept any.
-pub record Referred : Type 0 where
+pub record ReferredValues : Type 0 where
   pub symbols : List Grid
   pub codes : List (List Member)
   pub kept : Option BitmapContexts
 
 -- More than 2^20 symbols together are refused (our own rule).
-abbrev pub with_dictionary : Symbols → Referred → Result Referred DecodeError
+abbrev pub with_dictionary : Symbols → ReferredValues → Result ReferredValues DecodeError
 with_dictionary s r =
     refuse_if (nat_lt max_new_symbols (length (r.symbols ++ s.exported))) (Overflow SymbolCount)
     >>= λ few. Ok (record r { symbols = r.symbols ++ s.exported; kept = s.kept })
 
 -- Adds the code of a custom table. Where the number names none, strict reading refuses, and other readings add nothing.
-abbrev pub with_table : Bool → Option (List Member) → Referred → Result Referred DecodeError
+abbrev pub with_table : Bool → Option (List Member) → ReferredValues → Result ReferredValues DecodeError
 with_table strict (Some code) r = Ok (record r { codes = r.codes ++ code ∷ [] })
 with_table strict None r = refuse_if strict (Segment InvalidReference) >>= λ known. Ok r
 
 module _ (strict : Bool) (own shared : Names) where
   -- A number means a symbol dictionary if it names one, and else a custom table.
-  abbrev pub with_number : ℕ → Referred → Result Referred DecodeError
+  abbrev pub with_number : ℕ → ReferredValues → Result ReferredValues DecodeError
   with_number number r =
       option_map_or (λ s. with_dictionary s r) (kept_of number own.symbols shared.symbols)
       (with_table strict (kept_of number own.codes shared.codes) r)
 
-  abbrev pub with_numbers : List ℕ → Referred → Result Referred DecodeError
+  abbrev pub with_numbers : List ℕ → ReferredValues → Result ReferredValues DecodeError
   with_numbers [] r = Ok r
   with_numbers (number ∷ numbers) r = with_number number r >>= λ more. with_numbers numbers more
 
   -- What a symbol dictionary or a text region refers to (7.3.1, 7.4.2.1.6, 7.4.3.1.6).
-  abbrev pub referred_by : List ℕ → Result Referred DecodeError
+  abbrev pub referred_by : List ℕ → Result ReferredValues DecodeError
   referred_by numbers = with_numbers numbers (record { symbols = []; codes = []; kept = None })
 
   -- A symbol dictionary (7.4.2), after what it refers to. Only salvage passes over it where it fails. The same holds
@@ -139,20 +139,20 @@ with_passed number e passed = record {
 }
 
 -- What globals keep, what salvage passed over of them, and which error ended the list of their segments early.
-pub record Shared : Type 0 where
+pub record KeptGlobals : Type 0 where
   pub names : Names
   pub passed_over : PassedOver
   pub fault : Option DecodeError
 
-abbrev pub nothing_shared : Option DecodeError → Shared
+abbrev pub nothing_shared : Option DecodeError → KeptGlobals
 nothing_shared fault = record { names = no_names; passed_over = nothing_passed; fault = fault }
 
-abbrev pub names_of : Result Shared DecodeError → Result Names DecodeError
+abbrev pub names_of : Result KeptGlobals DecodeError → Result Names DecodeError
 names_of shared = shared >>= λ s. Ok s.names
 
 module _ (reading : Reading) where
   -- Salvage passes over a segment that fails. Nothing is kept under its number then.
-  abbrev pub or_shared_without : ℕ → Shared → Result Names DecodeError → Result Shared DecodeError
+  abbrev pub or_shared_without : ℕ → KeptGlobals → Result Names DecodeError → Result KeptGlobals DecodeError
   or_shared_without number shared (Ok names) = Ok (record shared { names = names })
   or_shared_without number shared (Err e) =
       if is_salvaged reading e then Ok (record shared { passed_over = with_passed number e shared.passed_over })
@@ -160,14 +160,14 @@ module _ (reading : Reading) where
 
   -- Globals: segments that several pages share, kept separately from the pages, as in PDF. Each may refer to those
   -- before it. Regions and page information among them have no effect.
-  abbrev pub shared_from : List SegmentView → Shared → Result Shared DecodeError
+  abbrev pub shared_from : List SegmentView → KeptGlobals → Result KeptGlobals DecodeError
   shared_from [] shared = Ok shared
   shared_from (p ∷ ps) shared = do
     more ← or_shared_without p.header.segment_number shared (kept_by (is_strict reading) no_names p shared.names)
     shared_from ps more
 
   -- The globals in these bytes: the segments lie one after the other, and are sorted before they are decoded.
-  unfoldable pub globals_at : List ℕ → Result Shared DecodeError
+  unfoldable pub globals_at : List ℕ → Result KeptGlobals DecodeError
   globals_at bytes = do
     segments ← sorted_segments reading bytes
     shared_from segments (nothing_shared (fault_of reading (sequential Lenient bytes)))

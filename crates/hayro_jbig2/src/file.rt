@@ -58,24 +58,13 @@ impl<'a, A: Allocator> Model for FilePage<'a, A> {
 }
 
 /// A file: its pages, and what they share. It borrows the bytes that it was read from.
+#[derive(Drop)]
 pub struct File<'a, A: Allocator> {
     reading: Reading,
     pages: Vec<FilePage<'a, A>, A>,
     globals: Result<Globals<A>>,
     left_out: Vec<DecodeError, A>,
     fault: Option<DecodeError>,
-}
-
-impl<A: Allocator> Drop for File<'_, A> {
-    fn drop(self) {
-        let File {
-            reading: _,
-            pages: _,
-            globals: _,
-            left_out: _,
-            fault: _,
-        } = self;
-    }
 }
 
 impl<'a, A: Allocator> Model for File<'a, A> {

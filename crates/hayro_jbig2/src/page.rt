@@ -34,24 +34,13 @@ use std::alloc::Allocator;
 use std::marker::Model;
 
 /// A page: its segments, and how it begins. It borrows the bytes that it was read from.
+#[derive(Drop)]
 pub struct Page<'a, A: Allocator> {
     reading: Reading,
     initial_page: InitialPage,
     segments: PageSegments<'a, A>,
     globals: Result<Option<&'a Globals<A>>>,
     fault: Option<DecodeError>,
-}
-
-impl<A: Allocator> Drop for Page<'_, A> {
-    fn drop(self) {
-        let Page {
-            reading: _,
-            initial_page: _,
-            segments: _,
-            globals: _,
-            fault: _,
-        } = self;
-    }
 }
 
 impl<'a, A: Allocator> Model for Page<'a, A> {

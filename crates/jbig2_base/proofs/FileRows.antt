@@ -2,7 +2,7 @@
 use Rattle.std.proofs.Common.{◌≡◌, ℕ, List, [], ◌∷◌, ◌++◌, length, take, Some, Result, Ok, Err, Bool, true, false, refl}
 use Rattle.std.specs.List.{list_all, range_with_len}
 use Rattle.jbig2_base.specs.Fields.{end_of_bytes}
-use Rattle.jbig2_base.specs.File.{file_at, headers_in, Spelled, AreSpelled, SpellsFile, file_header_at, identification}
+use Rattle.jbig2_base.specs.File.{file_at, headers_in, SpelledSegment, AreSpelled, SpellsFile, file_header_at, identification}
 use Rattle.jbig2_base.specs.Segment.{SegmentView, type_of, count_at, referred_at, header_at, segment_at}
 use Rattle.jbig2_base.specs.Sequential.{segments_in, is_cut_off}
 use Rattle.jbig2_base.specs.declared.error.DecodeError.{DecodeError}
@@ -81,7 +81,7 @@ unfolding file_at file_header_at headers_in header_at referred_at count_at type_
 cut_off = refl
 
 -- both files spell the same segments
-abbrev listed : List Spelled
+abbrev listed : List SpelledSegment
 listed =
     record { header_bytes = page_header; segment = segment 0 types.PageInformation 1 page_data }
     ∷ record { header_bytes = end_of_page; segment = segment 1 types.EndOfPage 1 [] }

@@ -83,28 +83,28 @@ file_at reading bytes = do
   Ok (header, by_number ps)
 
 -- The way back, from segments to the bytes of a file: a segment, and the bytes of its header.
-pub record Spelled : Type 0 where
+pub record SpelledSegment : Type 0 where
   pub header_bytes : List ℕ
   pub segment : SegmentView
 
 -- The mode reads exactly these bytes as this header, and the header states the length of the data.
-pub record IsSpelled (strict : Bool) (s : Spelled) : Type 0 where
+pub record IsSpelled (strict : Bool) (s : SpelledSegment) : Type 0 where
   pub accepted : header_at strict s.header_bytes ≡ Ok (s.segment.header, [])
   pub known : s.segment.header.data_length ≡ Some (length s.segment.bytes)
 
 -- Each segment is written like this, and the last one is the only end of file.
-abbrev pub AreSpelled : Bool → List Spelled → Type 0
+abbrev pub AreSpelled : Bool → List SpelledSegment → Type 0
 AreSpelled strict [] = ⊥
 AreSpelled strict (s ∷ []) = IsSpelled strict s × (is_end_of_file s.segment.header.segment_type ≡ true)
 AreSpelled strict (s ∷ t ∷ ts) =
     IsSpelled strict s × (is_end_of_file s.segment.header.segment_type ≡ false) × AreSpelled strict (t ∷ ts)
 
 -- the bytes of these segments, in either organisation (D.1, D.2)
-abbrev pub spelling : FileOrganization → List Spelled → List ℕ
+abbrev pub spelling : FileOrganization → List SpelledSegment → List ℕ
 spelling Sequential ss = flat_map (λ s. s.header_bytes ++ s.segment.bytes) ss
 spelling RandomAccess ss = flat_map (λ s. s.header_bytes) ss ++ flat_map (λ s. s.segment.bytes) ss
 
 -- The bytes are a file header and then these segments, in its organisation. The mode accepts them.
-abbrev pub SpellsFile : Reading → List ℕ → FileHeader → List Spelled → Type 0
+abbrev pub SpellsFile : Reading → List ℕ → FileHeader → List SpelledSegment → Type 0
 SpellsFile reading bytes header ss =
     (file_header_at bytes ≡ Ok (header, spelling header.organization ss)) × AreSpelled (is_strict reading) ss

@@ -37,7 +37,7 @@ pub struct Bitmap<A: Allocator> {
     rows: PackedRows<A>,
 }
 
-// Not derived: where a bitmap is dropped, a proof has one call then, instead of a step for each field.
+// Not derived: a proof then has one call where a bitmap is dropped, and not a step for each field.
 impl<A: Allocator> Drop for Bitmap<A> {
     fn drop(self) {
         let Bitmap { rows: _ } = self;

@@ -1,7 +1,7 @@
 //! Reads files and lists of segments (T.88, Annex D).
 ghost use Rattle.std.specs.Prelude.{◌≡◌, List, length, map, Ok};
 ghost use Rattle.jbig2_base.specs.Results.{Gives};
-ghost use Rattle.jbig2_base.specs.File.{headers_in, with_data, segments_by, file_at, Spelled, SpellsFile};
+ghost use Rattle.jbig2_base.specs.File.{headers_in, with_data, segments_by, file_at, SpelledSegment, SpellsFile};
 ghost use Rattle.jbig2_base.specs.Reading.{fault_of};
 ghost use Rattle.jbig2_base.specs.declared.file_header.FileHeader.{FileHeader};
 ghost use Rattle.jbig2_base.specs.declared.reading.Reading.{Reading};
@@ -196,7 +196,7 @@ pub fn parse_file<'a, A: Allocator + Clone>(
     reading: Reading,
 ) -> Result<File<'a, A>>
     ensures value { Gives file_view result (file_at reading bytes.now) }
-    ensures either_organization { (header : FileHeader) (ss : List Spelled)
+    ensures either_organization { (header : FileHeader) (ss : List SpelledSegment)
         → SpellsFile reading bytes.now header ss
         → Gives file_view result (Ok (header, by_number (map (λ s. s.segment) ss))) }
 {

@@ -1,8 +1,8 @@
 //! The program `jbig2-bench`: runs the worked rows against the decoder, or lists through the arithmetic coder.
 #![tactic(auto)]
 
-use jbig2_rows::ended::unstarted;
 use jbig2_rows::program::{USAGE, run};
+use jbig2_rows::status::status_without_words;
 use std::io::ErrorKind;
 use std::process::ExitCode;
 use std::{env, io};
@@ -23,7 +23,7 @@ fn main(rt: HostRuntime) -> ExitCode {
         Err(error) => {
             // Words that are no text are no words of this program.
             let refused = error.kind() == ErrorKind::OutOfMemory;
-            unstarted(refused, USAGE, &mut rt.stderr())
+            status_without_words(refused, USAGE, &mut rt.stderr())
         }
     };
     ExitCode::from(status)

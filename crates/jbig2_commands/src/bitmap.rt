@@ -4,7 +4,7 @@ ghost use Rattle.std.specs.Io.KnownBytes.{Appends};
 ghost use Rattle.jbig2_commands.specs.Printed.{bitmap_head, bitmap_text, or_fault, Prints};
 
 use crate::fault::Fault;
-use crate::output::flushed;
+use crate::output::flush;
 use hayro_jbig2::{DecodeError, DecoderContext, DrawnPage, Page};
 use std::alloc::Allocator;
 use std::io::Write;
@@ -31,7 +31,7 @@ pub fn write_bitmap<A: Allocator + Clone, O: Write>(
     if out.write_all(&head).is_err() || !write_rows(&drawn, out) {
         return Err(Fault::Unwritable);
     }
-    flushed(out)
+    flush(out)
 }
 
 fn write_head<A: Allocator>(page: &Page<'_, A>, head: &mut Vec<u8, A>) -> Result<(), Fault>

@@ -5,7 +5,7 @@ ghost use Rattle.jbig2_commands.specs.inner.Printing.{data_of, output_id, Adds};
 ghost use Rattle.jbig2_commands.specs.Printed.{calls_text, or_fault, Prints};
 
 use crate::fault::Fault;
-use crate::output::{Output, flushed};
+use crate::output::{Output, flush};
 use crate::printer::{KnowsOutput, Printer};
 use hayro_jbig2::{DecodeError, Page};
 use std::alloc::Allocator;
@@ -39,7 +39,7 @@ pub fn print_calls<A: Allocator + Clone, O: Write>(
     }
     let out = output.into_inner();
     decoded?;
-    flushed(out)
+    flush(out)
 }
 
 /// Decodes a page, and prints its calls. `None` where a line could not be written.

@@ -4,7 +4,6 @@
 
 mod bitmap;
 mod calls;
-mod ended;
 mod fault;
 mod output;
 mod pages;
@@ -12,7 +11,8 @@ mod printer;
 mod program;
 mod refusals;
 mod request;
+mod run_end;
 
-pub use ended::Ended;
 pub use program::{run, run_reported};
 pub use request::file_word;
+pub use run_end::RunEnd;

@@ -86,7 +86,7 @@ impl<'o, O: Write, A: Allocator> Output<'o, O, A> {
 }
 
 /// Flushes an output.
-pub fn flushed<O: Write>(out: &mut O) -> Result<(), Fault>
+pub fn flush<O: Write>(out: &mut O) -> Result<(), Fault>
     ensures kept { Keeps (O.contents out.old) (O.contents out.new) }
     ensures fault { IfErr result (λ fault. fault ≡ Fault.Unwritable) }
 {

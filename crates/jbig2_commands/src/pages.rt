@@ -5,7 +5,7 @@ ghost use Rattle.hayro_jbig2.specs.Files.{pages_of};
 ghost use Rattle.jbig2_commands.specs.Printed.{page_line, Prints};
 
 use crate::fault::Fault;
-use crate::output::flushed;
+use crate::output::flush;
 use hayro_jbig2::{DecodeError, File, Page};
 use std::alloc::Allocator;
 use std::io::Write;
@@ -23,7 +23,7 @@ pub fn print_pages<A: Allocator, O: Write>(
     if out.write_all(&lines).is_err() {
         return Err(Fault::Unwritable);
     }
-    flushed(out)
+    flush(out)
 }
 
 /// The line of each page.

@@ -7,10 +7,10 @@ ghost use Rattle.jbig2_commands.specs.Words.{request_of};
 
 use crate::bitmap::write_bitmap;
 use crate::calls::print_calls;
-use crate::ended::Ended;
 use crate::fault::Fault;
 use crate::pages::print_pages;
 use crate::request::{Command, Request};
+use crate::run_end::RunEnd;
 use hayro_jbig2::reading::read_all;
 use hayro_jbig2::{DecodeError, DecodeSettings, File, Jbig2Error, Page};
 use std::alloc::Allocator;
@@ -44,17 +44,17 @@ pub fn run_reported<A: Allocator + Clone, R: Read, O: Write, E: Write>(
     file: Option<&mut R>,
     out: &mut O,
     err: &mut E,
-) -> Ended
+) -> RunEnd
     ensures usage { (result.status ≡ 2) ↔ IsNone (request_of (map (λ word. word.now) words.now)) }
     ensures ends { RunEnds (request_of (map (λ word. word.now) words.now))
         (option_map (λ reader. R.remaining reader.now) file.entry) result.status result.is_written
         (O.contents out.old) (O.contents out.new) (E.contents err.old) (E.contents err.new) }
 {
     let Some(request) = Request::of_words(words) else {
-        return Ended::refused(err);
+        return RunEnd::wrong_words(err);
     };
     let ended = run_task(alloc, request, file, out);
-    Ended::of(ended, err)
+    RunEnd::of(ended, err)
 }
 
 fn run_task<A: Allocator + Clone, R: Read, O: Write>(

@@ -1,7 +1,7 @@
 //! The program `jbig2-decode`: prints the pages of a JBIG2 file, the calls that draw a page, or a bitmap.
 #![tactic(auto)]
 
-use jbig2_commands::{Ended, file_word, run};
+use jbig2_commands::{RunEnd, file_word, run};
 use std::fs::File;
 use std::io::ErrorKind;
 use std::process::ExitCode;
@@ -29,7 +29,7 @@ fn main(rt: HostRuntime) -> ExitCode {
         Err(error) => {
             // Words that are no text are no words of this program.
             let refused = error.kind() == ErrorKind::OutOfMemory;
-            Ended::unstarted(refused, &mut rt.stderr()).status
+            RunEnd::without_words(refused, &mut rt.stderr()).status
         }
     };
     ExitCode::from(status)

@@ -11,7 +11,7 @@ use Rattle.jbig2_base.specs.declared.error.DecodeError.TheVariants.{OutOfMemory,
 use Rattle.jbig2_base.specs.declared.error.OverflowError.TheVariants.{BitmapDimension}
 use Rattle.jbig2_base.specs.declared.error.RegionError.TheVariants.{GrayScaleOutOfRange, InvalidMmrData}
 use Rattle.jbig2_base.proofs.Causes.{cause-next}
-use Rattle.jbig2_mmr.specs.T6.{Decoded, mmr_rows, rows_of}
+use Rattle.jbig2_mmr.specs.T6.{DecodedRows, mmr_rows, rows_of}
 use Rattle.jbig2_region.specs.Generic.{generic_result}
 use Rattle.jbig2_halftone.specs.Causes.{BreaksGrayScale, BreaksHalftone, BreaksPatterns, plane_start}
 use Rattle.jbig2_halftone.specs.GrayScale.{GrayScale, gray_scale_image, gray_value, gray_values, image_is_too_large, mmr_plane, mmr_planes, planes_of}
@@ -39,7 +39,7 @@ used : ℕ → ℕ → List ℕ → ℕ
 used w h bytes = length bytes - length (rows_of w h bytes).left / 8
 
 result-mmr : (P : DecodeError → Type 0) (strict : Bool) (w h : ℕ) (bytes : List ℕ) → (LacksRows strict w h bytes → P (Region InvalidMmrData))
-    → IfResult (mmr_rows strict w h bytes) P (λ (d : Decoded). used w h bytes ≡ d.used)
+    → IfResult (mmr_rows strict w h bytes) P (λ (d : DecodedRows). used w h bytes ≡ d.used)
 unfolding mmr_rows used
 result-mmr P strict w h bytes why =
     result-if P _ (strict && not (rows_of w h bytes).whole) _ _

@@ -13,7 +13,7 @@ use Rattle.jbig2_region.specs.Generic.{coding_of}
 use Rattle.jbig2_region.specs.inner.RegionStates.{DecodesRegion, HasDecoded, region_state}
 use Rattle.jbig2_region.specs.Raster.{so_far, decoded_region, no_pixels, fresh_contexts}
 use Rattle.jbig2_region.specs.{Generic.{skipping_coding}, inner.RegionViews.{skip_of}}
-use Rattle.jbig2_mmr.specs.T6.{Decoded, Rows, mmr_rows, grid_of_rows, rows_of}
+use Rattle.jbig2_mmr.specs.T6.{DecodedRows, Rows, mmr_rows, grid_of_rows, rows_of}
 use Rattle.jbig2_region.specs.Templates.{context_bits, template_pixels, nominal_adaptive_pixels}
 use Rattle.jbig2_region.specs.declared.template.AdaptiveTemplatePixel.{AdaptiveTemplatePixel}
 use Rattle.jbig2_halftone.specs.GrayScale.{GrayScale, after_planes, gray_values, mmr_plane, mmr_planes, image_is_too_large}
@@ -155,7 +155,7 @@ mmr-fault p input i planes left error more e reads =
     sym made
 
 -- one plane
-mmr-sized : (p : GrayScale) (before : Grid) (left : List ℕ) (result : Result Decoded DecodeError) → before ≡ blank p.width p.height false → mmr_rows p.strict before.width before.height left ≡ result → mmr_rows p.strict p.width p.height left ≡ result
+mmr-sized : (p : GrayScale) (before : Grid) (left : List ℕ) (result : Result DecodedRows DecodeError) → before ≡ blank p.width p.height false → mmr_rows p.strict before.width before.height left ≡ result → mmr_rows p.strict p.width p.height left ≡ result
 mmr-sized p before left result white e = subst (λ (g : Grid). mmr_rows p.strict g.width g.height left ≡ result) white e
 
 pub plane-made : (p : GrayScale) (before grid : Grid) (left : List ℕ) (used : ℕ) (rest : List ℕ) → before ≡ blank p.width p.height false → mmr_rows p.strict before.width before.height left ≡ Ok (record { grid = grid; used = used }) → rest ≡ drop used left → mmr_plane p left ≡ Ok (grid, rest)
@@ -166,18 +166,18 @@ pub plane-fault : (p : GrayScale) (before : Grid) (left : List ℕ) (error : Dec
 unfolding mmr_plane
 plane-fault p before left error white e = rw (mmr-sized p before left (Err error) white e)
 
-not_refused : (b : Bool) (error : DecodeError) (made d : Decoded) → (if b then Err error else Ok made) ≡ Ok d → made ≡ d
+not_refused : (b : Bool) (error : DecodeError) (made d : DecodedRows) → (if b then Err error else Ok made) ≡ Ok d → made ≡ d
 not_refused true error made d e = cc
 not_refused false error made d e = cc
 
 -- what MMR rows are, and how many bytes they use
-rows-made : (strict : Bool) (w h : ℕ) (left : List ℕ) (d : Decoded) → mmr_rows strict w h left ≡ Ok d → (d.grid ≡ grid_of_rows w h (rows_of w h left).rows) × (d.used ≤ length left)
+rows-made : (strict : Bool) (w h : ℕ) (left : List ℕ) (d : DecodedRows) → mmr_rows strict w h left ≡ Ok d → (d.grid ≡ grid_of_rows w h (rows_of w h left).rows) × (d.used ≤ length left)
 unfolding mmr_rows
 rows-made strict w h left d e =
     let r : Rows = rows_of w h left in
-    let made : Decoded = record { grid = grid_of_rows w h r.rows; used = length left - length r.left / 8 } in
+    let made : DecodedRows = record { grid = grid_of_rows w h r.rows; used = length left - length r.left / 8 } in
     let same : made ≡ d = not_refused (strict && not r.whole) _ made d e in
-    (sym (ap (λ (m : Decoded). m.grid) same), within (length left) (length r.left / 8) d.used (ap (λ (m : Decoded). m.used) same))
+    (sym (ap (λ (m : DecodedRows). m.grid) same), within (length left) (length r.left / 8) d.used (ap (λ (m : DecodedRows). m.used) same))
   where
     within : (n m k : ℕ) → n - m ≡ k → k ≤ n
     within n m k e = omega arith
@@ -192,7 +192,7 @@ pub drop-whole : (k : ℕ) (bytes : List ℕ) → take (length bytes - k) (drop 
 drop-whole k bytes = take_all (length bytes - k) (drop k bytes) (omega (arith, length-drop k bytes))
 
 -- the sides of a plane
-sides-of : (p : GrayScale) (left : List ℕ) (grid : Grid) (rest : List ℕ) (r : Result Decoded DecodeError) → mmr_rows p.strict p.width p.height left ≡ r → ◌≡◌ {A = Result (Grid × List ℕ) DecodeError} (r >>= λ rows. Ok (rows.grid, drop rows.used left)) (Ok (grid, rest)) → (grid.width ≡ p.width) × (grid.height ≡ p.height)
+sides-of : (p : GrayScale) (left : List ℕ) (grid : Grid) (rest : List ℕ) (r : Result DecodedRows DecodeError) → mmr_rows p.strict p.width p.height left ≡ r → ◌≡◌ {A = Result (Grid × List ℕ) DecodeError} (r >>= λ rows. Ok (rows.grid, drop rows.used left)) (Ok (grid, rest)) → (grid.width ≡ p.width) × (grid.height ≡ p.height)
 sides-of p left grid rest (Err e) rows made = absurd (cc)
 sides-of p left grid rest (Ok d) rows made =
     let same : d.grid ≡ grid = ap (first-of d.grid) made in

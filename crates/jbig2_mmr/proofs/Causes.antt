@@ -7,7 +7,7 @@ use Rattle.jbig2_base.specs.declared.error.DecodeError.{DecodeError}
 use Rattle.jbig2_base.specs.declared.error.DecodeError.TheVariants.{Region}
 use Rattle.jbig2_base.specs.declared.error.RegionError.TheVariants.{InvalidMmrData}
 use Rattle.jbig2_mmr.specs.Causes.{BeginNone, BreaksMmr, BreaksMode, BreaksRow, BreaksRows, BreaksRun, BreaksRuns}
-use Rattle.jbig2_mmr.specs.T6.{Decoded, Head, Rows, Step, after_mode, after_pass, after_runs, after_vertical, b1_of, begins, bits_of, ends_block, grid_of_rows, mmr_rows, next_step, pixel_of, place_in, read_code, row, row_from, row_start, rows_from, rows_of, run, run_from, runs_of, ◌>>=◌}
+use Rattle.jbig2_mmr.specs.T6.{DecodedRows, Head, Rows, Step, after_mode, after_pass, after_runs, after_vertical, b1_of, begins, bits_of, ends_block, grid_of_rows, mmr_rows, next_step, pixel_of, place_in, read_code, row, row_from, row_start, rows_from, rows_of, run, run_from, runs_of, ◌>>=◌}
 use Rattle.jbig2_mmr.proofs.T6Decoding.{or_fault}
 use Rattle.jbig2_mmr.specs.T6Codes.{black_runs, longer_runs, modes, white_runs}
 use Rattle.jbig2_mmr.specs.declared.mmr.codes.Mode.{Mode}
@@ -218,7 +218,7 @@ pub cause-mmr : (P : DecodeError → Type 0) (strict : Bool) (w h : ℕ) (bytes 
 unfolding mmr_rows
 cause-mmr P strict w h bytes why =
     let r = rows_of w h bytes in
-    let Q : Result Decoded DecodeError → Type 0 = λ a. IfErr a P in
+    let Q : Result DecodedRows DecodeError → Type 0 = λ a. IfErr a P in
     cond_both (strict && not r.whole) (Err (Region InvalidMmrData)) (Ok (record { grid = grid_of_rows w h r.rows; used = length bytes - length r.left / 8 })) Q
     (λ refused. let parts = and_parts strict (not r.whole) refused in let fault = all-fault w h bytes (not-true r.whole parts.1) in why (parts.0, fault.0, fault.1))
     (λ taken. tt)

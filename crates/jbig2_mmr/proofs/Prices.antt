@@ -9,15 +9,15 @@ use Rattle.jbig2_base.specs.declared.error.DecodeError.{DecodeError}
 use Rattle.jbig2_steps.specs.Work.{CountsWithin, sum_of_counts, price_of_bitmap, words_of_row}
 use Rattle.jbig2_steps.proofs.WorkLemmas.{row-paid}
 use Rattle.jbig2_mmr.specs.Steps.{MovesWithin, bytes_taken}
-use Rattle.jbig2_mmr.specs.T6.{Decoded, mmr_rows, rows_of}
+use Rattle.jbig2_mmr.specs.T6.{DecodedRows, mmr_rows, rows_of}
 
-used-within : (strict : Bool) (w h : ℕ) (bytes : List ℕ) (d : Decoded) → mmr_rows strict w h bytes ≡ Ok d → d.used ≤ length bytes
+used-within : (strict : Bool) (w h : ℕ) (bytes : List ℕ) (d : DecodedRows) → mmr_rows strict w h bytes ≡ Ok d → d.used ≤ length bytes
 unfolding mmr_rows
 used-within strict w h bytes d is = either (strict && not (rows_of w h bytes).whole) _ _ (omega arith) is
   where
-    either : (c : Bool) (e : DecodeError) (x : Decoded) → x.used ≤ length bytes → (if c then Err e else Ok x) ≡ Ok d → d.used ≤ length bytes
+    either : (c : Bool) (e : DecodeError) (x : DecodedRows) → x.used ≤ length bytes → (if c then Err e else Ok x) ≡ Ok d → d.used ≤ length bytes
     either true e x few same = absurd (cc)
-    either false e x few same = let one : x ≡ d = cc in subst (λ (y : Decoded). y.used ≤ length bytes) one few
+    either false e x few same = let one : x ≡ d = cc in subst (λ (y : DecodedRows). y.used ≤ length bytes) one few
 
 taken-within : (result : Result ℕ DecodeError) (grid : Grid) (strict : Bool) (w h : ℕ) (bytes : List ℕ) → Returns (λ used. record { grid = grid; used = used }) result (mmr_rows strict w h bytes) → bytes_taken result (length bytes) ≤ length bytes
 taken-within (Ok used) grid strict w h bytes is = used-within strict w h bytes _ is

@@ -10,7 +10,7 @@ use Rattle.jbig2_base.specs.declared.error.DecodeError.{DecodeError}
 use Rattle.jbig2_base.specs.declared.error.DecodeError.TheVariants.{Region}
 use Rattle.jbig2_base.specs.declared.error.RegionError.TheVariants.{InvalidMmrData}
 use Rattle.jbig2_base.proofs.GridLemmas.{grid_of-ext, pixel_at-grid_of, pixel_at-right, pixel_at-below}
-use Rattle.jbig2_mmr.specs.T6.{row, pixel_of, black_at, ends_block, Rows, rows_from, rows_of, bits_of, grid_of_rows, Decoded, mmr_rows}
+use Rattle.jbig2_mmr.specs.T6.{row, pixel_of, black_at, ends_block, Rows, rows_from, rows_of, bits_of, grid_of_rows, DecodedRows, mmr_rows}
 use Rattle.jbig2_mmr.specs.inner.T6Reading.{after_end, row_above, IsRow}
 use Rattle.jbig2_mmr.specs.inner.T6Calls.{ReadRow}
 use Rattle.jbig2_base.proofs.NumberLemmas.{length-bits}
@@ -171,28 +171,28 @@ pub drawn-rows : (w h : ℕ) (bytes : List ℕ) (done : List (List ℕ)) (whole 
 drawn-rows w h bytes done whole left new e drawn = drawn ∙ ap (λ (r : Rows). grid_of_rows w h r.rows) (sym e)
 
 -- ---- returns
-result_of : Bool → ℕ → ℕ → List ℕ → Rows → Result Decoded DecodeError
+result_of : Bool → ℕ → ℕ → List ℕ → Rows → Result DecodedRows DecodeError
 result_of strict w h bytes r = cond (strict && not r.whole) (Err (Region InvalidMmrData)) (Ok (record { grid = grid_of_rows w h r.rows; used = length bytes - length r.left / 8 }))
 
 result-by : (strict : Bool) (w h : ℕ) (bytes : List ℕ) (r : Rows) → rows_of w h bytes ≡ r → mmr_rows strict w h bytes ≡ result_of strict w h bytes r
 unfolding mmr_rows result_of
 result-by strict w h bytes r e = ap (λ (r : Rows). cond (strict && not r.whole) (Err (Region InvalidMmrData)) (Ok (record { grid = grid_of_rows w h r.rows; used = length bytes - length r.left / 8 }))) e
 
-used-grid : (new g : Grid) (used n : ℕ) → new ≡ g → used ≡ n → ◌≡◌ {A = Result Decoded DecodeError} (Ok (record { grid = g; used = n })) (Ok (record { grid = new; used = used }))
+used-grid : (new g : Grid) (used n : ℕ) → new ≡ g → used ≡ n → ◌≡◌ {A = Result DecodedRows DecodeError} (Ok (record { grid = g; used = n })) (Ok (record { grid = new; used = used }))
 used-grid new g used n e f =
-    ap (λ (m : Grid). let d : Decoded = record { grid = m; used = n } in Ok d) (sym e) ∙ ap (λ (k : ℕ). let d : Decoded = record { grid = new; used = k } in Ok d) (sym f)
+    ap (λ (m : Grid). let d : DecodedRows = record { grid = m; used = n } in Ok d) (sym e) ∙ ap (λ (k : ℕ). let d : DecodedRows = record { grid = new; used = k } in Ok d) (sym f)
 
 pub result-whole : (strict : Bool) (w h : ℕ) (bytes : List ℕ) (done : List (List ℕ)) (left : List ℕ) (new : Grid) (used : ℕ) → rows_of w h bytes ≡ record { rows = done; whole = true; left = left } → new ≡ grid_of_rows w h done → used ≡ length bytes - length left / 8 → mmr_rows strict w h bytes ≡ Ok (record { grid = new; used = used })
 unfolding result_of
 result-whole true w h bytes done left new used e g f = result-by true w h bytes (record { rows = done; whole = true; left = left }) e ∙ used-grid new (grid_of_rows w h done) used (length bytes - length left / 8) g f
 result-whole false w h bytes done left new used e g f = result-by false w h bytes (record { rows = done; whole = true; left = left }) e ∙ used-grid new (grid_of_rows w h done) used (length bytes - length left / 8) g f
 
-pub result-missing : (strict : Bool) (w h : ℕ) (bytes : List ℕ) (done : List (List ℕ)) (left : List ℕ) (new : Grid) (used : ℕ) (result : Result ℕ DecodeError) → rows_of w h bytes ≡ record { rows = done; whole = false; left = left } → new ≡ grid_of_rows w h done → used ≡ length bytes - length left / 8 → result ≡ cond strict (Err (Region InvalidMmrData)) (Ok used) → Returns (λ (n : ℕ). let d : Decoded = record { grid = new; used = n } in d) result (mmr_rows strict w h bytes)
+pub result-missing : (strict : Bool) (w h : ℕ) (bytes : List ℕ) (done : List (List ℕ)) (left : List ℕ) (new : Grid) (used : ℕ) (result : Result ℕ DecodeError) → rows_of w h bytes ≡ record { rows = done; whole = false; left = left } → new ≡ grid_of_rows w h done → used ≡ length bytes - length left / 8 → result ≡ cond strict (Err (Region InvalidMmrData)) (Ok used) → Returns (λ (n : ℕ). let d : DecodedRows = record { grid = new; used = n } in d) result (mmr_rows strict w h bytes)
 unfolding result_of
 result-missing true w h bytes done left new used result e g f is =
-    subst (λ (r : Result ℕ DecodeError). Returns (λ (n : ℕ). let d : Decoded = record { grid = new; used = n } in d) r (mmr_rows true w h bytes)) (sym is) (result-by true w h bytes (record { rows = done; whole = false; left = left }) e)
+    subst (λ (r : Result ℕ DecodeError). Returns (λ (n : ℕ). let d : DecodedRows = record { grid = new; used = n } in d) r (mmr_rows true w h bytes)) (sym is) (result-by true w h bytes (record { rows = done; whole = false; left = left }) e)
 result-missing false w h bytes done left new used result e g f is =
-    subst (λ (r : Result ℕ DecodeError). Returns (λ (n : ℕ). let d : Decoded = record { grid = new; used = n } in d) r (mmr_rows false w h bytes)) (sym is) (result-by false w h bytes (record { rows = done; whole = false; left = left }) e ∙ used-grid new (grid_of_rows w h done) used (length bytes - length left / 8) g f)
+    subst (λ (r : Result ℕ DecodeError). Returns (λ (n : ℕ). let d : DecodedRows = record { grid = new; used = n } in d) r (mmr_rows false w h bytes)) (sym is) (result-by false w h bytes (record { rows = done; whole = false; left = left }) e ∙ used-grid new (grid_of_rows w h done) used (length bytes - length left / 8) g f)
 
 -- without columns or rows
 no-rows : (w h : ℕ) (bytes : List ℕ) → (eqb w 0 || eqb h 0) ≡ true → rows_of w h bytes ≡ record { rows = []; whole = true; left = bits_of bytes }

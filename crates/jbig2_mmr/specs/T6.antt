@@ -172,12 +172,12 @@ rows_of w h bytes =
 abbrev pub grid_of_rows : ℕ → ℕ → List (List ℕ) → Grid
 grid_of_rows w h rows = grid_of w h (λ x y. black_at (slice_index_or rows y []) x)
 
-pub record Decoded : Type 0 where  -- the bitmap, and the bytes that were used, the last one whole
+pub record DecodedRows : Type 0 where  -- the bitmap, and the bytes that were used, the last one whole
   pub grid : Grid
   pub used : ℕ
 
 -- the rows of a width and a height (T.88, 6.2.6); strict mode refuses a missing row, else it is white
-unfoldable pub mmr_rows : Bool → ℕ → ℕ → List ℕ → Result Decoded DecodeError
+unfoldable pub mmr_rows : Bool → ℕ → ℕ → List ℕ → Result DecodedRows DecodeError
 mmr_rows strict w h bytes =
     let r = rows_of w h bytes in
     if strict && not r.whole then Err (Region InvalidMmrData)

@@ -33,7 +33,7 @@ const PAGES: &[(&str, bool, PassedOver)] = &[
 ];
 
 /// The packed row of a page that a context draws.
-fn drawn(
+fn draw_row(
     alloc: Global,
     text: &str,
     strict: bool,
@@ -52,9 +52,9 @@ fn drawn(
 
 /// Whether a context reports what was passed over in the page drawn last, and not in a page before it.
 fn holds_in(alloc: Global, context: &mut DecoderContext<Global>) -> Result<bool> {
-    let whole = drawn(alloc, NO_FAULT, true, context)?;
+    let whole = draw_row(alloc, NO_FAULT, true, context)?;
     for (text, strict, passed_over) in PAGES {
-        let row = drawn(alloc, text, *strict, context)?;
+        let row = draw_row(alloc, text, *strict, context)?;
         if row != whole || context.passed_over() != passed_over {
             return Ok(false);
         }

@@ -12,7 +12,7 @@ const WHITE_IMAGE: [u8; 8] = [255; 8];
 const BEFORE: [u8; 8] = [7; 8];
 
 /// Draws the first page, which must have 8 by 1 pixels. Returns whether it has that size.
-fn drawn(
+fn draw_first_page(
     alloc: Global,
     reader: Slow<'_>,
     image: &mut [u8; 8],
@@ -34,7 +34,7 @@ fn slow_reader_holds(
     fault: ErrorKind,
 ) -> Result<bool> {
     let mut image = BEFORE;
-    match drawn(alloc, Slow::new(bytes, patience, fault), &mut image) {
+    match draw_first_page(alloc, Slow::new(bytes, patience, fault), &mut image) {
         Ok(sized) => Ok(110 <= patience && sized && image == WHITE_IMAGE),
         Err(Jbig2Error::Io(error)) => {
             Ok(patience < 110 && error.kind() == fault && image == BEFORE)

@@ -273,7 +273,7 @@ fn decode_narrow<A: Allocator, B: Allocator, L: Ledger>(
             look: false,
         };
         let pixels = decode_block(coding, row, stretch, bitmap, decoder, contexts, steps);
-        windows = windows.lowered(coding.reference, y + 1, pixels, width, steps);
+        windows = windows.on_next_row(coding.reference, y + 1, pixels, width, steps);
     }
 }
 

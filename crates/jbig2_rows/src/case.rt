@@ -7,7 +7,7 @@ use crate::file_case::{FileCase, file_holds};
 use crate::mmr::{MmrCase, mmr_holds};
 use crate::patterns::wide_patterns_hold;
 use crate::salvage::{SalvageCase, salvage_holds};
-use crate::spelling::spelled;
+use crate::spelling::bytes_of;
 use crate::table::{TableCase, table_holds};
 use hayro_jbig2::parts::reader::Reader;
 use hayro_jbig2::parts::segment::{SegmentType, parse_segment_header};
@@ -52,7 +52,7 @@ pub struct Header {
     pub data_length: Option<u32>,
 }
 
-/// One case. `spelling::spelled` reads its bytes.
+/// One case. `spelling::bytes_of` reads its bytes.
 pub enum Case {
     /// The result of an embedded page in these modes.
     Page(Modes, &'static str, Answer),
@@ -186,7 +186,7 @@ fn answer_holds<A: Allocator + Clone>(
     answer: &Answer,
     context: &mut DecoderContext<A>,
 ) -> Result<bool> {
-    let Some(bytes) = spelled(alloc, bytes)? else {
+    let Some(bytes) = bytes_of(alloc, bytes)? else {
         return Ok(false);
     };
     modes_hold(alloc, modes, &bytes, answer, context)
@@ -231,7 +231,7 @@ fn beginnings_hold<A: Allocator + Clone>(
     answer: &Answer,
     context: &mut DecoderContext<A>,
 ) -> Result<bool> {
-    let Some(bytes) = spelled(alloc, bytes)? else {
+    let Some(bytes) = bytes_of(alloc, bytes)? else {
         return Ok(false);
     };
     for length in lengths.0..=lengths.1 {
@@ -253,8 +253,8 @@ fn shared_holds<A: Allocator + Clone>(
     answer: &Answer,
     context: &mut DecoderContext<A>,
 ) -> Result<bool> {
-    let globals = spelled(alloc, globals)?;
-    let bytes = spelled(alloc, bytes)?;
+    let globals = bytes_of(alloc, globals)?;
+    let bytes = bytes_of(alloc, bytes)?;
     let (Some(globals), Some(bytes)) = (globals, bytes) else {
         return Ok(false);
     };
@@ -283,7 +283,7 @@ fn size_holds<A: Allocator + Clone>(
     width: u32,
     height: u32,
 ) -> Result<bool> {
-    let Some(bytes) = spelled(alloc, bytes)? else {
+    let Some(bytes) = bytes_of(alloc, bytes)? else {
         return Ok(false);
     };
     let page = match Page::new_embedded(
@@ -312,7 +312,7 @@ pub fn refused_as(error: DecodeError, expected: Option<&DecodeError>) -> Result<
 
 /// Whether the segment header in this text has these fields.
 fn header_holds<A: Allocator + Clone>(alloc: &A, bytes: &str, expected: &Header) -> Result<bool> {
-    let Some(bytes) = spelled(alloc, bytes)? else {
+    let Some(bytes) = bytes_of(alloc, bytes)? else {
         return Ok(false);
     };
     let mut reader = Reader::new(&bytes);

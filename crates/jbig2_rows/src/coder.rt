@@ -1,7 +1,7 @@
 //! The cases of the arithmetic coder.
 ghost use Rattle.std.specs.Prelude.{◌≡◌};
 
-use crate::spelling::spelled;
+use crate::spelling::bytes_of;
 use hayro_jbig2::Result;
 use hayro_jbig2::parts::arithmetic_decoder::{ArithmeticDecoder, ArithmeticDecoderContext};
 use hayro_jbig2::parts::bitmap::steps::Steps;
@@ -50,14 +50,14 @@ pub enum CoderCase {
 pub fn coder_holds<A: Allocator + Clone>(alloc: &A, case: &CoderCase) -> Result<bool> {
     match case {
         CoderCase::Readings { bytes, readings } => {
-            let Some(bytes) = spelled(alloc, bytes)? else {
+            let Some(bytes) = bytes_of(alloc, bytes)? else {
                 return Ok(false);
             };
             Ok(readings_hold::<Brand>(Blank::new(6), &bytes, readings))
         }
         CoderCase::Encoded { list, bytes } => is_encoded_as(alloc, list, bytes),
         CoderCase::Decoded { bytes, list } => {
-            let Some(bytes) = spelled(alloc, bytes)? else {
+            let Some(bytes) = bytes_of(alloc, bytes)? else {
                 return Ok(false);
             };
             list_is_read::<A, Brand>(alloc, Blank::new(6), &bytes, list)
@@ -86,7 +86,7 @@ fn is_encoded_as<A: Allocator + Clone>(
     list: &[(u16, bool)],
     bytes: &str,
 ) -> Result<bool> {
-    let Some(bytes) = spelled(alloc, bytes)? else {
+    let Some(bytes) = bytes_of(alloc, bytes)? else {
         return Ok(false);
     };
     let encoded = encode_list(alloc.clone()?, list)?;

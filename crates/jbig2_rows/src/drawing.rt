@@ -2,7 +2,7 @@
 use crate::call::{Call, WHITE};
 use crate::case::{Answer, refused_as};
 use crate::salvage::salvages;
-use crate::spelling::spelled;
+use crate::spelling::bytes_of;
 use crate::watcher::Watcher;
 use hayro_jbig2::{
     DecodeError, DecodeSettings, DecoderContext, HuffmanError, Page, ParseError, RegionError,
@@ -19,7 +19,7 @@ pub fn white_holds<A: Allocator + Clone>(
     alloc: &A,
     context: &mut DecoderContext<A>,
 ) -> Result<bool> {
-    let Some(bytes) = spelled(alloc, "P")? else {
+    let Some(bytes) = bytes_of(alloc, "P")? else {
         return Ok(false);
     };
     page_holds(alloc, &bytes, true, &WHITE_PAGE, context)

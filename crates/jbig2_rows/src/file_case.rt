@@ -2,7 +2,7 @@
 use crate::case::{Answer, Modes, refused_as};
 use crate::drawing::drawing_holds;
 use crate::errors::TOO_EARLY;
-use crate::spelling::spelled;
+use crate::spelling::bytes_of;
 use hayro_jbig2::{
     DecodeError, DecodeSettings, DecoderContext, File, Globals, Jbig2Decoder, Jbig2Error, Result,
     WorkLimit,
@@ -17,7 +17,7 @@ pub struct FilePage {
     pub answer: Answer,
 }
 
-/// One case of a file. `spelling::spelled` reads its bytes.
+/// One case of a file. `spelling::bytes_of` reads its bytes.
 pub enum FileCase {
     /// `File::new` returns this error.
     Refused(Modes, &'static str, DecodeError),
@@ -49,7 +49,7 @@ pub fn file_holds<A: Allocator + Clone>(
     case: &FileCase,
     context: &mut DecoderContext<A>,
 ) -> Result<bool> {
-    let Some(bytes) = spelled(alloc, case.bytes())? else {
+    let Some(bytes) = bytes_of(alloc, case.bytes())? else {
         return Ok(false);
     };
     if let FileCase::NoFirstPage(_, error) = case {

@@ -2,7 +2,7 @@
 ghost use Rattle.std.specs.Prelude.{◌≡◌};
 
 use crate::case::{Modes, refused_as};
-use crate::spelling::spelled;
+use crate::spelling::bytes_of;
 use hayro_jbig2::Result;
 use hayro_jbig2::parts::bitmap::Bitmap;
 use hayro_jbig2::parts::bitmap::steps::Steps;
@@ -19,12 +19,12 @@ pub struct MmrCase {
     pub width: u32,
     pub height: u32,
     pub bytes: &'static str,
-    pub answer: Result<Decoded>,
+    pub answer: Result<ExpectedRows>,
 }
 
 /// The expected result of MMR data.
 #[derive(Clone, Copy)]
-pub struct Decoded {
+pub struct ExpectedRows {
     /// The number of bytes that are used.
     pub used: usize,
     /// The rows, a byte with eight pixels for each, the first in the highest bit, 1 for black.
@@ -33,7 +33,7 @@ pub struct Decoded {
 
 /// Whether a case holds. The only error is `DecodeError::OutOfMemory`.
 pub fn mmr_holds<A: Allocator + Clone>(alloc: &A, case: &MmrCase) -> Result<bool> {
-    let Some(bytes) = spelled(alloc, case.bytes)? else {
+    let Some(bytes) = bytes_of(alloc, case.bytes)? else {
         return Ok(false);
     };
     for strict in [true, false] {

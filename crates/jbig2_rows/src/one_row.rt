@@ -3,8 +3,8 @@ ghost use Rattle.std.specs.Prelude.{◌≡◌, ◌↔◌, false, map};
 ghost use Rattle.jbig2_rows.specs.Words.{is_one_word};
 
 use crate::case::{Row, print_row, row_serves_on};
-use crate::ended::{Fault, refused_words, status_of};
 use crate::rows::row_named;
+use crate::status::{Fault, refused_words, status_of};
 use hayro_jbig2::{DecodeError, DecoderContext};
 use std::alloc::Allocator;
 use std::io::Write;

@@ -4,9 +4,9 @@ ghost use Rattle.std.specs.Option.{is_some};
 ghost use Rattle.jbig2_rows.specs.Words.{is_lists, is_run};
 
 use crate::case::{Row, print_row, row_holds};
-use crate::ended::{Fault, refused_words, status_of};
 use crate::lists::first_that_differs;
 use crate::rows::families;
+use crate::status::{Fault, refused_words, status_of};
 use hayro_jbig2::DecoderContext;
 use std::alloc::Allocator;
 use std::io;

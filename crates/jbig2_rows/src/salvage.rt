@@ -2,13 +2,13 @@
 use crate::case::{Answer, refused_as};
 use crate::drawing::drawing_holds;
 use crate::file_case::{FilePage, all_pages_hold};
-use crate::spelling::spelled;
+use crate::spelling::bytes_of;
 use hayro_jbig2::{
     DecodeError, DecoderContext, File, Globals, Page, PassedOver, Result, WorkLimit,
 };
 use std::alloc::Allocator;
 
-/// One case of salvage. `spelling::spelled` reads its bytes.
+/// One case of salvage. `spelling::bytes_of` reads its bytes.
 pub enum SalvageCase {
     /// The result of an embedded page with globals, and what each of them reports.
     Page {
@@ -59,8 +59,8 @@ pub fn salvage_holds<A: Allocator + Clone>(
             globals_report,
             report,
         } => {
-            let globals = spelled(alloc, globals)?;
-            let bytes = spelled(alloc, bytes)?;
+            let globals = bytes_of(alloc, globals)?;
+            let bytes = bytes_of(alloc, bytes)?;
             let (Some(globals), Some(bytes)) = (globals, bytes) else {
                 return Ok(false);
             };
@@ -81,7 +81,7 @@ pub fn salvage_holds<A: Allocator + Clone>(
             left_out,
             report,
         } => {
-            let Some(bytes) = spelled(alloc, bytes)? else {
+            let Some(bytes) = bytes_of(alloc, bytes)? else {
                 return Ok(false);
             };
             file_holds(alloc, &bytes, pages, left_out, report, context)

@@ -10,7 +10,7 @@ use std::alloc::Allocator;
 /// The text has words with single spaces between them, and each word means bytes. `0A1B` means the bytes with these
 /// hexadecimal digits; `00*9` means nine times `00`; `P` means the piece of that name; `P@27=04` means that piece with
 /// other bytes from place 27 on, and `P@11=00000009@27=04` the piece with two such changes.
-pub fn spelled<A: Allocator + Clone>(alloc: &A, text: &str) -> Result<Option<Vec<u8, A>>> {
+pub fn bytes_of<A: Allocator + Clone>(alloc: &A, text: &str) -> Result<Option<Vec<u8, A>>> {
     let mut bytes = Vec::new(alloc.clone()?);
     for word in text.split(' ') {
         if !push_word(&mut bytes, word)? {

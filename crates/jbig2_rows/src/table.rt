@@ -1,6 +1,6 @@
 //! The cases of the tables of prefix codes.
 use crate::case::refused_as;
-use crate::spelling::spelled;
+use crate::spelling::bytes_of;
 use hayro_jbig2::parts::huffman_table::{HuffmanTable, StandardHuffmanTables};
 use hayro_jbig2::parts::reader::Reader;
 use hayro_jbig2::{DecodeError, Result};
@@ -57,11 +57,11 @@ pub fn table_holds<A: Allocator + Clone>(alloc: &A, case: &TableCase) -> Result<
             bytes,
             from,
             answer,
-        } => match made(alloc, source) {
+        } => match make_table(alloc, source) {
             Ok(table) => decode_holds(alloc, &table, bytes, *from, answer),
             Err(error) => refused_as(error, None),
         },
-        TableCase::Refused { source, error } => match made(alloc, source) {
+        TableCase::Refused { source, error } => match make_table(alloc, source) {
             Ok(_) => Ok(false),
             Err(refusal) => refused_as(refusal, Some(error)),
         },
@@ -80,7 +80,7 @@ fn standard_a_holds<A: Allocator + Clone>(
 }
 
 fn left_holds<A: Allocator + Clone>(alloc: &A, bytes: &str, bits: u8) -> Result<bool> {
-    let Some(bytes) = spelled(alloc, bytes)? else {
+    let Some(bytes) = bytes_of(alloc, bytes)? else {
         return Ok(false);
     };
     let mut reader = Reader::new(&bytes);
@@ -90,7 +90,7 @@ fn left_holds<A: Allocator + Clone>(alloc: &A, bytes: &str, bits: u8) -> Result<
     Ok(pass_over(&mut reader, bits) && reader.at_end())
 }
 
-fn made<A: Allocator + Clone>(alloc: &A, source: &Source) -> Result<HuffmanTable<A>> {
+fn make_table<A: Allocator + Clone>(alloc: &A, source: &Source) -> Result<HuffmanTable<A>> {
     match source {
         Source::Nothing => HuffmanTable::build(alloc.clone()?, &[]),
         Source::Uniform(count, code_length) => {
@@ -98,7 +98,7 @@ fn made<A: Allocator + Clone>(alloc: &A, source: &Source) -> Result<HuffmanTable
             HuffmanTable::build_uniform(alloc.clone()?, count, (*code_length).min(255))
         }
         Source::Custom(bytes) => {
-            let Some(bytes) = spelled(alloc, bytes)? else {
+            let Some(bytes) = bytes_of(alloc, bytes)? else {
                 return Err(DecodeError::Unsupported);
             };
             HuffmanTable::read_custom(alloc.clone()?, &mut Reader::new(&bytes))
@@ -113,7 +113,7 @@ fn decode_holds<A: Allocator + Clone>(
     from: u8,
     answer: &Result<Option<i32>>,
 ) -> Result<bool> {
-    let Some(bytes) = spelled(alloc, bytes)? else {
+    let Some(bytes) = bytes_of(alloc, bytes)? else {
         return Ok(false);
     };
     let mut reader = Reader::new(&bytes);

@@ -11,7 +11,7 @@ use Rattle.jbig2_mmr.proofs.FromInput.{from_input-mmr}
 use Rattle.jbig2_region.proofs.FromInput.{from_input-pixels, from_input-refinement_pixels}
 use Rattle.jbig2_text.specs.Refining.{Refining}
 use Rattle.jbig2_text.specs.Text.{Readings, TextParams}
-use Rattle.jbig2_text.specs.TextCoding.{Coded, Prefixed, by_coder, by_prefix_codes, next_id}
+use Rattle.jbig2_text.specs.TextCoding.{CodedState, PrefixedState, by_coder, by_prefix_codes, next_id}
 use Rattle.jbig2_text.proofs.FromInput.{AreFromInput, from_input-some_symbol, from_input-text_region}
 use Rattle.jbig2_text.proofs.RegionsFromInput.{from_input-in_band, by_coder-from_input, by_prefix_codes-from_input}
 use Rattle.jbig2_symbol.specs.Symbols.{exports, next_run, runs_from, dictionary_by, dictionary_from, symbols_decoded}
@@ -92,16 +92,16 @@ from_input-instances : {S : Type 0} (r : Readings S) (a : AreFromInput r) (alone
     → (p : TextParams) (width height : ℕ) (f : Refining) (s : S) → FromInput (by_instances r alone p width height f s)
 from_input-instances r a alone first p width height f s = search (from_input-if, from_input-next, first, from_input-alone r a, from_input-together r a) depth 8
 
-from_input-coded : (d : SymbolInput) (new : List Grid) (width height : ℕ) (s : SymbolState Coded) → FromInput (coded_aggregate d new width height s)
+from_input-coded : (d : SymbolInput) (new : List Grid) (width height : ℕ) (s : SymbolState CodedState) → FromInput (coded_aggregate d new width height s)
 unfolding coded_aggregate
 from_input-coded d new width height s =
     from_input-next (instance_count (by_procedure Iaai s)) _ (from_input-count (by_procedure Iaai s) tt) (λ count. instances (aggregate_params d new count.0) count.1)
   where
-    instances : (p : TextParams) (t : SymbolState Coded) → FromInput (coded_instances p width height t)
+    instances : (p : TextParams) (t : SymbolState CodedState) → FromInput (coded_instances p width height t)
     instances p t =
         from_input-next (by_instances by_coder (λ c. Ok (next_id c)) p width height t.contexts.refining t.coding) _ (from_input-instances by_coder by_coder-from_input (λ c. Ok (next_id c)) (λ c. tt) p width height t.contexts.refining t.coding) (λ symbol. tt)
 
-from_input-plain_id : (bits : ℕ) (s : Prefixed) → FromInput (plain_id bits s)
+from_input-plain_id : (bits : ℕ) (s : PrefixedState) → FromInput (plain_id bits s)
 from_input-plain_id bits s = search (from_input-next, from_input-bits)
 
 from_input-prefixed : (d : SymbolInput) (new : List Grid) (width height : ℕ) (s : SymbolState Place) → FromInput (prefixed_aggregate d new width height s)
@@ -114,7 +114,7 @@ from_input-prefixed d new width height s =
         from_input-next (by_instances by_prefix_codes (plain_id _) p width height t.contexts.refining _) _ (from_input-instances by_prefix_codes by_prefix_codes-from_input (plain_id _) (from_input-plain_id _) p width height t.contexts.refining _) (λ symbol. tt)
 
 -- ---- bitmaps
-from_input-coded_symbol : (h : SymbolHeader) (width height : ℕ) (s : SymbolState Coded) → FromInput (coded_symbol h width height s)
+from_input-coded_symbol : (h : SymbolHeader) (width height : ℕ) (s : SymbolState CodedState) → FromInput (coded_symbol h width height s)
 unfolding coded_symbol
 from_input-coded_symbol h width height s = search (from_input-next, from_input-refusal)
 
@@ -217,7 +217,7 @@ unfolding exports
 from_input-exports r a d grids s = search (from_input-next, from_input-runs r a, from_input-refusal)
 
 -- ---- the codings
-from_input-coded_bitmap : (d : SymbolInput) (new : List Grid) (width height : ℕ) (s : SymbolState Coded) → FromInput (coded_bitmap d new width height s)
+from_input-coded_bitmap : (d : SymbolInput) (new : List Grid) (width height : ℕ) (s : SymbolState CodedState) → FromInput (coded_bitmap d new width height s)
 unfolding coded_bitmap
 from_input-coded_bitmap d new width height s = search (from_input-if, from_input-coded, from_input-coded_symbol)
 

@@ -18,7 +18,7 @@ use Rattle.jbig2_coder.specs.declared.integer_procedures.IntegerProcedure.TheVar
 use Rattle.jbig2_text.specs.Causes.{After, BreaksInstances, ReadingsHaveCauses, NamesNone, ReadingCauses, RefusesValue, coder_causes, prefix_causes}
 use Rattle.jbig2_text.specs.Refining.{Refining}
 use Rattle.jbig2_text.specs.Text.{Readings, TextParams, some_symbol, symbol_of, text_region}
-use Rattle.jbig2_text.specs.TextCoding.{Coded, Prefixed, by_coder, by_prefix_codes, next_id}
+use Rattle.jbig2_text.specs.TextCoding.{CodedState, PrefixedState, by_coder, by_prefix_codes, next_id}
 use Rattle.jbig2_symbol.specs.Causes.{BreaksByInstances, BreaksCodedAggregate, BreaksCount, BreaksPrefixedAggregate}
 use Rattle.jbig2_symbol.specs.SymbolBitmaps.{aggregate_params, by_instances, coded_aggregate, fits_symbol, id_bits, instance_count, plain_id, prefixed_aggregate, prefixed_at, put_together, refined_alone}
 use Rattle.jbig2_symbol.specs.SymbolReading.{SymbolState, by_procedure, by_table, SymbolInput}
@@ -90,20 +90,20 @@ cause-count {S} P reading refused broken = cause-more (λ e. InSteps reading (Is
     on (Ok value) refused broken why = broken (value, refl, why)
     on (Err f) refused broken why = refused why
 
-coded_aggregate_causes : (d : SymbolInput) (new : List Grid) (width height : ℕ) (s : SymbolState Coded) → IfErr (coded_aggregate d new width height s) (BreaksCodedAggregate d new width height s)
+coded_aggregate_causes : (d : SymbolInput) (new : List Grid) (width height : ℕ) (s : SymbolState CodedState) → IfErr (coded_aggregate d new width height s) (BreaksCodedAggregate d new width height s)
 unfolding coded_aggregate
 coded_aggregate_causes d new width height s =
     let P : DecodeError → Type 0 = BreaksCodedAggregate d new width height s in
     cause-next P (instance_count (by_procedure Iaai s)) _ (cause-count P (by_procedure Iaai s) (λ e never. absurd cc) (λ e no. inl no)) (λ count count_is.
     let p = aggregate_params d new count.0 in
     let refining = count.1.contexts.refining in
-    let alone : Coded → Result (ℤ × Coded) DecodeError = λ c. Ok (next_id c) in
-    let lacks : Coded → DecodeError → Type 0 = λ c e. ⊥ in
+    let alone : CodedState → Result (ℤ × CodedState) DecodeError = λ c. Ok (next_id c) in
+    let lacks : CodedState → DecodeError → Type 0 = λ c e. ⊥ in
     cause-next P (by_instances by_coder alone p width height refining count.1.coding) _
     (cause-more (BreaksByInstances coder_causes by_coder alone lacks p width height refining count.1.coding) P (by_instances by_coder alone p width height refining count.1.coding)
     (cause-instances coder_causes by_coder by_coder-causes alone lacks (λ c. tt) p width height refining count.1.coding) (λ e no. inr (count, count_is, no))) (λ symbol symbol_is. tt))
 
-pub coded_aggregate_cause : {X : Type 0} (d : SymbolInput) (new : List Grid) (width height : ℕ) (s : SymbolState Coded) (r : Result X DecodeError)
+pub coded_aggregate_cause : {X : Type 0} (d : SymbolInput) (new : List Grid) (width height : ℕ) (s : SymbolState CodedState) (r : Result X DecodeError)
     → IfErr r (λ e. (e ≡ errors.OutOfMemory) ⊎ (coded_aggregate d new width height s ≡ Err e)) → HasCauseOrNoMemory r (BreaksCodedAggregate d new width height s)
 coded_aggregate_cause d new width height s r =
     call-cause-or-memory (BreaksCodedAggregate d new width height s) (coded_aggregate d new width height s) r (coded_aggregate_causes d new width height s)
@@ -119,10 +119,10 @@ refused-value table s e = on (decoded_value table (bits_left s.coding)).result
     on (Err f) is = cc
 
 -- by prefix codes, the bits of the id are fewer than it has
-abbrev LacksId : ℕ → Prefixed → DecodeError → Type 0
+abbrev LacksId : ℕ → PrefixedState → DecodeError → Type 0
 LacksId bits s e = (e ≡ errors.Parse UnexpectedEof) × (length (bits_left s.place) < bits)
 
-cause-plain_id : (bits : ℕ) (s : Prefixed) → IfErr (plain_id bits s) (LacksId bits s)
+cause-plain_id : (bits : ℕ) (s : PrefixedState) → IfErr (plain_id bits s) (LacksId bits s)
 cause-plain_id bits s =
     let P : DecodeError → Type 0 = LacksId bits s in
     cause-next P _ _ (cause-next P _ _ (cause-bits P end_of_bytes bits s.place (λ short. (refl, short))) (λ n is. tt)) (λ n is. tt)

@@ -12,7 +12,7 @@ use Rattle.jbig2_base.specs.declared.error.DecodeError.{DecodeError}
 use Rattle.jbig2_base.specs.declared.error.DecodeError.TheVariants.{Overflow, Region}
 use Rattle.jbig2_base.specs.declared.error.OverflowError.TheVariants.{BitmapDimension}
 use Rattle.jbig2_base.specs.declared.error.RegionError.TheVariants.{InvalidMmrData}
-use Rattle.jbig2_mmr.specs.T6.{Decoded, grid_of_rows, mmr_rows, rows_of}
+use Rattle.jbig2_mmr.specs.T6.{DecodedRows, grid_of_rows, mmr_rows, rows_of}
 use Rattle.jbig2_symbol.specs.HeightClasses.{empty_class, widths_from}
 use Rattle.jbig2_symbol.specs.SymbolBitmaps.{collective_bitmap, mmr_bytes, rows_of_size, symbol_cut, symbols_cut}
 use Rattle.jbig2_symbol.specs.SymbolCoding.{collective_class, symbols_by_prefix_codes}
@@ -46,7 +46,7 @@ pub mmr-passed : (strict : Bool) (size w h : ℕ) (bytes part rest : List ℕ) (
 unfolding mmr_bytes mmr_rows
 mmr-passed strict size w h bytes part rest white (inl lenient) there fits = rw (there, fits, lenient) refl
 mmr-passed strict size w h bytes part rest white (inr none) there fits =
-    let rows : Decoded = record { grid = grid_of_rows w h (rows_of w h part).rows; used = length part - length (rows_of w h part).left / 8 } in
+    let rows : DecodedRows = record { grid = grid_of_rows w h (rows_of w h part).rows; used = length part - length (rows_of w h part).left / 8 } in
     let whole : mmr_rows strict w h part ≡ Ok rows = simp (no-columns w h part none, and-false strict) refl in
     rw (there, fits, whole) refl
 

@@ -23,7 +23,7 @@ use Rattle.jbig2_text.specs.Causes.{After, BreaksInstances, NamesNone, ReadingCa
 use Rattle.jbig2_text.specs.Causes.{prefix_causes}
 use Rattle.jbig2_text.specs.Refining.{Refining}
 use Rattle.jbig2_text.specs.Text.{Readings, TextParams}
-use Rattle.jbig2_text.specs.TextCoding.{Coded, Prefixed, by_coder, by_prefix_codes, next_id}
+use Rattle.jbig2_text.specs.TextCoding.{CodedState, PrefixedState, by_coder, by_prefix_codes, next_id}
 use Rattle.jbig2_symbol.specs.Symbols.{export_runs, exported_grids, next_run}
 use Rattle.jbig2_symbol.specs.SymbolBitmaps.{aggregate_params, id_bits, instance_count, plain_id, prefixed_at}
 use Rattle.jbig2_symbol.specs.SymbolBitmaps.{raw_stride}
@@ -132,7 +132,7 @@ BreaksByInstances c r alone lacks p width height f s e =
     ⊎ ((p.count ≢ 1) × (BreaksSides width height e ⊎ BreaksInstances c r p (blank width height false) f s e))
 
 -- The number of instances is refused, or then the instances. The arithmetic coder never refuses an id.
-abbrev pub BreaksCodedAggregate : SymbolInput → List Grid → ℕ → ℕ → SymbolState Coded → DecodeError → Type 0
+abbrev pub BreaksCodedAggregate : SymbolInput → List Grid → ℕ → ℕ → SymbolState CodedState → DecodeError → Type 0
 BreaksCodedAggregate d new width height s e =
     After (by_procedure Iaai s) (λ (value, _). BreaksCount value e)
     ⊎ After (instance_count (by_procedure Iaai s)) (λ (count, after_count).
@@ -146,7 +146,7 @@ BreaksPrefixedAggregate d new width height s e =
     ⊎ After (by_table d.tables.counts s) (λ (value, _). BreaksCount value e)
     ⊎ After (instance_count (by_table d.tables.counts s)) (λ (count, after_count).
     let bits = max 1 (id_bits d.header (length d.symbols)) in
-    let lacks : Prefixed → DecodeError → Type 0 =
+    let lacks : PrefixedState → DecodeError → Type 0 =
     λ c err. (err ≡ errors.Parse UnexpectedEof) × (length (bits_left c.place) < bits) in
     BreaksByInstances prefix_causes by_prefix_codes (plain_id bits) lacks (aggregate_params d new count) width height
     after_count.contexts.refining (prefixed_at d after_count.coding) e)

@@ -22,7 +22,7 @@ use Rattle.jbig2_region.specs.Raster.{so_far, decoded_region, no_pixels}
 use Rattle.jbig2_region.specs.Templates.{template_pixels}
 use Rattle.jbig2_text.specs.Refining.{Refining}
 use Rattle.jbig2_text.specs.Text.{Readings, TextParams, some_symbol, symbol_of, text_region}
-use Rattle.jbig2_text.specs.TextCoding.{Coded, Prefixed, by_coder, by_prefix_codes, next_id, prefixed_bits, in_band}
+use Rattle.jbig2_text.specs.TextCoding.{CodedState, PrefixedState, by_coder, by_prefix_codes, next_id, prefixed_bits, in_band}
 use Rattle.jbig2_text.specs.TextRegion.{aggregate_tables}
 use Rattle.jbig2_text.specs.declared.header.ReferenceCorner.TheVariants.{TopLeft}
 use Rattle.jbig2_text.specs.declared.header.TextRegionFlags.{TextRegionFlags}
@@ -37,13 +37,13 @@ abbrev pub fits_symbol : ℕ → ℕ → Result (Unit {0}) DecodeError
 fits_symbol w h = check_sides w h
 
 -- A generic region of its own (6.5.8.1), without typical prediction (Table 16).
-unfoldable pub coded_symbol : SymbolHeader → ℕ → ℕ → SymbolState Coded → Result (Grid × SymbolState Coded) DecodeError
+unfoldable pub coded_symbol : SymbolHeader → ℕ → ℕ → SymbolState CodedState → Result (Grid × SymbolState CodedState) DecodeError
 coded_symbol h width height s =
     let template = s.contexts.template in
     let coding = coding_of false template (template_pixels false template h.adaptive_template_pixels) in
     let coder = s.coding.coder in
     let region = decoded_region coding width height coder.bytes (no_pixels coder.registers s.contexts.generic) in
-    let coded : Coded = record s.coding { coder = record coder { registers = region.registers } } in
+    let coded : CodedState = record s.coding { coder = record coder { registers = region.registers } } in
     let contexts : SymbolContexts = record s.contexts { generic = region.contexts } in
     fits_symbol width height >>= λ fits.
     Ok (so_far width height region.pixels, record { coding = coded; contexts = contexts })
@@ -113,23 +113,23 @@ by_instances r alone p width height f s =
     if p.count == 1 then (alone s >>= λ (id, after_id). refined_alone r p.symbols id width height f after_id)
     else put_together r p width height f s
 
-abbrev pub coded_instances : TextParams → ℕ → ℕ → SymbolState Coded → Result (Grid × SymbolState Coded) DecodeError
+abbrev pub coded_instances : TextParams → ℕ → ℕ → SymbolState CodedState → Result (Grid × SymbolState CodedState) DecodeError
 coded_instances p width height s = do
   (symbol, refining, after) ← by_instances by_coder (λ c. Ok (next_id c)) p width height s.contexts.refining s.coding
   Ok (symbol, record { coding = after; contexts = record s.contexts { refining = refining } })
 
 -- A symbol of this width and height, after these new ones; IAAI gives the number of its instances.
-unfoldable pub coded_aggregate : SymbolInput → List Grid → ℕ → ℕ → SymbolState Coded
-    → Result (Grid × SymbolState Coded) DecodeError
+unfoldable pub coded_aggregate : SymbolInput → List Grid → ℕ → ℕ → SymbolState CodedState
+    → Result (Grid × SymbolState CodedState) DecodeError
 coded_aggregate d new width height s =
     instance_count (by_procedure Iaai s) >>= λ (count, after_count).
     coded_instances (aggregate_params d new count) width height after_count
 
 -- by prefix codes: the id of a single instance is plain bits, not a code
-abbrev pub plain_id : ℕ → Prefixed → Result (ℤ × Prefixed) DecodeError
+abbrev pub plain_id : ℕ → PrefixedState → Result (ℤ × PrefixedState) DecodeError
 plain_id bits s = prefixed_bits end_of_bytes bits s >>= λ (id, after). Ok (pos id, after)
 
-abbrev pub prefixed_at : SymbolInput → Place → Prefixed
+abbrev pub prefixed_at : SymbolInput → Place → PrefixedState
 prefixed_at d place = record { place = place; tables = aggregate_tables; ids = d.ids }
 
 abbrev pub prefixed_instances : SymbolInput → TextParams → ℕ → ℕ → SymbolState Place

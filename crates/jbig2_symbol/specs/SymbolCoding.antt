@@ -6,7 +6,7 @@ use Rattle.jbig2_base.specs.Grid.{Grid}
 use Rattle.jbig2_base.specs.declared.error.DecodeError.{DecodeError}
 use Rattle.jbig2_base.specs.Results.{◌>>=◌}
 use Rattle.jbig2_coder.specs.declared.integer_procedures.IntegerProcedure.TheVariants.{Iadh, Iadw, Iaex}
-use Rattle.jbig2_text.specs.TextCoding.{Coded, coded_start}
+use Rattle.jbig2_text.specs.TextCoding.{CodedState, coded_start}
 use Rattle.jbig2_symbol.specs.HeightClasses.{drawn_class, empty_class, widths_from}
 use Rattle.jbig2_symbol.specs.SymbolBitmaps.{coded_aggregate, coded_symbol, collective_bitmap, prefixed_aggregate}
 use Rattle.jbig2_symbol.specs.SymbolBitmaps.{state_bits, symbols_cut}
@@ -14,22 +14,22 @@ use Rattle.jbig2_symbol.specs.SymbolReading.{BitmapContexts, ClassReadings, Symb
 use Rattle.jbig2_symbol.specs.SymbolReading.{start_contexts, by_procedure, by_table}
 
 -- by the arithmetic coder, at the start of the bytes
-abbrev pub coder_start : SymbolInput → BitmapContexts → SymbolState Coded
+abbrev pub coder_start : SymbolInput → BitmapContexts → SymbolState CodedState
 coder_start d contexts = record {
   coding = coded_start d.header.bytes (state_bits d.header (length d.symbols));
   contexts = start_contexts d.header contexts;
 }
 
 -- a symbol's bitmap: refined or aggregated from the symbols so far (SDREFAGG), or else coded by itself
-unfoldable pub coded_bitmap : SymbolInput → List Grid → ℕ → ℕ → SymbolState Coded
-    → Result (Grid × SymbolState Coded) DecodeError
+unfoldable pub coded_bitmap : SymbolInput → List Grid → ℕ → ℕ → SymbolState CodedState
+    → Result (Grid × SymbolState CodedState) DecodeError
 coded_bitmap d new width height s =
     if d.header.flags.use_refagg then coded_aggregate d new width height s else coded_symbol d.header width height s
 
-abbrev pub symbols_by_coder : SymbolReadings (SymbolState Coded)
+abbrev pub symbols_by_coder : SymbolReadings (SymbolState CodedState)
 symbols_by_coder = record { width_difference = λ d. by_procedure Iadw; symbol_bitmap = coded_bitmap }
 
-abbrev pub classes_by_coder : ClassReadings (SymbolState Coded)  -- symbols are always decoded one by one
+abbrev pub classes_by_coder : ClassReadings (SymbolState CodedState)  -- symbols are always decoded one by one
 classes_by_coder = record {
   height_difference = λ d. by_procedure Iadh;
   class_of_height = drawn_class symbols_by_coder;

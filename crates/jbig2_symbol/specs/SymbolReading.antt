@@ -19,7 +19,7 @@ use Rattle.jbig2_region.specs.declared.template.RefinementTemplate.{RefinementTe
 use Rattle.jbig2_region.specs.declared.template.Template.{Template}
 use Rattle.jbig2_region.specs.declared.template.Template.TheVariants.{Template0, Template1, Template2, Template3}
 use Rattle.jbig2_text.specs.Refining.{Refining}
-use Rattle.jbig2_text.specs.TextCoding.{Coded, next_integer}
+use Rattle.jbig2_text.specs.TextCoding.{CodedState, next_integer}
 use Rattle.jbig2_symbol.specs.SymbolHeader.{SymbolHeader}
 use Rattle.jbig2_symbol.specs.declared.header.HuffmanTableSelection.{HuffmanTableSelection}
 use Rattle.jbig2_symbol.specs.declared.header.HuffmanTableSelection.TheVariants.{TableB1, TableB2, TableB3}
@@ -154,7 +154,7 @@ by_table table s =
     reading.result >>= λ value. Ok (value, record s { coding = bits_on reading.taken s.coding })
 
 -- a value of an integer procedure, or out of band
-abbrev pub by_procedure : IntegerProcedure → SymbolState Coded → Result (Option ℤ × SymbolState Coded) DecodeError
+abbrev pub by_procedure : IntegerProcedure → SymbolState CodedState → Result (Option ℤ × SymbolState CodedState) DecodeError
 by_procedure procedure s =
     let (value, after) = next_integer procedure s.coding in Ok (value, record s { coding = after })
 

@@ -1,7 +1,7 @@
 //! Symbol dictionaries that are coded by the arithmetic coder (T.88, 6.5).
 ghost use Rattle.std.specs.Prelude.{◌≡◌, ◌*◌, ◌≤◌, length, Ok};
 ghost use Rattle.jbig2_base.specs.Results.{Returns, Gives};
-ghost use Rattle.jbig2_text.specs.TextCoding.{Coded};
+ghost use Rattle.jbig2_text.specs.TextCoding.{CodedState};
 ghost use Rattle.jbig2_text.specs.inner.TextViews.{params_view};
 ghost use Rattle.jbig2_steps.specs.Work.{Paid, PaidBut};
 ghost use Rattle.jbig2_text.specs.Paying.{number_steps};
@@ -146,12 +146,12 @@ impl<A: Allocator + Clone> CodedSymbols<'_, A> {
 }
 
 impl<A: Allocator + Clone> ReadSymbols<A> for CodedSymbols<'_, A> {
-    ghost use Rattle.jbig2_text.specs.TextCoding.{Coded};
+    ghost use Rattle.jbig2_text.specs.TextCoding.{CodedState};
     ghost use Rattle.jbig2_symbol.specs.SymbolCoding.{symbols_by_coder};
     ghost use Rattle.jbig2_symbol.specs.SymbolReading.{SymbolState};
     ghost use Rattle.jbig2_symbol.specs.inner.SymbolViews.{coded_view};
 
-    ghost State = { SymbolState Coded };
+    ghost State = { SymbolState CodedState };
 
     ghost state = { λ r. coded_view r };
 
@@ -181,12 +181,12 @@ impl<A: Allocator + Clone> ReadSymbols<A> for CodedSymbols<'_, A> {
 }
 
 impl<A: Allocator + Clone> ReadClasses<A> for CodedSymbols<'_, A> {
-    ghost use Rattle.jbig2_text.specs.TextCoding.{Coded};
+    ghost use Rattle.jbig2_text.specs.TextCoding.{CodedState};
     ghost use Rattle.jbig2_symbol.specs.SymbolCoding.{classes_by_coder};
     ghost use Rattle.jbig2_symbol.specs.SymbolReading.{SymbolState};
     ghost use Rattle.jbig2_symbol.specs.inner.SymbolViews.{coded_view};
 
-    ghost State = { SymbolState Coded };
+    ghost State = { SymbolState CodedState };
 
     ghost state = { λ r. coded_view r };
 

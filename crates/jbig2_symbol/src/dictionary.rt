@@ -20,16 +20,8 @@ pub struct RetainedContexts<A: Allocator> {
 }
 
 /// The symbols that a dictionary exports, and the contexts that it keeps for another one.
+#[derive(Drop)]
 pub struct SymbolDictionary<A: Allocator> {
     pub exported_symbols: Vec<Bitmap<A>, A>,
     pub retained_contexts: Option<RetainedContexts<A>>,
-}
-
-impl<A: Allocator> Drop for SymbolDictionary<A> {
-    fn drop(self) {
-        let SymbolDictionary {
-            exported_symbols: _,
-            retained_contexts: _,
-        } = self;
-    }
 }

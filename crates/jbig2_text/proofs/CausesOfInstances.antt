@@ -14,7 +14,7 @@ use Rattle.jbig2_base.proofs.Causes.{cause-next, cause-refused}
 use Rattle.jbig2_coder.specs.Causes.{LeavesWord}
 use Rattle.jbig2_text.specs.Causes.{After, APlaceLeaves, ARefinementIsRefused, BreaksInstance, ReadingsHaveCauses, IsNoSide, NamesNone, ReadingCauses}
 use Rattle.jbig2_text.specs.Refining.{Refining}
-use Rattle.jbig2_text.specs.Text.{Reached, Readings, TextParams, coordinate, edge, far_end, instance_symbol, is_bottom, is_last_along_s, is_right, plain_symbol, reference_offset, refined_outline, refined_symbol, refinement_deltas, side_of, some_symbol, symbol_of, symbol_placed, t_in_strip, with_instance, with_symbol}
+use Rattle.jbig2_text.specs.Text.{TextState, Readings, TextParams, coordinate, edge, far_end, instance_symbol, is_bottom, is_last_along_s, is_right, plain_symbol, reference_offset, refined_outline, refined_symbol, refinement_deltas, side_of, some_symbol, symbol_of, symbol_placed, t_in_strip, with_instance, with_symbol}
 use Rattle.jbig2_text.specs.declared.cursor.Cursor.{Cursor}
 use Rattle.jbig2_text.specs.declared.header.TextRegionFlags.{TextRegionFlags}
 use Rattle.jbig2_text.specs.declared.refined.Outline.{Outline}
@@ -166,7 +166,7 @@ cause-with P flags region at ti None leaves = tt
 cause-with P flags region at ti (Some g) leaves = cause-next P (symbol_placed flags g at.cur_s ti) _ (cause-placed P flags g at.cur_s ti (leaves g refl)) (λ i i_is. tt)
 
 -- ---- an instance
-pub instance_causes : {S : Type 0} (c : ReadingCauses S) (r : Readings S) (a : ReadingsHaveCauses r c) (p : TextParams) (x : Reached S) → IfErr (with_instance r p x) (BreaksInstance c r p x)
+pub instance_causes : {S : Type 0} (c : ReadingCauses S) (r : Readings S) (a : ReadingsHaveCauses r c) (p : TextParams) (x : TextState S) → IfErr (with_instance r p x) (BreaksInstance c r p x)
 unfolding with_instance
 instance_causes c r a p x =
     let P : DecodeError → Type 0 = BreaksInstance c r p x in

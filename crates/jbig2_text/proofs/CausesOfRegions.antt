@@ -19,10 +19,10 @@ use Rattle.jbig2_region.specs.Refinement.{Reference}
 use Rattle.jbig2_text.specs.SymbolCodes.{invalid_code, value_at}
 use Rattle.jbig2_text.specs.Causes.{After, RefusesNumber, BreaksInstance, BreaksInstances, BreaksStrip, ReadingsHaveCauses, ReadingCauses, BreaksRegionBy, BreaksTextRegion, BreaksTextTables, HasNoMeaning, IsOutOfBand, LacksBytes, RefusesValue, coder_causes, customs_if, prefix_causes}
 use Rattle.jbig2_text.specs.Refining.{Refining}
-use Rattle.jbig2_text.specs.Text.{Reached, Readings, TextParams, after_instances, coordinate, next_cursor, strip_start, strip_delta, text_region, with_instance}
+use Rattle.jbig2_text.specs.Text.{TextState, Readings, TextParams, after_instances, coordinate, next_cursor, strip_start, strip_delta, text_region, with_instance}
 use Rattle.jbig2_text.specs.declared.cursor.Cursor.{Cursor}
 use Rattle.jbig2_text.specs.inner.FunctionResults.{end_of_strip, reaching, some_strips, strips, table_of_size}
-use Rattle.jbig2_text.specs.TextCoding.{Coded, Prefixed, by_coder, by_prefix_codes, in_band, next_integer, number_by_coder, prefixed_refined, prefixed_value, sized_bytes}
+use Rattle.jbig2_text.specs.TextCoding.{CodedState, PrefixedState, by_coder, by_prefix_codes, in_band, next_integer, number_by_coder, prefixed_refined, prefixed_value, sized_bytes}
 use Rattle.jbig2_text.specs.TextHeader.{ArithmeticCoding, HuffmanCoding, NumberCoding, TextHeader}
 use Rattle.jbig2_text.specs.TextRegion.{blank_region, coder_of, one_of_three, one_of_two, prefix_codes_of, refining_of, region_by, region_from, text_result, text_params, text_tables}
 use Rattle.jbig2_text.proofs.Causes.{cause-bits, cause-value, own-error}
@@ -34,7 +34,7 @@ use Rattle.jbig2_base.proofs.CauseSteps.{call-cause, call-cause-or-memory}
 use Rattle.jbig2_text.specs.declared.header.TextRegionHuffmanFlags.{TextRegionHuffmanFlags}
 
 -- ---- all instances
-cause-after : {S : Type 0} (c : ReadingCauses S) (r : Readings S) (a : ReadingsHaveCauses r c) (p : TextParams) (P : DecodeError → Type 0) (n : ℕ) (x : Reached S)
+cause-after : {S : Type 0} (c : ReadingCauses S) (r : Readings S) (a : ReadingsHaveCauses r c) (p : TextParams) (P : DecodeError → Type 0) (n : ℕ) (x : TextState S)
     → ((k : ℕ) → k < n → (e : DecodeError) → After (after_instances r p k x) (λ y. BreaksInstance c r p y e ⊎ After (with_instance r p y) (λ z. BreaksMove c r p.flags z.cursor z.state e)) → P e)
     → IfErr (after_instances r p n x) P
 unfolding after_instances
@@ -43,8 +43,8 @@ cause-after {S} c r a p P (suc n) x why =
     cause-next P (with_instance r p x) _ (cause-more (BreaksInstance c r p x) P (with_instance r p x) (instance_causes c r a p x) (λ e broken. why 0 (omega arith) e (x, refl, inl broken))) (λ y y_is.
     cause-next P (next_cursor r p.flags y.cursor y.state) _
     (cause-more (BreaksMove c r p.flags y.cursor y.state) P (next_cursor r p.flags y.cursor y.state) (cause-move c r a p.flags y.cursor y.state) (λ e broken. why 0 (omega arith) e (x, refl, inr (y, y_is, broken)))) (λ at at_is.
-    let on : ℕ → Result (Reached S) DecodeError → Result (Reached S) DecodeError = λ k q. q >>= λ z. next_cursor r p.flags z.cursor z.state >>= λ d. after_instances r p k (record z { cursor = d.0; state = d.1 }) in
-    let moved : ℕ → Result (Cursor × S) DecodeError → Result (Reached S) DecodeError = λ k q. q >>= λ d. after_instances r p k (record y { cursor = d.0; state = d.1 }) in
+    let on : ℕ → Result (TextState S) DecodeError → Result (TextState S) DecodeError = λ k q. q >>= λ z. next_cursor r p.flags z.cursor z.state >>= λ d. after_instances r p k (record z { cursor = d.0; state = d.1 }) in
+    let moved : ℕ → Result (Cursor × S) DecodeError → Result (TextState S) DecodeError = λ k q. q >>= λ d. after_instances r p k (record y { cursor = d.0; state = d.1 }) in
     cause-after c r a p P n (record y { cursor = at.0; state = at.1 }) (λ k below e there. why (suc k) (omega (arith, below)) e (there.0, ap (on k) y_is ∙ ap (moved k) at_is ∙ there.1, there.2))))
 
 cause-end : (P : DecodeError → Type 0) (strict : Bool) (ids : Result (Option ℤ) DecodeError) → (strict ≡ true → After ids (λ o. (n : ℤ) × (o ≡ Some n)) → P (Symbol TooManyInstances))
@@ -147,7 +147,7 @@ pub text_table_cause : {X : Type 0} (flags : TextRegionHuffmanFlags) (customs : 
 text_table_cause flags customs r = call-cause (BreaksTextTables flags customs) (text_tables flags customs) r (text_table_causes flags customs)
 
 -- ---- the two codings
-cause-integer : (procedure : IntegerProcedure) (s : Coded) → IfErr (number_by_coder procedure s) (IsOutOfBand procedure s)
+cause-integer : (procedure : IntegerProcedure) (s : CodedState) → IfErr (number_by_coder procedure s) (IsOutOfBand procedure s)
 cause-integer procedure s = cause-next (IsOutOfBand procedure s) (in_band (Symbol UnexpectedOob) (next_integer procedure s).0) _ (band (next_integer procedure s).0 refl) (λ n is. tt)
   where
     band : (n : Option ℤ) → (next_integer procedure s).0 ≡ n → IfErr (in_band (Symbol UnexpectedOob) n) (IsOutOfBand procedure s)
@@ -169,7 +169,7 @@ by_coder-causes = record {
   refined = λ from width height f s. tt;
 }
 
-cause-prefixed : (table : List Member) (s : Prefixed) → IfErr (prefixed_value table s) (RefusesNumber table s.place)
+cause-prefixed : (table : List Member) (s : PrefixedState) → IfErr (prefixed_value table s) (RefusesNumber table s.place)
 cause-prefixed table s =
     let P : DecodeError → Type 0 = RefusesNumber table s.place in
     cause-next P (value_at table s.place) _ (cause-value P table s.place (λ e no. no)) (λ n is. tt)
@@ -178,7 +178,7 @@ cause-bytes_of : (size : ℤ) (p : Place) → IfErr (sized_bytes size p) (LacksB
 cause-bytes_of (pos size) p = cause-next (LacksBytes (pos size) p) (bytes_at size (byte_boundary p).bytes) _ (cause-bytes (LacksBytes (pos size) p) size (byte_boundary p).bytes (λ short. (refl, short))) (λ coded is. tt)
 cause-bytes_of (negsuc size) p = refl
 
-cause-refined_there : (from : Reference) (width height : ℕ) (f : Refining) (s : Prefixed) → IfErr (prefixed_refined from width height f s) (prefix_causes.refined s)
+cause-refined_there : (from : Reference) (width height : ℕ) (f : Refining) (s : PrefixedState) → IfErr (prefixed_refined from width height f s) (prefix_causes.refined s)
 cause-refined_there from width height f s =
     let P : DecodeError → Type 0 = prefix_causes.refined s in
     cause-next P (value_at s.tables.refinement_size s.place) _ (cause-value P s.tables.refinement_size s.place (λ e no. inl no)) (λ size is.

@@ -5,7 +5,7 @@ use Rattle.jbig2_base.specs.declared.error.DecodeError.{DecodeError}
 use Rattle.jbig2_base.proofs.FromInput.{FromInput, IsFromInput, from_input-if, from_input-next, from_input-refusal}
 use Rattle.jbig2_region.specs.Refinement.{Reference}
 use Rattle.jbig2_text.specs.Refining.{Refining}
-use Rattle.{jbig2_text.specs.Text.{Reached, Readings, TextParams, after_instances, next_cursor, edge, instance_symbol, with_ids, plain_symbol, refined_outline, refined_symbol, refinement_deltas, side_of, some_symbol, strip_start, strip_delta, symbol_placed, t_in_strip, text_region, with_instance, with_symbol}, jbig2_base.specs.Fields.{word_or}}
+use Rattle.{jbig2_text.specs.Text.{TextState, Readings, TextParams, after_instances, next_cursor, edge, instance_symbol, with_ids, plain_symbol, refined_outline, refined_symbol, refinement_deltas, side_of, some_symbol, strip_start, strip_delta, symbol_placed, t_in_strip, text_region, with_instance, with_symbol}, jbig2_base.specs.Fields.{word_or}}
 use Rattle.jbig2_text.specs.inner.FunctionResults.{s_before, s_after}
 use Rattle.jbig2_text.specs.declared.cursor.Cursor.{Cursor}
 use Rattle.jbig2_text.specs.declared.refined.RefinementDeltas.{RefinementDeltas}
@@ -99,11 +99,11 @@ from_input-with_symbol : (flags : TextRegionFlags) (region : Grid) (c : Cursor) 
 from_input-with_symbol flags region c ti None = tt
 from_input-with_symbol flags region c ti (Some g) = search (from_input-next, from_input-placed)
 
-from_input-instance : {S : Type 0} (r : Readings S) (a : AreFromInput r) (p : TextParams) (x : Reached S) → FromInput (with_instance r p x)
+from_input-instance : {S : Type 0} (r : Readings S) (a : AreFromInput r) (p : TextParams) (x : TextState S) → FromInput (with_instance r p x)
 unfolding with_instance
 from_input-instance r a p x = search (from_input-next, from_input-t r a, from_input-word, a.id, from_input-symbol r a, from_input-with_symbol) depth 10
 
-from_input-instances : {S : Type 0} (r : Readings S) (a : AreFromInput r) (p : TextParams) (n : ℕ) (x : Reached S) → FromInput (after_instances r p n x)
+from_input-instances : {S : Type 0} (r : Readings S) (a : AreFromInput r) (p : TextParams) (n : ℕ) (x : TextState S) → FromInput (after_instances r p n x)
 unfolding after_instances
 from_input-instances r a p zero x = tt
 from_input-instances r a p (suc n) x =

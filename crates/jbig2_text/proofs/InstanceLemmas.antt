@@ -7,7 +7,7 @@ use Rattle.jbig2_base.specs.declared.error.DecodeError.{DecodeError}
 use Rattle.jbig2_base.specs.declared.error.DecodeError.TheVariants.{OutOfMemory, Symbol}
 use Rattle.jbig2_base.specs.declared.error.SymbolError.TheVariants.{TooManyInstances}
 use Rattle.jbig2_text.specs.Refining.{Refining}
-use Rattle.jbig2_text.specs.Text.{Readings, Reached, TextParams, after_instances, coordinate, next_cursor, strip_start, strip_delta, text_region, with_instance}
+use Rattle.jbig2_text.specs.Text.{Readings, TextState, TextParams, after_instances, coordinate, next_cursor, strip_start, strip_delta, text_region, with_instance}
 use Rattle.jbig2_text.specs.inner.FunctionResults.{reaching, some_strips, strips, with_last, with_next_instance}
 use Rattle.jbig2_text.specs.declared.cursor.Cursor.{Cursor}
 
@@ -20,24 +20,24 @@ ap-next : {A B : Type 0} (r : Result A DecodeError) {f g : A → Result B Decode
 ap-next (Ok x) same = same x
 ap-next (Err e) same = refl
 
-inner-step : {S : Type 0} (r : Readings S) (p : TextParams) (n : ℕ) (x : Reached S) → after_instances r p (suc n) x ≡ (with_next_instance r p x >>= λ y. after_instances r p n y)
+inner-step : {S : Type 0} (r : Readings S) (p : TextParams) (n : ℕ) (x : TextState S) → after_instances r p (suc n) x ≡ (with_next_instance r p x >>= λ y. after_instances r p n y)
 unfolding after_instances
 inner-step {S} r p n x =
     ap-next (with_instance r p x) (λ y. next-next (next_cursor r p.flags y.cursor y.state) (λ c. Ok (reaching y.region c.0 y.refining c.1)) (λ z. after_instances r p n z))
     ∙ next-next (with_instance r p x) (λ y. next_cursor r p.flags y.cursor y.state >>= λ c. Ok (reaching y.region c.0 y.refining c.1)) (λ z. after_instances r p n z)
 
-pub inner-next : {S : Type 0} (r : Readings S) (p : TextParams) (n k : ℕ) (x y : Reached S) (whole : Result (Reached S) DecodeError) → k < n → after_instances r p (n - k) x ≡ whole → with_next_instance r p x ≡ Ok y → after_instances r p (n - (k + 1)) y ≡ whole
+pub inner-next : {S : Type 0} (r : Readings S) (p : TextParams) (n k : ℕ) (x y : TextState S) (whole : Result (TextState S) DecodeError) → k < n → after_instances r p (n - k) x ≡ whole → with_next_instance r p x ≡ Ok y → after_instances r p (n - (k + 1)) y ≡ whole
 inner-next {S} r p n k x y whole below goes read =
     let e : n - k ≡ suc (n - (k + 1)) = omega arith in
-    sym (ap (λ (z : Result (Reached S) DecodeError). z >>= λ y. after_instances r p (n - (k + 1)) y) read) ∙ sym (inner-step r p (n - (k + 1)) x) ∙ ap (λ m. after_instances r p m x) (sym e) ∙ goes
+    sym (ap (λ (z : Result (TextState S) DecodeError). z >>= λ y. after_instances r p (n - (k + 1)) y) read) ∙ sym (inner-step r p (n - (k + 1)) x) ∙ ap (λ m. after_instances r p m x) (sym e) ∙ goes
 
-pub inner-fault : {S : Type 0} (r : Readings S) (p : TextParams) (n k : ℕ) (x : Reached S) (e : DecodeError) (whole : Result (Reached S) DecodeError) → k < n → after_instances r p (n - k) x ≡ whole → (e ≡ OutOfMemory) ⊎ (with_next_instance r p x ≡ Err e) → (e ≡ OutOfMemory) ⊎ (whole ≡ Err e)
+pub inner-fault : {S : Type 0} (r : Readings S) (p : TextParams) (n k : ℕ) (x : TextState S) (e : DecodeError) (whole : Result (TextState S) DecodeError) → k < n → after_instances r p (n - k) x ≡ whole → (e ≡ OutOfMemory) ⊎ (with_next_instance r p x ≡ Err e) → (e ≡ OutOfMemory) ⊎ (whole ≡ Err e)
 inner-fault {S} r p n k x e whole below goes (inl memory) = inl memory
 inner-fault {S} r p n k x e whole below goes (inr read) =
     let f : n - k ≡ suc (n - (k + 1)) = omega arith in
-    inr (sym goes ∙ ap (λ m. after_instances r p m x) f ∙ inner-step r p (n - (k + 1)) x ∙ ap (λ (z : Result (Reached S) DecodeError). z >>= λ y. after_instances r p (n - (k + 1)) y) read)
+    inr (sym goes ∙ ap (λ m. after_instances r p m x) f ∙ inner-step r p (n - (k + 1)) x ∙ ap (λ (z : Result (TextState S) DecodeError). z >>= λ y. after_instances r p (n - (k + 1)) y) read)
 
-pub inner-done : {S : Type 0} (r : Readings S) (p : TextParams) (n k : ℕ) (x : Reached S) (whole : Result (Reached S) DecodeError) → n ≤ k → after_instances r p (n - k) x ≡ whole → whole ≡ Ok x
+pub inner-done : {S : Type 0} (r : Readings S) (p : TextParams) (n k : ℕ) (x : TextState S) (whole : Result (TextState S) DecodeError) → n ≤ k → after_instances r p (n - k) x ≡ whole → whole ≡ Ok x
 unfolding after_instances
 inner-done r p n k x whole done goes =
     let e : n - k ≡ 0 = omega arith in

@@ -13,7 +13,7 @@ use Rattle.jbig2_text.specs.SymbolCodes.{value_at}
 use Rattle.jbig2_text.specs.Refining.{Refining}
 use Rattle.jbig2_text.specs.SymbolCodes.{next_runcode, with_last_repeated, run_at, runcodes_at, runs_at, short_lengths, symbol_codes_from, symbol_lengths_at}
 use Rattle.jbig2_text.specs.Text.{Readings}
-use Rattle.jbig2_text.specs.TextCoding.{Coded, Prefixed, by_coder, by_prefix_codes, in_band, number_by_coder, prefixed_bits, prefixed_refined, prefixed_value, sized_bytes}
+use Rattle.jbig2_text.specs.TextCoding.{CodedState, PrefixedState, by_coder, by_prefix_codes, in_band, number_by_coder, prefixed_bits, prefixed_refined, prefixed_value, sized_bytes}
 use Rattle.jbig2_text.specs.TextHeader.{ArithmeticCoding, HuffmanCoding, NumberCoding, TextHeader, coding_at, table_numbers_at, text_fields_at, text_flags_at, text_header_at}
 use Rattle.jbig2_text.specs.TextRegion.{one_of_three, one_of_two, region_by, region_from, text_result, text_decoded, text_tables}
 use Rattle.jbig2_text.specs.declared.header.TextRegionHuffmanFlags.{TextRegionHuffmanFlags}
@@ -86,7 +86,7 @@ unfolding text_header_at
 from_input-text_header symbols strict bytes = search (from_input-next, from_input-region_info, from_input-fields, from_input-coding) depth 8
 
 -- ---- by the arithmetic coder
-from_input-by_coder : (procedure : IntegerProcedure) (s : Coded) → FromInput (number_by_coder procedure s)
+from_input-by_coder : (procedure : IntegerProcedure) (s : CodedState) → FromInput (number_by_coder procedure s)
 from_input-by_coder procedure s = search (from_input-next, from_input-in_band)
 
 pub by_coder-from_input : AreFromInput by_coder
@@ -105,17 +105,17 @@ by_coder-from_input = record {
 }
 
 -- ---- by prefix codes
-from_input-prefixed : (table : List Member) (s : Prefixed) → FromInput (prefixed_value table s)
+from_input-prefixed : (table : List Member) (s : PrefixedState) → FromInput (prefixed_value table s)
 from_input-prefixed table s = search (from_input-next, from_input-value_at)
 
-from_input-prefixed_bits : (e : DecodeError) (count : ℕ) (s : Prefixed) → IsFromInput e → FromInput (prefixed_bits e count s)
+from_input-prefixed_bits : (e : DecodeError) (count : ℕ) (s : PrefixedState) → IsFromInput e → FromInput (prefixed_bits e count s)
 from_input-prefixed_bits e count s is = search (from_input-next, from_input-bits, is)
 
 from_input-sized : (size : ℤ) (p : Place) → FromInput (sized_bytes size p)
 from_input-sized (pos size) p = search (from_input-next, from_input-bytes)
 from_input-sized (negsuc size) p = tt
 
-from_input-prefixed_refined : (from : Reference) (width height : ℕ) (f : Refining) (s : Prefixed) → FromInput (prefixed_refined from width height f s)
+from_input-prefixed_refined : (from : Reference) (width height : ℕ) (f : Refining) (s : PrefixedState) → FromInput (prefixed_refined from width height f s)
 from_input-prefixed_refined from width height f s = search (from_input-next, from_input-value_at, from_input-sized)
 
 pub by_prefix_codes-from_input : AreFromInput by_prefix_codes

@@ -26,13 +26,13 @@ use Rattle.jbig2_coder.specs.declared.integer_procedures.IntegerProcedure.TheVar
 use Rattle.jbig2_text.specs.SymbolCodes.{lines_from, runcodes_at, runs_at, short_lengths, value_at}
 use Rattle.jbig2_text.specs.TextHeader.{ArithmeticCoding, HuffmanCoding, NumberCoding, TextHeader}
 use Rattle.jbig2_text.specs.Refining.{Refining}
-use Rattle.jbig2_text.specs.Text.{Reached, Readings, TextParams, after_instances, instance_symbol, is_bottom}
+use Rattle.jbig2_text.specs.Text.{TextState, Readings, TextParams, after_instances, instance_symbol, is_bottom}
 use Rattle.jbig2_text.specs.Text.{is_last_along_s, is_right, refinement_deltas, strip_start, strip_delta, symbol_of}
 use Rattle.jbig2_text.specs.Text.{t_in_strip, with_instance}
 use Rattle.jbig2_text.specs.declared.cursor.Cursor.{Cursor}
 use Rattle.jbig2_text.specs.declared.header.TextRegionFlags.{TextRegionFlags}
 use Rattle.jbig2_text.specs.declared.header.TextRegionHuffmanFlags.{TextRegionHuffmanFlags}
-use Rattle.jbig2_text.specs.TextCoding.{Coded, Prefixed, by_coder, by_prefix_codes, next_integer}
+use Rattle.jbig2_text.specs.TextCoding.{CodedState, PrefixedState, by_coder, by_prefix_codes, next_integer}
 use Rattle.jbig2_text.specs.TextRegion.{blank_region, coder_of, prefix_codes_of, refining_of, text_params}
 use Rattle.jbig2_region.specs.Refinement.{Reference}
 
@@ -145,7 +145,7 @@ module _ {S : Type 0} (c : ReadingCauses S) (r : Readings S) (flags : TextRegion
       × (LeavesWord (at.cur_s +ℤ ids) ⊎ LeavesWord (at.cur_s +ℤ ids +ℤ flags.delta_s_offset))
 
 -- ---- an instance (6.4.5, step 3 c)
-module _ {S : Type 0} (r : Readings S) (p : TextParams) (x : Reached S) where
+module _ {S : Type 0} (r : Readings S) (p : TextParams) (x : TextState S) where
   -- this holds for its id, and for the state after the id
   abbrev pub AtId : (ℤ → S → Type 0) → Type 0
   AtId Q =
@@ -178,7 +178,7 @@ ARefinementIsRefused c r s e =
     ⊎ After (refinement_deltas r s) (λ (_, after). c.refined after e)
 
 -- Its id has no symbol. Or a side of a refined symbol, its place or TI leaves its range. Or a number is refused.
-abbrev pub BreaksInstance : {S : Type 0} → ReadingCauses S → Readings S → TextParams → Reached S → DecodeError → Type 0
+abbrev pub BreaksInstance : {S : Type 0} → ReadingCauses S → Readings S → TextParams → TextState S → DecodeError → Type 0
 BreaksInstance c r p x e =
     ((e ≡ Symbol OutOfRange) × AtId r p x (λ id s. NamesNone p.symbols id))
     ⊎ ((e ≡ Overflow BitmapDimension) × AtRefined r p x (λ from s. After (refinement_deltas r s) (λ (deltas, _).
@@ -197,7 +197,7 @@ BreaksInstance c r p x e =
 -- ---- all instances
 module _ {S : Type 0} (r : Readings S) (p : TextParams) (region : Grid) (f : Refining) (s : S) where
   -- this holds at instance k, after those before it; STRIPT begins at the negative of the first delta T
-  abbrev pub AtInstance : ℕ → (Reached S → Type 0) → Type 0
+  abbrev pub AtInstance : ℕ → (TextState S → Type 0) → Type 0
   AtInstance k Q =
       After (strip_delta r p.flags s) (λ (dt, after_dt).
       After (strip_start r p.flags (pos 0 -ℤ dt) (pos 0) after_dt) (λ (cursor, after).
@@ -248,10 +248,10 @@ BreaksTextTables flags customs e =
 
 -- ---- the arithmetic coder
 -- the next integer is out of band
-abbrev pub IsOutOfBand : IntegerProcedure → Coded → DecodeError → Type 0
+abbrev pub IsOutOfBand : IntegerProcedure → CodedState → DecodeError → Type 0
 IsOutOfBand procedure s e = (e ≡ Symbol UnexpectedOob) × ((next_integer procedure s).0 ≡ None)
 
-abbrev pub coder_causes : ReadingCauses Coded
+abbrev pub coder_causes : ReadingCauses CodedState
 coder_causes = record {
   delta_t = IsOutOfBand Iadt;
   first_s = IsOutOfBand Iafs;
@@ -271,7 +271,7 @@ coder_causes = record {
 abbrev pub RefusesValue : List Member → List ℕ → DecodeError → Type 0
 RefusesValue table bits e = (decoded_value table bits).result ≡ Err e
 
-abbrev pub LacksBits : DecodeError → ℕ → Prefixed → DecodeError → Type 0  -- fewer bits than this are left
+abbrev pub LacksBits : DecodeError → ℕ → PrefixedState → DecodeError → Type 0  -- fewer bits than this are left
 LacksBits error count s e = (e ≡ error) × (length (bits_left s.place) < count)
 
 -- fewer bytes than the size are left, from the next whole one on; or the size is negative
@@ -280,7 +280,7 @@ LacksBytes (pos size) p e = (e ≡ Parse UnexpectedEof) × (length (byte_boundar
 LacksBytes (negsuc size) p e = e ≡ Parse UnexpectedEof
 
 -- for a refined symbol: the size of its bytes is refused, or bytes are missing
-abbrev pub prefix_causes : ReadingCauses Prefixed
+abbrev pub prefix_causes : ReadingCauses PrefixedState
 prefix_causes = record {
   delta_t = λ s. RefusesNumber s.tables.delta_t s.place;
   first_s = λ s. RefusesNumber s.tables.first_s s.place;

@@ -20,12 +20,12 @@ refined_by f from width height bytes registers =
     decoded_region (refinement_coding f.template false f.pixels from) width height bytes
     (no_pixels registers f.contexts)
 
-pub record Refined : Type 0 where  -- the symbol, and the coder and the contexts after it
+pub record RefinedSymbol : Type 0 where  -- the symbol, and the coder and the contexts after it
   pub grid : Grid
   pub coder : Coder
   pub refining : Refining
 
-abbrev pub refined_with : Refining → Reference → ℕ → ℕ → Coder → Refined
+abbrev pub refined_with : Refining → Reference → ℕ → ℕ → Coder → RefinedSymbol
 refined_with f from width height c =
     let region = refined_by f from width height c.bytes c.registers in
     record {

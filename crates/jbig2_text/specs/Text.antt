@@ -54,7 +54,7 @@ pub record Readings (S : Type 0) : Type 0 where
   pub refined : Reference → ℕ → ℕ → Refining → S → Result (Grid × Refining × S) DecodeError
 
 -- the region so far (SBREG), the place of the next instance, the contexts and the coder
-pub record Reached (S : Type 0) : Type 0 where
+pub record TextState (S : Type 0) : Type 0 where
   pub region : Grid
   pub cursor : Cursor
   pub refining : Refining
@@ -195,7 +195,7 @@ with_symbol flags region c ti (Some g) = do
 
 module _ {S : Type 0} (r : Readings S) (p : TextParams) where
   -- one instance more: TI is STRIPT and CURT, then come ID and IB (steps 3 c iii to x)
-  unfoldable pub with_instance : Reached S → Result (Reached S) DecodeError
+  unfoldable pub with_instance : TextState S → Result (TextState S) DecodeError
   with_instance x = do
     (curt, after_curt) ← t_in_strip r p.flags x.state
     ti ← coordinate (x.cursor.strip_t +ℤ curt)
@@ -205,7 +205,7 @@ module _ {S : Type 0} (r : Readings S) (p : TextParams) where
     Ok (record { region = region; cursor = cursor; refining = refining; state = after_ib })
 
   -- this many more instances, where others come after them
-  unfoldable pub after_instances : ℕ → Reached S → Result (Reached S) DecodeError
+  unfoldable pub after_instances : ℕ → TextState S → Result (TextState S) DecodeError
   after_instances zero x = Ok x
   after_instances (suc n) x = do
     y ← with_instance x

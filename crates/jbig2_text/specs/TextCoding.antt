@@ -21,12 +21,12 @@ use Rattle.jbig2_text.specs.Text.{Readings}
 
 -- ---- by the arithmetic coder
 -- The coder, and what the contexts of the integer procedures and of the ids (IAID) have learned.
-pub record Coded : Type 0 where
+pub record CodedState : Type 0 where
   pub coder : Coder
   pub procedures : Procedures
   pub ids : Ids
 
-unfoldable pub coded_start : List ℕ → ℕ → Coded  -- at the start of the bytes, with ids of this many bits
+unfoldable pub coded_start : List ℕ → ℕ → CodedState  -- at the start of the bytes, with ids of this many bits
 coded_start bytes bits = record {
   coder = record { bytes = bytes; registers = initial_registers bytes };
   procedures = fresh_procedures;
@@ -34,12 +34,12 @@ coded_start bytes bits = record {
 }
 
 -- an integer or out of band (A.2), and the state after it
-abbrev pub next_integer : IntegerProcedure → Coded → Option ℤ × Coded
+abbrev pub next_integer : IntegerProcedure → CodedState → Option ℤ × CodedState
 next_integer procedure s =
     let a = integer_by procedure s.coder s.procedures in
     (a.value, record s { coder = a.coder; procedures = a.procedures })
 
-abbrev pub next_id : Coded → ℤ × Coded  -- an id (A.3), and the state after it
+abbrev pub next_id : CodedState → ℤ × CodedState  -- an id (A.3), and the state after it
 next_id s =
     let r = id s.coder.bytes s.coder.registers s.ids in
     let after : Coder = record s.coder { registers = r.registers } in
@@ -49,11 +49,11 @@ next_id s =
 abbrev pub in_band : DecodeError → Option ℤ → Result ℤ DecodeError
 in_band e n = some_or e n
 
-abbrev pub number_by_coder : IntegerProcedure → Coded → Result (ℤ × Coded) DecodeError
+abbrev pub number_by_coder : IntegerProcedure → CodedState → Result (ℤ × CodedState) DecodeError
 number_by_coder procedure s =
     let (number, after) = next_integer procedure s in in_band (Symbol UnexpectedOob) number >>= λ n. Ok (n, after)
 
-abbrev pub by_coder : Readings Coded  -- the low eight bits of R_I count (our own rule)
+abbrev pub by_coder : Readings CodedState  -- the low eight bits of R_I count (our own rule)
 by_coder = record {
   delta_t = number_by_coder Iadt;
   first_s = number_by_coder Iafs;
@@ -82,15 +82,15 @@ pub record TextTables : Type 0 where
   pub refinement_y : List Member
   pub refinement_size : List Member
 
-pub record Prefixed : Type 0 where  -- the place in the bits, the tables, and the codes of the ids (SBSYMCODES)
+pub record PrefixedState : Type 0 where  -- the place in the bits, the tables, and the codes of the ids (SBSYMCODES)
   pub place : Place
   pub tables : TextTables
   pub ids : List Member
 
-abbrev pub prefixed_value : List Member → Prefixed → Result (ℤ × Prefixed) DecodeError
+abbrev pub prefixed_value : List Member → PrefixedState → Result (ℤ × PrefixedState) DecodeError
 prefixed_value table s = value_at table s.place >>= λ (n, rest). Ok (n, record s { place = rest })
 
-abbrev pub prefixed_bits : DecodeError → ℕ → Prefixed → Result (ℕ × Prefixed) DecodeError
+abbrev pub prefixed_bits : DecodeError → ℕ → PrefixedState → Result (ℕ × PrefixedState) DecodeError
 prefixed_bits e count s = bits_at e count s.place >>= λ (n, rest). Ok (n, record s { place = rest })
 
 -- this many bytes from the next whole byte on, and the place after them
@@ -99,14 +99,14 @@ sized_bytes (pos size) p = bytes_at size (byte_boundary p).bytes >>= λ (coded, 
 sized_bytes (negsuc size) p = Err end_of_bytes
 
 -- A refined symbol has bytes of its own, and its coder begins there (6.4.11, steps 5 to 7).
-abbrev pub prefixed_refined : Reference → ℕ → ℕ → Refining → Prefixed → Result (Grid × Refining × Prefixed) DecodeError
+abbrev pub prefixed_refined : Reference → ℕ → ℕ → Refining → PrefixedState → Result (Grid × Refining × PrefixedState) DecodeError
 prefixed_refined from width height f s = do
   (size, after_size) ← value_at s.tables.refinement_size s.place
   (coded, rest) ← sized_bytes size after_size
   let r = refined_with f from width height (record { bytes = coded; registers = initial_registers coded })
   Ok (r.grid, r.refining, record s { place = rest })
 
-abbrev pub by_prefix_codes : Readings Prefixed
+abbrev pub by_prefix_codes : Readings PrefixedState
 by_prefix_codes = record {
   delta_t = λ s. prefixed_value s.tables.delta_t s;
   first_s = λ s. prefixed_value s.tables.first_s s;

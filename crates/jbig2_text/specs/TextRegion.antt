@@ -17,7 +17,7 @@ use Rattle.jbig2_region.specs.RefinementTemplates.{refinement_bits}
 use Rattle.jbig2_region.specs.RegionInfo.{PlacedRegion, at_location}
 use Rattle.jbig2_text.specs.Refining.{Refining}
 use Rattle.jbig2_text.specs.Text.{Readings, TextParams, text_region}
-use Rattle.jbig2_text.specs.TextCoding.{Coded, Prefixed, TextTables, by_coder, by_prefix_codes, coded_start}
+use Rattle.jbig2_text.specs.TextCoding.{CodedState, PrefixedState, TextTables, by_coder, by_prefix_codes, coded_start}
 use Rattle.jbig2_text.specs.TextHeader.{NumberCoding, TextHeader, ArithmeticCoding, HuffmanCoding}
 use Rattle.jbig2_text.specs.declared.header.TextRegionHuffmanFlags.{TextRegionHuffmanFlags}
 
@@ -94,11 +94,11 @@ region_from r h symbols region s =
 
 module _ (h : TextHeader) where
   -- the coder, with ids of as many bits as the number of symbols needs (SBSYMCODELEN)
-  abbrev pub coder_of : List Grid → Coded
+  abbrev pub coder_of : List Grid → CodedState
   coder_of symbols = coded_start h.bytes (code_length (length symbols))
 
   -- the coded bytes, the tables and the codes of the ids
-  abbrev pub prefix_codes_of : TextRegionHuffmanFlags → List Member → List (List Member) → Result Prefixed DecodeError
+  abbrev pub prefix_codes_of : TextRegionHuffmanFlags → List Member → List (List Member) → Result PrefixedState DecodeError
   prefix_codes_of numbers ids customs =
       text_tables numbers customs >>= λ tables. Ok (record { place = start_of h.bytes; tables = tables; ids = ids })
 

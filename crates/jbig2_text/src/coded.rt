@@ -20,20 +20,11 @@ use std::sync::ledger::Ledger;
 
 /// The coder, and what the contexts of the integer procedures and of the symbols' ids have learned
 /// (T.88, Annex A). Text regions and symbol dictionaries use it.
+#[derive(Drop)]
 pub struct CodedReadings<'a, A: Allocator> {
     pub decoder: ArithmeticDecoder<'a>,
     pub procedures: IntegerProcedures<A>,
     pub ids: SymbolIdDecoder<A>,
-}
-
-impl<A: Allocator> Drop for CodedReadings<'_, A> {
-    fn drop(self) {
-        let CodedReadings {
-            decoder: _,
-            procedures: _,
-            ids: _,
-        } = self;
-    }
 }
 
 impl<'a, A: Allocator + Clone> CodedReadings<'a, A> {
@@ -106,10 +97,10 @@ impl<A: Allocator> CodedReadings<'_, A> {
 }
 
 impl<A: Allocator> ReadInstances for CodedReadings<'_, A> {
-    ghost use Rattle.jbig2_text.specs.TextCoding.{Coded, by_coder};
+    ghost use Rattle.jbig2_text.specs.TextCoding.{CodedState, by_coder};
     ghost use Rattle.jbig2_text.specs.inner.TextViews.{coded_view};
 
-    ghost State = { Coded };
+    ghost State = { CodedState };
 
     ghost state = { λ r. coded_view r };
 

@@ -88,6 +88,7 @@ pub struct TextFields {
 }
 
 /// What is needed to decode a text region's coded bytes (T.88, 7.4.3.1).
+#[derive(Drop)]
 pub struct TextRegionHeader<'a, A: Allocator> {
     pub region_info: RegionSegmentInfo,
     pub flags: TextRegionFlags,
@@ -101,21 +102,6 @@ pub struct TextRegionHeader<'a, A: Allocator> {
     pub bytes: &'a [u8],
     /// Whether ids without a symbol and a strip that does not end are refused.
     pub strict: bool,
-}
-
-impl<A: Allocator> Drop for TextRegionHeader<'_, A> {
-    fn drop(self) {
-        let TextRegionHeader {
-            region_info: _,
-            flags: _,
-            coding: _,
-            refinement_at_pixels: _,
-            num_instances: _,
-            segment_data_len: _,
-            bytes: _,
-            strict: _,
-        } = self;
-    }
 }
 
 impl ReferenceCorner {

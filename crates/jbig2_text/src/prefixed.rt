@@ -40,10 +40,10 @@ fn sized_bytes<'a>(size: i32, reader: &mut Reader<'a>) -> Result<&'a [u8]>
 }
 
 impl<A: Allocator> ReadInstances for PrefixedReadings<'_, '_, A> {
-    ghost use Rattle.jbig2_text.specs.TextCoding.{Prefixed, by_prefix_codes};
+    ghost use Rattle.jbig2_text.specs.TextCoding.{PrefixedState, by_prefix_codes};
     ghost use Rattle.jbig2_text.specs.inner.TextViews.{prefixed_view};
 
-    ghost State = { Prefixed };
+    ghost State = { PrefixedState };
 
     ghost state = { λ r. prefixed_view r };
 

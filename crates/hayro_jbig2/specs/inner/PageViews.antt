@@ -9,7 +9,7 @@ use Rattle.jbig2_base.specs.declared.error.OverflowError.TheVariants.{ReferenceO
 use Rattle.jbig2_region.specs.RegionInfo.{PlacedRegion}
 use Rattle.jbig2_region.specs.Refinement.{is_far}
 use Rattle.jbig2_region.specs.declared.region_info.RegionSegmentInfo.{RegionSegmentInfo}
-use Rattle.hayro_jbig2.specs.Names.{Names, Shared, no_names}
+use Rattle.hayro_jbig2.specs.Names.{Names, KeptGlobals, no_names}
 use Rattle.hayro_jbig2.specs.Regions.{page_area}
 
 -- the page's area, unless it lies too far to be refined
@@ -19,11 +19,11 @@ near_area page info =
     >>= λ near. Ok (page_area page info)
 
 -- the names of globals, where there are any
-abbrev pub given_names : Option (Bor Shared) → Names
+abbrev pub given_names : Option (Bor KeptGlobals) → Names
 given_names None = no_names
 given_names (Some globals) = globals.now.names
 
 -- what decoding the globals returned
-abbrev pub kept_names : Result (Option (Bor Shared)) DecodeError → Result Names DecodeError
+abbrev pub kept_names : Result (Option (Bor KeptGlobals)) DecodeError → Result Names DecodeError
 kept_names (Ok globals) = Ok (given_names globals)
 kept_names (Err e) = Err e

@@ -6,7 +6,7 @@ ghost use Rattle.hayro_jbig2.specs.Context.{after_page, new_context, units_of};
 ghost use Rattle.hayro_jbig2.specs.Image.{packed_of};
 
 use crate::drawing::canvas::Canvas;
-use crate::drawing::counted::Counted;
+use crate::drawing::counted::StepCount;
 use crate::drawing::passed_over::PassedOver;
 use crate::page::drawn_page::DrawnPage;
 use jbig2_base::bitmap::steps::Work;
@@ -25,7 +25,7 @@ pub struct DecoderContext<A: Allocator> {
     /// How many of them the last page left.
     work_left: Option<u64>,
     /// How many steps it counted.
-    counted: Counted,
+    counted: StepCount,
 }
 
 impl<A: Allocator> Drop for DecoderContext<A> {
@@ -72,7 +72,7 @@ impl<A: Allocator + Clone> DecoderContext<A> {
             canvas: Canvas::new(alloc)?,
             work_limit: None,
             work_left: None,
-            counted: Counted::nothing(),
+            counted: StepCount::nothing(),
         })
     }
 }
@@ -130,6 +130,6 @@ impl<A: Allocator> DecoderContext<A> {
         ensures { self.new ≡ after_page work.now self.old }
     {
         self.work_left = self.work_limit.map(|_| work.left);
-        self.counted = Counted::of(&work.steps);
+        self.counted = StepCount::of(&work.steps);
     }
 }

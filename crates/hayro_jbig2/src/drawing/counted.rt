@@ -10,26 +10,26 @@ use std::snapshot::Snapshot;
 use std::sync::ledger::Ledger;
 
 /// What can be measured by a number.
-trait Measured {
+trait Measure {
     ghost measure: { Self → ℕ };
 }
 
-impl Measured for () {
+impl Measure for () {
     ghost measure = { λ _. 0 };
 }
 
-impl<L: Ledger> Measured for Steps<L> {
+impl<L: Ledger> Measure for Steps<L> {
     ghost measure = { λ steps. sum_of_counts steps };
 }
 
 /// A number of steps, and steps that are counted after it.
 #[derive(Drop)]
 struct Sum<'s, L: Ledger> {
-    before: &'s Counted,
+    before: &'s StepCount,
     steps: &'s Steps<L>,
 }
 
-impl<'s, L: Ledger> Measured for Sum<'s, L> {
+impl<'s, L: Ledger> Measure for Sum<'s, L> {
     ghost measure = { λ sum. sum.before.now + sum_of_counts sum.steps.now };
 }
 
@@ -45,7 +45,7 @@ impl Model for Tally {
 
 impl Tally {
     /// The measure of what `x` points to.
-    fn of<T: Measured>(x: &T) -> Tally
+    fn of<T: Measure>(x: &T) -> Tally
         ensures { result.amount ≡ T.measure x.now }
     {
         let _ = x;
@@ -63,31 +63,31 @@ impl Drop for Tally {
 
 /// How many steps were counted. Its value is that number.
 #[derive(Drop)]
-pub(crate) struct Counted {
+pub(crate) struct StepCount {
     tally: Snapshot<Tally>,
 }
 
-impl Model for Counted {
+impl Model for StepCount {
     ghost Value = { ℕ };
 
     ghost view = { λ c. c.tally.value.amount };
 }
 
-impl Counted {
+impl StepCount {
     /// No step.
-    pub(crate) fn nothing() -> Counted
+    pub(crate) fn nothing() -> StepCount
         ensures { result ≡ 0 }
     {
-        Counted {
+        StepCount {
             tally: Snapshot::of(&Tally::of(&())),
         }
     }
 
     /// What these steps add up to.
-    pub(crate) fn of<L: Ledger>(steps: &Steps<L>) -> Counted
+    pub(crate) fn of<L: Ledger>(steps: &Steps<L>) -> StepCount
         ensures { result ≡ sum_of_counts steps.now }
     {
-        Counted {
+        StepCount {
             tally: Snapshot::of(&Tally::of(steps)),
         }
     }
@@ -101,6 +101,6 @@ impl Counted {
             steps,
         };
         let tally = Snapshot::of(&Tally::of(&sum));
-        *self = Counted { tally };
+        *self = StepCount { tally };
     }
 }

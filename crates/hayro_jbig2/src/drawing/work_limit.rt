@@ -4,7 +4,7 @@ ghost use Rattle.jbig2_base.specs.Counts.{no_steps};
 ghost use Rattle.hayro_jbig2.specs.WorkLimit.{after_call, left_of, limit_of};
 
 use crate::drawing::context::work_within;
-use crate::drawing::counted::Counted;
+use crate::drawing::counted::StepCount;
 use jbig2_base::bitmap::steps::Work;
 use std::marker::Model;
 use std::sync::ledger::{Blank, Ledger};
@@ -15,7 +15,7 @@ use std::sync::ledger::{Blank, Ledger};
 pub struct WorkLimit {
     units: Option<u64>,
     left: u64,
-    counted: Counted,
+    counted: StepCount,
 }
 
 impl Model for WorkLimit {
@@ -38,7 +38,7 @@ impl WorkLimit {
         WorkLimit {
             units,
             left: units.unwrap_or(u64::MAX),
-            counted: Counted::nothing(),
+            counted: StepCount::nothing(),
         }
     }
 

@@ -48,9 +48,9 @@ impl<A: Allocator> Drop for Globals<A> {
 }
 
 impl<A: Allocator> Model for Globals<A> {
-    ghost use Rattle.hayro_jbig2.specs.Names.{Shared};
+    ghost use Rattle.hayro_jbig2.specs.Names.{KeptGlobals};
 
-    ghost Value = { Shared };
+    ghost Value = { KeptGlobals };
 
     ghost view = { λ globals. record {
       names = globals.names;

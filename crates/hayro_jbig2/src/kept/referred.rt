@@ -44,11 +44,11 @@ impl<A: Allocator> Drop for ReferredSegments<'_, A> {
 
 impl<'a, A: Allocator> Model for ReferredSegments<'a, A> {
     ghost use Rattle.std.specs.Prelude.{◌≤◌, length, map};
-    ghost use Rattle.hayro_jbig2.specs.Names.{Referred};
+    ghost use Rattle.hayro_jbig2.specs.Names.{ReferredValues};
     ghost use Rattle.jbig2_symbol.specs.SymbolHeader.{max_new_symbols};
     ghost use Rattle.jbig2_symbol.specs.inner.SymbolViews.{kept_view};
 
-    ghost Value = { Referred };
+    ghost Value = { ReferredValues };
 
     ghost view = { λ r. record {
       symbols = map (λ b. b.now) r.symbols.items;

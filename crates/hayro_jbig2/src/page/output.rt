@@ -109,7 +109,6 @@ impl<'a, A: Allocator + Clone> Page<'a, A> {
             let price = price_of_bitmap page.width page.height in
             IfOk result (λ _. budget work.new + 32 * price ≤ budget work.old) }
     {
-        let _globals = &self.globals;
         let canvas = self.draw_new_canvas(work)?;
         write_image(canvas.page(), &self.initial_page, buf, &mut work.steps);
         Ok(())
@@ -181,9 +180,8 @@ impl<'a, A: Allocator + Clone> Page<'a, A> {
             let price = price_of_bitmap page.width page.height in
             IfOk result (λ _. budget work.new + 32 * price ≤ budget work.old) }
     {
-        let _globals = &self.globals;
-        let new_canvas = self.draw_new_canvas(work)?;
-        new_canvas.drawn_page().read_at(0, buf);
+        let canvas = self.draw_new_canvas(work)?;
+        canvas.drawn_page().read_at(0, buf);
         Ok(())
     }
 
@@ -254,11 +252,13 @@ impl<'a, A: Allocator + Clone> Page<'a, A> {
     /// Draws the page on a fresh canvas.
     fn draw_new_canvas<L: Ledger>(&self, work: &mut Work<L>) -> Result<Canvas<A>>
         ensures value { Gives (λ canvas. canvas.grid) result (grid_of_page self.now) }
+        ensures errors { IfErr result IsReturned }
         ensures paid { Paid work.old work.new }
         ensures ahead { let page = self.now.initial_page in
             let price = price_of_bitmap page.width page.height in
             IfOk result (λ _. budget work.new + 64 * price ≤ budget work.old) }
     {
+        let _globals = &self.globals;
         let mut canvas = Canvas::new(self.segments.as_vec().allocator().clone()?)?;
         self.draw_onto(&mut canvas, work)?;
         Ok(canvas)

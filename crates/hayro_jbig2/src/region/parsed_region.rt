@@ -1,4 +1,4 @@
-//! Decodes a region whose header was parsed (T.88, 7.4.3 and 7.4.5 to 7.4.7).
+//! Decodes a region whose header was parsed (T.88, 7.4.3 and 7.4.5 to 7.4.7), and leaves out its rows below the page.
 ghost use Rattle.std.specs.Prelude.{◌≡◌, ◌≤◌, ◌<◌, ◌+◌, ◌*◌, ◌-ℤ◌, ℕ, IfErr, IfOk, pos};
 ghost use Rattle.std.specs.Int.{w32, cast_signed};
 ghost use Rattle.jbig2_base.specs.Results.{Gives};

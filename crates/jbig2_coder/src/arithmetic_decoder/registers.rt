@@ -41,7 +41,7 @@ impl CodeBuffer {
 
     /// An empty buffer filled with the next bytes, but not with a byte after a byte FF.
     #[inline(always)]
-    fn filled(self, bytes: &[u8]) -> CodeBuffer
+    fn fill(self, bytes: &[u8]) -> CodeBuffer
         requires empty { self.bits ≡ 0 }
         requires ahead { IsAhead bytes.now self }
         ensures ahead { IsAhead bytes.now result }
@@ -147,7 +147,7 @@ impl BufferedRegisters {
         ensures same { seen_registers self.new ≡ seen_registers self.old }
     {
         if self.code.bits == 0 {
-            self.code = self.code.filled(bytes);
+            self.code = self.code.fill(bytes);
         }
     }
 

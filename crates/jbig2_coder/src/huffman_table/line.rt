@@ -72,7 +72,7 @@ impl TableLine {
     }
 
     /// The low value plus the range bits, or minus them in a lower line, if it fits 64 bits.
-    fn moved(&self, offset: u32) -> Option<i64>
+    fn value_at(&self, offset: u32) -> Option<i64>
         ensures { SomeIff result (FitsSigned w64 (value_of_line self.now offset))
             (value_of_line self.now offset) }
     {
@@ -87,7 +87,7 @@ impl TableLine {
     fn value(&self, offset: u32) -> Result<i32>
         ensures { result ≡ in_word (value_of_line self.now offset) }
     {
-        let Some(value) = self.moved(offset) else {
+        let Some(value) = self.value_at(offset) else {
             return Err(HuffmanError::InvalidCode.into());
         };
         match i32::try_from(value) {

@@ -32,7 +32,7 @@ const CARRY: u32 = 0x800_0000;
 
 /// Writes the top eight bits of `c`, below the carry.
 #[tactic(auto, unfolding(crate::specs::Encoder::eight_bits_out))]
-fn plain<A: Allocator>(bytes: &mut Vec<u8, A>, c: u32) -> Result<CodeRegister>
+fn write_eight_bits<A: Allocator>(bytes: &mut Vec<u8, A>, c: u32) -> Result<CodeRegister>
     ensures value { IfOk result
         (λ code. writer_of bytes.new.items code ≡ eight_bits_out c (reverse bytes.old.items)) }
     ensures err { IfErr result (λ e. e ≡ OutOfMemory) }
@@ -48,7 +48,7 @@ fn plain<A: Allocator>(bytes: &mut Vec<u8, A>, c: u32) -> Result<CodeRegister>
 
 /// Writes the carry of `c` and its top seven bits after a byte FF.
 #[tactic(auto, unfolding(crate::specs::Encoder::seven_bits_out))]
-fn stuffed<A: Allocator>(bytes: &mut Vec<u8, A>, c: u32) -> Result<CodeRegister>
+fn write_seven_bits<A: Allocator>(bytes: &mut Vec<u8, A>, c: u32) -> Result<CodeRegister>
     requires { c < 2 ^ 28 }
     ensures value { IfOk result
         (λ code. writer_of bytes.new.items code ≡ seven_bits_out c (reverse bytes.old.items)) }
@@ -87,19 +87,19 @@ fn byte_out<A: Allocator>(bytes: &mut Vec<u8, A>, c: u32) -> Result<CodeRegister
     ensures room { IfOk result (λ code. (a : ℕ) → a ≤ 2 ^ 16 → HasRoom a code) }
 {
     let Some(last) = last_out(bytes) else {
-        return plain(bytes, c);
+        return write_eight_bits(bytes, c);
     };
     if last == 0xFF {
-        return stuffed(bytes, c);
+        return write_seven_bits(bytes, c);
     }
     if c < CARRY {
-        return plain(bytes, c);
+        return write_eight_bits(bytes, c);
     }
     replace_last(bytes, last + 1);
     if last + 1 == 0xFF {
-        return stuffed(bytes, c % CARRY);
+        return write_seven_bits(bytes, c % CARRY);
     }
-    plain(bytes, c)
+    write_eight_bits(bytes, c)
 }
 
 /// Shifts A and C by one bit.

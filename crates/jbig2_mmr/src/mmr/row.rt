@@ -145,7 +145,7 @@ fn pass<A: Allocator, L: Ledger>(
 {
     let b1 = find_b1(bitmap, above, word, place, steps);
     if b1 >= bitmap.width() {
-        return passed(b1, place.black);
+        return pass_turn(b1, place.black);
     }
     let at_b1 = Place {
         a0: b1,
@@ -153,12 +153,12 @@ fn pass<A: Allocator, L: Ledger>(
         black: !place.black,
     };
     let word = word.at(bitmap, above, b1, steps);
-    passed(find_b1(bitmap, above, word, at_b1, steps), place.black)
+    pass_turn(find_b1(bitmap, above, word, at_b1, steps), place.black)
 }
 
 /// The result of a pass mode, in which the colour stays up to b2.
 #[inline(always)]
-fn passed(b2: u32, black: bool) -> Turn
+fn pass_turn(b2: u32, black: bool) -> Turn
     ensures { result ≡ record {
       turn = b2;
       next = record { a0 = b2; past_start = true; black = black };

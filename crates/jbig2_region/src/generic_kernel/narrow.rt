@@ -100,7 +100,7 @@ fn push_row<L: Ledger>(
 
 /// The windows around the first column of the next row, from those of a row and its `width` pixels.
 #[inline(always)]
-fn lowered(windows: Windows, width: u32, pixels: u64) -> Windows
+fn windows_below(windows: Windows, width: u32, pixels: u64) -> Windows
     requires some { 1 ≤ width }
     requires few { width ≤ 48 }
     requires bound { pixels < 2 ^ width }
@@ -135,7 +135,7 @@ fn decode_rows<A: Allocator, L: Ledger>(
     for y in 0..bitmap.height() {
         let pixels = push_row(neighbours, width, windows, decoder, contexts, steps);
         bitmap.store_pixels(0, y, width, pixels, steps);
-        windows = lowered(windows, width, pixels);
+        windows = windows_below(windows, width, pixels);
     }
 }
 

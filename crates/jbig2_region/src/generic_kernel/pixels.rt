@@ -8,7 +8,7 @@ ghost use Rattle.jbig2_region.specs.inner.RegionStates.{region_state};
 
 use crate::generic_coding::context_at;
 use crate::generic_kernel::windows::{Place, Windows, stretch_bits, windows_at};
-use crate::template::neighbours::{Adaptives, Neighbours, joined};
+use crate::template::neighbours::{Adaptives, Neighbours, join};
 use jbig2_base::bitmap::Bitmap;
 use jbig2_base::bitmap::steps::Steps;
 use jbig2_coder::arithmetic_decoder::{ArithmeticDecoder, ArithmeticDecoderContext};
@@ -46,11 +46,11 @@ fn mixed_context<A: Allocator, L: Ledger>(
     let last = context_at(adaptive.last, bitmap, place.x + offset, place.y, steps);
     let above = stretch_bits(neighbours.above, windows.above, offset);
     let top = stretch_bits(neighbours.top, windows.top, offset);
-    let after_middle = joined(top, last, neighbours.top.count);
-    let after_above = joined(middle, after_middle, adaptive.middle.len() as u32);
-    let after_first = joined(above, after_above, neighbours.above.count);
-    let after_left = joined(first, after_first, adaptive.first.len() as u32);
-    joined(left % (1 << neighbours.left), after_left, neighbours.left)
+    let after_middle = join(top, last, neighbours.top.count);
+    let after_above = join(middle, after_middle, adaptive.middle.len() as u32);
+    let after_first = join(above, after_above, neighbours.above.count);
+    let after_left = join(first, after_first, adaptive.first.len() as u32);
+    join(left % (1 << neighbours.left), after_left, neighbours.left)
 }
 
 /// Decodes the pixels of a place, at most 32. Returns the four pixels left of the next column.

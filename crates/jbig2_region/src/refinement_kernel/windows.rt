@@ -118,7 +118,7 @@ impl RefinementWindows {
     /// The windows that serve column 0 of row `y`, from those of the row above. The pixels of that row
     /// are the lowest `width` bits of `pixels`.
     #[inline(always)]
-    pub fn lowered<B: Allocator, L: Ledger>(
+    pub fn on_next_row<B: Allocator, L: Ledger>(
         self,
         reference: &ReferenceBitmap<'_, B>,
         y: u32,

@@ -13,7 +13,7 @@ ghost use Rattle.jbig2_region.specs.inner.Masks.{IsMask, plain_context};
 ghost use Rattle.jbig2_region.specs.inner.Stretches.{DecodesPixels};
 
 use crate::generic_kernel::windows::{Place, Windows, stretch_bits, windows_at};
-use crate::template::neighbours::{Neighbours, joined};
+use crate::template::neighbours::{Neighbours, join};
 use jbig2_base::bitmap::Bitmap;
 use jbig2_base::bitmap::steps::Steps;
 use jbig2_coder::arithmetic_decoder::{ArithmeticDecoder, ArithmeticDecoderContext};
@@ -49,8 +49,8 @@ fn plain_context(neighbours: Neighbours, windows: Windows, left: u32, offset: u3
 {
     let above = stretch_bits(neighbours.above, windows.above, offset);
     let top = stretch_bits(neighbours.top, windows.top, offset);
-    let higher = joined(above, top, neighbours.above.count);
-    joined(left % (1 << neighbours.left), higher, neighbours.left)
+    let higher = join(above, top, neighbours.above.count);
+    join(left % (1 << neighbours.left), higher, neighbours.left)
 }
 
 /// Decodes the next pixel, 1 for black. A skipped pixel is white.

@@ -38,7 +38,7 @@ pub struct Layout<'a> {
 
 /// The number with `low` in its lowest `count` bits and `high` above them.
 #[inline(always)]
-pub fn joined(low: u32, high: u32, count: u32) -> u32
+pub fn join(low: u32, high: u32, count: u32) -> u32
     requires few { count ≤ 16 }
     requires low { low < 2 ^ count }
     requires high { high < 2 ^ 16 }

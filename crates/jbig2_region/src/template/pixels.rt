@@ -37,10 +37,10 @@ impl TemplatePixels {
     pub fn regular(template: Template, a: &[AdaptiveTemplatePixel; 4]) -> TemplatePixels
         ensures { result ≡ template_pixels false template (four_pixels template a.now) }
     {
-        TemplatePixels::mixed(fixed_neighbours(template), &adaptives(template, a))
+        TemplatePixels::from_neighbours(fixed_neighbours(template), &adaptives(template, a))
     }
 
-    fn mixed(neighbours: Neighbours, adaptive: &Adaptives<'_>) -> TemplatePixels
+    fn from_neighbours(neighbours: Neighbours, adaptive: &Adaptives<'_>) -> TemplatePixels
         requires { IsMixed neighbours adaptive.now }
         ensures { result ≡ mixed_pixels neighbours adaptive.now }
     {

@@ -3,7 +3,7 @@ use crate::case::Case::Mmr;
 use crate::case::Modes::{Both, Lenient, Strict};
 use crate::case::Row;
 use crate::errors::INVALID_MMR;
-use crate::mmr::{Decoded, MmrCase};
+use crate::mmr::{ExpectedRows, MmrCase};
 
 const ROWS: &[Row] = &[
     Row {
@@ -13,7 +13,7 @@ const ROWS: &[Row] = &[
             width: 8,
             height: 1,
             bytes: "80",
-            answer: Ok(Decoded {
+            answer: Ok(ExpectedRows {
                 used: 1,
                 rows: &[0],
             }),
@@ -26,7 +26,7 @@ const ROWS: &[Row] = &[
             width: 8,
             height: 1,
             bytes: "26A280",
-            answer: Ok(Decoded {
+            answer: Ok(ExpectedRows {
                 used: 3,
                 rows: &[0xFF],
             }),
@@ -39,7 +39,7 @@ const ROWS: &[Row] = &[
             width: 8,
             height: 2,
             bytes: "26A2E0",
-            answer: Ok(Decoded {
+            answer: Ok(ExpectedRows {
                 used: 3,
                 rows: &[0xFF, 0xFF],
             }),
@@ -60,7 +60,7 @@ const ROWS: &[Row] = &[
                 width: 8,
                 height: 2,
                 bytes: "26A280080080",
-                answer: Ok(Decoded {
+                answer: Ok(ExpectedRows {
                     used: 6,
                     rows: &[0xFF, 0],
                 }),
@@ -74,7 +74,7 @@ const ROWS: &[Row] = &[
             width: 8,
             height: 1,
             bytes: "50",
-            answer: Ok(Decoded {
+            answer: Ok(ExpectedRows {
                 used: 1,
                 rows: &[0x01],
             }),
@@ -87,7 +87,7 @@ const ROWS: &[Row] = &[
             width: 8,
             height: 1,
             bytes: "4A",
-            answer: Ok(Decoded {
+            answer: Ok(ExpectedRows {
                 used: 1,
                 rows: &[0],
             }),
@@ -108,7 +108,7 @@ const ROWS: &[Row] = &[
                 width: 8,
                 height: 1,
                 bytes: "4100",
-                answer: Ok(Decoded {
+                answer: Ok(ExpectedRows {
                     used: 2,
                     rows: &[0],
                 }),
@@ -130,7 +130,7 @@ const ROWS: &[Row] = &[
                 width: 8,
                 height: 1,
                 bytes: "",
-                answer: Ok(Decoded {
+                answer: Ok(ExpectedRows {
                     used: 0,
                     rows: &[0],
                 }),
@@ -144,7 +144,7 @@ const ROWS: &[Row] = &[
             width: 0,
             height: 5,
             bytes: "FF",
-            answer: Ok(Decoded {
+            answer: Ok(ExpectedRows {
                 used: 0,
                 rows: &[0, 0, 0, 0, 0],
             }),

@@ -10,7 +10,7 @@ use Rattle.jbig2_base.specs.declared.error.OverflowError.TheVariants.{BitmapDime
 use Rattle.jbig2_base.specs.Bits.{Place, byte_boundary}
 use Rattle.jbig2_base.specs.Fields.{bytes_at}
 use Rattle.jbig2_base.specs.Grid.{Grid, bit_number, wide_or_overflow}
-use Rattle.jbig2_text.specs.TextCoding.{Coded, in_band}
+use Rattle.jbig2_text.specs.TextCoding.{CodedState, in_band}
 use Rattle.jbig2_symbol.specs.SymbolBitmaps.{collective_bitmap, raw_stride}
 use Rattle.jbig2_symbol.specs.SymbolReading.{BitmapContexts, SymbolInput, SymbolState, SymbolTables, by_table}
 use Rattle.jbig2_symbol.specs.SymbolReading.{not_negative}
@@ -43,7 +43,7 @@ input_view d = record {
 }
 
 -- a reading's state: that of the arithmetic coder, and that of prefix codes
-abbrev pub coded_view : {A : Type 0} → CodedSymbols A → SymbolState Coded
+abbrev pub coded_view : {A : Type 0} → CodedSymbols A → SymbolState CodedState
 coded_view r = record { coding = texts.coded_view r.coded; contexts = r.contexts }
 
 abbrev pub prefixed_view : {A : Type 0} → PrefixedSymbols A → SymbolState Place

@@ -16,7 +16,7 @@ use Rattle.jbig2_region.specs.RefinementTemplates.{refinement_bits, refinement_p
 use Rattle.jbig2_region.specs.declared.template.AdaptiveTemplatePixel.{AdaptiveTemplatePixel}
 use Rattle.jbig2_region.specs.declared.template.RefinementTemplate.{RefinementTemplate}
 use Rattle.jbig2_text.specs.Refining.{Refining}
-use Rattle.jbig2_text.specs.Text.{Reached, Readings, TextParams, after_instances, next_cursor, far_end}
+use Rattle.jbig2_text.specs.Text.{TextState, Readings, TextParams, after_instances, next_cursor, far_end}
 use Rattle.jbig2_text.specs.Text.{is_last_along_s, strip_start, with_instance}
 use Rattle.jbig2_text.specs.TextHeader.{corner_of, signed_5}
 use Rattle.jbig2_text.specs.TextRegion.{one_of_two}
@@ -71,7 +71,7 @@ abbrev pub s_after : TextRegionFlags → Grid → ℤ → Result ℤ DecodeError
 s_after flags g curs = if is_last_along_s flags then Ok curs else far_end flags g curs
 
 -- ---- instances
-abbrev pub reaching : {S : Type 0} → Grid → Cursor → Refining → S → Reached S
+abbrev pub reaching : {S : Type 0} → Grid → Cursor → Refining → S → TextState S
 reaching region c f s = record { region = region; cursor = c; refining = f; state = s }
 
 -- whether a strip may end with this IDS
@@ -80,14 +80,14 @@ end_of_strip strict ids = if strict then (ids >>= λ o. refuse_if (is_some o) (S
 
 module _ {S : Type 0} (r : Readings S) (p : TextParams) where
   -- one more instance, and the place of the one after it
-  abbrev pub with_next_instance : Reached S → Result (Reached S) DecodeError
+  abbrev pub with_next_instance : TextState S → Result (TextState S) DecodeError
   with_next_instance x = do
     y ← with_instance r p x
     (cursor, after) ← next_cursor r p.flags y.cursor y.state
     Ok (reaching y.region cursor y.refining after)
 
   -- the last instance, and then the end of its strip
-  abbrev pub with_last : Reached S → Result (Grid × Refining × S) DecodeError
+  abbrev pub with_last : TextState S → Result (Grid × Refining × S) DecodeError
   with_last x = do
     last ← with_instance r p x
     ends ← end_of_strip p.strict (r.delta_s last.state)

@@ -5,7 +5,7 @@ use Rattle.jbig2_base.specs.Grid.{Grid}
 use Rattle.jbig2_region.specs.inner.PixelArrays.{two_pixels}
 use Rattle.jbig2_region.specs.declared.template.AdaptiveTemplatePixel.{AdaptiveTemplatePixel}
 use Rattle.jbig2_text.specs.Text.{Instance, TextParams as Params}
-use Rattle.jbig2_text.specs.TextCoding.{Coded, Prefixed, TextTables}
+use Rattle.jbig2_text.specs.TextCoding.{CodedState, PrefixedState, TextTables}
 use Rattle.jbig2_text.specs.declared.coded.CodedReadings.{CodedReadings}
 use Rattle.jbig2_text.specs.declared.header.TextFields.{TextFields}
 use Rattle.jbig2_text.specs.declared.header.TextRegionCoding.{TextRegionCoding}
@@ -29,7 +29,7 @@ text_pixels flags a = if flags.use_refinement then two_pixels flags.refinement_t
 abbrev pub fields_view : TextFields → TextFields
 fields_view f = record f { refinement_at_pixels = text_pixels f.flags f.refinement_at_pixels }
 
-abbrev pub coded_view : {A : Type 0} → CodedReadings A → Coded
+abbrev pub coded_view : {A : Type 0} → CodedReadings A → CodedState
 coded_view r = record { coder = r.decoder; procedures = r.procedures; ids = r.ids }
 
 abbrev pub tables_view : {A : Type 0} → TextRegionHuffmanTables A → TextTables
@@ -44,7 +44,7 @@ tables_view t = record {
   refinement_size = t.refinement_size.now;
 }
 
-abbrev pub prefixed_view : {A : Type 0} → PrefixedReadings A → Prefixed
+abbrev pub prefixed_view : {A : Type 0} → PrefixedReadings A → PrefixedState
 prefixed_view r = record { place = r.reader; tables = tables_view r.tables; ids = r.ids.now }
 
 -- the grids that a list of references refers to

@@ -2,14 +2,14 @@ use Rattle.std.proofs.Common.{◌≡◌, length, Result, Ok, refl, ap, sym, ◌�
 use Rattle.std.proofs.lemmas.List.{length-map}
 use Rattle.jbig2_base.specs.inner.SegmentViews.{segment_views}
 use Rattle.jbig2_base.specs.declared.error.DecodeError.{DecodeError}
-use Rattle.hayro_jbig2.specs.Names.{Shared}
+use Rattle.hayro_jbig2.specs.Names.{KeptGlobals}
 use Rattle.hayro_jbig2.specs.WorkLimit.{shared_count}
 use Rattle.hayro_jbig2.proofs.Books.{counts_none, counts_some, shares_some}
 use Rattle.hayro_jbig2.proofs.file.kept_globals.Goals as goal
 
 pub returns-in-Ok-clause-value : goal.returns-in-Ok-clause-value
 returns-in-Ok-clause-value g c =
-    ap (λ (r : Result Shared DecodeError). let s : Result (Result Shared DecodeError) DecodeError = Ok r in s)
+    ap (λ (r : Result KeptGlobals DecodeError). let s : Result (Result KeptGlobals DecodeError) DecodeError = Ok r in s)
     (shares_some c.args.reading c.args.pages.now (segment_views c.args.shared.now) (sym c.is_empty.ensures ∙ c.if-is_empty.false) ∙ c.in-Ok.ensures.value)
 
 pub returns-then-is_empty-clause-taken : goal.returns-then-is_empty-clause-taken

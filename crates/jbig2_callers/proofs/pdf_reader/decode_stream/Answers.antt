@@ -6,7 +6,7 @@ use Rattle.jbig2_base.specs.Grid.{Grid}
 use Rattle.jbig2_base.specs.declared.error.DecodeError.{DecodeError}
 use Rattle.jbig2_base.specs.declared.error.DecodeError.TheVariants.{OutOfMemory}
 use Rattle.jbig2_base.specs.declared.reading.Reading.TheVariants.{Lenient}
-use Rattle.hayro_jbig2.specs.Names.{globals_at, Shared}
+use Rattle.hayro_jbig2.specs.Names.{globals_at, KeptGlobals}
 use Rattle.hayro_jbig2.specs.Page.{page_from}
 use Rattle.hayro_jbig2.specs.Calls.{Conduct, Decodes}
 use Rattle.jbig2_callers.specs.Callers.{grid_of_stream}
@@ -18,7 +18,7 @@ refused d (Ok grid) e s why = ⊎_elim (λ (memory : e ≡ OutOfMemory). inr (me
 refused d (Err f) e s why = ⊎_elim (λ (memory : e ≡ OutOfMemory). (inr memory, (refl, refl))) (λ (is : Err f ≡ Err e). (inl (cc), (refl, refl))) why
 
 -- a page that is refused, with globals that were read
-page-refused : (given : Option (Bor (List ℕ))) (bytes : Bor (List ℕ)) (stream : List ℕ) (shared : Shared) (e : DecodeError) → given ≡ Some bytes → globals_at Lenient bytes.now ≡ Ok shared → page_from Lenient shared.names stream ≡ Err e → grid_of_stream (option_map (λ b. b.now) given) stream ≡ Err e
+page-refused : (given : Option (Bor (List ℕ))) (bytes : Bor (List ℕ)) (stream : List ℕ) (shared : KeptGlobals) (e : DecodeError) → given ≡ Some bytes → globals_at Lenient bytes.now ≡ Ok shared → page_from Lenient shared.names stream ≡ Err e → grid_of_stream (option_map (λ b. b.now) given) stream ≡ Err e
 page-refused given bytes stream shared e is read refused = rw (is, read, refused)
 
 pub returns-in_err-page-in-Some : goal.returns-in_err-page-in-Some

@@ -14,6 +14,6 @@ pub returns : goal.returns
 returns g c =
     let head : c.deref.result.now ≡ bitmap_head c.args.page.now =
     c.deref.ensures.value ∙ c.in_ok-write_head.ensures.head ∙ ap (λ (xs : List ℕ). xs ++ bitmap_head c.args.page.now) c.in_ok-head.ensures.items in
-    drawn_whole c.args.page.now c.deref.result.now c.in_ok-drawn.drawn c.write_rows.result c.flushed.result
-    (g.O.Write.contents c.args.out.now) (g.O.Write.contents c.write_all.new.self) (g.O.Write.contents c.write_rows.new.out) (g.O.Write.contents c.flushed.new.out)
-    c.in_ok-drawn.ensures.value head (if_ok c.write_all.result _ c.if-is_err.ensures.negation c.write_all.ensures.bytes) c.write_rows.ensures c.if-not-write_rows.false c.flushed.ensures.kept c.flushed.ensures.fault
+    drawn_whole c.args.page.now c.deref.result.now c.in_ok-drawn.drawn c.write_rows.result c.flush.result
+    (g.O.Write.contents c.args.out.now) (g.O.Write.contents c.write_all.new.self) (g.O.Write.contents c.write_rows.new.out) (g.O.Write.contents c.flush.new.out)
+    c.in_ok-drawn.ensures.value head (if_ok c.write_all.result _ c.if-is_err.ensures.negation c.write_all.ensures.bytes) c.write_rows.ensures c.if-not-write_rows.false c.flush.ensures.kept c.flush.ensures.fault

@@ -26,10 +26,10 @@ returns-in_ok-file-in-Pages g c =
 
 pub returns-in_ok-page_at-in-Calls : goal.returns-in_ok-page_at-in-Calls
 returns-in_ok-page_at-in-Calls g c =
-    calls_printed c.args.request.strict (task_view c.args.request.command) c.in-Calls.index.now c.args.bytes.now c.in_ok-file-in-Calls.file c.print_calls-in-Calls.result (g.O.Write.contents c.args.out.now) (g.O.Write.contents c.print_calls-in-Calls.new.out)
-    c.in_ok-page_at-in-Calls.field-0 (ap (λ (command : Command). task_view command) c.in-Calls.is) c.in_ok-file-in-Calls.ensures.value c.in_ok-page_at-in-Calls.ensures.page c.print_calls-in-Calls.ensures
+    calls_printed c.args.request.strict (task_view c.args.request.command) c.in-Calls.index.now c.args.bytes.now c.in_ok-file-in-Calls.file c.print_calls-in-Calls-2.result (g.O.Write.contents c.args.out.now) (g.O.Write.contents c.print_calls-in-Calls-2.new.out)
+    c.in_ok-page_at-in-Calls.field-0 (ap (λ (command : Command). task_view command) c.in-Calls.is) c.in_ok-file-in-Calls.ensures.value c.in_ok-page_at-in-Calls.ensures.page c.print_calls-in-Calls-2.ensures
 
 pub returns-in_ok-page_at-in-Pbm : goal.returns-in_ok-page_at-in-Pbm
 returns-in_ok-page_at-in-Pbm g c =
-    bitmap_printed c.args.request.strict (task_view c.args.request.command) c.in-Pbm.index.now c.args.bytes.now c.in_ok-file-in-Pbm.file c.write_bitmap.result (g.O.Write.contents c.args.out.now) (g.O.Write.contents c.write_bitmap.new.out)
-    c.in_ok-page_at-in-Pbm.field-0 (ap (λ (command : Command). task_view command) c.in-Pbm.is) c.in_ok-file-in-Pbm.ensures.value c.in_ok-page_at-in-Pbm.ensures.page c.write_bitmap.ensures
+    bitmap_printed c.args.request.strict (task_view c.args.request.command) c.in-Pbm.index.now c.args.bytes.now c.in_ok-file-in-Pbm.file c.write_bitmap-in-Pbm.result (g.O.Write.contents c.args.out.now) (g.O.Write.contents c.write_bitmap-in-Pbm.new.out)
+    c.in_ok-page_at-in-Pbm.field-0 (ap (λ (command : Command). task_view command) c.in-Pbm.is) c.in_ok-file-in-Pbm.ensures.value c.in_ok-page_at-in-Pbm.ensures.page c.write_bitmap-in-Pbm.ensures

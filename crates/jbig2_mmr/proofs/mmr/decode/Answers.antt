@@ -4,7 +4,7 @@ use Rattle.std.proofs.lemmas.Bool.{eq-eqb, or_left, or_right}
 use Rattle.jbig2_base.specs.Results.{Returns}
 use Rattle.jbig2_base.proofs.CauseSteps.{err-answers}
 use Rattle.jbig2_base.proofs.LaneCounts.{lanes-none, lanes-then}
-use Rattle.jbig2_mmr.specs.T6.{Decoded, mmr_rows, row, ends_block, rows_of}
+use Rattle.jbig2_mmr.specs.T6.{DecodedRows, mmr_rows, row, ends_block, rows_of}
 use Rattle.jbig2_mmr.specs.inner.T6Reading.{Rest, after_end, row_above}
 use Rattle.jbig2_mmr.specs.inner.T6Calls.{ReadRow}
 use Rattle.jbig2_mmr.proofs.Causes.{mmr_cause}
@@ -57,7 +57,7 @@ returns-then-skip_end_of_block g c =
     ∙ ap (λ (bs : List ℕ). length bs - length (drop 24 c.loop-y.reader.left) / 8) inv.bytes in
     let early = rows-early w h c.loop-y.y c.loop-y.reader.left c.loop-y.bitmap (rows_of w h c.args.bytes.now) inv.reading (omega (arith, c.loop-y-test.true, c.height-height.ensures.value)) ends in
     let drawn = rows-grid w h c.loop-y.y c.loop-y.reader.left c.loop-y.bitmap (rows_of w h c.args.bytes.now) inv.reading in
-    let value : Returns (λ (n : ℕ). let d : Decoded = record { grid = c.loop-y.bitmap; used = n } in d) c.missing_rows.result (mmr_rows c.args.strict w h c.args.bytes.now) = result-missing c.args.strict w h c.args.bytes.now inv.reading.done (drop 24 c.loop-y.reader.left) c.loop-y.bitmap c.bytes_used.result c.missing_rows.result early drawn used c.missing_rows.ensures in
+    let value : Returns (λ (n : ℕ). let d : DecodedRows = record { grid = c.loop-y.bitmap; used = n } in d) c.missing_rows.result (mmr_rows c.args.strict w h c.args.bytes.now) = result-missing c.args.strict w h c.args.bytes.now inv.reading.done (drop 24 c.loop-y.reader.left) c.loop-y.bitmap c.bytes_used.result c.missing_rows.result early drawn used c.missing_rows.ensures in
     record {
       value = value;
       causes = mmr_cause c.args.strict w h c.args.bytes.now _ (err-answers _ _ _ value);
@@ -79,7 +79,7 @@ returns-then-not-read_row g c =
     let left : c.skip_end_of_block.new.self.left ≡ c.loop-y.reader.left = ap (λ (r : Rest). r.left) c.skip_end_of_block.ensures.rest ∙ end-none c.loop-y.reader.left goes_on in
     let read = subst (λ (ys : List ℕ). ReadRow (row c.loop-y.bitmap.width (row_above c.loop-y.bitmap c.loop-y.y) ys) false c.loop-y.bitmap c.read_row.new.bitmap c.loop-y.y c.read_row.new.reader.left) left c.if-not-read_row.ensures.value in
     let fault = rows-fault w h c.loop-y.y c.loop-y.reader.left c.read_row.new.reader.left c.loop-y.bitmap c.read_row.new.bitmap (rows_of w h c.args.bytes.now) inv.reading (omega (arith, c.loop-y-test.true, c.height-height.ensures.value)) goes_on read in
-    let value : Returns (λ (n : ℕ). let d : Decoded = record { grid = c.read_row.new.bitmap; used = n } in d) c.missing_rows-then-not-read_row.result (mmr_rows c.args.strict w h c.args.bytes.now) = result-missing c.args.strict w h c.args.bytes.now inv.reading.done [] c.read_row.new.bitmap (length c.args.bytes.now) c.missing_rows-then-not-read_row.result fault.0 fault.1 (omega arith) c.missing_rows-then-not-read_row.ensures in
+    let value : Returns (λ (n : ℕ). let d : DecodedRows = record { grid = c.read_row.new.bitmap; used = n } in d) c.missing_rows-then-not-read_row.result (mmr_rows c.args.strict w h c.args.bytes.now) = result-missing c.args.strict w h c.args.bytes.now inv.reading.done [] c.read_row.new.bitmap (length c.args.bytes.now) c.missing_rows-then-not-read_row.result fault.0 fault.1 (omega arith) c.missing_rows-then-not-read_row.ensures in
     record {
       value = value;
       causes = mmr_cause c.args.strict w h c.args.bytes.now _ (err-answers _ _ _ value);

@@ -33,27 +33,27 @@ loop-y-preserved g c =
     let begin =
     subst (λ (k : Option ℕ). (w h : ℕ) (grid : Grid) (r : Region) → r.predicted ≡ c.loop-y.predicted → HasDecoded w h c.loop-y.decoder.bytes r (region_state grid c.loop-y.decoder c.loop-y.contexts) → BeginsRow w h k r c.begin_row-predicted.result c.loop-y.decoder (region_state grid c.begin_row-predicted.new.decoder c.begin_row-predicted.new.contexts)) c.typical_context-row_context.ensures.value c.begin_row-predicted.ensures.row in
     let decoded = subst (λ (n : ℕ). DecodesPixels coding c.begin_row-predicted.result 0 c.loop-y.y n (counted_region c.loop-y.bitmap c.begin_row-predicted.new.decoder c.begin_row-predicted.new.contexts c.begin_row-predicted.new.steps) (counted_region c.decode_block-pixels.new.bitmap c.decode_block-pixels.new.decoder c.decode_block-pixels.new.contexts c.decode_block-pixels.new.steps)) (whole ∙ sym c.loop-y.invariant.rows.width) c.decode_block-pixels.ensures.decoded in
-    let lowered = c.lowered-windows.ensures.steps in
-    let decided : c.decode_block-pixels.new.steps.decisions ≡ c.lowered-windows.new.steps.decisions = sym (ap (λ (t : Counts). t.decisions) lowered) in
-    let untouched : rest_of c.lowered-windows.new.steps ≡ rest_of c.decode_block-pixels.new.steps = ap (λ (t : Counts). rest_of t) lowered in
-    let words : c.lowered-windows.new.steps.words ≡ c.decode_block-pixels.new.steps.words = ap (λ (t : Counts). t.words) lowered in
-    let loads : c.lowered-windows.new.steps.loads ≡ c.decode_block-pixels.new.steps.loads + 1 = ap (λ (t : Counts). t.loads) lowered in
+    let lowered = c.on_next_row-windows.ensures.steps in
+    let decided : c.decode_block-pixels.new.steps.decisions ≡ c.on_next_row-windows.new.steps.decisions = sym (ap (λ (t : Counts). t.decisions) lowered) in
+    let untouched : rest_of c.on_next_row-windows.new.steps ≡ rest_of c.decode_block-pixels.new.steps = ap (λ (t : Counts). rest_of t) lowered in
+    let words : c.on_next_row-windows.new.steps.words ≡ c.decode_block-pixels.new.steps.words = ap (λ (t : Counts). t.words) lowered in
+    let loads : c.on_next_row-windows.new.steps.loads ≡ c.decode_block-pixels.new.steps.loads + 1 = ap (λ (t : Counts). t.loads) lowered in
     let opening = c.begin_row-predicted.ensures.steps in
     let more : c.begin_row-predicted.new.steps.decisions ≡ c.loop-y.steps.decisions + row_decisions coding.row_context =
     ap (λ (s : Counts). s.decisions) opening ∙ ap (λ (k : Option ℕ). c.loop-y.steps.decisions + row_decisions k) c.typical_context-row_context.ensures.value in
     let same_words : c.begin_row-predicted.new.steps.words ≡ c.loop-y.steps.words = ap (λ (s : Counts). s.words) opening in
     let same_loads : c.begin_row-predicted.new.steps.loads ≡ c.loop-y.steps.loads = ap (λ (s : Counts). s.loads) opening in
-    let written : c.lowered-windows.new.steps.words ≤ c.loop-y.steps.words + w = omega (arith, words, same_words, c.decode_block-pixels.ensures.words, c.requires.some) in
+    let written : c.on_next_row-windows.new.steps.words ≤ c.loop-y.steps.words + w = omega (arith, words, same_words, c.decode_block-pixels.ensures.words, c.requires.some) in
     let wide : c.decode_block-pixels.new.bitmap.width ≡ w = decoded.width ∙ c.loop-y.invariant.rows.width in
     record {
       rows =
-          rows-until c.decode_block-pixels.new.steps c.lowered-windows.new.steps
+          rows-until c.decode_block-pixels.new.steps c.on_next_row-windows.new.steps
           (rows-next c.begin_row-predicted.result c.begin_row-predicted.new.decoder c.begin_row-predicted.new.contexts c.begin_row-predicted.new.steps c.decode_block-pixels.new.bitmap c.decode_block-pixels.new.decoder c.decode_block-pixels.new.contexts c.decode_block-pixels.new.steps c.loop-y.invariant.rows begin c.begin_row-predicted.ensures.bytes more (ap (λ (s : Counts). rest_of s) opening) decoded)
           decided untouched;
-      words = tests-next c.windows_at-windows.new.steps.words c.loop-y.steps.words c.lowered-windows.new.steps.words w c.loop-y.y c.loop-y.invariant.words written;
+      words = tests-next c.windows_at-windows.new.steps.words c.loop-y.steps.words c.on_next_row-windows.new.steps.words w c.loop-y.y c.loop-y.invariant.words written;
       loads = omega (arith, loads, same_loads, c.decode_block-pixels.ensures.loads, c.loop-y.invariant.loads);
       sees =
-          c.lowered-windows.ensures.value c.loop-y.bitmap c.decode_block-pixels.new.bitmap c.loop-y.y refl c.loop-y.invariant.sees (wide ∙ sym whole) (λ k few.
+          c.on_next_row-windows.ensures.value c.loop-y.bitmap c.decode_block-pixels.new.bitmap c.loop-y.y refl c.loop-y.invariant.sees (wide ∙ sym whole) (λ k few.
           let place : 0 + k ≡ k = omega arith in
           c.decode_block-pixels.ensures.value k few ∙ ap (λ (n : ℕ). pixel_at c.decode_block-pixels.new.bitmap n c.loop-y.y) place);
     }

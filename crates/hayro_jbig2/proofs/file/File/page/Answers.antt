@@ -8,7 +8,7 @@ use Rattle.hayro_jbig2.proofs.Books.{pages_stand_alone}
 use Rattle.hayro_jbig2.proofs.file.File.page.Goals as goal
 use Rattle.hayro_jbig2.specs.Causes.{IsFromInput}
 use Rattle.hayro_jbig2.specs.Files.{ReadFile, PageInFile, page_in, page_of}
-use Rattle.hayro_jbig2.specs.Names.{Names, Shared, names_of}
+use Rattle.hayro_jbig2.specs.Names.{Names, KeptGlobals, names_of}
 use Rattle.hayro_jbig2.specs.Page.{ReadPage}
 use Rattle.hayro_jbig2.specs.inner.PageViews.{kept_names}
 
@@ -49,6 +49,6 @@ of_file-requires-clause-from_input g c =
     let given : IfErr c.args.self.now.globals IsFromInput = subst (λ (b : ReadFile). IfErr b.globals IsFromInput) c.self.view_is c.self.invariant in
     subst (λ (r : Result Names DecodeError). IfErr r IsFromInput) (sym c.globals.ensures) (named c.args.self.now.globals given)
   where
-    named : (globals : Result Shared DecodeError) → IfErr globals IsFromInput → IfErr (names_of globals) IsFromInput
+    named : (globals : Result KeptGlobals DecodeError) → IfErr globals IsFromInput → IfErr (names_of globals) IsFromInput
     named (Ok shared) is = tt
     named (Err e) is = is

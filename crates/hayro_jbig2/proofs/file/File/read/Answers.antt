@@ -14,7 +14,7 @@ use Rattle.jbig2_base.specs.declared.reading.Reading.{Reading}
 use Rattle.jbig2_base.specs.declared.reading.Reading.TheVariants.{Lenient}
 use Rattle.hayro_jbig2.specs.Causes.{IsFromInput}
 use Rattle.hayro_jbig2.specs.Files.{PageInFile, association_check, book_at, by_pages, pages_in_file, left_out_of, miscounts, of_page, shared_by}
-use Rattle.hayro_jbig2.specs.Names.{Shared}
+use Rattle.hayro_jbig2.specs.Names.{KeptGlobals}
 use Rattle.hayro_jbig2.specs.inner.ByPages.{by_page_view}
 use Rattle.jbig2_base.proofs.FromInput.{from_input-file}
 use Rattle.jbig2_base.proofs.CauseSteps.{err-gives}
@@ -25,7 +25,7 @@ use Rattle.hayro_jbig2.proofs.file.File.read.Goals as goal
 use Rattle.hayro_jbig2.proofs.file.File.read.Goals.{else-strict-via-then-strict+else-miscounts, else-strict-via-else-strict}
 
 -- a file of which each step was taken
-book-made : (reading : Reading) (bytes : List ℕ) (file : FileHeader × List SegmentView) (parts : List SegmentView × List (List SegmentView)) (pages : List PageInFile) (globals : Result Shared DecodeError) (left_out : List DecodeError) (fault : Option DecodeError)
+book-made : (reading : Reading) (bytes : List ℕ) (file : FileHeader × List SegmentView) (parts : List SegmentView × List (List SegmentView)) (pages : List PageInFile) (globals : Result KeptGlobals DecodeError) (left_out : List DecodeError) (fault : Option DecodeError)
     → file_at reading bytes ≡ Ok file → association_check (is_strict reading) file.1 ≡ Ok tt → of_page 0 file.1 ≡ parts.0 → by_pages file.1 ≡ parts.1
     → (is_strict reading && miscounts file.0.number_of_pages (length parts.1)) ≡ false → pages_in_file reading parts.1 ≡ Ok pages → shared_by reading pages parts.0 ≡ globals → left_out_of reading parts.1 ≡ left_out → fault_of reading (file_at Lenient bytes) ≡ fault
     → book_at reading bytes ≡ Ok (record { reading = reading; pages = pages; globals = globals; left_out = left_out; fault = fault })
@@ -84,7 +84,7 @@ returns-clause-value g c =
 
 pub invariant_of-result : goal.invariant_of-result
 invariant_of-result g c =
-    subst (λ (r : Result Shared DecodeError). IfErr r IsFromInput) (kept-is _ _ c.in_ok-globals.ensures.value)
+    subst (λ (r : Result KeptGlobals DecodeError). IfErr r IsFromInput) (kept-is _ _ c.in_ok-globals.ensures.value)
     (shared_from_input c.args.reading c.deref-2.result.now (segment_views c.deref-3.result.now))
 
 pub returns-in_err-file-clause-errors : goal.returns-in_err-file-clause-errors

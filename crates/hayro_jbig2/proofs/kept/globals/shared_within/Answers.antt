@@ -9,40 +9,40 @@ use Rattle.jbig2_base.specs.declared.error.DecodeError.{DecodeError}
 use Rattle.jbig2_base.specs.declared.error.DecodeError.TheVariants.{OutOfMemory}
 use Rattle.jbig2_base.specs.declared.reading.Reading.{Reading}
 use Rattle.jbig2_base.specs.declared.segment.Segment.{Segment}
-use Rattle.hayro_jbig2.specs.Names.{shared_from, Names, Shared, kept_by, no_names, or_shared_without, with_passed}
+use Rattle.hayro_jbig2.specs.Names.{shared_from, Names, KeptGlobals, kept_by, no_names, or_shared_without, with_passed}
 use Rattle.jbig2_steps.proofs.WorkLemmas.{paid-limit}
 use Rattle.hayro_jbig2.proofs.kept.globals.shared_within.Goals as goal
 
 -- what a segment makes of what was shared before it
-abbrev after : {A : Type 0} → Reading → Segment A → Shared → Result Shared DecodeError
+abbrev after : {A : Type 0} → Reading → Segment A → KeptGlobals → Result KeptGlobals DecodeError
 after reading item shared = or_shared_without reading item.header.segment_number shared (kept_by (is_strict reading) no_names (segment_view item) shared.names)
 
 -- a segment that is refused ends the names
-refused-segment : {A : Type 0} (reading : Reading) (segments : List (Segment A)) (i : ℕ) (item : Segment A) (shared : Shared) (e : DecodeError) → i < length segments → item ≡ get_or segments i item → after reading item shared ≡ Err e → shared_from reading (segment_views (drop i segments)) shared ≡ Err e
+refused-segment : {A : Type 0} (reading : Reading) (segments : List (Segment A)) (i : ℕ) (item : Segment A) (shared : KeptGlobals) (e : DecodeError) → i < length segments → item ≡ get_or segments i item → after reading item shared ≡ Err e → shared_from reading (segment_views (drop i segments)) shared ≡ Err e
 refused-segment reading segments i item shared e inside is refused =
     let here : drop i segments ≡ item ∷ drop (suc i) segments = drop-cons segments i item inside ∙ ap (λ s. s ∷ drop (suc i) segments) (sym is) in
     rw (here, refused)
 
 -- a segment that is taken is followed by the others
-taken-segment : {A : Type 0} (reading : Reading) (segments : List (Segment A)) (i : ℕ) (item : Segment A) (shared : Shared) (more : Shared) → i < length segments → item ≡ get_or segments i item → after reading item shared ≡ Ok more → shared_from reading (segment_views (drop (i + 1) segments)) more ≡ shared_from reading (segment_views (drop i segments)) shared
+taken-segment : {A : Type 0} (reading : Reading) (segments : List (Segment A)) (i : ℕ) (item : Segment A) (shared : KeptGlobals) (more : KeptGlobals) → i < length segments → item ≡ get_or segments i item → after reading item shared ≡ Ok more → shared_from reading (segment_views (drop (i + 1) segments)) more ≡ shared_from reading (segment_views (drop i segments)) shared
 taken-segment reading segments i item shared more inside is taken =
     let here : drop i segments ≡ item ∷ drop (suc i) segments = drop-cons segments i item inside ∙ ap (λ s. s ∷ drop (suc i) segments) (sym is) in
     let next : i + 1 ≡ suc i = omega arith in
     rw (here, taken, next)
 
 -- a segment adds at most one
-counts-on : (reading : Reading) (number : ℕ) (shared : Shared) (r : Result Names DecodeError) → IfOk (or_shared_without reading number shared r) (λ more. more.passed_over.count ≤ shared.passed_over.count + 1)
+counts-on : (reading : Reading) (number : ℕ) (shared : KeptGlobals) (r : Result Names DecodeError) → IfOk (or_shared_without reading number shared r) (λ more. more.passed_over.count ≤ shared.passed_over.count + 1)
 counts-on reading number shared (Ok names) = omega arith
 counts-on reading number shared (Err e) =
     cond_both (is_salvaged reading e) (Ok (record shared { passed_over = with_passed number e shared.passed_over })) (Err e)
-    (λ (r : Result Shared DecodeError). IfOk r (λ more. more.passed_over.count ≤ shared.passed_over.count + 1)) (λ left. omega arith) (λ kept. tt)
+    (λ (r : Result KeptGlobals DecodeError). IfOk r (λ more. more.passed_over.count ≤ shared.passed_over.count + 1)) (λ left. omega arith) (λ kept. tt)
 
 pub loop-segment-preserved : goal.loop-segment-preserved
 loop-segment-preserved g c =
-    let shared : Shared = c.loop-segment.globals in
+    let shared : KeptGlobals = c.loop-segment.globals in
     let item = c.segment-item.result in
     let more : c.add.new.self.passed_over.count ≤ shared.passed_over.count + 1 =
-    subst (λ (r : Result Shared DecodeError). IfOk r (λ s. s.passed_over.count ≤ shared.passed_over.count + 1)) c.in-Ok.ensures.value
+    subst (λ (r : Result KeptGlobals DecodeError). IfOk r (λ s. s.passed_over.count ≤ shared.passed_over.count + 1)) c.in-Ok.ensures.value
     (counts-on c.args.reading item.header.segment_number shared (kept_by (is_strict c.args.reading) no_names (segment_view item) shared.names)) in
     record {
       named =

@@ -2,11 +2,11 @@ use Rattle.std.proofs.Common.{◌≡◌, ℕ, ◌+◌, ◌<◌, Bool, List, leng
 use Rattle.std.proofs.lemmas.List.{at_drop_more}
 use Rattle.jbig2_base.specs.Results.{◌>>=◌}
 use Rattle.jbig2_base.specs.declared.error.DecodeError.TheVariants.{OutOfMemory}
-use Rattle.hayro_jbig2.specs.Names.{Names, Referred, with_number, with_numbers}
+use Rattle.hayro_jbig2.specs.Names.{Names, ReferredValues, with_number, with_numbers}
 use Rattle.hayro_jbig2.proofs.SegmentCauses.{referred_cause}
 use Rattle.hayro_jbig2.proofs.kept.referred.gather_referred.Goals as goal
 
-numbers-first : (strict : Bool) (own shared : Names) (numbers : List ℕ) (i : ℕ) (r : Referred) → i < length numbers → with_numbers strict own shared (drop i numbers) r ≡ (with_number strict own shared (get_or numbers i 0) r >>= λ more. with_numbers strict own shared (drop (i + 1) numbers) more)
+numbers-first : (strict : Bool) (own shared : Names) (numbers : List ℕ) (i : ℕ) (r : ReferredValues) → i < length numbers → with_numbers strict own shared (drop i numbers) r ≡ (with_number strict own shared (get_or numbers i 0) r >>= λ more. with_numbers strict own shared (drop (i + 1) numbers) more)
 numbers-first strict own shared numbers i r inside = at_drop_more (λ left. with_numbers strict own shared left r) numbers i 0 inside
 
 pub loop-number-preserved : goal.loop-number-preserved

@@ -1,8 +1,4 @@
-use Rattle.std.proofs.Common.{ap, subst, arith}
-use Rattle.std.proofs.lemmas.Result.{err_from_is_err_and}
-use Rattle.std.specs.Prelude.{IfErr}
-use Rattle.hayro_jbig2.specs.Causes.{IsFromInput}
-use Rattle.hayro_jbig2.proofs.DrawingFromInput.{grid-returned}
+use Rattle.std.proofs.Common.{ap, arith}
 use Rattle.jbig2_base.proofs.Prices.{price-same}
 use Rattle.jbig2_steps.proofs.WorkLemmas.{counts-worth, paid-limit}
 use Rattle.hayro_jbig2.specs.Page.{ReadPage}
@@ -29,9 +25,3 @@ returns-clause-taken g c =
 
 pub returns-clause-limit : goal.returns-clause-limit
 returns-clause-limit g c = paid-limit c.args.work.now _ (returns-clause-paid g c)
-
-pub returns-in_err-canvas-clause-errors : goal.returns-in_err-canvas-clause-errors
-returns-in_err-canvas-clause-errors g c =
-    let e = err_from_is_err_and c.from_residual.result c.from_residual.ensures.1 in
-    let known : IfErr c.args.self.now.globals IsFromInput = subst (λ (p : ReadPage). IfErr p.globals IsFromInput) c.self.view_is c.self.invariant.1 in
-    rw (e.1, e.2) (grid-returned c.args.self.now c.in_err-canvas.field-0.0 known c.in_err-canvas.ensures.value)

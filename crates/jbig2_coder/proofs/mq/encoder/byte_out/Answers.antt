@@ -20,35 +20,35 @@ last-read xs ys last e h = subst (λ (zs : List ℕ). reverse zs ≡ last ∷ dr
 pub returns-in_default-clause-value : goal.returns-in_default-clause-value
 returns-in_default-clause-value g c =
     let h = none-read _ c.args.bytes.now.items c.deref.ensures.value c.in_default.ensures in
-    written c.plain.result c.plain.new.bytes.items _ _ (byte_out-none c.args.c (reverse c.args.bytes.now.items) h) c.plain.ensures.value
+    written c.write_eight_bits.result c.write_eight_bits.new.bytes.items _ _ (byte_out-none c.args.c (reverse c.args.bytes.now.items) h) c.write_eight_bits.ensures.value
 
 pub returns-then-last-clause-value : goal.returns-then-last-clause-value
 returns-then-last-clause-value g c =
     let out : List ℕ = reverse c.args.bytes.now.items in
     let h = last-read _ c.args.bytes.now.items c.in-Some.last c.deref.ensures.value c.in-Some.ensures in
-    written c.stuffed.result c.stuffed.new.bytes.items _ _ (byte_out-full c.args.c c.in-Some.last out _ h c.if-last.true) c.stuffed.ensures.value
+    written c.write_seven_bits.result c.write_seven_bits.new.bytes.items _ _ (byte_out-full c.args.c c.in-Some.last out _ h c.if-last.true) c.write_seven_bits.ensures.value
 
 pub returns-then-c-lt-CARRY-clause-value : goal.returns-then-c-lt-CARRY-clause-value
 returns-then-c-lt-CARRY-clause-value g c =
     let out : List ℕ = reverse c.args.bytes.now.items in
     let h = last-read _ c.args.bytes.now.items c.in-Some.last c.deref.ensures.value c.in-Some.ensures in
-    written c.plain-then-c-lt-CARRY.result c.plain-then-c-lt-CARRY.new.bytes.items _ _
-    (byte_out-below c.args.c c.in-Some.last out _ h c.if-last.false c.if-c-lt-CARRY.true) c.plain-then-c-lt-CARRY.ensures.value
+    written c.write_eight_bits-then-c-lt-CARRY.result c.write_eight_bits-then-c-lt-CARRY.new.bytes.items _ _
+    (byte_out-below c.args.c c.in-Some.last out _ h c.if-last.false c.if-c-lt-CARRY.true) c.write_eight_bits-then-c-lt-CARRY.ensures.value
 
 pub returns-then-last-2-clause-value : goal.returns-then-last-2-clause-value
 returns-then-last-2-clause-value g c =
     let out : List ℕ = reverse c.args.bytes.now.items in
     let h = last-read _ c.args.bytes.now.items c.in-Some.last c.deref.ensures.value c.in-Some.ensures in
-    written c.stuffed-then-last-2.result c.stuffed-then-last-2.new.bytes.items _ _
+    written c.write_seven_bits-then-last-2.result c.write_seven_bits-then-last-2.new.bytes.items _ _
     (byte_out-carry_full c.args.c c.in-Some.last out _ h c.if-c-lt-CARRY.false c.if-last-2.true
     ∙ ap (λ (ys : List ℕ). seven_bits_out (c.args.c % 2 ^ 27) ys) (sym c.replace_last.ensures))
-    c.stuffed-then-last-2.ensures.value
+    c.write_seven_bits-then-last-2.ensures.value
 
 pub returns-clause-value : goal.returns-clause-value
 returns-clause-value g c =
     let out : List ℕ = reverse c.args.bytes.now.items in
     let h = last-read _ c.args.bytes.now.items c.in-Some.last c.deref.ensures.value c.in-Some.ensures in
-    written c.plain-2.result c.plain-2.new.bytes.items _ _
+    written c.write_eight_bits-2.result c.write_eight_bits-2.new.bytes.items _ _
     (byte_out-carry c.args.c c.in-Some.last out _ h c.if-last.false c.if-c-lt-CARRY.false c.if-last-2.false
     ∙ ap (λ (ys : List ℕ). eight_bits_out c.args.c ys) (sym c.replace_last.ensures))
-    c.plain-2.ensures.value
+    c.write_eight_bits-2.ensures.value

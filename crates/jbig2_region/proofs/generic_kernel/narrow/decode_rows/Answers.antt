@@ -91,7 +91,7 @@ loop-y-preserved g c =
           lanes-then c.args.steps.now c.loop-y.steps c.store_pixels.new.steps c.loop-y.invariant.lanes
           (lanes-then c.loop-y.steps c.push_row-pixels.new.steps c.store_pixels.new.steps c.push_row-pixels.ensures.lanes (record { groups = ap (λ (t : Counts). t.groups) c.store_pixels.ensures.steps; pixels = ap (λ (t : Counts). t.pixels) c.store_pixels.ensures.steps }));
       shows =
-          c.lowered-windows.ensures c.loop-y.bitmap c.store_pixels.new.self y (after ∙ wide) (subst (λ (q : Grid). SameAbove c.loop-y.bitmap q y) stored (stored-above c.loop-y.bitmap 0 y c.width-width.result pixels))
+          c.windows_below-windows.ensures c.loop-y.bitmap c.store_pixels.new.self y (after ∙ wide) (subst (λ (q : Grid). SameAbove c.loop-y.bitmap q y) stored (stored-above c.loop-y.bitmap 0 y c.width-width.result pixels))
           (λ k few.
           let place : 0 + c.width-width.result - 1 - k ≡ c.width-width.result - 1 - k = omega arith in
           sym (ap (λ (q : Grid). pixel_at q k y) (sym stored) ∙ stored-inside c.loop-y.bitmap 0 y c.width-width.result pixels k (omega arith) (omega arith) (omega (arith, wide)) row.row ∙ ap (λ (n : ℕ). bit pixels n) place))

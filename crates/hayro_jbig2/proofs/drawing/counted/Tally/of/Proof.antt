@@ -33,7 +33,7 @@ use denote.Triple.Entry.{on_entry, alive}
 use denote.Triple.Spec.{Meets, triple_of}
 use denote.Triple.Table.{entered}
 use denote.Triple.Walked.{says, Stays, stay_dropped, walk_of, ends_at, Goes-dropped, walk_Meets}
-use Rattle.hayro_jbig2.specs.declared.drawing.counted.Measured.{Ghosts}
+use Rattle.hayro_jbig2.specs.declared.drawing.counted.Measure.{Ghosts}
 use Rattle.hayro_jbig2.specs.contracts.drawing.counted.Tally.of.{ended, clauses}
 use Rattle.hayro_jbig2.specs.contracts.drawing.counted.Tally.of.Key.{name as #self}
 use Rattle.hayro_jbig2.proofs.drawing.counted.Tally.of.Statement as stated

@@ -4,7 +4,7 @@ use Rattle.hayro_jbig2.proofs.ByPages.{within, has-shared, has-known, has-new}
 use Rattle.hayro_jbig2.proofs.file.segments_by_page.SegmentsByPage.add.Goals as goal
 
 pub returns-then-number-eq0 : goal.returns-then-number-eq0
-returns-then-number-eq0 g c ps holds = has-shared c.args.self.now _ c.args.segment ps c.if-number-eq0.true c.in_ok-push.ensures.items refl refl holds
+returns-then-number-eq0 g c ps has = has-shared c.args.self.now _ c.args.segment ps c.if-number-eq0.true c.in_ok-push.ensures.items refl refl has
 
 pub index_mut-requires : goal.index_mut-requires
 index_mut-requires g c =
@@ -12,9 +12,9 @@ index_mut-requires g c =
     omega (arith, there, c.args.self.now.pages.ok.0)
 
 pub returns-in_ok-push-in-Some : goal.returns-in_ok-push-in-Some
-returns-in_ok-push-in-Some g c ps holds = has-known c.args.self.now _ c.args.segment ps c.in-Some.place.now c.index_mut.result.now c.push-in-Some.new.self (ne_eqb _ _ c.if-number-eq0.false) (sym c.in-Some.ensures.value) c.index_mut.ensures.value c.in_ok-push-in-Some.ensures.items refl refl refl holds
+returns-in_ok-push-in-Some g c ps has = has-known c.args.self.now _ c.args.segment ps c.in-Some.place.now c.index_mut.result.now c.push-in-Some.new.self (ne_eqb _ _ c.if-number-eq0.false) (sym c.in-Some.ensures.value) c.index_mut.ensures.value c.in_ok-push-in-Some.ensures.items refl refl refl has
 
 pub returns-in_ok-push-in-None-2 : goal.returns-in_ok-push-in-None-2
-returns-in_ok-push-in-None-2 g c ps holds =
+returns-in_ok-push-in-None-2 g c ps has =
     let one = c.in_ok-push-in-None.ensures.items ∙ ap (λ xs. xs ++ c.args.segment ∷ []) c.new-own.ensures.items in
-    has-new c.args.self.now _ c.args.segment ps c.len.result c.push-in-None.new.self (c.len.ensures ∙ c.args.self.now.pages.ok.0) (ne_eqb _ _ c.if-number-eq0.false) (sym c.in-None.ensures.value) one refl c.in_ok-push-in-None-2.ensures.items c.in_ok-insert-in-None.ensures.updates holds
+    has-new c.args.self.now _ c.args.segment ps c.len.result c.push-in-None.new.self (c.len.ensures ∙ c.args.self.now.pages.ok.0) (ne_eqb _ _ c.if-number-eq0.false) (sym c.in-None.ensures.value) one refl c.in_ok-push-in-None-2.ensures.items c.in_ok-insert-in-None.ensures.updates has

@@ -7,5 +7,5 @@ use Rattle.hayro_jbig2.proofs.file.segments_by_page.SegmentsByPage.new.Given as 
 abbrev pub invariant-loop-segment : goal.invariant-loop-segment
 invariant-loop-segment g l = record {
   counted : into_iter_len l.segment-iterator ≡ length (into_iter_items l.segment-iterator);
-  holds : HasSomeSegments l.by_page (segment_views (into_iter_items l.segment-iterator)) (segment_views l.fn.segments.items);
+  has : HasSomeSegments l.by_page (segment_views (into_iter_items l.segment-iterator)) (segment_views l.fn.segments.items);
 }

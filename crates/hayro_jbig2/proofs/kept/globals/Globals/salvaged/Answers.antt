@@ -9,7 +9,7 @@ use Rattle.jbig2_base.specs.Sequential.{by_number, sequential}
 use Rattle.jbig2_base.specs.declared.error.DecodeError.{DecodeError}
 use Rattle.jbig2_base.specs.declared.error.DecodeError.TheVariants.{OutOfMemory}
 use Rattle.jbig2_base.specs.declared.reading.Reading.TheVariants.{Lenient, Salvage}
-use Rattle.hayro_jbig2.specs.Names.{Shared, globals_at, shared_from, nothing_shared}
+use Rattle.hayro_jbig2.specs.Names.{KeptGlobals, globals_at, shared_from, nothing_shared}
 use Rattle.hayro_jbig2.proofs.Salvaging.{fine-named, fine-sequential}
 use Rattle.hayro_jbig2.proofs.kept.globals.Globals.salvaged.Goals as goal
 
@@ -19,7 +19,7 @@ memory-alone view (Ok x) meant fine gives = tt
 memory-alone view (Err e) meant fine (inl memory) = memory
 memory-alone {X} {Y} view (Err e) meant fine (inr refused) = absurd (false≢true (sym (ap (λ (r : Result Y DecodeError). is_ok r) refused) ∙ fine))
 
-then-named : (read : Result (List SegmentView) DecodeError) (shared : Shared) → IsTrue (is_ok read) → IsTrue (is_ok ((read >>= λ ps. Ok (by_number ps)) >>= λ ps. shared_from Salvage ps shared))
+then-named : (read : Result (List SegmentView) DecodeError) (shared : KeptGlobals) → IsTrue (is_ok read) → IsTrue (is_ok ((read >>= λ ps. Ok (by_number ps)) >>= λ ps. shared_from Salvage ps shared))
 then-named (Ok ps) shared fine = fine-named (by_number ps) shared
 then-named (Err e) shared fine = fine
 

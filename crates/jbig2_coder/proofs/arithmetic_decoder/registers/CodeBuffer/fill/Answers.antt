@@ -4,7 +4,7 @@ use Rattle.jbig2_coder.specs.inner.Ahead.{IsAhead, seen_of}
 use Rattle.jbig2_coder.specs.declared.arithmetic_decoder.registers.CodeBuffer.{CodeBuffer}
 use Rattle.jbig2_coder.proofs.Ahead.{plain-ahead, plain-seen, turned-fits}
 use Rattle.jbig2_coder.proofs.Choices.{byte_at-inside}
-use Rattle.jbig2_coder.proofs.arithmetic_decoder.registers.CodeBuffer.filled.Goals as goal
+use Rattle.jbig2_coder.proofs.arithmetic_decoder.registers.CodeBuffer.fill.Goals as goal
 
 pub loop-code-preserved : goal.loop-code-preserved
 loop-code-preserved c =

@@ -1,7 +1,7 @@
 use Rattle.std.proofs.Common.{arith, rules, pos, negsuc, ◌+ℤ◌}
 use Rattle.std.proofs.lemmas.Int.{ints}
 use Rattle.jbig2_region.proofs.RefinementWindowLemmas.{sees-at}
-use Rattle.jbig2_region.proofs.refinement_kernel.windows.RefinementWindows.lowered.Goals as goal
+use Rattle.jbig2_region.proofs.refinement_kernel.windows.RefinementWindows.on_next_row.Goals as goal
 
 pub returns-clause-value : goal.returns-clause-value
 returns-clause-value g c = λ grid grid' up next sees all bits. record {

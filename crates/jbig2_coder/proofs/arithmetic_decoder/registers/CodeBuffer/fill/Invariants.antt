@@ -1,6 +1,6 @@
 use Rattle.std.proofs.Common.{◌≡◌, ◌%◌, ◌-◌}
 use Rattle.jbig2_coder.specs.inner.Ahead.{IsAhead, seen_of}
-use Rattle.jbig2_coder.proofs.arithmetic_decoder.registers.CodeBuffer.filled.Given as goal
+use Rattle.jbig2_coder.proofs.arithmetic_decoder.registers.CodeBuffer.fill.Given as goal
 
 abbrev pub invariant-loop-code : goal.invariant-loop-code
 invariant-loop-code l = record {

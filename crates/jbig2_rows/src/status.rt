@@ -43,7 +43,7 @@ pub(crate) fn status_of<E: Write>(outcome: Result<bool, Fault>, err: &mut E) -> 
 }
 
 /// The status of a run that could not get its words: memory ran out, or they are no text.
-pub fn unstarted<E: Write>(refused: bool, usage: &str, err: &mut E) -> u8 {
+pub fn status_without_words<E: Write>(refused: bool, usage: &str, err: &mut E) -> u8 {
     if refused {
         return refused_memory(err);
     }

@@ -12,59 +12,59 @@ const USAGE: &str = "usage: jbig2-decode [--strict] pages|embedded FILE | calls|
 
 /// How a run ends.
 #[derive(Drop)]
-pub struct Ended {
+pub struct RunEnd {
     /// The status of the process: 0, 1 after a fault, 2 where the words are not those of a run.
     pub status: u8,
     /// Whether all of the run's message to standard error was written.
     pub is_written: bool,
 }
 
-impl Ended {
+impl RunEnd {
     /// The end where the words are not those of a run: writes the usage to standard error.
-    pub fn refused<E: Write>(err: &mut E) -> Ended
+    pub fn wrong_words<E: Write>(err: &mut E) -> RunEnd
         ensures status { result.status ≡ 2 }
         ensures line { WritesLine result.is_written usage_line
             (E.contents err.old) (E.contents err.new) }
     {
         let is_written = writeln!(err, "{USAGE}").is_ok();
-        Ended {
+        RunEnd {
             status: 2,
             is_written,
         }
     }
 
     /// The end of a run that could not get its words: memory ran out, or they are no text.
-    pub fn unstarted<E: Write>(refused: bool, err: &mut E) -> Ended
+    pub fn without_words<E: Write>(refused: bool, err: &mut E) -> RunEnd
         ensures status { result.status ≡ if refused then 1 else 2 }
         ensures line { WritesLine result.is_written
             (if refused then fault_line (Decode OutOfMemory) else usage_line)
             (E.contents err.old) (E.contents err.new) }
     {
         if refused {
-            return Ended::of(Err(Fault::Decode(DecodeError::OutOfMemory)), err);
+            return RunEnd::of(Err(Fault::Decode(DecodeError::OutOfMemory)), err);
         }
-        Ended::refused(err)
+        RunEnd::wrong_words(err)
     }
 
     /// The end of a run with this result: writes its fault to standard error.
-    pub fn of<E: Write>(ended: Result<(), Fault>, err: &mut E) -> Ended
+    pub fn of<E: Write>(ended: Result<(), Fault>, err: &mut E) -> RunEnd
         ensures status { result.status ≡ status_of ended }
         ensures line { WritesLine result.is_written (error_line ended)
             (E.contents err.old) (E.contents err.new) }
     {
         match ended {
-            Ok(()) => Ended {
+            Ok(()) => RunEnd {
                 status: 0,
                 is_written: true,
             },
             // A failing output is not reported on standard error.
-            Err(Fault::Unwritable) => Ended {
+            Err(Fault::Unwritable) => RunEnd {
                 status: 1,
                 is_written: true,
             },
             Err(fault) => {
                 let is_written = writeln!(err, "error: {fault}").is_ok();
-                Ended {
+                RunEnd {
                     status: 1,
                     is_written,
                 }
