@@ -252,8 +252,8 @@ uint32_t hayro_jbig2_page_new_salvaged(const hayro_jbig2_memory *memory, hayro_j
 uint32_t hayro_jbig2_file_new_salvaged(const hayro_jbig2_memory *memory, uint64_t work, const uint8_t *bytes,
                                        size_t length, hayro_jbig2_file **file);
 
-/* What salvage left out of globals, a page or a file, besides what hayro_jbig2_context_get_passed_over reports of a page that
- * was drawn. All 0 where it left out nothing, and by other readings. */
+/* What salvage left out of globals, a page or a file. What it passed over in a page that was drawn comes from
+ * hayro_jbig2_context_get_passed_over. All 0 where it left out nothing, and by other readings. */
 typedef struct hayro_jbig2_left_out {
     size_t segments;         /* passed over: of globals, or of what the pages of a file share */
     uint32_t segment, error; /* the number and the error of the first */
