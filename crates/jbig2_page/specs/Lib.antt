@@ -6,6 +6,7 @@ pub mod Lenient
 pub mod Names
 pub mod Order
 pub mod Page
+pub mod Prices
 pub mod Regions
 pub mod Returned
 pub mod SharedWork

@@ -10,6 +10,7 @@ ghost use Rattle.jbig2_region.specs.inner.RegionViews.{region_view};
 ghost use Rattle.jbig2_page.specs.inner.KeptViews.{kept_values};
 ghost use Rattle.jbig2_page.specs.inner.ParsedRegions.{drawing_of};
 ghost use Rattle.jbig2_page.specs.inner.WholePages.{after_immediate};
+ghost use Rattle.jbig2_page.specs.Prices.{capped, drawn_count, price_of_segment, price_of_type};
 ghost use Rattle.jbig2_steps.specs.Work.{Paid, budget};
 
 pub mod canvas;
@@ -60,12 +61,42 @@ fn ends_page(kind: SegmentType) -> bool
 }
 
 /// The work of the memory that a segment of this type asks for, whatever it holds.
-fn work_of_type<A: Allocator>(segment: &Segment<'_, A>) -> u64 {
-    match segment.header.segment_type {
-        SegmentType::Tables => (segment.bytes.len() as u64).saturating_mul(TABLE_BYTE),
+fn price_of_type(kind: SegmentType, length: usize) -> u64
+    ensures { result ≡ capped (price_of_type kind length) }
+{
+    match kind {
+        SegmentType::Tables => (length as u64).saturating_mul(TABLE_BYTE),
         SegmentType::SymbolDictionary => CONTEXTS,
-        _ => 0,
+        SegmentType::IntermediateTextRegion
+        | SegmentType::ImmediateTextRegion
+        | SegmentType::ImmediateLosslessTextRegion
+        | SegmentType::PatternDictionary
+        | SegmentType::IntermediateHalftoneRegion
+        | SegmentType::ImmediateHalftoneRegion
+        | SegmentType::ImmediateLosslessHalftoneRegion
+        | SegmentType::IntermediateGenericRegion
+        | SegmentType::ImmediateGenericRegion
+        | SegmentType::ImmediateLosslessGenericRegion
+        | SegmentType::IntermediateGenericRefinementRegion
+        | SegmentType::ImmediateGenericRefinementRegion
+        | SegmentType::ImmediateLosslessGenericRefinementRegion
+        | SegmentType::PageInformation
+        | SegmentType::EndOfPage
+        | SegmentType::EndOfStripe
+        | SegmentType::EndOfFile
+        | SegmentType::Profiles
+        | SegmentType::ColourPalette
+        | SegmentType::Extension
+        | SegmentType::Reserved => 0,
     }
+}
+
+/// The work of the numbers that a segment refers to, where `kept` is how many values a number may name.
+fn price_of_references(numbers: usize, kept: usize) -> u64
+    ensures { result ≡ capped (numbers * (kept + 64)) }
+{
+    let each = (kept as u64).saturating_add(REFERENCE);
+    (numbers as u64).saturating_mul(each)
 }
 
 /// Takes the work of a segment itself, where `kept` is how many values a number may name.
@@ -77,11 +108,13 @@ pub(crate) fn pay_segment<A: Allocator, L: Ledger>(
     ensures memory { IfErr result (λ e. e ≡ OutOfMemory) }
     ensures paid { Paid work.old work.new }
     ensures taken { IfOk result (λ _. budget work.new + 32 * 1024 ≤ budget work.old) }
+    ensures price { let price = price_of_segment kept (segment_view segment.now) in
+        IfOk result (λ _. budget work.new + 32 * price ≡ budget work.old) }
 {
-    let numbers = segment.header.referred_to_segments.len() as u64;
-    let each = (kept as u64).saturating_add(REFERENCE);
-    let units = numbers.saturating_mul(each).saturating_add(SEGMENT);
-    work.pay(units.saturating_add(work_of_type(segment)))?;
+    let numbers = segment.header.referred_to_segments.len();
+    let units = price_of_references(numbers, kept).saturating_add(SEGMENT);
+    let kind = segment.header.segment_type;
+    work.pay(units.saturating_add(price_of_type(kind, segment.bytes.len())))?;
     Ok(())
 }
 
@@ -98,6 +131,8 @@ impl<'a, A: Allocator + Clone> Drawer<'a, A> {
             (segments_drawn self.now.reading self.now.globals.now (segment_views segments.now)
             canvas.old) }
         ensures paid { Paid work.old work.new }
+        ensures taken { let count = drawn_count (segment_views segments.now) in
+            IfOk result (λ _. budget work.new + 32 * (1024 * count) ≤ budget work.old) }
     {
         for segment in segments {
             if ends_page(segment.header.segment_type) {
@@ -143,6 +178,7 @@ impl<'a, A: Allocator + Clone> Drawer<'a, A> {
         ensures value { Gives (λ _. canvas.new) result
             (or_left_out self.now.reading segment_number canvas.old (Err error)) }
         ensures memory { error ≡ OutOfMemory → result ≡ Err OutOfMemory }
+        ensures asks_nothing { result ≡ Err OutOfMemory → error ≡ OutOfMemory }
     {
         if !self.reading.is_salvaged(&error) {
             return Err(error);
@@ -342,6 +378,7 @@ impl<'a, A: Allocator + Clone> Drawer<'a, A> {
             (or_passed_over (is_strict self.now.reading) segment_number canvas.old (Err error)) }
         ensures err { IfErr result (λ e. canvas.new ≡ canvas.old) }
         ensures memory { error ≡ OutOfMemory → result ≡ Err OutOfMemory }
+        ensures asks_nothing { result ≡ Err OutOfMemory → error ≡ OutOfMemory }
     {
         if self.reading.is_strict() || matches!(error, DecodeError::OutOfMemory) {
             return Err(error);

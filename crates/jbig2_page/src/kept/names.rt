@@ -3,6 +3,7 @@
 ghost use Rattle.std.specs.Prelude.{◌≡◌, Ok};
 ghost use Rattle.jbig2_base.specs.Results.{Gives};
 ghost use Rattle.jbig2_page.specs.Names.{no_names, kept_under, kept_of};
+ghost use Rattle.jbig2_page.specs.Prices.{capped, names_count};
 ghost use Rattle.jbig2_page.specs.Regions.{patterns_for};
 ghost use Rattle.jbig2_page.specs.inner.KeptViews.{found_value, patterns_view, kept_values, symbols_view};
 
@@ -58,7 +59,9 @@ impl<A: Allocator + Clone> KeptNames<A> {
 
 impl<A: Allocator> KeptNames<A> {
     /// How many values are kept.
-    pub(crate) fn count(&self) -> usize {
+    pub(crate) fn count(&self) -> usize
+        ensures { result ≡ capped (names_count self.now) }
+    {
         self.symbols
             .len()
             .saturating_add(self.tables.len())

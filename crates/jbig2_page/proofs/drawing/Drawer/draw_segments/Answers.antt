@@ -9,6 +9,7 @@ use Rattle.jbig2_base.specs.declared.reading.Reading.{Reading}
 use Rattle.jbig2_base.specs.declared.segment.Segment.{Segment}
 use Rattle.jbig2_page.specs.Names.{Names}
 use Rattle.jbig2_page.specs.Page.{Drawing, ends_page, segment_on, segments_drawn}
+use Rattle.jbig2_page.specs.Prices.{drawn_count}
 use Rattle.jbig2_page.proofs.DrawingSteps.{counts-on}
 use Rattle.jbig2_page.proofs.LeftLemmas.{left-first}
 use Rattle.jbig2_page.proofs.drawing.Drawer.draw_segments.Goals as goal
@@ -24,6 +25,17 @@ drawn-end reading globals segments i segment d inside is ends =
     left-first (λ left. segments_drawn reading globals (segment_views left) d) segments i segment inside is
     ∙ cond-true (ends_page segment.header.segment_type) (Ok d) (segment_on reading globals (segment_view segment) d >>= λ e. segments_drawn reading globals (segment_views (drop (i + 1) segments)) e) ends
 
+-- it is one of those that are paid for
+count-first : {A : Type 0} (segments : List (Segment A)) (i : ℕ) (segment : Segment A) → i < length segments → segment ≡ get_or segments i segment → ends_page segment.header.segment_type ≡ false → drawn_count (segment_views (drop i segments)) ≡ 1 + drawn_count (segment_views (drop (i + 1) segments))
+count-first segments i segment inside is goes_on =
+    left-first (λ left. drawn_count (segment_views left)) segments i segment inside is
+    ∙ cond-false (ends_page segment.header.segment_type) 0 (1 + drawn_count (segment_views (drop (i + 1) segments))) goes_on
+
+count-end : {A : Type 0} (segments : List (Segment A)) (i : ℕ) (segment : Segment A) → i < length segments → segment ≡ get_or segments i segment → ends_page segment.header.segment_type ≡ true → drawn_count (segment_views (drop i segments)) ≡ 0
+count-end segments i segment inside is ends =
+    left-first (λ left. drawn_count (segment_views left)) segments i segment inside is
+    ∙ cond-true (ends_page segment.header.segment_type) 0 (1 + drawn_count (segment_views (drop (i + 1) segments))) ends
+
 pub loop-segment-preserved : goal.loop-segment-preserved
 loop-segment-preserved g c =
     let i = c.loop-segment.segment-index in
@@ -36,7 +48,13 @@ loop-segment-preserved g c =
           (drawn-first c.args.self.now.reading c.args.self.now.globals.now c.args.segments.now i c.segment-item.result c.loop-segment.canvas (omega arith) c.segment-item.is (sym c.ends_page.ensures ∙ c.if-ends_page.false)
           ∙ ap (λ drawn. drawn >>= λ e. segments_drawn c.args.self.now.reading c.args.self.now.globals.now (segment_views (drop (i + 1) c.args.segments.now)) e) c.in-Ok.ensures.value)
           ∙ c.loop-segment.invariant.drawn;
-      paid = omega (arith, c.in_ok-pay_segment.ensures.paid, c.in-Ok.ensures.paid, c.loop-segment.invariant.paid);
+      paid = omega (arith, c.in_ok-pay_segment.ensures.taken, c.in-Ok.ensures.paid, c.loop-segment.invariant.paid);
+      counted =
+          omega (
+            arith,
+            c.loop-segment.invariant.counted,
+            count-first c.args.segments.now i c.segment-item.result (omega arith) c.segment-item.is (sym c.ends_page.ensures ∙ c.if-ends_page.false),
+          );
       few = omega (arith, more, c.loop-segment.invariant.few);
     }
 
@@ -56,3 +74,12 @@ returns-in-Err-clause-value g c =
     ∙ drawn-first c.args.self.now.reading c.args.self.now.globals.now c.args.segments.now i c.segment-item.result c.loop-segment.canvas (omega arith) c.segment-item.is (sym c.ends_page.ensures ∙ c.if-ends_page.false)
     ∙ ap (λ drawn. drawn >>= λ e. segments_drawn c.args.self.now.reading c.args.self.now.globals.now (segment_views (drop (i + 1) c.args.segments.now)) e) refused))
     c.in-Err.ensures.value
+
+pub returns-then-ends_page-clause-taken : goal.returns-then-ends_page-clause-taken
+returns-then-ends_page-clause-taken g c =
+    omega (
+      arith,
+      c.loop-segment.invariant.counted,
+      c.loop-segment.invariant.paid,
+      count-end c.args.segments.now c.loop-segment.segment-index c.segment-item.result (omega arith) c.segment-item.is (sym c.ends_page.ensures ∙ c.if-ends_page.true),
+    )
