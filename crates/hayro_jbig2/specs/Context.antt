@@ -3,7 +3,7 @@
 use Rattle.std.specs.Prelude.{◌≡◌, ◌-◌, ◌*◌, ◌^◌, ◌≤◌, ℕ, Option, Some, None, unwrap_or}
 use Rattle.jbig2_steps.specs.Work.{sum_of_counts}
 use Rattle.jbig2_steps.specs.declared.work.Work.{Work}
-use Rattle.hayro_jbig2.specs.Page.{Drawing, empty_drawing}
+use Rattle.jbig2_page.specs.Page.{Drawing, empty_drawing}
 
 pub record Context : Type 0 where
   pub drawing : Drawing

@@ -1,13 +1,3 @@
-pub mod Calls
-pub mod Causes
 pub mod Context
-pub mod Files
-pub mod Image
-pub mod Lenient
-pub mod Names
-pub mod Order
-pub mod Page
-pub mod Regions
-pub mod Returned
+pub mod Readers
 pub mod WorkLimit
-pub mod inner

@@ -1,13 +1,14 @@
 -- The work that a caller allows for some calls (our own rule): how many units, how many of them are left, and how many
 -- steps these calls have counted.
-use Rattle.std.specs.Prelude.{◌≡◌, ◌+◌, ◌*◌, ◌≤◌, ℕ, List, [], ◌∷◌, length, Option, option_map, Result, IfOk}
+use Rattle.std.specs.Prelude.{◌≡◌, ◌+◌, ◌*◌, ◌≤◌, ℕ, List, Option, option_map, Result, IfOk}
 use Rattle.jbig2_base.specs.Segment.{SegmentView}
 use Rattle.jbig2_base.specs.declared.error.DecodeError.{DecodeError}
 use Rattle.jbig2_base.specs.declared.file_header.FileHeader.{FileHeader}
 use Rattle.jbig2_steps.specs.Work.{sum_of_counts}
 use Rattle.jbig2_steps.specs.declared.work.Work.{Work}
 use Rattle.hayro_jbig2.specs.Context.{units_of}
-use Rattle.hayro_jbig2.specs.Files.{PageInFile, ReadFile, of_page}
+use Rattle.jbig2_page.specs.Files.{ReadFile, of_page}
+use Rattle.jbig2_page.specs.SharedWork.{shared_count}
 
 pub record Limit : Type 0 where
   pub units : Option ℕ  -- how many were allowed, if there is a limit
@@ -28,11 +29,6 @@ abbrev pub after_call : {L : Type 0} → Work L → Limit → Limit  -- after a 
 after_call work limit = record limit { left = work.left; steps = limit.steps + sum_of_counts work.steps }
 
 -- ---- files
--- how many segments are decoded when a file is opened: those that its pages share, if it has a page
-abbrev pub shared_count : List PageInFile → List SegmentView → ℕ
-shared_count [] shared = 0
-shared_count (page ∷ pages) shared = length shared
-
 -- Opening a file with these segments took at least 1024 units for each one that is decoded, if none of them fails.
 abbrev pub TakesShared : Result (FileHeader × List SegmentView) DecodeError → ReadFile → Limit → Limit → Type 0
 TakesShared file book old new =

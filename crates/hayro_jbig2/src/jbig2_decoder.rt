@@ -2,22 +2,23 @@
 ghost use Rattle.std.specs.Prelude.{◌≡◌, ◌*◌, Ok, IfErr, IfOk, IfSome, OnErr, length};
 ghost use Rattle.jbig2_base.specs.Results.{Returns, Gives, some_or};
 ghost use Rattle.jbig2_base.specs.Causes.{HasCause};
-ghost use Rattle.hayro_jbig2.specs.Causes.{BreaksFirstPage};
-ghost use Rattle.hayro_jbig2.specs.Files.{page_of};
-ghost use Rattle.hayro_jbig2.specs.Page.{IsSide};
-ghost use Rattle.hayro_jbig2.specs.Returned.{IsReturned, IsReturnedOrIo};
+ghost use Rattle.jbig2_page.specs.Causes.{BreaksFirstPage};
+ghost use Rattle.jbig2_page.specs.Files.{page_of};
+ghost use Rattle.jbig2_page.specs.Page.{IsSide};
+ghost use Rattle.jbig2_page.specs.Returned.{IsReturned};
+ghost use Rattle.hayro_jbig2.specs.Readers.{IsLasting, IsReturnedOrIo, Opens, GivesAgain};
 ghost use Rattle.hayro_jbig2.specs.WorkLimit.{Takes};
-ghost use Rattle.hayro_jbig2.specs.Image.{first_size, first_image, first_packed, IsLasting, Opens, GivesAgain, packed_size};
+ghost use Rattle.jbig2_page.specs.Image.{first_size, first_image, first_packed, packed_size};
 
 pub(crate) mod jbig2_error;
 pub mod reading;
 
-use crate::drawing::work_limit::WorkLimit;
 use crate::file::File;
 use crate::jbig2_decoder::jbig2_error::Jbig2Error;
 use crate::jbig2_decoder::reading::read_all;
 use crate::page::Page;
 use crate::settings::DecodeSettings;
+use crate::work_limit::WorkLimit;
 use jbig2_base::error::{DecodeError, FormatError};
 use std::alloc::Allocator;
 use std::io::Read;
@@ -37,7 +38,8 @@ pub struct Jbig2Decoder<A: Allocator> {
 
 impl<A: Allocator> Model for Jbig2Decoder<A> {
     ghost use Rattle.std.specs.Prelude.{◌≡◌, Ok};
-    ghost use Rattle.hayro_jbig2.specs.Image.{Scan, first_size};
+    ghost use Rattle.hayro_jbig2.specs.Readers.{Scan};
+    ghost use Rattle.jbig2_page.specs.Image.{first_size};
 
     ghost Value = { Scan };
 
@@ -49,7 +51,7 @@ impl<A: Allocator> Model for Jbig2Decoder<A> {
 }
 
 /// The first page of a file.
-#[tactic(auto, using(crate::proofs::Causes::first_page_cause))]
+#[tactic(auto, using(jbig2_page::proofs::Causes::first_page_cause))]
 fn first_page_of<'f, A: Allocator>(file: &'f File<'_, A>) -> jbig2_base::error::Result<Page<'f, A>>
     ensures value { Returns (λ page. page) result
         (some_or (DecodeError.Format FormatError.MissingPageInfo) (page_of file.now 0)) }
@@ -62,7 +64,7 @@ fn first_page_of<'f, A: Allocator>(file: &'f File<'_, A>) -> jbig2_base::error::
 }
 
 /// The width and the height of the first page.
-#[tactic(auto, unfolding(crate::specs::Image::first_page))]
+#[tactic(auto, unfolding(jbig2_page::specs::Image::first_page))]
 fn first_size<A: Allocator + Clone>(
     alloc: A,
     bytes: &[u8],
@@ -78,7 +80,7 @@ fn first_size<A: Allocator + Clone>(
 }
 
 /// Writes the first page into `buf`, as `Page::read_image` does.
-#[tactic(auto, unfolding(crate::specs::Image::first_page))]
+#[tactic(auto, unfolding(jbig2_page::specs::Image::first_page))]
 fn first_image<A: Allocator + Clone>(
     alloc: A,
     bytes: &[u8],
@@ -97,7 +99,7 @@ fn first_image<A: Allocator + Clone>(
 }
 
 /// Writes the first page into `buf`, as `Page::read_packed` does.
-#[tactic(auto, unfolding(crate::specs::Image::first_page))]
+#[tactic(auto, unfolding(jbig2_page::specs::Image::first_page))]
 fn first_packed<A: Allocator + Clone>(
     alloc: A,
     bytes: &[u8],

@@ -3,31 +3,36 @@
 //! `Page::new_embedded` reads a page that a PDF file holds, `File::new` a file of pages, and `Jbig2Decoder::new` the
 //! first page of what a reader gives. `Page::decode_with` makes the calls on a `Decoder` that draw the page's pixels,
 //! `Page::read_image` writes a byte for each pixel, and `Page::draw` lends packed rows.
+//!
+//! `jbig2_page` does the work. Each call here opens a counter from the caller's limit, lends it to one call there, and
+//! records what that call took.
 #![tactic(auto)]
 
-mod drawing;
+mod context;
+mod counted;
+mod drawn_page;
 mod file;
+mod globals;
 mod jbig2_decoder;
-mod kept;
-pub mod laws;
 mod page;
 pub mod parts;
-mod region;
 mod settings;
+mod work_limit;
 
-pub use drawing::context::DecoderContext;
-pub use drawing::passed_over::{PassedOver, PassedSegment};
-pub use drawing::work_limit::WorkLimit;
+pub use context::DecoderContext;
+pub use drawn_page::DrawnPage;
 pub use file::File;
 pub use file::pages::Pages;
+pub use globals::Globals;
 pub use jbig2_base::error::{
     DecodeError, FormatError, HuffmanError, OverflowError, ParseError, RegionError, Result,
     SegmentError, SymbolError, TemplateError,
 };
 pub use jbig2_decoder::jbig2_error::Jbig2Error;
 pub use jbig2_decoder::{Jbig2Decoder, reading};
-pub use kept::globals::Globals;
+pub use jbig2_page::drawing::passed_over::{PassedOver, PassedSegment};
+pub use jbig2_page::laws;
+pub use jbig2_page::page::decoder::Decoder;
 pub use page::Page;
-pub use page::decoder::Decoder;
-pub use page::drawn_page::DrawnPage;
 pub use settings::DecodeSettings;
+pub use work_limit::WorkLimit;

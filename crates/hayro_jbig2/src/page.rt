@@ -1,103 +1,50 @@
-//! `Page`: reads an embedded page (T.88, 7.4.8 and D.3), and gives its number and its size.
+//! `Page`: a page of a file or an embedded one, its number and its size.
 ghost use Rattle.std.specs.Prelude.{◌≡◌, IfErr};
 ghost use Rattle.jbig2_base.specs.Results.{Gives};
-ghost use Rattle.hayro_jbig2.specs.Page.{HasSides, IsSide, ReadPage, page_from};
+ghost use Rattle.jbig2_page.specs.Page.{IsSide, page_from};
 ghost use Rattle.jbig2_base.specs.Reading.{reading_of};
 ghost use Rattle.jbig2_base.specs.declared.reading.Reading.TheVariants.{Salvage};
-ghost use Rattle.hayro_jbig2.specs.inner.KeptViews.{found_value};
-ghost use Rattle.hayro_jbig2.specs.Causes.{IsFromInput};
-ghost use Rattle.hayro_jbig2.specs.Returned.{IsReturned};
-ghost use Rattle.hayro_jbig2.specs.inner.PageViews.{given_names, kept_names};
-ghost use Rattle.hayro_jbig2.specs.inner.SegmentLists.{segment_list};
-ghost use Rattle.jbig2_base.specs.inner.SegmentViews.{segment_views};
+ghost use Rattle.jbig2_page.specs.inner.KeptViews.{found_value};
+ghost use Rattle.jbig2_page.specs.Returned.{IsReturned};
+ghost use Rattle.jbig2_page.specs.inner.PageViews.{given_names};
 
-pub(crate) mod beginning;
-mod calls;
-pub(crate) mod decoder;
-pub(crate) mod drawn_page;
-mod image;
 mod output;
-mod packed;
-mod page_segments;
 
-use crate::kept::globals::Globals;
-use crate::page::beginning::beginning_of;
-use crate::page::page_segments::PageSegments;
+use crate::globals::{Globals, content_of};
 use crate::settings::DecodeSettings;
 use jbig2_base::error::{DecodeError, Result};
-use jbig2_base::file::{parse_segments_sequential, sequence_fault};
-use jbig2_base::page_info::InitialPage;
 use jbig2_base::reading::Reading;
-use jbig2_base::segment::Segment;
-use jbig2_base::sort::sort_segments;
+use jbig2_page::page::PageContent;
 use std::alloc::Allocator;
 use std::marker::Model;
 
 /// A page: its segments, and how it begins. It borrows the bytes that it was read from.
 #[derive(Drop)]
 pub struct Page<'a, A: Allocator> {
-    reading: Reading,
-    initial_page: InitialPage,
-    segments: PageSegments<'a, A>,
-    globals: Result<Option<&'a Globals<A>>>,
-    fault: Option<DecodeError>,
+    content: PageContent<'a, A>,
 }
 
 impl<'a, A: Allocator> Model for Page<'a, A> {
-    ghost use Rattle.std.specs.Prelude.{IfErr};
-    ghost use Rattle.jbig2_base.specs.inner.SegmentViews.{segment_views};
-    ghost use Rattle.hayro_jbig2.specs.Causes.{IsFromInput};
-    ghost use Rattle.hayro_jbig2.specs.Page.{HasSides, ReadPage};
-    ghost use Rattle.hayro_jbig2.specs.inner.PageViews.{kept_names};
-    ghost use Rattle.hayro_jbig2.specs.inner.SegmentLists.{segment_list};
+    ghost use Rattle.jbig2_page.specs.Page.{ReadPage};
 
     ghost Value = { ReadPage };
 
-    ghost view = { λ page. record {
-      reading = page.reading;
-      initial_page = page.initial_page;
-      segments = segment_views (segment_list page.segments);
-      globals = kept_names page.globals;
-      fault = page.fault;
-    } };
-
-    ghost invariant = { λ page. HasSides page.initial_page
-        × IfErr (kept_names page.globals) IsFromInput };
+    ghost view = { λ page. page.content };
 }
 
 impl<'a, A: Allocator> Page<'a, A> {
-    /// A page of a file. The file holds the segments and the result of decoding the globals.
-    pub(crate) fn of_file(
-        reading: Reading,
-        initial_page: InitialPage,
-        segments: &'a Vec<Segment<'a, A>, A>,
-        globals: Result<Option<&'a Globals<A>>>,
-        fault: Option<DecodeError>,
-    ) -> Page<'a, A>
-        requires sides { HasSides initial_page }
-        requires from_input { IfErr (kept_names globals) IsFromInput }
-        ensures { result ≡ record {
-          reading = reading;
-          initial_page = initial_page;
-          segments = segment_views segments.now.items;
-          globals = kept_names globals.entry;
-          fault = fault;
-        } }
+    /// A page with this content.
+    pub(crate) fn of_content(content: PageContent<'a, A>) -> Page<'a, A>
+        ensures { result ≡ content.entry }
     {
-        Page {
-            reading,
-            initial_page,
-            segments: PageSegments::Borrowed(segments),
-            globals,
-            fault,
-        }
+        Page { content }
     }
 
     /// The page's number, which is its segments' page association.
     pub fn number(&self) -> u32
         ensures { result ≡ self.now.initial_page.number }
     {
-        self.initial_page.number
+        self.content.number()
     }
 
     /// In salvage, the error that ended the list of the page's segments early, or that of its file: the error of
@@ -105,7 +52,7 @@ impl<'a, A: Allocator> Page<'a, A> {
     pub fn fault(&self) -> Option<&DecodeError>
         ensures { found_value (λ e. e) result ≡ self.now.fault }
     {
-        self.fault.as_ref()
+        self.content.fault()
     }
 
     /// The width in pixels, 1 to 65535.
@@ -113,7 +60,7 @@ impl<'a, A: Allocator> Page<'a, A> {
         ensures value { result ≡ self.now.initial_page.width }
         ensures side { IsSide result }
     {
-        self.initial_page.width
+        self.content.width()
     }
 
     /// The height in pixels, 1 to 65535.
@@ -121,7 +68,7 @@ impl<'a, A: Allocator> Page<'a, A> {
         ensures value { result ≡ self.now.initial_page.height }
         ensures side { IsSide result }
     {
-        self.initial_page.height
+        self.content.height()
     }
 
     /// The width and the height in pixels, 1 to 65535 each.
@@ -129,7 +76,7 @@ impl<'a, A: Allocator> Page<'a, A> {
         ensures value { result ≡ (self.now.initial_page.width, self.now.initial_page.height) }
         ensures sides { IsSide result.0 × IsSide result.1 }
     {
-        (self.initial_page.width, self.initial_page.height)
+        self.content.dimensions()
     }
 }
 
@@ -148,7 +95,8 @@ impl<'a, A: Allocator + Clone> Page<'a, A> {
             (page_from (reading_of settings.now.strict) (given_names globals.entry) bytes.now) }
         ensures errors { IfErr result IsReturned }
     {
-        Page::read_embedded(alloc, bytes, globals, settings.reading())
+        let content = PageContent::read(alloc, bytes, content_of(globals), settings.reading())?;
+        Ok(Page { content })
     }
 
     /// The page as lenient reading has it, but damage leaves out as little as possible. The list of its segments ends
@@ -166,30 +114,7 @@ impl<'a, A: Allocator + Clone> Page<'a, A> {
             (page_from Salvage (given_names globals.entry) bytes.now) }
         ensures errors { IfErr result IsReturned }
     {
-        Page::read_embedded(alloc, bytes, globals, Reading::Salvage)
-    }
-
-    #[tactic(auto, unfolding(crate::specs::Page::page_from))]
-    fn read_embedded(
-        alloc: A,
-        bytes: &'a [u8],
-        globals: Option<&'a Globals<A>>,
-        reading: Reading,
-    ) -> Result<Page<'a, A>>
-        ensures value { Gives (λ page. page) result
-            (page_from reading (given_names globals.entry) bytes.now) }
-        ensures errors { IfErr result IsReturned }
-    {
-        let fault = sequence_fault(alloc.clone()?, bytes, reading)?;
-        let mut segments = parse_segments_sequential(alloc, bytes, reading)?;
-        sort_segments(&mut segments)?;
-        let initial_page = beginning_of(reading, &segments)?;
-        Ok(Page {
-            reading,
-            initial_page,
-            segments: PageSegments::Owned(segments),
-            globals: Ok(globals),
-            fault,
-        })
+        let content = PageContent::read(alloc, bytes, content_of(globals), Reading::Salvage)?;
+        Ok(Page { content })
     }
 }

@@ -1,6 +1,6 @@
 //! How a PDF reader calls the library.
 ghost use Rattle.std.specs.Prelude.{◌-◌, ◌^◌, ◌<◌, option_map};
-ghost use Rattle.hayro_jbig2.specs.Calls.{Decodes, IsCountable};
+ghost use Rattle.jbig2_page.specs.Calls.{Decodes, IsCountable};
 ghost use Rattle.jbig2_callers.specs.Callers.{grid_of_stream};
 
 use hayro_jbig2::{DecodeSettings, Decoder, DecoderContext, Globals, Page, Result};

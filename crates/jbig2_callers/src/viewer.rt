@@ -1,6 +1,6 @@
 //! How a viewer calls the library.
 ghost use Rattle.jbig2_base.specs.Results.{Gives};
-ghost use Rattle.hayro_jbig2.specs.Image.{image_of_page};
+ghost use Rattle.jbig2_page.specs.Image.{image_of_page};
 ghost use Rattle.jbig2_callers.specs.Callers.{image_at};
 
 use hayro_jbig2::{DecodeError, DecodeSettings, File, FormatError, Page, Result};

@@ -8,9 +8,9 @@ use Rattle.jbig2_base.specs.Results.{◌>>=◌}
 use Rattle.jbig2_base.specs.Reading.{reading_of}
 use Rattle.jbig2_base.specs.declared.error.DecodeError.{DecodeError}
 use Rattle.jbig2_base.specs.declared.error.DecodeError.TheVariants.{OutOfMemory}
-use Rattle.hayro_jbig2.specs.Files.{ReadFile, book_at, pages_of}
-use Rattle.hayro_jbig2.specs.Image.{packed_of_page}
-use Rattle.hayro_jbig2.specs.Page.{ReadPage, grid_of_page}
+use Rattle.jbig2_page.specs.Files.{ReadFile, book_at, pages_of}
+use Rattle.jbig2_page.specs.Image.{packed_of_page}
+use Rattle.jbig2_page.specs.Page.{ReadPage, grid_of_page}
 use Rattle.jbig2_commands.specs.Printed.{bitmap_head, bitmap_text, calls_text, of_file, or_fault, page_line, page_at_index, printed_text, Ends, Prints}
 use Rattle.jbig2_commands.specs.Words.{Task, Pages, Calls, Pbm}
 use Rattle.jbig2_commands.specs.declared.fault.Fault.{Fault}

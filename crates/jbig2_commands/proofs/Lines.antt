@@ -7,10 +7,10 @@ use Rattle.std.specs.Io.KnownBytes.{Appends, Keeps, append_known}
 use Rattle.jbig2_base.specs.Grid.{Grid}
 use Rattle.jbig2_base.specs.declared.error.DecodeError.{DecodeError}
 use Rattle.jbig2_base.specs.declared.error.DecodeError.TheVariants.{Unsupported}
-use Rattle.hayro_jbig2.specs.Calls.{Call, calls_of, Conduct, Decodes, after_calls}
+use Rattle.jbig2_page.specs.Calls.{Call, calls_of, Conduct, Decodes, after_calls}
 use Rattle.jbig2_commands.specs.inner.Printing.{known_if, refusals_if, Adds}
 use Rattle.jbig2_commands.specs.Printed.{call_line, calls_text, page_line}
-use Rattle.hayro_jbig2.specs.Page.{ReadPage}
+use Rattle.jbig2_page.specs.Page.{ReadPage}
 
 abbrev line_step : GName × Option (List ℕ) → Call → GName × Option (List ℕ)
 line_step p call = (p.0, append_known p.1 (call_line call))

@@ -5,8 +5,8 @@ use Rattle.std.proofs.lemmas.Str.Parse.{IsNumeralModel, numerals_by_value, tells
 use Rattle.std.specs.Option.{ok_or, option_map}
 use Rattle.std.specs.Result.{OkIff}
 use Rattle.std.specs.Str.Parse.{AllDigits, IsNumeral, ParsesUnsigned, digits_value}
-use Rattle.hayro_jbig2.specs.Files.{PageInFile, ReadFile, page_in, page_of}
-use Rattle.hayro_jbig2.specs.Page.{ReadPage}
+use Rattle.jbig2_page.specs.Files.{PageInFile, ReadFile, page_in, page_of}
+use Rattle.jbig2_page.specs.Page.{ReadPage}
 use Rattle.jbig2_commands.specs.Printed.{page_at_index}
 use Rattle.jbig2_commands.specs.declared.fault.Fault.TheVariants.{NoSuchPage}
 

@@ -13,11 +13,11 @@ use Rattle.jbig2_base.specs.Grid.{Grid}
 use Rattle.jbig2_base.specs.Reading.{reading_of}
 use Rattle.jbig2_base.specs.declared.error.DecodeError.{DecodeError}
 use Rattle.jbig2_base.specs.declared.error.DecodeError.TheVariants.{OutOfMemory}
-use Rattle.hayro_jbig2.specs.Calls.{Call, Pixel, Chunk, Line, calls_of}
-use Rattle.hayro_jbig2.specs.Files.{ReadFile, book_at, page_of, pages_of}
-use Rattle.hayro_jbig2.specs.Image.{packed_of_page}
-use Rattle.hayro_jbig2.specs.Names.{no_names}
-use Rattle.hayro_jbig2.specs.Page.{ReadPage, page_from, grid_of_page}
+use Rattle.jbig2_page.specs.Calls.{Call, Pixel, Chunk, Line, calls_of}
+use Rattle.jbig2_page.specs.Files.{ReadFile, book_at, page_of, pages_of}
+use Rattle.jbig2_page.specs.Image.{packed_of_page}
+use Rattle.jbig2_page.specs.Names.{no_names}
+use Rattle.jbig2_page.specs.Page.{ReadPage, page_from, grid_of_page}
 use Rattle.jbig2_commands.specs.Words.{Task, Pages, Embedded, Calls, Pbm}
 use Rattle.jbig2_commands.specs.declared.fault.Fault.{Fault}
 use Rattle.jbig2_commands.specs.declared.fault.Fault.TheVariants.{Decode, NoSuchPage, Unreadable, Unwritable}

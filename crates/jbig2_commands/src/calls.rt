@@ -1,6 +1,6 @@
 //! Prints the calls of a page.
 ghost use Rattle.std.specs.Prelude.{◌≡◌, is_some, IfSome};
-ghost use Rattle.hayro_jbig2.specs.Page.{grid_of_page};
+ghost use Rattle.jbig2_page.specs.Page.{grid_of_page};
 ghost use Rattle.jbig2_commands.specs.inner.Printing.{data_of, output_id, Adds};
 ghost use Rattle.jbig2_commands.specs.Printed.{calls_text, or_fault, Prints};
 

@@ -1,7 +1,7 @@
 //! Prints the sizes of a file's pages.
 ghost use Rattle.std.specs.Prelude.{◌≡◌, ◌++◌, Ok, OnOk, IfOk, IfErr};
 ghost use Rattle.std.specs.List.{flat_map};
-ghost use Rattle.hayro_jbig2.specs.Files.{pages_of};
+ghost use Rattle.jbig2_page.specs.Files.{pages_of};
 ghost use Rattle.jbig2_commands.specs.Printed.{page_line, Prints};
 
 use crate::fault::Fault;

@@ -3,7 +3,7 @@ ghost use Rattle.std.specs.Prelude.{◌≡◌, nat_lt, Bool, [], List, ℕ, Opti
 ghost use Rattle.std.specs.Borrow.{GName};
 ghost use Rattle.std.specs.Io.KnownBytes.{append_known};
 ghost use Rattle.jbig2_base.specs.declared.error.DecodeError.TheVariants.{Unsupported};
-ghost use Rattle.hayro_jbig2.specs.Calls.{Pixel, Chunk, Line};
+ghost use Rattle.jbig2_page.specs.Calls.{Pixel, Chunk, Line};
 ghost use Rattle.jbig2_commands.specs.inner.Printing.{data_of, output_id, Pushes, known_if, refusals_if};
 ghost use Rattle.jbig2_commands.specs.Printed.{call_line};
 

@@ -3,7 +3,7 @@ ghost use Rattle.std.specs.Iterator.{UpTo, at_most};
 ghost use Rattle.std.specs.Iterator.SizeHint.{IsWithinCount};
 ghost use Rattle.std.specs.Map.Iter.{TakesFirst};
 ghost use Rattle.std.specs.Prelude.{◌≡◌, IfSome, length};
-ghost use Rattle.hayro_jbig2.specs.Files.{pages_of};
+ghost use Rattle.jbig2_page.specs.Files.{pages_of};
 
 use crate::file::File;
 use crate::page::Page;
@@ -21,8 +21,8 @@ pub struct Pages<'a, A: Allocator> {
 /// Definitions see it as the list of the pages that are left.
 impl<'a, A: Allocator> Model for Pages<'a, A> {
     ghost use Rattle.std.specs.Prelude.{◌≡◌, ◌≤◌, List, length, map, drop};
-    ghost use Rattle.hayro_jbig2.specs.Files.{page_in};
-    ghost use Rattle.hayro_jbig2.specs.Page.{ReadPage};
+    ghost use Rattle.jbig2_page.specs.Files.{page_in};
+    ghost use Rattle.jbig2_page.specs.Page.{ReadPage};
 
     ghost Value = { List ReadPage };
 

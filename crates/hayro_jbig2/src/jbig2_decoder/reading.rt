@@ -1,6 +1,6 @@
 //! Reads all bytes of a reader.
 ghost use Rattle.std.specs.Prelude.{IfErr};
-ghost use Rattle.hayro_jbig2.specs.Image.{ReadsAll, IsLasting};
+ghost use Rattle.hayro_jbig2.specs.Readers.{ReadsAll, IsLasting};
 
 use crate::jbig2_decoder::jbig2_error::Jbig2Error;
 use std::alloc::Allocator;

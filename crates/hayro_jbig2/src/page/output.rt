@@ -1,30 +1,21 @@
 //! Decodes a page: to calls on a `Decoder`, to a byte or a bit for each pixel, or into a context that lends its rows.
-ghost use Rattle.std.specs.Prelude.{◌≡◌, ◌+◌, ◌-◌, ◌*◌, ◌<◌, ◌≤◌, Bool, IfErr, IfOk, IsTrue, OnErr, length, pos};
+ghost use Rattle.std.specs.Prelude.{◌≡◌, ◌+◌, ◌*◌, ◌≤◌, IfErr, IfOk, OnErr, length};
 ghost use Rattle.jbig2_base.specs.Results.{Gives, Leaves};
-ghost use Rattle.jbig2_base.specs.Combination.{combined_grid};
-ghost use Rattle.jbig2_base.specs.Grid.{Grid, blank};
-ghost use Rattle.jbig2_base.specs.Table.{IsTable};
-ghost use Rattle.jbig2_base.specs.declared.bitmap.operator.CombinationOperator.{CombinationOperator};
-ghost use Rattle.hayro_jbig2.specs.Calls.{CallsAreFew, ChunksFit, DrawsGrid, calls_of, Decodes, IsCountable};
+ghost use Rattle.jbig2_page.specs.Calls.{Decodes, IsCountable};
 ghost use Rattle.hayro_jbig2.specs.Context.{IsLeft, IsWithin};
-ghost use Rattle.hayro_jbig2.specs.Image.{image_of_page, packed_of_page, packed_size};
-ghost use Rattle.hayro_jbig2.specs.Page.{segments_drawn, drawing_of_page, grid_of_page, draws_over, blank_page, UntouchedIsBlank};
-ghost use Rattle.hayro_jbig2.specs.Returned.{IsReturned};
+ghost use Rattle.jbig2_page.specs.Image.{image_of_page, packed_of_page, packed_size};
+ghost use Rattle.jbig2_page.specs.Page.{drawing_of_page, grid_of_page};
+ghost use Rattle.jbig2_page.specs.Returned.{IsReturned};
 ghost use Rattle.hayro_jbig2.specs.WorkLimit.{Takes};
 ghost use Rattle.jbig2_steps.specs.Work.{IsWithinLimit, Paid, price_of_bitmap, budget};
 
-use crate::drawing::Drawer;
-use crate::drawing::canvas::Canvas;
-use crate::drawing::context::DecoderContext;
-use crate::drawing::work_limit::WorkLimit;
-use crate::kept::names::KeptNames;
+use crate::context::DecoderContext;
+use crate::drawn_page::DrawnPage;
 use crate::page::Page;
-use crate::page::calls::push_bitmap;
-use crate::page::decoder::Decoder;
-use crate::page::drawn_page::DrawnPage;
-use crate::page::image::write_image;
+use crate::work_limit::WorkLimit;
 use jbig2_base::bitmap::steps::Work;
-use jbig2_base::error::{DecodeError, Result};
+use jbig2_base::error::Result;
+use jbig2_page::page::decoder::Decoder;
 use std::alloc::Allocator;
 use std::marker::Brand;
 use std::sync::ledger::{Blank, Ledger};
@@ -40,7 +31,7 @@ impl<'a, A: Allocator + Clone> Page<'a, A> {
         ensures errors { D.conduct.refusals decoder.new ≡ D.conduct.refusals decoder.old
             → IfErr result IsReturned }
     {
-        let mut context = DecoderContext::new(self.segments.as_vec().allocator().clone()?)?;
+        let mut context = DecoderContext::new(self.content.allocator().clone()?)?;
         self.decode_with(decoder, &mut context)
     }
 
@@ -67,7 +58,6 @@ impl<'a, A: Allocator + Clone> Page<'a, A> {
         ensures taken { let page = self.now.initial_page in
             IfOk result (λ _. Takes (price_of_bitmap page.width page.height) work.old work.new) }
     {
-        let _globals = &self.globals;
         self.read_counted::<Brand>(buf, work, Blank::new(6))
     }
 
@@ -84,12 +74,13 @@ impl<'a, A: Allocator + Clone> Page<'a, A> {
         requires enough { blank.parts ≡ 6 }
         ensures value { Gives (λ _. buf.new) result (image_of_page self.now) }
         ensures unchanged { OnErr result (buf.new ≡ buf.old) }
+        ensures errors { IfErr result IsReturned }
         ensures limit { Takes 0 limit.old limit.new }
         ensures taken { let page = self.now.initial_page in
             IfOk result (λ _. Takes (price_of_bitmap page.width page.height) limit.old limit.new) }
     {
         let mut work = limit.counter::<L>(blank);
-        let read = self.read_within(buf, &mut work);
+        let read = self.content.read_image(buf, &mut work);
         limit.end(&work);
         read
     }
@@ -109,9 +100,7 @@ impl<'a, A: Allocator + Clone> Page<'a, A> {
             let price = price_of_bitmap page.width page.height in
             IfOk result (λ _. budget work.new + 32 * price ≤ budget work.old) }
     {
-        let canvas = self.draw_new_canvas(work)?;
-        write_image(canvas.page(), &self.initial_page, buf, &mut work.steps);
-        Ok(())
+        self.content.read_image(buf, work)
     }
 
     /// Writes the page into `buf` as packed rows, from the top: a bit for each pixel, 1 for black, the leftmost pixel
@@ -140,7 +129,6 @@ impl<'a, A: Allocator + Clone> Page<'a, A> {
         ensures taken { let page = self.now.initial_page in
             IfOk result (λ _. Takes (price_of_bitmap page.width page.height) work.old work.new) }
     {
-        let _globals = &self.globals;
         self.read_packed_counted::<Brand>(buf, work, Blank::new(6))
     }
 
@@ -163,26 +151,9 @@ impl<'a, A: Allocator + Clone> Page<'a, A> {
             IfOk result (λ _. Takes (price_of_bitmap page.width page.height) limit.old limit.new) }
     {
         let mut work = limit.counter::<L>(blank);
-        let read = self.write_packed(buf, &mut work);
+        let read = self.content.read_packed(buf, &mut work);
         limit.end(&work);
         read
-    }
-
-    /// Writes the page as `read_packed` does, with the caller's counter.
-    fn write_packed<L: Ledger>(&self, buf: &mut [u8], work: &mut Work<L>) -> Result<()>
-        requires { length buf.old ≡ packed_size self.now.initial_page.width
-            self.now.initial_page.height }
-        ensures value { Gives (λ _. buf.new) result (packed_of_page self.now) }
-        ensures unchanged { OnErr result (buf.new ≡ buf.old) }
-        ensures errors { IfErr result IsReturned }
-        ensures paid { Paid work.old work.new }
-        ensures taken { let page = self.now.initial_page in
-            let price = price_of_bitmap page.width page.height in
-            IfOk result (λ _. budget work.new + 32 * price ≤ budget work.old) }
-    {
-        let canvas = self.draw_new_canvas(work)?;
-        canvas.drawn_page().read_at(0, buf);
-        Ok(())
     }
 
     /// Draws the page in a context, which earlier pages may have used. The context then lends the page's packed rows,
@@ -209,7 +180,6 @@ impl<'a, A: Allocator + Clone> Page<'a, A> {
         ensures limit { IsWithin context.old.work_limit context.new.steps }
         ensures errors { IfErr result IsReturned }
     {
-        let _globals = &self.globals;
         self.draw_counted::<Brand>(context, Blank::new(6))
     }
 
@@ -218,6 +188,7 @@ impl<'a, A: Allocator + Clone> Page<'a, A> {
         requires parts { blank.parts ≡ L.parts }
         requires enough { blank.parts ≡ 6 }
         ensures drawing { Gives (λ _. context.new.drawing) result (drawing_of_page self.now) }
+        ensures errors { IfErr result IsReturned }
         ensures kept { context.new.work_limit ≡ context.old.work_limit }
         ensures limit { IsWithin context.old.work_limit context.new.steps }
     {
@@ -243,25 +214,9 @@ impl<'a, A: Allocator + Clone> Page<'a, A> {
             let price = price_of_bitmap page.width page.height in
             IfOk result (λ _. budget work.new + 64 * price ≤ budget work.old) }
     {
-        let _globals = &self.globals;
-        let drawn = self.draw_onto(&mut context.canvas, work);
+        let drawn = self.content.draw_onto(&mut context.canvas, work);
         context.end(work);
         drawn
-    }
-
-    /// Draws the page on a fresh canvas.
-    fn draw_new_canvas<L: Ledger>(&self, work: &mut Work<L>) -> Result<Canvas<A>>
-        ensures value { Gives (λ canvas. canvas.grid) result (grid_of_page self.now) }
-        ensures errors { IfErr result IsReturned }
-        ensures paid { Paid work.old work.new }
-        ensures ahead { let page = self.now.initial_page in
-            let price = price_of_bitmap page.width page.height in
-            IfOk result (λ _. budget work.new + 64 * price ≤ budget work.old) }
-    {
-        let _globals = &self.globals;
-        let mut canvas = Canvas::new(self.segments.as_vec().allocator().clone()?)?;
-        self.draw_onto(&mut canvas, work)?;
-        Ok(canvas)
     }
 
     /// Makes the calls that draw the page, in a context that earlier pages may have used.
@@ -279,18 +234,9 @@ impl<'a, A: Allocator + Clone> Page<'a, A> {
         ensures drawing { IfOk (drawing_of_page self.now) (Leaves result context.new.drawing) }
         ensures kept { context.new.work_limit ≡ context.old.work_limit }
         ensures limit { IsWithin context.old.work_limit context.new.steps }
-        ensures spelling { (g : Grid) → DrawsGrid (calls_of g) g }
-        ensures chunks { (g : Grid) → ChunksFit g.width 0 (calls_of g) }
-        ensures few { (g : Grid) → CallsAreFew g }
-        ensures untouched { UntouchedIsBlank }
-        ensures direct { (operator : CombinationOperator) (black : Bool) (region : Grid) →
-            IsTable region → IsTrue (draws_over operator black)
-            → combined_grid operator (blank region.width region.height black) region
-            (pos 0) (pos 0) ≡ region }
         ensures errors { D.conduct.refusals decoder.new ≡ D.conduct.refusals decoder.old
             → IfErr result IsReturned }
     {
-        let _globals = &self.globals;
         self.decode_counted::<D, Brand>(decoder, context, Blank::new(6))
     }
 
@@ -306,6 +252,8 @@ impl<'a, A: Allocator + Clone> Page<'a, A> {
         requires enough { blank.parts ≡ 6 }
         ensures calls { Decodes D.conduct (grid_of_page self.now) result decoder.old decoder.new }
         ensures drawing { IfOk (drawing_of_page self.now) (Leaves result context.new.drawing) }
+        ensures errors { D.conduct.refusals decoder.new ≡ D.conduct.refusals decoder.old
+            → IfErr result IsReturned }
         ensures kept { context.new.work_limit ≡ context.old.work_limit }
         ensures limit { IsWithin context.old.work_limit context.new.steps }
     {
@@ -332,56 +280,8 @@ impl<'a, A: Allocator + Clone> Page<'a, A> {
         ensures limit { IsWithinLimit work.old work.new }
         ensures paid { Paid work.old work.new }
     {
-        let _globals = &self.globals;
-        let pushed = match self.draw_within(context, work) {
-            Ok(()) => push_bitmap(context.canvas.page(), decoder, &mut work.steps),
-            Err(error) => Err(error),
-        };
+        let decoded = self.content.decode_onto(decoder, &mut context.canvas, work);
         context.end(work);
-        pushed
-    }
-
-    /// Draws the whole page.
-    fn draw_onto<L: Ledger>(&self, canvas: &mut Canvas<A>, work: &mut Work<L>) -> Result<()>
-        ensures value { Gives (λ _. canvas.new) result (drawing_of_page self.now) }
-        ensures paid { Paid work.old work.new }
-        ensures ahead { let page = self.now.initial_page in
-            let price = price_of_bitmap page.width page.height in
-            IfOk result (λ _. budget work.new + 64 * price ≤ budget work.old) }
-    {
-        match &self.globals {
-            Ok(Some(globals)) => self.draw_with(globals.names(), canvas, work),
-            Ok(None) => {
-                let none = KeptNames::new(self.segments.as_vec().allocator().clone()?)?;
-                self.draw_with(&none, canvas, work)
-            }
-            Err(error) => Err(error.duplicate()),
-        }
-    }
-
-    /// Draws the page, whose segments may also refer to what `globals` keeps.
-    fn draw_with<L: Ledger>(
-        &self,
-        globals: &KeptNames<A>,
-        canvas: &mut Canvas<A>,
-        work: &mut Work<L>,
-    ) -> Result<()>
-        ensures value { Gives (λ _. canvas.new) result
-            (segments_drawn self.now.reading globals.now self.now.segments
-            (blank_page self.now.initial_page)) }
-        ensures paid { Paid work.old work.new }
-        ensures ahead { let page = self.now.initial_page in
-            let price = price_of_bitmap page.width page.height in
-            IfOk result (λ _. budget work.new + 64 * price ≤ budget work.old) }
-    {
-        let page = &self.initial_page;
-        // One bitmap for clearing the page, one for handing it out.
-        work.pay_bitmaps(2, page.width, page.height)?;
-        canvas.begin(page)?;
-        let drawer = Drawer {
-            reading: self.reading,
-            globals,
-        };
-        drawer.draw_segments(self.segments.as_vec(), canvas, work)
+        decoded
     }
 }

@@ -1,5 +1,5 @@
 use Rattle.std.proofs.Common.{◌≡◌, ℕ, false, nat_lt, is_some, sym, ◌∙◌, arith}
-use Rattle.hayro_jbig2.specs.Page.{grid_of_page}
+use Rattle.jbig2_page.specs.Page.{grid_of_page}
 use Rattle.jbig2_commands.specs.inner.Printing.{data_of, output_id}
 use Rattle.jbig2_commands.proofs.Lines.{lines_known, same_output}
 use Rattle.jbig2_commands.proofs.calls.decode_to.Goals as goal

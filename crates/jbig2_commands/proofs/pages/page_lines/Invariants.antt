@@ -1,6 +1,6 @@
 use Rattle.std.proofs.Common.{◌≡◌, ◌++◌}
 use Rattle.std.specs.List.{flat_map}
-use Rattle.hayro_jbig2.specs.Files.{pages_of}
+use Rattle.jbig2_page.specs.Files.{pages_of}
 use Rattle.jbig2_commands.specs.Printed.{page_line}
 use Rattle.jbig2_commands.proofs.pages.page_lines.Given as goal
 

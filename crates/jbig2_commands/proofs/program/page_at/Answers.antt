@@ -1,6 +1,6 @@
 use Rattle.std.proofs.Common.{◌≡◌}
 use Rattle.std.specs.Str.Parse.{digits_value}
-use Rattle.hayro_jbig2.specs.Files.{page_of}
+use Rattle.jbig2_page.specs.Files.{page_of}
 use Rattle.jbig2_commands.proofs.Naming.{names_none, names_page, parsed, unparsed}
 use Rattle.jbig2_commands.proofs.program.page_at.Goals as goal
 use Rattle.jbig2_commands.proofs.program.page_at.Goals.{in-Ok, in-Err}

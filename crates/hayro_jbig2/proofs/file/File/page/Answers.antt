@@ -4,13 +4,13 @@ use Rattle.std.specs.Prelude.{IfErr, option_map, slice_get}
 use Rattle.std.proofs.lemmas.Bool.{ltb-false, ltb-true}
 use Rattle.jbig2_base.specs.inner.SegmentViews.{segment_views}
 use Rattle.jbig2_base.specs.declared.error.DecodeError.{DecodeError}
-use Rattle.hayro_jbig2.proofs.Books.{pages_stand_alone}
+use Rattle.jbig2_page.proofs.Books.{pages_stand_alone}
 use Rattle.hayro_jbig2.proofs.file.File.page.Goals as goal
-use Rattle.hayro_jbig2.specs.Causes.{IsFromInput}
-use Rattle.hayro_jbig2.specs.Files.{ReadFile, PageInFile, page_in, page_of}
-use Rattle.hayro_jbig2.specs.Names.{Names, KeptGlobals, names_of}
-use Rattle.hayro_jbig2.specs.Page.{ReadPage}
-use Rattle.hayro_jbig2.specs.inner.PageViews.{kept_names}
+use Rattle.jbig2_page.specs.Causes.{IsFromInput}
+use Rattle.jbig2_page.specs.Files.{ReadFile, PageInFile, page_in, page_of}
+use Rattle.jbig2_page.specs.Names.{Names, KeptGlobals, names_of}
+use Rattle.jbig2_page.specs.Page.{ReadPage}
+use Rattle.jbig2_page.specs.inner.PageViews.{kept_names}
 
 page-at : (book : ReadFile) (pages : List PageInFile) (i : ℕ) (page : PageInFile) (read : ReadPage) → pages ≡ book.pages → i < length pages → page ≡ get_or pages i page → read ≡ page_in book page → Some read ≡ page_of book i
 page-at book pages i page read are inside is made =
@@ -22,14 +22,13 @@ returns-in-Some-clause-value g c =
     let book : ReadFile = c.args.self.now in
     let page : PageInFile = c.in-Some.page.now in
     let there = c.in-Some.ensures.lookup in
-    let read : ReadFile → PageInFile → Result Names DecodeError → Option DecodeError → ReadPage = λ b p globals fault. record { reading = b.reading; initial_page = p.initial_page; segments = p.segments; globals = globals; fault = fault } in
-    let fault : c.duplicate_fault.result ≡ book.fault = c.duplicate_fault.ensures ∙ ap (λ (b : ReadFile). b.fault) c.self.view_is in
-    let made : c.of_file.result ≡ page_in book page = c.of_file.ensures
-    ∙ ap (λ (b : ReadFile). let r : ReadPage = record { reading = b.reading; initial_page = c.page.inside.initial_page; segments = segment_views c.page.inside.segments.items; globals = kept_names c.globals.result; fault = c.duplicate_fault.result } in r) c.self.view_is
-    ∙ ap (λ (p : PageInFile). read book p (kept_names c.globals.result) c.duplicate_fault.result) c.page.view_is
-    ∙ ap (λ (globals : Result Names DecodeError). read book page globals c.duplicate_fault.result) c.globals.ensures
-    ∙ ap (λ (f : Option DecodeError). read book page (names_of book.globals) f) fault in
-    page-at book c.deref.result.now c.args.index page c.of_file.result (c.deref.ensures.value ∙ ap (λ (b : ReadFile). b.pages) c.self.view_is) (ltb-true _ _ (sym there.0)) there.1 made
+    let read : ReadFile → Result Names DecodeError → Option DecodeError → ReadPage = λ b globals fault. record { reading = b.reading; initial_page = page.initial_page; segments = page.segments; globals = globals; fault = fault } in
+    let fault : c.duplicate_fault-fault.result ≡ book.fault = c.duplicate_fault-fault.ensures ∙ ap (λ (b : ReadFile). b.fault) c.self.view_is in
+    let made : c.of_content.result ≡ page_in book page = c.of_content.ensures ∙ c.content-content.ensures
+    ∙ ap (λ (b : ReadFile). read b (kept_names c.globals.result) c.duplicate_fault-fault.result) c.self.view_is
+    ∙ ap (λ (globals : Result Names DecodeError). read book globals c.duplicate_fault-fault.result) c.globals.ensures
+    ∙ ap (λ (f : Option DecodeError). read book (names_of book.globals) f) fault in
+    page-at book c.deref.result.now c.args.index page c.of_content.result (c.deref.ensures.value ∙ ap (λ (b : ReadFile). b.pages) c.self.view_is) (ltb-true _ _ (sym there.0)) there.1 made
 
 pub returns-in-Some-clause-alone : goal.returns-in-Some-clause-alone
 returns-in-Some-clause-alone g c = pages_stand_alone
@@ -44,8 +43,8 @@ returns-in-None-clause-value g c =
 pub returns-in-None-clause-alone : goal.returns-in-None-clause-alone
 returns-in-None-clause-alone g c = pages_stand_alone
 
-pub of_file-requires-clause-from_input : goal.of_file-requires-clause-from_input
-of_file-requires-clause-from_input g c =
+pub content-content-requires : goal.content-content-requires
+content-content-requires g c =
     let given : IfErr c.args.self.now.globals IsFromInput = subst (λ (b : ReadFile). IfErr b.globals IsFromInput) c.self.view_is c.self.invariant in
     subst (λ (r : Result Names DecodeError). IfErr r IsFromInput) (sym c.globals.ensures) (named c.args.self.now.globals given)
   where

@@ -1,4 +1,4 @@
-use Rattle.hayro_jbig2.proofs.Sides.{first-sides}
+use Rattle.jbig2_page.proofs.Sides.{first-sides}
 use Rattle.hayro_jbig2.proofs.jbig2_decoder.Jbig2Decoder.dimensions.Goals as goal
 
 pub returns-clause-sides : goal.returns-clause-sides

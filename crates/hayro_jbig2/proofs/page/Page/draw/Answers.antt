@@ -1,7 +1,7 @@
 use Rattle.std.proofs.Common.{List, ℕ, Result, Ok, ◌∙◌, ap, sym}
 use Rattle.std.proofs.lemmas.Result.{err_from_is_err_and}
 use Rattle.jbig2_base.specs.declared.error.DecodeError.{DecodeError}
-use Rattle.hayro_jbig2.proofs.DrawnPages.{packed-drawn, packed-refused}
+use Rattle.jbig2_page.proofs.DrawnPages.{packed-drawn, packed-refused}
 use Rattle.hayro_jbig2.proofs.page.Page.draw.Goals as goal
 
 pub returns-clause-value : goal.returns-clause-value

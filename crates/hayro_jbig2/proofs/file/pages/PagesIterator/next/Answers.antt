@@ -1,9 +1,9 @@
 use Rattle.std.proofs.Common.{◌≡◌, ℕ, ◌<◌, List, Option, drop, length, map, arith, subst, sym, ap, ◌∙◌}
 use Rattle.std.specs.Map.Iter.{TakesFirst}
-use Rattle.hayro_jbig2.proofs.Books.{taken_at}
+use Rattle.jbig2_page.proofs.Books.{taken_at}
 use Rattle.hayro_jbig2.proofs.file.pages.PagesIterator.next.Goals as goal
-use Rattle.hayro_jbig2.specs.Files.{ReadFile, page_in, page_of}
-use Rattle.hayro_jbig2.specs.Page.{ReadPage}
+use Rattle.jbig2_page.specs.Files.{ReadFile, page_in, page_of}
+use Rattle.jbig2_page.specs.Page.{ReadPage}
 
 pub returns-clause-steps : goal.returns-clause-steps
 returns-clause-steps g c =

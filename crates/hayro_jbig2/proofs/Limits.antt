@@ -1,0 +1,36 @@
+-- What calls take from a limit of work.
+use Rattle.std.proofs.Common.{◌≡◌, ℕ, ◌+◌, ◌*◌, ◌≤◌, List, Result, Ok, Err, refl, sym, ap, subst, arith}
+use Rattle.std.specs.Prelude.{IfOk}
+use Rattle.jbig2_base.specs.Segment.{SegmentView}
+use Rattle.jbig2_base.specs.declared.error.DecodeError.{DecodeError}
+use Rattle.jbig2_base.specs.declared.file_header.FileHeader.{FileHeader}
+use Rattle.jbig2_steps.specs.Counts.{Counts, no_steps}
+use Rattle.jbig2_steps.specs.Work.{sum_of_counts, budget}
+use Rattle.jbig2_steps.specs.declared.work.Work.{Work}
+use Rattle.jbig2_page.specs.Files.{ReadFile, of_page}
+use Rattle.jbig2_page.specs.Names.{KeptGlobals}
+use Rattle.jbig2_page.specs.SharedWork.{PaysShared, shared_count}
+use Rattle.hayro_jbig2.specs.WorkLimit.{Limit, Takes, TakesShared, after_call}
+
+-- what a call takes from a limit, by what its counter was worth
+pub limit-taken : {L : Type 0} (limit after : Limit) (old new : Work L) (units : ℕ) → after ≡ after_call new limit → old.steps ≡ no_steps → old.left ≡ limit.left → budget new + 32 * units ≤ budget old → Takes units limit after
+unfolding budget
+limit-taken {L} limit after old new units is none left paid =
+    let nothing : sum_of_counts old.steps ≡ 0 = ap (λ (s : Counts). sum_of_counts s) none in
+    subst (λ (l : Limit). Takes units limit l) (sym is) (refl, omega (arith, nothing, left, paid))
+
+-- the same where the call succeeds
+pub limit-taken-by : {L T E : Type 0} (result : Result T E) (limit after : Limit) (old new : Work L) (units : ℕ) → after ≡ after_call new limit → old.steps ≡ no_steps → old.left ≡ limit.left → IfOk result (λ _. budget new + 32 * units ≤ budget old) → IfOk result (λ _. Takes units limit after)
+limit-taken-by (Ok x) limit after old new units is none left paid = limit-taken limit after old new units is none left paid
+limit-taken-by (Err e) limit after old new units is none left paid = tt
+
+-- the same of globals, where their segments can be read
+pub limit-taken-each : {L T S E F : Type 0} (count : S → ℕ) (read : Result S F) (result : Result T E) (limit after : Limit) (old new : Work L) → after ≡ after_call new limit → old.steps ≡ no_steps → old.left ≡ limit.left → IfOk read (λ s. IfOk result (λ _. budget new + 32 * count s ≤ budget old)) → IfOk read (λ s. IfOk result (λ _. Takes (count s) limit after))
+limit-taken-each count (Ok s) result limit after old new is none left paid = limit-taken-by result limit after old new (count s) is none left paid
+limit-taken-each count (Err e) result limit after old new is none left paid = tt
+
+-- the same of a file
+pub limit-taken-shared : {L E : Type 0} (read : Result (FileHeader × List SegmentView) DecodeError) (result : Result ReadFile E) (limit after : Limit) (old new : Work L) → after ≡ after_call new limit → old.steps ≡ no_steps → old.left ≡ limit.left → IfOk result (λ book. PaysShared read book old new) → IfOk result (λ book. TakesShared read book limit after)
+limit-taken-shared (Ok file) (Ok book) limit after old new is none left paid = limit-taken-by book.globals limit after old new (1024 * shared_count book.pages (of_page 0 file.1)) is none left paid
+limit-taken-shared (Err e) (Ok book) limit after old new is none left paid = tt
+limit-taken-shared read (Err e) limit after old new is none left paid = tt

@@ -1,5 +1,0 @@
-use Rattle.hayro_jbig2.proofs.Sides.{blank_sides}
-use Rattle.hayro_jbig2.proofs.file.read_page.Goals as goal
-
-pub invariant_of-result : goal.invariant_of-result
-invariant_of-result g c = blank_sides _ _ _ c.in_ok-initial_page.ensures.value

@@ -1,8 +1,0 @@
-use Rattle.std.proofs.Common.{◌≡◌, drop}
-use Rattle.hayro_jbig2.specs.Names.{with_numbers, referred_by}
-use Rattle.hayro_jbig2.proofs.kept.referred.gather_referred.Given as goal
-
-abbrev pub invariant-loop-number : goal.invariant-loop-number
-invariant-loop-number g l =
-    with_numbers l.lookup.strict l.lookup.own.now l.lookup.globals.now (drop l.number-index l.numbers) l.referred
-    ≡ referred_by l.lookup.strict l.lookup.own.now l.lookup.globals.now l.numbers

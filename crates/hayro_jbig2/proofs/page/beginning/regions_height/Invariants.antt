@@ -1,7 +1,0 @@
-use Rattle.std.proofs.Common.{◌≡◌, drop, max}
-use Rattle.jbig2_base.specs.inner.SegmentViews.{segment_views}
-use Rattle.hayro_jbig2.specs.Page.{regions_height}
-use Rattle.hayro_jbig2.proofs.page.beginning.regions_height.Given as goal
-
-abbrev pub invariant-loop-segment : goal.invariant-loop-segment
-invariant-loop-segment g l = max l.height (regions_height (segment_views (drop l.segment-index l.segments))) ≡ regions_height (segment_views l.segments)

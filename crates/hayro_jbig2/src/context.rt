@@ -1,0 +1,135 @@
+//! `DecoderContext`: memory that each page's decoding reuses, the page that was drawn last, and the limit of work.
+ghost use Rattle.std.specs.Prelude.{◌≡◌};
+ghost use Rattle.jbig2_base.specs.Results.{Gives};
+ghost use Rattle.jbig2_base.specs.Counts.{no_steps};
+ghost use Rattle.hayro_jbig2.specs.Context.{after_page, new_context, units_of};
+ghost use Rattle.jbig2_page.specs.Image.{packed_of};
+
+use crate::counted::StepCount;
+use crate::drawn_page::DrawnPage;
+use jbig2_base::bitmap::steps::Work;
+use jbig2_base::error::Result;
+use jbig2_page::drawing::canvas::Canvas;
+use jbig2_page::drawing::passed_over::PassedOver;
+use jbig2_permit::Permit;
+use std::alloc::Allocator;
+use std::marker::Model;
+use std::sync::ledger::{Blank, Ledger};
+
+/// The memory that decoding a page uses, and that the next page uses again. A page's result does not depend on what was
+/// there before. The context holds the page that was drawn last, and the limit of the work that each page may take.
+pub struct DecoderContext<A: Allocator> {
+    pub(crate) canvas: Canvas<A>,
+    /// The units of work that a page may take.
+    work_limit: Option<u64>,
+    /// How many of them the last page left.
+    work_left: Option<u64>,
+    /// How many steps it counted.
+    counted: StepCount,
+}
+
+impl<A: Allocator> Drop for DecoderContext<A> {
+    fn drop(self) {
+        let DecoderContext {
+            canvas: _,
+            work_limit: _,
+            work_left: _,
+            counted: _,
+        } = self;
+    }
+}
+
+impl<A: Allocator> Model for DecoderContext<A> {
+    ghost use Rattle.hayro_jbig2.specs.Context.{Context};
+
+    ghost Value = { Context };
+
+    ghost view = { λ c. record {
+      drawing = c.canvas;
+      work_limit = c.work_limit;
+      work_left = c.work_left;
+      steps = c.counted;
+    } };
+}
+
+/// A counter that may take the work of the limit, if there is one.
+pub(crate) fn work_within<L: Ledger>(limit: Option<u64>, blank: Blank) -> Work<L>
+    requires name { blank.name ≡ L.name }
+    requires parts { blank.parts ≡ L.parts }
+    requires enough { blank.parts ≡ 6 }
+    ensures steps { result.steps ≡ no_steps }
+    ensures left { result.left ≡ units_of limit }
+{
+    Work::within(Permit::grant(), blank, limit.unwrap_or(u64::MAX))
+}
+
+impl<A: Allocator + Clone> DecoderContext<A> {
+    /// A context that holds a page of no pixels, without a limit of work. Its only error is `DecodeError::OutOfMemory`.
+    pub fn new(alloc: A) -> Result<DecoderContext<A>>
+        ensures { Gives (λ context. context) result (Ok new_context) }
+    {
+        Ok(DecoderContext {
+            canvas: Canvas::new(alloc)?,
+            work_limit: None,
+            work_left: None,
+            counted: StepCount::nothing(),
+        })
+    }
+}
+
+impl<A: Allocator> DecoderContext<A> {
+    /// What the reading passed over in the page that was drawn last. After a page that was refused, it is what was
+    /// passed over before the fault.
+    pub fn passed_over(&self) -> &PassedOver
+        ensures { result.now ≡ self.now.drawing.passed_over }
+    {
+        self.canvas.passed_over()
+    }
+
+    /// The page that was drawn last, as packed rows. After a page that was refused, it is what was drawn before the
+    /// fault. After memory ran out it may be any page.
+    pub fn drawn_page(&self) -> DrawnPage<'_, A>
+        ensures { let page = self.now.drawing.grid in
+            result ≡ packed_of page.width page.height page }
+    {
+        DrawnPage::of_rows(self.canvas.drawn_rows())
+    }
+
+    /// Sets how many units of work each page may take that is decoded in this context from now on; `None` means no
+    /// limit, as in a new context. A page that needs more is refused with `DecodeError::OutOfMemory` before it does
+    /// that work. The context can still be used for the next page.
+    pub fn set_work_limit(&mut self, work: Option<u64>)
+        ensures { self.new ≡ record self.old { work_limit = work; work_left = work } }
+    {
+        self.work_limit = work;
+        self.work_left = work;
+    }
+
+    /// How many units the last page left of its limit; `None` where it had none. It is 0 where the page was refused
+    /// because work ran out. So a caller can see whether work or memory ran out.
+    pub fn work_left(&self) -> Option<u64>
+        ensures { result ≡ self.now.work_left }
+    {
+        self.work_left
+    }
+
+    /// The counter of a page, which may take the work of the limit. `Page::decode_with` and the other calls that draw a
+    /// page begin with it.
+    pub fn new_work<L: Ledger>(&self, blank: Blank) -> Work<L>
+        requires name { blank.name ≡ L.name }
+        requires parts { blank.parts ≡ L.parts }
+        requires enough { blank.parts ≡ 6 }
+        ensures steps { result.steps ≡ no_steps }
+        ensures left { result.left ≡ units_of self.now.work_limit }
+    {
+        work_within(self.work_limit, blank)
+    }
+
+    /// Records what a page left of its limit, and what it counted.
+    pub(crate) fn end<L: Ledger>(&mut self, work: &Work<L>)
+        ensures { self.new ≡ after_page work.now self.old }
+    {
+        self.work_left = self.work_limit.map(|_| work.left);
+        self.counted = StepCount::of(&work.steps);
+    }
+}

@@ -1,0 +1,86 @@
+-- What each segment of a page does to what was drawn before it.
+use Rattle.std.proofs.Common.{◌≡◌, ℕ, ◌+◌, ◌≤◌, Bool, true, false, List, [], ◌∷◌, Result, Ok, Err, refl, arith}
+use Rattle.std.specs.Prelude.{IfOk}
+use Rattle.std.proofs.lemmas.Bool.{cond_both}
+use Rattle.jbig2_base.specs.Results.{◌>>=◌}
+use Rattle.jbig2_base.specs.Reading.{is_salvaged, is_strict}
+use Rattle.jbig2_base.specs.Segment.{SegmentView}
+use Rattle.jbig2_base.specs.declared.error.DecodeError.{DecodeError}
+use Rattle.jbig2_base.specs.declared.reading.Reading.{Reading}
+use Rattle.jbig2_base.specs.declared.reading.Reading.TheVariants.{Strict, Lenient, Salvage}
+use Rattle.jbig2_region.specs.RegionInfo.{PlacedRegion}
+use Rattle.jbig2_page.specs.Names.{Names, kept_by}
+use Rattle.jbig2_page.specs.Page.{Drawing, segments_drawn, ends_page, immediate, intermediate, with_names, or_left_out, or_passed_over, passing, region_at, segment_by, segment_on, with_drawn_region, with_region}
+use Rattle.jbig2_page.proofs.SegmentTypes.{of-segment}
+
+-- R holds between what was drawn before a segment and what is drawn after it, whatever the segment is.
+pub record StepsBy (strict : Bool) (R : Drawing → Drawing → Type 0) : Type 0 where
+  pub keeps : (d : Drawing) (names : Names) → R d (record d { names = names })
+  pub stores : (d : Drawing) (number : ℕ) (region : PlacedRegion) → R d (with_region number d region)
+  pub shows : (d : Drawing) (region : PlacedRegion) → IfOk (with_drawn_region d (Ok region)) (R d)
+  pub passes : strict ≡ false → (d : Drawing) (number : ℕ) (e : DecodeError) → IfOk (or_passed_over false number d (Err e)) (R d)
+
+step-shown : (strict : Bool) (R : Drawing → Drawing → Type 0) → StepsBy strict R → (number : ℕ) (d : Drawing) (r : Result PlacedRegion DecodeError) → IfOk (or_passed_over strict number d (with_drawn_region d r)) (R d)
+step-shown strict R by number d (Ok region) = by.shows d region
+step-shown true R by number d (Err e) = tt
+step-shown false R by number d (Err e) = by.passes refl d number e
+
+step-stored : (strict : Bool) (R : Drawing → Drawing → Type 0) → StepsBy strict R → (number : ℕ) (d : Drawing) (r : Result PlacedRegion DecodeError) → IfOk (r >>= λ region. Ok (with_region number d region)) (R d)
+step-stored strict R by number d (Ok region) = by.stores d number region
+step-stored strict R by number d (Err e) = tt
+
+step-kept : (strict : Bool) (R : Drawing → Drawing → Type 0) → StepsBy strict R → (d : Drawing) (kept : Result Names DecodeError) → IfOk (with_names d kept) (R d)
+step-kept strict R by d (Ok names) = by.keeps d names
+step-kept strict R by d (Err e) = tt
+
+step-by : (strict : Bool) (R : Drawing → Drawing → Type 0) → StepsBy strict R → (globals : Names) (p : SegmentView) (d : Drawing) → IfOk (segment_by strict globals p d) (R d)
+unfolding immediate intermediate
+step-by strict R by globals p d =
+    of-segment (λ r. IfOk r (R d)) strict globals p d
+    (record {
+      nothing = λ q. step-kept strict R by d (kept_by strict globals q d.names);
+      kept = λ kind q. step-stored strict R by q.header.segment_number d (region_at strict globals kind true q d);
+      shown = λ kind q. step-shown strict R by q.header.segment_number d (region_at strict globals kind false q d);
+    })
+
+-- salvage alone leaves a segment out
+left-lenient : (reading : Reading) (e : DecodeError) → is_salvaged reading e ≡ true → is_strict reading ≡ false
+left-lenient Strict e left = absurd (let no : false ≡ true = left in cc)
+left-lenient Lenient e left = refl
+left-lenient Salvage e left = refl
+
+step-left : (reading : Reading) (R : Drawing → Drawing → Type 0) → StepsBy (is_strict reading) R → (number : ℕ) (d : Drawing) (r : Result Drawing DecodeError) → IfOk r (R d) → IfOk (or_left_out reading number d r) (R d)
+step-left reading R by number d (Ok e) step = step
+step-left reading R by number d (Err e) step =
+    cond_both (is_salvaged reading e) (Ok (passing number e d)) (Err e) (λ (r : Result Drawing DecodeError). IfOk r (R d)) (λ left. by.passes (left-lenient reading e left) d number e) (λ kept. tt)
+
+pub segment-step : (reading : Reading) (R : Drawing → Drawing → Type 0) → StepsBy (is_strict reading) R → (globals : Names) (p : SegmentView) (d : Drawing) → IfOk (segment_on reading globals p d) (R d)
+segment-step reading R by globals p d = step-left reading R by p.header.segment_number d (segment_by (is_strict reading) globals p d) (step-by (is_strict reading) R by globals p d)
+
+kept-next : (Q : Drawing → Type 0) (d : Drawing) (r : Result Drawing DecodeError) (next : Drawing → Result Drawing DecodeError) → IfOk r (λ e. Q d → Q e) → Q d → ((e : Drawing) → Q e → IfOk (next e) Q) → IfOk (r >>= next) Q
+kept-next Q d (Ok e) next step holds each = each e (step holds)
+kept-next Q d (Err e) next step holds each = tt
+
+-- what each segment keeps holds at the end
+pub drawn-keeps : (reading : Reading) (Q : Drawing → Type 0) → StepsBy (is_strict reading) (λ d e. Q d → Q e) → (globals : Names) (ps : List SegmentView) (d : Drawing) → Q d → IfOk (segments_drawn reading globals ps d) Q
+drawn-keeps reading Q by globals [] d holds = holds
+drawn-keeps reading Q by globals (p ∷ ps) d holds =
+    let P : Result Drawing DecodeError → Type 0 = λ r. IfOk r Q in
+    cond_both (ends_page p.header.segment_type) (Ok d) (segment_on reading globals p d >>= λ e. segments_drawn reading globals ps e) P
+    (λ ends. holds)
+    (λ goes_on. kept-next Q d (segment_on reading globals p d) (λ e. segments_drawn reading globals ps e) (segment-step reading (λ a b. Q a → Q b) by globals p d) holds (λ e now. drawn-keeps reading Q by globals ps e now))
+
+-- ---- what was passed over
+abbrev CountsOn : Drawing → Drawing → Type 0
+CountsOn d e = e.passed_over.count ≤ d.passed_over.count + 1
+
+-- a segment adds at most one
+pub counts-on : (reading : Reading) (globals : Names) (p : SegmentView) (d : Drawing) → IfOk (segment_on reading globals p d) (λ e. e.passed_over.count ≤ d.passed_over.count + 1)
+counts-on reading globals p d = segment-step reading CountsOn
+    (record {
+      keeps = λ d names. omega arith;
+      stores = λ d number region. omega arith;
+      shows = λ d region. omega arith;
+      passes = λ lenient d number e. omega arith;
+    })
+    globals p d

@@ -1,0 +1,20 @@
+use Rattle.std.proofs.Common.{◌≡◌, Err, inl, inr, ⊎_elim}
+use Rattle.std.proofs.lemmas.Result.{err_from_is_err_and}
+use Rattle.jbig2_base.specs.declared.error.DecodeError.TheVariants.{OutOfMemory}
+use Rattle.jbig2_region.specs.inner.RefinedViews.{header_view}
+use Rattle.jbig2_page.specs.inner.PageViews.{near_area}
+use Rattle.jbig2_page.proofs.Direct.{page-refined}
+use Rattle.jbig2_page.proofs.PageArea.{area-far}
+use Rattle.jbig2_page.proofs.region.refinement.parse_page_refinement.Goals as goal
+
+pub returns-in_err-area-clause-value : goal.returns-in_err-area-clause-value
+returns-in_err-area-clause-value g c =
+    let e = err_from_is_err_and c.from_residual-in_err-area.result c.from_residual-in_err-area.ensures.1 in
+    let error = c.in_err-area.field-0.0 in
+    rw (e.1, e.2)
+    (⊎_elim (λ (memory : error ≡ OutOfMemory). inl memory)
+    (λ (far : near_area c.args.references.now.page.now c.args.header.region_info ≡ Err error).
+    inr (area-far (header_view c.args.header) c.args.references.now.page.now error far)) c.in_err-area.ensures.value)
+
+pub returns-clause-value : goal.returns-clause-value
+returns-clause-value g c = page-refined c.args.header c.args.references.now.page.now c.in_ok-area.area c.requires.parsed c.in_ok-area.ensures.value

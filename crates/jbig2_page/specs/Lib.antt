@@ -1,0 +1,13 @@
+pub mod Calls
+pub mod Causes
+pub mod Files
+pub mod Image
+pub mod Lenient
+pub mod Names
+pub mod Order
+pub mod Page
+pub mod Prices
+pub mod Regions
+pub mod Returned
+pub mod SharedWork
+pub mod inner

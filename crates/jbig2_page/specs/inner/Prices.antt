@@ -1,0 +1,39 @@
+-- What a region costs once its header is read and what it refers to is found, and what decoding it counts (our own
+-- rule).
+use Rattle.std.specs.Prelude.{ℕ, ◌*◌, length}
+use Rattle.jbig2_steps.specs.Work.{price_of_bitmap}
+use Rattle.jbig2_region.specs.GenericSteps.{price_of_region}
+use Rattle.jbig2_halftone.specs.Steps.{price_of_halftone}
+use Rattle.jbig2_halftone.specs.inner.DictionaryViews.{dictionary_view}
+use Rattle.jbig2_text.specs.Paying.{number_steps}
+use Rattle.jbig2_page.specs.declared.region.parsed_region.ParsedRegion.{ParsedRegion}
+use Rattle.jbig2_page.specs.declared.region.parsed_region.ParsedRegion.TheVariants.{Text, Halftone, Generic}
+use Rattle.jbig2_page.specs.declared.region.parsed_region.ParsedRegion.TheVariants.{Refinement, PageRefinement}
+use Rattle.jbig2_page.specs.inner.ParsedRegions.{info_of}
+use Rattle.jbig2_region.specs.inner.GenericViews as generics
+use Rattle.jbig2_halftone.specs.inner.HalftoneHeaderViews as halftones
+
+abbrev pub price_of_symbols : ℕ → ℕ  -- of symbols that a segment refers to
+price_of_symbols count = 16 * count
+
+-- the units of a region, without those of the bitmaps of its size
+abbrev pub price_besides : {A : Type 0} → ParsedRegion A → ℕ
+price_besides (Text header referred) = price_of_symbols (length referred.symbols)
+price_besides (Halftone header patterns) =
+    price_of_halftone (halftones.header_view header) (dictionary_view patterns.now)
+price_besides (Generic header) = length header.bytes.now
+price_besides (Refinement header reference) = 0
+price_besides (PageRefinement header area) = 0
+
+-- the units of one bitmap of a region's size
+abbrev pub price_of_info : {A : Type 0} → ParsedRegion A → ℕ
+price_of_info r = price_of_bitmap (info_of r).width (info_of r).height
+
+-- The most that decoding counts for a region before it is paid for. A text region pays for its instances itself.
+abbrev pub counts_of : {A : Type 0} → ParsedRegion A → ℕ
+counts_of (Text header referred) = number_steps 1
+counts_of (Halftone header patterns) =
+    32 * price_of_halftone (halftones.header_view header) (dictionary_view patterns.now)
+counts_of (Generic header) = 32 * price_of_region (generics.header_view header)
+counts_of (Refinement header reference) = 32 * price_of_bitmap header.region_info.width header.region_info.height
+counts_of (PageRefinement header area) = 32 * price_of_bitmap header.region_info.width header.region_info.height
