@@ -266,6 +266,39 @@ uint32_t hayro_jbig2_globals_get_left_out(hayro_jbig2_globals *globals, hayro_jb
 uint32_t hayro_jbig2_page_get_left_out(hayro_jbig2_page *page, hayro_jbig2_left_out *left_out);
 uint32_t hayro_jbig2_file_get_left_out(hayro_jbig2_file *file, hayro_jbig2_left_out *left_out);
 
+/* The segments of a list, one at a time, for a program that shows what a file or a stream has. The bytes begin with the
+ * header of a segment (T.88, 7.2). Strict reading refuses types that the standard doesn't list, and an unknown length but
+ * for an immediate generic region. Only the headers are read, and the data of a segment of unknown length. */
+typedef struct hayro_jbig2_segment_info {
+    uint32_t number;
+    uint32_t segment_type; /* its number in T.88, 7.3; 64 where the list there doesn't have it */
+    uint32_t page;         /* the number of its page, 0 for none */
+    size_t references;     /* how many segments it refers to */
+    size_t header_length;  /* bytes */
+    uint64_t data_length;  /* bytes, HAYRO_JBIG2_UNKNOWN_LENGTH where the header says that it is unknown */
+} hayro_jbig2_segment_info;
+
+#define HAYRO_JBIG2_UNKNOWN_LENGTH UINT64_MAX
+
+uint32_t hayro_jbig2_segment_get_info(const hayro_jbig2_memory *memory, bool strict, const uint8_t *bytes, size_t length,
+                                      hayro_jbig2_segment_info *info);
+/* Writes the numbers of the segments that it refers to. `count` is `references` of the info, else the call returns
+ * HAYRO_JBIG2_OTHER_SIZE. */
+uint32_t hayro_jbig2_segment_get_references(const hayro_jbig2_memory *memory, bool strict, const uint8_t *bytes,
+                                            size_t length, uint32_t *numbers, size_t count);
+/* Writes how many bytes its header and the data after it take together, also where their length is unknown. Returns
+ * HAYRO_JBIG2_PARSE_UNEXPECTED_EOF where the bytes end before it does. */
+uint32_t hayro_jbig2_segment_get_length(const hayro_jbig2_memory *memory, bool strict, const uint8_t *bytes,
+                                        size_t length, size_t *taken);
+
+/* What the data of a region segment begins with (T.88, 7.4.1): its size in pixels, its place on the page, and the number of
+ * the operator that combines it with the page: 0 or, 1 and, 2 xor, 3 xnor, 4 replace. */
+typedef struct hayro_jbig2_region_info {
+    uint32_t width, height, x, y, combination_operator;
+} hayro_jbig2_region_info;
+
+uint32_t hayro_jbig2_region_get_info(const uint8_t *bytes, size_t length, hayro_jbig2_region_info *info);
+
 /* A text for what a call returned, never null and never to be freed. This call and
  * hayro_jbig2_version are written in C. */
 const char *hayro_jbig2_error_text(uint32_t answer);
