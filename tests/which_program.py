@@ -1,5 +1,5 @@
 #!/usr/bin/env python3
-"""Runs ./jbig2-decode of a copy of the repository: which program it takes after updates, and what it says without one.
+"""Runs ./jbig2-decode of a small copy of the repository: which program it takes after updates, and what it says without one.
 
 usage: tests/which_program.py [-v] [NAME ..]
 """
@@ -18,31 +18,29 @@ NOBODY = 65534
 LONG_AGO = 1_500_000_000
 
 
-def copy_sources(source, to, copy_function):
-    for crate in os.listdir(os.path.join(source, "crates")):
-        for part in ("src", "specs", "proofs"):
-            folder = os.path.join(source, "crates", crate, part)
-            if os.path.isdir(folder):
-                shutil.copytree(folder, os.path.join(to, "crates", crate, part), copy_function=copy_function)
+PARTS = ("jbig2_base", "jbig2_mmr", "jbig2_decode")
+CRATES = """\
+jbig2_base:
+jbig2_mmr: jbig2_base
+jbig2_decode: jbig2_mmr
+"""
+SUMS = '. dist/crates.sh && list_crates jbig2_decode && sums_of_crates "${crates[@]}" >dist/SOURCES'
 
 
 def copy_repository(to):
-    """Copies what ./jbig2-decode reads. The copies of the sources are links to a first copy, since they are many."""
-    for name in ("jbig2-decode", "crates.txt", "c/crate.txt"):
-        os.makedirs(os.path.dirname(os.path.join(to, name)), exist_ok=True)
-        shutil.copy(os.path.join(ROOT, name), os.path.join(to, name))
+    """Copies what ./jbig2-decode reads, with a few small sources in place of the crates', of which SOURCES has the sums."""
     shutil.copytree(os.path.join(ROOT, "dist"), os.path.join(to, "dist"), ignore=shutil.ignore_patterns("out"))
-    copy_sources(FIRST_COPY.name, to, os.link)
-
-
-def setUpModule():
-    global FIRST_COPY
-    FIRST_COPY = tempfile.TemporaryDirectory()
-    copy_sources(ROOT, FIRST_COPY.name, shutil.copy)
-
-
-def tearDownModule():
-    FIRST_COPY.cleanup()
+    shutil.copy(os.path.join(ROOT, "jbig2-decode"), to)
+    os.mkdir(os.path.join(to, "c"))
+    shutil.copy(os.path.join(ROOT, "c", "crate.txt"), os.path.join(to, "c"))
+    texts = {"crates.txt": CRATES, **{f"crates/{name}/src/lib.rt": f"// {name}\n" for name in PARTS}}
+    texts["crates/jbig2_base/specs/Lib.antt"] = "-- Definitions.\n"
+    for name, text in texts.items():
+        path = os.path.join(to, name)
+        os.makedirs(os.path.dirname(path), exist_ok=True)
+        with open(path, "w", encoding="utf-8") as file:
+            file.write(text)
+    subprocess.run(["bash", "-c", SUMS], cwd=to, check=True)
 
 
 @unittest.skipUnless(os.path.exists(f"{ROOT}/dist/{PROCESSOR}/jbig2-decode.s"), "no text for this computer")
@@ -135,16 +133,16 @@ class Updates(Case):
 
     def test_a_source_with_an_older_time(self):
         self.assert_runs()
-        source = "crates/jbig2_coder/src/arithmetic_decoder.rt"
+        source = "crates/jbig2_mmr/src/lib.rt"
         self.update(source, lambda text: text + "\n// Another.\n")
-        self.assert_says("those of jbig2_coder were changed")
+        self.assert_says("those of jbig2_mmr were changed")
         self.assert_says("it would have to be proved first")
         self.update(source, lambda text: text.removesuffix("\n// Another.\n"))
         self.assert_runs()
 
     def test_sources_that_come_and_go(self):
         self.assert_runs()
-        new, old = self.path("crates/jbig2_mmr/src/new.rt"), self.path("crates/jbig2_base/src/error.rt")
+        new, old = self.path("crates/jbig2_mmr/src/new.rt"), self.path("crates/jbig2_base/specs/Lib.antt")
         with open(new, "w", encoding="utf-8") as file:
             file.write("// New.\n")
         os.utime(new, (LONG_AGO, LONG_AGO))
@@ -167,7 +165,7 @@ class Updates(Case):
             file.write("#!/bin/sh\nexit 77\n")
         os.chmod(proved, 0o755)
         self.assertEqual(self.run_script()[0], 77)
-        self.update("crates/jbig2_coder/src/arithmetic_decoder.rt", lambda text: text)
+        self.update("crates/jbig2_mmr/src/lib.rt", lambda text: text)
         self.assert_runs()
 
 
@@ -193,7 +191,7 @@ class Messages(Case):
             self.assert_says("needs the GNU C library (glibc) 2.33", CC="musl-gcc")
 
     def test_no_toolchain(self):
-        self.update("crates/jbig2_coder/src/arithmetic_decoder.rt", lambda text: text + "\n// Another.\n")
+        self.update("crates/jbig2_mmr/src/lib.rt", lambda text: text + "\n// Another.\n")
         programs = os.path.join(self.room, "bin")
         os.mkdir(programs)
         for name in "bash env readlink uname find cmp sha256sum sort xargs cut grep cat mkdir mktemp head".split():
@@ -227,7 +225,9 @@ class Folders(Case):
 
     def test_there_is_no_cache(self):
         self.close_folders()
-        self.assert_says("can be written: set XDG_CACHE_HOME", user=NOBODY, HOME="/no/such/home", XDG_CACHE_HOME=None)
+        for home in "/no/such/home", None:
+            for cache in None, "relative":
+                self.assert_says("no folder for it can be written", user=NOBODY, HOME=home, XDG_CACHE_HOME=cache)
 
     def test_it_was_built_by_the_owner(self):
         self.assert_runs()
