@@ -12,7 +12,7 @@
  * What is proved holds for callers that keep to these rules. Nothing checks them:
  *
  * - No pointer is null, not even beside a length of 0, and each points to as many bytes, or to the one number, that
- *   the call says.
+ *   the call says. An empty std::vector has a null data(): hand over the address of any byte in its place.
  * - What a call writes overlaps nothing else that it is handed. While it runs, nobody else reads or writes that, and
  *   nobody writes what it reads.
  * - A bool is 0 or 1, as stdbool.h's are.

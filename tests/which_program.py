@@ -1,5 +1,5 @@
 #!/usr/bin/env python3
-"""Runs ./jbig2-decode of a small copy of the repository: which program it takes after updates, and what it says without one.
+"""Runs ./jbig2-decode of a small copy of the repository: which program it takes after updates, what it says without one.
 
 usage: tests/which_program.py [-v] [NAME ..]
 """
@@ -28,7 +28,7 @@ SUMS = '. dist/crates.sh && list_crates jbig2_decode && sums_of_crates "${crates
 
 
 def copy_repository(to):
-    """Copies what ./jbig2-decode reads, with a few small sources in place of the crates', of which SOURCES has the sums."""
+    """Copies what ./jbig2-decode reads, with a few small sources in place of the crates', whose sums SOURCES has."""
     shutil.copytree(os.path.join(ROOT, "dist"), os.path.join(to, "dist"), ignore=shutil.ignore_patterns("out"))
     shutil.copy(os.path.join(ROOT, "jbig2-decode"), to)
     os.mkdir(os.path.join(to, "c"))

@@ -19,10 +19,10 @@ impl DecoderContext {
         self.inner.passed_over()
     }
 
-    /// Sets what each page may take that is decoded from now on, in units of work, or lifts the limit by `None`. A unit is
-    /// about a pixel that is decoded or combined (the repository's `docs/FORMAT.md`, 12.6). A new context gives a page 100
-    /// units for each of its pixels, and 2^24 at least; scanned pages take 3 to 12 for a pixel. `hayro-jbig2` 0.4.0 has
-    /// no such call, and no limit.
+    /// Sets what each page may take that is decoded from now on, in units of work, or lifts the limit by `None`. A unit
+    /// is about a pixel that is decoded or combined (the repository's `docs/FORMAT.md`, 12.6). A new context gives a
+    /// page 100 units for each of its pixels, and 2^24 at least; scanned pages take 3 to 12 for a pixel. `hayro-jbig2`
+    /// 0.4.0 has no such call, and no limit.
     ///
     /// Work that would pass the limit is refused before it starts, with
     /// [`DecodeError::OutOfMemory`](crate::DecodeError::OutOfMemory), and no call is made on a

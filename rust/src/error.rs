@@ -30,8 +30,8 @@ pub enum DecodeError {
     /// A feature that this decoder does not have: colours, or an extension that must be understood.
     Unsupported,
     /// A request for memory was refused, or work that would pass the limit; where a page is decoded
-    /// [`DecoderContext::work_left`](crate::DecoderContext::work_left) says which. No mode passes over it. `hayro-jbig2`
-    /// 0.4.0 has no such error: there the process ends, or goes on.
+    /// [`DecoderContext::work_left`](crate::DecoderContext::work_left) says which. No mode passes over it.
+    /// `hayro-jbig2` 0.4.0 has no such error: there the process ends, or goes on.
     OutOfMemory,
 }
 

@@ -25,7 +25,8 @@ impl<'a> File<'a> {
     }
 
     /// As [`new`](Self::new) with another limit of work for what the pages share, or none (see
-    /// [`DecoderContext::set_work_limit`](crate::DecoderContext::set_work_limit)). `hayro-jbig2` 0.4.0 has no such call.
+    /// [`DecoderContext::set_work_limit`](crate::DecoderContext::set_work_limit)). `hayro-jbig2` 0.4.0 has no such
+    /// call.
     ///
     /// # Errors
     ///

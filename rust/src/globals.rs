@@ -24,7 +24,8 @@ impl Globals {
     }
 
     /// As [`new`](Self::new) with another limit of work, or none (see
-    /// [`DecoderContext::set_work_limit`](crate::DecoderContext::set_work_limit)). `hayro-jbig2` 0.4.0 has no such call.
+    /// [`DecoderContext::set_work_limit`](crate::DecoderContext::set_work_limit)). `hayro-jbig2` 0.4.0 has no such
+    /// call.
     ///
     /// # Errors
     ///

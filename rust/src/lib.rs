@@ -44,8 +44,8 @@
 //! leave out what lenient reading refuses.
 //!
 //! A small file can ask for hours of work and for gigabytes. So each page has a limit of work, and so has what pages
-//! share: see [`DecoderContext::set_work_limit`]. Whoever decodes what anyone may have sent looks at [`Page::dimensions`]
-//! first, which the limit grows with.
+//! share: see [`DecoderContext::set_work_limit`]. It grows with the page, so whoever decodes what anyone may have sent
+//! looks at [`Page::dimensions`] first.
 
 #![cfg_attr(not(feature = "std"), no_std)]
 
@@ -57,6 +57,8 @@ mod error;
 mod file;
 mod globals;
 mod image;
+#[cfg(feature = "image")]
+pub mod integration;
 #[cfg(feature = "std")]
 mod jbig2_decoder;
 mod library;

@@ -81,8 +81,8 @@ impl<'a> Page<'a> {
         (self.width(), self.height())
     }
 
-    /// Decodes the page and passes it to `decoder`. The page may take 100 units of work for each of its pixels, and 2^24 at
-    /// least; [`DecoderContext::set_work_limit`] sets another limit for [`decode_with`](Self::decode_with).
+    /// Decodes the page and passes it to `decoder`. The page may take 100 units of work for each of its pixels, and 2^24
+    /// at least; [`DecoderContext::set_work_limit`] sets another limit for [`decode_with`](Self::decode_with).
     ///
     /// # Errors
     ///
