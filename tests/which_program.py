@@ -14,6 +14,11 @@ from files import ROOT
 USAGE = "usage: jbig2-decode "
 PROCESSOR = os.uname().machine
 NOBODY = 65534
+# Stands for the toolchain: notes each call, and makes the program.
+RT = """#!/bin/sh
+echo "$@" >>{log}
+[ "$1" != run ] || {{ printf '#!/bin/sh\\nexit 77\\n' >out/${{PWD##*/}}; chmod +x out/${{PWD##*/}}; }}
+"""
 # A time before any build here.
 LONG_AGO = 1_500_000_000
 
@@ -157,6 +162,25 @@ class Updates(Case):
         with open(self.program, "r+b") as file:
             file.write(b"damaged")
         self.assert_runs()
+
+    def test_it_is_proved_again_after_an_update(self):
+        programs, log = os.path.join(self.room, "bin"), os.path.join(self.room, "log")
+        os.mkdir(programs)
+        rt = os.path.join(programs, "rt")
+        with open(rt, "w", encoding="utf-8") as file:
+            file.write(RT.format(log=log))
+        os.chmod(rt, 0o755)
+        how = {"JBIG2_PROVE": "1", "PATH": f"{programs}:{os.environ['PATH']}"}
+
+        def proof_count():
+            self.assertEqual(self.run_script(**how)[0], 77)
+            with open(log, encoding="utf-8") as file:
+                return len(file.readlines())
+
+        # Two libraries and the program.
+        self.assertEqual([proof_count(), proof_count()], [3, 3])
+        self.update("crates/jbig2_mmr/src/lib.rt", lambda text: text + "// Another.\n")
+        self.assertEqual([proof_count(), proof_count()], [6, 6])
 
     def test_a_proved_program_and_an_older_source(self):
         proved = self.path("crates", "jbig2_decode", "out", "jbig2_decode")
