@@ -186,15 +186,32 @@ def compare_pages(library, example):
     printed = subprocess.run([example, name], stdout=subprocess.PIPE)
     wanted = b"".join(b"P4\n%d %d\n" % (width, height) + rows for width, height, rows in pages)
     check(printed.returncode == 0 and printed.stdout == wanted, "the example prints the pages")
-    ended = subprocess.run([example, example], stdout=subprocess.PIPE, stderr=subprocess.PIPE)
-    wanted = (1, b"", b"error: invalid JBIG2 file header\n")
-    check((ended.returncode, ended.stdout, ended.stderr) == wanted, "an error is reported")
+
+
+def try_faults(example):
+    """What the example reports of files that it can't read or decode, and of an output that it can't write."""
+    good, folder, missing = os.path.join(DATA, "t88-h1.jb2"), DATA, os.path.join(DATA, "no such file")
+    reports = {
+        (example,): (2, "usage: example FILE\n"),
+        (example, example): (1, f"error: {example}: invalid JBIG2 file header\n"),
+        (example, missing): (1, f"error: {missing}: No such file or directory\n"),
+        (example, folder): (1, f"error: {folder}: Is a directory\n"),
+    }
+    for words, wanted in reports.items():
+        ended = subprocess.run(words, stdout=subprocess.PIPE, stderr=subprocess.PIPE, text=True, env={"LC_ALL": "C"})
+        check((ended.returncode, ended.stderr) == wanted and ended.stdout == "", f"the example reports {wanted}")
+    for output in ">/dev/full", ">&-":
+        words = ["sh", "-c", f'exec "$0" "$1" {output}', example, good]
+        ended = subprocess.run(words, stdout=subprocess.PIPE, stderr=subprocess.PIPE, text=True)
+        is_reported = ended.stderr.startswith("error: the pages can't be written: ")
+        check(ended.returncode == 1 and is_reported, f"the example ends with status 1 after {output}")
 
 
 def main(path, example):
     library = loaded(path)
     compare_numbers(library)
     compare_pages(library, example)
+    try_faults(example)
     print(f"{checks} checks of calls from Python, and of numbers and texts, {len(failures)} failed")
     return bool(failures)
 

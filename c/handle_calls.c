@@ -169,6 +169,8 @@ static void refuses_other_handles(void) {
     CHECK(hayro_jbig2_page_draw(a_context, a_page) == HAYRO_JBIG2_OTHER_HANDLE && none == NULL);
     CHECK(hayro_jbig2_file_page_count(a_page) == 0);
     CHECK(hayro_jbig2_file_get_info(a_page, 0, &info) == HAYRO_JBIG2_OTHER_HANDLE && info.number == 9);
+    CHECK(hayro_jbig2_file_get_infos(a_page, &info, 0) == HAYRO_JBIG2_OTHER_HANDLE);
+    CHECK(hayro_jbig2_file_get_infos(a_page, &info, 1) == HAYRO_JBIG2_OTHER_HANDLE && info.number == 9);
     CHECK(hayro_jbig2_file_draw(a_page, 0, context) == HAYRO_JBIG2_OTHER_HANDLE);
     CHECK(hayro_jbig2_context_rows(a_page, 0, rows, 0) == HAYRO_JBIG2_OTHER_HANDLE);
     CHECK(hayro_jbig2_context_get_passed_over(a_page, &passed) == HAYRO_JBIG2_OTHER_HANDLE && passed.count == 9);

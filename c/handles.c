@@ -27,6 +27,10 @@ uint32_t hayro_jbig2_page_new_salvaged(const hayro_jbig2_memory *memory, hayro_j
 }
 
 uint32_t hayro_jbig2_file_get_infos(hayro_jbig2_file *file, hayro_jbig2_page_info *infos, size_t count) {
+    hayro_jbig2_page_info none;
+    /* No file has a page at this index, so this says whether the handle is a file's. */
+    if (hayro_jbig2_file_get_info(file, SIZE_MAX, &none) == HAYRO_JBIG2_OTHER_HANDLE)
+        return HAYRO_JBIG2_OTHER_HANDLE;
     if (count != hayro_jbig2_file_page_count(file))
         return HAYRO_JBIG2_OTHER_SIZE;
     for (size_t index = 0; index < count; index++) {

@@ -12,7 +12,7 @@
  * What is proved holds for callers that keep to these rules. Nothing checks them:
  *
  * - No pointer is null, not even beside a length of 0, and each points to as many bytes, or to the one number, that
- *   the call says.
+ *   the call says. An empty std::vector has a null data(): hand over the address of any byte in its place.
  * - What a call writes overlaps nothing else that it is handed. While it runs, nobody else reads or writes that, and
  *   nobody writes what it reads.
  * - A bool is 0 or 1, as stdbool.h's are.
@@ -162,6 +162,8 @@ uint32_t hayro_jbig2_embedded_packed(bool strict, const uint8_t *globals, size_t
  *   share globals: a thread that makes pages has a handle of its own, by hayro_jbig2_globals_share, or a lock.
  * - Memory that a caller lends outlives all that is made with it. Its functions may be called in each thread that uses
  *   what was made with it: globals are freed in the thread that frees the last of their handles and pages.
+ * - These functions return: they throw no exception and make no longjmp, and they call the library with no handle that
+ *   the call they are made from uses, nor free it. The library's code has no unwind information.
  */
 typedef struct hayro_jbig2_globals hayro_jbig2_globals;
 typedef struct hayro_jbig2_context hayro_jbig2_context;

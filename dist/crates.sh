@@ -1,7 +1,7 @@
 # Sourced by the scripts of dist/ and c/: which crates there are, and the sums of their sources.
 
-dist=$(cd -- "$(dirname -- "$(readlink -f -- "${BASH_SOURCE[0]}")")" && pwd)
-root=$(dirname -- "$dist")
+dist=$(cd -- "${BASH_SOURCE[0]%/*}" && pwd -P)
+root=${dist%/*}
 
 # The programs of which dist/ has texts, and the processors for which it has the library for C.
 programs=(jbig2_decode jbig2_bench)
@@ -50,13 +50,22 @@ sources_of() {
     done
 }
 
-# Whether no source of these crates was changed after a file: is_newer FILE CRATE ..
+# Whether no source of these crates has a later time than a file: is_newer FILE CRATE ..
 is_newer() {
     local file=$1 sources
     shift
     [ -e "$file" ] || return 1
     mapfile -t sources < <(sources_of "$@")
     [ -z "$(find "${sources[@]}" -newer "$file" -print -quit)" ]
+}
+
+# Whether none came here after a file either, with whatever time of its own.
+is_untouched() {
+    local file=$1 sources
+    is_newer "$@" || return 1
+    shift
+    mapfile -t sources < <(sources_of "$@")
+    [ -z "$(find "${sources[@]}" -cnewer "$file" -print -quit)" ]
 }
 
 # The sum of the files below the current folder whose names end so: their names and their bytes.

@@ -4,6 +4,11 @@
 #include <stdint.h>
 #include <string.h>
 
+/* The text calls functions that only glibc has, some since 2.33. Another C library hands no words to what is below. */
+#if __GLIBC__ * 1000 + __GLIBC_MINOR__ < 2033
+#error "this program needs the GNU C library (glibc) 2.33 or later, and this is another C library or an older one"
+#endif
+
 static int word_count;
 static char **words;
 

@@ -2,12 +2,14 @@
 
 use crate::PassedOver;
 use crate::library;
+use crate::work::Limit;
 
 /// Room that decoding a page uses and the next page uses again. What an earlier page, or one that was refused, leaves
 /// in it changes nothing of the next page.
 #[derive(Debug, Default)]
 pub struct DecoderContext {
     pub(crate) inner: library::Context,
+    pub(crate) limit: Limit,
 }
 
 impl DecoderContext {
@@ -15,5 +17,23 @@ impl DecoderContext {
     /// such call.
     pub fn passed_over(&self) -> PassedOver {
         self.inner.passed_over()
+    }
+
+    /// Sets what each page may take that is decoded from now on, in units of work, or lifts the limit by `None`. A unit
+    /// is about a pixel that is decoded or combined (the repository's `docs/FORMAT.md`, 12.6). A new context gives a
+    /// page 100 units for each of its pixels, and 2^24 at least; scanned pages take 3 to 12 for a pixel. `hayro-jbig2`
+    /// 0.4.0 has no such call, and no limit.
+    ///
+    /// Work that would pass the limit is refused before it starts, with
+    /// [`DecodeError::OutOfMemory`](crate::DecodeError::OutOfMemory), and no call is made on a
+    /// [`Decoder`](crate::Decoder). [`work_left`](Self::work_left) is then `Some(0)`.
+    pub fn set_work_limit(&mut self, work: Option<u64>) {
+        self.limit = Limit::of(work);
+    }
+
+    /// What the page that was decoded last left of its limit: 0 where the limit refused it. `None` if it had no limit,
+    /// and in a new context.
+    pub fn work_left(&self) -> Option<u64> {
+        self.inner.work_left()
     }
 }

@@ -29,8 +29,9 @@ pub enum DecodeError {
     Overflow(OverflowError),
     /// A feature that this decoder does not have: colours, or an extension that must be understood.
     Unsupported,
-    /// A request for memory was refused. No mode passes over it. `hayro-jbig2` 0.4.0 has no such error: there the
-    /// process ends.
+    /// A request for memory was refused, or work that would pass the limit; where a page is decoded
+    /// [`DecoderContext::work_left`](crate::DecoderContext::work_left) says which. No mode passes over it.
+    /// `hayro-jbig2` 0.4.0 has no such error: there the process ends, or goes on.
     OutOfMemory,
 }
 

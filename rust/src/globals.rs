@@ -2,6 +2,7 @@
 
 use crate::error::Result;
 use crate::library::{self, Reading};
+use crate::work::Limit;
 use crate::{DecodeSettings, LeftOut};
 
 /// The segments that several embedded pages share, decoded once: of a PDF file the stream of `/JBIG2Globals`.
@@ -12,13 +13,25 @@ pub struct Globals {
 }
 
 impl Globals {
-    /// Reads and decodes the segments of `data`.
+    /// Reads and decodes the segments of `data`. That may take 1024 units of work for each byte, and 2^24 at least.
     ///
     /// # Errors
     ///
-    /// The first fault of the segments' headers or of the dictionaries and tables among them, or want of memory.
+    /// The first fault of the segments' headers or of the dictionaries and tables among them, or want of memory or of
+    /// work.
     pub fn new(data: &[u8], settings: &DecodeSettings) -> Result<Self> {
-        Self::read(data, settings.reading())
+        Self::read(data, settings.reading(), Limit::Usual)
+    }
+
+    /// As [`new`](Self::new) with another limit of work, or none (see
+    /// [`DecoderContext::set_work_limit`](crate::DecoderContext::set_work_limit)). `hayro-jbig2` 0.4.0 has no such
+    /// call.
+    ///
+    /// # Errors
+    ///
+    /// As of [`new`](Self::new).
+    pub fn new_within(data: &[u8], settings: &DecodeSettings, work: Option<u64>) -> Result<Self> {
+        Self::read(data, settings.reading(), Limit::of(work))
     }
 
     /// Reads and decodes the segments of `data`, and leaves out what can't be read or decoded. `hayro-jbig2` 0.4.0 has no
@@ -26,9 +39,18 @@ impl Globals {
     ///
     /// # Errors
     ///
-    /// Want of memory.
+    /// Want of memory or of work.
     pub fn salvaged(data: &[u8]) -> Result<Self> {
-        Self::read(data, Reading::Salvage)
+        Self::read(data, Reading::Salvage, Limit::Usual)
+    }
+
+    /// As [`salvaged`](Self::salvaged) with another limit of work, or none.
+    ///
+    /// # Errors
+    ///
+    /// As of [`salvaged`](Self::salvaged).
+    pub fn salvaged_within(data: &[u8], work: Option<u64>) -> Result<Self> {
+        Self::read(data, Reading::Salvage, Limit::of(work))
     }
 
     /// What was left out, if they were read by [`salvaged`](Self::salvaged).
@@ -36,8 +58,8 @@ impl Globals {
         self.left_out
     }
 
-    fn read(data: &[u8], reading: Reading) -> Result<Self> {
-        let inner = library::Globals::new(data, reading)?;
+    fn read(data: &[u8], reading: Reading, limit: Limit) -> Result<Self> {
+        let inner = library::Globals::new(data, reading, limit.of_shared(data.len()))?;
         let left_out = inner.left_out()?;
         Ok(Self { inner, left_out })
     }

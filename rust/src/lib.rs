@@ -43,8 +43,9 @@
 //! A viewer of damaged files reads them by [`File::salvaged`], [`Globals::salvaged`] and [`Page::salvaged_embedded`], which
 //! leave out what lenient reading refuses.
 //!
-//! A small file can ask for minutes of work and for gigabytes. Whoever decodes what anyone may have sent looks at
-//! [`Page::dimensions`] first, and decodes in a process with limits of time and memory.
+//! A small file can ask for hours of work and for gigabytes. So each page has a limit of work, and so has what pages
+//! share: see [`DecoderContext::set_work_limit`]. It grows with the page, so whoever decodes what anyone may have sent
+//! looks at [`Page::dimensions`] first.
 
 #![cfg_attr(not(feature = "std"), no_std)]
 
@@ -56,6 +57,8 @@ mod error;
 mod file;
 mod globals;
 mod image;
+#[cfg(feature = "image")]
+pub mod integration;
 #[cfg(feature = "std")]
 mod jbig2_decoder;
 mod library;
@@ -63,6 +66,7 @@ mod lock;
 mod page;
 mod passed_over;
 mod settings;
+mod work;
 
 pub use context::DecoderContext;
 pub use decoder::Decoder;

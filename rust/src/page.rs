@@ -81,11 +81,12 @@ impl<'a> Page<'a> {
         (self.width(), self.height())
     }
 
-    /// Decodes the page and passes it to `decoder`.
+    /// Decodes the page and passes it to `decoder`. The page may take 100 units of work for each of its pixels, and 2^24
+    /// at least; [`DecoderContext::set_work_limit`] sets another limit for [`decode_with`](Self::decode_with).
     ///
     /// # Errors
     ///
-    /// The first fault, or want of memory; `decoder` is not called then.
+    /// The first fault, or want of memory or of work; `decoder` is not called then.
     pub fn decode<D: Decoder>(&self, decoder: &mut D) -> Result<()> {
         self.decode_with(decoder, &mut DecoderContext::default())
     }
@@ -113,7 +114,7 @@ impl<'a> Page<'a> {
     ///
     /// # Errors
     ///
-    /// The first fault, or want of memory; `image` is as it was then.
+    /// The first fault, or want of memory or of work; `image` is as it was then.
     ///
     /// # Panics
     ///
@@ -129,7 +130,7 @@ impl<'a> Page<'a> {
     ///
     /// # Errors
     ///
-    /// The first fault, or want of memory; `rows` is as it was then.
+    /// The first fault, or want of memory or of work; `rows` is as it was then.
     ///
     /// # Panics
     ///
@@ -146,9 +147,10 @@ impl<'a> Page<'a> {
     }
 
     fn draw(&self, ctx: &mut DecoderContext) -> Result<()> {
+        let work = ctx.limit.of_page(self.width(), self.height());
         match &self.source {
-            Source::Embedded(page) => page.draw(&mut ctx.inner),
-            Source::File { file, index } => file.draw(*index, &mut ctx.inner),
+            Source::Embedded(page) => page.draw(&mut ctx.inner, work),
+            Source::File { file, index } => file.draw(*index, &mut ctx.inner, work),
         }
     }
 }

@@ -5,12 +5,14 @@ use core::ptr::{self, NonNull};
 use super::{MEMORY, ffi, made, passed_over, result};
 use crate::error::Result;
 use crate::passed_over::PassedOver;
+use crate::work::left_of;
 
 /// Room kept from page to page, with the page that was drawn last. It is made when it is first used.
 #[derive(Debug, Default)]
 pub(crate) struct Context {
     handle: Option<NonNull<ffi::Context>>,
     passed_over: PassedOver,
+    work_left: Option<u64>,
 }
 
 // SAFETY: any thread may use and give back the handle.
@@ -19,15 +21,20 @@ unsafe impl Send for Context {}
 unsafe impl Sync for Context {}
 
 impl Context {
-    /// Draws a page by a call that is handed the context.
-    pub(super) fn draw(&mut self, call: impl FnOnce(*mut ffi::Context) -> u32) -> Result<()> {
-        self.passed_over = PassedOver::default();
+    /// Draws a page within a limit of work, by a call that is handed the context.
+    pub(super) fn draw(&mut self, work: u64, call: impl FnOnce(*mut ffi::Context) -> u32) -> Result<()> {
+        (self.passed_over, self.work_left) = (PassedOver::default(), None);
         let handle = self.handle()?;
+        // SAFETY: the rules of the header.
+        result(unsafe { ffi::hayro_jbig2_context_set_work_limit(handle, work) })?;
         let drawn = result(call(handle));
-        let mut raw = ffi::PassedOver::default();
+        let (mut raw, mut left) = (ffi::PassedOver::default(), 0);
         // SAFETY: the rules of the header.
         result(unsafe { ffi::hayro_jbig2_context_get_passed_over(handle, &mut raw) })?;
+        // SAFETY: the rules of the header.
+        result(unsafe { ffi::hayro_jbig2_context_get_work_left(handle, &mut left) })?;
         self.passed_over = passed_over(raw.count, raw.segment, raw.error);
+        self.work_left = left_of(work, left);
         drawn
     }
 
@@ -51,6 +58,11 @@ impl Context {
     /// What was passed over of the page that was drawn last.
     pub(crate) fn passed_over(&self) -> PassedOver {
         self.passed_over
+    }
+
+    /// What that page left of its limit of work, if it had one.
+    pub(crate) fn work_left(&self) -> Option<u64> {
+        self.work_left
     }
 }
 

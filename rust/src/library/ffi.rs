@@ -53,13 +53,11 @@ pub(super) struct LeftOut {
     pub(super) list_error: u32,
 }
 
-/// `HAYRO_JBIG2_NO_WORK_LIMIT`
-pub(super) const NO_WORK_LIMIT: u64 = u64::MAX;
-
 unsafe extern "C" {
-    pub(super) fn hayro_jbig2_globals_new(
+    pub(super) fn hayro_jbig2_globals_new_within(
         memory: *const Memory,
         strict: bool,
+        work: u64,
         bytes: *const u8,
         length: usize,
         globals: *mut *mut Globals,
@@ -80,6 +78,10 @@ unsafe extern "C" {
     pub(super) fn hayro_jbig2_context_rows(context: *mut Context, place: usize, rows: *mut u8, length: usize) -> u32;
 
     pub(super) fn hayro_jbig2_context_get_passed_over(context: *mut Context, passed_over: *mut PassedOver) -> u32;
+
+    pub(super) fn hayro_jbig2_context_set_work_limit(context: *mut Context, work: u64) -> u32;
+
+    pub(super) fn hayro_jbig2_context_get_work_left(context: *mut Context, left: *mut u64) -> u32;
 
     pub(super) fn jbig2_c_page_alone(
         memory: *const Memory,
@@ -119,9 +121,10 @@ unsafe extern "C" {
 
     pub(super) fn hayro_jbig2_page_draw(page: *mut Page, context: *mut Context) -> u32;
 
-    pub(super) fn hayro_jbig2_file_new(
+    pub(super) fn hayro_jbig2_file_new_within(
         memory: *const Memory,
         strict: bool,
+        work: u64,
         bytes: *const u8,
         length: usize,
         file: *mut *mut File,

@@ -13,6 +13,8 @@ use crate::passed_over::LeftOut;
 pub(crate) struct File<'a> {
     bytes: &'a [u8],
     reading: Reading,
+    /// What decoding the segments that the pages share may take.
+    work: u64,
     infos: Vec<PageInfo>,
     left_out: LeftOut,
     /// The handle that no thread draws by. Threads that draw at the same time each get one of their own.
@@ -27,9 +29,9 @@ struct Handle(NonNull<ffi::File>);
 unsafe impl Send for Handle {}
 
 impl<'a> File<'a> {
-    pub(crate) fn new(bytes: &'a [u8], reading: Reading) -> Result<Self> {
+    pub(crate) fn new(bytes: &'a [u8], reading: Reading, work: u64) -> Result<Self> {
         let left_out = LeftOut::default();
-        let mut file = Self { bytes, reading, infos: Vec::new(), left_out, idle: Lock::new(None) };
+        let mut file = Self { bytes, reading, work, infos: Vec::new(), left_out, idle: Lock::new(None) };
         let mut handle = file.handle()?;
         file.infos = handle.infos()?;
         file.left_out = handle.left_out()?;
@@ -47,9 +49,10 @@ impl<'a> File<'a> {
         self.left_out
     }
 
-    pub(crate) fn draw(&self, index: usize, context: &mut Context) -> Result<()> {
+    /// Draws a page within a limit of work.
+    pub(crate) fn draw(&self, index: usize, context: &mut Context, work: u64) -> Result<()> {
         let mut handle = self.handle()?;
-        let drawn = handle.draw(index, context);
+        let drawn = handle.draw(index, context, work);
         self.put_back(handle);
         drawn
     }
@@ -63,10 +66,11 @@ impl<'a> File<'a> {
         // SAFETY: the rules of the header. The bytes are borrowed as long as this file lives, which keeps its handles.
         let number = unsafe {
             match self.reading {
-                Reading::Salvage => {
-                    ffi::hayro_jbig2_file_new_salvaged(MEMORY, ffi::NO_WORK_LIMIT, start, length, &mut file)
+                Reading::Salvage => ffi::hayro_jbig2_file_new_salvaged(MEMORY, self.work, start, length, &mut file),
+                reading => {
+                    let strict = reading.is_strict();
+                    ffi::hayro_jbig2_file_new_within(MEMORY, strict, self.work, start, length, &mut file)
                 }
-                reading => ffi::hayro_jbig2_file_new(MEMORY, reading.is_strict(), start, length, &mut file),
             }
         };
         Ok(Handle(made(number, file)?))
@@ -105,10 +109,10 @@ impl Handle {
         left_out(|raw| unsafe { ffi::hayro_jbig2_file_get_left_out(self.0.as_ptr(), raw) })
     }
 
-    fn draw(&mut self, index: usize, context: &mut Context) -> Result<()> {
+    fn draw(&mut self, index: usize, context: &mut Context, work: u64) -> Result<()> {
         let file = self.0.as_ptr();
         // SAFETY: the rules of the header.
-        context.draw(|context| unsafe { ffi::hayro_jbig2_file_draw(file, index, context) })
+        context.draw(work, |context| unsafe { ffi::hayro_jbig2_file_draw(file, index, context) })
     }
 }
 

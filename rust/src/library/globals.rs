@@ -20,16 +20,17 @@ struct Handle(NonNull<ffi::Globals>);
 unsafe impl Send for Handle {}
 
 impl Globals {
-    pub(crate) fn new(bytes: &[u8], reading: Reading) -> Result<Self> {
+    pub(crate) fn new(bytes: &[u8], reading: Reading, work: u64) -> Result<Self> {
         let mut handle = ptr::null_mut();
         let (start, length) = (bytes.as_ptr(), bytes.len());
         // SAFETY: the rules of the header.
         let number = unsafe {
             match reading {
-                Reading::Salvage => {
-                    ffi::hayro_jbig2_globals_new_salvaged(MEMORY, ffi::NO_WORK_LIMIT, start, length, &mut handle)
+                Reading::Salvage => ffi::hayro_jbig2_globals_new_salvaged(MEMORY, work, start, length, &mut handle),
+                _ => {
+                    let strict = reading.is_strict();
+                    ffi::hayro_jbig2_globals_new_within(MEMORY, strict, work, start, length, &mut handle)
                 }
-                _ => ffi::hayro_jbig2_globals_new(MEMORY, reading.is_strict(), start, length, &mut handle),
             }
         };
         Ok(Self { handle: Lock::new(Handle(made(number, handle)?)) })

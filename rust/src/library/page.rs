@@ -44,10 +44,11 @@ impl Page {
         Ok(info)
     }
 
-    pub(crate) fn draw(&self, context: &mut Context) -> Result<()> {
+    /// Draws the page within a limit of work.
+    pub(crate) fn draw(&self, context: &mut Context, work: u64) -> Result<()> {
         // SAFETY: the rules of the header.
         let call = |page: &mut Handle, context| unsafe { ffi::hayro_jbig2_page_draw(page.0.as_ptr(), context) };
-        context.draw(|context| self.handle.with(|page| call(page, context)))
+        context.draw(work, |context| self.handle.with(|page| call(page, context)))
     }
 }
 

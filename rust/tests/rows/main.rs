@@ -76,6 +76,8 @@ fn the_rows_hold() {
         salvaged::rows(),
     ];
     let mut context = DecoderContext::default();
+    // Some rows ask for more than a page of their size may take.
+    context.set_work_limit(None);
     let mut cases = 0;
     for row in families.into_iter().flatten() {
         for case in row.cases {

@@ -1,0 +1,37 @@
+//! JBIG2 files by the hooks of the crate `image`, and a page as its decoder.
+
+use hayro_jbig2::integration::{Jbig2Decoder, register_decoding_hook};
+use hayro_jbig2::{DecodeSettings, File, Page};
+use image::error::{DecodingError, ImageFormatHint};
+use image::{ColorType, ExtendedColorType, ImageDecoder, ImageError, hooks};
+use std::io::Cursor;
+
+const EXAMPLE: &[u8] = include_bytes!("../../../../crates/jbig2_decode/data/t88-h1.jb2");
+
+fn main() {
+    let file = File::new(EXAMPLE, &DecodeSettings::default()).unwrap();
+    let page = file.page(0).unwrap();
+    let mut expected = vec![0; 64 * 56];
+    Page::read_image(&page, &mut expected).unwrap();
+
+    assert!(hooks::decoded(EXAMPLE).is_none());
+    assert!(register_decoding_hook());
+    assert!(!register_decoding_hook());
+    assert!(hooks::decoded(b"no such format").is_none());
+    assert_eq!(hooks::decoded(EXAMPLE).unwrap().unwrap(), ((64, 56), expected.clone()));
+    let cut_off = hooks::decoded(&EXAMPLE[..9]).unwrap();
+    let Err(ImageError::Decoding(DecodingError(ImageFormatHint::Name(name), error))) = cut_off else {
+        panic!("{cut_off:?}");
+    };
+    assert_eq!((name.as_str(), error.to_string().as_str()), ("JBIG2", "unexpected end of input"));
+
+    let mut image = vec![0; 64 * 56];
+    assert_eq!(ImageDecoder::dimensions(&page), (64, 56));
+    assert_eq!((page.color_type(), page.original_color_type()), (ColorType::L8, ExtendedColorType::L1));
+    ImageDecoder::read_image(page, &mut image).unwrap();
+    assert_eq!(image, expected);
+    let decoder = Jbig2Decoder::new(Cursor::new(EXAMPLE)).unwrap();
+    image.fill(0);
+    decoder.read_image(&mut image).unwrap();
+    assert_eq!(image, expected);
+}

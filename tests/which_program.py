@@ -1,0 +1,267 @@
+#!/usr/bin/env python3
+"""Runs ./jbig2-decode of a small copy of the repository: which program it takes after updates, what it says without one.
+
+usage: tests/which_program.py [-v] [NAME ..]
+"""
+import os
+import shutil
+import subprocess
+import tempfile
+import unittest
+
+from files import ROOT
+
+USAGE = "usage: jbig2-decode "
+PROCESSOR = os.uname().machine
+NOBODY = 65534
+# Stands for the toolchain: notes each call, and makes the program.
+RT = """#!/bin/sh
+echo "$@" >>{log}
+[ "$1" != run ] || {{ printf '#!/bin/sh\\nexit 77\\n' >out/${{PWD##*/}}; chmod +x out/${{PWD##*/}}; }}
+"""
+# A time before any build here.
+LONG_AGO = 1_500_000_000
+
+
+PARTS = ("jbig2_base", "jbig2_mmr", "jbig2_decode")
+CRATES = """\
+jbig2_base:
+jbig2_mmr: jbig2_base
+jbig2_decode: jbig2_mmr
+"""
+SUMS = '. dist/crates.sh && list_crates jbig2_decode && sums_of_crates "${crates[@]}" >dist/SOURCES'
+
+
+def copy_repository(to):
+    """Copies what ./jbig2-decode reads, with a few small sources in place of the crates', whose sums SOURCES has."""
+    shutil.copytree(os.path.join(ROOT, "dist"), os.path.join(to, "dist"), ignore=shutil.ignore_patterns("out"))
+    shutil.copy(os.path.join(ROOT, "jbig2-decode"), to)
+    os.mkdir(os.path.join(to, "c"))
+    shutil.copy(os.path.join(ROOT, "c", "crate.txt"), os.path.join(to, "c"))
+    texts = {"crates.txt": CRATES, **{f"crates/{name}/src/lib.rt": f"// {name}\n" for name in PARTS}}
+    texts["crates/jbig2_base/specs/Lib.antt"] = "-- Definitions.\n"
+    for name, text in texts.items():
+        path = os.path.join(to, name)
+        os.makedirs(os.path.dirname(path), exist_ok=True)
+        with open(path, "w", encoding="utf-8") as file:
+            file.write(text)
+    subprocess.run(["bash", "-c", SUMS], cwd=to, check=True)
+
+
+@unittest.skipUnless(os.path.exists(f"{ROOT}/dist/{PROCESSOR}/jbig2-decode.s"), "no text for this computer")
+class Case(unittest.TestCase):
+    """A test with a copy of the repository."""
+
+    def setUp(self):
+        room = tempfile.TemporaryDirectory()
+        self.addCleanup(room.cleanup)
+        os.chmod(room.name, 0o755)
+        self.room = room.name
+        self.top = os.path.join(room.name, "repository")
+        copy_repository(self.top)
+
+    def path(self, *names):
+        return os.path.join(self.top, *names)
+
+    @property
+    def program(self):
+        return self.path("dist", "out", "jbig2-decode")
+
+    def run_script(self, *words, user=None, **changed):
+        """The status and what is written to standard error. `changed` are variables of the environment, or None."""
+        cache = os.path.join(self.room, "cache")
+        variables = {**os.environ, "JBIG2_PROVE": "0", "CC": None, "XDG_CACHE_HOME": cache, **changed}
+        environment = {name: value for name, value in variables.items() if value is not None}
+        who = {} if user is None or os.geteuid() != 0 else {"user": user, "group": user, "extra_groups": []}
+        ended = subprocess.run(
+            [self.path("jbig2-decode"), *words], env=environment, capture_output=True, text=True, cwd="/", **who
+        )
+        return ended.returncode, ended.stderr
+
+    def assert_runs(self, **changed):
+        status, said = self.run_script(**changed)
+        self.assertEqual(status, 2, said)
+        self.assertTrue(said.startswith(USAGE), said)
+
+    def assert_says(self, words, **changed):
+        """It ends, says that, and promises no proof."""
+        status, said = self.run_script(**changed)
+        self.assertEqual(status, 1, said)
+        self.assertIn(words, said)
+        self.assertNotIn("half an hour", said)
+
+    def update(self, name, change):
+        """Changes a file as an archive does, which keeps the time that the file had elsewhere."""
+        path = self.path(name)
+        with open(path, encoding="utf-8") as file:
+            text = file.read()
+        with open(path + ".new", "w", encoding="utf-8") as file:
+            file.write(change(text))
+        os.rename(path + ".new", path)
+        for name in path, os.path.dirname(path):
+            os.utime(name, (LONG_AGO, LONG_AGO))
+
+
+class Updates(Case):
+    def test_it_is_built_once(self):
+        self.assert_runs()
+        built = os.stat(self.program)
+        self.assert_runs()
+        # The parts are the same, whatever their times.
+        os.utime(self.path("dist", "words.c"))
+        self.assert_runs()
+        self.assertEqual(os.stat(self.program), built)
+
+    def test_a_text_with_an_older_time(self):
+        self.assert_runs()
+        text = f"dist/{PROCESSOR}/jbig2-decode.s"
+        self.update(text, lambda text: text.replace("cannot read file", "cannot READ file"))
+        self.assertEqual(self.run_script("pages", "/no such file"), (1, "error: cannot READ file\n"))
+
+    def test_c_with_an_older_time(self):
+        for name in "words.c", "heap.c":
+            self.assert_runs()
+            before = os.stat(self.program).st_ino, os.stat(self.program).st_mtime_ns
+            self.update(f"dist/{name}", lambda text, name=name: text + f"\nint another_{name[0]};\n")
+            self.assert_runs()
+            self.assertNotEqual((os.stat(self.program).st_ino, os.stat(self.program).st_mtime_ns), before, name)
+
+    def test_another_compiler(self):
+        log = os.path.join(self.room, "log")
+        compiler = os.path.join(self.room, "another-cc")
+        with open(compiler, "w", encoding="utf-8") as file:
+            file.write(f'#!/bin/sh\necho called >>{log}\nexec cc "$@"\n')
+        os.chmod(compiler, 0o755)
+        self.assert_runs()
+        self.assert_runs(CC=compiler)
+        self.assertTrue(os.path.exists(log))
+
+    def test_a_source_with_an_older_time(self):
+        self.assert_runs()
+        source = "crates/jbig2_mmr/src/lib.rt"
+        self.update(source, lambda text: text + "\n// Another.\n")
+        self.assert_says("those of jbig2_mmr were changed")
+        self.assert_says("it would have to be proved first")
+        self.update(source, lambda text: text.removesuffix("\n// Another.\n"))
+        self.assert_runs()
+
+    def test_sources_that_come_and_go(self):
+        self.assert_runs()
+        new, old = self.path("crates/jbig2_mmr/src/new.rt"), self.path("crates/jbig2_base/specs/Lib.antt")
+        with open(new, "w", encoding="utf-8") as file:
+            file.write("// New.\n")
+        os.utime(new, (LONG_AGO, LONG_AGO))
+        self.assert_says("those of jbig2_mmr were changed")
+        os.remove(new)
+        self.assert_runs()
+        os.remove(old)
+        self.assert_says("those of jbig2_base were changed")
+
+    def test_a_damaged_program(self):
+        self.assert_runs()
+        with open(self.program, "r+b") as file:
+            file.write(b"damaged")
+        self.assert_runs()
+
+    def test_it_is_proved_again_after_an_update(self):
+        programs, log = os.path.join(self.room, "bin"), os.path.join(self.room, "log")
+        os.mkdir(programs)
+        rt = os.path.join(programs, "rt")
+        with open(rt, "w", encoding="utf-8") as file:
+            file.write(RT.format(log=log))
+        os.chmod(rt, 0o755)
+        how = {"JBIG2_PROVE": "1", "PATH": f"{programs}:{os.environ['PATH']}"}
+
+        def proof_count():
+            self.assertEqual(self.run_script(**how)[0], 77)
+            with open(log, encoding="utf-8") as file:
+                return len(file.readlines())
+
+        # Two libraries and the program.
+        self.assertEqual([proof_count(), proof_count()], [3, 3])
+        self.update("crates/jbig2_mmr/src/lib.rt", lambda text: text + "// Another.\n")
+        self.assertEqual([proof_count(), proof_count()], [6, 6])
+
+    def test_a_proved_program_and_an_older_source(self):
+        proved = self.path("crates", "jbig2_decode", "out", "jbig2_decode")
+        os.makedirs(os.path.dirname(proved))
+        with open(proved, "w", encoding="utf-8") as file:
+            file.write("#!/bin/sh\nexit 77\n")
+        os.chmod(proved, 0o755)
+        self.assertEqual(self.run_script()[0], 77)
+        self.update("crates/jbig2_mmr/src/lib.rt", lambda text: text)
+        self.assert_runs()
+
+
+class Messages(Case):
+    def test_no_compiler(self):
+        self.assert_says("there is no C compiler (/no/such/cc)", CC="/no/such/cc")
+
+    def test_no_compiler_is_needed_for_what_is_built(self):
+        self.assert_runs()
+        os.utime(self.path("dist", "heap.c"))
+        self.assert_runs(CC="/no/such/cc")
+
+    def test_another_processor(self):
+        self.assert_says("no text of it for this computer (Linux aarch64)", PROCESSOR="aarch64")
+        self.assert_runs()
+        self.assert_says("no text of it for this computer (Linux riscv64)", PROCESSOR="riscv64")
+
+    def test_another_c_library(self):
+        for name in "errno.h", "stddef.h", "stdint.h", "string.h":
+            open(os.path.join(self.room, name), "w", encoding="utf-8").close()
+        self.assert_says("needs the GNU C library (glibc) 2.33", CC=f"cc -nostdinc -I{self.room}")
+        if shutil.which("musl-gcc"):
+            self.assert_says("needs the GNU C library (glibc) 2.33", CC="musl-gcc")
+
+    def test_no_toolchain(self):
+        self.update("crates/jbig2_mmr/src/lib.rt", lambda text: text + "\n// Another.\n")
+        programs = os.path.join(self.room, "bin")
+        os.mkdir(programs)
+        for name in "bash env readlink uname find cmp sha256sum sort xargs cut grep cat mkdir mktemp head".split():
+            os.symlink(shutil.which(name), os.path.join(programs, name))
+        self.assert_says("its command rt is not on the PATH", JBIG2_PROVE=None, PATH=programs)
+
+
+class Folders(Case):
+    """The repository belongs to somebody else."""
+
+    def setUp(self):
+        super().setUp()
+        self.home = os.path.join(self.room, "home")
+        os.mkdir(self.home)
+
+    def close_folders(self):
+        if os.geteuid() == 0:
+            os.chown(self.home, NOBODY, NOBODY)
+        for folder in self.path("dist", "out"), self.path("dist"):
+            if os.path.isdir(folder):
+                os.chmod(folder, 0o555)
+                self.addCleanup(os.chmod, folder, 0o755)
+
+    def test_it_is_built_in_the_cache(self):
+        self.close_folders()
+        folder = os.path.join(self.home, ".cache", "hayro_jbig2") + os.path.realpath(self.top)
+        for _ in range(2):
+            self.assert_runs(user=NOBODY, HOME=self.home, XDG_CACHE_HOME=None)
+            self.assertTrue(os.access(os.path.join(folder, "jbig2-decode"), os.X_OK))
+        self.assertFalse(os.path.exists(self.path("dist", "out")))
+
+    def test_there_is_no_cache(self):
+        self.close_folders()
+        for home in "/no/such/home", None:
+            for cache in None, "relative":
+                self.assert_says("no folder for it can be written", user=NOBODY, HOME=home, XDG_CACHE_HOME=cache)
+
+    def test_it_was_built_by_the_owner(self):
+        self.assert_runs()
+        self.close_folders()
+        nowhere = {"user": NOBODY, "HOME": "/no/such/home", "XDG_CACHE_HOME": None}
+        self.assert_runs(**nowhere)
+        if os.geteuid() == 0:
+            os.utime(self.path("dist", "heap.c"))
+            self.assert_runs(**nowhere, CC="/no/such/cc")
+
+
+if __name__ == "__main__":
+    unittest.main()
