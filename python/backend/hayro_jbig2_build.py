@@ -118,7 +118,7 @@ def shared_library():
     """The library's text and the C files around it, compiled."""
     compiler = shlex.split(os.environ.get("CC", "cc"))
     words = ["-O2", "-shared", "-fPIC", "-I", str(native("c/hayro_jbig2.h").parent)]
-    words += ["-Wl,-z,defs", f"-Wl,--version-script={native('c/exports.map')}"]
+    words += ["-Wl,-Bsymbolic,-z,defs,-z,relro,-z,now", f"-Wl,--version-script={native('c/exports.map')}"]
     words += [str(native(path)) for path in LIBRARY]
     with tempfile.TemporaryDirectory() as folder:
         made = os.path.join(folder, "libhayro_jbig2.so")

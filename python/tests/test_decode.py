@@ -10,14 +10,9 @@ import unittest
 
 import hayro_jbig2
 from hayro_jbig2 import errors
-from pages import EXAMPLE, GLOBALS, PAGE, PROGRAM, ROOT, TEXT, run_program
+from pages import EXAMPLE, GLOBALS, PAGE, PROGRAM, ROOT, TEXT, generic_page, run_program
 
 BOOK = EXAMPLE.read_bytes()
-# A page that takes long: a generic region of 4096 by 4096 pixels of no bytes.
-LONG = bytes.fromhex(
-    "00000000 30 00 01 00000013 00001000 00001000" + "00" * 11 + "00000001 26 00 01 0000001A 00001000 00001000"
-    "000000000000000000 00 03FFFDFF02FEFEFE"
-)
 
 
 class Pages(unittest.TestCase):
@@ -179,7 +174,7 @@ class Errors(unittest.TestCase):
 
 class Threads(unittest.TestCase):
     def test_others_run_while_a_page_is_decoded(self):
-        thread = threading.Thread(target=hayro_jbig2.decode, args=(LONG,))
+        thread = threading.Thread(target=hayro_jbig2.decode, args=(generic_page(4096, 4096),))
         turns = 0
         thread.start()
         while thread.is_alive():

@@ -2,6 +2,7 @@
 
 from __future__ import annotations
 
+import operator
 from collections.abc import Iterator
 from typing import TYPE_CHECKING
 
@@ -54,7 +55,7 @@ def decode(
     Raises `DecodeError` for a fault of the data, `NoSuchPage` (an IndexError) for a page that the file hasn't, and
     `OutOfMemory` (a MemoryError).
     """
-    data, reading = _bytes_of(data), _reading(strict, salvage)
+    data, reading, page = _bytes_of(data), _reading(strict, salvage), operator.index(page)
     if globals is None and data.startswith(_BEGINNING):
         with _library.File(data, reading) as file:
             return _page_of(file, page)
@@ -105,5 +106,5 @@ def _page_of(file: _library.File, index: int) -> Page:
 
 
 def _bytes_of(data: ReadableBuffer) -> bytes:
-    """Bytes that nobody changes while they are decoded."""
-    return data if isinstance(data, bytes) else bytes(memoryview(data))
+    """Bytes that nobody changes while they are decoded, of the length that they say."""
+    return data if type(data) is bytes else bytes(memoryview(data))

@@ -1,12 +1,14 @@
-"""The calls of the shared library, as c/hayro_jbig2.h declares them. ctypes gives up the GIL during each."""
+"""The calls of the shared library, as c/hayro_jbig2.h declares them. ctypes gives up the GIL during each but one.
+
+Signal handlers and finalizers, which may decode too, run before a call or after it, and never in the middle of one. No
+lock is held here, so none of them waits for what it has interrupted.
+"""
 
 from __future__ import annotations
 
 import ctypes
 import enum
 import os
-import threading
-import weakref
 from ctypes import POINTER, Structure, byref, c_bool, c_char_p, c_size_t, c_uint8, c_uint32, c_uint64, c_void_p
 from typing import NamedTuple, TypeVar
 
@@ -56,7 +58,10 @@ class Size(NamedTuple):
 
 
 def _load() -> ctypes.CDLL:
-    library = ctypes.CDLL(os.path.join(os.path.dirname(__file__), "libhayro_jbig2.so"))
+    path = os.path.join(os.path.dirname(__file__), "libhayro_jbig2.so")
+    library = ctypes.CDLL(path)
+    # Keeps the GIL, so that one thread at a time uses the handle of globals.
+    setattr(library, "hayro_jbig2_globals_share", ctypes.PyDLL(path).hayro_jbig2_globals_share)
     # The memory, null for malloc and free; then strict.
     made = (c_void_p, c_bool)
     data = (c_char_p, c_size_t)
@@ -65,6 +70,7 @@ def _load() -> ctypes.CDLL:
     arguments = {
         "globals_new": (*made, *data, handle),
         "globals_new_salvaged": (c_void_p, c_uint64, *data, handle),
+        "globals_share": (c_void_p, c_void_p, handle),
         "globals_get_left_out": left_out,
         "globals_free": (c_void_p,),
         "context_new": (c_void_p, handle),
@@ -123,15 +129,19 @@ def _error_or_none(number: int) -> Jbig2Error | None:
 _AnyHandle = TypeVar("_AnyHandle", bound="_Handle")
 
 
-class _Handle:
-    """What the library made, until it is closed or nothing refers to it. It serves one call at a time."""
+class _Handle(c_void_p):
+    """What the library made, until it is closed or nothing refers to it. It serves one call at a time.
+
+    weakref.finalize would free it at exit, where a daemon thread or an atexit handler may still use it, and before the
+    __del__ of what is collected with it.
+    """
 
     def __init__(self, kind: str, *arguments: object, call: str = "new") -> None:
-        made = c_void_p()
-        _check(getattr(_LIBRARY, f"hayro_jbig2_{kind}_{call}")(None, *arguments, byref(made)))
-        self.handle = made
-        self.kind = kind
-        self.close = weakref.finalize(self, getattr(_LIBRARY, f"hayro_jbig2_{kind}_free"), made)
+        super().__init__()
+        self._kind = kind
+        self._free = getattr(_LIBRARY, f"hayro_jbig2_{kind}_free")
+        # The library writes to the object that frees it: a signal handler that raises after the call loses nothing.
+        _check(getattr(_LIBRARY, f"hayro_jbig2_{kind}_{call}")(None, *arguments, byref(self)))
 
     def __enter__(self: _AnyHandle) -> _AnyHandle:
         return self
@@ -139,24 +149,50 @@ class _Handle:
     def __exit__(self, *_: object) -> None:
         self.close()
 
+    def __del__(self) -> None:
+        self.close()
+
+    def close(self) -> None:
+        """Frees it. No other thread may be in a call with it."""
+        address, self.value = self.value, None
+        if address:
+            self._free(address)
+
+    def _opened(self: _AnyHandle) -> _AnyHandle:
+        """Itself, unless it is closed."""
+        if not self:
+            raise ValueError("freed already: its __del__ ran before the one that uses it")
+        return self
+
+    def _call(self, name: str, *arguments: object) -> int:
+        """Calls the library with this handle, and returns what it returns."""
+        number: int = getattr(_LIBRARY, f"hayro_jbig2_{self._kind}_{name}")(self._opened(), *arguments)
+        return number
+
     def _left_out(self) -> LeftOut:
         """What salvage left out of globals, a page or a file."""
         raw = _LeftOut()
-        _check(getattr(_LIBRARY, f"hayro_jbig2_{self.kind}_get_left_out")(self.handle, raw))
+        _check(self._call("get_left_out", raw))
         passed_over = _passed_over(raw.segments, raw.segment, raw.error)
         return LeftOut(passed_over, raw.pages, _error_or_none(raw.page_error), _error_or_none(raw.list_error))
 
 
 class Globals(_Handle):
-    """Segments that embedded pages share, decoded. Whoever makes a page with them holds the lock."""
+    """Segments that embedded pages share, decoded. May be used by several threads at once."""
 
     def __init__(self, data: bytes, reading: Reading) -> None:
-        self.lock = threading.Lock()
         if reading is Reading.SALVAGE:
             super().__init__("globals", _NO_WORK_LIMIT, data, len(data), call="new_salvaged")
         else:
             super().__init__("globals", reading is Reading.STRICT, data, len(data))
         self.left_out = self._left_out()
+
+
+class _OwnGlobals(_Handle):
+    """The same globals in a handle of its own, for a call without the GIL."""
+
+    def __init__(self, globals: Globals) -> None:
+        super().__init__("globals", globals._opened(), call="share")
 
 
 class _Context(_Handle):
@@ -168,10 +204,9 @@ class _Context(_Handle):
     def page(self, size: Size, left_out: LeftOut) -> Page:
         """That page, which has this size, and of whose list of segments this was left out."""
         rows = bytearray((size.width + 7) // 8 * size.height)
-        place = (c_uint8 * len(rows)).from_buffer(rows)
-        _check(_LIBRARY.hayro_jbig2_context_rows(self.handle, 0, place, len(rows)))
+        _check(self._call("rows", 0, byref(c_uint8.from_buffer(rows)), len(rows)))
         raw = _PassedOver()
-        _check(_LIBRARY.hayro_jbig2_context_get_passed_over(self.handle, raw))
+        _check(self._call("get_passed_over", raw))
         passed_over = _passed_over(raw.count, raw.segment, raw.error)
         return Page(*size, memoryview(rows).toreadonly(), passed_over, left_out)
 
@@ -180,24 +215,23 @@ class EmbeddedPage(_Handle):
     """A page as a PDF file keeps it, read but not decoded."""
 
     def __init__(self, stream: bytes, globals: Globals | None, reading: Reading) -> None:
-        inputs = (globals and globals.handle, stream, len(stream))
         # The library keeps a copy of the stream, and what it needs of the globals.
-        with globals.lock if globals else threading.Lock():
-            if reading is Reading.SALVAGE:
-                super().__init__("page", *inputs, call="new_salvaged")
-            else:
-                super().__init__("page", reading is Reading.STRICT, *inputs)
+        own = None if globals is None else _OwnGlobals(globals)
+        if reading is Reading.SALVAGE:
+            super().__init__("page", own, stream, len(stream), call="new_salvaged")
+        else:
+            super().__init__("page", reading is Reading.STRICT, own, stream, len(stream))
         self.left_out = self._left_out()
-        if globals:
+        if globals is not None:
             self.left_out = self.left_out.joined(globals.left_out)
         info = _Info()
-        _check(_LIBRARY.hayro_jbig2_page_get_info(self.handle, info))
+        _check(self._call("get_info", info))
         self.size = Size(info.number, info.width, info.height)
 
     def draw(self) -> Page:
         """Decodes the page."""
         with _Context() as context:
-            _check(_LIBRARY.hayro_jbig2_page_draw(self.handle, context.handle))
+            _check(self._call("draw", context))
             return context.page(self.size, self.left_out)
 
 
@@ -205,23 +239,23 @@ class File(_Handle):
     """A file, read but not decoded."""
 
     def __init__(self, data: bytes, reading: Reading) -> None:
-        # The library borrows it.
+        # The library borrows it until the file is closed.
         self._data = data
         if reading is Reading.SALVAGE:
             super().__init__("file", _NO_WORK_LIMIT, data, len(data), call="new_salvaged")
         else:
             super().__init__("file", reading is Reading.STRICT, data, len(data))
         self.left_out = self._left_out()
-        count = _LIBRARY.hayro_jbig2_file_page_count(self.handle)
+        count = self._call("page_count")
         self.sizes = [self._size(index) for index in range(count)]
 
     def _size(self, index: int) -> Size:
         info = _Info()
-        _check(_LIBRARY.hayro_jbig2_file_get_info(self.handle, index, info))
+        _check(self._call("get_info", index, info))
         return Size(info.number, info.width, info.height)
 
     def draw(self, index: int) -> Page:
         """Decodes the page at an index."""
         with _Context() as context:
-            _check(_LIBRARY.hayro_jbig2_file_draw(self.handle, index, context.handle))
+            _check(self._call("draw", index, context))
             return context.page(self.sizes[index], self.left_out)

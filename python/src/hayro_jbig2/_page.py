@@ -70,6 +70,13 @@ class Page:
     left_out: LeftOut = field(repr=False, compare=False)
     """What salvage left out of the page's list of segments and of its globals, or of its file."""
 
+    def __hash__(self) -> int:
+        return hash((self.number, self.width, self.height, bytes(self.rows)))
+
+    # A memoryview can't be pickled.
+    def __reduce__(self) -> tuple[object, ...]:
+        return _restored, (self.number, self.width, self.height, bytes(self.rows), self.passed_over, self.left_out)
+
     @property
     def row_bytes(self) -> int:
         """How many bytes a row has."""
@@ -85,3 +92,10 @@ class Page:
 
         # In Pillow 1 is white.
         return Image.frombytes("1", (self.width, self.height), bytes(self.rows), "raw", "1;I")
+
+
+def _restored(
+    number: int, width: int, height: int, rows: bytes, passed_over: PassedOver, left_out: LeftOut
+) -> Page:
+    """The page that was pickled or copied."""
+    return Page(number, width, height, memoryview(rows), passed_over, left_out)
