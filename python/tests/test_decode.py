@@ -40,8 +40,6 @@ class Pages(unittest.TestCase):
     def test_any_buffer_is_data(self):
         for data in bytearray(BOOK), memoryview(BOOK), memoryview(BOOK + b"x")[:-1]:
             self.assertEqual(hayro_jbig2.decode(data), hayro_jbig2.decode(BOOK))
-        with self.assertRaises(TypeError):
-            hayro_jbig2.decode("text")
 
     def test_globals(self):
         shared = hayro_jbig2.Globals(GLOBALS)
@@ -113,19 +111,6 @@ class Pages(unittest.TestCase):
             self.assertEqual(lenient.left_out, nothing)
         with self.assertRaises(ValueError):
             hayro_jbig2.decode(BOOK, strict=True, salvage=True)
-
-    def test_an_image_of_pillow(self):
-        try:
-            import PIL
-        except ImportError:
-            self.skipTest("Pillow is not installed")
-        page = hayro_jbig2.decode(BOOK, page=2)
-        image = page.to_image()
-        self.assertEqual((image.mode, image.size), ("1", (37, 8)))
-        for y in range(page.height):
-            for x in range(page.width):
-                black = page.rows[y * 5 + x // 8] << x % 8 & 0x80
-                self.assertEqual(image.getpixel((x, y)), 0 if black else 255)
 
 
 class Errors(unittest.TestCase):

@@ -8,15 +8,28 @@ from __future__ import annotations
 
 import ctypes
 import enum
+import errno
+import operator
 import os
 from ctypes import POINTER, Structure, byref, c_bool, c_char_p, c_size_t, c_uint8, c_uint32, c_uint64, c_void_p
-from typing import NamedTuple, TypeVar
+from typing import TYPE_CHECKING, NamedTuple, TypeVar
 
 from ._page import LeftOut, Page, PassedOver, PassedSegment
-from .errors import Jbig2Error, error_of
+from ._processor import check_processor
+from .errors import Jbig2Error, OutOfMemory, WorkLimitReached, error_of
 
+if TYPE_CHECKING:
+    from typing import Literal, Union
+
+    WorkLimit = Union[int, None, Literal["default"]]
+
+_OUT_OF_MEMORY = 41
 _NO_SUCH_PAGE = 101
 _NO_WORK_LIMIT = 2**64 - 1
+# The limit of work where none is set: more than what scanners write takes (docs/USING.md, "Files that take long").
+_UNITS_FOR_A_PIXEL = 100
+_UNITS_FOR_A_BYTE = 1000
+_UNITS_AT_LEAST = 1 << 24
 
 
 class _Info(Structure):
@@ -58,8 +71,12 @@ class Size(NamedTuple):
 
 
 def _load() -> ctypes.CDLL:
+    check_processor()
     path = os.path.join(os.path.dirname(__file__), "libhayro_jbig2.so")
-    library = ctypes.CDLL(path)
+    try:
+        library = ctypes.CDLL(path, use_errno=True)
+    except OSError as error:
+        raise ImportError(f"the library that pip compiles or installs does not load: {error}") from error
     # Keeps the GIL, so that one thread at a time uses the handle of globals.
     setattr(library, "hayro_jbig2_globals_share", ctypes.PyDLL(path).hayro_jbig2_globals_share)
     # The memory, null for malloc and free; then strict.
@@ -68,12 +85,14 @@ def _load() -> ctypes.CDLL:
     handle = POINTER(c_void_p)
     left_out = (c_void_p, POINTER(_LeftOut))
     arguments = {
-        "globals_new": (*made, *data, handle),
+        "globals_new_within": (*made, c_uint64, *data, handle),
         "globals_new_salvaged": (c_void_p, c_uint64, *data, handle),
         "globals_share": (c_void_p, c_void_p, handle),
         "globals_get_left_out": left_out,
         "globals_free": (c_void_p,),
         "context_new": (c_void_p, handle),
+        "context_set_work_limit": (c_void_p, c_uint64),
+        "context_get_work_left": (c_void_p, POINTER(c_uint64)),
         "context_rows": (c_void_p, c_size_t, POINTER(c_uint8), c_size_t),
         "context_get_passed_over": (c_void_p, POINTER(_PassedOver)),
         "context_free": (c_void_p,),
@@ -83,7 +102,7 @@ def _load() -> ctypes.CDLL:
         "page_get_info": (c_void_p, POINTER(_Info)),
         "page_draw": (c_void_p, c_void_p),
         "page_free": (c_void_p,),
-        "file_new": (*made, *data, handle),
+        "file_new_within": (*made, c_uint64, *data, handle),
         "file_new_salvaged": (c_void_p, c_uint64, *data, handle),
         "file_get_left_out": left_out,
         "file_page_count": (c_void_p,),
@@ -116,6 +135,23 @@ def no_such_page() -> Jbig2Error:
 def _check(number: int) -> None:
     if number != 0:
         raise _error(number)
+
+
+def _units(limit: WorkLimit, usual: int) -> int:
+    """How many units of work are allowed; where no limit is set, as many as usual."""
+    if limit is None:
+        return _NO_WORK_LIMIT
+    if limit == "default":
+        return max(usual, _UNITS_AT_LEAST)
+    units = operator.index(limit)
+    if units < 0:
+        raise ValueError("a limit of work is not negative")
+    return min(units, _NO_WORK_LIMIT)
+
+
+def _work_limit_reached(units: int) -> WorkLimitReached:
+    text = f"the limit of {units} units of work is reached"
+    return WorkLimitReached(text, _OUT_OF_MEMORY, WorkLimitReached.__name__)
 
 
 def _passed_over(count: int, segment: int, error: int) -> PassedOver:
@@ -177,15 +213,31 @@ class _Handle(c_void_p):
         return LeftOut(passed_over, raw.pages, _error_or_none(raw.page_error), _error_or_none(raw.list_error))
 
 
-class Globals(_Handle):
+class _ReadWithin(_Handle):
+    """What is read within a limit of work: globals or a file."""
+
+    def __init__(self, kind: str, data: bytes, reading: Reading, limit: WorkLimit) -> None:
+        units = _units(limit, _UNITS_FOR_A_BYTE * len(data))
+        inputs = (units, data, len(data))
+        ctypes.set_errno(0)
+        try:
+            if reading is Reading.SALVAGE:
+                super().__init__(kind, *inputs, call="new_salvaged")
+            else:
+                super().__init__(kind, reading is Reading.STRICT, *inputs, call="new_within")
+        except OutOfMemory:
+            # The library returns one number for both. Where memory is refused, malloc sets errno.
+            if limit is None or ctypes.get_errno() == errno.ENOMEM:
+                raise
+            raise _work_limit_reached(units) from None
+        self.left_out = self._left_out()
+
+
+class Globals(_ReadWithin):
     """Segments that embedded pages share, decoded. May be used by several threads at once."""
 
-    def __init__(self, data: bytes, reading: Reading) -> None:
-        if reading is Reading.SALVAGE:
-            super().__init__("globals", _NO_WORK_LIMIT, data, len(data), call="new_salvaged")
-        else:
-            super().__init__("globals", reading is Reading.STRICT, data, len(data))
-        self.left_out = self._left_out()
+    def __init__(self, data: bytes, reading: Reading, limit: WorkLimit) -> None:
+        super().__init__("globals", data, reading, limit)
 
 
 class _OwnGlobals(_Handle):
@@ -196,19 +248,30 @@ class _OwnGlobals(_Handle):
 
 
 class _Context(_Handle):
-    """Room to draw in, with the page that was drawn last."""
+    """Room to draw a page of this size in, within a limit of work."""
 
-    def __init__(self) -> None:
+    def __init__(self, size: Size, limit: WorkLimit) -> None:
         super().__init__("context")
+        self._size = size
+        self._units = _units(limit, _UNITS_FOR_A_PIXEL * size.width * size.height)
+        _check(self._call("set_work_limit", self._units))
 
-    def page(self, size: Size, left_out: LeftOut) -> Page:
-        """That page, which has this size, and of whose list of segments this was left out."""
-        rows = bytearray((size.width + 7) // 8 * size.height)
+    def page(self, drawn: int, left_out: LeftOut) -> Page:
+        """The page, of whose list of segments this was left out, where drawing it returned no error."""
+        if drawn == _OUT_OF_MEMORY and self._work_left() == 0:
+            raise _work_limit_reached(self._units)
+        _check(drawn)
+        rows = bytearray((self._size.width + 7) // 8 * self._size.height)
         _check(self._call("rows", 0, byref(c_uint8.from_buffer(rows)), len(rows)))
         raw = _PassedOver()
         _check(self._call("get_passed_over", raw))
         passed_over = _passed_over(raw.count, raw.segment, raw.error)
-        return Page(*size, memoryview(rows).toreadonly(), passed_over, left_out)
+        return Page(*self._size, memoryview(rows).toreadonly(), passed_over, left_out)
+
+    def _work_left(self) -> int:
+        left = c_uint64()
+        _check(self._call("get_work_left", left))
+        return left.value
 
 
 class EmbeddedPage(_Handle):
@@ -228,24 +291,19 @@ class EmbeddedPage(_Handle):
         _check(self._call("get_info", info))
         self.size = Size(info.number, info.width, info.height)
 
-    def draw(self) -> Page:
+    def draw(self, limit: WorkLimit) -> Page:
         """Decodes the page."""
-        with _Context() as context:
-            _check(self._call("draw", context))
-            return context.page(self.size, self.left_out)
+        with _Context(self.size, limit) as context:
+            return context.page(self._call("draw", context), self.left_out)
 
 
-class File(_Handle):
+class File(_ReadWithin):
     """A file, read but not decoded."""
 
-    def __init__(self, data: bytes, reading: Reading) -> None:
+    def __init__(self, data: bytes, reading: Reading, limit: WorkLimit) -> None:
         # The library borrows it until the file is closed.
         self._data = data
-        if reading is Reading.SALVAGE:
-            super().__init__("file", _NO_WORK_LIMIT, data, len(data), call="new_salvaged")
-        else:
-            super().__init__("file", reading is Reading.STRICT, data, len(data))
-        self.left_out = self._left_out()
+        super().__init__("file", data, reading, limit)
         count = self._call("page_count")
         self.sizes = [self._size(index) for index in range(count)]
 
@@ -254,8 +312,7 @@ class File(_Handle):
         _check(self._call("get_info", index, info))
         return Size(info.number, info.width, info.height)
 
-    def draw(self, index: int) -> Page:
+    def draw(self, index: int, limit: WorkLimit) -> Page:
         """Decodes the page at an index."""
-        with _Context() as context:
-            _check(self._call("draw", index, context))
-            return context.page(self.sizes[index], self.left_out)
+        with _Context(self.sizes[index], limit) as context:
+            return context.page(self._call("draw", index, context), self.left_out)
