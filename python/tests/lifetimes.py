@@ -131,8 +131,8 @@ def signals():
 
 def raising_signals():
     """Gives up a call by an exception of a signal handler, as a limit of time does, and looks at the memory."""
-    # An extension of 8 MB, which reading copies.
-    long = TEXT + bytes.fromhex("00000003 3E 00 01") + (8 << 20).to_bytes(4, "big") + bytes(8 << 20)
+    # An extension of 4 MB, which reading copies.
+    long = TEXT + bytes.fromhex("00000003 3E 00 01") + (4 << 20).to_bytes(4, "big") + bytes(4 << 20)
     shared, given_up = hayro_jbig2.Globals(GLOBALS), 0
 
     class TimeIsUp(Exception):
@@ -144,16 +144,16 @@ def raising_signals():
     # Python drops what a handler raises in a __del__.
     sys.unraisablehook = lambda *_: None
     signal.signal(signal.SIGALRM, handle)
-    for round in range(400):
+    for round in range(150):
         try:
             signal.setitimer(signal.ITIMER_REAL, 0.0001 + round % 20 * 0.0002)
             check(lambda data, globals: hayro_jbig2.decode(long, globals=globals), shared)
             signal.setitimer(signal.ITIMER_REAL, 0)
         except TimeIsUp:
             given_up += 1
-    assert given_up > 20, given_up
+    assert given_up > 10, given_up
     most = resource.getrusage(resource.RUSAGE_SELF).ru_maxrss
-    assert most < 200_000, f"{most} KiB"
+    assert most < 120_000, f"{most} KiB"
 
 
 def damaged_inputs():
