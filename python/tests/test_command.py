@@ -15,7 +15,7 @@ from unittest import mock
 
 import hayro_jbig2
 from hayro_jbig2 import __main__ as command
-from pages import EXAMPLE, GLOBALS, TEXT
+from pages import EXAMPLE, GLOBALS, HEADER, TEXT
 from test_limits import WIDE
 
 BOOK = EXAMPLE.read_bytes()
@@ -96,6 +96,10 @@ class Command(unittest.TestCase):
     def test_what_a_page_lacks_is_said(self):
         said = "text: page 0: segment 2 is left out: invalid Huffman code\n"
         self.assertEqual(self.run_command("text", "text.pbm"), (0, "", said))
+        for data in TEXT[:-1], HEADER + TEXT[:-1]:
+            for words in (), ("--salvage",):
+                said = (0, "", "-: the data ends too early\n")
+                self.assertEqual(self.run_command("-", "text.pbm", *words, data=data), said)
         status, _, message = self.run_command("-", "text.pbm", "--salvage", data=TEXT + b" " * 16)
         self.assertEqual(status, 0)
         self.assertIn("-: page 0: the rest is left out: segment refers to an invalid segment\n", message)
@@ -113,8 +117,8 @@ class Command(unittest.TestCase):
             status, _, message = self.run_command(*words)
             self.assertEqual((status, message.count("\n")), (1, 1))
             self.assertIn("No such file", message)
-        for words in (), (EXAMPLE,), (EXAMPLE, "page.jpg"), (EXAMPLE, "page.png", "--work-limit", "-1"):
-            self.assertEqual(self.run_command(*words)[0], 2)
+        for words in "", "text", "text page.jpg", "text page.png --work-limit -1", "text page-{}.png --page 0":
+            self.assertEqual(self.run_command(*words.split())[0], 2, words)
 
     def test_help_is_there(self):
         status, output, message = self.run_command("--help")

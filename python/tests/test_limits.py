@@ -3,6 +3,7 @@
 from __future__ import annotations
 
 import resource
+import struct
 import subprocess
 import sys
 import time
@@ -75,19 +76,21 @@ class Limits(unittest.TestCase):
     def test_want_of_memory_is_told_apart(self):
         # As many dictionaries as don't fit into the memory.
         many = b"".join(number.to_bytes(4, "big") + PATTERNS[4:] for number in range(1, 200))
-        for data, how in (
-            (generic_page(65535, 65535), {}),
-            (generic_page(65535, 65535), {"work_limit": None}),
-            (PAGE, {"globals": many, "work_limit": None}),
-            (HEADER + many.replace(PATTERNS[4:], SHARED_PATTERNS[4:]) + PAGE, {"work_limit": None}),
+        for megabytes, data, how in (
+            (150, generic_page(65535, 65535), {}),
+            (150, generic_page(65535, 65535), {"work_limit": None}),
+            (150, PAGE, {"globals": many, "work_limit": None}),
+            (150, HEADER + many.replace(PATTERNS[4:], SHARED_PATTERNS[4:]) + PAGE, {"work_limit": None}),
+            # Room for a page of 113 MB in the library, and none for its rows here.
+            (230, PAGE[:11] + struct.pack(">II", 30000, 30000) + PAGE[19:], {}),
         ):
             program = f"""import hayro_jbig2
 try:
     hayro_jbig2.decode({data!r}, **{how!r})
 except hayro_jbig2.OutOfMemory as error:
     print(type(error).__name__)"""
-            # 150 MB for the whole process.
-            limits = (150 << 20, 150 << 20)
+            # For the whole process.
+            limits = (megabytes << 20, megabytes << 20)
             run = subprocess.run(
                 [sys.executable, "-c", program],
                 capture_output=True,

@@ -7,7 +7,7 @@ import pathlib
 import sys
 from typing import TYPE_CHECKING, Any
 
-from . import Jbig2Error, Page, __version__, decode, pages, sizes
+from . import Jbig2Error, Page, ParseError, __version__, decode, pages, sizes
 
 if TYPE_CHECKING:
     from collections.abc import Iterable
@@ -66,9 +66,22 @@ def _warnings(page: Page) -> list[str]:
     return warnings
 
 
+def _is_cut_off(data: bytes) -> bool:
+    """Whether the data ends too early, which lenient reading and salvage pass over."""
+    try:
+        sizes(data, strict=True)
+    except ParseError:
+        return True
+    except Jbig2Error:
+        return False
+    return False
+
+
 def _chosen_pages(words: argparse.Namespace) -> Iterable[tuple[int, Page]]:
     """The pages to be written, with their indices."""
     data = sys.stdin.buffer.read() if words.input == "-" else pathlib.Path(words.input).read_bytes()
+    if _is_cut_off(data):
+        print(f"{words.input}: the data ends too early", file=sys.stderr)
     how: dict[str, Any] = {"strict": words.strict, "salvage": words.salvage, "work_limit": words.work_limit}
     if "{}" in words.output:
         return enumerate(pages(data, **how))
@@ -92,6 +105,8 @@ def main() -> int:
     words = parser.parse_args()
     if pathlib.Path(words.output).suffix.lower() not in _WRITERS:
         parser.error("the name of OUT must end in .png or .pbm")
+    if "{}" in words.output and (words.page, words.globals) != (None, None):
+        parser.error("--page and --globals are for one page, without {} in OUT")
     try:
         _write_pages(words)
     except Jbig2Error as error:

@@ -34,9 +34,11 @@ def _read(data: Data) -> bytes:
         return pathlib.Path(data).read_bytes()
     read = getattr(data, "read", None)
     # A file that is mapped into memory is both.
-    if read is None or isinstance(data, mmap.mmap):
+    if read is not None and not isinstance(data, mmap.mmap):
+        data = read()
+        if not isinstance(data, bytes):
+            raise TypeError(f"a file must be open in binary mode, and this one gives {type(data).__name__}")
+    try:
         return bytes(memoryview(data))  # type: ignore[arg-type]
-    content = read()
-    if not isinstance(content, bytes):
-        raise TypeError(f"a file must be open in binary mode, and this one gives {type(content).__name__}")
-    return bytes(memoryview(content))
+    except TypeError:
+        raise TypeError(f"data is bytes, a path or an open file, not {type(data).__name__}") from None

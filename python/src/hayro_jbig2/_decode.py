@@ -23,7 +23,7 @@ class Globals:
     """Segments that several embedded pages share, decoded once: of a PDF file the stream of /JBIG2Globals.
 
     May be used by several threads at once. Raises the first fault of the segments, as `decode` does; with `salvage` no
-    fault of theirs, and `left_out` tells what they lack.
+    fault of theirs, and `left_out` tells what they lack. `work_limit` is how many units of work they may take.
     """
 
     def __init__(

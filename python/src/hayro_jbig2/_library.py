@@ -1,7 +1,7 @@
 """The calls of the shared library, as c/hayro_jbig2.h declares them. ctypes gives up the GIL during each but one.
 
-Signal handlers and finalizers, which may decode too, run before a call or after it, and never in the middle of one. No
-lock is held here, so none of them waits for what it has interrupted.
+Signal handlers and finalizers, which may decode too, run before a call of their thread or after it, and never in the
+middle of one. No lock is held here, so none of them waits for what it has interrupted.
 """
 
 from __future__ import annotations
@@ -261,7 +261,10 @@ class _Context(_Handle):
         if drawn == _OUT_OF_MEMORY and self._work_left() == 0:
             raise _work_limit_reached(self._units)
         _check(drawn)
-        rows = bytearray((self._size.width + 7) // 8 * self._size.height)
+        try:
+            rows = bytearray((self._size.width + 7) // 8 * self._size.height)
+        except MemoryError:
+            raise _error(_OUT_OF_MEMORY) from None
         _check(self._call("rows", 0, byref(c_uint8.from_buffer(rows)), len(rows)))
         raw = _PassedOver()
         _check(self._call("get_passed_over", raw))

@@ -4,8 +4,8 @@ from __future__ import annotations
 
 import platform
 
-# Of the level x86-64-v2, as /proc/cpuinfo names them.
-_NEEDED = {"cx16", "lahf_lm", "pni", "popcnt", "sse4_1", "sse4_2", "ssse3"}
+# What a compiler uses of the level x86-64-v2, by the names of /proc/cpuinfo.
+_NEEDED = {"pni", "popcnt", "sse4_1", "sse4_2", "ssse3"}
 
 
 def check_processor() -> None:
