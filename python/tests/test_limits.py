@@ -33,7 +33,7 @@ class Limits(unittest.TestCase):
             [_] = hayro_jbig2.sizes(WIDE, **how)
             with self.assertRaises(hayro_jbig2.WorkLimitReached):
                 next(hayro_jbig2.pages(HEADER + WIDE, **how))
-        self.assertLess(time.monotonic() - before, 2)
+        self.assertLess(time.monotonic() - before, 10)
         self.assertIsInstance(caught.exception, hayro_jbig2.OutOfMemory)
         self.assertEqual(str(caught.exception), "the limit of 16777216 units of work is reached")
         self.assertEqual((caught.exception.number, caught.exception.variant), (41, "WorkLimitReached"))
