@@ -105,7 +105,7 @@ class Page:
         chunks = _chunk(b"IHDR", header) + _chunk(b"IDAT", zlib.compress(lines)) + _chunk(b"IEND", b"")
         return b"\x89PNG\r\n\x1a\n" + chunks
 
-    # Only numpy calls this, so it is there.
+    # numpy calls this, so it is installed.
     def __array__(self, dtype: Any = None, copy: bool | None = None) -> Any:
         import numpy
 
