@@ -73,7 +73,7 @@ class Limits(unittest.TestCase):
         with self.assertRaises(hayro_jbig2.WorkLimitReached):
             hayro_jbig2.decode(data, work_limit=4_000_000)
 
-    def test_want_of_memory_is_told_apart(self):
+    def test_want_of_memory_is_another_error(self):
         # As many dictionaries as don't fit into the memory.
         many = b"".join(number.to_bytes(4, "big") + PATTERNS[4:] for number in range(1, 200))
         for megabytes, data, how in (

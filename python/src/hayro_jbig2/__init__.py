@@ -6,9 +6,9 @@
     (64, 56)
     >>> png = page.to_png()
 
-`decode` returns one page, `pages` all pages of a file, `sizes` their sizes alone. With `salvage=True` they read what they
-can of damaged data. `python -m hayro_jbig2 IN OUT` writes pages as pictures. `hayro_jbig2.pillow` opens files by Pillow,
-and `hayro_jbig2.pikepdf` is pikepdf's decoder.
+`decode` returns one page, `pages` all pages of a file, `sizes` their sizes alone. With `salvage=True` they read what
+they can of damaged data. `python -m hayro_jbig2 IN OUT` writes pages as pictures. `hayro_jbig2.pillow` opens files by
+Pillow, and `hayro_jbig2.pikepdf` is pikepdf's decoder.
 
 The exceptions, which are in `hayro_jbig2.errors`, and here too:
 

@@ -20,7 +20,7 @@ _WRITERS = {".pbm": Page.to_pbm, ".png": Page.to_png}
 def _parser() -> argparse.ArgumentParser:
     parser = argparse.ArgumentParser(
         prog="python -m hayro_jbig2",
-        description="Writes a page of a JBIG2 file, or of the data of a PDF image, as a picture of the format PNG or PBM.",
+        description="Writes a page of a JBIG2 file, or of the data of a PDF image, as a picture, PNG or PBM.",
         epilog="Status 0: written. 1: the input can't be decoded, or a file can't be read or written. 2: wrong usage.",
     )
     parser.add_argument("input", metavar="IN", help="the file; - is standard input")

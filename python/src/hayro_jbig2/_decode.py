@@ -55,8 +55,8 @@ def decode(
 
     A lenient decoder passes over a segment that is cut off, an immediate region that fails, and an extension that it
     should understand; with `strict` the first fault is raised. With `salvage`, for viewers of damaged files, whatever a
-    lenient decoder refuses is left out, and `Page.left_out` and `Page.passed_over` tell what: only a page without a size
-    and a damaged file header are raised.
+    lenient decoder refuses is left out, and `Page.left_out` and `Page.passed_over` tell what: only a page without a
+    size and a damaged file header are raised.
 
     `work_limit` is how many units of work the page may take, and as many again what it shares with other pages; None is
     no limit. A unit is about a pixel that is decoded, cleared or combined. The default is 100 for each pixel of the

@@ -5,9 +5,9 @@
 
     image = Image.open("scan.jb2")
 
-The pages are frames of mode "1", which `seek` chooses. They are read leniently, within the default limit of work. Once a
-page is loaded, `info["passed_over"]` is how many of its segments were passed over: it lacks what these draw. A fault of
-the data is an OSError.
+The pages are frames of mode "1", which `seek` chooses. They are read leniently, within the default limit of work. Once
+a page is loaded, `info["passed_over"]` is how many of its segments were passed over: it lacks what these draw. A fault
+of the data is an OSError.
 """
 
 from __future__ import annotations
