@@ -26,3 +26,16 @@ def run_program(*words: str) -> tuple[int, bytes, str]:
     assert PROGRAM is not None
     run = subprocess.run([PROGRAM, *words], capture_output=True, check=False)
     return run.returncode, run.stdout, run.stderr.decode()
+
+
+def generic_page(width: int, height: int) -> bytes:
+    """A page that a generic region of no bytes fills: the larger, the longer it takes."""
+    size = width.to_bytes(4, "big") + height.to_bytes(4, "big")
+    return (
+        bytes.fromhex("00000000 30 00 01 00000013")
+        + size
+        + bytes(11)
+        + bytes.fromhex("00000001 26 00 01 0000001A")
+        + size
+        + bytes.fromhex("000000000000000000 00 03FFFDFF02FEFEFE")
+    )

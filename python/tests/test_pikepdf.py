@@ -13,6 +13,7 @@ from pikepdf import jbig2
 
 import hayro_jbig2.pikepdf
 from pages import GLOBALS, HEADER, ROOT, TEXT
+from test_limits import WIDE
 
 sys.path.insert(0, str(ROOT / "comparison"))
 from pdf import pdf_of  # noqa: E402
@@ -67,6 +68,13 @@ class Images(unittest.TestCase):
         page = hayro_jbig2.decode(TEXT, globals=GLOBALS)
         rows = jbig2.get_decoder().decode_jbig2(TEXT + b" " * 16, GLOBALS + b" " * 16)
         self.assertEqual(rows, bytes(255 - byte for byte in page.rows))
+
+    def test_hostile_images_are_refused(self):
+        self.addCleanup(hayro_jbig2.pikepdf.install)
+        for how in {}, {"work_limit": 1 << 20}:
+            hayro_jbig2.pikepdf.install(**how)
+            with self.assertRaises(hayro_jbig2.WorkLimitReached):
+                jbig2.get_decoder().decode_jbig2(WIDE, b"")
 
     def test_a_fault_is_an_exception(self):
         hayro_jbig2.pikepdf.install()

@@ -2,15 +2,18 @@
 
 from __future__ import annotations
 
+import operator
 from collections.abc import Iterator
 from typing import TYPE_CHECKING
 
 from . import _library
+from ._data import bytes_of
 from ._library import Reading, Size
 from ._page import LeftOut, Page
 
 if TYPE_CHECKING:
-    from _typeshed import ReadableBuffer
+    from ._data import Data
+    from ._library import WorkLimit
 
 # What the identification of a file begins with (T.88, D.4.1). The rest of it tells files that were damaged on the way.
 _BEGINNING = b"\x97JB2"
@@ -20,11 +23,13 @@ class Globals:
     """Segments that several embedded pages share, decoded once: of a PDF file the stream of /JBIG2Globals.
 
     May be used by several threads at once. Raises the first fault of the segments, as `decode` does; with `salvage` no
-    fault of theirs, and `left_out` tells what they lack.
+    fault of theirs, and `left_out` tells what they lack. `work_limit` is how many units of work they may take.
     """
 
-    def __init__(self, data: ReadableBuffer, *, strict: bool = False, salvage: bool = False) -> None:
-        self._inner = _library.Globals(_bytes_of(data), _reading(strict, salvage))
+    def __init__(
+        self, data: Data, *, strict: bool = False, salvage: bool = False, work_limit: WorkLimit = "default"
+    ) -> None:
+        self._inner = _library.Globals(bytes_of(data), _reading(strict, salvage), work_limit)
 
     @property
     def left_out(self) -> LeftOut:
@@ -33,56 +38,69 @@ class Globals:
 
 
 def decode(
-    data: ReadableBuffer,
+    data: Data,
     *,
-    globals: ReadableBuffer | Globals | None = None,
+    globals: Data | Globals | None = None,
     page: int = 0,
     strict: bool = False,
     salvage: bool = False,
+    work_limit: WorkLimit = "default",
 ) -> Page:
     """Decodes one page.
 
-    `data` is a whole file, of which `page` is an index from 0, or an embedded page: the bytes of a /JBIG2Decode stream
-    of a PDF file. `globals` are then the bytes of its /JBIG2Globals stream, or `Globals` made of them. Data that begins
-    as a file does, with the bytes 97 4A 42 32, is a file, unless there are globals.
+    `data` is bytes, the path of a file, or a file that is open in binary mode. It is a whole file, of which `page` is
+    an index from 0, or an embedded page: the bytes of a /JBIG2Decode stream of a PDF file. `globals` are then the bytes
+    of its /JBIG2Globals stream, or `Globals` made of them. Data that begins as a file does, with the bytes 97 4A 42 32,
+    is a file, unless there are globals.
 
     A lenient decoder passes over a segment that is cut off, an immediate region that fails, and an extension that it
     should understand; with `strict` the first fault is raised. With `salvage`, for viewers of damaged files, whatever a
-    lenient decoder refuses is left out, and `Page.left_out` and `Page.passed_over` tell what: only a page without a size
-    and a damaged file header are raised.
+    lenient decoder refuses is left out, and `Page.left_out` and `Page.passed_over` tell what: only a page without a
+    size and a damaged file header are raised.
 
-    Raises `DecodeError` for a fault of the data, `NoSuchPage` (an IndexError) for a page that the file hasn't, and
-    `OutOfMemory` (a MemoryError).
+    `work_limit` is how many units of work the page may take, and as many again what it shares with other pages; None is
+    no limit. A unit is about a pixel that is decoded, cleared or combined. The default is 100 for each pixel of the
+    page, 1000 for each byte of what is shared, and 2**24 at least: more than what scanners write takes.
+
+    Raises `DecodeError` for a fault of the data, `NoSuchPage` (an IndexError) for a page that the file hasn't,
+    `WorkLimitReached`, and `OutOfMemory` (a MemoryError).
     """
-    data, reading = _bytes_of(data), _reading(strict, salvage)
-    if globals is None and data.startswith(_BEGINNING):
-        with _library.File(data, reading) as file:
-            return _page_of(file, page)
+    content, reading, page = bytes_of(data), _reading(strict, salvage), operator.index(page)
+    if globals is None and content.startswith(_BEGINNING):
+        with _library.File(content, reading, work_limit) as file:
+            return _page_of(file, page, work_limit)
     if page != 0:
         raise _library.no_such_page()
     if globals is not None and not isinstance(globals, Globals):
-        globals = Globals(globals, strict=strict, salvage=salvage)
+        globals = Globals(globals, strict=strict, salvage=salvage, work_limit=work_limit)
     inner = None if globals is None else globals._inner
-    with _library.EmbeddedPage(data, inner, reading) as embedded:
-        return embedded.draw()
+    with _library.EmbeddedPage(content, inner, reading) as embedded:
+        return embedded.draw(work_limit)
 
 
-def pages(data: ReadableBuffer, *, strict: bool = False, salvage: bool = False) -> Iterator[Page]:
-    """All pages of a file in order, each decoded when it is asked for.
+def pages(
+    data: Data, *, strict: bool = False, salvage: bool = False, work_limit: WorkLimit = "default"
+) -> Iterator[Page]:
+    """All pages of a file in order, each decoded when it is asked for. The limit of work is that of each page.
 
     Raises as `decode` does: the first fault of the file at once, that of a page when it is asked for.
     """
-    file = _library.File(_bytes_of(data), _reading(strict, salvage))
-    return _pages_of(file)
+    file = _library.File(bytes_of(data), _reading(strict, salvage), work_limit)
+    return _pages_of(file, work_limit)
 
 
-def sizes(data: ReadableBuffer, *, strict: bool = False, salvage: bool = False) -> list[Size]:
-    """Number, width and height of each page of a file or of an embedded page, none of which is decoded."""
-    data, reading = _bytes_of(data), _reading(strict, salvage)
-    if data.startswith(_BEGINNING):
-        with _library.File(data, reading) as file:
+def sizes(
+    data: Data, *, strict: bool = False, salvage: bool = False, work_limit: WorkLimit = "default"
+) -> list[Size]:
+    """Number, width and height of each page of a file or of an embedded page, none of which is decoded.
+
+    What the pages of a file share is decoded, within the limit of work.
+    """
+    content, reading = bytes_of(data), _reading(strict, salvage)
+    if content.startswith(_BEGINNING):
+        with _library.File(content, reading, work_limit) as file:
             return file.sizes
-    with _library.EmbeddedPage(data, None, reading) as embedded:
+    with _library.EmbeddedPage(content, None, reading) as embedded:
         return [embedded.size]
 
 
@@ -92,18 +110,13 @@ def _reading(strict: bool, salvage: bool) -> Reading:
     return Reading.SALVAGE if salvage else Reading.STRICT if strict else Reading.LENIENT
 
 
-def _pages_of(file: _library.File) -> Iterator[Page]:
+def _pages_of(file: _library.File, work_limit: WorkLimit) -> Iterator[Page]:
     with file:
         for index in range(len(file.sizes)):
-            yield _page_of(file, index)
+            yield _page_of(file, index, work_limit)
 
 
-def _page_of(file: _library.File, index: int) -> Page:
+def _page_of(file: _library.File, index: int, work_limit: WorkLimit) -> Page:
     if not 0 <= index < len(file.sizes):
         raise _library.no_such_page()
-    return file.draw(index)
-
-
-def _bytes_of(data: ReadableBuffer) -> bytes:
-    """Bytes that nobody changes while they are decoded."""
-    return data if isinstance(data, bytes) else bytes(memoryview(data))
+    return file.draw(index, work_limit)

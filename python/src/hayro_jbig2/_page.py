@@ -2,13 +2,20 @@
 
 from __future__ import annotations
 
+import struct
+import zlib
 from dataclasses import dataclass, field, replace
 from typing import TYPE_CHECKING
 
 if TYPE_CHECKING:
+    from typing import Any
+
     from PIL import Image
 
     from .errors import Jbig2Error
+
+# PNG files, PDF files and Pillow have 1 for white.
+INVERTED = bytes(range(255, -1, -1))
 
 
 @dataclass(frozen=True)
@@ -55,6 +62,8 @@ class Page:
 
     `rows` are its packed rows from the top, without a copy: a bit for each pixel, 1 is black, the leftmost the highest
     of its byte. A row has `row_bytes` bytes, whose last bits are 0 after the width. That is the form of PBM.
+
+    For numpy a page is an array of its height and width, True where it is black: `numpy.asarray(page)`.
     """
 
     number: int
@@ -70,6 +79,13 @@ class Page:
     left_out: LeftOut = field(repr=False, compare=False)
     """What salvage left out of the page's list of segments and of its globals, or of its file."""
 
+    def __hash__(self) -> int:
+        return hash((self.number, self.width, self.height, bytes(self.rows)))
+
+    # A memoryview can't be pickled.
+    def __reduce__(self) -> tuple[object, ...]:
+        return _restored, (self.number, self.width, self.height, bytes(self.rows), self.passed_over, self.left_out)
+
     @property
     def row_bytes(self) -> int:
         """How many bytes a row has."""
@@ -79,9 +95,40 @@ class Page:
         """The page as a file of the PBM format (P4)."""
         return b"P4\n%d %d\n" % (self.width, self.height) + self.rows
 
+    def to_png(self) -> bytes:
+        """The page as a file of the PNG format, of one bit for each pixel."""
+        white = bytes(self.rows).translate(INVERTED)
+        # Each row begins with its filter: none.
+        starts = range(0, len(white), self.row_bytes)
+        lines = b"".join(b"\0" + white[start : start + self.row_bytes] for start in starts)
+        header = struct.pack(">IIBBBBB", self.width, self.height, 1, 0, 0, 0, 0)
+        chunks = _chunk(b"IHDR", header) + _chunk(b"IDAT", zlib.compress(lines)) + _chunk(b"IEND", b"")
+        return b"\x89PNG\r\n\x1a\n" + chunks
+
+    # numpy calls this, so it is installed.
+    def __array__(self, dtype: Any = None, copy: bool | None = None) -> Any:
+        import numpy
+
+        if copy is False:
+            raise ValueError("a page has a bit for each pixel, so an array of it is a copy")
+        rows = numpy.frombuffer(self.rows, numpy.uint8).reshape(self.height, self.row_bytes)
+        array = numpy.unpackbits(rows, axis=1, count=self.width).view(numpy.bool_)
+        return array if dtype is None else array.astype(dtype, copy=False)
+
     def to_image(self) -> Image.Image:
         """The page as an image of Pillow, of mode "1". Raises ImportError where Pillow isn't installed."""
         from PIL import Image
 
-        # In Pillow 1 is white.
         return Image.frombytes("1", (self.width, self.height), bytes(self.rows), "raw", "1;I")
+
+
+def _chunk(name: bytes, content: bytes) -> bytes:
+    """A part of a PNG file."""
+    return struct.pack(">I", len(content)) + name + content + struct.pack(">I", zlib.crc32(name + content))
+
+
+def _restored(
+    number: int, width: int, height: int, rows: bytes, passed_over: PassedOver, left_out: LeftOut
+) -> Page:
+    """The page that was pickled or copied."""
+    return Page(number, width, height, memoryview(rows), passed_over, left_out)

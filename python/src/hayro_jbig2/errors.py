@@ -63,6 +63,10 @@ class OutOfMemory(Jbig2Error, MemoryError):
     """A request for memory was refused."""
 
 
+class WorkLimitReached(OutOfMemory):
+    """More work than the limit of work allows. The library has the number of `OutOfMemory` for this."""
+
+
 class NoSuchPage(Jbig2Error, IndexError):
     """The file has no page at this index."""
 

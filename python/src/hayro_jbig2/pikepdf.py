@@ -9,14 +9,16 @@ After that pikepdf decodes the JBIG2 images of all PDF files by this package.
 from __future__ import annotations
 
 from functools import lru_cache
+from typing import TYPE_CHECKING
 
 from pikepdf import jbig2
 from pikepdf.jbig2 import JBIG2DecoderInterface
 
 from . import Globals, decode
+from ._page import INVERTED
 
-# A PDF image has 1 for white.
-_INVERTED = bytes(range(255, -1, -1))
+if TYPE_CHECKING:
+    from ._library import WorkLimit
 
 # The images of a document share their globals.
 _globals_of = lru_cache(maxsize=4)(Globals)
@@ -28,19 +30,23 @@ class Decoder(JBIG2DecoderInterface):
     def check_available(self) -> None:
         """Returns: the decoder is a part of this package."""
 
-    def __init__(self, salvage: bool = False) -> None:
+    def __init__(self, salvage: bool = False, work_limit: WorkLimit = "default") -> None:
         self._salvage = salvage
+        self._work_limit = work_limit
 
     def decode_jbig2(self, jbig2: bytes, jbig2_globals: bytes) -> bytes:
         """Decodes an image to packed rows in which 1 is white, as a PDF image has them."""
-        globals = _globals_of(jbig2_globals or b"", salvage=self._salvage)
-        page = decode(jbig2, globals=globals, salvage=self._salvage)
-        return bytes(page.rows).translate(_INVERTED)
+        globals = _globals_of(jbig2_globals or b"", salvage=self._salvage, work_limit=self._work_limit)
+        page = decode(jbig2, globals=globals, salvage=self._salvage, work_limit=self._work_limit)
+        return bytes(page.rows).translate(INVERTED)
 
 
-def install(*, salvage: bool = False) -> None:
-    """Makes pikepdf use this decoder in this process. With `salvage` it draws what it can of damaged images."""
-    decoder = Decoder(salvage)
+def install(*, salvage: bool = False, work_limit: WorkLimit = "default") -> None:
+    """Makes pikepdf use this decoder in this process. With `salvage` it draws what it can of damaged images.
+
+    The limit of work is that of `hayro_jbig2.decode`, for each image.
+    """
+    decoder = Decoder(salvage, work_limit)
     if hasattr(jbig2, "set_decoder"):
         jbig2.set_decoder(decoder)
     else:

@@ -1,0 +1,122 @@
+"""python -m hayro_jbig2: writes pages of a JBIG2 file as pictures."""
+
+from __future__ import annotations
+
+import argparse
+import pathlib
+import sys
+from typing import TYPE_CHECKING, Any
+
+from . import Jbig2Error, Page, ParseError, __version__, decode, pages, sizes
+
+if TYPE_CHECKING:
+    from collections.abc import Iterable
+
+    from ._library import WorkLimit
+
+_WRITERS = {".pbm": Page.to_pbm, ".png": Page.to_png}
+
+
+def _parser() -> argparse.ArgumentParser:
+    parser = argparse.ArgumentParser(
+        prog="python -m hayro_jbig2",
+        description="Writes a page of a JBIG2 file, or of the data of a PDF image, as a picture, PNG or PBM.",
+        epilog="Status 0: written. 1: the input can't be decoded, or a file can't be read or written. 2: wrong usage.",
+    )
+    parser.add_argument("input", metavar="IN", help="the file; - is standard input")
+    parser.add_argument(
+        "output", metavar="OUT", help="the picture, .png or .pbm; with {} in its name all pages, numbered from 0"
+    )
+    parser.add_argument("--page", metavar="INDEX", type=int, help="which page, from 0 (default: 0)")
+    parser.add_argument("--globals", metavar="FILE", help="what IN shares with other images of its PDF file")
+    reading = parser.add_mutually_exclusive_group()
+    reading.add_argument("--strict", action="store_true", help="refuse whatever is damaged")
+    reading.add_argument("--salvage", action="store_true", help="draw what is left of damaged data")
+    parser.add_argument(
+        "--work-limit",
+        metavar="UNITS",
+        type=_work_limit,
+        default="default",
+        help="how much work a page may take, or none (default: 100 for each pixel, and 2^24 at least)",
+    )
+    parser.add_argument("--version", action="version", version=__version__)
+    return parser
+
+
+def _work_limit(word: str) -> WorkLimit:
+    if word in ("default", "none"):
+        return "default" if word == "default" else None
+    if not word.isdecimal():
+        raise argparse.ArgumentTypeError("a number of units, or none")
+    return int(word)
+
+
+def _warnings(page: Page) -> list[str]:
+    """What the page lacks."""
+    warnings = []
+    for passed in page.passed_over, page.left_out.passed_over:
+        if passed.first:
+            number = passed.first.segment_number
+            which = f"segment {number} is" if passed.count == 1 else f"{passed.count} segments, from {number} on, are"
+            warnings.append(f"{which} left out: {passed.first.error}")
+    if page.left_out.pages:
+        warnings.append(f"pages of the file are left out, {page.left_out.pages} of them: {page.left_out.first_page}")
+    if page.left_out.rest:
+        warnings.append(f"the rest is left out: {page.left_out.rest}")
+    return warnings
+
+
+def _is_cut_off(data: bytes) -> bool:
+    """Whether the data ends too early, which lenient reading and salvage pass over."""
+    try:
+        sizes(data, strict=True)
+    except ParseError:
+        return True
+    except Jbig2Error:
+        return False
+    return False
+
+
+def _chosen_pages(words: argparse.Namespace) -> Iterable[tuple[int, Page]]:
+    """The pages to be written, with their indices."""
+    data = sys.stdin.buffer.read() if words.input == "-" else pathlib.Path(words.input).read_bytes()
+    if _is_cut_off(data):
+        print(f"{words.input}: the data ends too early", file=sys.stderr)
+    how: dict[str, Any] = {"strict": words.strict, "salvage": words.salvage, "work_limit": words.work_limit}
+    if "{}" in words.output:
+        return enumerate(pages(data, **how))
+    if words.page is None and words.globals is None and len(sizes(data, **how)) > 1:
+        print(f"{words.input}: only the first of several pages is written", file=sys.stderr)
+    index = words.page or 0
+    return [(index, decode(data, globals=words.globals, page=index, **how))]
+
+
+def _write_pages(words: argparse.Namespace) -> None:
+    for index, page in _chosen_pages(words):
+        for warning in _warnings(page):
+            print(f"{words.input}: page {index}: {warning}", file=sys.stderr)
+        output = pathlib.Path(words.output.replace("{}", str(index)))
+        output.write_bytes(_WRITERS[output.suffix.lower()](page))
+
+
+def main() -> int:
+    """Runs the command, and returns its status."""
+    parser = _parser()
+    words = parser.parse_args()
+    if pathlib.Path(words.output).suffix.lower() not in _WRITERS:
+        parser.error("the name of OUT must end in .png or .pbm")
+    if "{}" in words.output and (words.page, words.globals) != (None, None):
+        parser.error("--page and --globals are for one page, without {} in OUT")
+    try:
+        _write_pages(words)
+    except Jbig2Error as error:
+        print(f"{words.input}: {error}", file=sys.stderr)
+    except OSError as error:
+        print(error, file=sys.stderr)
+    else:
+        return 0
+    return 1
+
+
+if __name__ == "__main__":
+    sys.exit(main())

@@ -1,0 +1,91 @@
+"""JBIG2 files as images of Pillow.
+
+    import hayro_jbig2.pillow
+    from PIL import Image
+
+    image = Image.open("scan.jb2")
+
+The pages are frames of mode "1", which `seek` chooses. They are read leniently, within the default limit of work. Once
+a page is loaded, `info["passed_over"]` is how many of its segments were passed over: it lacks what these draw. A fault
+of the data is an OSError.
+"""
+
+from __future__ import annotations
+
+from typing import Any
+
+from PIL import Image, ImageFile
+
+from . import DecodeError, decode, sizes
+
+_IDENTIFICATION = b"\x97JB2\r\n\x1a\n"
+
+
+class Jbig2ImageFile(ImageFile.ImageFile):
+    """A JBIG2 file, of which a page is decoded when it is loaded."""
+
+    format = "JBIG2"
+    format_description = "JBIG2 (ITU-T T.88)"
+    # Of an image that was pickled, which is the page alone.
+    n_frames, is_animated = 1, False
+    _frame, _loaded = 0, True
+    # Older versions of Pillow have no types.
+    fp: Any
+    info: Any
+    tile: Any
+
+    def _open(self) -> None:
+        self._data = self.fp.read()
+        if not self._data.startswith(_IDENTIFICATION):
+            raise SyntaxError("not a JBIG2 file")
+        try:
+            self._sizes = sizes(self._data)
+        except DecodeError as error:
+            raise OSError(str(error)) from error
+        if not self._sizes:
+            raise OSError("a JBIG2 file without pages")
+        self.n_frames = len(self._sizes)
+        self.is_animated = self.n_frames > 1
+        # Where Pillow has a property for it, the mode is written by another name.
+        setattr(self, "_mode" if hasattr(Image.Image, "mode") else "mode", "1")
+        # Nothing for Pillow's own decoders.
+        self.tile = []
+        self._show(0)
+
+    def seek(self, frame: int) -> None:
+        """Chooses a page, from 0. Raises EOFError where there is none."""
+        if self._seek_check(frame):
+            self._show(frame)
+
+    def tell(self) -> int:
+        """The index of the page."""
+        return self._frame
+
+    def load(self) -> Any:
+        """Decodes the page, unless that is done."""
+        if not self._loaded:
+            try:
+                page = decode(self._data, page=self._frame)
+            except DecodeError as error:
+                raise OSError(str(error)) from error
+            self.im = page.to_image().im
+            self.info["passed_over"] = page.passed_over.count
+            self._loaded = True
+            # Its bytes are all there, and nothing else reads it.
+            if self._exclusive_fp and self.fp:
+                self.fp.close()
+                self.fp = None
+        return super().load()
+
+    def _show(self, frame: int) -> None:
+        self._frame, self._loaded = frame, False
+        self._size = self._sizes[frame][1:]
+        self.info = {}
+
+
+def _accept(prefix: bytes) -> bool:
+    return prefix.startswith(_IDENTIFICATION)
+
+
+Image.register_open(Jbig2ImageFile.format, Jbig2ImageFile, _accept)
+Image.register_extensions(Jbig2ImageFile.format, [".jb2", ".jbig2"])

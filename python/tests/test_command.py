@@ -1,0 +1,131 @@
+"""python -m hayro_jbig2."""
+
+from __future__ import annotations
+
+import contextlib
+import io
+import os
+import pathlib
+import subprocess
+import sys
+import tempfile
+import unittest
+import zlib
+from unittest import mock
+
+import hayro_jbig2
+from hayro_jbig2 import __main__ as command
+from pages import EXAMPLE, GLOBALS, HEADER, TEXT
+from test_limits import WIDE
+
+BOOK = EXAMPLE.read_bytes()
+PNG = b"\x89PNG\r\n\x1a\n"
+
+
+def rows_of_png(data):
+    """Width, height and packed rows of a PNG file as this package writes it, 1 for black."""
+    assert data.startswith(PNG)
+    chunks, place = {}, len(PNG)
+    while place < len(data):
+        length, name = int.from_bytes(data[place : place + 4], "big"), data[place + 4 : place + 8]
+        content = data[place + 8 : place + 8 + length]
+        place += length + 12
+        assert data[place - 4 : place] == zlib.crc32(name + content).to_bytes(4, "big")
+        chunks[name] = content
+    assert list(chunks) == [b"IHDR", b"IDAT", b"IEND"]
+    width, height, form = (int.from_bytes(chunks[b"IHDR"][at : at + 4], "big") for at in (0, 4, 8))
+    assert (form, chunks[b"IHDR"][12:]) == (1 << 24, b"\0"), chunks
+    lines, length = zlib.decompress(chunks[b"IDAT"]), (width + 7) // 8 + 1
+    assert len(lines) == length * height and not any(lines[::length])
+    starts = range(1, len(lines), length)
+    rows = b"".join(lines[start : start + length - 1] for start in starts)
+    return width, height, bytes(255 - byte for byte in rows)
+
+
+class Command(unittest.TestCase):
+    def setUp(self):
+        folder = tempfile.TemporaryDirectory()
+        self.addCleanup(folder.cleanup)
+        self.addCleanup(os.chdir, os.getcwd())
+        self.folder = pathlib.Path(folder.name)
+        os.chdir(self.folder)
+        for name, content in ("text", TEXT), ("globals", GLOBALS), ("wide", WIDE), ("pdf", b"%PDF-1.7\n"):
+            (self.folder / name).write_bytes(content)
+
+    def run_command(self, *words, data=b""):
+        """Status, output and messages."""
+        output, messages = io.StringIO(), io.StringIO()
+        with contextlib.ExitStack() as stack:
+            stack.enter_context(mock.patch.object(sys, "argv", ["hayro_jbig2", *map(str, words)]))
+            stack.enter_context(mock.patch.object(sys, "stdin", io.TextIOWrapper(io.BytesIO(data))))
+            stack.enter_context(contextlib.redirect_stdout(output))
+            stack.enter_context(contextlib.redirect_stderr(messages))
+            try:
+                status = command.main()
+            except SystemExit as end:
+                status = end.code
+        return status, output.getvalue(), messages.getvalue()
+
+    def test_it_is_a_command(self):
+        words = [sys.executable, "-m", "hayro_jbig2"]
+        run = subprocess.run([*words, EXAMPLE, "page.pbm", "--page", "1"], capture_output=True, check=False)
+        self.assertEqual((run.returncode, run.stdout, run.stderr), (0, b"", b""))
+        self.assertEqual((self.folder / "page.pbm").read_bytes(), hayro_jbig2.decode(BOOK, page=1).to_pbm())
+        run = subprocess.run([*words, "wide", "page.pbm"], capture_output=True, check=False)
+        self.assertEqual((run.returncode, run.stderr), (1, b"wide: the limit of 16777216 units of work is reached\n"))
+
+    def test_pages_are_written(self):
+        first, second, third = hayro_jbig2.pages(BOOK)
+        note = f"{EXAMPLE}: only the first of several pages is written\n"
+        self.assertEqual(self.run_command(EXAMPLE, "page.png"), (0, "", note))
+        written = rows_of_png((self.folder / "page.png").read_bytes())
+        self.assertEqual(written, (first.width, first.height, bytes(first.rows)))
+        self.assertEqual(self.run_command("-", "PAGE.PBM", "--page", "2", data=BOOK), (0, "", ""))
+        self.assertEqual((self.folder / "PAGE.PBM").read_bytes(), third.to_pbm())
+        self.assertEqual(self.run_command(EXAMPLE, "page-{}.png"), (0, "", ""))
+        for index, page in enumerate((first, second, third)):
+            self.assertEqual((self.folder / f"page-{index}.png").read_bytes(), page.to_png())
+        self.assertEqual(self.run_command("text", "text.pbm", "--globals", "globals"), (0, "", ""))
+        self.assertEqual((self.folder / "text.pbm").read_bytes(), b"P4\n8 1\n\x80")
+
+    def test_bits_after_the_width_are_white(self):
+        page = hayro_jbig2.decode(BOOK, page=2)
+        width, height, rows = rows_of_png(page.to_png())
+        self.assertEqual((width, height, rows), (37, 8, bytes(page.rows)))
+
+    def test_what_a_page_lacks_is_said(self):
+        said = "text: page 0: segment 2 is left out: invalid Huffman code\n"
+        self.assertEqual(self.run_command("text", "text.pbm"), (0, "", said))
+        for data in TEXT[:-1], HEADER + TEXT[:-1]:
+            for words in (), ("--salvage",):
+                said = (0, "", "-: the data ends too early\n")
+                self.assertEqual(self.run_command("-", "text.pbm", *words, data=data), said)
+        status, _, message = self.run_command("-", "text.pbm", "--salvage", data=TEXT + b" " * 16)
+        self.assertEqual(status, 0)
+        self.assertIn("-: page 0: the rest is left out: segment refers to an invalid segment\n", message)
+        self.assertEqual(self.run_command("text", "other.pbm", "--strict")[0], 1)
+        self.assertFalse((self.folder / "other.pbm").exists())
+
+    def test_faults(self):
+        self.assertEqual(
+            self.run_command("wide", "page.png"), (1, "", "wide: the limit of 16777216 units of work is reached\n")
+        )
+        self.assertEqual(self.run_command("wide", "page.png", "--work-limit", "7")[0], 1)
+        self.assertIn("pikepdf", self.run_command("pdf", "page.png")[2])
+        self.assertEqual(self.run_command(EXAMPLE, "page.png", "--page", "3"), (1, "", f"{EXAMPLE}: no such page\n"))
+        for words in ("nothing", "page.png"), (EXAMPLE, "nowhere/page.png", "--page", "0"):
+            status, _, message = self.run_command(*words)
+            self.assertEqual((status, message.count("\n")), (1, 1))
+            self.assertIn("No such file", message)
+        for words in "", "text", "text page.jpg", "text page.png --work-limit -1", "text page-{}.png --page 0":
+            self.assertEqual(self.run_command(*words.split())[0], 2, words)
+
+    def test_help_is_there(self):
+        status, output, message = self.run_command("--help")
+        self.assertEqual((status, message), (0, ""))
+        self.assertIn("--salvage", output)
+        self.assertEqual(self.run_command("--version"), (0, f"{hayro_jbig2.__version__}\n", ""))
+
+
+if __name__ == "__main__":
+    unittest.main()

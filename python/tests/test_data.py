@@ -1,0 +1,114 @@
+"""What the calls take: bytes, paths and open files; and what they say of a PDF file."""
+
+from __future__ import annotations
+
+import io
+import mmap
+import os
+import pathlib
+import pydoc
+import subprocess
+import sys
+import tempfile
+import unittest
+
+import hayro_jbig2
+from hayro_jbig2 import _library, _processor, errors
+from pages import EXAMPLE, GLOBALS, TEXT
+
+BOOK = EXAMPLE.read_bytes()
+
+
+class Data(unittest.TestCase):
+    def test_paths_and_open_files_are_data(self):
+        page = hayro_jbig2.decode(BOOK)
+        for data in str(EXAMPLE), EXAMPLE, io.BytesIO(BOOK), bytearray(BOOK):
+            self.assertEqual(hayro_jbig2.decode(data), page)
+        with open(EXAMPLE, "rb") as file, mmap.mmap(file.fileno(), 0, access=mmap.ACCESS_READ) as mapped:
+            self.assertEqual(hayro_jbig2.decode(file), page)
+            self.assertEqual(file.tell(), len(BOOK))
+            self.assertEqual(hayro_jbig2.decode(mapped), page)
+        self.assertEqual(len(list(hayro_jbig2.pages(EXAMPLE))), 3)
+        self.assertEqual(len(hayro_jbig2.sizes(io.BytesIO(BOOK))), 3)
+        stream = io.BytesIO(b"before" + TEXT)
+        stream.seek(6)
+        self.assertEqual(hayro_jbig2.decode(stream, globals=io.BytesIO(GLOBALS)).rows, b"\x80")
+        with tempfile.TemporaryDirectory() as folder:
+            path = pathlib.Path(folder, "globals")
+            path.write_bytes(GLOBALS)
+            self.assertEqual(hayro_jbig2.decode(TEXT, globals=path).rows, b"\x80")
+            self.assertEqual(hayro_jbig2.decode(TEXT, globals=hayro_jbig2.Globals(str(path))).rows, b"\x80")
+
+    def test_other_things_are_no_data(self):
+        with self.assertRaises(FileNotFoundError):
+            hayro_jbig2.decode("no such file")
+        for nothing in None, 7, [1, 2]:
+            with self.assertRaisesRegex(TypeError, "a path or an open file"):
+                hayro_jbig2.decode(nothing)
+        with self.assertRaisesRegex(TypeError, "binary mode"):
+            hayro_jbig2.decode(io.StringIO("text"))
+
+    def test_bytes_are_as_many_as_they_say(self):
+        class Longer(bytes):
+            def __len__(self):
+                return 1 << 40
+
+        self.assertEqual(hayro_jbig2.decode(Longer(BOOK)), hayro_jbig2.decode(BOOK))
+
+    def test_an_index_is_any_integer(self):
+        class Two:
+            def __index__(self):
+                return 2
+
+        self.assertEqual(hayro_jbig2.decode(BOOK, page=Two()), hayro_jbig2.decode(BOOK, page=2))
+        with self.assertRaises(TypeError):
+            hayro_jbig2.decode(BOOK, page=0.5)
+
+    def test_a_pdf_file_is_refused_with_advice(self):
+        pdf = b"%PDF-1.7\n1 0 obj\nendobj\n"
+        for call in hayro_jbig2.decode, hayro_jbig2.pages, hayro_jbig2.sizes, hayro_jbig2.Globals:
+            for salvage in False, True:
+                with self.assertRaisesRegex(hayro_jbig2.FormatError, "pikepdf"):
+                    call(pdf, salvage=salvage)
+        with self.assertRaisesRegex(hayro_jbig2.FormatError, "pikepdf"):
+            hayro_jbig2.decode(TEXT, globals=pdf)
+
+
+class Help(unittest.TestCase):
+    def test_help_names_each_exception_once(self):
+        text = pydoc.plain(pydoc.render_doc(hayro_jbig2))
+        for name, kind in vars(errors).items():
+            if isinstance(kind, type) and issubclass(kind, errors.Jbig2Error):
+                self.assertIs(getattr(hayro_jbig2, name), kind)
+                self.assertIn(f"    {name} ", text)
+        self.assertNotIn("BaseException", text)
+        self.assertLess(len(text.splitlines()), 500)
+
+
+class Loading(unittest.TestCase):
+    def test_a_processor_without_the_features_is_refused(self):
+        flags = "fpu sse2 pni popcnt sse4_1 sse4_2 ssse3 avx"
+        for lacking, features in (
+            ("", flags),
+            ("sse4_2", flags.replace("sse4_2 ", "")),
+            ("popcnt, ssse3", flags.replace("ssse3 ", "").replace("popcnt ", "")),
+        ):
+            text = f"processor\t: 0\nflags\t\t: {features}\nbugs\t\t:\n\nprocessor\t: 1\nflags\t\t: fpu\n"
+            self.assertEqual(_processor.missing_features(text), lacking)
+        self.assertEqual(_processor.missing_features("processor\t: 0\n"), "")
+
+    def test_a_package_without_the_library_says_so(self):
+        with tempfile.TemporaryDirectory() as folder:
+            other = pathlib.Path(folder, "hayro_jbig2")
+            other.mkdir()
+            for path in pathlib.Path(_library.__file__).parent.glob("*.py"):
+                (other / path.name).write_bytes(path.read_bytes())
+            command = [sys.executable, "-c", "import hayro_jbig2"]
+            run = subprocess.run(
+                command, capture_output=True, text=True, check=False, env={**os.environ, "PYTHONPATH": folder}
+            )
+        self.assertIn("ImportError: the library that pip compiles or installs does not load", run.stderr)
+
+
+if __name__ == "__main__":
+    unittest.main()

@@ -1,0 +1,93 @@
+"""What is freed, and when: threads at exit, finalizers, signal handlers. Each program runs in a process of its own."""
+
+from __future__ import annotations
+
+import concurrent.futures
+import copy
+import os
+import pickle
+import subprocess
+import sys
+import unittest
+
+import hayro_jbig2
+import lifetimes
+
+BOOK = lifetimes.BOOK
+
+
+class Lifetimes(unittest.TestCase):
+    def run_program(self, name, times=1):
+        """Runs a function of lifetimes.py, with freed memory overwritten, and returns what it wrote."""
+        written = b""
+        for _ in range(times):
+            command = [sys.executable, lifetimes.__file__, name]
+            run = subprocess.run(
+                command, capture_output=True, timeout=100, check=False, env={**os.environ, "MALLOC_PERTURB_": "165"}
+            )
+            self.assertEqual((run.returncode, run.stderr.decode()), (0, ""))
+            written += run.stdout
+        return written.decode().split()
+
+    def test_daemon_threads_decode_at_exit(self):
+        self.run_program("daemon_threads", 15)
+
+    def test_a_handler_decodes_at_exit(self):
+        self.run_program("atexit_handler", 3)
+
+    def test_finalizers_decode_at_exit(self):
+        said = self.run_program("module_teardown", 3)
+        self.assertEqual(len(said), 6)
+        # What is collected may meet modules that are taken apart, but no page of other pixels.
+        self.assertLessEqual(set(said), {"decoded", "AttributeError", "TypeError", "ImportError"})
+
+    def test_finalizers_of_cycles_meet_no_freed_memory(self):
+        self.assertLessEqual(set(self.run_program("cycles")), {"decoded", "ValueError", "StopIteration"})
+
+    def test_the_collector_runs_at_every_turn(self):
+        self.run_program("collector_at_every_turn")
+
+    def test_signal_handlers_decode(self):
+        self.run_program("signals")
+
+    def test_signal_handlers_that_raise_lose_no_memory(self):
+        self.run_program("raising_signals")
+
+    def test_threads_decode_damaged_pages_with_the_same_globals(self):
+        self.run_program("damaged_inputs")
+
+
+class Values(unittest.TestCase):
+    def test_pages_are_values(self):
+        pages = list(hayro_jbig2.pages(BOOK))
+        self.assertEqual(len(set(pages + list(hayro_jbig2.pages(BOOK)))), 3)
+        for page in pages:
+            for protocol in range(pickle.HIGHEST_PROTOCOL + 1):
+                self.compare(pickle.loads(pickle.dumps(page, protocol)), page)
+            self.compare(copy.copy(page), page)
+            self.compare(copy.deepcopy(page), page)
+
+    def compare(self, other, page):
+        self.assertEqual((other, hash(other), other.passed_over), (page, hash(page), page.passed_over))
+        self.assertEqual((other.left_out, other.to_pbm(), other.rows.readonly), (page.left_out, page.to_pbm(), True))
+
+    def test_errors_of_pages_are_copied(self):
+        page = hayro_jbig2.decode(lifetimes.TEXT, salvage=True)
+        other = pickle.loads(pickle.dumps(page))
+        self.assertEqual(str(other.passed_over.first.error), str(page.passed_over.first.error))
+        self.assertEqual(type(other.passed_over.first.error), type(page.passed_over.first.error))
+
+    def test_other_processes_return_pages(self):
+        with concurrent.futures.ProcessPoolExecutor(1) as processes:
+            self.assertEqual(processes.submit(hayro_jbig2.decode, BOOK).result(), hayro_jbig2.decode(BOOK))
+            with self.assertRaises(hayro_jbig2.NoSuchPage):
+                processes.submit(hayro_jbig2.decode, BOOK, page=3).result()
+
+    def test_globals_are_not_copied(self):
+        for copied in pickle.dumps, copy.deepcopy:
+            with self.assertRaises((TypeError, ValueError)):
+                copied(hayro_jbig2.Globals(lifetimes.GLOBALS))
+
+
+if __name__ == "__main__":
+    unittest.main()
