@@ -9,8 +9,11 @@ int main(int count, char **words) {
     meets_the_traps();
     hands_out_pages();
     survives_damage();
+    keeps_to_the_limit_of_work();
     refuses_each_request();
     shares_globals_among_threads();
+    comes_back_out_of_allocators();
+    leaves_by_longjmp();
     free_files();
     printf("%u checks of calls of libjbig2dec.so.0, %u failed\n", checks, failures);
     return failures > 0;
