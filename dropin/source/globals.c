@@ -31,6 +31,8 @@ struct globals *jbig2_make_global_ctx(struct context *context) {
 }
 
 static void free_globals(struct globals *globals) {
+    if (globals == NULL)
+        return;
     hayro_jbig2_globals_free(globals->decoded);
     free_context(globals->made_of);
 }
@@ -58,18 +60,15 @@ bool take_share(struct context *context, struct globals *globals) {
 }
 
 static void stop_using(struct share *share) {
-    struct globals *used = share->used;
-    if (used != NULL && end_use(share))
-        free_globals(used);
+    if (share->used != NULL)
+        free_globals(end_use(share));
 }
 
 /* A caller that left a call by longjmp may have left the globals in use. */
 void drop_share(struct context *context) {
     struct share *share = &context->share;
-    struct globals *globals = share->globals;
     stop_using(share);
-    if (leave_globals(share))
-        free_globals(globals);
+    free_globals(leave_globals(share));
     clear_bytes(context->allocator, &share->copy);
 }
 

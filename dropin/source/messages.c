@@ -42,7 +42,8 @@ int jbig2_error(struct context *context, enum severity severity, uint32_t segmen
     char text[LONGEST];
     va_list words;
     va_start(words, format);
-    vsnprintf(text, sizeof text, format, words);
+    if (vsnprintf(text, sizeof text, format, words) < 0)
+        text[0] = 0;
     va_end(words);
     tell(context, severity, segment, text);
     return -1;

@@ -32,16 +32,20 @@ static void leave_borrowers(struct share *share) {
         share->next->previous = share->previous;
 }
 
-bool leave_globals(struct share *share) {
-    bool is_last = false;
+static bool is_last_hold(struct globals *globals) {
+    return --globals->holders == 0;
+}
+
+struct globals *leave_globals(struct share *share) {
+    struct globals *unheld = NULL;
     pthread_mutex_lock(&lock);
     if (share->globals != NULL && share->is_borrower)
         leave_borrowers(share);
-    else if (share->globals != NULL)
-        is_last = --share->globals->holders == 0;
+    else if (share->globals != NULL && is_last_hold(share->globals))
+        unheld = share->globals;
     share->globals = NULL;
     pthread_mutex_unlock(&lock);
-    return is_last;
+    return unheld;
 }
 
 static bool has_to_wait(const struct globals *globals) {
@@ -64,7 +68,7 @@ bool give_globals_up(struct globals *globals) {
     globals->borrowers = NULL;
     while (has_to_wait(globals))
         pthread_cond_wait(&use_ended, &lock);
-    bool is_last = --globals->holders == 0;
+    bool is_last = is_last_hold(globals);
     pthread_mutex_unlock(&lock);
     pthread_setcancelstate(cancelling, NULL);
     return is_last;
@@ -84,17 +88,17 @@ struct globals *begin_use(struct share *share) {
     return globals;
 }
 
-bool end_use(struct share *share) {
+struct globals *end_use(struct share *share) {
     pthread_mutex_lock(&lock);
     struct share **place = &in_use;
     while (*place != share)
         place = &(*place)->next_in_use;
     *place = share->next_in_use;
-    bool is_last = --share->used->holders == 0;
+    struct globals *unheld = is_last_hold(share->used) ? share->used : NULL;
     share->used = NULL;
     pthread_cond_broadcast(&use_ended);
     pthread_mutex_unlock(&lock);
-    return is_last;
+    return unheld;
 }
 
 hayro_jbig2_globals *lend_handle(struct globals *globals) {

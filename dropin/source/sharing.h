@@ -40,15 +40,16 @@ struct share {
 void hold_globals(struct share *share, struct globals *globals);
 void borrow_globals(struct share *share, struct globals *globals);
 
-/* Those that return a bool return whether the globals have no holder any more: the caller frees them. */
-bool leave_globals(struct share *share);
+/* The holder that goes last frees the globals: leave_globals and end_use return them then, and else null; give_globals_up
+ * says whether it is so. */
+struct globals *leave_globals(struct share *share);
 /* The borrowers are left with their copies. Waits until no other thread draws with what it borrowed, but for where this
  * thread came out of a drawing of its own: then the last one that draws is the last holder. */
 bool give_globals_up(struct globals *globals);
 
 /* From here on, to end_use, the globals stay, whoever frees them. Null where there are none. */
 struct globals *begin_use(struct share *share);
-bool end_use(struct share *share);
+struct globals *end_use(struct share *share);
 
 /* The handle of the globals, of which one call at a time may make use. Null where another one has it: one of another
  * thread, or one that called the allocator out of which this thread came back. */

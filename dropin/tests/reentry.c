@@ -95,25 +95,34 @@ static unsigned long comes_back(visit *visit, bool has_own_allocator, unsigned l
     return calls;
 }
 
-void comes_back_out_of_allocators(void) {
-    static visit *const visits[] = {free_other_globals, draw_with_the_same_globals, draw_with_globals_of_its_own,
-                                    free_the_same_globals};
+/* In each call, or in each one of `step`. */
+static unsigned long comes_back_in_turn(visit *visit, unsigned long step) {
     unsigned long times = 0;
-    for (int i = 0; i < 8; i++) {
-        unsigned long calls = comes_back(visits[i / 2], i % 2, 0);
-        for (unsigned long at = 1; at <= calls; at++, times++)
-            comes_back(visits[i / 2], i % 2, at);
+    for (int has_own_allocator = 0; has_own_allocator < 2; has_own_allocator++) {
+        unsigned long calls = comes_back(visit, has_own_allocator, 0);
+        for (unsigned long at = 1; at <= calls; at += step, times++)
+            comes_back(visit, has_own_allocator, at);
     }
+    return times;
+}
+
+void comes_back_out_of_allocators(void) {
+    /* Valgrind, which has a malloc of its own, is slow. */
+    unsigned long step = &mallocs == NULL ? 151 : 1;
+    unsigned long times = comes_back_in_turn(free_other_globals, step);
+    times += comes_back_in_turn(free_the_same_globals, step);
+    times += comes_back_in_turn(draw_with_the_same_globals, step);
+    times += comes_back_in_turn(draw_with_globals_of_its_own, 9 * step);
     printf("an allocator came back in %lu calls\n", times);
 }
 
 /* A caller that leaves a call by longjmp has to free the context. Its blocks come from a room that goes at once. */
 static jmp_buf left;
-static _Alignas(16) uint8_t room[1 << 20];
+static _Alignas(16) uint8_t room[1 << 22];
+static size_t taken;
 
 struct leaving {
     struct allocator base;
-    size_t taken;
     unsigned long requests, at;
 };
 
@@ -121,9 +130,9 @@ static void *take_or_leave(struct allocator *allocator, size_t size) {
     struct leaving *memory = (struct leaving *)allocator;
     if (++memory->requests == memory->at)
         longjmp(left, 1);
-    void *block = room + memory->taken;
-    memory->taken += (size + 7) / 8 * 8;
-    CHECK(memory->taken <= sizeof room);
+    void *block = room + taken;
+    taken += (size + 7) / 8 * 8;
+    CHECK(taken <= sizeof room);
     return block;
 }
 
@@ -139,9 +148,9 @@ static void *free_them(void *globals) {
 /* Whether the page was left in a request of this number. Another thread frees the globals, and doesn't wait for a page that
  * will never be drawn. */
 static bool is_left_at(unsigned long at) {
-    struct counted of_globals = counted_allocator();
-    struct leaving memory = {.base = {take_or_leave, keep, NULL}};
+    struct leaving of_globals = {.base = {take_or_leave, keep, NULL}}, memory = of_globals;
     struct heard heard = {0};
+    taken = 0;
     struct globals *globals = made_globals(&of_globals.base, &heard);
     struct context *context = embedded_context(&memory.base, globals, &heard);
     volatile bool is_left = true;
@@ -157,7 +166,37 @@ static bool is_left_at(unsigned long at) {
     return is_left;
 }
 
+static void hear_and_leave(void *data, const char *text, enum severity severity, uint32_t segment) {
+    (void)data, (void)text, (void)severity, (void)segment;
+    longjmp(left, 1);
+}
+
+/* A listener that leaves loses nothing: of the stream with a segment of an unknown type after it, or of its first bytes. */
+static void a_listener_leaves(bool is_refused) {
+    static struct counted memory;
+    struct heard heard = {0};
+    memory = counted_allocator();
+    struct globals *globals = made_globals(&memory.base, &heard);
+    struct context *context =
+        jbig2_ctx_new_imp(&memory.base, OPTION_EMBEDDED, globals, hear_and_leave, NULL, ABI_MAJOR, ABI_MINOR);
+    jbig2_data_in(context, stream.at, is_refused ? 20 : stream.length);
+    jbig2_data_in(context, (const uint8_t *)"1234\x3F", is_refused ? 0 : 5);
+    if (setjmp(left) == 0) {
+        jbig2_complete_page(context);
+        CHECK(!"nothing was told");
+    }
+    CHECK(jbig2_complete_page(context) == (is_refused ? -1 : 0));
+    struct image *image = jbig2_page_out(context);
+    CHECK((image == NULL) == is_refused && (is_refused || is_meant(image)));
+    jbig2_release_page(context, image);
+    jbig2_global_ctx_free(globals);
+    jbig2_ctx_free(context);
+    CHECK(memory.held == 0);
+}
+
 void leaves_by_longjmp(void) {
+    a_listener_leaves(false);
+    a_listener_leaves(true);
     unsigned long times = 0;
     while (is_left_at(times + 1))
         times++;
