@@ -112,10 +112,70 @@ static void frees_globals_that_are_drawn_with(int round) {
     pthread_barrier_destroy(&start);
 }
 
+/* Frees the globals of another thread in its request number `at`, when that thread has come as far. */
+struct crossing {
+    struct counted memory;
+    struct allocator inner;
+    struct globals *own, *others;
+    unsigned long calls, at;
+    pthread_barrier_t *meeting;
+    pthread_t thread;
+};
+
+static void *take_and_free_others(struct allocator *allocator, size_t size) {
+    struct crossing *crossing = (struct crossing *)allocator;
+    if (++crossing->calls == crossing->at) {
+        pthread_barrier_wait(crossing->meeting);
+        jbig2_global_ctx_free(crossing->others);
+    }
+    return crossing->inner.take(allocator, size);
+}
+
+static void *draw_and_cross(void *data) {
+    struct crossing *crossing = data;
+    struct heard heard = {0};
+    draw_in(embedded_context(&crossing->memory.base, crossing->own, &heard));
+    CHECK(crossing->memory.held == 0);
+    return NULL;
+}
+
+static struct crossing new_crossing(struct globals *globals) {
+    struct crossing crossing = {.memory = counted_allocator(), .own = globals};
+    crossing.inner = crossing.memory.base;
+    crossing.memory.base.take = take_and_free_others;
+    return crossing;
+}
+
+/* Two threads come out of drawing at the same time, and each frees what the other draws with: neither waits. */
+static void frees_each_others_globals(void) {
+    static struct crossing crossings[2];
+    struct counted memories[2] = {counted_allocator(), counted_allocator()};
+    struct heard heard = {0};
+    pthread_barrier_t meeting;
+    pthread_barrier_init(&meeting, NULL, 2);
+    for (int i = 0; i < 2; i++) {
+        crossings[i] = new_crossing(made_globals(&memories[i].base, &heard));
+        draw_and_cross(&crossings[i]);
+        /* The last request is the page's, of which the stream is still open. */
+        crossings[i].at = crossings[i].calls;
+        crossings[i].calls = 0;
+        crossings[i].meeting = &meeting;
+    }
+    for (int i = 0; i < 2; i++) {
+        crossings[i].others = crossings[1 - i].own;
+        CHECK(pthread_create(&crossings[i].thread, NULL, draw_and_cross, &crossings[i]) == 0);
+    }
+    for (int i = 0; i < 2; i++)
+        CHECK(pthread_join(crossings[i].thread, NULL) == 0);
+    CHECK(memories[0].held == 0 && memories[1].held == 0);
+    pthread_barrier_destroy(&meeting);
+}
+
 void shares_globals_among_threads(void) {
     set_up_common();
     draws_with_the_same_globals();
     for (int round = 0; round < ROUNDS; round++)
         frees_globals_that_are_drawn_with(round);
+    frees_each_others_globals();
     CHECK(common.memory.held == 0);
 }
