@@ -56,7 +56,7 @@ void tell_answer(struct context *context, enum severity severity, uint32_t segme
 
 bool take_share(struct context *context, struct globals *globals);
 void drop_share(struct context *context);
-/* The page that the gathered bytes have, over the globals, which stay until free_stream. That is called after an error too. */
+/* The page that the gathered bytes have, over the globals, which stay until free_stream: call that after an error too. */
 uint32_t new_stream(struct context *context, hayro_jbig2_page **stream);
 void free_stream(struct context *context, hayro_jbig2_page *stream);
 
@@ -73,7 +73,7 @@ uint32_t read_file(const hayro_jbig2_memory *memory, const struct bytes *bytes, 
 uint64_t least_work(void);
 /* Limits the work of the page that is drawn in the room next: by its pixels. */
 uint32_t limit_room(hayro_jbig2_context *room, const hayro_jbig2_page_info *info);
-/* The reason for an answer: of a page that was drawn in the room, and of globals or of what the pages of a file share. */
+/* The reason for an answer: of a page that was drawn in the room, and of globals or of what pages of a file share. */
 uint32_t reason_of_page(hayro_jbig2_context *room, uint32_t answer);
 uint32_t reason_of_shared(uint32_t answer);
 
@@ -88,14 +88,14 @@ uint32_t draw_embedded(struct context *context, struct page **page);
 
 /* headers.c */
 
-/* The segment at which reading of a list stops, for its header or its data; NO_SEGMENT where it stops at none, or at one
-   whose number is cut off. Strictly, an unknown type stops it too. */
+/* The segment at which reading of a list stops, for its header or its data; NO_SEGMENT where it stops at none, or at
+   one whose number is cut off. Strictly, an unknown type stops it too. */
 uint32_t segment_of_fault(const uint8_t *at, size_t length, bool is_strict);
 
 /* left_out.c */
 
-/* Notes why strict reading refuses the list of segments that were gathered. The other readings leave out a segment that is
-   cut off or of an unknown type, and don't count it. */
+/* Notes why strict reading refuses the list of segments that were gathered. The other readings leave out a segment that
+   is cut off or of an unknown type, and don't count it. */
 uint32_t look_for_left_out(struct context *context);
 /* One warning of each kind, with the number of the first segment. They are told once. */
 void tell_lacks(struct context *context);

@@ -24,8 +24,8 @@ struct image *jbig2_image_reference(struct context *context, struct image *image
     return image;
 }
 
-/* Each image is the first member of a page, which knows its own allocator: the context may be null, or gone. Nobody gives
- * up the hold that the context has. */
+/* Each image is the first member of a page, which knows its own allocator: the context may be null, or gone. Nobody
+ * gives up the hold that the context has. */
 void jbig2_image_release(struct context *context, struct image *image) {
     (void)context;
     struct page *page = (struct page *)image;

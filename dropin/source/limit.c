@@ -8,7 +8,8 @@
 /* In units of work of the library for C. */
 static const uint64_t usual = (uint64_t)1 << 30, for_a_pixel = 100;
 
-/* The environment may name another number; 0 is no limit. What is no number of 64 bits, in digits alone, counts for nothing. */
+/* The environment may name another number, in digits alone; 0 is no limit. What is no number of 64 bits counts for
+ * nothing. */
 uint64_t least_work(void) {
     const char *named = secure_getenv("HAYRO_JBIG2_WORK_LIMIT");
     if (named == NULL || !isdigit((unsigned char)named[0]))

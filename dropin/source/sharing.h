@@ -40,11 +40,11 @@ struct share {
 void hold_globals(struct share *share, struct globals *globals);
 void borrow_globals(struct share *share, struct globals *globals);
 
-/* The holder that goes last frees the globals: leave_globals and end_use return them then, and else null; give_globals_up
- * says whether it is so. */
+/* The holder that goes last frees the globals: leave_globals and end_use return them then, and else null;
+ * give_globals_up says whether it is so. */
 struct globals *leave_globals(struct share *share);
-/* The borrowers are left with their copies. Waits until no other thread draws with what it borrowed, but for where this
- * thread came out of a drawing of its own: then the last one that draws is the last holder. */
+/* The borrowers are left with their copies. It waits until no other thread draws with what it borrowed. A thread that
+ * came out of a drawing of its own never waits: then the last one that draws is the last holder. */
 bool give_globals_up(struct globals *globals);
 
 /* From here on, to end_use, the globals stay, whoever frees them. Null where there are none. */

@@ -1,5 +1,5 @@
 /* Calls libjbig2dec.so.0 as its callers do. usage: calls BOOK STREAM GLOBALS PICTURE [threads]: T.88's example (H.1) as
- * a file, the two streams of an embedded page, and its picture as a PBM file. With a fifth word only threads are tried. */
+ * a file, the two streams of an embedded page, and its picture as a PBM file. A fifth word has only threads tried. */
 #include "support.h"
 
 int main(int count, char **words) {

@@ -59,7 +59,7 @@ static void tells_limits_from_memory(void) {
 }
 
 void keeps_to_the_limit_of_work(void) {
-    static const char *const no_numbers[] = {"-1", "+1", " 1", "", "1x", "99999999999999999999", "18446744073709551616"};
+    static const char *const no_numbers[] = {"-1", "+1", " 1", "", "1x", "18446744073709551616"};
     refuses_what_passes_the_limit(NULL);
     refuses_what_passes_the_limit("1000000000");
     for (size_t i = 0; i < sizeof no_numbers / sizeof *no_numbers; i++)

@@ -39,8 +39,8 @@ static struct context *completed_book(struct counted *memory, struct heard *hear
     return context;
 }
 
-/* The context is one of the holders of a page, until it is freed: its rows can be read after it is released, and to release
- * it twice does no harm. */
+/* The context is one of the holders of a page, until it is freed: its rows can be read after it is released, and to
+ * release it twice does no harm. */
 static void keeps_a_page_until_it_is_freed(void) {
     struct counted memory = counted_allocator();
     struct heard heard = {0};

@@ -1,9 +1,9 @@
 /*
- * Random calls of the library, under the sanitizers: damaged input, memory that is refused, allocators and listeners that
- * come back into the library. usage: random_calls SEED SECONDS STREAM GLOBALS FILE.jb2 ..
+ * Random calls of the library, under the sanitizers: damaged input, memory that is refused, allocators and listeners
+ * that come back into the library. usage: random_calls SEED SECONDS STREAM GLOBALS FILE.jb2 ..
  *
- * Nothing may be read that is freed, nothing leaks, each block goes back to its own allocator, and each call returns. The
- * seed of a run that fails is printed; SECONDS 0 makes that run alone.
+ * Nothing may be read that is freed, nothing leaks, each block goes back to its own allocator, and each call returns.
+ * The seed of a run that fails is printed; SECONDS 0 makes that run alone.
  */
 #define _POSIX_C_SOURCE 200809L /* setenv */
 #include "abi.h"
@@ -152,7 +152,7 @@ static struct input random_input(bool is_globals) {
     struct input copy = {malloc(from.length + 1), from.length};
     memcpy(copy.at, from.at, from.length);
     for (uint32_t count = random_below(4); count > 0 && copy.length > 0; count--)
-        copy.at[random_below((uint32_t)copy.length)] = (uint8_t)(happens_in(2) ? random_below(256) : 255 * random_below(2));
+        copy.at[random_below((uint32_t)copy.length)] = (uint8_t)random_below(happens_in(2) ? 256 : 2);
     if (happens_in(4))
         copy.length = random_below((uint32_t)copy.length + 1);
     return copy;
@@ -171,8 +171,8 @@ static void open_a_context(void) {
         return;
     open->uses++;
     with->uses++;
-    open->context = jbig2_ctx_new_imp(random_allocator(), options, with->globals, happens_in(5) ? NULL : listen, NULL, 0,
-                                      minor);
+    open->context =
+        jbig2_ctx_new_imp(random_allocator(), options, with->globals, happens_in(5) ? NULL : listen, NULL, 0, minor);
     with->uses--;
     open->uses--;
     open->place = 0;
@@ -365,8 +365,9 @@ int main(int count, char **words) {
     while (time(NULL) < end);
     for (size_t i = 0; i < input_count; i++)
         free(inputs[i].at);
-    printf("seeds %llu to %llu: %llu random calls, %llu requests refused, %llu times back out of an allocator or a listener\n",
-           (unsigned long long)first, (unsigned long long)(first + runs - 1), (unsigned long long)calls,
-           (unsigned long long)refused, (unsigned long long)returns);
+    printf("seeds %llu to %llu: %llu random calls, ", (unsigned long long)first, (unsigned long long)(first + runs - 1),
+           (unsigned long long)calls);
+    printf("%llu requests refused, %llu times back out of an allocator or a listener\n", (unsigned long long)refused,
+           (unsigned long long)returns);
     return 0;
 }

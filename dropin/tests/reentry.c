@@ -164,8 +164,8 @@ static bool is_file_left_at(unsigned long at) {
     return is_left;
 }
 
-/* Whether the page was left in a request of this number. Another thread frees the globals, and doesn't wait for a page that
- * will never be drawn. */
+/* Whether the page was left in a request of this number. Another thread frees the globals, and doesn't wait for a page
+ * that will never be drawn. */
 static bool is_left_at(unsigned long at) {
     struct leaving of_globals = {.base = {take_or_leave, keep, NULL}}, memory = of_globals;
     struct heard heard = {0};
@@ -190,7 +190,7 @@ static void hear_and_leave(void *data, const char *text, enum severity severity,
     longjmp(left, 1);
 }
 
-/* A listener that leaves loses nothing: of the stream with a segment of an unknown type after it, or of its first bytes. */
+/* A listener that leaves loses nothing: of the stream with a segment of an unknown type after it, or of its start. */
 static void a_listener_leaves(bool is_refused) {
     static struct counted memory;
     struct heard heard = {0};

@@ -1,5 +1,5 @@
-/* Several threads, with allocators of their own and a common one, draw with the same globals. dropin/test runs this under
- * ThreadSanitizer too. */
+/* Several threads, with allocators of their own and a common one, draw with the same globals. dropin/test runs this
+ * under ThreadSanitizer too. */
 #define _POSIX_C_SOURCE 200809L /* barriers */
 #include "support.h"
 
