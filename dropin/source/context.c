@@ -33,13 +33,18 @@ struct context *jbig2_ctx_new_imp(struct allocator *allocator, int options, stru
     return NULL;
 }
 
-/* Pages that nobody asked for go too; those that were handed out are their holders'. */
-void free_context(struct context *context) {
-    while (context->ready != NULL) {
-        struct page *page = context->ready;
-        context->ready = page->next;
-        free_page(page);
+static void let_pages_go(struct page *page) {
+    while (page != NULL) {
+        struct page *next = page->next;
+        let_page_go(page);
+        page = next;
     }
+}
+
+/* Pages that a caller holds still stay. */
+void free_context(struct context *context) {
+    let_pages_go(context->ready);
+    let_pages_go(context->handed_out);
     close_file(context);
     drop_share(context);
     clear_bytes(context->allocator, &context->bytes);
@@ -87,6 +92,7 @@ static void add_ready(struct context *context, struct page *page) {
 static uint32_t complete(struct context *context) {
     struct page *page = NULL;
     uint32_t answer;
+    context->share.is_refused = false;
     if (context->bytes.has_hole)
         return HAYRO_JBIG2_OUT_OF_MEMORY;
     if (context->is_embedded) {
@@ -101,6 +107,11 @@ static uint32_t complete(struct context *context) {
     return answer;
 }
 
+static void tell_refusal(struct context *context) {
+    const char *what = context->share.is_refused ? "the page's globals are refused" : "the page is refused";
+    tell_answer(context, SEVERITY_FATAL, NO_SEGMENT, what, context->answer);
+}
+
 int jbig2_complete_page(struct context *context) {
     if (context == NULL)
         return -1;
@@ -108,11 +119,10 @@ int jbig2_complete_page(struct context *context) {
         return context->answer == HAYRO_JBIG2_OK ? 0 : -1;
     context->is_complete = true;
     context->answer = complete(context);
-    if (context->answer == HAYRO_JBIG2_OK)
-        return 0;
-    tell_answer(context, SEVERITY_FATAL, NO_SEGMENT,
-                context->share.is_refused ? "the page's globals are refused" : "the page is refused", context->answer);
-    return -1;
+    tell_lacks(context);
+    if (context->answer != HAYRO_JBIG2_OK)
+        tell_refusal(context);
+    return context->answer == HAYRO_JBIG2_OK ? 0 : -1;
 }
 
 /* The next page of the file that can be drawn. */
@@ -129,10 +139,15 @@ static struct page *next_of_file(struct context *context) {
 struct image *jbig2_page_out(struct context *context) {
     if (context == NULL)
         return NULL;
+    if (context->ready == NULL)
+        context->ready = next_of_file(context);
     struct page *page = context->ready;
-    if (page != NULL)
-        context->ready = page->next;
-    else
-        page = next_of_file(context);
-    return page == NULL ? NULL : &page->image;
+    if (page == NULL)
+        return NULL;
+    context->ready = page->next;
+    page->next = context->handed_out;
+    context->handed_out = page;
+    page->image.holders++;
+    tell_lacks(context);
+    return &page->image;
 }

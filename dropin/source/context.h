@@ -2,37 +2,13 @@
 #ifndef CONTEXT_H
 #define CONTEXT_H
 
-#include "memory.h"
+#include "sharing.h"
 
-/*
- * Globals are decoded once, when they are made, and lent to the contexts that are made with them. A caller may free them
- * before it asks for the page:
- *
- * - contexts with the same allocator hold them, and the last holder frees them;
- * - contexts with another allocator borrow them, beside a copy of their bytes. When the globals are freed, the borrowers
- *   are left with the copy, since the globals' allocator may be gone after that.
- */
-struct globals {
-    struct context *made_of;      /* the context that gathered their bytes; it holds this structure */
-    hayro_jbig2_globals *decoded; /* null after an error */
-    uint32_t answer;              /* HAYRO_JBIG2_OK, or that error */
-    unsigned holders;
-    struct context *borrowers;
-};
-
-/* What a context has of the globals that it was made with. */
-struct share {
-    struct globals *globals; /* null where there are none, or no longer */
-    struct bytes copy;       /* of a borrower */
-    bool is_borrower;
-    bool is_refused; /* the page that was completed last, for its globals */
-    struct context *previous, *next; /* of the borrowers of the same globals */
-};
-
-/* A page that nobody has asked for yet follows another one. */
+/* A page in a list of its context, which holds it until it is freed itself. */
 struct page {
     struct image image;
     struct allocator *allocator;
+    bool is_kept; /* one of the holders is the context */
     struct page *next;
     uint8_t rows[];
 };
@@ -44,6 +20,14 @@ struct open_file {
     size_t count, next;
 };
 
+/* What a page, globals or a file lacks, for the listener. */
+struct lacks {
+    hayro_jbig2_passed_over passed; /* in a page */
+    hayro_jbig2_left_out left_out;  /* by salvage */
+    uint32_t why;                   /* strict reading refuses the list of segments */
+    uint32_t cut_at, ended_at;      /* the segments where strict reading stops and where the other readings do */
+};
+
 struct context {
     struct allocator *allocator;
     hayro_jbig2_memory memory;
@@ -53,23 +37,28 @@ struct context {
     uint32_t answer; /* once it is complete */
     struct bytes bytes;
     struct share share;
-    struct page *ready;
+    struct page *ready, *handed_out;
     struct open_file open;
+    struct lacks lacks;
     struct globals made; /* what jbig2_make_global_ctx makes of the context */
 };
 
-/* messages.c */
+/* Reasons for which the decoder has one number alone, HAYRO_JBIG2_OUT_OF_MEMORY. */
+enum { PAST_THE_LIMIT = 1000, NO_MEMORY_OR_PAST_THE_LIMIT };
+
+/* messages.c: the listener is called last, when nothing is half done */
 
 void tell(struct context *context, enum severity severity, uint32_t segment, const char *text);
-/* Says what was done, or was to be done, and the text of an answer of the decoder. */
+/* Says what was done, or was to be done, and the text of an answer of the decoder or of a reason. */
 void tell_answer(struct context *context, enum severity severity, uint32_t segment, const char *what, uint32_t answer);
 
 /* globals.c */
 
 bool take_share(struct context *context, struct globals *globals);
 void drop_share(struct context *context);
-/* The page that the gathered bytes have, over the globals. */
+/* The page that the gathered bytes have, over the globals, which stay until free_stream: call that after an error too. */
 uint32_t new_stream(struct context *context, hayro_jbig2_page **stream);
+void free_stream(struct context *context, hayro_jbig2_page *stream);
 
 /* reading.c: salvage, or lenient reading where the environment asks for it */
 
@@ -84,24 +73,32 @@ uint32_t read_file(const hayro_jbig2_memory *memory, const struct bytes *bytes, 
 uint64_t least_work(void);
 /* Limits the work of the page that is drawn in the room next: by its pixels. */
 uint32_t limit_room(hayro_jbig2_context *room, const hayro_jbig2_page_info *info);
+/* The reason for an answer: of a page that was drawn in the room, and of globals or of what pages of a file share. */
+uint32_t reason_of_page(hayro_jbig2_context *room, uint32_t answer);
+uint32_t reason_of_shared(uint32_t answer);
 
 /* drawing.c */
 
 /* The room that pages are drawn in. */
 uint32_t new_room(struct context *context, hayro_jbig2_context **room);
-/* The page that was drawn in it last, copied into the caller's memory. What was passed over goes to the listener. */
+/* The page that was drawn in it last, copied into the caller's memory. What was passed over is noted. */
 uint32_t copy_out(struct context *context, hayro_jbig2_context *room, const hayro_jbig2_page_info *info,
                   struct page **page);
 uint32_t draw_embedded(struct context *context, struct page **page);
 
+/* headers.c */
+
+/* The segment at which reading of a list stops, for its header or its data; NO_SEGMENT where it stops at none, or at
+   one whose number is cut off. Strictly, an unknown type stops it too. */
+uint32_t segment_of_fault(const uint8_t *at, size_t length, bool is_strict);
+
 /* left_out.c */
 
-/* Why strict reading refuses the list of segments that were gathered. The other readings leave out a segment that is cut
-   off or of an unknown type, and don't count it. */
-uint32_t look_for_left_out(struct context *context, uint32_t *why);
-/* One warning each, with the number of the first segment: of what was passed over, and of what salvage left out. */
-void tell_passed_over(struct context *context, hayro_jbig2_passed_over passed);
-void tell_left_out(struct context *context, uint32_t why, const hayro_jbig2_left_out *left_out);
+/* Notes why strict reading refuses the list of segments that were gathered. The other readings leave out a segment that
+   is cut off or of an unknown type, and don't count it. */
+uint32_t look_for_left_out(struct context *context);
+/* One warning of each kind, with the number of the first segment. They are told once. */
+void tell_lacks(struct context *context);
 
 /* file.c */
 
@@ -114,7 +111,8 @@ uint32_t draw_next(struct context *context, struct page **page);
 /* image.c */
 
 struct page *new_page(struct allocator *allocator, uint32_t width, uint32_t height);
-void free_page(struct page *page);
+/* The context gives up its hold. */
+void let_page_go(struct page *page);
 
 /* context.c */
 

@@ -7,15 +7,13 @@ uint32_t copy_out(struct context *context, hayro_jbig2_context *room, const hayr
         return HAYRO_JBIG2_OUT_OF_MEMORY;
     size_t size = (size_t)copy->image.row_bytes * copy->image.height;
     uint32_t answer = hayro_jbig2_context_rows(room, 0, copy->rows, size);
-    if (answer != HAYRO_JBIG2_OK) {
-        free_page(copy);
-        return answer;
-    }
-    hayro_jbig2_passed_over passed;
-    if (hayro_jbig2_context_get_passed_over(room, &passed) == HAYRO_JBIG2_OK)
-        tell_passed_over(context, passed);
-    *page = copy;
-    return HAYRO_JBIG2_OK;
+    if (answer == HAYRO_JBIG2_OK)
+        answer = hayro_jbig2_context_get_passed_over(room, &context->lacks.passed);
+    if (answer == HAYRO_JBIG2_OK)
+        *page = copy;
+    else
+        let_page_go(copy);
+    return answer;
 }
 
 uint32_t new_room(struct context *context, hayro_jbig2_context **room) {
@@ -31,7 +29,7 @@ static uint32_t draw(struct context *context, hayro_jbig2_page *stream, struct p
     if (answer == HAYRO_JBIG2_OK)
         answer = limit_room(room, &info);
     if (answer == HAYRO_JBIG2_OK)
-        answer = hayro_jbig2_page_draw(stream, room);
+        answer = reason_of_page(room, hayro_jbig2_page_draw(stream, room));
     if (answer == HAYRO_JBIG2_OK)
         answer = copy_out(context, room, &info, page);
     hayro_jbig2_context_free(room);
@@ -40,20 +38,19 @@ static uint32_t draw(struct context *context, hayro_jbig2_page *stream, struct p
 
 uint32_t draw_embedded(struct context *context, struct page **page) {
     hayro_jbig2_page *stream = NULL;
-    hayro_jbig2_left_out left_out = {0};
-    uint32_t why = HAYRO_JBIG2_OK;
-    uint32_t answer = look_for_left_out(context, &why);
-    if (answer == HAYRO_JBIG2_OK)
-        answer = new_stream(context, &stream);
+    uint32_t answer = look_for_left_out(context);
     if (answer != HAYRO_JBIG2_OK)
         return answer;
-    /* The decoder has a copy of them. */
-    clear_bytes(context->allocator, &context->bytes);
-    answer = hayro_jbig2_page_get_left_out(stream, &left_out);
+    answer = new_stream(context, &stream);
+    if (answer == HAYRO_JBIG2_OK) {
+        /* The decoder has a copy of them. */
+        clear_bytes(context->allocator, &context->bytes);
+        answer = hayro_jbig2_page_get_left_out(stream, &context->lacks.left_out);
+    }
     if (answer == HAYRO_JBIG2_OK)
         answer = draw(context, stream, page);
-    hayro_jbig2_page_free(stream);
-    if (answer == HAYRO_JBIG2_OK)
-        tell_left_out(context, why, &left_out);
+    free_stream(context, stream);
+    if (answer != HAYRO_JBIG2_OK)
+        context->lacks = (struct lacks){0};
     return answer;
 }

@@ -3,16 +3,15 @@
 uint32_t open_file(struct context *context) {
     struct open_file *open = &context->open;
     const struct bytes *bytes = &context->bytes;
-    hayro_jbig2_left_out left_out = {0};
-    uint32_t why = HAYRO_JBIG2_OK;
-    uint32_t answer = look_for_left_out(context, &why);
+    uint32_t answer = look_for_left_out(context);
     if (answer == HAYRO_JBIG2_OK)
         answer = read_file(&context->memory, bytes, &open->file);
     if (answer == HAYRO_JBIG2_OK)
-        answer = hayro_jbig2_file_get_left_out(open->file, &left_out);
-    if (answer != HAYRO_JBIG2_OK)
+        answer = hayro_jbig2_file_get_left_out(open->file, &context->lacks.left_out);
+    if (answer != HAYRO_JBIG2_OK) {
+        context->lacks = (struct lacks){0};
         return answer;
-    tell_left_out(context, why, &left_out);
+    }
     open->count = hayro_jbig2_file_page_count(open->file);
     return open->count == 0 ? HAYRO_JBIG2_NO_SUCH_PAGE : new_room(context, &open->room);
 }
@@ -37,6 +36,6 @@ uint32_t draw_next(struct context *context, struct page **page) {
     if (answer == HAYRO_JBIG2_OK)
         answer = limit_room(open->room, &info);
     if (answer == HAYRO_JBIG2_OK)
-        answer = hayro_jbig2_file_draw(open->file, index, open->room);
+        answer = reason_of_page(open->room, hayro_jbig2_file_draw(open->file, index, open->room));
     return answer == HAYRO_JBIG2_OK ? copy_out(context, open->room, &info, page) : answer;
 }

@@ -7,12 +7,14 @@ struct page *new_page(struct allocator *allocator, uint32_t width, uint32_t heig
         return NULL;
     page->image = (struct image){width, height, row_bytes, page->rows, 1};
     page->allocator = allocator;
+    page->is_kept = true;
     page->next = NULL;
     return page;
 }
 
-void free_page(struct page *page) {
-    give_back(page->allocator, page);
+void let_page_go(struct page *page) {
+    page->is_kept = false;
+    jbig2_image_release(NULL, &page->image);
 }
 
 struct image *jbig2_image_reference(struct context *context, struct image *image) {
@@ -22,11 +24,15 @@ struct image *jbig2_image_reference(struct context *context, struct image *image
     return image;
 }
 
-/* Each image is the first member of a page, which knows its own allocator: the context may be null. */
+/* Each image is the first member of a page, which knows its own allocator: the context may be null, or gone. Nobody
+ * gives up the hold that the context has. */
 void jbig2_image_release(struct context *context, struct image *image) {
     (void)context;
-    if (image != NULL && --image->holders == 0)
-        free_page((struct page *)image);
+    struct page *page = (struct page *)image;
+    if (page == NULL || image->holders <= page->is_kept)
+        return;
+    if (--image->holders == 0)
+        give_back(page->allocator, page);
 }
 
 void jbig2_release_page(struct context *context, struct image *image) {

@@ -27,7 +27,8 @@ static bool ends_a_line(const uint8_t *at, size_t length) {
     return length > 0 && (at[length - 1] == '\n' || at[length - 1] == '\r');
 }
 
-uint32_t look_for_left_out(struct context *context, uint32_t *why) {
+uint32_t look_for_left_out(struct context *context) {
+    context->lacks = (struct lacks){.cut_at = NO_SEGMENT, .ended_at = NO_SEGMENT};
     size_t start = start_of_segments(context);
     const uint8_t *at = start_of(&context->bytes) + start;
     size_t length = context->bytes.length - start;
@@ -36,7 +37,11 @@ uint32_t look_for_left_out(struct context *context, uint32_t *why) {
         answer = read_strictly(context, at, --length);
     if (answer == HAYRO_JBIG2_OUT_OF_MEMORY)
         return answer;
-    *why = answer;
+    if (answer == HAYRO_JBIG2_OK)
+        return answer;
+    context->lacks.why = answer;
+    context->lacks.cut_at = segment_of_fault(at, length, true);
+    context->lacks.ended_at = segment_of_fault(at, length, false);
     return HAYRO_JBIG2_OK;
 }
 
@@ -49,17 +54,22 @@ static void warn_of_several(struct context *context, uint32_t segment, size_t co
         tell_answer(context, SEVERITY_WARNING, segment, count == 1 ? one : what, error);
 }
 
-void tell_passed_over(struct context *context, hayro_jbig2_passed_over passed) {
+static void tell_passed_over(struct context *context, hayro_jbig2_passed_over passed) {
     warn_of_several(context, passed.segment, passed.count, "a segment was passed over",
                     "segments were passed over, this one first", passed.error);
 }
 
-void tell_left_out(struct context *context, uint32_t why, const hayro_jbig2_left_out *left_out) {
+void tell_lacks(struct context *context) {
+    struct lacks lacks = context->lacks;
+    const hayro_jbig2_left_out *left_out = &lacks.left_out;
+    context->lacks = (struct lacks){0};
+    tell_passed_over(context, lacks.passed);
     tell_passed_over(context, (hayro_jbig2_passed_over){left_out->segments, left_out->segment, left_out->error});
     warn_of_several(context, NO_SEGMENT, left_out->pages, "a page is left out", "pages are left out, the first as follows",
                     left_out->page_error);
     if (left_out->list_error != HAYRO_JBIG2_OK)
-        tell_answer(context, SEVERITY_WARNING, NO_SEGMENT, "the rest of the segments is left out", left_out->list_error);
-    else if (why == HAYRO_JBIG2_PARSE_UNEXPECTED_EOF || why == HAYRO_JBIG2_SEGMENT_UNKNOWN_TYPE)
-        tell_answer(context, SEVERITY_WARNING, NO_SEGMENT, "a segment is left out", why);
+        tell_answer(context, SEVERITY_WARNING, lacks.ended_at, "the rest of the segments is left out",
+                    left_out->list_error);
+    else if (lacks.why == HAYRO_JBIG2_PARSE_UNEXPECTED_EOF || lacks.why == HAYRO_JBIG2_SEGMENT_UNKNOWN_TYPE)
+        tell_answer(context, SEVERITY_WARNING, lacks.cut_at, "a segment is left out", lacks.why);
 }

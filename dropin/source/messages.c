@@ -21,9 +21,20 @@ void tell(struct context *context, enum severity severity, uint32_t segment, con
         context->listen(context->listener_data, text, severity, segment);
 }
 
+static const char *text_of(uint32_t answer) {
+    switch (answer) {
+    case PAST_THE_LIMIT:
+        return "the limit of work is reached";
+    case NO_MEMORY_OR_PAST_THE_LIMIT:
+        return "out of memory, or the limit of work is reached";
+    default:
+        return hayro_jbig2_error_text(answer);
+    }
+}
+
 void tell_answer(struct context *context, enum severity severity, uint32_t segment, const char *what, uint32_t answer) {
     char text[LONGEST];
-    snprintf(text, sizeof text, "%s: %s", what, hayro_jbig2_error_text(answer));
+    snprintf(text, sizeof text, "%s: %s", what, text_of(answer));
     tell(context, severity, segment, text);
 }
 
@@ -31,7 +42,8 @@ int jbig2_error(struct context *context, enum severity severity, uint32_t segmen
     char text[LONGEST];
     va_list words;
     va_start(words, format);
-    vsnprintf(text, sizeof text, format, words);
+    if (vsnprintf(text, sizeof text, format, words) < 0)
+        text[0] = 0;
     va_end(words);
     tell(context, severity, segment, text);
     return -1;

@@ -14,6 +14,16 @@
 #define BAD_SYMBOLS(page) "\0\0\0\1\0\0" page "\0\0\0\x0F\0\x09\0\0\0\1\0\0\0\1\x5F\x80\x80\0\x40"
 /* A header that refers to its own number. */
 #define JUNK "                "
+enum { SPACES = 0x20202020 };
+/* An extension whose page, and what it refers to, have four bytes; and regions of unknown length: in arithmetic coding, by
+ * MMR, and without an end marker. */
+#define LONG_FORMS "\0\1\0\1\x7E\xE0\0\0\1\0\0\0\0\2\0\0\0\1\0\0\0\4\0\0\0\0"
+#define UNKNOWN_LENGTH(number) \
+    "\0\0\0" number "\x26\0\1\xFF\xFF\xFF\xFF\0\0\0\1\0\0\0\1\0\0\0\0\0\0\0\0\0"
+#define TEMPLATE "\0\x03\xFF\xFD\xFF\x02\xFE\xFE\xFE"
+#define UNKNOWN_ARITHMETIC UNKNOWN_LENGTH("\2") TEMPLATE "\xFF\xAC\0\0\0\1"
+#define UNKNOWN_MMR UNKNOWN_LENGTH("\3") "\1\x80\0\0\0\0\0\1"
+#define UNMARKED UNKNOWN_LENGTH("\5") TEMPLATE "\xFF\xAC\0\0\0"
 #define FILE_HEADER "\x97JB2\r\n\x1A\n"
 
 /* The bytes of a literal without its end. */
@@ -43,16 +53,39 @@ static void draws(bool is_file, const uint8_t *bytes, size_t length, int row, un
 }
 
 static void draws_what_is_left(void) {
-    draws(false, BYTES(PAGE REGION JUNK), 0x80, 1, NO_SEGMENT, ended);
+    draws(false, BYTES(PAGE REGION JUNK), 0x80, 1, SPACES, ended);
     draws(false, BYTES(PAGE BAD_SYMBOLS("\1") REGION), 0x80, 1, 1, passed);
-    draws(false, BYTES(PAGE BAD_SYMBOLS("\1") REGION JUNK), 0x80, 2, NO_SEGMENT, ended);
+    draws(false, BYTES(PAGE BAD_SYMBOLS("\1") REGION JUNK), 0x80, 2, SPACES, ended);
     draws(false, BYTES(PAGE_OF("\1", "\xFF\xFF\xFF\xFF") REGION), 0x80, 0, 0, "");
     draws(true, BYTES(FILE_HEADER "\3" PAGE BAD_SYMBOLS("\0") REGION), 0x80, 1, 1, passed);
-    draws(true, BYTES(FILE_HEADER "\3" PAGE REGION JUNK), 0x80, 1, NO_SEGMENT, ended);
+    draws(true, BYTES(FILE_HEADER "\3" PAGE REGION JUNK), 0x80, 1, SPACES, ended);
     draws(true, BYTES(FILE_HEADER "\3" PAGE REGION PAGE_OF("\2", "\0\0\0\0")), 0x80, 1, NO_SEGMENT,
           "a page is left out: page has zero width or height");
     draws(true, BYTES(FILE_HEADER "\3" PAGE REGION PAGE_OF("\2", "\0\0\0\0") PAGE_OF("\3", "\0\1\0\0")), 0x80, 1,
           NO_SEGMENT, "2 pages are left out, the first as follows: page has zero width or height");
+}
+
+static const char cut[] = "a segment is left out: unexpected end of input";
+static const char unknown[] = "a segment is left out: unknown or reserved segment type";
+static const char unmarked[] = "the rest of the segments is left out: missing end marker for unknown-length region";
+static const char miscounted[] = "the rest of the segments is left out: invalid referred-to segment count";
+
+/* The number of a segment of another form is found after those of each form. */
+static void tells_which_segment_is_left_out(void) {
+    draws(false, BYTES(PAGE REGION "\0\0\0\7\x3F"), 0x80, 1, 7, unknown);
+    draws(false, BYTES(PAGE REGION "\0\0\0\7"), 0x80, 1, 7, cut);
+    draws(false, BYTES(PAGE REGION "\0\0\0"), 0x80, 1, NO_SEGMENT, cut);
+    draws(false, BYTES(PAGE REGION "\0\0\0\7\x26\0\1\0\0\0\1"), 0x80, 1, 7, cut);
+    draws(true, BYTES(FILE_HEADER "\3" PAGE REGION "\0\0\0\7\x26\0\1\0\0\0\1"), 0x80, 1, 7, cut);
+    draws(true, BYTES(FILE_HEADER "\1\0\0\0\1" PAGE REGION "\0\0\0\7\x3F"), 0x80, 1, 7, unknown);
+    /* Page associations, references and counts of four bytes. */
+    draws(false, BYTES(PAGE REGION LONG_FORMS "\0\1\0\3\x3F"), 0x80, 1, 0x10003, unknown);
+    draws(false, BYTES(PAGE REGION LONG_FORMS "\0\0\0\7\x30\xA0"), 0x80, 1, 7, miscounted);
+    draws(false, BYTES(PAGE REGION LONG_FORMS "\0\0\0\7\x30\xFF\xFF\xFF\xFF"), 0x80, 1, 7, cut);
+    /* Unknown lengths, with MMR data and without. */
+    draws(false, BYTES(PAGE UNKNOWN_ARITHMETIC "\0\0\0\7\x3F"), 0x80, 1, 7, unknown);
+    draws(false, BYTES(PAGE REGION UNKNOWN_MMR "\0\0\0\7\x3F"), 0x80, 1, 7, unknown);
+    draws(false, BYTES(PAGE REGION UNMARKED), 0x80, 1, 5, unmarked);
 }
 
 /* The same by lenient reading, which the environment asks for; another word asks for nothing. */
@@ -65,7 +98,7 @@ static void reads_leniently_where_it_is_asked_to(void) {
     draws(true, BYTES(FILE_HEADER "\3" PAGE REGION JUNK), -1, 0, NO_SEGMENT,
           "the page is refused: segment refers to an invalid segment");
     setenv("HAYRO_JBIG2_READING", "any", 1);
-    draws(false, BYTES(PAGE REGION JUNK), 0x80, 1, NO_SEGMENT, ended);
+    draws(false, BYTES(PAGE REGION JUNK), 0x80, 1, SPACES, ended);
     unsetenv("HAYRO_JBIG2_READING");
 }
 
@@ -114,6 +147,7 @@ static void tells_of_cut_globals(void) {
 
 void survives_damage(void) {
     draws_what_is_left();
+    tells_which_segment_is_left_out();
     reads_leniently_where_it_is_asked_to();
     tells_of_bad_globals();
     tells_of_cut_globals();

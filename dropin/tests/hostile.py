@@ -199,7 +199,7 @@ def faults_of_file(name: str, data: bytes) -> list[str]:
                 return [f"{name}: too long"]
             meant += pictures_of(ended.output)
         ended, pictures = by_program(LENIENT, [str(path)], room)
-        is_limited = pictures != meant and b"out of memory" in ended.errors
+        is_limited = pictures != meant and b"the limit of work" in ended.errors
         if is_limited:
             ended, pictures = by_program(UNLIMITED, [str(path)], room)
         salvaged, more = by_program(OURS, [str(path)], room)

@@ -24,10 +24,10 @@ class Library:
     folder: pathlib.Path | None = None
     settings: tuple[str, ...] = ()
 
-    def run(self, words: list[str]) -> Ended:
+    def run(self, words: list[str], limits: Limits = LIMITS) -> Ended:
         """Runs a program over this library."""
         head = ["env", f"LD_LIBRARY_PATH={self.folder}", *self.settings] if self.folder else []
-        return run(head + words, LIMITS)
+        return run(head + words, limits)
 
 
 OURS = Library("this library", pathlib.Path(__file__).resolve().parents[1] / "out")
@@ -48,11 +48,11 @@ class Peer:
         """The program's own name."""
         return self.command.split()[0]
 
-    def drawn(self, library: Library, pdf: pathlib.Path, room: pathlib.Path) -> Ended:
+    def drawn(self, library: Library, pdf: pathlib.Path, room: pathlib.Path, limits: Limits = LIMITS) -> Ended:
         """Draws all pages into an empty folder."""
         words = shlex.split(self.command)
         names = {"{pdf}": str(pdf), "{out}": str(room / "%d.pbm")}
-        return library.run([names.get(word, word) for word in words])
+        return library.run([names.get(word, word) for word in words], limits)
 
 
 # Threads draw bands. Without -A 0 mutool itself draws the edges of some bands otherwise.

@@ -9,9 +9,9 @@ struct outcome {
     struct heard heard;
 };
 
-static struct outcome of_a_stream(struct allocator *allocator, bool are_freed_first) {
+static struct outcome of_a_stream(struct allocator *of_globals, struct allocator *allocator, bool are_freed_first) {
     struct outcome outcome = {0};
-    struct globals *globals = made_globals(allocator, &outcome.heard);
+    struct globals *globals = made_globals(of_globals, &outcome.heard);
     struct context *context = embedded_context(allocator, globals, &outcome.heard);
     for (size_t at = 0; at < stream.length; at += 64) {
         jbig2_data_in(context, stream.at + at, stream.length - at < 64 ? stream.length - at : 64);
@@ -54,10 +54,14 @@ static struct outcome of_a_file(struct allocator *allocator) {
     return outcome;
 }
 
-enum way { STREAM, STREAM_WITHOUT_GLOBALS, FILE_OF_PAGES, WAYS };
+/* With its globals, with globals that are freed first, and with such as another allocator has. */
+enum way { STREAM, STREAM_WITHOUT_GLOBALS, STREAM_WITH_COPY, STREAM_WITH_BORROWED, FILE_OF_PAGES, WAYS };
 
 static struct outcome run(enum way way, struct allocator *allocator) {
-    return way == FILE_OF_PAGES ? of_a_file(allocator) : of_a_stream(allocator, way == STREAM_WITHOUT_GLOBALS);
+    bool has_own = way == STREAM_WITH_COPY || way == STREAM_WITH_BORROWED;
+    bool are_freed_first = way == STREAM_WITHOUT_GLOBALS || way == STREAM_WITH_COPY;
+    return way == FILE_OF_PAGES ? of_a_file(allocator)
+                                : of_a_stream(has_own ? NULL : allocator, allocator, are_freed_first);
 }
 
 void refuses_each_request(void) {

@@ -53,11 +53,14 @@ struct context *file_context(struct allocator *allocator, struct heard *heard);
 /* The globals of the tests, decoded; null where memory is refused. */
 struct globals *made_globals(struct allocator *allocator, struct heard *heard);
 
-/* refusals.c, threads.c, traps.c, pages.c, damage.c */
+/* refusals.c, threads.c, traps.c, pages.c, damage.c, reentry.c, limits.c */
 void refuses_each_request(void);
 void shares_globals_among_threads(void);
 void meets_the_traps(void);
 void hands_out_pages(void);
 void survives_damage(void);
+void comes_back_out_of_allocators(void);
+void leaves_by_longjmp(void);
+void keeps_to_the_limit_of_work(void);
 
 #endif

@@ -211,6 +211,23 @@ static void refuses_pages_with_the_globals_of_no_context(void) {
     CHECK(memory.held == 0);
 }
 
+/* The second time they are the same ones. */
+static void makes_globals_of_a_context_once(void) {
+    struct counted memory = counted_allocator();
+    struct heard heard = {0};
+    struct context *maker = embedded_context(&memory.base, NULL, &heard);
+    CHECK(jbig2_data_in(maker, shared.at, shared.length) == 0);
+    struct globals *globals = jbig2_make_global_ctx(maker);
+    struct context *context = embedded_context(&memory.base, globals, &heard);
+    CHECK(jbig2_make_global_ctx(maker) == globals);
+    struct image *image = drawn(context);
+    CHECK(image != NULL && is_meant(image));
+    jbig2_release_page(context, image);
+    jbig2_global_ctx_free(globals);
+    jbig2_ctx_free(context);
+    CHECK(memory.held == 0);
+}
+
 static void takes_one_version_alone(void) {
     const int versions[][2] = {{0, 18}, {0, 20}, {1, 19}, {0, 0}, {-1, 19}};
     struct counted memory = counted_allocator();
@@ -234,5 +251,6 @@ void meets_the_traps(void) {
     hands_out_nothing_before_the_end();
     takes_null_pointers();
     refuses_pages_with_the_globals_of_no_context();
+    makes_globals_of_a_context_once();
     takes_one_version_alone();
 }
