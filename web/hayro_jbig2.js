@@ -5,6 +5,7 @@
  * (README.md says which).
  */
 
+import { bytesOf } from "./bytes.js";
 import { ERRORS } from "./errors.js";
 
 const OUT_OF_MEMORY = 41;
@@ -28,7 +29,10 @@ const PAGE = 65536;
 const BEGINNING = [0x97, 0x4a, 0x42, 0x32];
 
 /** Whether bytes begin as a JBIG2 file does. Other bytes are those of an embedded page, as PDF has them. */
-export const isFile = (bytes) => BEGINNING.every((byte, place) => bytes[place] === byte);
+export function isFile(source) {
+  const bytes = bytesOf(source);
+  return BEGINNING.every((byte, place) => bytes[place] === byte);
+}
 
 /** The size that is handed out for a request: a multiple of 16, of at most four sizes in each doubling. */
 function rounded(size) {
@@ -123,6 +127,7 @@ export class Decoder {
    * @param most the most bytes of memory that decoding may take
    */
   static async load(source, most = 2 ** 31) {
+    if (!(typeof most === "number" && most >= 0)) throw new TypeError("the most bytes of memory have to be a number");
     const decoder = new Decoder();
     const heap = (decoder.#heap = new Heap(most));
     const imports = {
@@ -145,14 +150,15 @@ export class Decoder {
 
   /** How many pages a file has. */
   pageCount(bytes, { strict = false, salvage = false } = {}) {
-    return this.#with([bytes], 0, ([stream]) =>
+    return this.#with([bytesOf(bytes)], 0, ([stream]) =>
       this.#file(stream, { strict, salvage }, (file) => Number(this.#exports.hayro_jbig2_file_page_count(file))),
     );
   }
 
   /**
    * Decodes a page: of a file by its index from 0, or an embedded page with its globals, if it has some. Bytes with globals
-   * are an embedded page, others a file where `isFile` says so.
+   * are an embedded page, others a file where `isFile` says so. Bytes are an ArrayBuffer or a view of one; other values are
+   * refused by a TypeError.
    *
    * With `strict` the first fault is thrown. With `salvage`, for viewers of damaged files, whatever a lenient decoder refuses
    * is left out, and `leftOut` tells what: segments that pages share, as `passedOver`; how many `pages` of a file, with the
@@ -161,8 +167,9 @@ export class Decoder {
    *   ImageData has them, and the segments that were passed over: their `count`, `segment` and `error` of the first
    */
   decode(bytes, { globals = null, page = 0, strict = false, salvage = false } = {}) {
+    if (!Number.isSafeInteger(page)) throw new TypeError("the page's index has to be a whole number");
     const reading = { strict, salvage };
-    const inputs = globals === null ? [bytes] : [bytes, globals];
+    const inputs = (globals === null ? [bytes] : [bytes, globals]).map(bytesOf);
     return this.#with(inputs, 0, ([stream, shared]) => {
       if (globals === null && isFile(bytes)) {
         return this.#file(stream, reading, (file) => this.#drawn("file", file, [BigInt(page)], reading));
@@ -180,18 +187,18 @@ export class Decoder {
   /** A handle of a file, of globals or of an embedded page, for the work. */
   #file(stream, { strict, salvage }, work) {
     if (salvage) return this.#held(work, "hayro_jbig2_file_new_salvaged", NO_WORK_LIMIT, ...stream);
-    return this.#held(work, "hayro_jbig2_file_new", Number(strict), ...stream);
+    return this.#held(work, "hayro_jbig2_file_new", strict ? 1 : 0, ...stream);
   }
 
   #globals(stream, { strict, salvage }, work) {
     if (salvage) return this.#held(work, "hayro_jbig2_globals_new_salvaged", NO_WORK_LIMIT, ...stream);
-    return this.#held(work, "hayro_jbig2_globals_new", Number(strict), ...stream);
+    return this.#held(work, "hayro_jbig2_globals_new", strict ? 1 : 0, ...stream);
   }
 
   #page(stream, globals, { strict, salvage }, work) {
     const how = globals.length ? "with" : "alone";
     if (salvage) return this.#held(work, `jbig2_c_salvaged_${how}`, ...globals, ...stream);
-    return this.#held(work, `jbig2_c_page_${how}`, Number(strict), ...globals, ...stream);
+    return this.#held(work, `jbig2_c_page_${how}`, strict ? 1 : 0, ...globals, ...stream);
   }
 
   /** Draws a page of a handle, and returns what `decode` does. */

@@ -2,22 +2,23 @@
 import { Decoder, isFile } from "./hayro_jbig2.js";
 import { Pdf, isPdf } from "./pdf.js";
 
-const loaded = Decoder.load(fetch(new URL("hayro_jbig2.wasm", import.meta.url)));
+let decoder;
 
-/** What there is to decode in a file: the name of each page, and how to decode it. With `salvage` what is left of damaged pages. */
-async function pagesOf(bytes, salvage) {
-  const decoder = await loaded;
+/**
+ * What there is to decode in a file: the name of each page, and how to decode it; and what of the file could not be read. With
+ * `salvage` what is left of damaged pages.
+ */
+async function contentsOf(bytes, salvage) {
   if (isPdf(bytes)) {
     const pdf = await Pdf.open(bytes);
-    return pdf.images().map((number) => {
-      const decode = ({ bytes, globals }) => decoder.decode(bytes, { globals, salvage });
-      return [`object ${number}`, () => pdf.streams(number).then(decode)];
-    });
+    const decode = ({ bytes, globals }) => decoder.decode(bytes, { globals, salvage });
+    const pages = pdf.images().map((number) => [`object ${number}`, () => pdf.streams(number).then(decode)]);
+    return { pages, faults: pdf.faults };
   }
-  if (!isFile(bytes)) return [["embedded page", () => decoder.decode(bytes, { salvage })]];
+  if (!isFile(bytes)) return { pages: [["embedded page", () => decoder.decode(bytes, { salvage })]], faults: [] };
   const count = decoder.pageCount(bytes, { salvage });
   const decode = (page) => decoder.decode(bytes, { page, salvage });
-  return Array.from({ length: count }, (_, page) => [`page ${page + 1} of ${count}`, () => decode(page)]);
+  return { pages: Array.from({ length: count }, (_, page) => [`page ${page + 1} of ${count}`, () => decode(page)]), faults: [] };
 }
 
 const described = (error) => (error.error ? `${error.error}: ${error.message}` : String(error.message ?? error));
@@ -36,29 +37,38 @@ function lacking({ passedOver, leftOut }) {
 }
 
 /** Decodes a page and sends it to the page that shows it, or its error. */
-async function show(file, name, decode) {
+async function show(name, decode) {
   try {
     const began = performance.now();
     const page = await decode();
     const milliseconds = performance.now() - began;
     const { width, height, data } = page;
-    postMessage({ file, name, width, height, data, milliseconds, lacks: lacking(page) }, [data.buffer]);
+    postMessage({ name, width, height, data, milliseconds, lacks: lacking(page) }, [data.buffer]);
   } catch (error) {
-    postMessage({ file, name, error: described(error) });
+    postMessage({ name, error: described(error) });
   }
 }
 
-async function showFile({ file, bytes, salvage }) {
+async function showFile({ bytes, salvage }) {
   try {
-    const pages = await pagesOf(bytes, salvage);
-    for (const [name, decode] of pages) await show(file, name, decode);
-    if (pages.length === 0) postMessage({ file, error: "no JBIG2 page in this file" });
+    const { pages, faults } = await contentsOf(bytes, salvage);
+    for (const [name, decode] of pages) {
+      postMessage({ begins: name });
+      await show(name, decode);
+    }
+    for (const fault of faults) postMessage({ error: `left out of this file: ${fault}` });
+    if (pages.length === 0) postMessage({ error: "no JBIG2 page in this file" });
   } catch (error) {
-    postMessage({ file, error: described(error) });
+    postMessage({ error: described(error) });
   }
-  postMessage({ file, done: true });
+  postMessage({ isDone: true });
 }
 
-// One file after the other.
-let last = Promise.resolve();
-onmessage = ({ data }) => (last = last.then(() => showFile(data)));
+// The page that shows them sends a file when the one before is done.
+onmessage = ({ data }) => showFile(data);
+try {
+  decoder = await Decoder.load(fetch(new URL("hayro_jbig2.wasm", import.meta.url)));
+  postMessage({ isReady: true });
+} catch (error) {
+  postMessage({ error: described(error) });
+}

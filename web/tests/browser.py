@@ -19,7 +19,9 @@ import threading
 from chromium import Browser
 
 WEB = pathlib.Path(__file__).resolve().parents[1]
-FILES = "index.html page.css page.js worker.js hayro_jbig2.js errors.js pdf.js hayro_jbig2.wasm".split()
+FILES = {
+    "/" + str(path.relative_to(WEB)) for kind in ("html", "css", "js", "wasm") for path in WEB.rglob(f"*.{kind}") if "tests" not in path.parts
+}
 FILES_AT_ONCE = 100
 # All that is shown: the file, the text and the size of each picture, and the sum of its packed rows, black 1.
 SHOWN = """(async () => {
@@ -81,11 +83,16 @@ def choose(browser, files):
     wait_until_shown(browser, files)
 
 
-def drop(browser, files):
+def hand_over(browser, files):
     """Drops files onto the page."""
     data = {"items": [], "files": [str(file.resolve()) for file in files], "dragOperationsMask": 1}
     for kind in ("dragEnter", "dragOver", "drop"):
         browser.call("Input.dispatchDragEvent", type=kind, x=200, y=200, data=data)
+
+
+def drop(browser, files):
+    """Drops files onto the page, and waits for their pages."""
+    hand_over(browser, files)
     wait_until_shown(browser, files)
 
 
@@ -145,6 +152,44 @@ def shows_what_is_left(browser, folder):
     return outcomes[0] == (dot, [True, True]) and isinstance(outcomes[1][0], str)
 
 
+# A page of 1 by 65535 pixels with a region of 65535 by 65535, which runs for minutes.
+SLOW = (
+    bytes.fromhex("974A42320D0A1A0A 01 00000001")
+    + bytes.fromhex("00000000 30 00 01 00000013 00000001 0000FFFF" + "00" * 11)
+    + bytes.fromhex("00000001 26 00 01 0000001E 0000FFFF 0000FFFF" + "00" * 9 + "04 03FFFDFF02FEFEFE 0000FFAC 000000C8")
+    + bytes.fromhex("00000002 31 00 01 00000000 00000003 33 00 00 00000000")
+)
+
+
+def goes_on(browser, folder):
+    """What is wrong where a file can't be read, takes long or is stopped: the files after it have to be shown all the same."""
+    slow, good = folder / "slow.jb2", folder / "good.jb2"
+    slow.write_bytes(SLOW)
+    good.write_bytes((folder / "t88-h1.jb2").read_bytes())
+    unreadable = folder / "a folder"
+    unreadable.mkdir()
+    faults = []
+
+    def look(name, file, text):
+        wait_until_shown(browser, [good])
+        pages = shown(browser)
+        if [text in page for page in pages.get(file.name, []) if isinstance(page, str)] != [True] or len(pages.get(good.name, [])) != 3:
+            faults.append(f"{name}: {pages}")
+
+    browser.evaluate('document.querySelector("#seconds").value = 1')
+    hand_over(browser, [unreadable, good])
+    look("a folder", unreadable, "can't be read")
+    hand_over(browser, [slow, good])
+    browser.wait_for('document.querySelector("#note").textContent.startsWith("slow.jb2 is being decoded.")')
+    look("a slow file", slow, "slow.jb2, page 1 of 1: stopped, since a page took more than 1 seconds")
+    browser.evaluate('document.querySelector("#seconds").value = 1000')
+    hand_over(browser, [slow, good])
+    browser.wait_for('document.querySelector("#note").textContent.startsWith("slow.jb2 is being decoded.")')
+    browser.evaluate('document.querySelector("#stop").click()')
+    look("a file that is stopped", slow, "stopped")
+    return faults
+
+
 def ask_for_salvage(browser, salvage):
     browser.evaluate(f'document.querySelector("#salvage").checked = {json.dumps(salvage)}')
 
@@ -155,23 +200,26 @@ def test(browser, folder):
     shows_damage = shows_what_is_left(browser, folder)
     if not shows_damage:
         print("a damaged page is not shown as it is meant")
+    faults = goes_on(browser, folder)
+    for fault in faults:
+        print(f"the page doesn't go on after {fault}")
     # What jbig2-decode draws leniently.
     ask_for_salvage(browser, False)
     names, wrong = list(meant), []
     for begin in range(0, len(names), FILES_AT_ONCE):
         some = names[begin : begin + FILES_AT_ONCE]
         # By turns in the two ways that a user has.
-        hand_over = drop if begin // FILES_AT_ONCE % 2 else choose
-        hand_over(browser, [folder / name for name in some])
+        give = drop if begin // FILES_AT_ONCE % 2 else choose
+        give(browser, [folder / name for name in some])
         pages = shown(browser)
         wrong += [name for name in some if not are_same(pages.get(name, []), meant[name], name.endswith(".jb2"))]
     for name in wrong:
         print(f"differs: {name}")
-    others = Server.asked - {f"GET /{name}" for name in FILES}
+    others = Server.asked - {f"GET {name}" for name in FILES}
     if others:
         print(f"the page has asked for more than its own files: {others}")
     print(f"browser: {len(names) - len(wrong)} files are shown as they are meant, {len(wrong)} not")
-    return 1 if wrong or others or not names or not shows_damage else 0
+    return 1 if wrong or others or not names or not shows_damage or faults else 0
 
 
 def take_picture(browser, picture, files):
