@@ -41,7 +41,10 @@ function rounded(size) {
   return Math.ceil(size / step) * step;
 }
 
-/** The heap that the module asks for memory: blocks that are given back wait by size, others are cut off the end. */
+/**
+ * The heap that the module asks for memory: blocks that are given back wait by size, others are cut off the end. When nothing is
+ * held any more, it begins anew, so that blocks of earlier sizes take no room.
+ */
 class Heap {
   constructor(most) {
     this.most = most;
@@ -52,7 +55,7 @@ class Heap {
   /** Takes over the memory from its present end on. */
   begin(memory) {
     this.memory = memory;
-    this.end = this.limit = memory.buffer.byteLength;
+    this.start = this.end = this.limit = memory.buffer.byteLength;
   }
 
   /** A block aligned to 16, or 0 where there is no memory for it. */
@@ -94,6 +97,11 @@ class Heap {
   give(block, size) {
     const room = rounded(size);
     this.held -= room;
+    if (this.held === 0) {
+      this.free.clear();
+      this.end = this.start;
+      return;
+    }
     if (!this.free.has(room)) this.free.set(room, []);
     this.free.get(room).push(block);
   }
@@ -111,19 +119,25 @@ function joined(one, other) {
   return { ...one, passedOver: other.passedOver, rest: one.rest ?? other.rest };
 }
 
-async function bodyOf(response) {
-  if (!response.ok) throw new Error(`hayro_jbig2.wasm could not be loaded: ${response.status} ${response.statusText}`);
-  return response.arrayBuffer();
+/** A module, compiled or as bytes, with its imports. */
+async function instanceOf(source, imports) {
+  if (typeof source?.arrayBuffer !== "function") {
+    const made = await WebAssembly.instantiate(source, imports);
+    return made.instance ?? made;
+  }
+  if (!source.ok) throw new Error(`hayro_jbig2.wasm could not be loaded: ${source.status} ${source.statusText}`);
+  return instanceOf(await source.arrayBuffer(), imports);
 }
 
 /** A loaded decoder. One page is decoded at a time; several may be loaded, in workers of their own. */
 export class Decoder {
   #heap;
   #exports;
+  #isBroken = false;
 
   /**
    * Loads the module.
-   * @param source the bytes of hayro_jbig2.wasm, or a promise of its Response
+   * @param source hayro_jbig2.wasm as bytes, as a Response or as a WebAssembly.Module, or a promise of one of these
    * @param most the most bytes of memory that decoding may take
    */
   static async load(source, most = 2 ** 31) {
@@ -136,10 +150,9 @@ export class Decoder {
         jbig2_c_give_back: (_memory, block, size) => heap.give(Number(block), Number(size)),
       },
     };
-    const bytes = source instanceof Promise ? await bodyOf(await source) : source;
-    const { instance } = await WebAssembly.instantiate(bytes, imports);
-    decoder.#exports = instance.exports;
-    heap.begin(instance.exports.memory);
+    const { exports } = await instanceOf(await source, imports);
+    decoder.#exports = exports;
+    heap.begin(exports.memory);
     return decoder;
   }
 
@@ -244,8 +257,15 @@ export class Decoder {
     return new DataView(this.#exports.memory.buffer);
   }
 
+  /** Makes a call. After one that doesn't return, the module's stack and memory are not as they were. */
   #call(name, ...words) {
-    const answer = this.#exports[name](...words);
+    let answer;
+    try {
+      answer = this.#exports[name](...words);
+    } catch (error) {
+      this.#isBroken = true;
+      throw error;
+    }
     if (answer !== 0) throw new Jbig2Error(answer);
   }
 
@@ -271,13 +291,14 @@ export class Decoder {
       try {
         return work(handle);
       } finally {
-        this.#exports.jbig2_c_release(handle);
+        if (!this.#isBroken) this.#exports.jbig2_c_release(handle);
       }
     });
   }
 
   /** Copies inputs into the module's memory, takes `room` bytes more, and gives all back after the work. */
   #with(inputs, room, work) {
+    if (this.#isBroken) throw new Error("an earlier call was broken off: load another decoder");
     const blocks = [];
     const take = (size) => {
       const block = this.#heap.take(size);

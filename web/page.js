@@ -33,7 +33,11 @@ function take(files) {
   for (const file of files) queue.add(file, options);
 }
 
-element("choose").addEventListener("change", (event) => take(event.target.files));
+element("choose").addEventListener("change", ({ target }) => {
+  take(target.files);
+  // So that the same file can be chosen again.
+  target.value = "";
+});
 stop.addEventListener("click", () => queue.stop());
 for (const kind of ["dragenter", "dragover"]) {
   document.addEventListener(kind, (event) => (event.preventDefault(), document.body.classList.add("over")));

@@ -97,6 +97,58 @@ function checkTruth() {
   for (const untruth of [0, "", null, undefined, NaN]) check(outcome(() => decoder.pageCount(damaged, { strict: untruth })) === "3", `strict: ${untruth} is strict`);
 }
 
+/** An embedded page without a region. */
+function blankPage(width, height) {
+  const page = Buffer.from("00000000300001000000130000000000000000" + "00".repeat(11), "hex");
+  page.writeUInt32BE(width, 11);
+  page.writeUInt32BE(height, 15);
+  return page;
+}
+
+/** What was decoded earlier takes no room from a page: pages of many sizes, of which each has room alone. */
+async function checkRoom() {
+  const small = await Decoder.load(module, 6 << 20);
+  for (let width = 1000; width < 8000; width += 500) {
+    const made = outcome(() => small.decode(blankPage(width, 2000)));
+    check(typeof made === "string", `a page of ${width} by 2000 after others: ${made.message}`);
+  }
+}
+
+/** A module of one call, which doesn't return: a memory, and hayro_jbig2_globals_new that comes to an `unreachable`. */
+const trapping = () => {
+  const text = (word) => [word.length, ...Buffer.from(word)];
+  const section = (number, ...bytes) => [number, bytes.length, ...bytes];
+  const [I32, I64] = [0x7f, 0x7e];
+  return Uint8Array.from([
+    ...[0, 0x61, 0x73, 0x6d, 1, 0, 0, 0],
+    ...section(1, 1, 0x60, 5, I64, I32, I64, I64, I64, 1, I32),
+    ...section(3, 1, 0),
+    ...section(5, 1, 0, 1),
+    ...section(7, 2, ...text("memory"), 2, 0, ...text("hayro_jbig2_globals_new"), 0, 0),
+    ...section(10, 1, 3, 0, 0, 0x0b),
+  ]);
+};
+
+/** After a call that doesn't return, a decoder says that another one is to be loaded. */
+async function checkTrap() {
+  const broken = await Decoder.load(trapping());
+  const made = [1, 2].map(() => outcome(() => broken.decode(file, { globals: file })));
+  check(made[0] instanceof WebAssembly.RuntimeError && /load another/.test(made[1].message), `after a trap: ${made[1]}`);
+}
+
+/** All that the module may come as. */
+async function checkSources() {
+  const compiled = await WebAssembly.compile(module);
+  const response = () => new Response(module, { headers: { "content-type": "application/wasm" } });
+  const sources = [module, compiled, response(), Promise.resolve(module), Promise.resolve(compiled), Promise.resolve(response())];
+  for (const [index, source] of sources.entries()) {
+    const made = await Decoder.load(source).then((loaded) => loaded.pageCount(file), String);
+    check(made === 3, `source ${index} of the module: ${made}`);
+  }
+  const missing = await Decoder.load(Promise.resolve(new Response("", { status: 404 }))).catch((error) => error.message);
+  check(/could not be loaded: 404/.test(missing), `a module that is not there: ${missing}`);
+}
+
 /** A decoder has as much memory as it may have, and no wrong number lifts that. */
 async function checkMost() {
   for (const most of [NaN, -1, "1", null, {}, 5n]) {
@@ -132,6 +184,9 @@ checkBytes();
 checkWrong();
 checkTruth();
 await checkMost();
+await checkRoom();
+await checkTrap();
+await checkSources();
 checkRandomCalls();
 console.log(`loader: ${CALLS} random calls, and each wrong argument: ${failed} faults`);
 process.exit(failed ? 1 : 0);
