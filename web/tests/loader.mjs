@@ -114,17 +114,17 @@ async function checkRoom() {
   }
 }
 
-/** A module of one call, which doesn't return: a memory, and hayro_jbig2_globals_new that comes to an `unreachable`. */
+/** A module of one call, which doesn't return: a memory, and hayro_jbig2_globals_new_within that comes to an `unreachable`. */
 const trapping = () => {
   const text = (word) => [word.length, ...Buffer.from(word)];
   const section = (number, ...bytes) => [number, bytes.length, ...bytes];
   const [I32, I64] = [0x7f, 0x7e];
   return Uint8Array.from([
     ...[0, 0x61, 0x73, 0x6d, 1, 0, 0, 0],
-    ...section(1, 1, 0x60, 5, I64, I32, I64, I64, I64, 1, I32),
+    ...section(1, 1, 0x60, 6, I64, I32, I64, I64, I64, I64, 1, I32),
     ...section(3, 1, 0),
     ...section(5, 1, 0, 1),
-    ...section(7, 2, ...text("memory"), 2, 0, ...text("hayro_jbig2_globals_new"), 0, 0),
+    ...section(7, 2, ...text("memory"), 2, 0, ...text("hayro_jbig2_globals_new_within"), 0, 0),
     ...section(10, 1, 3, 0, 0, 0x0b),
   ]);
 };
