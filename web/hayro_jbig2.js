@@ -48,6 +48,13 @@ function checkLimit(limit) {
 
 const wordOf = (limit) => (limit === Infinity ? NO_WORK_LIMIT : BigInt(limit));
 
+/** The module beside this file: fetched, or read by Node, which fetches no files. */
+function ownModule() {
+  const place = new URL("hayro_jbig2.wasm", import.meta.url);
+  const files = place.protocol === "file:" && globalThis.process?.getBuiltinModule?.("node:fs/promises");
+  return files ? files.readFile(place) : fetch(place);
+}
+
 /** A module, compiled or as bytes, with its imports. */
 async function instanceOf(source, imports) {
   if (typeof source?.arrayBuffer !== "function") {
@@ -66,10 +73,11 @@ export class Decoder {
 
   /**
    * Loads the module.
-   * @param source hayro_jbig2.wasm as bytes, as a Response or as a WebAssembly.Module, or a promise of one of these
+   * @param source hayro_jbig2.wasm as bytes, as a Response or as a WebAssembly.Module, or a promise of one of these; that
+   *   beside this file where it isn't given (in Node from 20.16 on)
    * @param most the most bytes of memory that decoding may take
    */
-  static async load(source, most = 2 ** 31) {
+  static async load(source = ownModule(), most = 2 ** 31) {
     if (!(typeof most === "number" && most >= 0)) throw new TypeError("the most bytes of memory have to be a number");
     const decoder = new Decoder();
     const heap = (decoder.#heap = new Heap(most));
