@@ -13,6 +13,7 @@ import { Jbig2Error, OUT_OF_MEMORY, WorkLimitReached } from "./jbig2_error.js";
 export { DecodedPage, Jbig2Error, WorkLimitReached };
 
 const UNEXPECTED_END = 1;
+const ENDS_OF_LINE = [0x0a, 0x0d];
 // In place of the memory of a caller in C, the heap here; and no limit of work.
 const MEMORY = 0n;
 const NO_WORK_LIMIT = 2n ** 64n - 1n;
@@ -108,13 +109,24 @@ export class Decoder {
 
   /**
    * Whether the bytes of a file or of an embedded page end inside of a segment. Lenient reading and salvage leave that segment
-   * out, and don't count it.
+   * out, and don't count it. The end of a line after the last segment, as PDF files have it, is none.
    */
-  endsEarly(bytes, { workLimit = null } = {}) {
+  endsEarly(source, { workLimit = null } = {}) {
     checkLimit(workLimit);
+    const bytes = bytesOf(source);
+    let end = bytes.length;
+    let isCutOff = this.#isCutOff(bytes, workLimit);
+    for (let trimmed = 0; isCutOff && trimmed < 2 && ENDS_OF_LINE.includes(bytes[end - 1]); trimmed++) {
+      isCutOff = this.#isCutOff(bytes.subarray(0, --end), workLimit);
+    }
+    return isCutOff;
+  }
+
+  /** Whether strict reading refuses bytes because they end. */
+  #isCutOff(bytes, workLimit) {
     const reading = { strict: true, salvage: false, workLimit };
     try {
-      this.#with([bytesOf(bytes)], 0, ([stream]) => {
+      this.#with([bytes], 0, ([stream]) => {
         if (isFile(bytes)) this.#file(stream, reading, () => {});
         else this.#page(stream, [], reading, () => {});
       });

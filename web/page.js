@@ -1,36 +1,59 @@
 /** The page: files that are dropped or chosen are decoded, and their pages shown. */
-import { figureOf } from "./figures.js";
 import { FileQueue } from "./queue.js";
+import { FileSection } from "./sections.js";
 
 const element = (id) => document.querySelector(`#${id}`);
-const note = element("note");
-const stop = element("stop");
-// What is being decoded.
-let running = "";
+const [files, note, progress, stop, stopAll] = ["files", "note", "progress", "stop", "stop-all"].map(element);
+
+let sections = [];
+// The page that is being decoded.
+let running = {};
+
+const counted = (count, what) => `${count} ${what}${count === 1 ? "" : "s"}`;
+const summed = (key) => sections.reduce((sum, section) => sum + section[key], 0);
+
+/** What is shown of all files. */
+function summary() {
+  const [pages, incomplete, errors] = ["pageCount", "incompleteCount", "errorCount"].map(summed);
+  const parts = [counted(pages, "page")];
+  if (incomplete) parts.push(`${incomplete} incomplete`);
+  if (errors) parts.push(counted(errors, "error"));
+  return `${counted(sections.length, "file")}: ${parts.join(", ")}.`;
+}
+
+function setRunning(isRunning) {
+  stop.disabled = stopAll.disabled = !isRunning;
+  progress.hidden = !isRunning;
+  files.setAttribute("aria-busy", String(isRunning));
+}
 
 const queue = new FileQueue({
   begin(file, waiting) {
-    running = file;
+    running = {};
     note.textContent = `${file} is being decoded.${waiting ? ` Files that wait: ${waiting}.` : ""}`;
-    stop.disabled = false;
+    progress.removeAttribute("value");
+    setRunning(true);
+    sections.push(new FileSection(file));
+    files.append(sections.at(-1).element);
   },
   page(data) {
-    running = data.begins ? `${data.file}, ${data.begins}` : data.file;
-    if (!data.begins) element("pages").append(figureOf(data));
+    if (data.begins) {
+      running = data.begins;
+      [progress.max, progress.value] = [running.count, running.number - 1];
+    } else sections.at(-1).add(data);
   },
-  fail(file, error) {
-    const name = running.slice(file.length + 2);
-    element("pages").append(figureOf({ file, name, error }));
+  fail(error) {
+    sections.at(-1).add({ ...running, error });
   },
   end(file) {
-    note.textContent = `${file} is done.`;
-    stop.disabled = true;
+    note.textContent = `${file} is done. ${summary()}`;
+    setRunning(false);
   },
 });
 
-function take(files) {
-  const options = { salvage: element("salvage").checked, seconds: Math.max(element("seconds").valueAsNumber || 0, 1) };
-  for (const file of files) queue.add(file, options);
+function take(chosen) {
+  const options = { salvage: element("salvage").checked, isLimited: element("limited").checked, seconds: Math.max(element("seconds").valueAsNumber || 0, 1) };
+  for (const file of chosen) queue.add(file, options);
 }
 
 element("choose").addEventListener("change", ({ target }) => {
@@ -39,6 +62,18 @@ element("choose").addEventListener("change", ({ target }) => {
   target.value = "";
 });
 stop.addEventListener("click", () => queue.stop());
+stopAll.addEventListener("click", () => queue.stopAll());
+element("clear").addEventListener("click", () => {
+  queue.stopAll();
+  files.replaceChildren();
+  sections = [];
+  note.textContent = "";
+});
+element("zoom").addEventListener("change", ({ target: { value } }) => {
+  files.classList.toggle("fit", value === "fit");
+  files.classList.toggle("pixelated", Number(value) > 1);
+  if (value !== "fit") files.style.setProperty("--zoom", value);
+});
 for (const kind of ["dragenter", "dragover"]) {
   document.addEventListener(kind, (event) => (event.preventDefault(), document.body.classList.add("over")));
 }

@@ -29,14 +29,14 @@ export class FileQueue {
   #show;
 
   /**
-   * @param show what is called as files are decoded: `begin(file, waiting)`, `page(data)` with what the worker sends, `fail(file,
-   *   text)`, and at the end of all `end(file)`
+   * @param show what is called as files are decoded: `begin(file, waiting)`, `page(data)` with what the worker sends,
+   *   `fail(text)`, and at the end of all `end(file)`
    */
   constructor(show) {
     this.#show = show;
   }
 
-  /** Adds a file. `options`: whether to `salvage`, and the most `seconds` for a page. */
+  /** Adds a file. `options`: whether to `salvage`, whether work `isLimited`, and the most `seconds` for a page. */
   add(file, options) {
     this.#waiting.push([file, options]);
     if (!this.#isRunning) this.#run();
@@ -45,6 +45,12 @@ export class FileQueue {
   /** Stops the file that runs, and goes on with the next one. */
   stop() {
     this.#stop("stopped");
+  }
+
+  /** Stops the file that runs, and those that wait. */
+  stopAll() {
+    this.#waiting = [];
+    this.stop();
   }
 
   async #run() {
@@ -68,14 +74,14 @@ export class FileQueue {
     try {
       await Promise.race([this.#decode(file, options, worker), stopped]);
     } catch (error) {
-      this.#show.fail(file.name, error.message);
+      this.#show.fail(error.message);
       this.#worker = null;
       worker.then((loaded) => loaded.terminate()).catch(() => {});
     }
     this.#stop = () => {};
   }
 
-  async #decode(file, { salvage, seconds }, loading) {
+  async #decode(file, { seconds, ...options }, loading) {
     const bytes = await bytesOfFile(file);
     const worker = await loading;
     await new Promise((resolve, reject) => {
@@ -85,11 +91,11 @@ export class FileQueue {
       worker.onmessage = ({ data }) => {
         watch();
         if (data.isDone) clearTimeout(timer), resolve();
-        else this.#show.page({ file: file.name, ...data });
+        else this.#show.page(data);
       };
       worker.onerror = (event) => reject(new Error(`the decoder stopped: ${event.message}`));
       watch();
-      worker.postMessage({ bytes, salvage }, [bytes]);
+      worker.postMessage({ bytes, ...options }, [bytes]);
     });
   }
 }
