@@ -1,7 +1,15 @@
-/** The bytes of an ArrayBuffer or of any view of one, not copied. Other values, as texts, are no bytes. */
+const isShared = (buffer) => Object.prototype.toString.call(buffer) === "[object SharedArrayBuffer]";
+
+/**
+ * The bytes of an ArrayBuffer or of any view of one, copied only where other threads share them. Other values, as texts, are no
+ * bytes.
+ */
 export function bytesOf(source) {
-  if (ArrayBuffer.isView(source)) return new Uint8Array(source.buffer, source.byteOffset, source.byteLength);
-  const kind = Object.prototype.toString.call(source);
-  if (kind === "[object ArrayBuffer]" || kind === "[object SharedArrayBuffer]") return new Uint8Array(source);
-  throw new TypeError("the bytes have to be a Uint8Array, another view of an ArrayBuffer, or an ArrayBuffer");
+  const isView = ArrayBuffer.isView(source);
+  const buffer = isView ? source.buffer : source;
+  if (!isShared(buffer) && Object.prototype.toString.call(buffer) !== "[object ArrayBuffer]") {
+    throw new TypeError("the bytes have to be a Uint8Array, another view of an ArrayBuffer, or an ArrayBuffer");
+  }
+  const bytes = isView ? new Uint8Array(buffer, source.byteOffset, source.byteLength) : new Uint8Array(buffer);
+  return isShared(buffer) ? bytes.slice() : bytes;
 }

@@ -242,7 +242,7 @@ export class Decoder {
       throw error;
     }
     // Where all memory was given out that the call has asked for, it was the limit.
-    if (answer === OUT_OF_MEMORY && !this.#heap.hasRefused) throw new WorkLimitReached(limit);
+    if (answer === OUT_OF_MEMORY && limit < Infinity && !this.#heap.hasRefused) throw new WorkLimitReached(limit);
     if (answer !== 0) throw new Jbig2Error(answer);
   }
 

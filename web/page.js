@@ -40,10 +40,11 @@ const queue = new FileQueue({
     if (data.begins) {
       running = data.begins;
       [progress.max, progress.value] = [running.count, running.number - 1];
-    } else sections.at(-1).add(data);
+    } else sections.at(-1)?.add(data);
   },
+  // A file whose section was cleared away is stopped too.
   fail(error) {
-    sections.at(-1).add({ ...running, error });
+    sections.at(-1)?.add({ ...running, error });
   },
   end(file) {
     note.textContent = `${file} is done. ${summary()}`;

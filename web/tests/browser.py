@@ -106,7 +106,18 @@ def goes_on(browser, folder):
     browser.wait_for('document.querySelector("#note").textContent.startsWith("slow.jb2 is being decoded.")')
     browser.evaluate('document.querySelector("#stop").click()')
     look("a file that is stopped", slow, "stopped")
-    return faults
+    return faults + clears(browser, slow, good)
+
+
+def clears(browser, slow, good):
+    """What is wrong where all is cleared away while a file runs and another waits: a later file has to be shown all the same."""
+    hand_over(browser, [slow, slow])
+    browser.wait_for('document.querySelector("#note").textContent.startsWith("slow.jb2 is being decoded.")')
+    browser.evaluate('document.querySelector("#clear").click()')
+    browser.wait_for('document.querySelector("#stop").disabled')
+    drop(browser, [good])
+    pages = shown(browser)
+    return [] if list(pages) == [good.name] and len(pages[good.name]) == 3 else [f"all is cleared away: {pages}"]
 
 
 def test(browser, folder):

@@ -10,7 +10,7 @@ import { GROWING, SMALL } from "./hostile_files.mjs";
 
 const SIZES = [250e3, 1e6];
 // Seconds of the processor and MiB for the larger size, and for a small file that unpacks to as much as it may.
-const MOST = { growing: { seconds: 5, memory: 500 }, small: { seconds: 20, memory: 1200 } };
+const MOST = { growing: { seconds: 10, memory: 500 }, small: { seconds: 20, memory: 1200 } };
 const KILLED_AFTER = 40;
 
 /** Reads a file with all its images, and returns what it took. */

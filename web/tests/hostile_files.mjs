@@ -28,6 +28,10 @@ export const GROWING = {
   "objects that don't end": (size) => file(times("1 0 obj ", size)),
   "streams that don't end": (size) => file(times("1 0 obj <</Type/ObjStm/N 1/First 4>>stream\n", size)),
   "object streams without a length": (size) => file(numbered(size / 60, (at) => `${at} 0 obj <<${OBJECT_STREAM}>>stream\n9 0 7\nendstream endobj\n`)),
+  "packed object streams": (size) => {
+    const one = stream(1, "/Type/ObjStm/N 1/First 4/Filter/FlateDecode", deflateSync("9 0 7")).toString("latin1");
+    return file(numbered(size / one.length, (at) => one.replace("1", String(at))));
+  },
   "lengths that are not there": (size) => file(numbered(size / 50, (at) => `${at} 0 obj <</Length 9999999 0 R>>stream\nendstream\n`)),
   "lengths that come later": (size) => file(numbered(size / 70, (at) => `${2 * at} 0 obj<</Length ${2 * at + 1} 0 R>>stream\nendobj endstream\n${2 * at + 1} 0 obj 6 endobj\n`)),
   "strings that don't close": (size) => file(times("1 0 obj(endobj ", size)),

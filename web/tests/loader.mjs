@@ -172,7 +172,8 @@ function checkRandomCalls() {
   };
   const option = () => pick([undefined, false, true, 1, 0, "yes", null]);
   for (let call = 0; call < CALLS; call++) {
-    const options = { strict: option(), salvage: option(), page: pick([0, 1, 2, 3, undefined, ...NO_PAGES]), globals: pick([undefined, null, null, null, bytes()]) };
+    const workLimit = pick([undefined, null, 0, 1000, 1e6, Infinity]);
+    const options = { strict: option(), salvage: option(), workLimit, page: pick([0, 1, 2, 3, undefined, ...NO_PAGES]), globals: pick([undefined, null, null, null, bytes()]) };
     const made = outcome(() => (random(4) ? decoder.decode(bytes(), options) : decoder.pageCount(bytes(), options)));
     check(typeof made === "string" || isRefused(made), `a random call: ${made?.stack ?? made}`);
     if (call % 100 === 0) check(isWhole(), `after ${call} random calls the decoder is not as it was`);
