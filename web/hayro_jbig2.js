@@ -5,94 +5,28 @@
  * (README.md says which).
  */
 
-import { ERRORS } from "./errors.js";
+import { bytesOf } from "./bytes.js";
+import { DecodedPage } from "./decoded_page.js";
+import { Heap } from "./heap.js";
+import { Jbig2Error, OUT_OF_MEMORY, WorkLimitReached } from "./jbig2_error.js";
 
-const OUT_OF_MEMORY = 41;
+export { DecodedPage, Jbig2Error, WorkLimitReached };
+
+const UNEXPECTED_END = 1;
+const ENDS_OF_LINE = [0x0a, 0x0d];
 // In place of the memory of a caller in C, the heap here; and no limit of work.
 const MEMORY = 0n;
 const NO_WORK_LIMIT = 2n ** 64n - 1n;
+// The usual limit of work: for each pixel of a page, for a page at least, and for what pages share.
+const [WORK_OF_PIXEL, LEAST_WORK, SHARED_WORK] = [100, 2 ** 24, 2 ** 28];
 
-/** Why a page is not decoded: `number` and `error` as in hayro_jbig2.h, and its text as `message`. */
-export class Jbig2Error extends Error {
-  constructor(number) {
-    const [error, text] = ERRORS[number] ?? [`ANSWER_${number}`, "no answer of this library"];
-    super(text);
-    this.name = "Jbig2Error";
-    this.number = number;
-    this.error = error;
-  }
-}
-
-const PAGE = 65536;
 // What the identification of a file begins with (Annex D.4.1). The rest of it tells files that were damaged on the way.
 const BEGINNING = [0x97, 0x4a, 0x42, 0x32];
 
 /** Whether bytes begin as a JBIG2 file does. Other bytes are those of an embedded page, as PDF has them. */
-export const isFile = (bytes) => BEGINNING.every((byte, place) => bytes[place] === byte);
-
-/** The size that is handed out for a request: a multiple of 16, of at most four sizes in each doubling. */
-function rounded(size) {
-  if (size <= 64) return Math.max(16, (size + 15) & ~15);
-  const step = 2 ** (Math.floor(Math.log2(size - 1)) - 2);
-  return Math.ceil(size / step) * step;
-}
-
-/** The heap that the module asks for memory: blocks that are given back wait by size, others are cut off the end. */
-class Heap {
-  constructor(most) {
-    this.most = most;
-    this.held = 0;
-    this.free = new Map();
-  }
-
-  /** Takes over the memory from its present end on. */
-  begin(memory) {
-    this.memory = memory;
-    this.end = this.limit = memory.buffer.byteLength;
-  }
-
-  /** A block aligned to 16, or 0 where there is no memory for it. */
-  take(size) {
-    const room = rounded(size);
-    const block = this.free.get(room)?.pop() ?? this.cut(room);
-    if (block) this.held += room;
-    return block;
-  }
-
-  /** A block off the end, or 0. */
-  cut(room) {
-    if (this.end + room > this.most) return 0;
-    if (this.end + room > this.limit && !this.grow(this.end + room - this.limit)) return 0;
-    const block = this.end;
-    this.end += room;
-    return block;
-  }
-
-  /** Takes a block for the module, and writes there whether there is one, and where. */
-  answer(place, size, align) {
-    const block = align <= 16 ? this.take(size) : 0;
-    const view = new DataView(this.memory.buffer);
-    view.setUint8(place, block ? 1 : 0);
-    view.setBigUint64(place + 8, BigInt(block || place), true);
-  }
-
-  grow(missing) {
-    const pages = Math.max(Math.ceil(missing / PAGE), 16);
-    try {
-      this.memory.grow(pages);
-    } catch {
-      return false;
-    }
-    this.limit += pages * PAGE;
-    return true;
-  }
-
-  give(block, size) {
-    const room = rounded(size);
-    this.held -= room;
-    if (!this.free.has(room)) this.free.set(room, []);
-    this.free.get(room).push(block);
-  }
+export function isFile(source) {
+  const bytes = bytesOf(source);
+  return BEGINNING.every((byte, place) => bytes[place] === byte);
 }
 
 /** The error of a number, or null for 0. */
@@ -107,22 +41,45 @@ function joined(one, other) {
   return { ...one, passedOver: other.passedOver, rest: one.rest ?? other.rest };
 }
 
-async function bodyOf(response) {
-  if (!response.ok) throw new Error(`hayro_jbig2.wasm could not be loaded: ${response.status} ${response.statusText}`);
-  return response.arrayBuffer();
+/** A limit of work is a whole number or Infinity, or null for the usual one. */
+function checkLimit(limit) {
+  const isLimit = limit === null || limit === Infinity || (Number.isSafeInteger(limit) && limit >= 0);
+  if (!isLimit) throw new TypeError("the limit of work has to be a whole number, or Infinity");
+}
+
+const wordOf = (limit) => (limit === Infinity ? NO_WORK_LIMIT : BigInt(limit));
+
+/** The module beside this file: fetched, or read by Node, which fetches no files. */
+function ownModule() {
+  const place = new URL("hayro_jbig2.wasm", import.meta.url);
+  const files = place.protocol === "file:" && globalThis.process?.getBuiltinModule?.("node:fs/promises");
+  return files ? files.readFile(place) : fetch(place);
+}
+
+/** A module, compiled or as bytes, with its imports. */
+async function instanceOf(source, imports) {
+  if (typeof source?.arrayBuffer !== "function") {
+    const made = await WebAssembly.instantiate(source, imports);
+    return made.instance ?? made;
+  }
+  if (!source.ok) throw new Error(`hayro_jbig2.wasm could not be loaded: ${source.status} ${source.statusText}`);
+  return instanceOf(await source.arrayBuffer(), imports);
 }
 
 /** A loaded decoder. One page is decoded at a time; several may be loaded, in workers of their own. */
 export class Decoder {
   #heap;
   #exports;
+  #isBroken = false;
 
   /**
    * Loads the module.
-   * @param source the bytes of hayro_jbig2.wasm, or a promise of its Response
+   * @param source hayro_jbig2.wasm as bytes, as a Response or as a WebAssembly.Module, or a promise of one of these; that
+   *   beside this file where it isn't given (in Node from 20.16 on)
    * @param most the most bytes of memory that decoding may take
    */
-  static async load(source, most = 2 ** 31) {
+  static async load(source = ownModule(), most = 2 ** 31) {
+    if (!(typeof most === "number" && most >= 0)) throw new TypeError("the most bytes of memory have to be a number");
     const decoder = new Decoder();
     const heap = (decoder.#heap = new Heap(most));
     const imports = {
@@ -131,10 +88,9 @@ export class Decoder {
         jbig2_c_give_back: (_memory, block, size) => heap.give(Number(block), Number(size)),
       },
     };
-    const bytes = source instanceof Promise ? await bodyOf(await source) : source;
-    const { instance } = await WebAssembly.instantiate(bytes, imports);
-    decoder.#exports = instance.exports;
-    heap.begin(instance.exports.memory);
+    const { exports } = await instanceOf(await source, imports);
+    decoder.#exports = exports;
+    heap.begin(exports.memory);
     return decoder;
   }
 
@@ -143,26 +99,63 @@ export class Decoder {
     return this.#heap.held;
   }
 
-  /** How many pages a file has. */
-  pageCount(bytes, { strict = false, salvage = false } = {}) {
-    return this.#with([bytes], 0, ([stream]) =>
-      this.#file(stream, { strict, salvage }, (file) => Number(this.#exports.hayro_jbig2_file_page_count(file))),
+  /** How many pages a file has. What they share is decoded, within the limit of work. */
+  pageCount(bytes, { strict = false, salvage = false, workLimit = null } = {}) {
+    checkLimit(workLimit);
+    return this.#with([bytesOf(bytes)], 0, ([stream]) =>
+      this.#file(stream, { strict, salvage, workLimit }, (file) => Number(this.#exports.hayro_jbig2_file_page_count(file))),
     );
   }
 
   /**
+   * Whether the bytes of a file or of an embedded page end inside of a segment. Lenient reading and salvage leave that segment
+   * out, and don't count it. The end of a line after the last segment, as PDF files have it, is none.
+   */
+  endsEarly(source, { workLimit = null } = {}) {
+    checkLimit(workLimit);
+    const bytes = bytesOf(source);
+    let end = bytes.length;
+    let isCutOff = this.#isCutOff(bytes, workLimit);
+    for (let trimmed = 0; isCutOff && trimmed < 2 && ENDS_OF_LINE.includes(bytes[end - 1]); trimmed++) {
+      isCutOff = this.#isCutOff(bytes.subarray(0, --end), workLimit);
+    }
+    return isCutOff;
+  }
+
+  /** Whether strict reading refuses bytes because they end. */
+  #isCutOff(bytes, workLimit) {
+    const reading = { strict: true, salvage: false, workLimit };
+    try {
+      this.#with([bytes], 0, ([stream]) => {
+        if (isFile(bytes)) this.#file(stream, reading, () => {});
+        else this.#page(stream, [], reading, () => {});
+      });
+    } catch (error) {
+      if (!(error instanceof Jbig2Error)) throw error;
+      return error.number === UNEXPECTED_END;
+    }
+    return false;
+  }
+
+  /**
    * Decodes a page: of a file by its index from 0, or an embedded page with its globals, if it has some. Bytes with globals
-   * are an embedded page, others a file where `isFile` says so.
+   * are an embedded page, others a file where `isFile` says so. Bytes are an ArrayBuffer or a view of one; other values are
+   * refused by a TypeError.
    *
    * With `strict` the first fault is thrown. With `salvage`, for viewers of damaged files, whatever a lenient decoder refuses
    * is left out, and `leftOut` tells what: segments that pages share, as `passedOver`; how many `pages` of a file, with the
    * error of the first as `firstPage`; and as `rest` the fault at which a list of segments ends early.
-   * @returns {{width: number, height: number, data: Uint8ClampedArray, passedOver: object, leftOut: object | null}} pixels as
-   *   ImageData has them, and the segments that were passed over: their `count`, `segment` and `error` of the first
+   *
+   * `workLimit` is a number of units, for the page and for what it shares with others, or Infinity. Where it isn't given, it is
+   * 100 for each pixel of the page, and 2^24 at least; for what pages share it is 2^28.
+   * @returns {DecodedPage}
+   * @throws {WorkLimitReached | Jbig2Error}
    */
-  decode(bytes, { globals = null, page = 0, strict = false, salvage = false } = {}) {
-    const reading = { strict, salvage };
-    const inputs = globals === null ? [bytes] : [bytes, globals];
+  decode(bytes, { globals = null, page = 0, strict = false, salvage = false, workLimit = null } = {}) {
+    if (!Number.isSafeInteger(page)) throw new TypeError("the page's index has to be a whole number");
+    checkLimit(workLimit);
+    const reading = { strict, salvage, workLimit };
+    const inputs = (globals === null ? [bytes] : [bytes, globals]).map(bytesOf);
     return this.#with(inputs, 0, ([stream, shared]) => {
       if (globals === null && isFile(bytes)) {
         return this.#file(stream, reading, (file) => this.#drawn("file", file, [BigInt(page)], reading));
@@ -171,43 +164,49 @@ export class Decoder {
       return this.#globals(shared, reading, (shared) =>
         this.#page(stream, [shared], reading, (page) => {
           const drawn = this.#drawn("page", page, [], reading);
-          return salvage ? { ...drawn, leftOut: joined(drawn.leftOut, this.#leftOut("globals", shared)) } : drawn;
+          if (salvage) drawn.leftOut = joined(drawn.leftOut, this.#leftOut("globals", shared));
+          return drawn;
         }),
       );
     });
   }
 
   /** A handle of a file, of globals or of an embedded page, for the work. */
-  #file(stream, { strict, salvage }, work) {
-    if (salvage) return this.#held(work, "hayro_jbig2_file_new_salvaged", NO_WORK_LIMIT, ...stream);
-    return this.#held(work, "hayro_jbig2_file_new", Number(strict), ...stream);
+  #file(stream, reading, work) {
+    return this.#shared("file", stream, reading, work);
   }
 
-  #globals(stream, { strict, salvage }, work) {
-    if (salvage) return this.#held(work, "hayro_jbig2_globals_new_salvaged", NO_WORK_LIMIT, ...stream);
-    return this.#held(work, "hayro_jbig2_globals_new", Number(strict), ...stream);
+  #globals(stream, reading, work) {
+    return this.#shared("globals", stream, reading, work);
+  }
+
+  #shared(kind, stream, { strict, salvage, workLimit }, work) {
+    const limit = workLimit ?? SHARED_WORK;
+    const words = [wordOf(limit), ...stream];
+    const name = `hayro_jbig2_${kind}_new`;
+    if (salvage) return this.#held(work, limit, `${name}_salvaged`, ...words);
+    return this.#held(work, limit, `${name}_within`, strict ? 1 : 0, ...words);
   }
 
   #page(stream, globals, { strict, salvage }, work) {
     const how = globals.length ? "with" : "alone";
-    if (salvage) return this.#held(work, `jbig2_c_salvaged_${how}`, ...globals, ...stream);
-    return this.#held(work, `jbig2_c_page_${how}`, Number(strict), ...globals, ...stream);
+    if (salvage) return this.#held(work, Infinity, `jbig2_c_salvaged_${how}`, ...globals, ...stream);
+    return this.#held(work, Infinity, `jbig2_c_page_${how}`, strict ? 1 : 0, ...globals, ...stream);
   }
 
   /** Draws a page of a handle, and returns what `decode` does. */
-  #drawn(kind, handle, index, { salvage }) {
+  #drawn(kind, handle, index, { salvage, workLimit }) {
     const [, width, height] = this.#numbers([4, 4, 4], `hayro_jbig2_${kind}_get_info`, handle, ...index);
-    return this.#held((context) => {
-      this.#call(`hayro_jbig2_${kind}_draw`, handle, ...index, context);
-      const counts = this.#numbers([8, 4, 4], "hayro_jbig2_context_get_passed_over", context);
-      return {
-        width,
-        height,
-        data: this.#pixels(context, width, height),
-        passedOver: passedOver(counts),
+    const limit = workLimit ?? Math.max(WORK_OF_PIXEL * width * height, LEAST_WORK);
+    const draw = (context) => {
+      this.#call(Infinity, "hayro_jbig2_context_set_work_limit", context, wordOf(limit));
+      this.#call(limit, `hayro_jbig2_${kind}_draw`, handle, ...index, context);
+      return new DecodedPage(width, height, this.#rows(context, width, height), {
+        passedOver: passedOver(this.#numbers([8, 4, 4], "hayro_jbig2_context_get_passed_over", context)),
         leftOut: salvage ? this.#leftOut(kind, handle) : null,
-      };
-    }, "hayro_jbig2_context_new");
+      });
+    };
+    return this.#held(draw, Infinity, "hayro_jbig2_context_new");
   }
 
   /** What salvage left out of what a handle holds. */
@@ -216,20 +215,12 @@ export class Decoder {
     return { passedOver: passedOver(counts), pages: counts[3], firstPage: errorOf(counts[4]), rest: errorOf(counts[5]) };
   }
 
-  /** The pixels of the page that was drawn last in a context. */
-  #pixels(context, width, height) {
-    const stride = Math.ceil(width / 8);
-    return this.#with([], stride * height, (_, place) => {
-      this.#call("hayro_jbig2_context_rows", context, 0n, place, BigInt(stride * height));
-      const rows = new Uint8Array(this.#exports.memory.buffer, Number(place), stride * height);
-      const data = new Uint8ClampedArray(4 * width * height);
-      const pixels = new Uint32Array(data.buffer);
-      for (let y = 0, at = 0; y < height; y++) {
-        for (let x = 0; x < width; x++, at++) {
-          pixels[at] = rows[y * stride + (x >> 3)] & (128 >> (x & 7)) ? 0xff000000 : 0xffffffff;
-        }
-      }
-      return data;
+  /** The packed rows of the page that was drawn last in a context. */
+  #rows(context, width, height) {
+    const size = Math.ceil(width / 8) * height;
+    return this.#with([], size, (_, place) => {
+      this.#call(Infinity, "hayro_jbig2_context_rows", context, 0n, place, BigInt(size));
+      return new Uint8Array(this.#exports.memory.buffer).slice(Number(place), Number(place) + size);
     });
   }
 
@@ -237,15 +228,28 @@ export class Decoder {
     return new DataView(this.#exports.memory.buffer);
   }
 
-  #call(name, ...words) {
-    const answer = this.#exports[name](...words);
+  /**
+   * Makes a call, of at most `limit` units of work. After one that doesn't return, the module's stack and memory are not as they
+   * were.
+   */
+  #call(limit, name, ...words) {
+    let answer;
+    this.#heap.hasRefused = false;
+    try {
+      answer = this.#exports[name](...words);
+    } catch (error) {
+      this.#isBroken = true;
+      throw error;
+    }
+    // Where all memory was given out that the call has asked for, it was the limit.
+    if (answer === OUT_OF_MEMORY && limit < Infinity && !this.#heap.hasRefused) throw new WorkLimitReached(limit);
     if (answer !== 0) throw new Jbig2Error(answer);
   }
 
   /** Makes a call that writes numbers of these sizes, one after the other, and returns them. */
   #numbers(sizes, name, ...words) {
     return this.#with([], 32, (_, place) => {
-      this.#call(name, ...words, place);
+      this.#call(Infinity, name, ...words, place);
       const view = this.#view();
       let at = Number(place);
       return sizes.map((size) => {
@@ -255,22 +259,23 @@ export class Decoder {
     });
   }
 
-  /** Makes a handle by a call, and frees it after the work. */
-  #held(work, name, ...words) {
+  /** Makes a handle by a call of at most `limit` units, and frees it after the work. */
+  #held(work, limit, name, ...words) {
     return this.#with([], 8, (_, place) => {
       this.#view().setBigUint64(Number(place), 0n, true);
-      this.#call(name, MEMORY, ...words, place);
+      this.#call(limit, name, MEMORY, ...words, place);
       const handle = this.#view().getBigUint64(Number(place), true);
       try {
         return work(handle);
       } finally {
-        this.#exports.jbig2_c_release(handle);
+        if (!this.#isBroken) this.#exports.jbig2_c_release(handle);
       }
     });
   }
 
   /** Copies inputs into the module's memory, takes `room` bytes more, and gives all back after the work. */
   #with(inputs, room, work) {
+    if (this.#isBroken) throw new Error("an earlier call was broken off: load another decoder");
     const blocks = [];
     const take = (size) => {
       const block = this.#heap.take(size);

@@ -1,61 +1,80 @@
-/** The page: files that are dropped or chosen go to the worker, pages that come back are shown. */
-const worker = new Worker(new URL("worker.js", import.meta.url), { type: "module" });
-const pages = document.querySelector("#pages");
-const note = document.querySelector("#note");
+/** The page: files that are dropped or chosen are decoded, and their pages shown. */
+import { FileQueue } from "./queue.js";
+import { FileSection } from "./sections.js";
 
-// A page that is narrower than this is shown enlarged, by a whole number.
-const NARROW = 400;
+const element = (id) => document.querySelector(`#${id}`);
+const [files, note, progress, stop, stopAll] = ["files", "note", "progress", "stop", "stop-all"].map(element);
 
-function drawn({ width, height, data }) {
-  const canvas = document.createElement("canvas");
-  [canvas.width, canvas.height] = [width, height];
-  const context = canvas.getContext("2d");
-  context.putImageData(new ImageData(data, width, height), 0, 0);
-  // A canvas that is too large for the browser stays clear.
-  if (context.getImageData(0, 0, 1, 1).data[3] !== 255) throw new Error(`too large for this browser to show: ${width} by ${height} pixels`);
-  if (width < NARROW) {
-    canvas.className = "enlarged";
-    canvas.style.width = `${Math.floor(NARROW / width) * width}px`;
-  }
-  return canvas;
+let sections = [];
+// The page that is being decoded.
+let running = {};
+
+const counted = (count, what) => `${count} ${what}${count === 1 ? "" : "s"}`;
+const summed = (key) => sections.reduce((sum, section) => sum + section[key], 0);
+
+/** What is shown of all files. */
+function summary() {
+  const [pages, incomplete, errors] = ["pageCount", "incompleteCount", "errorCount"].map(summed);
+  const parts = [counted(pages, "page")];
+  if (incomplete) parts.push(`${incomplete} incomplete`);
+  if (errors) parts.push(counted(errors, "error"));
+  return `${counted(sections.length, "file")}: ${parts.join(", ")}.`;
 }
 
-function shown({ file, name, error, milliseconds, lacks, ...page }) {
-  const figure = document.createElement("figure");
-  const caption = document.createElement("figcaption");
-  const label = name ? `${file}, ${name}` : file;
-  figure.dataset.file = file;
-  try {
-    if (error) throw new Error(error);
-    figure.append(drawn(page));
-    caption.textContent = `${label}: ${page.width} by ${page.height} pixels, ${milliseconds.toFixed(1)} ms`;
-    if (lacks) {
-      figure.className = "damaged";
-      caption.textContent += `. Damaged: ${lacks}.`;
-    }
-  } catch ({ message }) {
-    figure.className = "error";
-    caption.textContent = `${label}: ${message}`;
-  }
-  figure.append(caption);
-  return figure;
+function setRunning(isRunning) {
+  stop.disabled = stopAll.disabled = !isRunning;
+  progress.hidden = !isRunning;
+  files.setAttribute("aria-busy", String(isRunning));
 }
 
-worker.onmessage = ({ data }) => {
-  if (data.done) note.textContent = `${data.file} is done.`;
-  else pages.append(shown(data));
-};
-worker.onerror = (event) => (note.textContent = `The decoder could not be loaded: ${event.message ?? "no module workers"}`);
+const queue = new FileQueue({
+  begin(file, waiting) {
+    running = {};
+    note.textContent = `${file} is being decoded.${waiting ? ` Files that wait: ${waiting}.` : ""}`;
+    progress.removeAttribute("value");
+    setRunning(true);
+    sections.push(new FileSection(file));
+    files.append(sections.at(-1).element);
+  },
+  page(data) {
+    if (data.begins) {
+      running = data.begins;
+      [progress.max, progress.value] = [running.count, running.number - 1];
+    } else sections.at(-1)?.add(data);
+  },
+  // A file whose section was cleared away is stopped too.
+  fail(error) {
+    sections.at(-1)?.add({ ...running, error });
+  },
+  end(file) {
+    note.textContent = `${file} is done. ${summary()}`;
+    setRunning(false);
+  },
+});
 
-async function take(files) {
-  for (const file of files) {
-    note.textContent = `${file.name} is being decoded.`;
-    const bytes = new Uint8Array(await file.arrayBuffer());
-    worker.postMessage({ file: file.name, bytes, salvage: document.querySelector("#salvage").checked }, [bytes.buffer]);
-  }
+function take(chosen) {
+  const options = { salvage: element("salvage").checked, isLimited: element("limited").checked, seconds: Math.max(element("seconds").valueAsNumber || 0, 1) };
+  for (const file of chosen) queue.add(file, options);
 }
 
-document.querySelector("#choose").addEventListener("change", (event) => take(event.target.files));
+element("choose").addEventListener("change", ({ target }) => {
+  take(target.files);
+  // So that the same file can be chosen again.
+  target.value = "";
+});
+stop.addEventListener("click", () => queue.stop());
+stopAll.addEventListener("click", () => queue.stopAll());
+element("clear").addEventListener("click", () => {
+  queue.stopAll();
+  files.replaceChildren();
+  sections = [];
+  note.textContent = "";
+});
+element("zoom").addEventListener("change", ({ target: { value } }) => {
+  files.classList.toggle("fit", value === "fit");
+  files.classList.toggle("pixelated", Number(value) > 1);
+  if (value !== "fit") files.style.setProperty("--zoom", value);
+});
 for (const kind of ["dragenter", "dragover"]) {
   document.addEventListener(kind, (event) => (event.preventDefault(), document.body.classList.add("over")));
 }

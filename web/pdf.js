@@ -1,142 +1,146 @@
 /**
  * The JBIG2 images of a PDF file (ISO 32000-1, 7.4.7): each image's stream, and that of its globals.
  *
- * Objects are found by their words `N G obj`, and those in object streams after them, so a damaged table of
- * references does no harm. Encrypted files are refused.
+ * Objects are found by their words `N G obj`, and those in object streams with them, so a damaged table of references does no
+ * harm. Encrypted files are refused. README.md has the bounds of time and memory.
  */
 
-const text = (bytes) => new TextDecoder("latin1").decode(bytes);
+import { bytesOf } from "./bytes.js";
+import { Lexer, NUMBER } from "./pdf/lexer.js";
+import { MOST_OBJECTS, scanned } from "./pdf/objects.js";
+import { PdfError, Room, inflated } from "./pdf/unpacking.js";
+import { isWhole, valueAt } from "./pdf/values.js";
 
-/** What a stream of zlib unpacks to, as far as it goes: bytes after its end, and damage there, take nothing away. */
-async function inflated(bytes) {
-  const reader = new Blob([bytes]).stream().pipeThrough(new DecompressionStream("deflate")).getReader();
-  const parts = [];
-  try {
-    for (let part = await reader.read(); !part.done; part = await reader.read()) parts.push(part.value);
-  } catch (error) {
-    if (parts.length === 0) throw new Error(`a stream can't be unpacked: ${error.message}`);
+export { PdfError };
+
+// Two of Flate, and that of JBIG2.
+const MOST_FILTERS = 3;
+const FLATE = new Set(["/FlateDecode", "/Fl"]);
+const JBIG2 = "/JBIG2Decode";
+
+const listOf = (value) => (Array.isArray(value) ? value : [value ?? null]);
+
+/** The numbers and the places of the objects in an object stream (7.5.7), in the order of their places. */
+function entriesOf(data, count, first) {
+  const lexer = new Lexer(data, 0, Math.min(first, data.length));
+  const entries = [];
+  const most = Math.min(count, MOST_OBJECTS);
+  const readNumber = () => (lexer.next() === NUMBER && isWhole(lexer.value) ? lexer.value : data.length);
+  for (let read = 0; read < most && lexer.place < lexer.end; read++) {
+    const number = readNumber();
+    const place = first + readNumber();
+    if (place < data.length) entries.push({ number, place });
   }
-  return new Uint8Array(await new Blob(parts).arrayBuffer());
+  return entries.sort((one, other) => one.place - other.place);
 }
 
-/** The value after a key of a dictionary: a name, a number, a reference, an array or a dictionary, as text. */
-function valueOf(dictionary, key) {
-  const match = new RegExp(`/${key}(?![A-Za-z0-9])\\s*`).exec(dictionary);
-  if (!match) return null;
-  const rest = dictionary.slice(match.index + match[0].length);
-  if (rest.startsWith("<<")) return closed(rest, "<<", ">>");
-  if (rest.startsWith("[")) return closed(rest, "[", "]");
-  return /^(\d+\s+\d+\s+R|\/[^\s/<>[\]()]+|[-+.\d]+)/.exec(rest)?.[0] ?? null;
-}
-
-/** The beginning of a text up to the bracket that closes its first one. */
-function closed(rest, open, close) {
-  let depth = 0;
-  for (let place = 0; place < rest.length; place++) {
-    if (rest.startsWith(open, place)) depth++, (place += open.length - 1);
-    else if (rest.startsWith(close, place)) {
-      depth--, (place += close.length - 1);
-      if (depth === 0) return rest.slice(0, place + 1);
-    }
-  }
-  return rest;
-}
-
-/** The objects of a file. */
+/** A PDF file. */
 export class Pdf {
-  #objects = new Map();
+  #bytes;
+  #objects;
+  #room = new Room();
 
+  /** What could not be read of the file, as texts: object streams that are damaged, and objects beyond the most. */
+  faults = [];
+
+  /**
+   * Reads a file.
+   * @throws {PdfError} where it is encrypted
+   */
   static async open(bytes) {
     const pdf = new Pdf();
-    pdf.bytes = bytes;
-    const whole = text(bytes);
-    if (/\/Encrypt\s+\d+\s+\d+\s+R/.test(whole)) throw new Error("the PDF file is encrypted");
-    for (const match of whole.matchAll(/(\d+)\s+\d+\s+obj\b/g)) pdf.#add(whole, match);
+    pdf.#bytes = bytesOf(bytes);
+    const { objects, isEncrypted } = scanned(pdf.#bytes);
+    if (isEncrypted) throw new PdfError("the PDF file is encrypted");
+    pdf.#objects = objects;
     await pdf.#addFromStreams();
+    if (objects.isFull) pdf.faults.push(`the file has more than ${MOST_OBJECTS} objects`);
     return pdf;
   }
 
-  #add(whole, match) {
-    const begin = match.index + match[0].length;
-    const end = whole.indexOf("endobj", begin);
-    const body = whole.slice(begin, end < 0 ? undefined : end);
-    const stream = /\bstream\r?\n/.exec(body);
-    const object = { dictionary: stream ? body.slice(0, stream.index) : body };
-    if (stream) object.begin = begin + stream.index + stream[0].length;
-    this.#objects.set(Number(match[1]), object);
-  }
-
-  /** Objects that stand in object streams (7.5.7) and nowhere else. */
   async #addFromStreams() {
-    const found = new Set(this.#objects.keys());
-    for (const object of [...this.#objects.values()]) {
-      if (object.begin === undefined || valueOf(object.dictionary, "Type") !== "/ObjStm") continue;
-      const body = text(await this.#data(object));
-      const count = Number(this.#resolved(object.dictionary, "N"));
-      const first = Number(this.#resolved(object.dictionary, "First"));
-      const numbers = body.slice(0, first).trim().split(/\s+/).map(Number);
-      for (let place = 0; place < count; place++) {
-        const end = place + 1 < count ? first + numbers[2 * place + 3] : undefined;
-        const dictionary = body.slice(first + numbers[2 * place + 1], end);
-        if (!found.has(numbers[2 * place])) this.#objects.set(numbers[2 * place], { dictionary });
+    for (const [number, object] of this.#objects.all()) {
+      if (object.begin === undefined || this.#objects.valueOf(object, "Type") !== "/ObjStm") continue;
+      try {
+        await this.#addFrom(object);
+      } catch (error) {
+        if (!(error instanceof PdfError)) throw error;
+        this.faults.push(`object stream ${number}: ${error.message}`);
       }
     }
   }
 
-  #referred(value) {
-    const match = /^(\d+)\s+\d+\s+R$/.exec(value ?? "");
-    return match ? this.#objects.get(Number(match[1])) : undefined;
+  /** Adds the objects of an object stream, as of the place where that stands in the file. */
+  async #addFrom(stream) {
+    const [count, first] = ["N", "First"].map((key) => this.#objects.valueOf(stream, key));
+    if (!isWhole(count) || !isWhole(first)) throw new PdfError("no number of objects, or no place of the first");
+    const data = await this.#data(stream);
+    const entries = entriesOf(data, count, first);
+    for (const [index, { number, place }] of entries.entries()) {
+      if (this.#objects.isFull) return;
+      // An object ends where the next one begins. So of several at one place all but the last are empty.
+      const value = valueAt(new Lexer(data, place, entries[index + 1]?.place));
+      this.#objects.add(number, { place: stream.place, value });
+    }
+    if (entries.length < count) throw new PdfError(`has ${entries.length} of its ${count} objects`);
   }
 
-  /** A value of a dictionary, where it is a reference what that refers to. */
-  #resolved(dictionary, key) {
-    const value = valueOf(dictionary, key);
-    return this.#referred(value)?.dictionary.trim() ?? value;
+  /** The filters of a stream, as far as there may be some. */
+  #filters(object) {
+    const filters = listOf(this.#objects.valueOf(object, "Filter")).slice(0, MOST_FILTERS + 1);
+    return filters.map((filter) => this.#objects.resolved(filter)).filter((filter) => typeof filter === "string");
   }
 
-  /** The bytes of a stream, its /FlateDecode filters undone. Others, which are rare beside /JBIG2Decode, are refused. */
+  /** The parameters of a stream's filters: a dictionary or nothing for each. */
+  #parameters(object) {
+    const parameters = listOf(this.#objects.valueOf(object, "DecodeParms")).slice(0, MOST_FILTERS);
+    return parameters.map((some) => this.#objects.resolved(some)).map((value) => (value instanceof Map ? { value } : {}));
+  }
+
+  /** The bytes of a stream, its Flate filters undone. Others, which are rare beside /JBIG2Decode, are refused. */
   async #data(object) {
-    const length = Number(this.#resolved(object.dictionary, "Length"));
-    const whole = text(this.bytes.subarray(object.begin, object.begin + length + 20));
-    const end = Number.isInteger(length) && /^\s*endstream/.test(whole.slice(length)) ? length : this.#searched(object);
-    let data = this.bytes.subarray(object.begin, object.begin + end);
-    for (const filter of this.#filters(object)) {
-      if (filter === "FlateDecode" || filter === "Fl") data = await inflated(data);
-      else if (filter !== "JBIG2Decode") throw new Error(`the filter ${filter} is not read here`);
+    const filters = this.#filters(object);
+    const parameters = this.#parameters(object);
+    if (filters.length > MOST_FILTERS) throw new PdfError(`more than ${MOST_FILTERS} filters`);
+    let data = this.#bytes.subarray(object.begin, object.end);
+    this.#room.begin(object);
+    for (const [index, filter] of filters.entries()) {
+      if (filter === JBIG2 && index === filters.length - 1) break;
+      if (!FLATE.has(filter)) throw new PdfError(`the filter ${filter.slice(1, 40)} is not read here`);
+      if (this.#objects.valueOf(parameters[index] ?? {}, "Predictor") > 1) throw new PdfError("predictors of Flate are not read here");
+      data = await inflated(data, (size) => this.#room.take(object, size));
     }
     return data;
   }
 
-  #searched(object) {
-    const end = text(this.bytes.subarray(object.begin)).search(/(\r\n|\r|\n)?endstream/);
-    return end < 0 ? this.bytes.length - object.begin : end;
-  }
-
-  #filters(object) {
-    const names = this.#resolved(object.dictionary, "Filter") ?? "";
-    return [...names.matchAll(/\/([^\s/<>[\]()]+)/g)].map((match) => match[1]);
-  }
-
-  /** The numbers of the objects that are JBIG2 images. */
+  /** The numbers of the objects that are JBIG2 images, in the file's order. */
   images() {
-    const isImage = (object) => object.begin !== undefined && this.#filters(object).includes("JBIG2Decode");
-    return [...this.#objects].filter(([, object]) => isImage(object)).map(([number]) => number);
+    const isImage = ([, object]) => object.begin !== undefined && this.#filters(object).includes(JBIG2);
+    return this.#objects
+      .all()
+      .filter(isImage)
+      .map(([number]) => number);
   }
 
-  /** The reference to globals in the parameters of a stream's filters: a dictionary, or an array of these or of references. */
-  #globalsOf(parameters) {
-    const referred = [...parameters.matchAll(/\d+\s+\d+\s+R/g)].map(([reference]) => this.#referred(reference)?.dictionary ?? "");
-    return [parameters, ...referred].map((dictionary) => valueOf(dictionary, "JBIG2Globals")).find(Boolean);
+  /** The stream of an image's globals, or null where it names none. */
+  #globalsOf(object) {
+    const named = this.#parameters(object).map(({ value }) => value?.get("/JBIG2Globals") ?? null);
+    const globals = named.find((value) => value !== null) ?? null;
+    if (globals === null) return null;
+    const stream = this.#objects.referred(globals);
+    if (stream?.begin === undefined) throw new PdfError("the image's globals are not in the file");
+    return stream;
   }
 
   /** The bytes of an image, and its globals' or null. */
   async streams(number) {
     const object = this.#objects.get(number);
-    const shared = this.#referred(this.#globalsOf(this.#resolved(object.dictionary, "DecodeParms") ?? ""));
-    const globals = shared?.begin === undefined ? null : await this.#data(shared);
+    if (object?.begin === undefined) throw new PdfError(`the file has no stream ${number}`);
+    const shared = this.#globalsOf(object);
+    const globals = shared && (await this.#data(shared));
     return { bytes: await this.#data(object), globals };
   }
 }
 
 /** Whether bytes begin as a PDF file does. */
-export const isPdf = (bytes) => text(bytes.subarray(0, 1024)).includes("%PDF-");
+export const isPdf = (bytes) => new TextDecoder("latin1").decode(bytesOf(bytes).subarray(0, 1024)).includes("%PDF-");

@@ -2,22 +2,39 @@
 import { Decoder, isFile } from "./hayro_jbig2.js";
 import { Pdf, isPdf } from "./pdf.js";
 
-const loaded = Decoder.load(fetch(new URL("hayro_jbig2.wasm", import.meta.url)));
+let decoder;
 
-/** What there is to decode in a file: the name of each page, and how to decode it. With `salvage` what is left of damaged pages. */
-async function pagesOf(bytes, salvage) {
-  const decoder = await loaded;
+/** An image of a PDF file: its name, and how to decode it. */
+function imageOf(pdf, number, options) {
+  const decode = ({ bytes, globals }) => ({ page: decoder.decode(bytes, { globals, ...options }), endsEarly: decoder.endsEarly(bytes, options) });
+  return { name: `object ${number}`, decode: () => pdf.streams(number).then(decode) };
+}
+
+/** Decodes bytes that may be anything. */
+function withHint(decode) {
+  try {
+    return decode();
+  } catch (error) {
+    if (error.error !== "FORMAT_MISSING_PAGE_INFO") throw error;
+    throw new Error(`neither a JBIG2 file nor a PDF file; as an embedded page: ${described(error)}`);
+  }
+}
+
+/** The pages of a file, or the images of a PDF file; and what of the file could not be read. */
+async function contentsOf(bytes, options) {
   if (isPdf(bytes)) {
     const pdf = await Pdf.open(bytes);
-    return pdf.images().map((number) => {
-      const decode = ({ bytes, globals }) => decoder.decode(bytes, { globals, salvage });
-      return [`object ${number}`, () => pdf.streams(number).then(decode)];
-    });
+    return { kind: "image", pages: pdf.images().map((number) => imageOf(pdf, number, options)), faults: pdf.faults };
   }
-  if (!isFile(bytes)) return [["embedded page", () => decoder.decode(bytes, { salvage })]];
-  const count = decoder.pageCount(bytes, { salvage });
-  const decode = (page) => decoder.decode(bytes, { page, salvage });
-  return Array.from({ length: count }, (_, page) => [`page ${page + 1} of ${count}`, () => decode(page)]);
+  const endsEarly = decoder.endsEarly(bytes, options);
+  if (!isFile(bytes)) {
+    const decode = () => ({ page: withHint(() => decoder.decode(bytes, options)), endsEarly });
+    return { kind: "embedded page", pages: [{ decode }], faults: [] };
+  }
+  const count = decoder.pageCount(bytes, options);
+  // What is cut off is at the end, so the last page lacks it.
+  const decode = (page) => ({ page: decoder.decode(bytes, { page, ...options }), endsEarly: endsEarly && page === count - 1 });
+  return { kind: "page", pages: Array.from({ length: count }, (_, page) => ({ decode: () => decode(page) })), faults: [] };
 }
 
 const described = (error) => (error.error ? `${error.error}: ${error.message}` : String(error.message ?? error));
@@ -25,40 +42,53 @@ const described = (error) => (error.error ? `${error.error}: ${error.message}` :
 const counted = (count, what) => `${count} ${what}${count === 1 ? "" : "s"}`;
 
 /** What a page lacks, as a text; empty for a whole page. */
-function lacking({ passedOver, leftOut }) {
+function lacking({ passedOver, leftOut }, endsEarly) {
   const lacks = [];
   for (const { count, error } of [passedOver, leftOut?.passedOver ?? { count: 0 }]) {
     if (count) lacks.push(`${counted(count, "segment")} passed over (${described(error)})`);
   }
   if (leftOut?.pages) lacks.push(`${counted(leftOut.pages, "page")} left out (${described(leftOut.firstPage)})`);
   if (leftOut?.rest) lacks.push(`the rest of the segments left out (${described(leftOut.rest)})`);
+  else if (endsEarly) lacks.push("the data ends early, and its last segment is left out");
   return lacks.join("; ");
 }
 
 /** Decodes a page and sends it to the page that shows it, or its error. */
-async function show(file, name, decode) {
+async function show(label, decode) {
   try {
     const began = performance.now();
-    const page = await decode();
+    const { page, endsEarly } = await decode();
     const milliseconds = performance.now() - began;
-    const { width, height, data } = page;
-    postMessage({ file, name, width, height, data, milliseconds, lacks: lacking(page) }, [data.buffer]);
+    const { width, height, rows } = page;
+    postMessage({ ...label, width, height, rows, milliseconds, lacks: lacking(page, endsEarly) }, [rows.buffer]);
   } catch (error) {
-    postMessage({ file, name, error: described(error) });
+    postMessage({ ...label, error: described(error) });
   }
 }
 
-async function showFile({ file, bytes, salvage }) {
+async function showFile({ bytes, salvage, isLimited }) {
   try {
-    const pages = await pagesOf(bytes, salvage);
-    for (const [name, decode] of pages) await show(file, name, decode);
-    if (pages.length === 0) postMessage({ file, error: "no JBIG2 page in this file" });
+    const { kind, pages, faults } = await contentsOf(bytes, { salvage, workLimit: isLimited ? null : Infinity });
+    const count = pages.length;
+    for (const [index, { name, decode }] of pages.entries()) {
+      const number = index + 1;
+      const label = { number, count, name: `${kind} ${number} of ${count}${name ? `, ${name}` : ""}` };
+      postMessage({ begins: label });
+      await show(label, decode);
+    }
+    for (const fault of faults) postMessage({ error: `left out of this file: ${fault}` });
+    if (count === 0) postMessage({ error: "no JBIG2 page in this file" });
   } catch (error) {
-    postMessage({ file, error: described(error) });
+    postMessage({ error: described(error) });
   }
-  postMessage({ file, done: true });
+  postMessage({ isDone: true });
 }
 
-// One file after the other.
-let last = Promise.resolve();
-onmessage = ({ data }) => (last = last.then(() => showFile(data)));
+// The page that shows them sends a file when the one before is done.
+onmessage = ({ data }) => showFile(data);
+try {
+  decoder = await Decoder.load(fetch(new URL("hayro_jbig2.wasm", import.meta.url)));
+  postMessage({ isReady: true });
+} catch (error) {
+  postMessage({ error: described(error) });
+}

@@ -2,100 +2,23 @@
 """Opens ../index.html in headless Chromium, hands it files, and compares what it shows with the folder's answers.json.
 
 usage: web/tests/browser.py FOLDER
-       web/tests/browser.py --picture PICTURE.png FILE ..
+       web/tests/browser.py --picture PICTURE.png WIDTH FILE ..
 
-The second drops files onto the page, and saves a picture of it. The page loads from this computer alone.
+The second drops files onto the page, and saves a picture of it as a window of this width shows it. The page loads from this
+computer alone.
 """
 import base64
-import functools
 import hashlib
-import http.server
 import json
 import pathlib
 import sys
 import tempfile
-import threading
 
 from chromium import Browser
+from looks import faults_of_looks
+from page import FILES, Server, choose, drop, hand_over, open_page, set_checked, shown, wait_until_shown
 
-WEB = pathlib.Path(__file__).resolve().parents[1]
-FILES = "index.html page.css page.js worker.js hayro_jbig2.js errors.js pdf.js hayro_jbig2.wasm".split()
 FILES_AT_ONCE = 100
-# All that is shown: the file, the text and the size of each picture, and the sum of its packed rows, black 1.
-SHOWN = """(async () => {
-  const sumOf = async (canvas) => {
-    const { data } = canvas.getContext("2d").getImageData(0, 0, canvas.width, canvas.height);
-    const stride = Math.ceil(canvas.width / 8);
-    const rows = new Uint8Array(stride * canvas.height);
-    for (let y = 0, at = 0; y < canvas.height; y++)
-      for (let x = 0; x < canvas.width; x++, at += 4) {
-        const [red, green, blue, opacity] = data.subarray(at, at + 4);
-        if (red !== green || red !== blue || opacity !== 255 || (red !== 0 && red !== 255)) return "neither black nor white";
-        if (red === 0) rows[y * stride + (x >> 3)] |= 128 >> (x & 7);
-      }
-    const sum = new Uint8Array(await crypto.subtle.digest("SHA-256", rows));
-    return [...sum].map((byte) => byte.toString(16).padStart(2, "0")).join("");
-  };
-  const shown = [];
-  for (const figure of document.querySelectorAll("figure")) {
-    const canvas = figure.querySelector("canvas");
-    const page = canvas ? [canvas.width, canvas.height, await sumOf(canvas)] : figure.textContent;
-    shown.push([figure.dataset.file, page]);
-  }
-  return JSON.stringify(shown);
-})()"""
-
-
-class Server(http.server.SimpleHTTPRequestHandler):
-    """Serves the page, and notes what it asks for."""
-
-    asked = set()
-
-    def log_message(self, _form, *words):
-        if self.path != "/favicon.ico":
-            self.asked.add(f"{self.command} {self.path}")
-
-
-def serve():
-    """Serves the page, and returns its address."""
-    server = http.server.ThreadingHTTPServer(("127.0.0.1", 0), functools.partial(Server, directory=WEB))
-    threading.Thread(target=server.serve_forever, daemon=True).start()
-    return f"http://127.0.0.1:{server.server_port}/index.html"
-
-
-def open_page(browser):
-    browser.call("Page.navigate", url=serve())
-    browser.wait_for('document.readyState === "complete" && !!document.querySelector("#choose")')
-
-
-def wait_until_shown(browser, files):
-    name = json.dumps(f"{files[-1].name} is done.")
-    browser.wait_for(f'document.querySelector("#note").textContent === {name}')
-
-
-def choose(browser, files):
-    """Hands the page files as a user's choice."""
-    root = browser.call("DOM.getDocument")["root"]["nodeId"]
-    node = browser.call("DOM.querySelector", nodeId=root, selector="#choose")["nodeId"]
-    browser.call("DOM.setFileInputFiles", nodeId=node, files=[str(file.resolve()) for file in files])
-    wait_until_shown(browser, files)
-
-
-def drop(browser, files):
-    """Drops files onto the page."""
-    data = {"items": [], "files": [str(file.resolve()) for file in files], "dragOperationsMask": 1}
-    for kind in ("dragEnter", "dragOver", "drop"):
-        browser.call("Input.dispatchDragEvent", type=kind, x=200, y=200, data=data)
-    wait_until_shown(browser, files)
-
-
-def shown(browser):
-    """The pages that the page shows, by their file's name, and takes them away."""
-    pages = {}
-    for file, page in json.loads(browser.evaluate(SHOWN)):
-        pages.setdefault(file, []).append(page)
-    browser.evaluate('document.querySelector("#pages").replaceChildren()')
-    return pages
 
 
 def is_same(page, meant):
@@ -136,7 +59,7 @@ def shows_what_is_left(browser, folder):
     for salvage in True, False:
         file = folder / f"damaged, {'left' if salvage else 'refused'}.jb2"
         file.write_bytes(DAMAGED)
-        ask_for_salvage(browser, salvage)
+        set_checked(browser, "salvage", salvage)
         drop(browser, [file])
         text = browser.evaluate('document.querySelector("figcaption").textContent')
         [page] = shown(browser)[file.name]
@@ -145,8 +68,56 @@ def shows_what_is_left(browser, folder):
     return outcomes[0] == (dot, [True, True]) and isinstance(outcomes[1][0], str)
 
 
-def ask_for_salvage(browser, salvage):
-    browser.evaluate(f'document.querySelector("#salvage").checked = {json.dumps(salvage)}')
+# A page of 1 by 65535 pixels with a region of 65535 by 65535, which runs for minutes.
+SLOW = (
+    bytes.fromhex("974A42320D0A1A0A 01 00000001")
+    + bytes.fromhex("00000000 30 00 01 00000013 00000001 0000FFFF" + "00" * 11)
+    + bytes.fromhex("00000001 26 00 01 0000001E 0000FFFF 0000FFFF" + "00" * 9 + "04 03FFFDFF02FEFEFE 0000FFAC")
+    + bytes.fromhex("00000002 31 00 01 00000000 00000003 33 00 00 00000000")
+)
+
+
+def goes_on(browser, folder):
+    """What is wrong where a file can't be read, takes long or is stopped: the files after it have to be shown all the same."""
+    slow, good = folder / "slow.jb2", folder / "good.jb2"
+    slow.write_bytes(SLOW)
+    good.write_bytes((folder / "t88-h1.jb2").read_bytes())
+    unreadable = folder / "a folder"
+    unreadable.mkdir()
+    faults = []
+
+    def look(name, file, text):
+        wait_until_shown(browser, [good])
+        pages = shown(browser)
+        if [text in page for page in pages.get(file.name, []) if isinstance(page, str)] != [True] or len(pages.get(good.name, [])) != 3:
+            faults.append(f"{name}: {pages}")
+
+    browser.evaluate('document.querySelector("#seconds").value = 1')
+    hand_over(browser, [unreadable, good])
+    look("a folder", unreadable, "can't be read")
+    hand_over(browser, [slow, good])
+    look("a file of too much work", slow, "WORK_LIMIT_REACHED: more work than the limit of 16777216 units")
+    set_checked(browser, "limited", False)
+    hand_over(browser, [slow, good])
+    browser.wait_for('document.querySelector("#note").textContent.startsWith("slow.jb2 is being decoded.")')
+    look("a slow file", slow, "page 1 of 1: stopped, since a page took more than 1 seconds")
+    browser.evaluate('document.querySelector("#seconds").value = 1000')
+    hand_over(browser, [slow, good])
+    browser.wait_for('document.querySelector("#note").textContent.startsWith("slow.jb2 is being decoded.")')
+    browser.evaluate('document.querySelector("#stop").click()')
+    look("a file that is stopped", slow, "stopped")
+    return faults + clears(browser, slow, good)
+
+
+def clears(browser, slow, good):
+    """What is wrong where all is cleared away while a file runs and another waits: a later file has to be shown all the same."""
+    hand_over(browser, [slow, slow])
+    browser.wait_for('document.querySelector("#note").textContent.startsWith("slow.jb2 is being decoded.")')
+    browser.evaluate('document.querySelector("#clear").click()')
+    browser.wait_for('document.querySelector("#stop").disabled')
+    drop(browser, [good])
+    pages = shown(browser)
+    return [] if list(pages) == [good.name] and len(pages[good.name]) == 3 else [f"all is cleared away: {pages}"]
 
 
 def test(browser, folder):
@@ -155,27 +126,32 @@ def test(browser, folder):
     shows_damage = shows_what_is_left(browser, folder)
     if not shows_damage:
         print("a damaged page is not shown as it is meant")
-    # What jbig2-decode draws leniently.
-    ask_for_salvage(browser, False)
+    faults = [f"the page doesn't go on after {fault}" for fault in goes_on(browser, folder)] + faults_of_looks(browser, folder)
+    for fault in faults:
+        print(fault)
+    # What jbig2-decode draws leniently, without a limit of work.
+    set_checked(browser, "salvage", False)
     names, wrong = list(meant), []
     for begin in range(0, len(names), FILES_AT_ONCE):
         some = names[begin : begin + FILES_AT_ONCE]
         # By turns in the two ways that a user has.
-        hand_over = drop if begin // FILES_AT_ONCE % 2 else choose
-        hand_over(browser, [folder / name for name in some])
+        give = drop if begin // FILES_AT_ONCE % 2 else choose
+        give(browser, [folder / name for name in some])
         pages = shown(browser)
         wrong += [name for name in some if not are_same(pages.get(name, []), meant[name], name.endswith(".jb2"))]
     for name in wrong:
         print(f"differs: {name}")
-    others = Server.asked - {f"GET /{name}" for name in FILES}
+    others = Server.asked - {f"GET {name}" for name in FILES}
     if others:
         print(f"the page has asked for more than its own files: {others}")
     print(f"browser: {len(names) - len(wrong)} files are shown as they are meant, {len(wrong)} not")
-    return 1 if wrong or others or not names or not shows_damage else 0
+    return 1 if wrong or others or not names or not shows_damage or faults else 0
 
 
-def take_picture(browser, picture, files):
+def take_picture(browser, picture, width, files):
+    browser.call("Emulation.setDeviceMetricsOverride", width=width, height=900, deviceScaleFactor=1, mobile=False)
     drop(browser, files)
+    browser.evaluate('dispatchEvent(new Event("beforeprint"))')
     data = browser.call("Page.captureScreenshot", captureBeyondViewport=True)["data"]
     pathlib.Path(picture).write_bytes(base64.b64decode(data))
 
@@ -186,7 +162,7 @@ def main():
         try:
             open_page(browser)
             if sys.argv[1] == "--picture":
-                take_picture(browser, sys.argv[2], [pathlib.Path(file) for file in sys.argv[3:]])
+                take_picture(browser, sys.argv[2], int(sys.argv[3]), [pathlib.Path(file) for file in sys.argv[4:]])
                 return 0
             return test(browser, pathlib.Path(sys.argv[1]))
         finally:

@@ -85,5 +85,11 @@ class Browser:
         )
 
     def close(self):
-        self.process.terminate()
-        self.process.wait()
+        """Ends the browser with its child processes, so that its profile can be removed."""
+        self.session = None
+        try:
+            self.call("Browser.close")
+            self.process.wait(SECONDS)
+        except (RuntimeError, OSError, subprocess.TimeoutExpired):
+            self.process.kill()
+            self.process.wait()

@@ -13,6 +13,8 @@ const folder = process.argv[2];
 const answers = JSON.parse(readFileSync(join(folder, "answers.json"), "utf8"));
 const module = readFileSync(new URL("../hayro_jbig2.wasm", import.meta.url));
 const decoder = await Decoder.load(module);
+// The program has no limit.
+const workLimit = Infinity;
 let passed = 0;
 let failed = 0;
 
@@ -58,15 +60,15 @@ function checkFile(name, bytes, strict, pages) {
   const label = `${name}${strict ? ", strictly" : ""}`;
   if (!isFile(bytes)) {
     const [page] = pages;
-    check(isSame(outcome(() => decoder.decode(bytes, { globals: globalsOf(name), strict })), page), label);
+    check(isSame(outcome(() => decoder.decode(bytes, { globals: globalsOf(name), strict, workLimit })), page), label);
     return;
   }
-  const count = outcome(() => decoder.pageCount(bytes, { strict }));
+  const count = outcome(() => decoder.pageCount(bytes, { strict, workLimit }));
   check(count === (typeof pages === "string" ? pages : pages.length), `${label}, the number of pages`);
   for (const [index, page] of typeof pages === "string" ? [] : pages.entries())
-    check(isSame(outcome(() => decoder.decode(bytes, { page: index, strict })), page), `${label}, page ${index}`);
+    check(isSame(outcome(() => decoder.decode(bytes, { page: index, strict, workLimit })), page), `${label}, page ${index}`);
   const beyond = typeof pages === "string" ? pages : "no such page";
-  check(outcome(() => decoder.decode(bytes, { page: pages.length, strict })) === beyond, `${label}, a page too many`);
+  check(outcome(() => decoder.decode(bytes, { page: pages.length, strict, workLimit })) === beyond, `${label}, a page too many`);
   check(decoder.held === 0, `${label}: memory is not given back`);
 }
 
@@ -76,7 +78,7 @@ async function checkPdf(name, bytes, pages) {
   const pdf = await Pdf.open(bytes);
   for (const number of pdf.images()) {
     const { bytes: stream, globals } = await pdf.streams(number);
-    found.push(outcome(() => decoder.decode(stream, { globals })));
+    found.push(outcome(() => decoder.decode(stream, { globals, workLimit })));
   }
   check(isSame(found.map(String).sort(), pages.map(String).sort()), name);
 }
@@ -125,7 +127,7 @@ function checkSame(name, bytes, pages) {
   const globals = isFile(bytes) ? null : globalsOf(name);
   for (const [page, meant] of typeof pages === "string" ? [] : pages.entries())
     if (typeof meant !== "string")
-      check(isSame(outcome(() => decoder.decode(bytes, { globals, page, salvage: true })), meant), `${name}, page ${page}, in salvage`);
+      check(isSame(outcome(() => decoder.decode(bytes, { globals, page, salvage: true, workLimit })), meant), `${name}, page ${page}, in salvage`);
 }
 
 /** Each amount of memory gives the page or "out of memory", and neither keeps any. */

@@ -1,0 +1,101 @@
+/** The bytes of an ArrayBuffer, or of any view of one. */
+export type Bytes = ArrayBuffer | SharedArrayBuffer | ArrayBufferView;
+
+/** The module hayro_jbig2.wasm. */
+export type ModuleSource = Bytes | Response | WebAssembly.Module;
+
+/** Why a page is not decoded: `number` and `error` as in hayro_jbig2.h, and its text as `message`. */
+export class Jbig2Error extends Error {
+  constructor(number: number);
+  readonly number: number;
+  /** The name of the number, as "FORMAT_MISSING_PAGE_INFO". */
+  readonly error: string;
+}
+
+/** A page, or what pages share, asks for more work than the limit allows. `error` is "WORK_LIMIT_REACHED". */
+export class WorkLimitReached extends Jbig2Error {
+  constructor(limit: number);
+}
+
+/** Segments that were passed over: their count, and the number and the error of the first. */
+export interface PassedOver {
+  count: number;
+  segment: number | null;
+  error: Jbig2Error | null;
+}
+
+/** What salvage left out besides what was passed over in the page. */
+export interface LeftOut {
+  /** Segments that pages share. */
+  passedOver: PassedOver;
+  /** How many pages of the file can't begin, with the error of the first. */
+  pages: number;
+  firstPage: Jbig2Error | null;
+  /** The fault at which a list of segments ends early. */
+  rest: Jbig2Error | null;
+}
+
+/** A page as packed rows, and as the other forms that they can be had in. */
+export class DecodedPage {
+  constructor(width: number, height: number, rows: Uint8Array, lacks: { passedOver: PassedOver; leftOut: LeftOut | null });
+  readonly width: number;
+  readonly height: number;
+  /** A bit for each pixel, 1 is black, the leftmost the highest of its byte; (width + 7) >> 3 bytes a row. */
+  readonly rows: Uint8Array;
+  readonly passedOver: PassedOver;
+  /** What salvage left out; null in other readings. */
+  readonly leftOut: LeftOut | null;
+  /** The pixels as ImageData has them, made when they are asked for first. */
+  readonly data: Uint8ClampedArray;
+  /** The pixels as ImageData has them, made anew. */
+  toRgba(): Uint8ClampedArray;
+  /** A byte for each pixel, made anew: 0 is black, 255 is white. */
+  toGray(): Uint8Array;
+}
+
+export interface WorkOptions {
+  /**
+   * The most units of work, for a page and for what it shares with others, or Infinity. Where it isn't given: 100 for each
+   * pixel of the page, 2^24 at least, and 2^28 for what pages share.
+   */
+  workLimit?: number | null;
+}
+
+export interface ReadingOptions extends WorkOptions {
+  /** The first fault is thrown. */
+  strict?: boolean;
+  /** What is left of damaged data is read. `strict` means nothing then. */
+  salvage?: boolean;
+}
+
+export interface DecodeOptions extends ReadingOptions {
+  /** The globals of an embedded page. */
+  globals?: Bytes | null;
+  /** The index of a page of a file, from 0. */
+  page?: number;
+}
+
+/** Whether bytes begin as a JBIG2 file does. Other bytes are those of an embedded page, as PDF has them. */
+export function isFile(source: Bytes): boolean;
+
+/** A loaded decoder. One page is decoded at a time; several may be loaded, in workers of their own. */
+export class Decoder {
+  private constructor();
+  /**
+   * Loads the module.
+   * @param source the module; that beside this file where it isn't given (in Node from 20.16 on)
+   * @param most the most bytes of memory that decoding may take
+   */
+  static load(source?: ModuleSource | Promise<ModuleSource>, most?: number): Promise<Decoder>;
+  /** How many bytes of the module's memory are in use: none between two calls. */
+  readonly held: number;
+  /** How many pages a file has. */
+  pageCount(bytes: Bytes, options?: ReadingOptions): number;
+  /** Whether the bytes end inside of a segment, which lenient reading and salvage leave out. */
+  endsEarly(bytes: Bytes, options?: WorkOptions): boolean;
+  /**
+   * Decodes a page of a file, or an embedded page with its globals.
+   * @throws {WorkLimitReached | Jbig2Error | TypeError}
+   */
+  decode(bytes: Bytes, options?: DecodeOptions): DecodedPage;
+}

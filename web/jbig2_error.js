@@ -1,0 +1,26 @@
+/** The errors of the decoder. */
+
+import { ERRORS } from "./errors.js";
+
+export const OUT_OF_MEMORY = 41;
+
+/** Why a page is not decoded: `number` and `error` as in hayro_jbig2.h, and its text as `message`. */
+export class Jbig2Error extends Error {
+  constructor(number) {
+    const [error, text] = ERRORS[number] ?? [`ANSWER_${number}`, "no answer of this library"];
+    super(text);
+    this.name = "Jbig2Error";
+    this.number = number;
+    this.error = error;
+  }
+}
+
+/** A page, or what pages share, asks for more work than the limit allows. The library says OUT_OF_MEMORY there. */
+export class WorkLimitReached extends Jbig2Error {
+  constructor(limit) {
+    super(OUT_OF_MEMORY);
+    this.name = "WorkLimitReached";
+    this.error = "WORK_LIMIT_REACHED";
+    this.message = `more work than the limit of ${limit} units`;
+  }
+}

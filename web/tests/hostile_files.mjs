@@ -1,0 +1,72 @@
+/** PDF files that ask for more time or memory than they are worth: each made by a function of its size in bytes. */
+import { deflateSync } from "node:zlib";
+
+const HEAD = "%PDF-1.5\n";
+const latin1 = (text) => Buffer.from(text, "latin1");
+const times = (text, size) => text.repeat(Math.ceil(size / text.length));
+/** An object that is a stream. */
+export const stream = (number, words, data) =>
+  Buffer.concat([latin1(`${number} 0 obj <<${words}/Length ${data.length}>>stream\n`), Buffer.from(data, "latin1"), latin1("\nendstream endobj\n")]);
+/** A file of these parts, texts or bytes. */
+export const file = (...parts) => Buffer.concat([HEAD, ...parts].map((part) => Buffer.from(part, "latin1")));
+const image = (number, words, data = "") => stream(number, `${words}/Filter/JBIG2Decode`, data);
+
+/** Streams of zlib in one another, `rounds` of them, around `size` zeros. */
+export function packed(size, rounds) {
+  let data = Buffer.alloc(size);
+  for (let round = 0; round < rounds; round++) data = deflateSync(data, { level: 9 });
+  return data;
+}
+
+const OBJECT_STREAM = "/Type/ObjStm/N 1/First 4";
+const numbered = (count, text) => Array.from({ length: Math.ceil(count) }, (_, at) => text(at + 1)).join("");
+
+/** Whose reading takes a time in proportion to their size, at most. */
+export const GROWING = {
+  "a run of digits": (size) => file(times("1", size)),
+  "a run of digits in parameters": (size) => file(image(1, `/DecodeParms ${times("1", size)}`)),
+  "objects that don't end": (size) => file(times("1 0 obj ", size)),
+  "streams that don't end": (size) => file(times("1 0 obj <</Type/ObjStm/N 1/First 4>>stream\n", size)),
+  "object streams without a length": (size) => file(numbered(size / 60, (at) => `${at} 0 obj <<${OBJECT_STREAM}>>stream\n9 0 7\nendstream endobj\n`)),
+  "packed object streams": (size) => {
+    const one = stream(1, "/Type/ObjStm/N 1/First 4/Filter/FlateDecode", deflateSync("9 0 7")).toString("latin1");
+    return file(numbered(size / one.length, (at) => one.replace("1", String(at))));
+  },
+  "lengths that are not there": (size) => file(numbered(size / 50, (at) => `${at} 0 obj <</Length 9999999 0 R>>stream\nendstream\n`)),
+  "lengths that come later": (size) => file(numbered(size / 70, (at) => `${2 * at} 0 obj<</Length ${2 * at + 1} 0 R>>stream\nendobj endstream\n${2 * at + 1} 0 obj 6 endobj\n`)),
+  "strings that don't close": (size) => file(times("1 0 obj(endobj ", size)),
+  "strings that don't close in one object": (size) => file("1 0 obj[", times("(", size)),
+  "strings with escapes that don't close": (size) => file("1 0 obj[", times("\\(endobj 1 0 obj[", size)),
+  "arrays in arrays": (size) => file("1 0 obj", times("[", size)),
+  "dictionaries in dictionaries": (size) => file("1 0 obj", times("<</N", size)),
+  "brackets that close nothing": (size) => file("1 0 obj", times(">>]", size)),
+  "many small dictionaries": (size) => file(numbered(size / 30, (at) => `${at} 0 obj<</N<</N<</N 1>>>>>>endobj `)),
+  "a long name": (size) => file("1 0 obj<</Type/", times("A#41", size), ">>endobj"),
+  "comments": (size) => file(times("%\n% 1 0 obj", size)),
+  "words that are nearly an end": (size) => file("1 0 obj<<>>stream\n", times("endstrea", size)),
+  "a long list of filters": (size) =>
+    file(`1 0 obj[${times("/FlateDecode", size / 2)}]endobj `, numbered(size / 120, (at) => `${at + 1} 0 obj<</Filter 1 0 R>>stream\n \nendstream endobj\n`)),
+  "objects at one place of an object stream": (size) => {
+    const head = numbered(size / 12, (at) => `${at + 10} 0 `);
+    return file(stream(1, `/Type/ObjStm/N ${Math.ceil(size / 12)}/First ${head.length}`, `${head}[${times("1 ", size / 2)}]`));
+  },
+  "an object stream of one long array": (size) => file(stream(1, OBJECT_STREAM, `9 0 [${times("<<>>", size)}`)),
+};
+
+/** Which are small. */
+export const SMALL = {
+  "10^15 objects in an object stream": () => file(stream(1, "/Type/ObjStm/N 999999999999999/First 4", "9 0 null")),
+  "an image that unpacks to 300 MB": () => file(stream(1, "/Filter[/FlateDecode/FlateDecode/JBIG2Decode]", packed(300 << 20, 2))),
+  "an object stream that unpacks to 300 MB": () => file(stream(1, `${OBJECT_STREAM}/Filter[/FlateDecode/FlateDecode]`, packed(300 << 20, 2))),
+  "20 images that unpack to 60 MB each": () => {
+    const data = packed(60 << 20, 2);
+    return file(...Array.from({ length: 20 }, (_, at) => stream(at + 1, "/Filter[/FlateDecode/FlateDecode/JBIG2Decode]", data)));
+  },
+  "an object stream that unpacks to 100 MB of numbers": () =>
+    file(stream(1, "/Type/ObjStm/N 50000000/First 100000000/Filter[/FlateDecode/FlateDecode]", deflateSync(deflateSync(Buffer.alloc(100e6, "9 "))))),
+  "an object stream that unpacks to 200 MB of objects": () => {
+    const head = numbered(1e5, (at) => `${at} ${10 * at} `);
+    const data = Buffer.concat([latin1(head), Buffer.alloc(150e6, "<</N 1>>")]);
+    return file(stream(1, `/Type/ObjStm/N 100000/First ${head.length}/Filter[/FlateDecode/FlateDecode]`, deflateSync(deflateSync(data))));
+  },
+};
