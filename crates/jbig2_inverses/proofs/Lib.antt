@@ -1,0 +1,6 @@
+pub mod Digits
+pub mod PrefixMembers
+pub mod PrefixRoom
+pub mod PrefixReading
+pub mod PrefixInverse
+mod PrefixWorked
