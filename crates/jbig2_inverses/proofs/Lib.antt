@@ -1,6 +1,10 @@
+pub mod CoderStates
 pub mod Digits
-pub mod PrefixMembers
-pub mod PrefixRoom
-pub mod PrefixReading
+pub mod IntegerInverse
+pub mod IntegerRanges
+mod IntegerWorked
 pub mod PrefixInverse
+pub mod PrefixMembers
+pub mod PrefixReading
+pub mod PrefixRoom
 mod PrefixWorked

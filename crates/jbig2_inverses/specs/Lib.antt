@@ -1,2 +1,4 @@
+pub mod CoderStates
 pub mod Digits
+pub mod IntegerWriter
 pub mod PrefixWriter

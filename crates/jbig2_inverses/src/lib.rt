@@ -2,6 +2,7 @@
 //! definitions of writing and reading, and it holds for all values.
 #![tactic(auto)]
 
+ghost use Rattle.jbig2_inverses.specs.IntegerWriter.{IntegersReadBack, SymbolIdsReadBack};
 ghost use Rattle.jbig2_inverses.specs.PrefixWriter.{PrefixCodesReadBack};
 
 /// Prefix codes (Annex B) are read back. Take any lines that B.3 accepts, one of them, and range bits for it. From its
@@ -9,4 +10,17 @@ ghost use Rattle.jbig2_inverses.specs.PrefixWriter.{PrefixCodesReadBack};
 /// the code of another line.
 pub fn prefix_codes_read_back()
     ensures { PrefixCodesReadBack }
+{}
+
+/// Integers (Annex A.2) are read back: every number of signed 32 bits, and out of band. Wherever the coder's next
+/// decisions are those that stand for the number, in the contexts that PREV names, the number is read. And it is read
+/// from the bytes of the encoder of E.2, whatever decisions are coded before and after it, in whatever contexts.
+pub fn integers_read_back()
+    ensures { IntegersReadBack }
+{}
+
+/// Symbol ids (Annex A.3) of each code length are read back: every number below 2 to the code length. The decisions
+/// before and after it may be any, as with integers.
+pub fn symbol_ids_read_back()
+    ensures { SymbolIdsReadBack }
 {}
