@@ -8,3 +8,7 @@ pub mod PrefixMembers
 pub mod PrefixReading
 pub mod PrefixRoom
 mod PrefixWorked
+pub mod RowCodes
+pub mod RowInverse
+pub mod RowModes
+mod RowWorked

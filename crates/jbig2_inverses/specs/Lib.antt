@@ -2,3 +2,4 @@ pub mod CoderStates
 pub mod Digits
 pub mod IntegerWriter
 pub mod PrefixWriter
+pub mod RowWriter

@@ -4,6 +4,7 @@
 
 ghost use Rattle.jbig2_inverses.specs.IntegerWriter.{IntegersReadBack, SymbolIdsReadBack};
 ghost use Rattle.jbig2_inverses.specs.PrefixWriter.{PrefixCodesReadBack};
+ghost use Rattle.jbig2_inverses.specs.RowWriter.{RowsReadBack};
 
 /// Prefix codes (Annex B) are read back. Take any lines that B.3 accepts, one of them, and range bits for it. From its
 /// code and these bits the line's number is read, or out of band, whatever bits come after them. No line's code begins
@@ -23,4 +24,11 @@ pub fn integers_read_back()
 /// before and after it may be any, as with integers.
 pub fn symbol_ids_read_back()
     ensures { SymbolIdsReadBack }
+{}
+
+/// Rows of T.6, which T.88 calls MMR, are read back: each row of each width, under each row above it. From the modes and
+/// runs that T.6's coding procedure chooses for the row, its pixels are read, with white outside of it, and the bits
+/// after it are left.
+pub fn rows_read_back()
+    ensures { RowsReadBack }
 {}
