@@ -145,10 +145,10 @@ integers_read_back = record {
 }
 
 -- symbol ids
-abbrev id_name : List Bool → ℕ
+abbrev pub id_name : List Bool → ℕ
 id_name bits = value_of_bits (true ∷ bits)
 
-id-below : (code_length : ℕ) (bits : List Bool) → length bits < code_length → id_name bits < 2 ^ code_length
+pub id-below : (code_length : ℕ) (bits : List Bool) → length bits < code_length → id_name bits < 2 ^ code_length
 id-below code_length bits h =
     let below = value-below (true ∷ bits) in
     let reach : suc (length bits) ≤ code_length = omega (arith, h) in

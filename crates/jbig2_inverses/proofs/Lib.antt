@@ -12,3 +12,5 @@ pub mod RowCodes
 pub mod RowInverse
 pub mod RowModes
 mod RowWorked
+pub mod SequenceInverse
+mod SequenceWorked

@@ -3,3 +3,4 @@ pub mod Digits
 pub mod IntegerWriter
 pub mod PrefixWriter
 pub mod RowWriter
+pub mod SequenceWriter

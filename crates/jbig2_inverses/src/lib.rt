@@ -5,6 +5,7 @@
 ghost use Rattle.jbig2_inverses.specs.IntegerWriter.{IntegersReadBack, SymbolIdsReadBack};
 ghost use Rattle.jbig2_inverses.specs.PrefixWriter.{PrefixCodesReadBack};
 ghost use Rattle.jbig2_inverses.specs.RowWriter.{RowsReadBack};
+ghost use Rattle.jbig2_inverses.specs.SequenceWriter.{SequencesReadBack};
 
 /// Prefix codes (Annex B) are read back. Take any lines that B.3 accepts, one of them, and range bits for it. From its
 /// code and these bits the line's number is read, or out of band, whatever bits come after them. No line's code begins
@@ -24,6 +25,13 @@ pub fn integers_read_back()
 /// before and after it may be any, as with integers.
 pub fn symbol_ids_read_back()
     ensures { SymbolIdsReadBack }
+{}
+
+/// Integers and symbol ids are read back in any sequence. Take any list of them, each integer with its procedure. The
+/// encoder of E.2 gives bytes for their decisions, where each procedure has contexts of its own. From these bytes the
+/// procedures, asked in turn, read the list. All contexts are fresh at first.
+pub fn sequences_read_back()
+    ensures { SequencesReadBack }
 {}
 
 /// Rows of T.6, which T.88 calls MMR, are read back: each row of each width, under each row above it. From the modes and
