@@ -1,13 +1,17 @@
+pub mod BitmapInverse
+mod BitmapWorked
 pub mod CoderStates
 pub mod Digits
 pub mod IntegerInverse
 pub mod IntegerRanges
 mod IntegerWorked
+pub mod Packing
 pub mod PrefixInverse
 pub mod PrefixMembers
 pub mod PrefixReading
 pub mod PrefixRoom
 mod PrefixWorked
+pub mod RowBits
 pub mod RowCodes
 pub mod RowInverse
 pub mod RowModes

@@ -1,11 +1,13 @@
 -- Rows of T.6 are read back.
-use Rattle.std.proofs.Common.{◌≡◌, ◌⊎◌, ℕ, zero, suc, ◌+◌, ◌<◌, ◌≤◌, ltb, leb, Bool, ◌&&◌, List, [], ◌++◌, length, Option, Some, None, refl, sym, ◌∙◌, ap, subst, arith, inl, inr, ⊎_elim, le-leb, le-ltb, append-nil, append_assoc, length-append}
+use Rattle.std.proofs.Common.{◌≡◌, ◌⊎◌, ℕ, zero, suc, ◌+◌, ◌<◌, ◌≤◌, ltb, leb, Bool, false, ◌&&◌, List, [], ◌++◌, length, Option, Some, None, refl, sym, ◌∙◌, ap, subst, arith, inl, inr, ⊎_elim, le-leb, le-ltb, append-nil, append_assoc, length-append}
 use Rattle.std.proofs.lemmas.Bool.{cond-true, cond-false, cases_lt, lt-leb, true≢false}
 use Rattle.std.proofs.lemmas.List.{nil_from_length}
+use Rattle.jbig2_base.specs.inner.BitLists.{AreBits}
 use Rattle.jbig2_mmr.specs.T6Codes.{modes}
-use Rattle.jbig2_mmr.specs.T6.{Head, Step, read_code, row, pixel_of, row_from, row_start, next_step, black_at, ◌>>=◌}
+use Rattle.jbig2_mmr.specs.T6.{Head, Step, read_code, row, pixel_of, row_from, row_start, next_step, ends_block, black_at, ◌>>=◌}
 use Rattle.jbig2_mmr.proofs.T6Rows.{change-none}
 use Rattle.jbig2_inverses.specs.RowWriter.{Code, code_of, bits_from, row_bits, RowsReadBack}
+use Rattle.jbig2_inverses.proofs.RowBits.{bits-both}
 use Rattle.jbig2_inverses.proofs.RowModes.{Done, Follows, measure, follows}
 
 ended : (most w : ℕ) (above : ℕ → Bool) (h : Head) (changes bits : List ℕ) → w ≤ h.a0 → row_from most w above h changes bits ≡ Some (changes, bits)
@@ -117,7 +119,7 @@ module _ (w : ℕ) (above pixels : ℕ → Bool) where
   unfolding row_bits
   bits-are = refl
 
-  reads-row : (rest : List ℕ) → (changes : List ℕ) × (row w above (row_bits w above pixels ++ rest) ≡ Some (changes, rest)) × ((x : ℕ) → pixel_of w changes x ≡ (ltb x w && pixels x))
+  pub reads-row : (rest : List ℕ) → (changes : List ℕ) × (row w above (row_bits w above pixels ++ rest) ≡ Some (changes, rest)) × ((x : ℕ) → pixel_of w changes x ≡ (ltb x w && pixels x))
   reads-row rest =
       let bits = bits_from w above pixels (w + 1) row_start in
       let r = reads-rest (w + 1) (length (bits ++ rest)) row_start [] rest start start-measure (omega (arith, length-append bits rest)) in (
@@ -128,6 +130,31 @@ module _ (w : ℕ) (above pixels : ℕ → Bool) where
             (λ (out : w ≤ x). ap (λ (t : Bool). t && black_at r.0 x) (le-ltb x w out) ∙ sym (ap (λ (t : Bool). t && pixels x) (le-ltb x w out)))
             (cases_lt x w),
       )
+
+  -- ---- the bits of a row
+  rest-bits : (most : ℕ) (h : Head) (changes : List ℕ) → Done w pixels h changes → AreBits (bits_from w above pixels most h)
+  unfolding bits_from AreBits
+  rest-bits zero h changes d = tt
+  rest-bits (suc most) h changes d = ⊎_elim
+      (λ (room : h.a0 < w).
+      let code = code_of w above pixels h in
+      let f = follows w above pixels h changes d room in
+      subst AreBits (sym (more-bits most h room)) (bits-both code.bits (bits_from w above pixels most code.head) f.bits (rest-bits most code.head (changes ++ f.added) f.done)))
+      (λ (e : w ≤ h.a0). subst AreBits (sym (no-bits (suc most) h e)) tt)
+      (cases_lt h.a0 w)
+
+  pub row-are-bits : AreBits (row_bits w above pixels)
+  row-are-bits = subst AreBits (sym bits-are) (rest-bits (w + 1) row_start [] start)
+
+  pub row-no_end : 0 < w → (rest : List ℕ) → ends_block (row_bits w above pixels ++ rest) ≡ false
+  row-no_end some rest =
+      let f = follows w above pixels row_start [] start some in
+      let code = code_of w above pixels row_start in
+      let next : w + 1 ≡ suc w = omega arith in
+      let more = bits_from w above pixels w code.head in
+      let split : row_bits w above pixels ++ rest ≡ code.bits ++ (more ++ rest) =
+      ap (λ (b : List ℕ). b ++ rest) (bits-are ∙ ap (λ (n : ℕ). bits_from w above pixels n row_start) next ∙ more-bits w row_start some) ∙ append_assoc code.bits more rest in
+      ap ends_block split ∙ f.no_end (more ++ rest)
 
 pub rows_read_back : RowsReadBack
 rows_read_back = reads-row

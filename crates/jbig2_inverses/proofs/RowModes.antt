@@ -4,13 +4,15 @@ use Rattle.std.proofs.lemmas.Bool.{cond-true, cond-false, cond_both, cases_eq, c
 use Rattle.jbig2_base.specs.Grid.{differ}
 use Rattle.jbig2_base.specs.Search.{least, place_from}
 use Rattle.jbig2_base.proofs.SearchLemmas.{place-past}
+use Rattle.jbig2_base.specs.inner.BitLists.{AreBits}
 use Rattle.jbig2_mmr.specs.declared.mmr.codes.Mode.{Mode}
 use Rattle.jbig2_mmr.specs.declared.mmr.codes.Mode.TheVariants.{Pass, Horizontal, Vertical}
 use Rattle.jbig2_mmr.specs.T6Codes.{modes, vertical_right, vertical_left}
-use Rattle.jbig2_mmr.specs.T6.{Head, Step, read_code, run, place_in, after_runs, after_pass, after_vertical, b1_of, b2_of, next_step, is_change, is_change_from, black_at, ◌>>=◌}
+use Rattle.jbig2_mmr.specs.T6.{Head, Step, read_code, run, place_in, ends_block, after_runs, after_pass, after_vertical, b1_of, b2_of, next_step, is_change, is_change_from, black_at, ◌>>=◌}
 use Rattle.jbig2_mmr.specs.inner.T6Reading.{IsTurn}
 use Rattle.jbig2_mmr.proofs.T6Rows.{changes-both, step-by, pass-turn, vertical-turn, runs-turn}
 use Rattle.jbig2_inverses.specs.RowWriter.{Code, mode_word, run_bits, next_other, code_of}
+use Rattle.jbig2_inverses.proofs.RowBits.{pass-no_end, horizontal-no_end, right-no_end, left-no_end, mode-bits, run-bits, bits-both}
 use Rattle.jbig2_inverses.proofs.RowCodes.{pass-read, horizontal-read, right-read, left-read, run-read}
 
 -- ---- the search for a place
@@ -89,6 +91,8 @@ pub record Follows (w : ℕ) (above pixels : ℕ → Bool) (h : Head) (changes :
   pub reads : (left : List ℕ) → next_step w above h (code.bits ++ left) ≡ Some (record { head = code.head; added = added; left = left })
   pub done : Done w pixels code.head (changes ++ added)
   pub less : measure w code.head < measure w h
+  pub no_end : (left : List ℕ) → ends_block (code.bits ++ left) ≡ false
+  pub bits : AreBits code.bits
 
 -- the row so far, and the pixels that a mode adds
 joined : (w : ℕ) (pixels : ℕ → Bool) (h next : Head) (changes added : List ℕ) (turn : ℕ) → Done w pixels h changes → IsTurn w h added turn next
@@ -205,6 +209,8 @@ module _ (w : ℕ) (above pixels : ℕ → Bool) (h : Head) where
             (λ x a b. absurd (omega (arith, a, b)))
             (λ b. t.same b2 forward below);
         less = lessens next room refl forward (λ e. let f = from-past e in omega (arith, f, start, right));
+        no_end = pass-no_end;
+        bits = mode-bits Pass;
       }
     where
       from-past : h.past_start ≡ true → from_place ≡ h.a0 + 1
@@ -213,9 +219,10 @@ module _ (w : ℕ) (above pixels : ℕ → Bool) (h : Head) where
   verticals : (changes : List ℕ) (a1 a2 : ℕ) (distance : ℤ) → Done w pixels h changes → h.a0 < w → Turns a1 a2
       → pos (b1_of w above h) +ℤ distance ≡ pos a1
       → ((left : List ℕ) → read_code modes (mode_word (Vertical distance) ++ left) ≡ Some (Vertical distance, left))
+      → ((left : List ℕ) → ends_block (mode_word (Vertical distance) ++ left) ≡ false)
       → Follows w above pixels h changes (record { bits = mode_word (Vertical distance); head = record { a0 = a1; past_start = true; black = not h.black } })
   unfolding after_vertical
-  verticals changes a1 a2 distance d room t sum read =
+  verticals changes a1 a2 distance d room t sum read no_end =
       let next : Head = record { a0 = a1; past_start = true; black = not h.black } in
       let low = t.order1 in
       let mid = t.order2 in
@@ -232,6 +239,8 @@ module _ (w : ℕ) (above pixels : ℕ → Bool) (h : Head) where
             (λ x a b. absurd (omega (arith, a, b)))
             (λ b. t.at1 b);
         less = lessens next room refl low (λ e. further changes a1 a2 d room t e);
+        no_end = no_end;
+        bits = mode-bits (Vertical distance);
       }
 
   horizontals : (changes : List ℕ) (a1 a2 : ℕ) → Done w pixels h changes → h.a0 < w → Turns a1 a2
@@ -270,6 +279,8 @@ module _ (w : ℕ) (above pixels : ℕ → Bool) (h : Head) where
             (λ x a b. t.other x a b)
             (λ b. t.at2 b);
         less = lessens next room refl (omega (arith, low, mid)) (λ e. let f = further changes a1 a2 d room t e in omega (arith, f, mid));
+        no_end = λ left. ap ends_block (append_assoc (mode_word Horizontal) (one ++ two) left) ∙ horizontal-no_end ((one ++ two) ++ left);
+        bits = bits-both (mode_word Horizontal) (one ++ two) (mode-bits Horizontal) (bits-both one two (run-bits h.black (a1 - h.a0)) (run-bits (not h.black) (a2 - a1)));
       }
 
   -- the distance of a vertical mode
@@ -284,12 +295,12 @@ module _ (w : ℕ) (above pixels : ℕ → Bool) (h : Head) where
       let k = b1 - a1 in
       let sum : pos b1 +ℤ (pos 0 -ℤ pos k) ≡ pos a1 = left-sum b1 a1 k (omega (arith, r)) (omega (arith, r)) in
       subst P (sym (cond-false (leb b1 a1) (vertical_right (a1 - b1)) (vertical_left k) (lt-leb b1 a1 r)))
-      (verticals changes a1 a2 (pos 0 -ℤ pos k) d room t sum (left-read k (omega (arith, r)) (omega (arith, below-it)))))
+      (verticals changes a1 a2 (pos 0 -ℤ pos k) d room t sum (left-read k (omega (arith, r)) (omega (arith, below-it))) (left-no_end k (omega (arith, r)) (omega (arith, below-it)))))
       (λ (l : b1 ≤ a1).
       let k = a1 - b1 in
       let sum : pos b1 +ℤ pos k ≡ pos a1 = ap pos (let e : b1 + (a1 - b1) ≡ a1 = omega (arith, l) in e) in
       subst P (sym (cond-true (leb b1 a1) (vertical_right k) (vertical_left (b1 - a1)) (le-leb b1 a1 l)))
-      (verticals changes a1 a2 (pos k) d room t sum (right-read k (omega (arith, above-it)))))
+      (verticals changes a1 a2 (pos k) d room t sum (right-read k (omega (arith, above-it))) (right-no_end k (omega (arith, above-it)))))
       (cases_lt a1 b1)
     where
       left-sum : (b a k : ℕ) → 1 ≤ k → b ≡ a + k → pos b +ℤ (pos 0 -ℤ pos k) ≡ pos a

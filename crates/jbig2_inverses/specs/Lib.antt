@@ -1,3 +1,4 @@
+pub mod BitmapWriter
 pub mod CoderStates
 pub mod Digits
 pub mod IntegerWriter

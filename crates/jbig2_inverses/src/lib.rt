@@ -2,6 +2,7 @@
 //! definitions of writing and reading, and it holds for all values.
 #![tactic(auto)]
 
+ghost use Rattle.jbig2_inverses.specs.BitmapWriter.{BitmapsReadBack};
 ghost use Rattle.jbig2_inverses.specs.IntegerWriter.{IntegersReadBack, SymbolIdsReadBack};
 ghost use Rattle.jbig2_inverses.specs.PrefixWriter.{PrefixCodesReadBack};
 ghost use Rattle.jbig2_inverses.specs.RowWriter.{RowsReadBack};
@@ -39,4 +40,10 @@ pub fn sequences_read_back()
 /// after it are left.
 pub fn rows_read_back()
     ensures { RowsReadBack }
+{}
+
+/// Bitmaps by MMR (T.88, 6.2.6) are read back: each bitmap that has pixels, from the bytes of its rows, with an end of
+/// block or without, in strict and in lenient mode. All of the bytes are used.
+pub fn bitmaps_read_back()
+    ensures { BitmapsReadBack }
 {}
