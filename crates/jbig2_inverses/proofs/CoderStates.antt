@@ -1,5 +1,6 @@
 -- The decoder's states along a list of decisions.
-use Rattle.std.proofs.Common.{◌≡◌, ◌⊎◌, ℕ, zero, suc, ◌+◌, ◌<◌, ◌≤◌, eqb, Bool, false, List, [], ◌∷◌, ◌++◌, length, get_or, set, drop, refl, sym, ◌∙◌, ap, subst, arith, inl, inr, ⊎_elim, eq-eqb, ne_eqb, append_assoc}
+use Rattle.std.proofs.Common.{◌≡◌, ◌⊎◌, ℕ, zero, suc, ◌+◌, ◌<◌, ◌≤◌, eqb, Bool, false, List, [], ◌∷◌, ◌++◌, length, get_or, set, drop, refl, sym, ◌∙◌, ap, subst, arith, inl, inr, ⊎_elim, eq-eqb, ne_eqb, append_assoc, append-nil}
+use Rattle.std.proofs.lemmas.List.{length_push}
 use Rattle.std.proofs.lemmas.Bool.{cond-true, cond-false}
 use Rattle.jbig2_coder.specs.Coder.{Context, Decision, fresh, decision}
 use Rattle.jbig2_coder.specs.Encoder.{with_context, decoded_from, read_back, encoded_bytes}
@@ -146,11 +147,7 @@ module _ (name : List Bool → ℕ) (base count limit : ℕ) where
   more-gives [] bytes bits s bound h g =
       more-none bytes (reading_at bits s)
       ∙ ap (λ (z : State). reading_at bits z) (sym (after-none bytes s))
-      ∙ ap (λ (b : List Bool). reading_at b (state_after bytes s [])) (sym (nil bits))
-    where
-      nil : (ys : List Bool) → ys ++ [] ≡ ys
-      nil [] = refl
-      nil (y ∷ ys) = ap (λ (zs : List Bool). y ∷ zs) (nil ys)
+      ∙ ap (λ (b : List Bool). reading_at b (state_after bytes s [])) (sym (append-nil bits))
   more-gives (d ∷ ds) bytes bits s bound h g =
       let k = base + name bits in
       let es = in_contexts name base (bits ++ d ∷ []) ds in
@@ -161,18 +158,10 @@ module _ (name : List Bool → ℕ) (base count limit : ℕ) where
       ∙ more-gives ds bytes (bits ++ d ∷ []) (state_on bytes s k) bound (omega (arith, h, size)) (gives-next bytes s (k, d) es g)
       ∙ ap (λ (z : State). reading_at ((bits ++ d ∷ []) ++ ds) z) (sym (after-next bytes s (k, d) es))
       ∙ ap (λ (b : List Bool). reading_at b (state_after bytes s (asked ((k, d) ∷ es)))) (append_assoc bits (d ∷ []) ds)
-    where
-      length_push : (ys : List Bool) (y : Bool) → length (ys ++ y ∷ []) ≡ length ys + 1
-      length_push [] y = omega arith
-      length_push (x ∷ ys) y = let e = length_push ys y in omega (arith, e)
 
   pub contexts-append : (xs ys bits : List Bool) → in_contexts name base bits (xs ++ ys) ≡ in_contexts name base bits xs ++ in_contexts name base (bits ++ xs) ys
   unfolding in_contexts
-  contexts-append [] ys bits = ap (λ (b : List Bool). in_contexts name base b ys) (sym (nil bits))
-    where
-      nil : (zs : List Bool) → zs ++ [] ≡ zs
-      nil [] = refl
-      nil (z ∷ zs) = ap (λ (us : List Bool). z ∷ us) (nil zs)
+  contexts-append [] ys bits = ap (λ (b : List Bool). in_contexts name base b ys) (sym (append-nil bits))
   contexts-append (x ∷ xs) ys bits =
       ap (λ (es : List Entry). (base + name bits, x) ∷ es)
       (contexts-append xs ys (bits ++ x ∷ []) ∙ ap (λ (b : List Bool). in_contexts name base (bits ++ x ∷ []) xs ++ in_contexts name base b ys) (append_assoc bits (x ∷ []) xs))

@@ -13,7 +13,7 @@ use Rattle.jbig2_coder.proofs.FreeTables.{tables_are_free}
 use Rattle.jbig2_inverses.specs.Digits.{digits}
 use Rattle.jbig2_inverses.specs.PrefixWriter.{Chosen, lines_of, code_of_line, number_bits, PrefixCodesReadBack}
 use Rattle.jbig2_inverses.proofs.Digits.{length-digits, front-digits, whole-digits, next-digits}
-use Rattle.jbig2_inverses.proofs.PrefixMembers.{member, holds-line, longest-line}
+use Rattle.jbig2_inverses.proofs.PrefixMembers.{member, holds-line, longest-in}
 use Rattle.jbig2_inverses.proofs.PrefixRoom.{level-in, number-fits}
 use Rattle.jbig2_inverses.proofs.PrefixReading.{reads-member}
 
@@ -49,7 +49,7 @@ made lines table =
 
 fits : (c : Chosen) (table : List Member) → table_of (lines_of c) ≡ Ok table → 0 < c.line.prefix_length → number_of c < 2 ^ c.line.prefix_length
 fits c table is some =
-    number-fits (longest (lines_of c)) c.before c.line c.after some (longest-line c.before c.line c.after) (made (lines_of c) table is).room
+    number-fits (longest (lines_of c)) c.before c.line c.after some (longest-in c.before c.line c.after) (made (lines_of c) table is).room
 
 pub reads-code : (c : Chosen) (table : List Member) → table_of (lines_of c) ≡ Ok table → 0 < c.line.prefix_length → (rest : List ℕ)
     → read_code table (code_of_line c ++ rest) ≡ record { result = Ok c.line; taken = c.line.prefix_length }

@@ -1,5 +1,5 @@
 -- Each line that has a code is a member of its table, with the code that the writer gives it.
-use Rattle.std.proofs.Common.{◌≡◌, ℕ, zero, suc, ◌+◌, ◌<◌, ◌≤◌, Bool, true, false, cond, eqb, List, [], ◌∷◌, ◌++◌, length, refl, sym, ◌∙◌, ap, arith, append_assoc, subst, ⊎_elim, eq-eqb}
+use Rattle.std.proofs.Common.{◌≡◌, ℕ, zero, suc, ◌+◌, ◌<◌, ◌≤◌, Bool, true, false, cond, eqb, List, [], ◌∷◌, ◌++◌, length, refl, sym, ◌∙◌, ap, arith, append_assoc, append-nil, subst, ⊎_elim, eq-eqb}
 use Rattle.std.proofs.lemmas.Bool.{cond-true, cases_eq}
 use Rattle.jbig2_coder.specs.declared.huffman_table.line.TableLine.{TableLine}
 use Rattle.jbig2_coder.specs.PrefixCode.{Member, level, shorter, longest, members_of, members_from, prefix_code}
@@ -29,16 +29,12 @@ holds-of : (l : ℕ) (lines earlier before : List TableLine) (x : TableLine) (af
 holds-of l lines earlier [] x after n len number =
     let others = members_of l lines (earlier ++ x ∷ []) after in
     let code = shorter l lines + length (level l earlier) in
-    let same : code ≡ n = sym (number ∙ ap (λ (ys : List TableLine). shorter l lines + length (level l ys)) (nil earlier)) in (
+    let same : code ≡ n = sym (number ∙ ap (λ (ys : List TableLine). shorter l lines + length (level l ys)) (append-nil earlier)) in (
       [],
       others,
       cond-true (eqb x.prefix_length l) (member l code x ∷ others) others (eq-eqb x.prefix_length l len)
           ∙ ap (λ (k : ℕ). member l k x ∷ others) same,
     )
-  where
-    nil : (ys : List TableLine) → ys ++ [] ≡ ys
-    nil [] = refl
-    nil (y ∷ ys) = ap (λ (zs : List TableLine). y ∷ zs) (nil ys)
 holds-of l lines earlier (y ∷ before) x after n len number =
     let others = members_of l lines (earlier ++ y ∷ []) (before ++ x ∷ after) in
     let code = shorter l lines + length (level l earlier) in
@@ -61,7 +57,7 @@ holds-from (suc count) l before x after n low high number =
     (holds-from count (l + 1) before x after n (omega (arith, low, o)) (omega (arith, high)) number))
     (cases_eq len l)
 
-longest-in : (before : List TableLine) (x : TableLine) (after : List TableLine) → x.prefix_length ≤ longest (before ++ x ∷ after)
+pub longest-in : (before : List TableLine) (x : TableLine) (after : List TableLine) → x.prefix_length ≤ longest (before ++ x ∷ after)
 longest-in [] x after = omega arith
 longest-in (y ∷ before) x after = let h = longest-in before x after in omega (arith, h)
 
@@ -71,6 +67,3 @@ unfolding prefix_code
 holds-line before x after some =
     let h = longest-in before x after in
     holds-from (longest (before ++ x ∷ after)) 1 before x after (shorter x.prefix_length (before ++ x ∷ after) + length (level x.prefix_length before)) (omega (arith, some)) (omega (arith, h)) refl
-
-pub longest-line : (before : List TableLine) (x : TableLine) (after : List TableLine) → x.prefix_length ≤ longest (before ++ x ∷ after)
-longest-line before x after = longest-in before x after

@@ -1,5 +1,5 @@
 -- A member of a table in which no code begins another is read from its code.
-use Rattle.std.proofs.Common.{◌≡◌, ℕ, suc, ◌+◌, ◌-◌, ◌/◌, ◌^◌, ◌<◌, ◌≤◌, Bool, true, false, not, eqb, ltb, leb, ◌&&◌, ◌||◌, List, [], ◌∷◌, ◌++◌, length, get_or, Option, Some, None, Ok, refl, sym, ◌∙◌, ap, subst, arith, eq-eqb, ne_eqb, lt-ltb, le-ltb, le-leb, length-append, ⊎_elim, get_or-append-add}
+use Rattle.std.proofs.Common.{◌≡◌, ℕ, suc, ◌+◌, ◌-◌, ◌/◌, ◌^◌, ◌<◌, ◌≤◌, Bool, true, false, not, eqb, ltb, leb, ◌&&◌, ◌||◌, List, [], ◌∷◌, ◌++◌, length, get_or, Option, Some, None, Ok, refl, sym, ◌∙◌, ap, subst, arith, eq-eqb, ne_eqb, lt-ltb, le-ltb, le-leb, length-append, append-nil, ⊎_elim, get_or-append-add}
 use Rattle.std.specs.Prelude.{All, is_some}
 use Rattle.std.proofs.lemmas.Bool.{cond-true, cond-false, cases_eq, and_left, and_right, and_from, or_left, or_right, true≢false}
 use Rattle.std.proofs.lemmas.List.{get_or_append_left, get_or_at}
@@ -75,12 +75,8 @@ none-shorter front back m k v before after below number =
     ap (λ (u : ℕ). line_of (front ++ m ∷ back) k u) number
     ∙ line_of-past front (m ∷ back) k w (λ i d h. misses (get_or front i d) m k (before i d h) (omega (arith, below)))
     ∙ cond-false (eqb m.bits k && eqb m.number w) (Some m.line) (line_of back k w) (and_left (eqb m.bits k) (eqb m.number w) (ne_eqb m.bits k (λ e. omega (arith, below, e))))
-    ∙ (ap (λ (xs : List Member). line_of xs k w) (sym (nil back))
+    ∙ (ap (λ (xs : List Member). line_of xs k w) (sym (append-nil back))
     ∙ line_of-past back [] k w (λ i d h. misses (get_or back i d) m k (after i d h) (omega (arith, below))))
-  where
-    nil : (ys : List Member) → ys ++ [] ≡ ys
-    nil [] = refl
-    nil (y ∷ ys) = ap (λ (zs : List Member). y ∷ zs) (nil ys)
 
 read-is : (ms : List Member) (bits : List ℕ) → read_code ms bits ≡ read_of ms bits (place_from (is_decided ms bits) 1 (length bits + 1))
 unfolding read_code

@@ -2,6 +2,7 @@
 use Rattle.std.proofs.Common.{◌≡◌, ◌⊎◌, ℕ, zero, suc, ◌+◌, ◌*◌, ◌^◌, ◌<◌, ◌≤◌, Bool, List, [], ◌∷◌, ◌++◌, map, length, get_or, set, replicate, All, Option, ℤ, refl, sym, ◌∙◌, ap, subst, arith, inl, inr, ⊎_elim}
 use Rattle.std.specs.List.{flat_map}
 use Rattle.std.proofs.lemmas.Bool.{cases_lt}
+use Rattle.std.proofs.lemmas.List.{length_push}
 use Rattle.std.proofs.lemmas.List.Elements.{All-head, All-tail}
 use Rattle.jbig2_coder.specs.declared.integer_procedures.IntegerProcedure.{IntegerProcedure}
 use Rattle.jbig2_coder.specs.declared.integer_procedures.IntegerProcedure.TheVariants.{Iaai, Iadh, Iads, Iadt, Iadw, Iaex, Iafs, Iait, Iardh, Iardw, Iardx, Iardy, Iari}
@@ -34,10 +35,6 @@ module _ (name : List Bool → ℕ) (base count : ℕ) where
       apart ds bytes (bits ++ d ∷ []) (state_on bytes s k) limit other size bound (omega (arith, few, grown)) far
       ∙ ap (λ (c : ℕ → Context). window other size c) (state-contexts bytes s k)
       ∙ window-apart other size k s.contexts (decision bytes s.registers (s.contexts k)).context outside
-    where
-      length_push : (ys : List Bool) (y : Bool) → length (ys ++ y ∷ []) ≡ length ys + 1
-      length_push [] y = omega arith
-      length_push (x ∷ ys) y = let e = length_push ys y in omega (arith, e)
 
 -- ---- the contexts of all procedures
 windows : ℕ → ℕ → (ℕ → Context) → Procedures
