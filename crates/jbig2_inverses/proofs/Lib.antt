@@ -11,6 +11,7 @@ pub mod PrefixMembers
 pub mod PrefixReading
 pub mod PrefixRoom
 mod PrefixWorked
+pub mod RegionInverse
 pub mod RowBits
 pub mod RowCodes
 pub mod RowInverse

@@ -3,5 +3,6 @@ pub mod CoderStates
 pub mod Digits
 pub mod IntegerWriter
 pub mod PrefixWriter
+pub mod RegionWriter
 pub mod RowWriter
 pub mod SequenceWriter
