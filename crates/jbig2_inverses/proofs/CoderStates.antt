@@ -1,5 +1,5 @@
 -- The decoder's states along a list of decisions.
-use Rattle.std.proofs.Common.{◌≡◌, ◌⊎◌, ℕ, zero, suc, ◌+◌, ◌<◌, ◌≤◌, eqb, Bool, false, List, [], ◌∷◌, ◌++◌, length, get_or, set, drop, refl, sym, ◌∙◌, ap, subst, arith, inl, inr, ⊎_elim, eq-eqb, ne_eqb, append_assoc, append-nil}
+use Rattle.std.proofs.Common.{◌≡◌, ◌⊎◌, ℕ, zero, suc, ◌+◌, ◌<◌, ◌≤◌, eqb, Bool, false, List, [], ◌∷◌, ◌++◌, length, get_or, set, drop, replicate, refl, sym, ◌∙◌, ap, subst, arith, inl, inr, ⊎_elim, eq-eqb, ne_eqb, append_assoc, append-nil}
 use Rattle.std.proofs.lemmas.List.{length_push}
 use Rattle.std.proofs.lemmas.Bool.{cond-true, cond-false}
 use Rattle.jbig2_coder.specs.Coder.{Context, Decision, fresh, decision}
@@ -48,6 +48,11 @@ window-set base (suc count) (suc k) contexts x h =
     ap (λ (cs : List Context). contexts base ∷ cs) (window-set (base + 1) count k contexts x (omega (arith, h)))
     ∙ ap (λ (i : ℕ). contexts base ∷ window (base + 1) count (with_context contexts i x)) e
     ∙ ap (λ (c : Context). c ∷ window (base + 1) count (with_context contexts (base + suc k) x)) (sym (with-other contexts (base + suc k) base x (λ s. omega (arith, s))))
+
+pub window-fresh : (base count : ℕ) → window base count (λ k. fresh) ≡ replicate count fresh
+unfolding window
+window-fresh base zero = refl
+window-fresh base (suc count) = ap (λ (cs : List Context). fresh ∷ cs) (window-fresh (base + 1) count)
 
 -- decisions, one after another
 pub gives-first : (bytes : List ℕ) (s : State) (e : Entry) (es : List Entry) → Gives bytes s (e ∷ es) → (decision bytes s.registers (s.contexts e.0)).symbol ≡ e.1

@@ -2,6 +2,7 @@ pub mod BitmapInverse
 mod BitmapWorked
 pub mod CoderStates
 pub mod Digits
+pub mod GenericInverse
 pub mod IntegerInverse
 pub mod IntegerRanges
 mod IntegerWorked
@@ -12,6 +13,7 @@ pub mod PrefixReading
 pub mod PrefixRoom
 mod PrefixWorked
 pub mod RegionInverse
+mod RegionWorked
 pub mod RowBits
 pub mod RowCodes
 pub mod RowInverse

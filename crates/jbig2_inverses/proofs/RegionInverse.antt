@@ -1,15 +1,15 @@
 -- Regions that are coded pixel by pixel are read back.
-use Rattle.std.proofs.Common.{◌≡◌, ◌⊎◌, ℕ, zero, suc, ◌+◌, ◌-◌, ◌*◌, ◌/◌, ◌%◌, ◌<◌, ◌≤◌, eqb, Bool, true, false, cond, List, [], ◌∷◌, ◌++◌, length, get_or, set, Option, Some, None, refl, sym, ◌∙◌, ap, subst, arith, ⊎_elim, eq-eqb, ne_eqb, append_assoc}
+use Rattle.std.proofs.Common.{◌≡◌, ℕ, zero, suc, ◌+◌, ◌*◌, ◌/◌, ◌%◌, ◌<◌, ◌≤◌, eqb, Bool, true, false, cond, List, [], ◌∷◌, ◌++◌, length, get_or, set, Option, Some, None, refl, sym, ◌∙◌, ap, subst, arith, ⊎_elim, eq-eqb, ne_eqb}
 use Rattle.std.proofs.lemmas.Bool.{cond-true, cond-false, cases_eq, cases_lt}
 use Rattle.std.proofs.lemmas.List.{length_push, get_or_append_left, get_or_at}
 use Rattle.std.proofs.lemmas.Nat.{div-mul-add, mod-mul-add, mul-add-lt, div-add-mod', mod_below}
-use Rattle.jbig2_base.specs.Grid.{Grid, grid_of, differ}
+use Rattle.jbig2_base.specs.Grid.{grid_of, differ}
 use Rattle.jbig2_base.proofs.GridLemmas.{grid_of-ext}
 use Rattle.jbig2_coder.specs.Coder.{Context, Decision, fresh, decision}
 use Rattle.jbig2_region.specs.Raster.{Coding, Region, so_far, with_next, after_ltp, at_next, after_pixel, first_pixels, decoded_region, no_pixels}
 use Rattle.jbig2_inverses.specs.CoderStates.{Entry, asked, State, state_on, state_after, Gives, window}
 use Rattle.jbig2_inverses.specs.RegionWriter.{known_or, pixels_before, ltp_before, ltp_entries, row_entries, pixel_entries, entries_before, IsCodable, RegionsReadBack}
-use Rattle.jbig2_inverses.proofs.CoderStates.{window-get, window-set, gives-first, gives-before, gives-after, after-next, after-none, after-append}
+use Rattle.jbig2_inverses.proofs.CoderStates.{window-get, window-set, gives-first, gives-before, gives-after, after-none, after-append}
 
 differ-twice : (c q : Bool) → differ (differ c q) q ≡ c
 differ-twice true true = refl
@@ -36,6 +36,37 @@ same-row m w wide inside =
   where
     suc-times : (q w : ℕ) → suc q * w ≡ q * w + w
     suc-times q w = omega arith
+
+-- ---- the pixels of the raster
+module _ (coding : Coding) (w h : ℕ) (pixels : ℕ → ℕ → Bool) (typical : ℕ → Bool) (base : ℕ) where
+  abbrev all : ℕ → List Bool
+  all n = pixels_before coding w h pixels typical base n
+
+  length-before : (n : ℕ) → length (all n) ≡ n
+  unfolding pixels_before
+  length-before zero = refl
+  length-before (suc n) = let e = length-before n in let p = length_push (all n) (pixels (n % w) (n / w)) in omega (arith, e, p)
+
+  -- each pixel of the raster is where it belongs
+  pixel-at : (n i : ℕ) → i < n → (d : Bool) → get_or (all n) i d ≡ pixels (i % w) (i / w)
+  unfolding pixels_before
+  pixel-at zero i inside d = absurd (omega (arith, inside))
+  pixel-at (suc n) i inside d = ⊎_elim
+      (λ (old : i < n). get_or_append_left (all n) (pixels (n % w) (n / w) ∷ []) d i (let e = length-before n in omega (arith, e, old)) ∙ pixel-at n i old d)
+      (λ (new : n ≤ i).
+      let here : n ≡ i = omega (arith, new, inside) in
+      get_or_at (all n) (pixels (n % w) (n / w)) [] d i (length-before n ∙ here) ∙ ap (λ (m : ℕ). pixels (m % w) (m / w)) here)
+      (cases_lt i n)
+
+  pub pixel-before : (n x y : ℕ) → x < w → y * w + x < n → get_or (all n) (y * w + x) false ≡ pixels x y
+  pixel-before n x y left inside =
+      pixel-at n (y * w + x) inside false
+      ∙ ap (λ (a : ℕ). pixels a ((y * w + x) / w)) (mod-mul-add y w x left)
+      ∙ ap (λ (b : ℕ). pixels x b) (div-mul-add y w x left)
+
+  grid-is : so_far w h (all (w * h)) ≡ grid_of w h pixels
+  unfolding so_far
+  grid-is = grid_of-ext w h (λ x y. get_or (all (w * h)) (y * w + x) false) pixels (λ x y left above. pixel-before (w * h) x y left (mul-add-lt y w x h above left))
 
 module _ (base count : ℕ) (bytes : List ℕ) where
   abbrev region_at : List Bool → Bool → State → Region
@@ -100,11 +131,6 @@ module _ (coding : Coding) (w h : ℕ) (pixels : ℕ → ℕ → Bool) (typical 
   unfolding pixels_before
   seen-next n = refl
 
-  length-seen : (n : ℕ) → length (seen n) ≡ n
-  unfolding pixels_before
-  length-seen zero = refl
-  length-seen (suc n) = let e = length-seen n in let p = length_push (seen n) (pixels (n % w) (n / w)) in omega (arith, e, p)
-
   entries-next : (n : ℕ) → entries (suc n) ≡ entries n ++ (row_of n ++ pixel_of n)
   unfolding entries_before
   entries-next n = refl
@@ -129,7 +155,7 @@ module _ (coding : Coding) (w h : ℕ) (pixels : ℕ → ℕ → Bool) (typical 
   next-row n z wide g =
       let r = at (seen n) (ltp n) z in
       let ltp_es = ltp_entries coding w h pixels typical base coding.row_context n in
-      let size : eqb (length (seen n) % w) 0 ≡ eqb (n % w) 0 = ap (λ (m : ℕ). eqb (m % w) 0) (length-seen n) in
+      let size : eqb (length (seen n) % w) 0 ≡ eqb (n % w) 0 = ap (λ (m : ℕ). eqb (m % w) 0) (length-before coding w h pixels typical base n) in
       ap (λ (t : Bool). cond t (after_ltp coding.row_context bytes r) r) size
       ∙ ⊎_elim
       (λ (e : n % w ≡ 0).
@@ -155,7 +181,7 @@ module _ (coding : Coding) (w h : ℕ) (pixels : ℕ → ℕ → Bool) (typical 
       let field = so_far w h (seen n) in
       let k = coding.context field x y in
       let o = coding.known (typical y) field x y in
-      ap (λ (m : ℕ). with_next bytes (at (seen n) (typical y) z) (coding.context field (m % w) (m / w)) (coding.known (typical y) field (m % w) (m / w))) (length-seen n)
+      ap (λ (m : ℕ). with_next bytes (at (seen n) (typical y) z) (coding.context field (m % w) (m / w)) (coding.known (typical y) field (m % w) (m / w))) (length-before coding w h pixels typical base n)
       ∙ one-pixel base count bytes o (seen n) (typical y) z k (pixels x y) (is.pixel_contexts field x y) (λ c e. is.known n inside c e) g
       ∙ ap (λ (px : List Bool). at px (typical y) (state_after bytes z (asked (pixel_of n)))) (sym (seen-next n))
 
@@ -182,28 +208,10 @@ module _ (coding : Coding) (w h : ℕ) (pixels : ℕ → ℕ → Bool) (typical 
       ∙ next-pixel n mid inside (gives-after bytes (reached n) (row_of n) (pixel_of n) g1)
       ∙ ap (λ (z : State). at (seen (suc n)) (typical (n / w)) z) end
 
-  -- each pixel of the raster is where it belongs
-  pub seen-at : (n i : ℕ) → i < n → (d : Bool) → get_or (seen n) i d ≡ pixels (i % w) (i / w)
-  unfolding pixels_before
-  seen-at zero i inside d = absurd (omega (arith, inside))
-  seen-at (suc n) i inside d = ⊎_elim
-      (λ (old : i < n). get_or_append_left (seen n) (pixels (n % w) (n / w) ∷ []) d i (let e = length-seen n in omega (arith, e, old)) ∙ seen-at n i old d)
-      (λ (new : n ≤ i).
-      let here : n ≡ i = omega (arith, new, inside) in
-      get_or_at (seen n) (pixels (n % w) (n / w)) [] d i (length-seen n ∙ here) ∙ ap (λ (m : ℕ). pixels (m % w) (m / w)) here)
-      (cases_lt i n)
-
-  grid-is : so_far w h (seen (w * h)) ≡ grid_of w h pixels
-  unfolding so_far
-  grid-is = grid_of-ext w h (λ x y. get_or (seen (w * h)) (y * w + x) false) pixels (λ x y left above.
-      seen-at (w * h) (y * w + x) (mul-add-lt y w x h above left) false
-      ∙ ap (λ (a : ℕ). pixels a ((y * w + x) / w)) (mod-mul-add y w x left)
-      ∙ ap (λ (b : ℕ). pixels x b) (div-mul-add y w x left))
-
   reads-region : Gives bytes s (entries (w * h))
       → (decoded_region coding w h bytes (no_pixels s.registers (window base count s.contexts)) ≡ at (seen (w * h)) (ltp (w * h)) (reached (w * h))) × (so_far w h (seen (w * h)) ≡ grid_of w h pixels)
   unfolding decoded_region
-  reads-region g = (reads (w * h) (omega arith) g, grid-is)
+  reads-region g = (reads (w * h) (omega arith) g, grid-is coding w h pixels typical base)
 
 pub regions_read_back : RegionsReadBack
 regions_read_back coding w h pixels typical base count is bytes s g = reads-region coding w h pixels typical base count is bytes s g

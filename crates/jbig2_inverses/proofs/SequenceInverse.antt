@@ -12,7 +12,7 @@ use Rattle.jbig2_coder.specs.Integers.{Reading, Procedures, index_of, integer, i
 use Rattle.jbig2_inverses.specs.CoderStates.{asked, State, state_on, state_after, initial_state, Gives, window}
 use Rattle.jbig2_inverses.specs.IntegerWriter.{in_contexts, integer_decisions, integer_entries, id_entries, binary, IsWord}
 use Rattle.jbig2_inverses.specs.SequenceWriter.{Integer, Id, Item, IntegerOf, IdOf, asked_of, Readers, entries_of, IsWritable, read_item, read_items, SequencesReadBack}
-use Rattle.jbig2_inverses.proofs.CoderStates.{window-apart, gives-after, gives-before, gives-encoded}
+use Rattle.jbig2_inverses.proofs.CoderStates.{window-apart, window-fresh, gives-after, gives-before, gives-encoded}
 use Rattle.jbig2_inverses.proofs.IntegerRanges.{prev-below, length-binary}
 use Rattle.jbig2_inverses.proofs.IntegerInverse.{integers_read_back, symbol_ids_read_back, id_name, id-below}
 
@@ -77,11 +77,6 @@ windows-far zero k old new same few = refl
 windows-far (suc n) k old new same few =
     ap (λ (w : List Context). w ∷ windows n (k + 1) new) (same k (omega (arith, few)))
     ∙ ap (λ (ws : Procedures). window (512 * k) 512 old ∷ ws) (windows-far n (k + 1) old new same (omega (arith, few)))
-
-window-fresh : (base count : ℕ) → window base count (λ k. fresh) ≡ replicate count fresh
-unfolding window
-window-fresh base zero = refl
-window-fresh base (suc count) = ap (λ (cs : List Context). fresh ∷ cs) (window-fresh (base + 1) count)
 
 windows-fresh : (n k : ℕ) → windows n k (λ j. fresh) ≡ replicate n (replicate 512 fresh)
 unfolding windows

@@ -1,6 +1,6 @@
 -- Regions that the arithmetic coder codes pixel by pixel (T.88, 6.2.5 and 6.3.5), as they are written: the decisions of
 -- their raster. Then the laws that the readings of `Raster` and `Generic` give back the pixels.
-use Rattle.std.specs.Prelude.{◌≡◌, ℕ, zero, suc, ◌+◌, ◌*◌, ◌/◌, ◌%◌, ◌^◌, ◌<◌, ◌==◌, Bool, true, false, ◌&&◌, List, []}
+use Rattle.std.specs.Prelude.{◌≡◌, ℕ, zero, suc, ◌+◌, ◌*◌, ◌/◌, ◌%◌, ◌<◌, ◌==◌, Bool, true, false, ◌&&◌, List, []}
 use Rattle.std.specs.Prelude.{◌∷◌, ◌++◌, if◌then◌else◌, Option, Some, None, Ok}
 use Rattle.jbig2_base.specs.Grid.{Grid, grid_of, differ, same_colour}
 use Rattle.jbig2_coder.specs.Encoder.{encoded_bytes}

@@ -5,6 +5,7 @@
 ghost use Rattle.jbig2_inverses.specs.BitmapWriter.{BitmapsReadBack};
 ghost use Rattle.jbig2_inverses.specs.IntegerWriter.{IntegersReadBack, SymbolIdsReadBack};
 ghost use Rattle.jbig2_inverses.specs.PrefixWriter.{PrefixCodesReadBack};
+ghost use Rattle.jbig2_inverses.specs.RegionWriter.{GenericRegionsReadBack, RegionsReadBack};
 ghost use Rattle.jbig2_inverses.specs.RowWriter.{RowsReadBack};
 ghost use Rattle.jbig2_inverses.specs.SequenceWriter.{SequencesReadBack};
 
@@ -46,4 +47,17 @@ pub fn rows_read_back()
 /// block or without, in strict and in lenient mode. All of the bytes are used.
 pub fn bitmaps_read_back()
     ensures { BitmapsReadBack }
+{}
+
+/// Regions that the arithmetic coder codes pixel by pixel (T.88, 6.2.5 and 6.3.5) are read back, however their contexts
+/// and the colours that need no decision are found. Wherever the coder's next decisions are those of the region's
+/// raster, with typical prediction or without, its pixels are read.
+pub fn regions_read_back()
+    ensures { RegionsReadBack }
+{}
+
+/// Each bitmap is a generic region (T.88, 6.2): by each template with any adaptive pixels, with typical prediction and
+/// without, from the encoder's bytes of its decisions; and by MMR, if it has pixels.
+pub fn generic_regions_read_back()
+    ensures { GenericRegionsReadBack }
 {}
