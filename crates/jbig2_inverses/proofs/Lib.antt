@@ -3,6 +3,7 @@ mod BitmapWorked
 pub mod CoderStates
 pub mod Digits
 pub mod GenericInverse
+pub mod GenericSegmentInverse
 pub mod IntegerInverse
 pub mod IntegerRanges
 mod IntegerWorked

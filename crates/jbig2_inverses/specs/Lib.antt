@@ -1,6 +1,7 @@
 pub mod BitmapWriter
 pub mod CoderStates
 pub mod Digits
+pub mod GenericSegmentWriter
 pub mod IntegerWriter
 pub mod PrefixWriter
 pub mod RegionWriter

@@ -3,6 +3,7 @@
 #![tactic(auto)]
 
 ghost use Rattle.jbig2_inverses.specs.BitmapWriter.{BitmapsReadBack};
+ghost use Rattle.jbig2_inverses.specs.GenericSegmentWriter.{GenericSegmentsReadBack};
 ghost use Rattle.jbig2_inverses.specs.IntegerWriter.{IntegersReadBack, SymbolIdsReadBack};
 ghost use Rattle.jbig2_inverses.specs.PrefixWriter.{PrefixCodesReadBack};
 ghost use Rattle.jbig2_inverses.specs.RegionWriter.{GenericRegionsReadBack, RegionsReadBack};
@@ -60,4 +61,10 @@ pub fn regions_read_back()
 /// without, from the encoder's bytes of its decisions; and by MMR, if it has pixels.
 pub fn generic_regions_read_back()
     ensures { GenericRegionsReadBack }
+{}
+
+/// The data of a generic region segment (T.88, 7.4.1 and 7.4.6) is read back: region information, flags, adaptive pixels
+/// and coded bytes, of each header that a segment of known length can have.
+pub fn generic_segments_read_back()
+    ensures { GenericSegmentsReadBack }
 {}
