@@ -1,5 +1,5 @@
 -- The data of a generic region segment is read back.
-use Rattle.std.proofs.Common.{◌≡◌, ℕ, zero, suc, ◌+◌, ◌-◌, ◌*◌, ◌/◌, ◌%◌, ◌^◌, ◌<◌, ◌≤◌, eqb, ltb, Bool, true, false, cond, not, ◌||◌, List, [], ◌∷◌, ◌++◌, length, take, drop, ℤ, pos, negsuc, Result, Ok, Err, refl, sym, ◌∙◌, ap, subst, arith, lt-ltb, le-ltb, append_assoc, length-append}
+use Rattle.std.proofs.Common.{◌≡◌, ℕ, zero, suc, ◌+◌, ◌-◌, ◌*◌, ◌/◌, ◌%◌, ◌^◌, ◌<◌, ◌≤◌, eqb, ltb, Bool, true, false, not, List, [], ◌∷◌, ◌++◌, length, ℤ, pos, negsuc, Result, Ok, Err, refl, ◌∙◌, ap, arith, lt-ltb, le-ltb}
 use Rattle.std.specs.List.{flat_map}
 use Rattle.std.specs.Int.{w8, w32, to_be_bytes, from_be_bytes, cast_signed}
 use Rattle.std.proofs.lemmas.Bool.{cond-true, cond-false, or_from}
@@ -21,21 +21,21 @@ use Rattle.jbig2_region.specs.declared.template.Template.{Template}
 use Rattle.jbig2_region.specs.declared.template.Template.TheVariants.{Template0, Template1, Template2, Template3}
 use Rattle.jbig2_region.specs.RegionInfo.{region_info_at}
 use Rattle.jbig2_region.specs.GenericHeader.{GenericHeader, rows_at, generic_header_at}
-use Rattle.jbig2_region.specs.Templates.{adaptive_pixel_count, adaptive_pixel_at, adaptive_pixels_at, free_pixel_at, is_earlier, takes_extended, template_of}
+use Rattle.jbig2_region.specs.Templates.{adaptive_pixel_count, adaptive_pixel_at, adaptive_pixels_at, is_earlier, takes_extended, template_of}
 use Rattle.jbig2_inverses.specs.GenericSegmentWriter.{operator_number, template_number, info_bytes, generic_flags, signed_byte, adaptive_bytes, generic_bytes, IsSignedByte, AreAdaptive, IsHeader, GenericSegmentsReadBack}
 
 -- ---- numbers
-abbrev Numbered : Type 0
+abbrev pub Numbered : Type 0
 Numbered = Result (ℕ × List ℕ) DecodeError
 
-four-bytes : (n : ℕ) (rest : List ℕ) → n < 2 ^ 32 → number_at w32 (to_be_bytes w32 n ++ rest) ≡ Ok (n, rest)
+pub four-bytes : (n : ℕ) (rest : List ℕ) → n < 2 ^ 32 → number_at w32 (to_be_bytes w32 n ++ rest) ≡ Ok (n, rest)
 four-bytes n rest small =
     let bytes = to_be_bytes w32 n ++ rest in
     let done : Numbered = Ok (from_be_bytes w32 (to_be_bytes w32 n), rest) in
     cond-false (ltb (length bytes) 4) (Err end_of_bytes) done (le-ltb (length bytes) 4 (omega arith))
     ∙ ap (λ (m : ℕ). Ok (m, rest)) (from_be_bytes-to_be_bytes_4 n small)
 
-one-byte : (b : ℕ) (rest : List ℕ) → number_at w8 (b ∷ rest) ≡ Ok (b, rest)
+pub one-byte : (b : ℕ) (rest : List ℕ) → number_at w8 (b ∷ rest) ≡ Ok (b, rest)
 one-byte b rest =
     let done : Numbered = Ok (b, rest) in
     cond-false (ltb (length (b ∷ rest)) 1) (Err end_of_bytes) done (le-ltb (length (b ∷ rest)) 1 (omega arith))
@@ -117,11 +117,11 @@ adaptives-read (p ∷ ps) (suc count) rest e are =
     ∙ ap (λ (r : Pixels). r >>= λ b. Ok (p ∷ b.0, b.1)) (adaptives-read ps count rest (omega (arith, e)) are.3)
 
 -- ---- flags
-bit-back : (b : Bool) → eqb (bit_number b) 1 ≡ b
+pub bit-back : (b : Bool) → eqb (bit_number b) 1 ≡ b
 bit-back true = refl
 bit-back false = refl
 
-bit-small : (b : Bool) → bit_number b < 2
+pub bit-small : (b : Bool) → bit_number b < 2
 bit-small true = omega arith
 bit-small false = omega arith
 
@@ -161,10 +161,13 @@ flags-read h =
   where
     field-0 : (m t d e : ℕ) → m < 2 → (m + 2 * t + 8 * d + 16 * e) % 2 ≡ m
     field-0 m t d e ms = omega arith
+
     field-1 : (m t d e : ℕ) → m < 2 → t < 4 → (m + 2 * t + 8 * d + 16 * e) / 2 % 4 ≡ t
     field-1 m t d e ms ts = omega arith
+
     field-3 : (m t d e : ℕ) → m < 2 → t < 4 → d < 2 → (m + 2 * t + 8 * d + 16 * e) / 8 % 2 ≡ d
     field-3 m t d e ms ts ds = omega arith
+
     field-4 : (m t d e : ℕ) → m < 2 → t < 4 → d < 2 → e < 2 → (m + 2 * t + 8 * d + 16 * e) / 16 % 2 ≡ e
     field-4 m t d e ms ts ds es = omega arith
 

@@ -20,5 +20,7 @@ pub mod RowCodes
 pub mod RowInverse
 pub mod RowModes
 mod RowWorked
+pub mod SegmentInverse
+mod SegmentWorked
 pub mod SequenceInverse
 mod SequenceWorked

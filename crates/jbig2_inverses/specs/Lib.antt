@@ -6,4 +6,5 @@ pub mod IntegerWriter
 pub mod PrefixWriter
 pub mod RegionWriter
 pub mod RowWriter
+pub mod SegmentWriter
 pub mod SequenceWriter

@@ -8,6 +8,7 @@ ghost use Rattle.jbig2_inverses.specs.IntegerWriter.{IntegersReadBack, SymbolIds
 ghost use Rattle.jbig2_inverses.specs.PrefixWriter.{PrefixCodesReadBack};
 ghost use Rattle.jbig2_inverses.specs.RegionWriter.{GenericRegionsReadBack, RegionsReadBack};
 ghost use Rattle.jbig2_inverses.specs.RowWriter.{RowsReadBack};
+ghost use Rattle.jbig2_inverses.specs.SegmentWriter.{PageInformationReadsBack, SegmentsReadBack};
 ghost use Rattle.jbig2_inverses.specs.SequenceWriter.{SequencesReadBack};
 
 /// Prefix codes (Annex B) are read back. Take any lines that B.3 accepts, one of them, and range bits for it. From its
@@ -67,4 +68,15 @@ pub fn generic_regions_read_back()
 /// and coded bytes, of each header that a segment of known length can have.
 pub fn generic_segments_read_back()
     ensures { GenericSegmentsReadBack }
+{}
+
+/// Segments one after the other, as in embedded pages (T.88, D.3), are read back in each mode: segments of known length
+/// that refer to none and are no end of file.
+pub fn segments_read_back()
+    ensures { SegmentsReadBack }
+{}
+
+/// Page information (T.88, 7.4.8) is read back.
+pub fn page_information_reads_back()
+    ensures { PageInformationReadsBack }
 {}
