@@ -188,7 +188,7 @@ header-is : (strict : Bool) (bytes : List ℕ) → generic_header_at false stric
 unfolding generic_header_at
 header-is strict bytes = refl
 
-sides-fit : (width height : ℕ) → width ≤ max_side → height ≤ max_side → check_sides width height ≡ Ok tt
+pub sides-fit : (width height : ℕ) → width ≤ max_side → height ≤ max_side → check_sides width height ≡ Ok tt
 sides-fit width height columns rows =
     ap (λ (t : Bool). refuse_if t (errors.Overflow BitmapDimension)) (or_from (ltb max_side width) (ltb max_side height) (le-ltb max_side width columns) (le-ltb max_side height rows))
 
