@@ -1,0 +1,10 @@
+pub mod BitmapWriter
+pub mod CoderStates
+pub mod Digits
+pub mod GenericSegmentWriter
+pub mod IntegerWriter
+pub mod PrefixWriter
+pub mod RegionWriter
+pub mod RowWriter
+pub mod SegmentWriter
+pub mod SequenceWriter
