@@ -8,7 +8,6 @@
 #include <malloc.h>
 #define alloca _alloca
 #else
-#include <alloca.h>
 #endif
 
 #include "hayro_jbig2_module.h"
@@ -42,11 +41,11 @@
 #if WASM_RT_MEMCHECK_SIGNAL_HANDLER
 #define MEMCHECK(mem, a, t)
 #else
-#define MEMCHECK(mem, a, t) RANGE_CHECK(mem, a, sizeof(t))
+#define MEMCHECK(mem, a, t) if (UNLIKELY((a) >= mem->size)) TRAP(OOB)
 #endif
 
 #ifdef __GNUC__
-#define wasm_asm __asm__
+#define wasm_asm(...)
 #else
 #define wasm_asm(X)
 #endif
@@ -845,7 +844,7 @@ static u32 w2c_f212(Z_hayro_jbig2_instance_t*, u32, u64, u64, u64, u64, u64);
 static u32 w2c_hayro_jbig2_context_rows(Z_hayro_jbig2_instance_t*, u64, u64, u64, u64);
 static u32 w2c_f214(Z_hayro_jbig2_instance_t*, u64, u64, u64, u64);
 
-static void init_globals(Z_hayro_jbig2_instance_t* instance) {
+static void init_globals(Z_hayro_jbig2_instance_t* RESTRICT instance) {
   instance->w2c_g0 = 1048576ull;
   instance->w2c_g1 = 0u;
   instance->w2c___heap_base = 1054992ull;
@@ -1390,7 +1389,7 @@ static const u8 data_segment_data_w2c_d0[] = {
   
 };
 
-static void init_memories(Z_hayro_jbig2_instance_t* instance) {
+static void init_memories(Z_hayro_jbig2_instance_t* RESTRICT instance) {
   wasm_rt_allocate_memory(&instance->w2c_memory, 17, 65536);
   LOAD_DATA(instance->w2c_memory, 1048576u, data_segment_data_w2c_d0, 6408);
 }
@@ -1398,7 +1397,7 @@ static void init_memories(Z_hayro_jbig2_instance_t* instance) {
 static void init_data_instances(Z_hayro_jbig2_instance_t *instance) {
 }
 
-static u32 w2c_f2(Z_hayro_jbig2_instance_t* instance) {
+static u32 w2c_f2(Z_hayro_jbig2_instance_t* RESTRICT instance) {
   u32 w2c_l0 = 0;
   FUNC_PROLOGUE;
   u32 w2c_i0, w2c_i1;
@@ -1413,7 +1412,7 @@ static u32 w2c_f2(Z_hayro_jbig2_instance_t* instance) {
   return w2c_i0;
 }
 
-static void w2c_f3(Z_hayro_jbig2_instance_t* instance) {
+static void w2c_f3(Z_hayro_jbig2_instance_t* RESTRICT instance) {
   FUNC_PROLOGUE;
   u32 w2c_i0;
   w2c_i0 = 0u;
@@ -1421,13 +1420,13 @@ static void w2c_f3(Z_hayro_jbig2_instance_t* instance) {
   FUNC_EPILOGUE;
 }
 
-static void w2c_f4(Z_hayro_jbig2_instance_t* instance) {
+static void w2c_f4(Z_hayro_jbig2_instance_t* RESTRICT instance) {
   FUNC_PROLOGUE;
   UNREACHABLE;
   FUNC_EPILOGUE;
 }
 
-static void w2c_f5(Z_hayro_jbig2_instance_t* instance, u64 w2c_p0, u64 w2c_p1, u64 w2c_p2, u64 w2c_p3, u64 w2c_p4) {
+static void w2c_f5(Z_hayro_jbig2_instance_t* RESTRICT instance, u64 w2c_p0, u64 w2c_p1, u64 w2c_p2, u64 w2c_p3, u64 w2c_p4) {
   u64 w2c_l5 = 0, w2c_l6 = 0;
   FUNC_PROLOGUE;
   u32 w2c_i0;
@@ -1496,7 +1495,7 @@ static void w2c_f5(Z_hayro_jbig2_instance_t* instance, u64 w2c_p0, u64 w2c_p1, u
   FUNC_EPILOGUE;
 }
 
-static void w2c_f6(Z_hayro_jbig2_instance_t* instance, u64 w2c_p0, u64 w2c_p1) {
+static void w2c_f6(Z_hayro_jbig2_instance_t* RESTRICT instance, u64 w2c_p0, u64 w2c_p1) {
   u32 w2c_l15 = 0;
   u64 w2c_l2 = 0, w2c_l3 = 0, w2c_l4 = 0, w2c_l5 = 0, w2c_l6 = 0, w2c_l7 = 0, w2c_l8 = 0, w2c_l9 = 0, 
       w2c_l10 = 0, w2c_l11 = 0, w2c_l12 = 0, w2c_l13 = 0, w2c_l14 = 0;
@@ -1678,7 +1677,7 @@ static void w2c_f6(Z_hayro_jbig2_instance_t* instance, u64 w2c_p0, u64 w2c_p1) {
   w2c_j0 = w2c_p1;
   w2c_j1 = w2c_p0;
   w2c_j2 = 328ull;
-  (*Z_heapZ_jbig2_c_give_back)(instance->Z_heap_instance, w2c_j0, w2c_j1, w2c_j2);
+  (*Z_heapZ_jbig2_c_give_back)((struct Z_heap_instance_t*)instance, w2c_j0, w2c_j1, w2c_j2);
   w2c_j0 = w2c_l9;
   w2c_i0 = (u32)(w2c_j0);
   switch (w2c_i0) {
@@ -1722,7 +1721,7 @@ static void w2c_f6(Z_hayro_jbig2_instance_t* instance, u64 w2c_p0, u64 w2c_p1) {
   w2c_j0 = w2c_p0;
   w2c_j1 = w2c_l7;
   w2c_j2 = 144ull;
-  (*Z_heapZ_jbig2_c_give_back)(instance->Z_heap_instance, w2c_j0, w2c_j1, w2c_j2);
+  (*Z_heapZ_jbig2_c_give_back)((struct Z_heap_instance_t*)instance, w2c_j0, w2c_j1, w2c_j2);
   w2c_j0 = w2c_l2;
   w2c_j1 = 208ull;
   w2c_j0 += w2c_j1;
@@ -1863,7 +1862,7 @@ static void w2c_f6(Z_hayro_jbig2_instance_t* instance, u64 w2c_p0, u64 w2c_p1) {
   w2c_j0 = w2c_l3;
   w2c_j1 = w2c_l6;
   w2c_j2 = w2c_l4;
-  (*Z_heapZ_jbig2_c_give_back)(instance->Z_heap_instance, w2c_j0, w2c_j1, w2c_j2);
+  (*Z_heapZ_jbig2_c_give_back)((struct Z_heap_instance_t*)instance, w2c_j0, w2c_j1, w2c_j2);
   w2c_B6:;
   w2c_i0 = w2c_l15;
   w2c_i1 = 255u;
@@ -1903,7 +1902,7 @@ static void w2c_f6(Z_hayro_jbig2_instance_t* instance, u64 w2c_p0, u64 w2c_p1) {
   w2c_j0 = w2c_p0;
   w2c_j1 = w2c_l8;
   w2c_j2 = 144ull;
-  (*Z_heapZ_jbig2_c_give_back)(instance->Z_heap_instance, w2c_j0, w2c_j1, w2c_j2);
+  (*Z_heapZ_jbig2_c_give_back)((struct Z_heap_instance_t*)instance, w2c_j0, w2c_j1, w2c_j2);
   w2c_j0 = w2c_l2;
   w2c_j1 = 208ull;
   w2c_j0 += w2c_j1;
@@ -2017,7 +2016,7 @@ static void w2c_f6(Z_hayro_jbig2_instance_t* instance, u64 w2c_p0, u64 w2c_p1) {
   w2c_j2 = w2c_l12;
   w2c_j3 = 1ull;
   w2c_j2 <<= (w2c_j3 & 63);
-  (*Z_heapZ_jbig2_c_give_back)(instance->Z_heap_instance, w2c_j0, w2c_j1, w2c_j2);
+  (*Z_heapZ_jbig2_c_give_back)((struct Z_heap_instance_t*)instance, w2c_j0, w2c_j1, w2c_j2);
   w2c_B1:;
   w2c_j0 = w2c_l2;
   w2c_j1 = 528ull;
@@ -2030,7 +2029,7 @@ static void w2c_f6(Z_hayro_jbig2_instance_t* instance, u64 w2c_p0, u64 w2c_p1) {
   FUNC_EPILOGUE;
 }
 
-static void w2c_f7(Z_hayro_jbig2_instance_t* instance, u64 w2c_p0) {
+static void w2c_f7(Z_hayro_jbig2_instance_t* RESTRICT instance, u64 w2c_p0) {
   u32 w2c_l17 = 0;
   u64 w2c_l1 = 0, w2c_l2 = 0, w2c_l3 = 0, w2c_l4 = 0, w2c_l5 = 0, w2c_l6 = 0, w2c_l7 = 0, w2c_l8 = 0, 
       w2c_l9 = 0, w2c_l10 = 0, w2c_l11 = 0, w2c_l12 = 0, w2c_l13 = 0, w2c_l14 = 0, w2c_l15 = 0, w2c_l16 = 0;
@@ -2199,7 +2198,7 @@ static void w2c_f7(Z_hayro_jbig2_instance_t* instance, u64 w2c_p0) {
   w2c_j2 = w2c_l12;
   w2c_j3 = 120ull;
   w2c_j2 *= w2c_j3;
-  (*Z_heapZ_jbig2_c_give_back)(instance->Z_heap_instance, w2c_j0, w2c_j1, w2c_j2);
+  (*Z_heapZ_jbig2_c_give_back)((struct Z_heap_instance_t*)instance, w2c_j0, w2c_j1, w2c_j2);
   w2c_B3:;
   w2c_j0 = w2c_l9;
   w2c_i0 = !(w2c_j0);
@@ -2246,7 +2245,7 @@ static void w2c_f7(Z_hayro_jbig2_instance_t* instance, u64 w2c_p0) {
     w2c_j2 = w2c_l15;
     w2c_j3 = 4ull;
     w2c_j2 <<= (w2c_j3 & 63);
-    (*Z_heapZ_jbig2_c_give_back)(instance->Z_heap_instance, w2c_j0, w2c_j1, w2c_j2);
+    (*Z_heapZ_jbig2_c_give_back)((struct Z_heap_instance_t*)instance, w2c_j0, w2c_j1, w2c_j2);
     w2c_B6:;
     w2c_j0 = w2c_l1;
     w2c_i0 = !(w2c_j0);
@@ -2256,7 +2255,7 @@ static void w2c_f7(Z_hayro_jbig2_instance_t* instance, u64 w2c_p0) {
     w2c_j2 = w2c_l1;
     w2c_j3 = 24ull;
     w2c_j2 *= w2c_j3;
-    (*Z_heapZ_jbig2_c_give_back)(instance->Z_heap_instance, w2c_j0, w2c_j1, w2c_j2);
+    (*Z_heapZ_jbig2_c_give_back)((struct Z_heap_instance_t*)instance, w2c_j0, w2c_j1, w2c_j2);
     w2c_B7:;
     w2c_j0 = w2c_p0;
     w2c_j1 = 1104ull;
@@ -2278,7 +2277,7 @@ static void w2c_f7(Z_hayro_jbig2_instance_t* instance, u64 w2c_p0) {
   w2c_j2 = w2c_l8;
   w2c_j3 = 1104ull;
   w2c_j2 *= w2c_j3;
-  (*Z_heapZ_jbig2_c_give_back)(instance->Z_heap_instance, w2c_j0, w2c_j1, w2c_j2);
+  (*Z_heapZ_jbig2_c_give_back)((struct Z_heap_instance_t*)instance, w2c_j0, w2c_j1, w2c_j2);
   w2c_B8:;
   w2c_j0 = w2c_l5;
   w2c_i0 = !(w2c_j0);
@@ -2333,7 +2332,7 @@ static void w2c_f7(Z_hayro_jbig2_instance_t* instance, u64 w2c_p0) {
       w2c_j2 = w2c_l9;
       w2c_j3 = 3ull;
       w2c_j2 <<= (w2c_j3 & 63);
-      (*Z_heapZ_jbig2_c_give_back)(instance->Z_heap_instance, w2c_j0, w2c_j1, w2c_j2);
+      (*Z_heapZ_jbig2_c_give_back)((struct Z_heap_instance_t*)instance, w2c_j0, w2c_j1, w2c_j2);
       w2c_B13:;
       w2c_j0 = w2c_p0;
       w2c_j1 = 48ull;
@@ -2355,7 +2354,7 @@ static void w2c_f7(Z_hayro_jbig2_instance_t* instance, u64 w2c_p0) {
     w2c_j2 = w2c_l16;
     w2c_j3 = 48ull;
     w2c_j2 *= w2c_j3;
-    (*Z_heapZ_jbig2_c_give_back)(instance->Z_heap_instance, w2c_j0, w2c_j1, w2c_j2);
+    (*Z_heapZ_jbig2_c_give_back)((struct Z_heap_instance_t*)instance, w2c_j0, w2c_j1, w2c_j2);
     w2c_B14:;
     w2c_j0 = w2c_l14;
     w2c_j1 = 1ull;
@@ -2373,7 +2372,7 @@ static void w2c_f7(Z_hayro_jbig2_instance_t* instance, u64 w2c_p0) {
   w2c_j2 = w2c_l4;
   w2c_j3 = 48ull;
   w2c_j2 *= w2c_j3;
-  (*Z_heapZ_jbig2_c_give_back)(instance->Z_heap_instance, w2c_j0, w2c_j1, w2c_j2);
+  (*Z_heapZ_jbig2_c_give_back)((struct Z_heap_instance_t*)instance, w2c_j0, w2c_j1, w2c_j2);
   w2c_B15:;
   w2c_j0 = w2c_l2;
   w2c_j1 = 128ull;
@@ -2386,7 +2385,7 @@ static void w2c_f7(Z_hayro_jbig2_instance_t* instance, u64 w2c_p0) {
   FUNC_EPILOGUE;
 }
 
-static void w2c_f8(Z_hayro_jbig2_instance_t* instance, u64 w2c_p0) {
+static void w2c_f8(Z_hayro_jbig2_instance_t* RESTRICT instance, u64 w2c_p0) {
   u64 w2c_l1 = 0, w2c_l2 = 0, w2c_l3 = 0, w2c_l4 = 0, w2c_l5 = 0, w2c_l6 = 0, w2c_l7 = 0, w2c_l8 = 0, 
       w2c_l9 = 0, w2c_l10 = 0, w2c_l11 = 0, w2c_l12 = 0, w2c_l13 = 0, w2c_l14 = 0, w2c_l15 = 0;
   FUNC_PROLOGUE;
@@ -2475,7 +2474,7 @@ static void w2c_f8(Z_hayro_jbig2_instance_t* instance, u64 w2c_p0) {
   w2c_j2 = w2c_l7;
   w2c_j3 = 3ull;
   w2c_j2 <<= (w2c_j3 & 63);
-  (*Z_heapZ_jbig2_c_give_back)(instance->Z_heap_instance, w2c_j0, w2c_j1, w2c_j2);
+  (*Z_heapZ_jbig2_c_give_back)((struct Z_heap_instance_t*)instance, w2c_j0, w2c_j1, w2c_j2);
   w2c_B1:;
   w2c_j0 = w2c_l4;
   w2c_i0 = !(w2c_j0);
@@ -2504,7 +2503,7 @@ static void w2c_f8(Z_hayro_jbig2_instance_t* instance, u64 w2c_p0) {
     w2c_j2 = w2c_l7;
     w2c_j3 = 3ull;
     w2c_j2 <<= (w2c_j3 & 63);
-    (*Z_heapZ_jbig2_c_give_back)(instance->Z_heap_instance, w2c_j0, w2c_j1, w2c_j2);
+    (*Z_heapZ_jbig2_c_give_back)((struct Z_heap_instance_t*)instance, w2c_j0, w2c_j1, w2c_j2);
     w2c_B4:;
     w2c_j0 = w2c_p0;
     w2c_j1 = 72ull;
@@ -2526,7 +2525,7 @@ static void w2c_f8(Z_hayro_jbig2_instance_t* instance, u64 w2c_p0) {
   w2c_j2 = w2c_l3;
   w2c_j3 = 72ull;
   w2c_j2 *= w2c_j3;
-  (*Z_heapZ_jbig2_c_give_back)(instance->Z_heap_instance, w2c_j0, w2c_j1, w2c_j2);
+  (*Z_heapZ_jbig2_c_give_back)((struct Z_heap_instance_t*)instance, w2c_j0, w2c_j1, w2c_j2);
   w2c_B5:;
   w2c_j0 = w2c_l9;
   w2c_f7(instance, w2c_j0);
@@ -2573,7 +2572,7 @@ static void w2c_f8(Z_hayro_jbig2_instance_t* instance, u64 w2c_p0) {
     w2c_j2 = w2c_l5;
     w2c_j3 = 4ull;
     w2c_j2 <<= (w2c_j3 & 63);
-    (*Z_heapZ_jbig2_c_give_back)(instance->Z_heap_instance, w2c_j0, w2c_j1, w2c_j2);
+    (*Z_heapZ_jbig2_c_give_back)((struct Z_heap_instance_t*)instance, w2c_j0, w2c_j1, w2c_j2);
     w2c_B8:;
     w2c_j0 = w2c_l4;
     w2c_i0 = !(w2c_j0);
@@ -2583,7 +2582,7 @@ static void w2c_f8(Z_hayro_jbig2_instance_t* instance, u64 w2c_p0) {
     w2c_j2 = w2c_l4;
     w2c_j3 = 24ull;
     w2c_j2 *= w2c_j3;
-    (*Z_heapZ_jbig2_c_give_back)(instance->Z_heap_instance, w2c_j0, w2c_j1, w2c_j2);
+    (*Z_heapZ_jbig2_c_give_back)((struct Z_heap_instance_t*)instance, w2c_j0, w2c_j1, w2c_j2);
     w2c_B9:;
     w2c_j0 = w2c_p0;
     w2c_j1 = 1096ull;
@@ -2605,7 +2604,7 @@ static void w2c_f8(Z_hayro_jbig2_instance_t* instance, u64 w2c_p0) {
   w2c_j2 = w2c_l14;
   w2c_j3 = 1096ull;
   w2c_j2 *= w2c_j3;
-  (*Z_heapZ_jbig2_c_give_back)(instance->Z_heap_instance, w2c_j0, w2c_j1, w2c_j2);
+  (*Z_heapZ_jbig2_c_give_back)((struct Z_heap_instance_t*)instance, w2c_j0, w2c_j1, w2c_j2);
   w2c_B10:;
   w2c_j0 = w2c_l11;
   w2c_i0 = !(w2c_j0);
@@ -2613,7 +2612,7 @@ static void w2c_f8(Z_hayro_jbig2_instance_t* instance, u64 w2c_p0) {
   w2c_j0 = w2c_l10;
   w2c_j1 = w2c_l12;
   w2c_j2 = w2c_l11;
-  (*Z_heapZ_jbig2_c_give_back)(instance->Z_heap_instance, w2c_j0, w2c_j1, w2c_j2);
+  (*Z_heapZ_jbig2_c_give_back)((struct Z_heap_instance_t*)instance, w2c_j0, w2c_j1, w2c_j2);
   w2c_B11:;
   w2c_j0 = w2c_l9;
   w2c_j1 = 96ull;
@@ -2626,7 +2625,7 @@ static void w2c_f8(Z_hayro_jbig2_instance_t* instance, u64 w2c_p0) {
   FUNC_EPILOGUE;
 }
 
-static void w2c_f9(Z_hayro_jbig2_instance_t* instance, u64 w2c_p0) {
+static void w2c_f9(Z_hayro_jbig2_instance_t* RESTRICT instance, u64 w2c_p0) {
   u64 w2c_l1 = 0, w2c_l2 = 0, w2c_l3 = 0, w2c_l4 = 0, w2c_l5 = 0, w2c_l6 = 0, w2c_l7 = 0, w2c_l8 = 0, 
       w2c_l9 = 0, w2c_l10 = 0, w2c_l11 = 0;
   FUNC_PROLOGUE;
@@ -2705,7 +2704,7 @@ static void w2c_f9(Z_hayro_jbig2_instance_t* instance, u64 w2c_p0) {
       w2c_j2 = w2c_l11;
       w2c_j3 = 2ull;
       w2c_j2 <<= (w2c_j3 & 63);
-      (*Z_heapZ_jbig2_c_give_back)(instance->Z_heap_instance, w2c_j0, w2c_j1, w2c_j2);
+      (*Z_heapZ_jbig2_c_give_back)((struct Z_heap_instance_t*)instance, w2c_j0, w2c_j1, w2c_j2);
       w2c_B5:;
       w2c_j0 = w2c_p0;
       w2c_j1 = 72ull;
@@ -2727,7 +2726,7 @@ static void w2c_f9(Z_hayro_jbig2_instance_t* instance, u64 w2c_p0) {
     w2c_j2 = w2c_l8;
     w2c_j3 = 72ull;
     w2c_j2 *= w2c_j3;
-    (*Z_heapZ_jbig2_c_give_back)(instance->Z_heap_instance, w2c_j0, w2c_j1, w2c_j2);
+    (*Z_heapZ_jbig2_c_give_back)((struct Z_heap_instance_t*)instance, w2c_j0, w2c_j1, w2c_j2);
     w2c_B6:;
     w2c_j0 = w2c_l6;
     w2c_j1 = 1ull;
@@ -2745,7 +2744,7 @@ static void w2c_f9(Z_hayro_jbig2_instance_t* instance, u64 w2c_p0) {
   w2c_j2 = w2c_l3;
   w2c_j3 = 48ull;
   w2c_j2 *= w2c_j3;
-  (*Z_heapZ_jbig2_c_give_back)(instance->Z_heap_instance, w2c_j0, w2c_j1, w2c_j2);
+  (*Z_heapZ_jbig2_c_give_back)((struct Z_heap_instance_t*)instance, w2c_j0, w2c_j1, w2c_j2);
   w2c_B7:;
   w2c_j0 = w2c_l1;
   instance->w2c_g0 = w2c_j0;
@@ -2756,7 +2755,7 @@ static void w2c_f9(Z_hayro_jbig2_instance_t* instance, u64 w2c_p0) {
   FUNC_EPILOGUE;
 }
 
-static void w2c_f10(Z_hayro_jbig2_instance_t* instance, u64 w2c_p0) {
+static void w2c_f10(Z_hayro_jbig2_instance_t* RESTRICT instance, u64 w2c_p0) {
   u32 w2c_l13 = 0;
   u64 w2c_l1 = 0, w2c_l2 = 0, w2c_l3 = 0, w2c_l4 = 0, w2c_l5 = 0, w2c_l6 = 0, w2c_l7 = 0, w2c_l8 = 0, 
       w2c_l9 = 0, w2c_l10 = 0, w2c_l11 = 0, w2c_l12 = 0;
@@ -2860,7 +2859,7 @@ static void w2c_f10(Z_hayro_jbig2_instance_t* instance, u64 w2c_p0) {
     w2c_j2 = w2c_l12;
     w2c_j3 = 3ull;
     w2c_j2 <<= (w2c_j3 & 63);
-    (*Z_heapZ_jbig2_c_give_back)(instance->Z_heap_instance, w2c_j0, w2c_j1, w2c_j2);
+    (*Z_heapZ_jbig2_c_give_back)((struct Z_heap_instance_t*)instance, w2c_j0, w2c_j1, w2c_j2);
     w2c_B3:;
     w2c_j0 = w2c_p0;
     w2c_j1 = 48ull;
@@ -2882,7 +2881,7 @@ static void w2c_f10(Z_hayro_jbig2_instance_t* instance, u64 w2c_p0) {
   w2c_j2 = w2c_l9;
   w2c_j3 = 48ull;
   w2c_j2 *= w2c_j3;
-  (*Z_heapZ_jbig2_c_give_back)(instance->Z_heap_instance, w2c_j0, w2c_j1, w2c_j2);
+  (*Z_heapZ_jbig2_c_give_back)((struct Z_heap_instance_t*)instance, w2c_j0, w2c_j1, w2c_j2);
   w2c_B4:;
   w2c_i0 = w2c_l13;
   w2c_i1 = 255u;
@@ -2895,7 +2894,7 @@ static void w2c_f10(Z_hayro_jbig2_instance_t* instance, u64 w2c_p0) {
   w2c_j0 = w2c_l5;
   w2c_j1 = w2c_l7;
   w2c_j2 = w2c_l6;
-  (*Z_heapZ_jbig2_c_give_back)(instance->Z_heap_instance, w2c_j0, w2c_j1, w2c_j2);
+  (*Z_heapZ_jbig2_c_give_back)((struct Z_heap_instance_t*)instance, w2c_j0, w2c_j1, w2c_j2);
   w2c_B6:;
   w2c_j0 = w2c_l3;
   w2c_i0 = !(w2c_j0);
@@ -2903,7 +2902,7 @@ static void w2c_f10(Z_hayro_jbig2_instance_t* instance, u64 w2c_p0) {
   w2c_j0 = w2c_l2;
   w2c_j1 = w2c_l4;
   w2c_j2 = w2c_l3;
-  (*Z_heapZ_jbig2_c_give_back)(instance->Z_heap_instance, w2c_j0, w2c_j1, w2c_j2);
+  (*Z_heapZ_jbig2_c_give_back)((struct Z_heap_instance_t*)instance, w2c_j0, w2c_j1, w2c_j2);
   w2c_B5:;
   w2c_j0 = w2c_l1;
   instance->w2c_g0 = w2c_j0;
@@ -2914,7 +2913,7 @@ static void w2c_f10(Z_hayro_jbig2_instance_t* instance, u64 w2c_p0) {
   FUNC_EPILOGUE;
 }
 
-static void w2c_f11(Z_hayro_jbig2_instance_t* instance, u64 w2c_p0) {
+static void w2c_f11(Z_hayro_jbig2_instance_t* RESTRICT instance, u64 w2c_p0) {
   u64 w2c_l1 = 0, w2c_l2 = 0;
   FUNC_PROLOGUE;
   u32 w2c_i0, w2c_i1;
@@ -2939,7 +2938,7 @@ static void w2c_f11(Z_hayro_jbig2_instance_t* instance, u64 w2c_p0) {
   w2c_j2 = w2c_l2;
   w2c_j3 = 3ull;
   w2c_j2 <<= (w2c_j3 & 63);
-  (*Z_heapZ_jbig2_c_give_back)(instance->Z_heap_instance, w2c_j0, w2c_j1, w2c_j2);
+  (*Z_heapZ_jbig2_c_give_back)((struct Z_heap_instance_t*)instance, w2c_j0, w2c_j1, w2c_j2);
   w2c_B1:;
   w2c_j0 = w2c_l1;
   instance->w2c_g0 = w2c_j0;
@@ -2950,7 +2949,7 @@ static void w2c_f11(Z_hayro_jbig2_instance_t* instance, u64 w2c_p0) {
   FUNC_EPILOGUE;
 }
 
-static void w2c_f12(Z_hayro_jbig2_instance_t* instance, u64 w2c_p0) {
+static void w2c_f12(Z_hayro_jbig2_instance_t* RESTRICT instance, u64 w2c_p0) {
   u64 w2c_l1 = 0, w2c_l2 = 0, w2c_l3 = 0, w2c_l4 = 0, w2c_l5 = 0, w2c_l6 = 0;
   FUNC_PROLOGUE;
   u32 w2c_i0, w2c_i1;
@@ -3002,7 +3001,7 @@ static void w2c_f12(Z_hayro_jbig2_instance_t* instance, u64 w2c_p0) {
     w2c_j2 = w2c_l6;
     w2c_j3 = 2ull;
     w2c_j2 <<= (w2c_j3 & 63);
-    (*Z_heapZ_jbig2_c_give_back)(instance->Z_heap_instance, w2c_j0, w2c_j1, w2c_j2);
+    (*Z_heapZ_jbig2_c_give_back)((struct Z_heap_instance_t*)instance, w2c_j0, w2c_j1, w2c_j2);
     w2c_B3:;
     w2c_j0 = w2c_p0;
     w2c_j1 = 72ull;
@@ -3024,7 +3023,7 @@ static void w2c_f12(Z_hayro_jbig2_instance_t* instance, u64 w2c_p0) {
   w2c_j2 = w2c_l3;
   w2c_j3 = 72ull;
   w2c_j2 *= w2c_j3;
-  (*Z_heapZ_jbig2_c_give_back)(instance->Z_heap_instance, w2c_j0, w2c_j1, w2c_j2);
+  (*Z_heapZ_jbig2_c_give_back)((struct Z_heap_instance_t*)instance, w2c_j0, w2c_j1, w2c_j2);
   w2c_B4:;
   w2c_j0 = w2c_l1;
   instance->w2c_g0 = w2c_j0;
@@ -3035,7 +3034,7 @@ static void w2c_f12(Z_hayro_jbig2_instance_t* instance, u64 w2c_p0) {
   FUNC_EPILOGUE;
 }
 
-static void w2c_f13(Z_hayro_jbig2_instance_t* instance, u64 w2c_p0, u64 w2c_p1) {
+static void w2c_f13(Z_hayro_jbig2_instance_t* RESTRICT instance, u64 w2c_p0, u64 w2c_p1) {
   u32 w2c_l16 = 0, w2c_l17 = 0;
   u64 w2c_l2 = 0, w2c_l3 = 0, w2c_l4 = 0, w2c_l5 = 0, w2c_l6 = 0, w2c_l7 = 0, w2c_l8 = 0, w2c_l9 = 0, 
       w2c_l10 = 0, w2c_l11 = 0, w2c_l12 = 0, w2c_l13 = 0, w2c_l14 = 0, w2c_l15 = 0;
@@ -3121,7 +3120,7 @@ static void w2c_f13(Z_hayro_jbig2_instance_t* instance, u64 w2c_p0, u64 w2c_p1) 
   w2c_j2 = w2c_l4;
   w2c_j3 = 1096ull;
   w2c_j2 *= w2c_j3;
-  (*Z_heapZ_jbig2_c_give_back)(instance->Z_heap_instance, w2c_j0, w2c_j1, w2c_j2);
+  (*Z_heapZ_jbig2_c_give_back)((struct Z_heap_instance_t*)instance, w2c_j0, w2c_j1, w2c_j2);
   w2c_B4:;
   w2c_i0 = 0u;
   w2c_l16 = w2c_i0;
@@ -3491,7 +3490,7 @@ static void w2c_f13(Z_hayro_jbig2_instance_t* instance, u64 w2c_p0, u64 w2c_p1) 
     w2c_j2 = w2c_l13;
     w2c_j3 = 4ull;
     w2c_j2 <<= (w2c_j3 & 63);
-    (*Z_heapZ_jbig2_c_give_back)(instance->Z_heap_instance, w2c_j0, w2c_j1, w2c_j2);
+    (*Z_heapZ_jbig2_c_give_back)((struct Z_heap_instance_t*)instance, w2c_j0, w2c_j1, w2c_j2);
     w2c_B12:;
     w2c_j0 = w2c_l3;
     w2c_i0 = !(w2c_j0);
@@ -3501,7 +3500,7 @@ static void w2c_f13(Z_hayro_jbig2_instance_t* instance, u64 w2c_p0, u64 w2c_p1) 
     w2c_j2 = w2c_l3;
     w2c_j3 = 24ull;
     w2c_j2 *= w2c_j3;
-    (*Z_heapZ_jbig2_c_give_back)(instance->Z_heap_instance, w2c_j0, w2c_j1, w2c_j2);
+    (*Z_heapZ_jbig2_c_give_back)((struct Z_heap_instance_t*)instance, w2c_j0, w2c_j1, w2c_j2);
     w2c_B13:;
     w2c_j0 = w2c_l4;
     w2c_j1 = 1096ull;
@@ -3523,7 +3522,7 @@ static void w2c_f13(Z_hayro_jbig2_instance_t* instance, u64 w2c_p0, u64 w2c_p1) 
   w2c_j2 = w2c_l9;
   w2c_j3 = 1096ull;
   w2c_j2 *= w2c_j3;
-  (*Z_heapZ_jbig2_c_give_back)(instance->Z_heap_instance, w2c_j0, w2c_j1, w2c_j2);
+  (*Z_heapZ_jbig2_c_give_back)((struct Z_heap_instance_t*)instance, w2c_j0, w2c_j1, w2c_j2);
   goto w2c_B2;
   w2c_B5:;
   w2c_j0 = w2c_l13;
@@ -3534,7 +3533,7 @@ static void w2c_f13(Z_hayro_jbig2_instance_t* instance, u64 w2c_p0, u64 w2c_p1) 
   w2c_j2 = w2c_l13;
   w2c_j3 = 4ull;
   w2c_j2 <<= (w2c_j3 & 63);
-  (*Z_heapZ_jbig2_c_give_back)(instance->Z_heap_instance, w2c_j0, w2c_j1, w2c_j2);
+  (*Z_heapZ_jbig2_c_give_back)((struct Z_heap_instance_t*)instance, w2c_j0, w2c_j1, w2c_j2);
   w2c_B14:;
   w2c_j0 = w2c_l7;
   w2c_i0 = !(w2c_j0);
@@ -3544,7 +3543,7 @@ static void w2c_f13(Z_hayro_jbig2_instance_t* instance, u64 w2c_p0, u64 w2c_p1) 
   w2c_j2 = w2c_l7;
   w2c_j3 = 24ull;
   w2c_j2 *= w2c_j3;
-  (*Z_heapZ_jbig2_c_give_back)(instance->Z_heap_instance, w2c_j0, w2c_j1, w2c_j2);
+  (*Z_heapZ_jbig2_c_give_back)((struct Z_heap_instance_t*)instance, w2c_j0, w2c_j1, w2c_j2);
   w2c_B15:;
   w2c_j0 = w2c_l2;
   w2c_i0 = (u32)(w2c_j0);
@@ -3604,7 +3603,7 @@ static void w2c_f13(Z_hayro_jbig2_instance_t* instance, u64 w2c_p0, u64 w2c_p1) 
     w2c_j2 = w2c_l13;
     w2c_j3 = 4ull;
     w2c_j2 <<= (w2c_j3 & 63);
-    (*Z_heapZ_jbig2_c_give_back)(instance->Z_heap_instance, w2c_j0, w2c_j1, w2c_j2);
+    (*Z_heapZ_jbig2_c_give_back)((struct Z_heap_instance_t*)instance, w2c_j0, w2c_j1, w2c_j2);
     w2c_B18:;
     w2c_j0 = w2c_l3;
     w2c_i0 = !(w2c_j0);
@@ -3614,7 +3613,7 @@ static void w2c_f13(Z_hayro_jbig2_instance_t* instance, u64 w2c_p0, u64 w2c_p1) 
     w2c_j2 = w2c_l3;
     w2c_j3 = 24ull;
     w2c_j2 *= w2c_j3;
-    (*Z_heapZ_jbig2_c_give_back)(instance->Z_heap_instance, w2c_j0, w2c_j1, w2c_j2);
+    (*Z_heapZ_jbig2_c_give_back)((struct Z_heap_instance_t*)instance, w2c_j0, w2c_j1, w2c_j2);
     w2c_B19:;
     w2c_j0 = w2c_l4;
     w2c_j1 = 1096ull;
@@ -3640,7 +3639,7 @@ static void w2c_f13(Z_hayro_jbig2_instance_t* instance, u64 w2c_p0, u64 w2c_p1) 
   w2c_j2 = w2c_l9;
   w2c_j3 = 1096ull;
   w2c_j2 *= w2c_j3;
-  (*Z_heapZ_jbig2_c_give_back)(instance->Z_heap_instance, w2c_j0, w2c_j1, w2c_j2);
+  (*Z_heapZ_jbig2_c_give_back)((struct Z_heap_instance_t*)instance, w2c_j0, w2c_j1, w2c_j2);
   w2c_B2:;
   w2c_j0 = w2c_p0;
   w2c_j1 = 2ull;
@@ -3678,7 +3677,7 @@ static void w2c_f13(Z_hayro_jbig2_instance_t* instance, u64 w2c_p0, u64 w2c_p1) 
   FUNC_EPILOGUE;
 }
 
-static u32 w2c_f14(Z_hayro_jbig2_instance_t* instance, u64 w2c_p0, u64 w2c_p1) {
+static u32 w2c_f14(Z_hayro_jbig2_instance_t* RESTRICT instance, u64 w2c_p0, u64 w2c_p1) {
   u32 w2c_l12 = 0;
   u64 w2c_l2 = 0, w2c_l3 = 0, w2c_l4 = 0, w2c_l5 = 0, w2c_l6 = 0, w2c_l7 = 0, w2c_l8 = 0, w2c_l9 = 0, 
       w2c_l10 = 0, w2c_l11 = 0;
@@ -3739,7 +3738,7 @@ static u32 w2c_f14(Z_hayro_jbig2_instance_t* instance, u64 w2c_p0, u64 w2c_p1) {
   w2c_j1 = i64_load(&instance->w2c_memory, (u64)(w2c_i1));
   w2c_j2 = w2c_l3;
   w2c_j3 = 8ull;
-  (*Z_heapZ_jbig2_c_take)(instance->Z_heap_instance, w2c_j0, w2c_j1, w2c_j2, w2c_j3);
+  (*Z_heapZ_jbig2_c_take)((struct Z_heap_instance_t*)instance, w2c_j0, w2c_j1, w2c_j2, w2c_j3);
   w2c_j0 = w2c_l2;
   w2c_i0 = (u32)(w2c_j0);
   w2c_i0 = i32_load8_u(&instance->w2c_memory, (u64)(w2c_i0));
@@ -3899,7 +3898,7 @@ static u32 w2c_f14(Z_hayro_jbig2_instance_t* instance, u64 w2c_p0, u64 w2c_p1) {
   w2c_j2 = w2c_l4;
   w2c_j3 = 1096ull;
   w2c_j2 *= w2c_j3;
-  (*Z_heapZ_jbig2_c_give_back)(instance->Z_heap_instance, w2c_j0, w2c_j1, w2c_j2);
+  (*Z_heapZ_jbig2_c_give_back)((struct Z_heap_instance_t*)instance, w2c_j0, w2c_j1, w2c_j2);
   goto w2c_B2;
   w2c_B3:;
   w2c_j0 = w2c_l2;
@@ -3918,7 +3917,7 @@ static u32 w2c_f14(Z_hayro_jbig2_instance_t* instance, u64 w2c_p0, u64 w2c_p1) {
   w2c_j1 = i64_load(&instance->w2c_memory, (u64)(w2c_i1));
   w2c_j2 = w2c_l3;
   w2c_j3 = 8ull;
-  (*Z_heapZ_jbig2_c_take)(instance->Z_heap_instance, w2c_j0, w2c_j1, w2c_j2, w2c_j3);
+  (*Z_heapZ_jbig2_c_take)((struct Z_heap_instance_t*)instance, w2c_j0, w2c_j1, w2c_j2, w2c_j3);
   w2c_j0 = w2c_l2;
   w2c_i0 = (u32)(w2c_j0);
   w2c_i0 = i32_load8_u(&instance->w2c_memory, (u64)(w2c_i0));
@@ -3957,7 +3956,7 @@ static u32 w2c_f14(Z_hayro_jbig2_instance_t* instance, u64 w2c_p0, u64 w2c_p1) {
   return w2c_i0;
 }
 
-static void w2c_f15(Z_hayro_jbig2_instance_t* instance, u64 w2c_p0, u64 w2c_p1, u64 w2c_p2, u64 w2c_p3) {
+static void w2c_f15(Z_hayro_jbig2_instance_t* RESTRICT instance, u64 w2c_p0, u64 w2c_p1, u64 w2c_p2, u64 w2c_p3) {
   u32 w2c_l13 = 0, w2c_l14 = 0, w2c_l15 = 0, w2c_l16 = 0, w2c_l17 = 0, w2c_l18 = 0;
   u64 w2c_l4 = 0, w2c_l5 = 0, w2c_l6 = 0, w2c_l7 = 0, w2c_l8 = 0, w2c_l9 = 0, w2c_l10 = 0, w2c_l11 = 0, 
       w2c_l12 = 0;
@@ -4213,7 +4212,7 @@ static void w2c_f15(Z_hayro_jbig2_instance_t* instance, u64 w2c_p0, u64 w2c_p1, 
   w2c_j2 = w2c_l7;
   w2c_j3 = 4ull;
   w2c_j2 <<= (w2c_j3 & 63);
-  (*Z_heapZ_jbig2_c_give_back)(instance->Z_heap_instance, w2c_j0, w2c_j1, w2c_j2);
+  (*Z_heapZ_jbig2_c_give_back)((struct Z_heap_instance_t*)instance, w2c_j0, w2c_j1, w2c_j2);
   w2c_B8:;
   w2c_j0 = w2c_p0;
   w2c_i0 = (u32)(w2c_j0);
@@ -4343,7 +4342,7 @@ static void w2c_f15(Z_hayro_jbig2_instance_t* instance, u64 w2c_p0, u64 w2c_p1, 
   w2c_j2 = w2c_l7;
   w2c_j3 = 24ull;
   w2c_j2 *= w2c_j3;
-  (*Z_heapZ_jbig2_c_give_back)(instance->Z_heap_instance, w2c_j0, w2c_j1, w2c_j2);
+  (*Z_heapZ_jbig2_c_give_back)((struct Z_heap_instance_t*)instance, w2c_j0, w2c_j1, w2c_j2);
   w2c_B12:;
   w2c_j0 = w2c_l4;
   w2c_i0 = (u32)(w2c_j0);
@@ -4360,7 +4359,7 @@ static void w2c_f15(Z_hayro_jbig2_instance_t* instance, u64 w2c_p0, u64 w2c_p1, 
   w2c_j2 = w2c_l7;
   w2c_j3 = 4ull;
   w2c_j2 <<= (w2c_j3 & 63);
-  (*Z_heapZ_jbig2_c_give_back)(instance->Z_heap_instance, w2c_j0, w2c_j1, w2c_j2);
+  (*Z_heapZ_jbig2_c_give_back)((struct Z_heap_instance_t*)instance, w2c_j0, w2c_j1, w2c_j2);
   w2c_B13:;
   w2c_j0 = w2c_p0;
   w2c_i0 = (u32)(w2c_j0);
@@ -4608,7 +4607,7 @@ static void w2c_f15(Z_hayro_jbig2_instance_t* instance, u64 w2c_p0, u64 w2c_p1, 
   w2c_j2 = w2c_l7;
   w2c_j3 = 24ull;
   w2c_j2 *= w2c_j3;
-  (*Z_heapZ_jbig2_c_give_back)(instance->Z_heap_instance, w2c_j0, w2c_j1, w2c_j2);
+  (*Z_heapZ_jbig2_c_give_back)((struct Z_heap_instance_t*)instance, w2c_j0, w2c_j1, w2c_j2);
   w2c_B22:;
   w2c_j0 = w2c_l4;
   w2c_i0 = (u32)(w2c_j0);
@@ -4625,7 +4624,7 @@ static void w2c_f15(Z_hayro_jbig2_instance_t* instance, u64 w2c_p0, u64 w2c_p1, 
   w2c_j2 = w2c_l7;
   w2c_j3 = 4ull;
   w2c_j2 <<= (w2c_j3 & 63);
-  (*Z_heapZ_jbig2_c_give_back)(instance->Z_heap_instance, w2c_j0, w2c_j1, w2c_j2);
+  (*Z_heapZ_jbig2_c_give_back)((struct Z_heap_instance_t*)instance, w2c_j0, w2c_j1, w2c_j2);
   w2c_B23:;
   w2c_j0 = w2c_p0;
   w2c_i0 = (u32)(w2c_j0);
@@ -4671,7 +4670,7 @@ static void w2c_f15(Z_hayro_jbig2_instance_t* instance, u64 w2c_p0, u64 w2c_p1, 
   w2c_j2 = w2c_l7;
   w2c_j3 = 24ull;
   w2c_j2 *= w2c_j3;
-  (*Z_heapZ_jbig2_c_give_back)(instance->Z_heap_instance, w2c_j0, w2c_j1, w2c_j2);
+  (*Z_heapZ_jbig2_c_give_back)((struct Z_heap_instance_t*)instance, w2c_j0, w2c_j1, w2c_j2);
   w2c_B24:;
   w2c_j0 = w2c_l4;
   w2c_i0 = (u32)(w2c_j0);
@@ -4688,7 +4687,7 @@ static void w2c_f15(Z_hayro_jbig2_instance_t* instance, u64 w2c_p0, u64 w2c_p1, 
   w2c_j2 = w2c_l7;
   w2c_j3 = 4ull;
   w2c_j2 <<= (w2c_j3 & 63);
-  (*Z_heapZ_jbig2_c_give_back)(instance->Z_heap_instance, w2c_j0, w2c_j1, w2c_j2);
+  (*Z_heapZ_jbig2_c_give_back)((struct Z_heap_instance_t*)instance, w2c_j0, w2c_j1, w2c_j2);
   w2c_B25:;
   w2c_j0 = w2c_p0;
   w2c_i0 = (u32)(w2c_j0);
@@ -4725,7 +4724,7 @@ static void w2c_f15(Z_hayro_jbig2_instance_t* instance, u64 w2c_p0, u64 w2c_p1, 
   w2c_j2 = w2c_l7;
   w2c_j3 = 24ull;
   w2c_j2 *= w2c_j3;
-  (*Z_heapZ_jbig2_c_give_back)(instance->Z_heap_instance, w2c_j0, w2c_j1, w2c_j2);
+  (*Z_heapZ_jbig2_c_give_back)((struct Z_heap_instance_t*)instance, w2c_j0, w2c_j1, w2c_j2);
   w2c_B26:;
   w2c_j0 = w2c_l4;
   w2c_i0 = (u32)(w2c_j0);
@@ -4742,7 +4741,7 @@ static void w2c_f15(Z_hayro_jbig2_instance_t* instance, u64 w2c_p0, u64 w2c_p1, 
   w2c_j2 = w2c_l7;
   w2c_j3 = 4ull;
   w2c_j2 <<= (w2c_j3 & 63);
-  (*Z_heapZ_jbig2_c_give_back)(instance->Z_heap_instance, w2c_j0, w2c_j1, w2c_j2);
+  (*Z_heapZ_jbig2_c_give_back)((struct Z_heap_instance_t*)instance, w2c_j0, w2c_j1, w2c_j2);
   w2c_B27:;
   w2c_j0 = w2c_p0;
   w2c_i0 = (u32)(w2c_j0);
@@ -5934,7 +5933,7 @@ static void w2c_f15(Z_hayro_jbig2_instance_t* instance, u64 w2c_p0, u64 w2c_p1, 
   FUNC_EPILOGUE;
 }
 
-static u32 w2c_f16(Z_hayro_jbig2_instance_t* instance, u64 w2c_p0) {
+static u32 w2c_f16(Z_hayro_jbig2_instance_t* RESTRICT instance, u64 w2c_p0) {
   u32 w2c_l5 = 0;
   u64 w2c_l1 = 0, w2c_l2 = 0, w2c_l3 = 0, w2c_l4 = 0;
   FUNC_PROLOGUE;
@@ -5995,7 +5994,7 @@ static u32 w2c_f16(Z_hayro_jbig2_instance_t* instance, u64 w2c_p0) {
   return w2c_i0;
 }
 
-static u32 w2c_f17(Z_hayro_jbig2_instance_t* instance, u64 w2c_p0, u64 w2c_p1) {
+static u32 w2c_f17(Z_hayro_jbig2_instance_t* RESTRICT instance, u64 w2c_p0, u64 w2c_p1) {
   u32 w2c_l13 = 0;
   u64 w2c_l2 = 0, w2c_l3 = 0, w2c_l4 = 0, w2c_l5 = 0, w2c_l6 = 0, w2c_l7 = 0, w2c_l8 = 0, w2c_l9 = 0, 
       w2c_l10 = 0, w2c_l11 = 0, w2c_l12 = 0;
@@ -6056,7 +6055,7 @@ static u32 w2c_f17(Z_hayro_jbig2_instance_t* instance, u64 w2c_p0, u64 w2c_p1) {
   w2c_j1 = i64_load(&instance->w2c_memory, (u64)(w2c_i1));
   w2c_j2 = w2c_l2;
   w2c_j3 = 8ull;
-  (*Z_heapZ_jbig2_c_take)(instance->Z_heap_instance, w2c_j0, w2c_j1, w2c_j2, w2c_j3);
+  (*Z_heapZ_jbig2_c_take)((struct Z_heap_instance_t*)instance, w2c_j0, w2c_j1, w2c_j2, w2c_j3);
   w2c_j0 = w2c_l3;
   w2c_i0 = (u32)(w2c_j0);
   w2c_i0 = i32_load8_u(&instance->w2c_memory, (u64)(w2c_i0));
@@ -6263,7 +6262,7 @@ static u32 w2c_f17(Z_hayro_jbig2_instance_t* instance, u64 w2c_p0, u64 w2c_p1) {
   w2c_j2 = w2c_l4;
   w2c_j3 = 4ull;
   w2c_j2 <<= (w2c_j3 & 63);
-  (*Z_heapZ_jbig2_c_give_back)(instance->Z_heap_instance, w2c_j0, w2c_j1, w2c_j2);
+  (*Z_heapZ_jbig2_c_give_back)((struct Z_heap_instance_t*)instance, w2c_j0, w2c_j1, w2c_j2);
   goto w2c_B2;
   w2c_B3:;
   w2c_j0 = w2c_l3;
@@ -6282,7 +6281,7 @@ static u32 w2c_f17(Z_hayro_jbig2_instance_t* instance, u64 w2c_p0, u64 w2c_p1) {
   w2c_j1 = i64_load(&instance->w2c_memory, (u64)(w2c_i1));
   w2c_j2 = w2c_l2;
   w2c_j3 = 8ull;
-  (*Z_heapZ_jbig2_c_take)(instance->Z_heap_instance, w2c_j0, w2c_j1, w2c_j2, w2c_j3);
+  (*Z_heapZ_jbig2_c_take)((struct Z_heap_instance_t*)instance, w2c_j0, w2c_j1, w2c_j2, w2c_j3);
   w2c_j0 = w2c_l3;
   w2c_i0 = (u32)(w2c_j0);
   w2c_i0 = i32_load8_u(&instance->w2c_memory, (u64)(w2c_i0));
@@ -6321,7 +6320,7 @@ static u32 w2c_f17(Z_hayro_jbig2_instance_t* instance, u64 w2c_p0, u64 w2c_p1) {
   return w2c_i0;
 }
 
-static u32 w2c_f18(Z_hayro_jbig2_instance_t* instance, u64 w2c_p0, u64 w2c_p1) {
+static u32 w2c_f18(Z_hayro_jbig2_instance_t* RESTRICT instance, u64 w2c_p0, u64 w2c_p1) {
   u32 w2c_l14 = 0;
   u64 w2c_l2 = 0, w2c_l3 = 0, w2c_l4 = 0, w2c_l5 = 0, w2c_l6 = 0, w2c_l7 = 0, w2c_l8 = 0, w2c_l9 = 0, 
       w2c_l10 = 0, w2c_l11 = 0, w2c_l12 = 0, w2c_l13 = 0;
@@ -6382,7 +6381,7 @@ static u32 w2c_f18(Z_hayro_jbig2_instance_t* instance, u64 w2c_p0, u64 w2c_p1) {
   w2c_j1 = i64_load(&instance->w2c_memory, (u64)(w2c_i1));
   w2c_j2 = w2c_l2;
   w2c_j3 = 8ull;
-  (*Z_heapZ_jbig2_c_take)(instance->Z_heap_instance, w2c_j0, w2c_j1, w2c_j2, w2c_j3);
+  (*Z_heapZ_jbig2_c_take)((struct Z_heap_instance_t*)instance, w2c_j0, w2c_j1, w2c_j2, w2c_j3);
   w2c_j0 = w2c_l3;
   w2c_i0 = (u32)(w2c_j0);
   w2c_i0 = i32_load8_u(&instance->w2c_memory, (u64)(w2c_i0));
@@ -6641,7 +6640,7 @@ static u32 w2c_f18(Z_hayro_jbig2_instance_t* instance, u64 w2c_p0, u64 w2c_p1) {
   w2c_j2 = w2c_l4;
   w2c_j3 = 24ull;
   w2c_j2 *= w2c_j3;
-  (*Z_heapZ_jbig2_c_give_back)(instance->Z_heap_instance, w2c_j0, w2c_j1, w2c_j2);
+  (*Z_heapZ_jbig2_c_give_back)((struct Z_heap_instance_t*)instance, w2c_j0, w2c_j1, w2c_j2);
   goto w2c_B2;
   w2c_B3:;
   w2c_j0 = w2c_l3;
@@ -6660,7 +6659,7 @@ static u32 w2c_f18(Z_hayro_jbig2_instance_t* instance, u64 w2c_p0, u64 w2c_p1) {
   w2c_j1 = i64_load(&instance->w2c_memory, (u64)(w2c_i1));
   w2c_j2 = w2c_l2;
   w2c_j3 = 8ull;
-  (*Z_heapZ_jbig2_c_take)(instance->Z_heap_instance, w2c_j0, w2c_j1, w2c_j2, w2c_j3);
+  (*Z_heapZ_jbig2_c_take)((struct Z_heap_instance_t*)instance, w2c_j0, w2c_j1, w2c_j2, w2c_j3);
   w2c_j0 = w2c_l3;
   w2c_i0 = (u32)(w2c_j0);
   w2c_i0 = i32_load8_u(&instance->w2c_memory, (u64)(w2c_i0));
@@ -6699,7 +6698,7 @@ static u32 w2c_f18(Z_hayro_jbig2_instance_t* instance, u64 w2c_p0, u64 w2c_p1) {
   return w2c_i0;
 }
 
-static u32 w2c_f19(Z_hayro_jbig2_instance_t* instance, u64 w2c_p0) {
+static u32 w2c_f19(Z_hayro_jbig2_instance_t* RESTRICT instance, u64 w2c_p0) {
   u32 w2c_l5 = 0;
   u64 w2c_l1 = 0, w2c_l2 = 0, w2c_l3 = 0, w2c_l4 = 0;
   FUNC_PROLOGUE;
@@ -6765,7 +6764,7 @@ static u32 w2c_f19(Z_hayro_jbig2_instance_t* instance, u64 w2c_p0) {
   return w2c_i0;
 }
 
-static u32 w2c_f20(Z_hayro_jbig2_instance_t* instance, u64 w2c_p0) {
+static u32 w2c_f20(Z_hayro_jbig2_instance_t* RESTRICT instance, u64 w2c_p0) {
   u32 w2c_l5 = 0;
   u64 w2c_l1 = 0, w2c_l2 = 0, w2c_l3 = 0, w2c_l4 = 0;
   FUNC_PROLOGUE;
@@ -6831,7 +6830,7 @@ static u32 w2c_f20(Z_hayro_jbig2_instance_t* instance, u64 w2c_p0) {
   return w2c_i0;
 }
 
-static void w2c_f21(Z_hayro_jbig2_instance_t* instance, u64 w2c_p0, u64 w2c_p1, u64 w2c_p2) {
+static void w2c_f21(Z_hayro_jbig2_instance_t* RESTRICT instance, u64 w2c_p0, u64 w2c_p1, u64 w2c_p2) {
   u64 w2c_l3 = 0, w2c_l4 = 0, w2c_l5 = 0, w2c_l6 = 0;
   FUNC_PROLOGUE;
   u32 w2c_i0, w2c_i1;
@@ -6919,7 +6918,7 @@ static void w2c_f21(Z_hayro_jbig2_instance_t* instance, u64 w2c_p0, u64 w2c_p1, 
   FUNC_EPILOGUE;
 }
 
-static void w2c_f22(Z_hayro_jbig2_instance_t* instance, u64 w2c_p0, u64 w2c_p1, u64 w2c_p2) {
+static void w2c_f22(Z_hayro_jbig2_instance_t* RESTRICT instance, u64 w2c_p0, u64 w2c_p1, u64 w2c_p2) {
   u64 w2c_l3 = 0, w2c_l4 = 0;
   FUNC_PROLOGUE;
   u32 w2c_i0, w2c_i1;
@@ -7046,7 +7045,7 @@ static void w2c_f22(Z_hayro_jbig2_instance_t* instance, u64 w2c_p0, u64 w2c_p1, 
   FUNC_EPILOGUE;
 }
 
-static void w2c_f23(Z_hayro_jbig2_instance_t* instance, u64 w2c_p0, u64 w2c_p1, u64 w2c_p2) {
+static void w2c_f23(Z_hayro_jbig2_instance_t* RESTRICT instance, u64 w2c_p0, u64 w2c_p1, u64 w2c_p2) {
   u32 w2c_l15 = 0, w2c_l16 = 0, w2c_l17 = 0, w2c_l18 = 0;
   u64 w2c_l3 = 0, w2c_l4 = 0, w2c_l5 = 0, w2c_l6 = 0, w2c_l7 = 0, w2c_l8 = 0, w2c_l9 = 0, w2c_l10 = 0, 
       w2c_l11 = 0, w2c_l12 = 0, w2c_l13 = 0, w2c_l14 = 0;
@@ -7315,7 +7314,7 @@ static void w2c_f23(Z_hayro_jbig2_instance_t* instance, u64 w2c_p0, u64 w2c_p1, 
   w2c_j1 = w2c_p1;
   w2c_j2 = 328ull;
   w2c_j3 = 8ull;
-  (*Z_heapZ_jbig2_c_take)(instance->Z_heap_instance, w2c_j0, w2c_j1, w2c_j2, w2c_j3);
+  (*Z_heapZ_jbig2_c_take)((struct Z_heap_instance_t*)instance, w2c_j0, w2c_j1, w2c_j2, w2c_j3);
   w2c_j0 = w2c_l3;
   w2c_i0 = (u32)(w2c_j0);
   w2c_i0 = i32_load8_u(&instance->w2c_memory, (u64)(w2c_i0) + 400u);
@@ -7515,7 +7514,7 @@ static void w2c_f23(Z_hayro_jbig2_instance_t* instance, u64 w2c_p0, u64 w2c_p1, 
   w2c_j1 = w2c_p1;
   w2c_j2 = 16ull;
   w2c_j3 = 8ull;
-  (*Z_heapZ_jbig2_c_take)(instance->Z_heap_instance, w2c_j0, w2c_j1, w2c_j2, w2c_j3);
+  (*Z_heapZ_jbig2_c_take)((struct Z_heap_instance_t*)instance, w2c_j0, w2c_j1, w2c_j2, w2c_j3);
   w2c_j0 = w2c_l3;
   w2c_i0 = (u32)(w2c_j0);
   w2c_i0 = i32_load8_u(&instance->w2c_memory, (u64)(w2c_i0) + 416u);
@@ -7652,7 +7651,7 @@ static void w2c_f23(Z_hayro_jbig2_instance_t* instance, u64 w2c_p0, u64 w2c_p1, 
   w2c_j0 = w2c_p2;
   w2c_j1 = w2c_l14;
   w2c_j2 = 144ull;
-  (*Z_heapZ_jbig2_c_give_back)(instance->Z_heap_instance, w2c_j0, w2c_j1, w2c_j2);
+  (*Z_heapZ_jbig2_c_give_back)((struct Z_heap_instance_t*)instance, w2c_j0, w2c_j1, w2c_j2);
   w2c_j0 = w2c_l3;
   w2c_j1 = 416ull;
   w2c_j0 += w2c_j1;
@@ -7665,7 +7664,7 @@ static void w2c_f23(Z_hayro_jbig2_instance_t* instance, u64 w2c_p0, u64 w2c_p1, 
   w2c_j0 = w2c_l10;
   w2c_j1 = w2c_l13;
   w2c_j2 = w2c_l11;
-  (*Z_heapZ_jbig2_c_give_back)(instance->Z_heap_instance, w2c_j0, w2c_j1, w2c_j2);
+  (*Z_heapZ_jbig2_c_give_back)((struct Z_heap_instance_t*)instance, w2c_j0, w2c_j1, w2c_j2);
   w2c_B10:;
   w2c_i0 = w2c_l17;
   w2c_i1 = 255u;
@@ -7706,7 +7705,7 @@ static void w2c_f23(Z_hayro_jbig2_instance_t* instance, u64 w2c_p0, u64 w2c_p1, 
   w2c_j0 = w2c_p2;
   w2c_j1 = w2c_l9;
   w2c_j2 = 144ull;
-  (*Z_heapZ_jbig2_c_give_back)(instance->Z_heap_instance, w2c_j0, w2c_j1, w2c_j2);
+  (*Z_heapZ_jbig2_c_give_back)((struct Z_heap_instance_t*)instance, w2c_j0, w2c_j1, w2c_j2);
   w2c_j0 = w2c_l3;
   w2c_j1 = 416ull;
   w2c_j0 += w2c_j1;
@@ -7820,7 +7819,7 @@ static void w2c_f23(Z_hayro_jbig2_instance_t* instance, u64 w2c_p0, u64 w2c_p1, 
   w2c_j2 = w2c_l6;
   w2c_j3 = 1ull;
   w2c_j2 <<= (w2c_j3 & 63);
-  (*Z_heapZ_jbig2_c_give_back)(instance->Z_heap_instance, w2c_j0, w2c_j1, w2c_j2);
+  (*Z_heapZ_jbig2_c_give_back)((struct Z_heap_instance_t*)instance, w2c_j0, w2c_j1, w2c_j2);
   goto w2c_B5;
   w2c_B6:;
   w2c_j0 = w2c_l3;
@@ -8015,7 +8014,7 @@ static void w2c_f23(Z_hayro_jbig2_instance_t* instance, u64 w2c_p0, u64 w2c_p1, 
   FUNC_EPILOGUE;
 }
 
-static void w2c_f24(Z_hayro_jbig2_instance_t* instance, u64 w2c_p0, u64 w2c_p1, u64 w2c_p2, u64 w2c_p3, u32 w2c_p4, u64 w2c_p5, u32 w2c_p6) {
+static void w2c_f24(Z_hayro_jbig2_instance_t* RESTRICT instance, u64 w2c_p0, u64 w2c_p1, u64 w2c_p2, u64 w2c_p3, u32 w2c_p4, u64 w2c_p5, u32 w2c_p6) {
   u32 w2c_l11 = 0, w2c_l12 = 0, w2c_l13 = 0, w2c_l14 = 0;
   u64 w2c_l7 = 0, w2c_l8 = 0, w2c_l9 = 0, w2c_l10 = 0;
   FUNC_PROLOGUE;
@@ -8395,7 +8394,7 @@ static void w2c_f24(Z_hayro_jbig2_instance_t* instance, u64 w2c_p0, u64 w2c_p1, 
     w2c_j2 = w2c_p1;
     w2c_j3 = 2ull;
     w2c_j2 <<= (w2c_j3 & 63);
-    (*Z_heapZ_jbig2_c_give_back)(instance->Z_heap_instance, w2c_j0, w2c_j1, w2c_j2);
+    (*Z_heapZ_jbig2_c_give_back)((struct Z_heap_instance_t*)instance, w2c_j0, w2c_j1, w2c_j2);
     w2c_B8:;
     w2c_j0 = w2c_p3;
     w2c_j1 = 72ull;
@@ -8427,7 +8426,7 @@ static void w2c_f24(Z_hayro_jbig2_instance_t* instance, u64 w2c_p0, u64 w2c_p1, 
   w2c_j2 = w2c_l9;
   w2c_j3 = 72ull;
   w2c_j2 *= w2c_j3;
-  (*Z_heapZ_jbig2_c_give_back)(instance->Z_heap_instance, w2c_j0, w2c_j1, w2c_j2);
+  (*Z_heapZ_jbig2_c_give_back)((struct Z_heap_instance_t*)instance, w2c_j0, w2c_j1, w2c_j2);
   w2c_B9:;
   w2c_j0 = w2c_p0;
   w2c_i0 = (u32)(w2c_j0);
@@ -8490,7 +8489,7 @@ static void w2c_f24(Z_hayro_jbig2_instance_t* instance, u64 w2c_p0, u64 w2c_p1, 
     w2c_j2 = w2c_p1;
     w2c_j3 = 2ull;
     w2c_j2 <<= (w2c_j3 & 63);
-    (*Z_heapZ_jbig2_c_give_back)(instance->Z_heap_instance, w2c_j0, w2c_j1, w2c_j2);
+    (*Z_heapZ_jbig2_c_give_back)((struct Z_heap_instance_t*)instance, w2c_j0, w2c_j1, w2c_j2);
     w2c_B12:;
     w2c_j0 = w2c_p3;
     w2c_j1 = 72ull;
@@ -8512,7 +8511,7 @@ static void w2c_f24(Z_hayro_jbig2_instance_t* instance, u64 w2c_p0, u64 w2c_p1, 
   w2c_j2 = w2c_l9;
   w2c_j3 = 72ull;
   w2c_j2 *= w2c_j3;
-  (*Z_heapZ_jbig2_c_give_back)(instance->Z_heap_instance, w2c_j0, w2c_j1, w2c_j2);
+  (*Z_heapZ_jbig2_c_give_back)((struct Z_heap_instance_t*)instance, w2c_j0, w2c_j1, w2c_j2);
   w2c_B13:;
   w2c_j0 = w2c_p0;
   w2c_i0 = (u32)(w2c_j0);
@@ -8549,7 +8548,7 @@ static void w2c_f24(Z_hayro_jbig2_instance_t* instance, u64 w2c_p0, u64 w2c_p1, 
   FUNC_EPILOGUE;
 }
 
-static void w2c_f25(Z_hayro_jbig2_instance_t* instance, u64 w2c_p0, u64 w2c_p1, u64 w2c_p2, u64 w2c_p3, u32 w2c_p4) {
+static void w2c_f25(Z_hayro_jbig2_instance_t* RESTRICT instance, u64 w2c_p0, u64 w2c_p1, u64 w2c_p2, u64 w2c_p3, u32 w2c_p4) {
   u32 w2c_l9 = 0, w2c_l10 = 0, w2c_l11 = 0, w2c_l12 = 0;
   u64 w2c_l5 = 0, w2c_l6 = 0, w2c_l7 = 0, w2c_l8 = 0;
   FUNC_PROLOGUE;
@@ -8679,7 +8678,7 @@ static void w2c_f25(Z_hayro_jbig2_instance_t* instance, u64 w2c_p0, u64 w2c_p1, 
     w2c_j2 = w2c_p2;
     w2c_j3 = 2ull;
     w2c_j2 <<= (w2c_j3 & 63);
-    (*Z_heapZ_jbig2_c_give_back)(instance->Z_heap_instance, w2c_j0, w2c_j1, w2c_j2);
+    (*Z_heapZ_jbig2_c_give_back)((struct Z_heap_instance_t*)instance, w2c_j0, w2c_j1, w2c_j2);
     w2c_B7:;
     w2c_j0 = w2c_l5;
     w2c_j1 = 72ull;
@@ -8703,7 +8702,7 @@ static void w2c_f25(Z_hayro_jbig2_instance_t* instance, u64 w2c_p0, u64 w2c_p1, 
   w2c_j2 = w2c_p1;
   w2c_j3 = 72ull;
   w2c_j2 *= w2c_j3;
-  (*Z_heapZ_jbig2_c_give_back)(instance->Z_heap_instance, w2c_j0, w2c_j1, w2c_j2);
+  (*Z_heapZ_jbig2_c_give_back)((struct Z_heap_instance_t*)instance, w2c_j0, w2c_j1, w2c_j2);
   w2c_B8:;
   w2c_i0 = 0u;
   w2c_l11 = w2c_i0;
@@ -8745,7 +8744,7 @@ static void w2c_f25(Z_hayro_jbig2_instance_t* instance, u64 w2c_p0, u64 w2c_p1, 
   FUNC_EPILOGUE;
 }
 
-static void w2c_f26(Z_hayro_jbig2_instance_t* instance, u64 w2c_p0, u64 w2c_p1, u64 w2c_p2, u64 w2c_p3, u32 w2c_p4) {
+static void w2c_f26(Z_hayro_jbig2_instance_t* RESTRICT instance, u64 w2c_p0, u64 w2c_p1, u64 w2c_p2, u64 w2c_p3, u32 w2c_p4) {
   u32 w2c_l18 = 0, w2c_l19 = 0, w2c_l20 = 0;
   u64 w2c_l5 = 0, w2c_l6 = 0, w2c_l7 = 0, w2c_l8 = 0, w2c_l9 = 0, w2c_l10 = 0, w2c_l11 = 0, w2c_l12 = 0, 
       w2c_l13 = 0, w2c_l14 = 0, w2c_l15 = 0, w2c_l16 = 0, w2c_l17 = 0;
@@ -9219,7 +9218,7 @@ static void w2c_f26(Z_hayro_jbig2_instance_t* instance, u64 w2c_p0, u64 w2c_p1, 
   w2c_j2 = w2c_l14;
   w2c_j3 = 2ull;
   w2c_j2 <<= (w2c_j3 & 63);
-  (*Z_heapZ_jbig2_c_give_back)(instance->Z_heap_instance, w2c_j0, w2c_j1, w2c_j2);
+  (*Z_heapZ_jbig2_c_give_back)((struct Z_heap_instance_t*)instance, w2c_j0, w2c_j1, w2c_j2);
   w2c_B10:;
   w2c_j0 = w2c_l5;
   w2c_i0 = (u32)(w2c_j0);
@@ -9263,7 +9262,7 @@ static void w2c_f26(Z_hayro_jbig2_instance_t* instance, u64 w2c_p0, u64 w2c_p1, 
     w2c_j2 = w2c_l6;
     w2c_j3 = 2ull;
     w2c_j2 <<= (w2c_j3 & 63);
-    (*Z_heapZ_jbig2_c_give_back)(instance->Z_heap_instance, w2c_j0, w2c_j1, w2c_j2);
+    (*Z_heapZ_jbig2_c_give_back)((struct Z_heap_instance_t*)instance, w2c_j0, w2c_j1, w2c_j2);
     w2c_B13:;
     w2c_j0 = w2c_l17;
     w2c_j1 = 72ull;
@@ -9285,7 +9284,7 @@ static void w2c_f26(Z_hayro_jbig2_instance_t* instance, u64 w2c_p0, u64 w2c_p1, 
   w2c_j2 = w2c_l7;
   w2c_j3 = 72ull;
   w2c_j2 *= w2c_j3;
-  (*Z_heapZ_jbig2_c_give_back)(instance->Z_heap_instance, w2c_j0, w2c_j1, w2c_j2);
+  (*Z_heapZ_jbig2_c_give_back)((struct Z_heap_instance_t*)instance, w2c_j0, w2c_j1, w2c_j2);
   w2c_B14:;
   w2c_j0 = w2c_p0;
   w2c_i0 = (u32)(w2c_j0);
@@ -9415,7 +9414,7 @@ static void w2c_f26(Z_hayro_jbig2_instance_t* instance, u64 w2c_p0, u64 w2c_p1, 
     w2c_j2 = w2c_l6;
     w2c_j3 = 2ull;
     w2c_j2 <<= (w2c_j3 & 63);
-    (*Z_heapZ_jbig2_c_give_back)(instance->Z_heap_instance, w2c_j0, w2c_j1, w2c_j2);
+    (*Z_heapZ_jbig2_c_give_back)((struct Z_heap_instance_t*)instance, w2c_j0, w2c_j1, w2c_j2);
     w2c_B20:;
     w2c_j0 = w2c_l17;
     w2c_j1 = 72ull;
@@ -9437,7 +9436,7 @@ static void w2c_f26(Z_hayro_jbig2_instance_t* instance, u64 w2c_p0, u64 w2c_p1, 
   w2c_j2 = w2c_l7;
   w2c_j3 = 72ull;
   w2c_j2 *= w2c_j3;
-  (*Z_heapZ_jbig2_c_give_back)(instance->Z_heap_instance, w2c_j0, w2c_j1, w2c_j2);
+  (*Z_heapZ_jbig2_c_give_back)((struct Z_heap_instance_t*)instance, w2c_j0, w2c_j1, w2c_j2);
   w2c_B21:;
   w2c_j0 = w2c_p0;
   w2c_i0 = (u32)(w2c_j0);
@@ -9585,7 +9584,7 @@ static void w2c_f26(Z_hayro_jbig2_instance_t* instance, u64 w2c_p0, u64 w2c_p1, 
   FUNC_EPILOGUE;
 }
 
-static void w2c_f27(Z_hayro_jbig2_instance_t* instance, u64 w2c_p0, u64 w2c_p1) {
+static void w2c_f27(Z_hayro_jbig2_instance_t* RESTRICT instance, u64 w2c_p0, u64 w2c_p1) {
   u32 w2c_l13 = 0, w2c_l14 = 0, w2c_l15 = 0;
   u64 w2c_l2 = 0, w2c_l3 = 0, w2c_l4 = 0, w2c_l5 = 0, w2c_l6 = 0, w2c_l7 = 0, w2c_l8 = 0, w2c_l9 = 0, 
       w2c_l10 = 0, w2c_l11 = 0, w2c_l12 = 0;
@@ -9869,7 +9868,7 @@ static void w2c_f27(Z_hayro_jbig2_instance_t* instance, u64 w2c_p0, u64 w2c_p1) 
   w2c_j1 = i64_load(&instance->w2c_memory, (u64)(w2c_i1));
   w2c_j2 = w2c_l9;
   w2c_j3 = 8ull;
-  (*Z_heapZ_jbig2_c_take)(instance->Z_heap_instance, w2c_j0, w2c_j1, w2c_j2, w2c_j3);
+  (*Z_heapZ_jbig2_c_take)((struct Z_heap_instance_t*)instance, w2c_j0, w2c_j1, w2c_j2, w2c_j3);
   w2c_j0 = w2c_l3;
   w2c_i0 = (u32)(w2c_j0);
   w2c_i0 = i32_load8_u(&instance->w2c_memory, (u64)(w2c_i0) + 56u);
@@ -10642,7 +10641,7 @@ static void w2c_f27(Z_hayro_jbig2_instance_t* instance, u64 w2c_p0, u64 w2c_p1) 
   w2c_j0 = i64_load(&instance->w2c_memory, (u64)(w2c_i0));
   w2c_j1 = w2c_l10;
   w2c_j2 = w2c_l9;
-  (*Z_heapZ_jbig2_c_give_back)(instance->Z_heap_instance, w2c_j0, w2c_j1, w2c_j2);
+  (*Z_heapZ_jbig2_c_give_back)((struct Z_heap_instance_t*)instance, w2c_j0, w2c_j1, w2c_j2);
   w2c_B1:;
   w2c_j0 = w2c_p0;
   w2c_i0 = (u32)(w2c_j0);
@@ -10662,7 +10661,7 @@ static void w2c_f27(Z_hayro_jbig2_instance_t* instance, u64 w2c_p0, u64 w2c_p1) 
   FUNC_EPILOGUE;
 }
 
-static void w2c_f28(Z_hayro_jbig2_instance_t* instance, u64 w2c_p0, u32 w2c_p1, u64 w2c_p2, u64 w2c_p3) {
+static void w2c_f28(Z_hayro_jbig2_instance_t* RESTRICT instance, u64 w2c_p0, u32 w2c_p1, u64 w2c_p2, u64 w2c_p3) {
   u32 w2c_l8 = 0, w2c_l9 = 0, w2c_l10 = 0, w2c_l11 = 0, w2c_l12 = 0, w2c_l13 = 0, w2c_l14 = 0;
   u64 w2c_l4 = 0, w2c_l5 = 0, w2c_l6 = 0, w2c_l7 = 0;
   FUNC_PROLOGUE;
@@ -11230,7 +11229,7 @@ static void w2c_f28(Z_hayro_jbig2_instance_t* instance, u64 w2c_p0, u32 w2c_p1, 
   FUNC_EPILOGUE;
 }
 
-static void w2c_f29(Z_hayro_jbig2_instance_t* instance, u64 w2c_p0) {
+static void w2c_f29(Z_hayro_jbig2_instance_t* RESTRICT instance, u64 w2c_p0) {
   u64 w2c_l1 = 0, w2c_l2 = 0;
   FUNC_PROLOGUE;
   u32 w2c_i0, w2c_i1;
@@ -11255,7 +11254,7 @@ static void w2c_f29(Z_hayro_jbig2_instance_t* instance, u64 w2c_p0) {
   w2c_j2 = w2c_l2;
   w2c_j3 = 2ull;
   w2c_j2 <<= (w2c_j3 & 63);
-  (*Z_heapZ_jbig2_c_give_back)(instance->Z_heap_instance, w2c_j0, w2c_j1, w2c_j2);
+  (*Z_heapZ_jbig2_c_give_back)((struct Z_heap_instance_t*)instance, w2c_j0, w2c_j1, w2c_j2);
   w2c_B1:;
   w2c_j0 = w2c_l1;
   instance->w2c_g0 = w2c_j0;
@@ -11266,7 +11265,7 @@ static void w2c_f29(Z_hayro_jbig2_instance_t* instance, u64 w2c_p0) {
   FUNC_EPILOGUE;
 }
 
-static void w2c_f30(Z_hayro_jbig2_instance_t* instance, u64 w2c_p0, u64 w2c_p1, u64 w2c_p2, u32 w2c_p3) {
+static void w2c_f30(Z_hayro_jbig2_instance_t* RESTRICT instance, u64 w2c_p0, u64 w2c_p1, u64 w2c_p2, u32 w2c_p3) {
   u32 w2c_l15 = 0, w2c_l16 = 0, w2c_l17 = 0, w2c_l18 = 0, w2c_l19 = 0, w2c_l20 = 0, w2c_l21 = 0, w2c_l22 = 0;
   u64 w2c_l4 = 0, w2c_l5 = 0, w2c_l6 = 0, w2c_l7 = 0, w2c_l8 = 0, w2c_l9 = 0, w2c_l10 = 0, w2c_l11 = 0, 
       w2c_l12 = 0, w2c_l13 = 0, w2c_l14 = 0;
@@ -11987,7 +11986,7 @@ static void w2c_f30(Z_hayro_jbig2_instance_t* instance, u64 w2c_p0, u64 w2c_p1, 
   w2c_j2 = w2c_p2;
   w2c_j3 = 2ull;
   w2c_j2 <<= (w2c_j3 & 63);
-  (*Z_heapZ_jbig2_c_give_back)(instance->Z_heap_instance, w2c_j0, w2c_j1, w2c_j2);
+  (*Z_heapZ_jbig2_c_give_back)((struct Z_heap_instance_t*)instance, w2c_j0, w2c_j1, w2c_j2);
   w2c_B41:;
   w2c_i0 = 9u;
   w2c_l19 = w2c_i0;
@@ -12101,7 +12100,7 @@ static void w2c_f30(Z_hayro_jbig2_instance_t* instance, u64 w2c_p0, u64 w2c_p1, 
   w2c_j2 = w2c_l10;
   w2c_j3 = 2ull;
   w2c_j2 <<= (w2c_j3 & 63);
-  (*Z_heapZ_jbig2_c_give_back)(instance->Z_heap_instance, w2c_j0, w2c_j1, w2c_j2);
+  (*Z_heapZ_jbig2_c_give_back)((struct Z_heap_instance_t*)instance, w2c_j0, w2c_j1, w2c_j2);
   w2c_B44:;
   w2c_i0 = 2u;
   w2c_l20 = w2c_i0;
@@ -12181,7 +12180,7 @@ static void w2c_f30(Z_hayro_jbig2_instance_t* instance, u64 w2c_p0, u64 w2c_p1, 
   w2c_j2 = w2c_l10;
   w2c_j3 = 2ull;
   w2c_j2 <<= (w2c_j3 & 63);
-  (*Z_heapZ_jbig2_c_give_back)(instance->Z_heap_instance, w2c_j0, w2c_j1, w2c_j2);
+  (*Z_heapZ_jbig2_c_give_back)((struct Z_heap_instance_t*)instance, w2c_j0, w2c_j1, w2c_j2);
   w2c_B48:;
   w2c_j0 = w2c_p0;
   w2c_i0 = (u32)(w2c_j0);
@@ -12621,7 +12620,7 @@ static void w2c_f30(Z_hayro_jbig2_instance_t* instance, u64 w2c_p0, u64 w2c_p1, 
   FUNC_EPILOGUE;
 }
 
-static void w2c_f31(Z_hayro_jbig2_instance_t* instance, u64 w2c_p0, u64 w2c_p1, u64 w2c_p2) {
+static void w2c_f31(Z_hayro_jbig2_instance_t* RESTRICT instance, u64 w2c_p0, u64 w2c_p1, u64 w2c_p2) {
   u32 w2c_l14 = 0, w2c_l15 = 0, w2c_l16 = 0, w2c_l17 = 0, w2c_l18 = 0, w2c_l19 = 0;
   u64 w2c_l3 = 0, w2c_l4 = 0, w2c_l5 = 0, w2c_l6 = 0, w2c_l7 = 0, w2c_l8 = 0, w2c_l9 = 0, w2c_l10 = 0, 
       w2c_l11 = 0, w2c_l12 = 0, w2c_l13 = 0;
@@ -13059,7 +13058,7 @@ static void w2c_f31(Z_hayro_jbig2_instance_t* instance, u64 w2c_p0, u64 w2c_p1, 
   w2c_j2 = w2c_l5;
   w2c_j3 = 2ull;
   w2c_j2 <<= (w2c_j3 & 63);
-  (*Z_heapZ_jbig2_c_give_back)(instance->Z_heap_instance, w2c_j0, w2c_j1, w2c_j2);
+  (*Z_heapZ_jbig2_c_give_back)((struct Z_heap_instance_t*)instance, w2c_j0, w2c_j1, w2c_j2);
   w2c_B18:;
   w2c_j0 = w2c_p0;
   w2c_i0 = (u32)(w2c_j0);
@@ -13093,7 +13092,7 @@ static void w2c_f31(Z_hayro_jbig2_instance_t* instance, u64 w2c_p0, u64 w2c_p1, 
   FUNC_EPILOGUE;
 }
 
-static u32 w2c_f32(Z_hayro_jbig2_instance_t* instance, u64 w2c_p0) {
+static u32 w2c_f32(Z_hayro_jbig2_instance_t* RESTRICT instance, u64 w2c_p0) {
   u32 w2c_l12 = 0;
   u64 w2c_l1 = 0, w2c_l2 = 0, w2c_l3 = 0, w2c_l4 = 0, w2c_l5 = 0, w2c_l6 = 0, w2c_l7 = 0, w2c_l8 = 0, 
       w2c_l9 = 0, w2c_l10 = 0, w2c_l11 = 0;
@@ -13179,7 +13178,7 @@ static u32 w2c_f32(Z_hayro_jbig2_instance_t* instance, u64 w2c_p0) {
   w2c_j1 = i64_load(&instance->w2c_memory, (u64)(w2c_i1));
   w2c_j2 = w2c_l3;
   w2c_j3 = 8ull;
-  (*Z_heapZ_jbig2_c_take)(instance->Z_heap_instance, w2c_j0, w2c_j1, w2c_j2, w2c_j3);
+  (*Z_heapZ_jbig2_c_take)((struct Z_heap_instance_t*)instance, w2c_j0, w2c_j1, w2c_j2, w2c_j3);
   w2c_j0 = w2c_l1;
   w2c_i0 = (u32)(w2c_j0);
   w2c_i0 = i32_load8_u(&instance->w2c_memory, (u64)(w2c_i0));
@@ -13339,7 +13338,7 @@ static u32 w2c_f32(Z_hayro_jbig2_instance_t* instance, u64 w2c_p0) {
   w2c_j2 = w2c_l4;
   w2c_j3 = 72ull;
   w2c_j2 *= w2c_j3;
-  (*Z_heapZ_jbig2_c_give_back)(instance->Z_heap_instance, w2c_j0, w2c_j1, w2c_j2);
+  (*Z_heapZ_jbig2_c_give_back)((struct Z_heap_instance_t*)instance, w2c_j0, w2c_j1, w2c_j2);
   goto w2c_B2;
   w2c_B3:;
   w2c_j0 = w2c_l1;
@@ -13358,7 +13357,7 @@ static u32 w2c_f32(Z_hayro_jbig2_instance_t* instance, u64 w2c_p0) {
   w2c_j1 = i64_load(&instance->w2c_memory, (u64)(w2c_i1));
   w2c_j2 = w2c_l3;
   w2c_j3 = 8ull;
-  (*Z_heapZ_jbig2_c_take)(instance->Z_heap_instance, w2c_j0, w2c_j1, w2c_j2, w2c_j3);
+  (*Z_heapZ_jbig2_c_take)((struct Z_heap_instance_t*)instance, w2c_j0, w2c_j1, w2c_j2, w2c_j3);
   w2c_j0 = w2c_l1;
   w2c_i0 = (u32)(w2c_j0);
   w2c_i0 = i32_load8_u(&instance->w2c_memory, (u64)(w2c_i0));
@@ -13397,7 +13396,7 @@ static u32 w2c_f32(Z_hayro_jbig2_instance_t* instance, u64 w2c_p0) {
   return w2c_i0;
 }
 
-static u32 w2c_f33(Z_hayro_jbig2_instance_t* instance, u64 w2c_p0, u64 w2c_p1) {
+static u32 w2c_f33(Z_hayro_jbig2_instance_t* RESTRICT instance, u64 w2c_p0, u64 w2c_p1) {
   u32 w2c_l5 = 0;
   u64 w2c_l2 = 0, w2c_l3 = 0, w2c_l4 = 0;
   FUNC_PROLOGUE;
@@ -13464,7 +13463,7 @@ static u32 w2c_f33(Z_hayro_jbig2_instance_t* instance, u64 w2c_p0, u64 w2c_p1) {
   return w2c_i0;
 }
 
-static u32 w2c_f34(Z_hayro_jbig2_instance_t* instance, u64 w2c_p0, u64 w2c_p1) {
+static u32 w2c_f34(Z_hayro_jbig2_instance_t* RESTRICT instance, u64 w2c_p0, u64 w2c_p1) {
   u32 w2c_l12 = 0;
   u64 w2c_l2 = 0, w2c_l3 = 0, w2c_l4 = 0, w2c_l5 = 0, w2c_l6 = 0, w2c_l7 = 0, w2c_l8 = 0, w2c_l9 = 0, 
       w2c_l10 = 0, w2c_l11 = 0;
@@ -13525,7 +13524,7 @@ static u32 w2c_f34(Z_hayro_jbig2_instance_t* instance, u64 w2c_p0, u64 w2c_p1) {
   w2c_j1 = i64_load(&instance->w2c_memory, (u64)(w2c_i1));
   w2c_j2 = w2c_l3;
   w2c_j3 = 4ull;
-  (*Z_heapZ_jbig2_c_take)(instance->Z_heap_instance, w2c_j0, w2c_j1, w2c_j2, w2c_j3);
+  (*Z_heapZ_jbig2_c_take)((struct Z_heap_instance_t*)instance, w2c_j0, w2c_j1, w2c_j2, w2c_j3);
   w2c_j0 = w2c_l2;
   w2c_i0 = (u32)(w2c_j0);
   w2c_i0 = i32_load8_u(&instance->w2c_memory, (u64)(w2c_i0));
@@ -13680,7 +13679,7 @@ static u32 w2c_f34(Z_hayro_jbig2_instance_t* instance, u64 w2c_p0, u64 w2c_p1) {
   w2c_j2 = w2c_l4;
   w2c_j3 = 2ull;
   w2c_j2 <<= (w2c_j3 & 63);
-  (*Z_heapZ_jbig2_c_give_back)(instance->Z_heap_instance, w2c_j0, w2c_j1, w2c_j2);
+  (*Z_heapZ_jbig2_c_give_back)((struct Z_heap_instance_t*)instance, w2c_j0, w2c_j1, w2c_j2);
   goto w2c_B2;
   w2c_B3:;
   w2c_j0 = w2c_l2;
@@ -13699,7 +13698,7 @@ static u32 w2c_f34(Z_hayro_jbig2_instance_t* instance, u64 w2c_p0, u64 w2c_p1) {
   w2c_j1 = i64_load(&instance->w2c_memory, (u64)(w2c_i1));
   w2c_j2 = w2c_l3;
   w2c_j3 = 4ull;
-  (*Z_heapZ_jbig2_c_take)(instance->Z_heap_instance, w2c_j0, w2c_j1, w2c_j2, w2c_j3);
+  (*Z_heapZ_jbig2_c_take)((struct Z_heap_instance_t*)instance, w2c_j0, w2c_j1, w2c_j2, w2c_j3);
   w2c_j0 = w2c_l2;
   w2c_i0 = (u32)(w2c_j0);
   w2c_i0 = i32_load8_u(&instance->w2c_memory, (u64)(w2c_i0));
@@ -13738,7 +13737,7 @@ static u32 w2c_f34(Z_hayro_jbig2_instance_t* instance, u64 w2c_p0, u64 w2c_p1) {
   return w2c_i0;
 }
 
-static void w2c_f35(Z_hayro_jbig2_instance_t* instance, u64 w2c_p0, u64 w2c_p1, u64 w2c_p2) {
+static void w2c_f35(Z_hayro_jbig2_instance_t* RESTRICT instance, u64 w2c_p0, u64 w2c_p1, u64 w2c_p2) {
   u64 w2c_l3 = 0;
   FUNC_PROLOGUE;
   u32 w2c_i0, w2c_i1, w2c_i2;
@@ -13806,7 +13805,7 @@ static void w2c_f35(Z_hayro_jbig2_instance_t* instance, u64 w2c_p0, u64 w2c_p1, 
   FUNC_EPILOGUE;
 }
 
-static void w2c_f36(Z_hayro_jbig2_instance_t* instance, u64 w2c_p0, u64 w2c_p1, u64 w2c_p2, u32 w2c_p3, u64 w2c_p4) {
+static void w2c_f36(Z_hayro_jbig2_instance_t* RESTRICT instance, u64 w2c_p0, u64 w2c_p1, u64 w2c_p2, u32 w2c_p3, u64 w2c_p4) {
   u32 w2c_l18 = 0, w2c_l19 = 0, w2c_l20 = 0, w2c_l21 = 0;
   u64 w2c_l5 = 0, w2c_l6 = 0, w2c_l7 = 0, w2c_l8 = 0, w2c_l9 = 0, w2c_l10 = 0, w2c_l11 = 0, w2c_l12 = 0, 
       w2c_l13 = 0, w2c_l14 = 0, w2c_l15 = 0, w2c_l16 = 0, w2c_l17 = 0;
@@ -14957,7 +14956,7 @@ static void w2c_f36(Z_hayro_jbig2_instance_t* instance, u64 w2c_p0, u64 w2c_p1, 
   FUNC_EPILOGUE;
 }
 
-static void w2c_f37(Z_hayro_jbig2_instance_t* instance, u64 w2c_p0, u64 w2c_p1, u64 w2c_p2, u64 w2c_p3, u64 w2c_p4, u32 w2c_p5, u32 w2c_p6, u64 w2c_p7, 
+static void w2c_f37(Z_hayro_jbig2_instance_t* RESTRICT instance, u64 w2c_p0, u64 w2c_p1, u64 w2c_p2, u64 w2c_p3, u64 w2c_p4, u32 w2c_p5, u32 w2c_p6, u64 w2c_p7, 
     u64 w2c_p8, u64 w2c_p9) {
   u32 w2c_l17 = 0, w2c_l18 = 0, w2c_l19 = 0, w2c_l20 = 0;
   u64 w2c_l10 = 0, w2c_l11 = 0, w2c_l12 = 0, w2c_l13 = 0, w2c_l14 = 0, w2c_l15 = 0, w2c_l16 = 0;
@@ -15555,7 +15554,7 @@ static void w2c_f37(Z_hayro_jbig2_instance_t* instance, u64 w2c_p0, u64 w2c_p1, 
   FUNC_EPILOGUE;
 }
 
-static void w2c_f38(Z_hayro_jbig2_instance_t* instance, u64 w2c_p0, u64 w2c_p1, u64 w2c_p2) {
+static void w2c_f38(Z_hayro_jbig2_instance_t* RESTRICT instance, u64 w2c_p0, u64 w2c_p1, u64 w2c_p2) {
   u64 w2c_l3 = 0, w2c_l4 = 0;
   FUNC_PROLOGUE;
   u32 w2c_i0;
@@ -15608,7 +15607,7 @@ static void w2c_f38(Z_hayro_jbig2_instance_t* instance, u64 w2c_p0, u64 w2c_p1, 
   FUNC_EPILOGUE;
 }
 
-static u64 w2c_f39(Z_hayro_jbig2_instance_t* instance, u64 w2c_p0, u64 w2c_p1, u64 w2c_p2, u64 w2c_p3, u64 w2c_p4) {
+static u64 w2c_f39(Z_hayro_jbig2_instance_t* RESTRICT instance, u64 w2c_p0, u64 w2c_p1, u64 w2c_p2, u64 w2c_p3, u64 w2c_p4) {
   u32 w2c_l8 = 0, w2c_l9 = 0, w2c_l10 = 0, w2c_l11 = 0;
   u64 w2c_l5 = 0, w2c_l6 = 0, w2c_l7 = 0;
   FUNC_PROLOGUE;
@@ -15763,7 +15762,7 @@ static u64 w2c_f39(Z_hayro_jbig2_instance_t* instance, u64 w2c_p0, u64 w2c_p1, u
   return w2c_j0;
 }
 
-static void w2c_f40(Z_hayro_jbig2_instance_t* instance, u64 w2c_p0, u64 w2c_p1, u64 w2c_p2) {
+static void w2c_f40(Z_hayro_jbig2_instance_t* RESTRICT instance, u64 w2c_p0, u64 w2c_p1, u64 w2c_p2) {
   u32 w2c_l14 = 0, w2c_l15 = 0, w2c_l16 = 0, w2c_l17 = 0, w2c_l18 = 0, w2c_l19 = 0;
   u64 w2c_l3 = 0, w2c_l4 = 0, w2c_l5 = 0, w2c_l6 = 0, w2c_l7 = 0, w2c_l8 = 0, w2c_l9 = 0, w2c_l10 = 0, 
       w2c_l11 = 0, w2c_l12 = 0, w2c_l13 = 0;
@@ -16322,7 +16321,7 @@ static void w2c_f40(Z_hayro_jbig2_instance_t* instance, u64 w2c_p0, u64 w2c_p1, 
   FUNC_EPILOGUE;
 }
 
-static void w2c_f41(Z_hayro_jbig2_instance_t* instance, u64 w2c_p0, u64 w2c_p1, u64 w2c_p2) {
+static void w2c_f41(Z_hayro_jbig2_instance_t* RESTRICT instance, u64 w2c_p0, u64 w2c_p1, u64 w2c_p2) {
   u32 w2c_l32 = 0, w2c_l33 = 0, w2c_l34 = 0, w2c_l35 = 0, w2c_l36 = 0, w2c_l37 = 0, w2c_l38 = 0, w2c_l39 = 0, 
       w2c_l40 = 0, w2c_l41 = 0, w2c_l42 = 0;
   u64 w2c_l3 = 0, w2c_l4 = 0, w2c_l5 = 0, w2c_l6 = 0, w2c_l7 = 0, w2c_l8 = 0, w2c_l9 = 0, w2c_l10 = 0, 
@@ -17484,7 +17483,7 @@ static void w2c_f41(Z_hayro_jbig2_instance_t* instance, u64 w2c_p0, u64 w2c_p1, 
   FUNC_EPILOGUE;
 }
 
-static void w2c_f42(Z_hayro_jbig2_instance_t* instance, u64 w2c_p0, u64 w2c_p1, u64 w2c_p2, u64 w2c_p3) {
+static void w2c_f42(Z_hayro_jbig2_instance_t* RESTRICT instance, u64 w2c_p0, u64 w2c_p1, u64 w2c_p2, u64 w2c_p3) {
   u32 w2c_l17 = 0, w2c_l18 = 0, w2c_l19 = 0;
   u64 w2c_l4 = 0, w2c_l5 = 0, w2c_l6 = 0, w2c_l7 = 0, w2c_l8 = 0, w2c_l9 = 0, w2c_l10 = 0, w2c_l11 = 0, 
       w2c_l12 = 0, w2c_l13 = 0, w2c_l14 = 0, w2c_l15 = 0, w2c_l16 = 0;
@@ -18824,7 +18823,7 @@ static void w2c_f42(Z_hayro_jbig2_instance_t* instance, u64 w2c_p0, u64 w2c_p1, 
   FUNC_EPILOGUE;
 }
 
-static void w2c_f43(Z_hayro_jbig2_instance_t* instance, u64 w2c_p0) {
+static void w2c_f43(Z_hayro_jbig2_instance_t* RESTRICT instance, u64 w2c_p0) {
   u64 w2c_l1 = 0, w2c_l2 = 0, w2c_l3 = 0, w2c_l4 = 0, w2c_l5 = 0, w2c_l6 = 0;
   FUNC_PROLOGUE;
   u32 w2c_i0, w2c_i1;
@@ -18876,7 +18875,7 @@ static void w2c_f43(Z_hayro_jbig2_instance_t* instance, u64 w2c_p0) {
     w2c_j2 = w2c_l6;
     w2c_j3 = 2ull;
     w2c_j2 <<= (w2c_j3 & 63);
-    (*Z_heapZ_jbig2_c_give_back)(instance->Z_heap_instance, w2c_j0, w2c_j1, w2c_j2);
+    (*Z_heapZ_jbig2_c_give_back)((struct Z_heap_instance_t*)instance, w2c_j0, w2c_j1, w2c_j2);
     w2c_B3:;
     w2c_j0 = w2c_p0;
     w2c_j1 = 72ull;
@@ -18898,7 +18897,7 @@ static void w2c_f43(Z_hayro_jbig2_instance_t* instance, u64 w2c_p0) {
   w2c_j2 = w2c_l3;
   w2c_j3 = 72ull;
   w2c_j2 *= w2c_j3;
-  (*Z_heapZ_jbig2_c_give_back)(instance->Z_heap_instance, w2c_j0, w2c_j1, w2c_j2);
+  (*Z_heapZ_jbig2_c_give_back)((struct Z_heap_instance_t*)instance, w2c_j0, w2c_j1, w2c_j2);
   w2c_B4:;
   w2c_j0 = w2c_l1;
   instance->w2c_g0 = w2c_j0;
@@ -18909,7 +18908,7 @@ static void w2c_f43(Z_hayro_jbig2_instance_t* instance, u64 w2c_p0) {
   FUNC_EPILOGUE;
 }
 
-static void w2c_f44(Z_hayro_jbig2_instance_t* instance, u64 w2c_p0, u64 w2c_p1, u64 w2c_p2) {
+static void w2c_f44(Z_hayro_jbig2_instance_t* RESTRICT instance, u64 w2c_p0, u64 w2c_p1, u64 w2c_p2) {
   u32 w2c_l9 = 0, w2c_l10 = 0, w2c_l11 = 0, w2c_l12 = 0, w2c_l13 = 0, w2c_l14 = 0, w2c_l15 = 0;
   u64 w2c_l3 = 0, w2c_l4 = 0, w2c_l5 = 0, w2c_l6 = 0, w2c_l7 = 0, w2c_l8 = 0;
   FUNC_PROLOGUE;
@@ -19516,7 +19515,7 @@ static void w2c_f44(Z_hayro_jbig2_instance_t* instance, u64 w2c_p0, u64 w2c_p1, 
   FUNC_EPILOGUE;
 }
 
-static void w2c_f45(Z_hayro_jbig2_instance_t* instance, u64 w2c_p0, u64 w2c_p1, u64 w2c_p2, u64 w2c_p3) {
+static void w2c_f45(Z_hayro_jbig2_instance_t* RESTRICT instance, u64 w2c_p0, u64 w2c_p1, u64 w2c_p2, u64 w2c_p3) {
   u32 w2c_l6 = 0, w2c_l7 = 0;
   u64 w2c_l4 = 0, w2c_l5 = 0;
   FUNC_PROLOGUE;
@@ -19794,7 +19793,7 @@ static void w2c_f45(Z_hayro_jbig2_instance_t* instance, u64 w2c_p0, u64 w2c_p1, 
   FUNC_EPILOGUE;
 }
 
-static void w2c_f46(Z_hayro_jbig2_instance_t* instance, u64 w2c_p0, u64 w2c_p1, u64 w2c_p2, u64 w2c_p3, u64 w2c_p4) {
+static void w2c_f46(Z_hayro_jbig2_instance_t* RESTRICT instance, u64 w2c_p0, u64 w2c_p1, u64 w2c_p2, u64 w2c_p3, u64 w2c_p4) {
   u32 w2c_l20 = 0, w2c_l21 = 0, w2c_l22 = 0, w2c_l23 = 0, w2c_l24 = 0;
   u64 w2c_l5 = 0, w2c_l6 = 0, w2c_l7 = 0, w2c_l8 = 0, w2c_l9 = 0, w2c_l10 = 0, w2c_l11 = 0, w2c_l12 = 0, 
       w2c_l13 = 0, w2c_l14 = 0, w2c_l15 = 0, w2c_l16 = 0, w2c_l17 = 0, w2c_l18 = 0, w2c_l19 = 0;
@@ -20009,7 +20008,7 @@ static void w2c_f46(Z_hayro_jbig2_instance_t* instance, u64 w2c_p0, u64 w2c_p1, 
     w2c_j2 = w2c_l8;
     w2c_j3 = 3ull;
     w2c_j2 <<= (w2c_j3 & 63);
-    (*Z_heapZ_jbig2_c_give_back)(instance->Z_heap_instance, w2c_j0, w2c_j1, w2c_j2);
+    (*Z_heapZ_jbig2_c_give_back)((struct Z_heap_instance_t*)instance, w2c_j0, w2c_j1, w2c_j2);
     w2c_B12:;
     w2c_j0 = w2c_l5;
     w2c_j1 = 72ull;
@@ -20257,7 +20256,7 @@ static void w2c_f46(Z_hayro_jbig2_instance_t* instance, u64 w2c_p0, u64 w2c_p1, 
     w2c_j2 = w2c_l14;
     w2c_j3 = 4ull;
     w2c_j2 <<= (w2c_j3 & 63);
-    (*Z_heapZ_jbig2_c_give_back)(instance->Z_heap_instance, w2c_j0, w2c_j1, w2c_j2);
+    (*Z_heapZ_jbig2_c_give_back)((struct Z_heap_instance_t*)instance, w2c_j0, w2c_j1, w2c_j2);
     w2c_B17:;
     w2c_j0 = w2c_l8;
     w2c_i0 = !(w2c_j0);
@@ -20267,7 +20266,7 @@ static void w2c_f46(Z_hayro_jbig2_instance_t* instance, u64 w2c_p0, u64 w2c_p1, 
     w2c_j2 = w2c_l8;
     w2c_j3 = 24ull;
     w2c_j2 *= w2c_j3;
-    (*Z_heapZ_jbig2_c_give_back)(instance->Z_heap_instance, w2c_j0, w2c_j1, w2c_j2);
+    (*Z_heapZ_jbig2_c_give_back)((struct Z_heap_instance_t*)instance, w2c_j0, w2c_j1, w2c_j2);
     w2c_B18:;
     w2c_j0 = w2c_l7;
     w2c_j1 = 1104ull;
@@ -20378,7 +20377,7 @@ static void w2c_f46(Z_hayro_jbig2_instance_t* instance, u64 w2c_p0, u64 w2c_p1, 
       w2c_j2 = w2c_l8;
       w2c_j3 = 3ull;
       w2c_j2 <<= (w2c_j3 & 63);
-      (*Z_heapZ_jbig2_c_give_back)(instance->Z_heap_instance, w2c_j0, w2c_j1, w2c_j2);
+      (*Z_heapZ_jbig2_c_give_back)((struct Z_heap_instance_t*)instance, w2c_j0, w2c_j1, w2c_j2);
       w2c_B23:;
       w2c_j0 = w2c_l5;
       w2c_j1 = 48ull;
@@ -20400,7 +20399,7 @@ static void w2c_f46(Z_hayro_jbig2_instance_t* instance, u64 w2c_p0, u64 w2c_p1, 
     w2c_j2 = w2c_l10;
     w2c_j3 = 48ull;
     w2c_j2 *= w2c_j3;
-    (*Z_heapZ_jbig2_c_give_back)(instance->Z_heap_instance, w2c_j0, w2c_j1, w2c_j2);
+    (*Z_heapZ_jbig2_c_give_back)((struct Z_heap_instance_t*)instance, w2c_j0, w2c_j1, w2c_j2);
     w2c_B24:;
     w2c_j0 = w2c_l9;
     w2c_j1 = 1ull;
@@ -21135,7 +21134,7 @@ static void w2c_f46(Z_hayro_jbig2_instance_t* instance, u64 w2c_p0, u64 w2c_p1, 
   FUNC_EPILOGUE;
 }
 
-static void w2c_f47(Z_hayro_jbig2_instance_t* instance, u64 w2c_p0, u64 w2c_p1, u32 w2c_p2, u32 w2c_p3, u32 w2c_p4) {
+static void w2c_f47(Z_hayro_jbig2_instance_t* RESTRICT instance, u64 w2c_p0, u64 w2c_p1, u32 w2c_p2, u32 w2c_p3, u32 w2c_p4) {
   u64 w2c_l5 = 0, w2c_l6 = 0, w2c_l7 = 0, w2c_l8 = 0, w2c_l9 = 0, w2c_l10 = 0, w2c_l11 = 0, w2c_l12 = 0;
   FUNC_PROLOGUE;
   u32 w2c_i0, w2c_i1, w2c_i2, w2c_i3;
@@ -21454,7 +21453,7 @@ static void w2c_f47(Z_hayro_jbig2_instance_t* instance, u64 w2c_p0, u64 w2c_p1, 
   FUNC_EPILOGUE;
 }
 
-static void w2c_f48(Z_hayro_jbig2_instance_t* instance, u64 w2c_p0, u64 w2c_p1, u32 w2c_p2, u64 w2c_p3, u64 w2c_p4, u64 w2c_p5) {
+static void w2c_f48(Z_hayro_jbig2_instance_t* RESTRICT instance, u64 w2c_p0, u64 w2c_p1, u32 w2c_p2, u64 w2c_p3, u64 w2c_p4, u64 w2c_p5) {
   u32 w2c_l17 = 0, w2c_l18 = 0, w2c_l19 = 0, w2c_l20 = 0, w2c_l21 = 0, w2c_l22 = 0, w2c_l23 = 0;
   u64 w2c_l6 = 0, w2c_l7 = 0, w2c_l8 = 0, w2c_l9 = 0, w2c_l10 = 0, w2c_l11 = 0, w2c_l12 = 0, w2c_l13 = 0, 
       w2c_l14 = 0, w2c_l15 = 0, w2c_l16 = 0;
@@ -21870,7 +21869,7 @@ static void w2c_f48(Z_hayro_jbig2_instance_t* instance, u64 w2c_p0, u64 w2c_p1, 
   w2c_j2 = w2c_l7;
   w2c_j3 = 3ull;
   w2c_j2 <<= (w2c_j3 & 63);
-  (*Z_heapZ_jbig2_c_give_back)(instance->Z_heap_instance, w2c_j0, w2c_j1, w2c_j2);
+  (*Z_heapZ_jbig2_c_give_back)((struct Z_heap_instance_t*)instance, w2c_j0, w2c_j1, w2c_j2);
   goto w2c_B5;
   w2c_B9:;
   w2c_j0 = w2c_l6;
@@ -21988,7 +21987,7 @@ static void w2c_f48(Z_hayro_jbig2_instance_t* instance, u64 w2c_p0, u64 w2c_p1, 
   w2c_j2 = w2c_l7;
   w2c_j3 = 3ull;
   w2c_j2 <<= (w2c_j3 & 63);
-  (*Z_heapZ_jbig2_c_give_back)(instance->Z_heap_instance, w2c_j0, w2c_j1, w2c_j2);
+  (*Z_heapZ_jbig2_c_give_back)((struct Z_heap_instance_t*)instance, w2c_j0, w2c_j1, w2c_j2);
   goto w2c_B5;
   w2c_B10:;
   w2c_j0 = w2c_l6;
@@ -22351,7 +22350,7 @@ static void w2c_f48(Z_hayro_jbig2_instance_t* instance, u64 w2c_p0, u64 w2c_p1, 
     w2c_j2 = w2c_l8;
     w2c_j3 = 3ull;
     w2c_j2 <<= (w2c_j3 & 63);
-    (*Z_heapZ_jbig2_c_give_back)(instance->Z_heap_instance, w2c_j0, w2c_j1, w2c_j2);
+    (*Z_heapZ_jbig2_c_give_back)((struct Z_heap_instance_t*)instance, w2c_j0, w2c_j1, w2c_j2);
     w2c_B20:;
     w2c_j0 = w2c_p5;
     w2c_j1 = 48ull;
@@ -22373,7 +22372,7 @@ static void w2c_f48(Z_hayro_jbig2_instance_t* instance, u64 w2c_p0, u64 w2c_p1, 
   w2c_j2 = w2c_l11;
   w2c_j3 = 48ull;
   w2c_j2 *= w2c_j3;
-  (*Z_heapZ_jbig2_c_give_back)(instance->Z_heap_instance, w2c_j0, w2c_j1, w2c_j2);
+  (*Z_heapZ_jbig2_c_give_back)((struct Z_heap_instance_t*)instance, w2c_j0, w2c_j1, w2c_j2);
   goto w2c_B11;
   w2c_B12:;
   w2c_j0 = w2c_l10;
@@ -22384,7 +22383,7 @@ static void w2c_f48(Z_hayro_jbig2_instance_t* instance, u64 w2c_p0, u64 w2c_p1, 
   w2c_j2 = w2c_l10;
   w2c_j3 = 3ull;
   w2c_j2 <<= (w2c_j3 & 63);
-  (*Z_heapZ_jbig2_c_give_back)(instance->Z_heap_instance, w2c_j0, w2c_j1, w2c_j2);
+  (*Z_heapZ_jbig2_c_give_back)((struct Z_heap_instance_t*)instance, w2c_j0, w2c_j1, w2c_j2);
   w2c_B21:;
   w2c_j0 = w2c_l6;
   w2c_i0 = (u32)(w2c_j0);
@@ -22428,7 +22427,7 @@ static void w2c_f48(Z_hayro_jbig2_instance_t* instance, u64 w2c_p0, u64 w2c_p1, 
     w2c_j2 = w2c_l8;
     w2c_j3 = 3ull;
     w2c_j2 <<= (w2c_j3 & 63);
-    (*Z_heapZ_jbig2_c_give_back)(instance->Z_heap_instance, w2c_j0, w2c_j1, w2c_j2);
+    (*Z_heapZ_jbig2_c_give_back)((struct Z_heap_instance_t*)instance, w2c_j0, w2c_j1, w2c_j2);
     w2c_B24:;
     w2c_j0 = w2c_l7;
     w2c_j1 = 48ull;
@@ -22454,7 +22453,7 @@ static void w2c_f48(Z_hayro_jbig2_instance_t* instance, u64 w2c_p0, u64 w2c_p1, 
   w2c_j2 = w2c_l9;
   w2c_j3 = 48ull;
   w2c_j2 *= w2c_j3;
-  (*Z_heapZ_jbig2_c_give_back)(instance->Z_heap_instance, w2c_j0, w2c_j1, w2c_j2);
+  (*Z_heapZ_jbig2_c_give_back)((struct Z_heap_instance_t*)instance, w2c_j0, w2c_j1, w2c_j2);
   w2c_B11:;
   w2c_j0 = w2c_l6;
   w2c_i0 = (u32)(w2c_j0);
@@ -22471,7 +22470,7 @@ static void w2c_f48(Z_hayro_jbig2_instance_t* instance, u64 w2c_p0, u64 w2c_p1, 
   w2c_j2 = w2c_l7;
   w2c_j3 = 3ull;
   w2c_j2 <<= (w2c_j3 & 63);
-  (*Z_heapZ_jbig2_c_give_back)(instance->Z_heap_instance, w2c_j0, w2c_j1, w2c_j2);
+  (*Z_heapZ_jbig2_c_give_back)((struct Z_heap_instance_t*)instance, w2c_j0, w2c_j1, w2c_j2);
   w2c_i0 = 0u;
   w2c_l18 = w2c_i0;
   w2c_j0 = 0ull;
@@ -22497,7 +22496,7 @@ static void w2c_f48(Z_hayro_jbig2_instance_t* instance, u64 w2c_p0, u64 w2c_p1, 
   w2c_j2 = w2c_l12;
   w2c_j3 = 3ull;
   w2c_j2 <<= (w2c_j3 & 63);
-  (*Z_heapZ_jbig2_c_give_back)(instance->Z_heap_instance, w2c_j0, w2c_j1, w2c_j2);
+  (*Z_heapZ_jbig2_c_give_back)((struct Z_heap_instance_t*)instance, w2c_j0, w2c_j1, w2c_j2);
   w2c_i0 = 0u;
   w2c_l17 = w2c_i0;
   goto w2c_B3;
@@ -22648,7 +22647,7 @@ static void w2c_f48(Z_hayro_jbig2_instance_t* instance, u64 w2c_p0, u64 w2c_p1, 
     w2c_j2 = w2c_p4;
     w2c_j3 = 3ull;
     w2c_j2 <<= (w2c_j3 & 63);
-    (*Z_heapZ_jbig2_c_give_back)(instance->Z_heap_instance, w2c_j0, w2c_j1, w2c_j2);
+    (*Z_heapZ_jbig2_c_give_back)((struct Z_heap_instance_t*)instance, w2c_j0, w2c_j1, w2c_j2);
     w2c_B31:;
     w2c_j0 = w2c_p3;
     w2c_j1 = 48ull;
@@ -22674,7 +22673,7 @@ static void w2c_f48(Z_hayro_jbig2_instance_t* instance, u64 w2c_p0, u64 w2c_p1, 
   w2c_j2 = w2c_l8;
   w2c_j3 = 48ull;
   w2c_j2 *= w2c_j3;
-  (*Z_heapZ_jbig2_c_give_back)(instance->Z_heap_instance, w2c_j0, w2c_j1, w2c_j2);
+  (*Z_heapZ_jbig2_c_give_back)((struct Z_heap_instance_t*)instance, w2c_j0, w2c_j1, w2c_j2);
   w2c_B26:;
   w2c_j0 = w2c_p0;
   w2c_i0 = (u32)(w2c_j0);
@@ -22721,7 +22720,7 @@ static void w2c_f48(Z_hayro_jbig2_instance_t* instance, u64 w2c_p0, u64 w2c_p1, 
   FUNC_EPILOGUE;
 }
 
-static void w2c_f49(Z_hayro_jbig2_instance_t* instance, u64 w2c_p0, u64 w2c_p1, u64 w2c_p2, u64 w2c_p3) {
+static void w2c_f49(Z_hayro_jbig2_instance_t* RESTRICT instance, u64 w2c_p0, u64 w2c_p1, u64 w2c_p2, u64 w2c_p3) {
   u32 w2c_l22 = 0, w2c_l23 = 0, w2c_l24 = 0, w2c_l25 = 0, w2c_l26 = 0, w2c_l27 = 0, w2c_l28 = 0, w2c_l29 = 0, 
       w2c_l30 = 0, w2c_l31 = 0;
   u64 w2c_l4 = 0, w2c_l5 = 0, w2c_l6 = 0, w2c_l7 = 0, w2c_l8 = 0, w2c_l9 = 0, w2c_l10 = 0, w2c_l11 = 0, 
@@ -24241,7 +24240,7 @@ static void w2c_f49(Z_hayro_jbig2_instance_t* instance, u64 w2c_p0, u64 w2c_p1, 
   w2c_j2 = w2c_p3;
   w2c_j3 = 4ull;
   w2c_j2 <<= (w2c_j3 & 63);
-  (*Z_heapZ_jbig2_c_give_back)(instance->Z_heap_instance, w2c_j0, w2c_j1, w2c_j2);
+  (*Z_heapZ_jbig2_c_give_back)((struct Z_heap_instance_t*)instance, w2c_j0, w2c_j1, w2c_j2);
   w2c_i0 = 0u;
   w2c_l24 = w2c_i0;
   goto w2c_B5;
@@ -24263,7 +24262,7 @@ static void w2c_f49(Z_hayro_jbig2_instance_t* instance, u64 w2c_p0, u64 w2c_p1, 
   w2c_j2 = w2c_p3;
   w2c_j3 = 4ull;
   w2c_j2 <<= (w2c_j3 & 63);
-  (*Z_heapZ_jbig2_c_give_back)(instance->Z_heap_instance, w2c_j0, w2c_j1, w2c_j2);
+  (*Z_heapZ_jbig2_c_give_back)((struct Z_heap_instance_t*)instance, w2c_j0, w2c_j1, w2c_j2);
   w2c_B22:;
   w2c_i0 = 0u;
   w2c_l24 = w2c_i0;
@@ -24832,7 +24831,7 @@ static void w2c_f49(Z_hayro_jbig2_instance_t* instance, u64 w2c_p0, u64 w2c_p1, 
   w2c_j2 = w2c_p3;
   w2c_j3 = 4ull;
   w2c_j2 <<= (w2c_j3 & 63);
-  (*Z_heapZ_jbig2_c_give_back)(instance->Z_heap_instance, w2c_j0, w2c_j1, w2c_j2);
+  (*Z_heapZ_jbig2_c_give_back)((struct Z_heap_instance_t*)instance, w2c_j0, w2c_j1, w2c_j2);
   goto w2c_B5;
   w2c_B47:;
   w2c_j0 = w2c_l4;
@@ -24867,7 +24866,7 @@ static void w2c_f49(Z_hayro_jbig2_instance_t* instance, u64 w2c_p0, u64 w2c_p1, 
   w2c_j2 = w2c_l13;
   w2c_j3 = 4ull;
   w2c_j2 <<= (w2c_j3 & 63);
-  (*Z_heapZ_jbig2_c_give_back)(instance->Z_heap_instance, w2c_j0, w2c_j1, w2c_j2);
+  (*Z_heapZ_jbig2_c_give_back)((struct Z_heap_instance_t*)instance, w2c_j0, w2c_j1, w2c_j2);
   w2c_B61:;
   w2c_j0 = w2c_l4;
   w2c_i0 = (u32)(w2c_j0);
@@ -25033,7 +25032,7 @@ static void w2c_f49(Z_hayro_jbig2_instance_t* instance, u64 w2c_p0, u64 w2c_p1, 
   w2c_j2 = w2c_l6;
   w2c_j3 = 4ull;
   w2c_j2 <<= (w2c_j3 & 63);
-  (*Z_heapZ_jbig2_c_give_back)(instance->Z_heap_instance, w2c_j0, w2c_j1, w2c_j2);
+  (*Z_heapZ_jbig2_c_give_back)((struct Z_heap_instance_t*)instance, w2c_j0, w2c_j1, w2c_j2);
   w2c_B65:;
   w2c_i0 = 9u;
   w2c_l24 = w2c_i0;
@@ -25047,7 +25046,7 @@ static void w2c_f49(Z_hayro_jbig2_instance_t* instance, u64 w2c_p0, u64 w2c_p1, 
   w2c_j2 = w2c_l13;
   w2c_j3 = 24ull;
   w2c_j2 *= w2c_j3;
-  (*Z_heapZ_jbig2_c_give_back)(instance->Z_heap_instance, w2c_j0, w2c_j1, w2c_j2);
+  (*Z_heapZ_jbig2_c_give_back)((struct Z_heap_instance_t*)instance, w2c_j0, w2c_j1, w2c_j2);
   w2c_B62:;
   w2c_j0 = w2c_p0;
   w2c_i0 = (u32)(w2c_j0);
@@ -25091,7 +25090,7 @@ static void w2c_f49(Z_hayro_jbig2_instance_t* instance, u64 w2c_p0, u64 w2c_p1, 
   FUNC_EPILOGUE;
 }
 
-static void w2c_f50(Z_hayro_jbig2_instance_t* instance, u64 w2c_p0, u64 w2c_p1, u32 w2c_p2, u64 w2c_p3, u64 w2c_p4, u64 w2c_p5) {
+static void w2c_f50(Z_hayro_jbig2_instance_t* RESTRICT instance, u64 w2c_p0, u64 w2c_p1, u32 w2c_p2, u64 w2c_p3, u64 w2c_p4, u64 w2c_p5) {
   u32 w2c_l11 = 0;
   u64 w2c_l6 = 0, w2c_l7 = 0, w2c_l8 = 0, w2c_l9 = 0, w2c_l10 = 0;
   FUNC_PROLOGUE;
@@ -25439,7 +25438,7 @@ static void w2c_f50(Z_hayro_jbig2_instance_t* instance, u64 w2c_p0, u64 w2c_p1, 
   w2c_j2 = w2c_p5;
   w2c_j3 = 3ull;
   w2c_j2 <<= (w2c_j3 & 63);
-  (*Z_heapZ_jbig2_c_give_back)(instance->Z_heap_instance, w2c_j0, w2c_j1, w2c_j2);
+  (*Z_heapZ_jbig2_c_give_back)((struct Z_heap_instance_t*)instance, w2c_j0, w2c_j1, w2c_j2);
   w2c_B3:;
   w2c_j0 = w2c_p0;
   w2c_i0 = (u32)(w2c_j0);
@@ -25482,7 +25481,7 @@ static void w2c_f50(Z_hayro_jbig2_instance_t* instance, u64 w2c_p0, u64 w2c_p1, 
   FUNC_EPILOGUE;
 }
 
-static void w2c_f51(Z_hayro_jbig2_instance_t* instance, u64 w2c_p0, u64 w2c_p1, u32 w2c_p2, u64 w2c_p3, u64 w2c_p4, u64 w2c_p5) {
+static void w2c_f51(Z_hayro_jbig2_instance_t* RESTRICT instance, u64 w2c_p0, u64 w2c_p1, u32 w2c_p2, u64 w2c_p3, u64 w2c_p4, u64 w2c_p5) {
   u32 w2c_l13 = 0, w2c_l14 = 0, w2c_l15 = 0, w2c_l16 = 0, w2c_l17 = 0, w2c_l18 = 0, w2c_l19 = 0, w2c_l20 = 0, 
       w2c_l21 = 0, w2c_l22 = 0, w2c_l23 = 0, w2c_l24 = 0;
   u64 w2c_l6 = 0, w2c_l7 = 0, w2c_l8 = 0, w2c_l9 = 0, w2c_l10 = 0, w2c_l11 = 0, w2c_l12 = 0;
@@ -27912,7 +27911,7 @@ static void w2c_f51(Z_hayro_jbig2_instance_t* instance, u64 w2c_p0, u64 w2c_p1, 
   w2c_j2 = w2c_p1;
   w2c_j3 = 3ull;
   w2c_j2 <<= (w2c_j3 & 63);
-  (*Z_heapZ_jbig2_c_give_back)(instance->Z_heap_instance, w2c_j0, w2c_j1, w2c_j2);
+  (*Z_heapZ_jbig2_c_give_back)((struct Z_heap_instance_t*)instance, w2c_j0, w2c_j1, w2c_j2);
   goto w2c_B1;
   w2c_B31:;
   w2c_j0 = w2c_l6;
@@ -28022,7 +28021,7 @@ static void w2c_f51(Z_hayro_jbig2_instance_t* instance, u64 w2c_p0, u64 w2c_p1, 
   FUNC_EPILOGUE;
 }
 
-static void w2c_f52(Z_hayro_jbig2_instance_t* instance, u64 w2c_p0, u64 w2c_p1, u32 w2c_p2, u64 w2c_p3, u64 w2c_p4, u64 w2c_p5, u64 w2c_p6) {
+static void w2c_f52(Z_hayro_jbig2_instance_t* RESTRICT instance, u64 w2c_p0, u64 w2c_p1, u32 w2c_p2, u64 w2c_p3, u64 w2c_p4, u64 w2c_p5, u64 w2c_p6) {
   u32 w2c_l24 = 0, w2c_l25 = 0, w2c_l26 = 0, w2c_l27 = 0, w2c_l28 = 0, w2c_l29 = 0, w2c_l30 = 0, w2c_l31 = 0;
   u64 w2c_l7 = 0, w2c_l8 = 0, w2c_l9 = 0, w2c_l10 = 0, w2c_l11 = 0, w2c_l12 = 0, w2c_l13 = 0, w2c_l14 = 0, 
       w2c_l15 = 0, w2c_l16 = 0, w2c_l17 = 0, w2c_l18 = 0, w2c_l19 = 0, w2c_l20 = 0, w2c_l21 = 0, w2c_l22 = 0, 
@@ -28758,7 +28757,7 @@ static void w2c_f52(Z_hayro_jbig2_instance_t* instance, u64 w2c_p0, u64 w2c_p1, 
   w2c_j2 = w2c_l15;
   w2c_j3 = 3ull;
   w2c_j2 <<= (w2c_j3 & 63);
-  (*Z_heapZ_jbig2_c_give_back)(instance->Z_heap_instance, w2c_j0, w2c_j1, w2c_j2);
+  (*Z_heapZ_jbig2_c_give_back)((struct Z_heap_instance_t*)instance, w2c_j0, w2c_j1, w2c_j2);
   w2c_B23:;
   w2c_i0 = 0u;
   w2c_l26 = w2c_i0;
@@ -28772,7 +28771,7 @@ static void w2c_f52(Z_hayro_jbig2_instance_t* instance, u64 w2c_p0, u64 w2c_p1, 
   w2c_j2 = w2c_l11;
   w2c_j3 = 3ull;
   w2c_j2 <<= (w2c_j3 & 63);
-  (*Z_heapZ_jbig2_c_give_back)(instance->Z_heap_instance, w2c_j0, w2c_j1, w2c_j2);
+  (*Z_heapZ_jbig2_c_give_back)((struct Z_heap_instance_t*)instance, w2c_j0, w2c_j1, w2c_j2);
   goto w2c_B1;
   w2c_B13:;
   w2c_j0 = w2c_l7;
@@ -28788,7 +28787,7 @@ static void w2c_f52(Z_hayro_jbig2_instance_t* instance, u64 w2c_p0, u64 w2c_p1, 
   w2c_j2 = w2c_l15;
   w2c_j3 = 3ull;
   w2c_j2 <<= (w2c_j3 & 63);
-  (*Z_heapZ_jbig2_c_give_back)(instance->Z_heap_instance, w2c_j0, w2c_j1, w2c_j2);
+  (*Z_heapZ_jbig2_c_give_back)((struct Z_heap_instance_t*)instance, w2c_j0, w2c_j1, w2c_j2);
   w2c_B24:;
   w2c_j0 = w2c_l11;
   w2c_i0 = !(w2c_j0);
@@ -28798,7 +28797,7 @@ static void w2c_f52(Z_hayro_jbig2_instance_t* instance, u64 w2c_p0, u64 w2c_p1, 
   w2c_j2 = w2c_l11;
   w2c_j3 = 3ull;
   w2c_j2 <<= (w2c_j3 & 63);
-  (*Z_heapZ_jbig2_c_give_back)(instance->Z_heap_instance, w2c_j0, w2c_j1, w2c_j2);
+  (*Z_heapZ_jbig2_c_give_back)((struct Z_heap_instance_t*)instance, w2c_j0, w2c_j1, w2c_j2);
   goto w2c_B1;
   w2c_B5:;
   w2c_j0 = w2c_l15;
@@ -28809,7 +28808,7 @@ static void w2c_f52(Z_hayro_jbig2_instance_t* instance, u64 w2c_p0, u64 w2c_p1, 
   w2c_j2 = w2c_l15;
   w2c_j3 = 3ull;
   w2c_j2 <<= (w2c_j3 & 63);
-  (*Z_heapZ_jbig2_c_give_back)(instance->Z_heap_instance, w2c_j0, w2c_j1, w2c_j2);
+  (*Z_heapZ_jbig2_c_give_back)((struct Z_heap_instance_t*)instance, w2c_j0, w2c_j1, w2c_j2);
   w2c_B25:;
   w2c_i0 = 0u;
   w2c_l26 = w2c_i0;
@@ -28823,7 +28822,7 @@ static void w2c_f52(Z_hayro_jbig2_instance_t* instance, u64 w2c_p0, u64 w2c_p1, 
   w2c_j2 = w2c_l11;
   w2c_j3 = 3ull;
   w2c_j2 <<= (w2c_j3 & 63);
-  (*Z_heapZ_jbig2_c_give_back)(instance->Z_heap_instance, w2c_j0, w2c_j1, w2c_j2);
+  (*Z_heapZ_jbig2_c_give_back)((struct Z_heap_instance_t*)instance, w2c_j0, w2c_j1, w2c_j2);
   goto w2c_B1;
   w2c_B4:;
   w2c_j0 = w2c_l7;
@@ -29163,7 +29162,7 @@ static void w2c_f52(Z_hayro_jbig2_instance_t* instance, u64 w2c_p0, u64 w2c_p1, 
   FUNC_EPILOGUE;
 }
 
-static u32 w2c_f53(Z_hayro_jbig2_instance_t* instance, u64 w2c_p0, u64 w2c_p1) {
+static u32 w2c_f53(Z_hayro_jbig2_instance_t* RESTRICT instance, u64 w2c_p0, u64 w2c_p1) {
   u32 w2c_l12 = 0;
   u64 w2c_l2 = 0, w2c_l3 = 0, w2c_l4 = 0, w2c_l5 = 0, w2c_l6 = 0, w2c_l7 = 0, w2c_l8 = 0, w2c_l9 = 0, 
       w2c_l10 = 0, w2c_l11 = 0;
@@ -29224,7 +29223,7 @@ static u32 w2c_f53(Z_hayro_jbig2_instance_t* instance, u64 w2c_p0, u64 w2c_p1) {
   w2c_j1 = i64_load(&instance->w2c_memory, (u64)(w2c_i1));
   w2c_j2 = w2c_l3;
   w2c_j3 = 8ull;
-  (*Z_heapZ_jbig2_c_take)(instance->Z_heap_instance, w2c_j0, w2c_j1, w2c_j2, w2c_j3);
+  (*Z_heapZ_jbig2_c_take)((struct Z_heap_instance_t*)instance, w2c_j0, w2c_j1, w2c_j2, w2c_j3);
   w2c_j0 = w2c_l2;
   w2c_i0 = (u32)(w2c_j0);
   w2c_i0 = i32_load8_u(&instance->w2c_memory, (u64)(w2c_i0));
@@ -29379,7 +29378,7 @@ static u32 w2c_f53(Z_hayro_jbig2_instance_t* instance, u64 w2c_p0, u64 w2c_p1) {
   w2c_j2 = w2c_l4;
   w2c_j3 = 3ull;
   w2c_j2 <<= (w2c_j3 & 63);
-  (*Z_heapZ_jbig2_c_give_back)(instance->Z_heap_instance, w2c_j0, w2c_j1, w2c_j2);
+  (*Z_heapZ_jbig2_c_give_back)((struct Z_heap_instance_t*)instance, w2c_j0, w2c_j1, w2c_j2);
   goto w2c_B2;
   w2c_B3:;
   w2c_j0 = w2c_l2;
@@ -29398,7 +29397,7 @@ static u32 w2c_f53(Z_hayro_jbig2_instance_t* instance, u64 w2c_p0, u64 w2c_p1) {
   w2c_j1 = i64_load(&instance->w2c_memory, (u64)(w2c_i1));
   w2c_j2 = w2c_l3;
   w2c_j3 = 8ull;
-  (*Z_heapZ_jbig2_c_take)(instance->Z_heap_instance, w2c_j0, w2c_j1, w2c_j2, w2c_j3);
+  (*Z_heapZ_jbig2_c_take)((struct Z_heap_instance_t*)instance, w2c_j0, w2c_j1, w2c_j2, w2c_j3);
   w2c_j0 = w2c_l2;
   w2c_i0 = (u32)(w2c_j0);
   w2c_i0 = i32_load8_u(&instance->w2c_memory, (u64)(w2c_i0));
@@ -29437,7 +29436,7 @@ static u32 w2c_f53(Z_hayro_jbig2_instance_t* instance, u64 w2c_p0, u64 w2c_p1) {
   return w2c_i0;
 }
 
-static u32 w2c_f54(Z_hayro_jbig2_instance_t* instance, u64 w2c_p0, u64 w2c_p1) {
+static u32 w2c_f54(Z_hayro_jbig2_instance_t* RESTRICT instance, u64 w2c_p0, u64 w2c_p1) {
   u32 w2c_l5 = 0;
   u64 w2c_l2 = 0, w2c_l3 = 0, w2c_l4 = 0;
   FUNC_PROLOGUE;
@@ -29504,7 +29503,7 @@ static u32 w2c_f54(Z_hayro_jbig2_instance_t* instance, u64 w2c_p0, u64 w2c_p1) {
   return w2c_i0;
 }
 
-static void w2c_f55(Z_hayro_jbig2_instance_t* instance, u64 w2c_p0, u64 w2c_p1, u64 w2c_p2, u64 w2c_p3, u64 w2c_p4) {
+static void w2c_f55(Z_hayro_jbig2_instance_t* RESTRICT instance, u64 w2c_p0, u64 w2c_p1, u64 w2c_p2, u64 w2c_p3, u64 w2c_p4) {
   u32 w2c_l12 = 0, w2c_l13 = 0;
   u64 w2c_l5 = 0, w2c_l6 = 0, w2c_l7 = 0, w2c_l8 = 0, w2c_l9 = 0, w2c_l10 = 0, w2c_l11 = 0;
   FUNC_PROLOGUE;
@@ -30026,7 +30025,7 @@ static void w2c_f55(Z_hayro_jbig2_instance_t* instance, u64 w2c_p0, u64 w2c_p1, 
   w2c_j2 = w2c_l10;
   w2c_j3 = 3ull;
   w2c_j2 <<= (w2c_j3 & 63);
-  (*Z_heapZ_jbig2_c_give_back)(instance->Z_heap_instance, w2c_j0, w2c_j1, w2c_j2);
+  (*Z_heapZ_jbig2_c_give_back)((struct Z_heap_instance_t*)instance, w2c_j0, w2c_j1, w2c_j2);
   w2c_B24:;
   w2c_j0 = w2c_p1;
   w2c_i0 = !(w2c_j0);
@@ -30036,7 +30035,7 @@ static void w2c_f55(Z_hayro_jbig2_instance_t* instance, u64 w2c_p0, u64 w2c_p1, 
   w2c_j2 = w2c_p1;
   w2c_j3 = 3ull;
   w2c_j2 <<= (w2c_j3 & 63);
-  (*Z_heapZ_jbig2_c_give_back)(instance->Z_heap_instance, w2c_j0, w2c_j1, w2c_j2);
+  (*Z_heapZ_jbig2_c_give_back)((struct Z_heap_instance_t*)instance, w2c_j0, w2c_j1, w2c_j2);
   w2c_B25:;
   w2c_j0 = w2c_p0;
   w2c_i0 = (u32)(w2c_j0);
@@ -30070,7 +30069,7 @@ static void w2c_f55(Z_hayro_jbig2_instance_t* instance, u64 w2c_p0, u64 w2c_p1, 
   FUNC_EPILOGUE;
 }
 
-static void w2c_f56(Z_hayro_jbig2_instance_t* instance, u64 w2c_p0, u64 w2c_p1, u32 w2c_p2) {
+static void w2c_f56(Z_hayro_jbig2_instance_t* RESTRICT instance, u64 w2c_p0, u64 w2c_p1, u32 w2c_p2) {
   u32 w2c_l9 = 0, w2c_l10 = 0;
   u64 w2c_l3 = 0, w2c_l4 = 0, w2c_l5 = 0, w2c_l6 = 0, w2c_l7 = 0, w2c_l8 = 0;
   FUNC_PROLOGUE;
@@ -30391,7 +30390,7 @@ static void w2c_f56(Z_hayro_jbig2_instance_t* instance, u64 w2c_p0, u64 w2c_p1, 
   FUNC_EPILOGUE;
 }
 
-static void w2c_f57(Z_hayro_jbig2_instance_t* instance, u64 w2c_p0, u64 w2c_p1, u64 w2c_p2, u64 w2c_p3, u64 w2c_p4, u64 w2c_p5, u64 w2c_p6, u64 w2c_p7, 
+static void w2c_f57(Z_hayro_jbig2_instance_t* RESTRICT instance, u64 w2c_p0, u64 w2c_p1, u64 w2c_p2, u64 w2c_p3, u64 w2c_p4, u64 w2c_p5, u64 w2c_p6, u64 w2c_p7, 
     u32 w2c_p8, u64 w2c_p9, u64 w2c_p10) {
   u32 w2c_l47 = 0, w2c_l48 = 0, w2c_l49 = 0, w2c_l50 = 0, w2c_l51 = 0, w2c_l52 = 0, w2c_l53 = 0, w2c_l54 = 0, 
       w2c_l55 = 0, w2c_l56 = 0, w2c_l57 = 0, w2c_l58 = 0;
@@ -30625,7 +30624,7 @@ static void w2c_f57(Z_hayro_jbig2_instance_t* instance, u64 w2c_p0, u64 w2c_p1, 
   w2c_i1 = (u32)(w2c_j1);
   w2c_j1 = i64_load(&instance->w2c_memory, (u64)(w2c_i1) + 3368u);
   w2c_j2 = w2c_l13;
-  (*Z_heapZ_jbig2_c_give_back)(instance->Z_heap_instance, w2c_j0, w2c_j1, w2c_j2);
+  (*Z_heapZ_jbig2_c_give_back)((struct Z_heap_instance_t*)instance, w2c_j0, w2c_j1, w2c_j2);
   goto w2c_B5;
   w2c_B9:;
   w2c_j0 = w2c_l11;
@@ -30641,7 +30640,7 @@ static void w2c_f57(Z_hayro_jbig2_instance_t* instance, u64 w2c_p0, u64 w2c_p1, 
   w2c_i1 = (u32)(w2c_j1);
   w2c_j1 = i64_load(&instance->w2c_memory, (u64)(w2c_i1) + 2264u);
   w2c_j2 = w2c_l13;
-  (*Z_heapZ_jbig2_c_give_back)(instance->Z_heap_instance, w2c_j0, w2c_j1, w2c_j2);
+  (*Z_heapZ_jbig2_c_give_back)((struct Z_heap_instance_t*)instance, w2c_j0, w2c_j1, w2c_j2);
   w2c_B13:;
   w2c_i0 = 0u;
   w2c_l49 = w2c_i0;
@@ -30659,7 +30658,7 @@ static void w2c_f57(Z_hayro_jbig2_instance_t* instance, u64 w2c_p0, u64 w2c_p1, 
   w2c_i1 = (u32)(w2c_j1);
   w2c_j1 = i64_load(&instance->w2c_memory, (u64)(w2c_i1) + 3368u);
   w2c_j2 = w2c_l14;
-  (*Z_heapZ_jbig2_c_give_back)(instance->Z_heap_instance, w2c_j0, w2c_j1, w2c_j2);
+  (*Z_heapZ_jbig2_c_give_back)((struct Z_heap_instance_t*)instance, w2c_j0, w2c_j1, w2c_j2);
   goto w2c_B5;
   w2c_B8:;
   w2c_i0 = 4u;
@@ -31154,7 +31153,7 @@ static void w2c_f57(Z_hayro_jbig2_instance_t* instance, u64 w2c_p0, u64 w2c_p1, 
   w2c_i1 = (u32)(w2c_j1);
   w2c_j1 = i64_load(&instance->w2c_memory, (u64)(w2c_i1) + 3368u);
   w2c_j2 = w2c_l13;
-  (*Z_heapZ_jbig2_c_give_back)(instance->Z_heap_instance, w2c_j0, w2c_j1, w2c_j2);
+  (*Z_heapZ_jbig2_c_give_back)((struct Z_heap_instance_t*)instance, w2c_j0, w2c_j1, w2c_j2);
   goto w2c_B5;
   w2c_B21:;
   w2c_j0 = w2c_l11;
@@ -31170,7 +31169,7 @@ static void w2c_f57(Z_hayro_jbig2_instance_t* instance, u64 w2c_p0, u64 w2c_p1, 
   w2c_i1 = (u32)(w2c_j1);
   w2c_j1 = i64_load(&instance->w2c_memory, (u64)(w2c_i1) + 2264u);
   w2c_j2 = w2c_l13;
-  (*Z_heapZ_jbig2_c_give_back)(instance->Z_heap_instance, w2c_j0, w2c_j1, w2c_j2);
+  (*Z_heapZ_jbig2_c_give_back)((struct Z_heap_instance_t*)instance, w2c_j0, w2c_j1, w2c_j2);
   w2c_B34:;
   w2c_i0 = 0u;
   w2c_l49 = w2c_i0;
@@ -31186,7 +31185,7 @@ static void w2c_f57(Z_hayro_jbig2_instance_t* instance, u64 w2c_p0, u64 w2c_p1, 
   w2c_j0 = i64_load(&instance->w2c_memory, (u64)(w2c_i0) + 3392u);
   w2c_j1 = w2c_l12;
   w2c_j2 = w2c_l14;
-  (*Z_heapZ_jbig2_c_give_back)(instance->Z_heap_instance, w2c_j0, w2c_j1, w2c_j2);
+  (*Z_heapZ_jbig2_c_give_back)((struct Z_heap_instance_t*)instance, w2c_j0, w2c_j1, w2c_j2);
   w2c_j0 = 0ull;
   w2c_l18 = w2c_j0;
   w2c_j0 = 0ull;
@@ -31728,7 +31727,7 @@ static void w2c_f57(Z_hayro_jbig2_instance_t* instance, u64 w2c_p0, u64 w2c_p1, 
   w2c_j2 = w2c_l15;
   w2c_j3 = 4ull;
   w2c_j2 <<= (w2c_j3 & 63);
-  (*Z_heapZ_jbig2_c_give_back)(instance->Z_heap_instance, w2c_j0, w2c_j1, w2c_j2);
+  (*Z_heapZ_jbig2_c_give_back)((struct Z_heap_instance_t*)instance, w2c_j0, w2c_j1, w2c_j2);
   w2c_B68:;
   w2c_j0 = w2c_l11;
   w2c_i0 = (u32)(w2c_j0);
@@ -32690,7 +32689,7 @@ static void w2c_f57(Z_hayro_jbig2_instance_t* instance, u64 w2c_p0, u64 w2c_p1, 
       w2c_j2 = w2c_l19;
       w2c_j3 = 3ull;
       w2c_j2 <<= (w2c_j3 & 63);
-      (*Z_heapZ_jbig2_c_give_back)(instance->Z_heap_instance, w2c_j0, w2c_j1, w2c_j2);
+      (*Z_heapZ_jbig2_c_give_back)((struct Z_heap_instance_t*)instance, w2c_j0, w2c_j1, w2c_j2);
       w2c_B112:;
       w2c_j0 = 0ull;
       w2c_l18 = w2c_j0;
@@ -33551,7 +33550,7 @@ static void w2c_f57(Z_hayro_jbig2_instance_t* instance, u64 w2c_p0, u64 w2c_p1, 
     w2c_j2 = w2c_l19;
     w2c_j3 = 3ull;
     w2c_j2 <<= (w2c_j3 & 63);
-    (*Z_heapZ_jbig2_c_give_back)(instance->Z_heap_instance, w2c_j0, w2c_j1, w2c_j2);
+    (*Z_heapZ_jbig2_c_give_back)((struct Z_heap_instance_t*)instance, w2c_j0, w2c_j1, w2c_j2);
     w2c_j0 = w2c_l11;
     w2c_i0 = (u32)(w2c_j0);
     w2c_j0 = i64_load(&instance->w2c_memory, (u64)(w2c_i0) + 4752u);
@@ -33838,7 +33837,7 @@ static void w2c_f57(Z_hayro_jbig2_instance_t* instance, u64 w2c_p0, u64 w2c_p1, 
     w2c_j2 = w2c_l13;
     w2c_j3 = 2ull;
     w2c_j2 <<= (w2c_j3 & 63);
-    (*Z_heapZ_jbig2_c_give_back)(instance->Z_heap_instance, w2c_j0, w2c_j1, w2c_j2);
+    (*Z_heapZ_jbig2_c_give_back)((struct Z_heap_instance_t*)instance, w2c_j0, w2c_j1, w2c_j2);
     w2c_j0 = w2c_l11;
     w2c_i0 = (u32)(w2c_j0);
     w2c_j0 = i64_load(&instance->w2c_memory, (u64)(w2c_i0) + 4752u);
@@ -33864,7 +33863,7 @@ static void w2c_f57(Z_hayro_jbig2_instance_t* instance, u64 w2c_p0, u64 w2c_p1, 
     w2c_j2 = w2c_l13;
     w2c_j3 = 2ull;
     w2c_j2 <<= (w2c_j3 & 63);
-    (*Z_heapZ_jbig2_c_give_back)(instance->Z_heap_instance, w2c_j0, w2c_j1, w2c_j2);
+    (*Z_heapZ_jbig2_c_give_back)((struct Z_heap_instance_t*)instance, w2c_j0, w2c_j1, w2c_j2);
     w2c_j0 = w2c_l11;
     w2c_i0 = (u32)(w2c_j0);
     w2c_j0 = i64_load(&instance->w2c_memory, (u64)(w2c_i0) + 4752u);
@@ -33941,7 +33940,7 @@ static void w2c_f57(Z_hayro_jbig2_instance_t* instance, u64 w2c_p0, u64 w2c_p1, 
     w2c_j2 = w2c_l40;
     w2c_j3 = 2ull;
     w2c_j2 <<= (w2c_j3 & 63);
-    (*Z_heapZ_jbig2_c_give_back)(instance->Z_heap_instance, w2c_j0, w2c_j1, w2c_j2);
+    (*Z_heapZ_jbig2_c_give_back)((struct Z_heap_instance_t*)instance, w2c_j0, w2c_j1, w2c_j2);
     w2c_j0 = w2c_l11;
     w2c_i0 = (u32)(w2c_j0);
     w2c_j0 = i64_load(&instance->w2c_memory, (u64)(w2c_i0) + 4752u);
@@ -34084,7 +34083,7 @@ static void w2c_f57(Z_hayro_jbig2_instance_t* instance, u64 w2c_p0, u64 w2c_p1, 
     w2c_j2 = w2c_l13;
     w2c_j3 = 3ull;
     w2c_j2 <<= (w2c_j3 & 63);
-    (*Z_heapZ_jbig2_c_give_back)(instance->Z_heap_instance, w2c_j0, w2c_j1, w2c_j2);
+    (*Z_heapZ_jbig2_c_give_back)((struct Z_heap_instance_t*)instance, w2c_j0, w2c_j1, w2c_j2);
     goto w2c_B80;
     w2c_B146:;
     w2c_i0 = 0u;
@@ -34493,7 +34492,7 @@ static void w2c_f57(Z_hayro_jbig2_instance_t* instance, u64 w2c_p0, u64 w2c_p1, 
     w2c_j2 = w2c_l24;
     w2c_j3 = 3ull;
     w2c_j2 <<= (w2c_j3 & 63);
-    (*Z_heapZ_jbig2_c_give_back)(instance->Z_heap_instance, w2c_j0, w2c_j1, w2c_j2);
+    (*Z_heapZ_jbig2_c_give_back)((struct Z_heap_instance_t*)instance, w2c_j0, w2c_j1, w2c_j2);
     w2c_B159:;
     w2c_j0 = w2c_l31;
     w2c_i0 = (u32)(w2c_j0);
@@ -35190,7 +35189,7 @@ static void w2c_f57(Z_hayro_jbig2_instance_t* instance, u64 w2c_p0, u64 w2c_p1, 
     w2c_j2 = w2c_l20;
     w2c_j3 = 3ull;
     w2c_j2 <<= (w2c_j3 & 63);
-    (*Z_heapZ_jbig2_c_give_back)(instance->Z_heap_instance, w2c_j0, w2c_j1, w2c_j2);
+    (*Z_heapZ_jbig2_c_give_back)((struct Z_heap_instance_t*)instance, w2c_j0, w2c_j1, w2c_j2);
     w2c_B171:;
     w2c_i0 = 0u;
     w2c_p8 = w2c_i0;
@@ -35223,7 +35222,7 @@ static void w2c_f57(Z_hayro_jbig2_instance_t* instance, u64 w2c_p0, u64 w2c_p1, 
     w2c_j2 = w2c_l13;
     w2c_j3 = 3ull;
     w2c_j2 <<= (w2c_j3 & 63);
-    (*Z_heapZ_jbig2_c_give_back)(instance->Z_heap_instance, w2c_j0, w2c_j1, w2c_j2);
+    (*Z_heapZ_jbig2_c_give_back)((struct Z_heap_instance_t*)instance, w2c_j0, w2c_j1, w2c_j2);
     w2c_B172:;
     w2c_j0 = w2c_l40;
     w2c_i0 = !(w2c_j0);
@@ -35233,7 +35232,7 @@ static void w2c_f57(Z_hayro_jbig2_instance_t* instance, u64 w2c_p0, u64 w2c_p1, 
     w2c_j2 = w2c_l40;
     w2c_j3 = 2ull;
     w2c_j2 <<= (w2c_j3 & 63);
-    (*Z_heapZ_jbig2_c_give_back)(instance->Z_heap_instance, w2c_j0, w2c_j1, w2c_j2);
+    (*Z_heapZ_jbig2_c_give_back)((struct Z_heap_instance_t*)instance, w2c_j0, w2c_j1, w2c_j2);
     w2c_B173:;
     w2c_i0 = w2c_p8;
     w2c_i0 = !(w2c_i0);
@@ -35482,7 +35481,7 @@ static void w2c_f57(Z_hayro_jbig2_instance_t* instance, u64 w2c_p0, u64 w2c_p1, 
     w2c_j2 = w2c_l13;
     w2c_j3 = 3ull;
     w2c_j2 <<= (w2c_j3 & 63);
-    (*Z_heapZ_jbig2_c_give_back)(instance->Z_heap_instance, w2c_j0, w2c_j1, w2c_j2);
+    (*Z_heapZ_jbig2_c_give_back)((struct Z_heap_instance_t*)instance, w2c_j0, w2c_j1, w2c_j2);
     goto w2c_B84;
     w2c_B179:;
     w2c_i0 = w2c_l49;
@@ -35557,7 +35556,7 @@ static void w2c_f57(Z_hayro_jbig2_instance_t* instance, u64 w2c_p0, u64 w2c_p1, 
     w2c_j2 = w2c_l13;
     w2c_j3 = 3ull;
     w2c_j2 <<= (w2c_j3 & 63);
-    (*Z_heapZ_jbig2_c_give_back)(instance->Z_heap_instance, w2c_j0, w2c_j1, w2c_j2);
+    (*Z_heapZ_jbig2_c_give_back)((struct Z_heap_instance_t*)instance, w2c_j0, w2c_j1, w2c_j2);
     goto w2c_B84;
     w2c_B185:;
     w2c_j0 = w2c_p7;
@@ -35654,7 +35653,7 @@ static void w2c_f57(Z_hayro_jbig2_instance_t* instance, u64 w2c_p0, u64 w2c_p1, 
   w2c_j2 = w2c_l13;
   w2c_j3 = 3ull;
   w2c_j2 <<= (w2c_j3 & 63);
-  (*Z_heapZ_jbig2_c_give_back)(instance->Z_heap_instance, w2c_j0, w2c_j1, w2c_j2);
+  (*Z_heapZ_jbig2_c_give_back)((struct Z_heap_instance_t*)instance, w2c_j0, w2c_j1, w2c_j2);
   goto w2c_B84;
   w2c_B86:;
   w2c_j0 = w2c_l11;
@@ -36387,7 +36386,7 @@ static void w2c_f57(Z_hayro_jbig2_instance_t* instance, u64 w2c_p0, u64 w2c_p1, 
       w2c_j2 = w2c_p5;
       w2c_j3 = 3ull;
       w2c_j2 <<= (w2c_j3 & 63);
-      (*Z_heapZ_jbig2_c_give_back)(instance->Z_heap_instance, w2c_j0, w2c_j1, w2c_j2);
+      (*Z_heapZ_jbig2_c_give_back)((struct Z_heap_instance_t*)instance, w2c_j0, w2c_j1, w2c_j2);
       w2c_B229:;
       w2c_j0 = 0ull;
       w2c_p7 = w2c_j0;
@@ -37178,7 +37177,7 @@ static void w2c_f57(Z_hayro_jbig2_instance_t* instance, u64 w2c_p0, u64 w2c_p1, 
     w2c_j2 = w2c_p5;
     w2c_j3 = 3ull;
     w2c_j2 <<= (w2c_j3 & 63);
-    (*Z_heapZ_jbig2_c_give_back)(instance->Z_heap_instance, w2c_j0, w2c_j1, w2c_j2);
+    (*Z_heapZ_jbig2_c_give_back)((struct Z_heap_instance_t*)instance, w2c_j0, w2c_j1, w2c_j2);
     w2c_B205:;
     w2c_i0 = 0u;
     w2c_l47 = w2c_i0;
@@ -37227,7 +37226,7 @@ static void w2c_f57(Z_hayro_jbig2_instance_t* instance, u64 w2c_p0, u64 w2c_p1, 
       w2c_j2 = w2c_p2;
       w2c_j3 = 3ull;
       w2c_j2 <<= (w2c_j3 & 63);
-      (*Z_heapZ_jbig2_c_give_back)(instance->Z_heap_instance, w2c_j0, w2c_j1, w2c_j2);
+      (*Z_heapZ_jbig2_c_give_back)((struct Z_heap_instance_t*)instance, w2c_j0, w2c_j1, w2c_j2);
       w2c_B244:;
       w2c_j0 = w2c_l13;
       w2c_j1 = 48ull;
@@ -37249,7 +37248,7 @@ static void w2c_f57(Z_hayro_jbig2_instance_t* instance, u64 w2c_p0, u64 w2c_p1, 
     w2c_j2 = w2c_l24;
     w2c_j3 = 48ull;
     w2c_j2 *= w2c_j3;
-    (*Z_heapZ_jbig2_c_give_back)(instance->Z_heap_instance, w2c_j0, w2c_j1, w2c_j2);
+    (*Z_heapZ_jbig2_c_give_back)((struct Z_heap_instance_t*)instance, w2c_j0, w2c_j1, w2c_j2);
     goto w2c_B194;
     w2c_B199:;
     w2c_j0 = w2c_l11;
@@ -37467,7 +37466,7 @@ static void w2c_f57(Z_hayro_jbig2_instance_t* instance, u64 w2c_p0, u64 w2c_p1, 
     w2c_j2 = w2c_l15;
     w2c_j3 = 3ull;
     w2c_j2 <<= (w2c_j3 & 63);
-    (*Z_heapZ_jbig2_c_give_back)(instance->Z_heap_instance, w2c_j0, w2c_j1, w2c_j2);
+    (*Z_heapZ_jbig2_c_give_back)((struct Z_heap_instance_t*)instance, w2c_j0, w2c_j1, w2c_j2);
     goto w2c_B245;
     w2c_B255:;
     w2c_i0 = w2c_l49;
@@ -37542,7 +37541,7 @@ static void w2c_f57(Z_hayro_jbig2_instance_t* instance, u64 w2c_p0, u64 w2c_p1, 
     w2c_j2 = w2c_l15;
     w2c_j3 = 3ull;
     w2c_j2 <<= (w2c_j3 & 63);
-    (*Z_heapZ_jbig2_c_give_back)(instance->Z_heap_instance, w2c_j0, w2c_j1, w2c_j2);
+    (*Z_heapZ_jbig2_c_give_back)((struct Z_heap_instance_t*)instance, w2c_j0, w2c_j1, w2c_j2);
     goto w2c_B245;
     w2c_B260:;
     w2c_j0 = w2c_p7;
@@ -37700,7 +37699,7 @@ static void w2c_f57(Z_hayro_jbig2_instance_t* instance, u64 w2c_p0, u64 w2c_p1, 
     w2c_j2 = w2c_p2;
     w2c_j3 = 3ull;
     w2c_j2 <<= (w2c_j3 & 63);
-    (*Z_heapZ_jbig2_c_give_back)(instance->Z_heap_instance, w2c_j0, w2c_j1, w2c_j2);
+    (*Z_heapZ_jbig2_c_give_back)((struct Z_heap_instance_t*)instance, w2c_j0, w2c_j1, w2c_j2);
     w2c_B267:;
     w2c_j0 = w2c_l15;
     w2c_j1 = 48ull;
@@ -37722,7 +37721,7 @@ static void w2c_f57(Z_hayro_jbig2_instance_t* instance, u64 w2c_p0, u64 w2c_p1, 
   w2c_j2 = w2c_l24;
   w2c_j3 = 48ull;
   w2c_j2 *= w2c_j3;
-  (*Z_heapZ_jbig2_c_give_back)(instance->Z_heap_instance, w2c_j0, w2c_j1, w2c_j2);
+  (*Z_heapZ_jbig2_c_give_back)((struct Z_heap_instance_t*)instance, w2c_j0, w2c_j1, w2c_j2);
   w2c_B268:;
   w2c_i0 = 0u;
   w2c_l47 = w2c_i0;
@@ -37736,7 +37735,7 @@ static void w2c_f57(Z_hayro_jbig2_instance_t* instance, u64 w2c_p0, u64 w2c_p1, 
   w2c_j2 = w2c_l22;
   w2c_j3 = 3ull;
   w2c_j2 <<= (w2c_j3 & 63);
-  (*Z_heapZ_jbig2_c_give_back)(instance->Z_heap_instance, w2c_j0, w2c_j1, w2c_j2);
+  (*Z_heapZ_jbig2_c_give_back)((struct Z_heap_instance_t*)instance, w2c_j0, w2c_j1, w2c_j2);
   goto w2c_B194;
   w2c_B249:;
   w2c_i0 = 0u;
@@ -37758,7 +37757,7 @@ static void w2c_f57(Z_hayro_jbig2_instance_t* instance, u64 w2c_p0, u64 w2c_p1, 
   w2c_j2 = w2c_l15;
   w2c_j3 = 3ull;
   w2c_j2 <<= (w2c_j3 & 63);
-  (*Z_heapZ_jbig2_c_give_back)(instance->Z_heap_instance, w2c_j0, w2c_j1, w2c_j2);
+  (*Z_heapZ_jbig2_c_give_back)((struct Z_heap_instance_t*)instance, w2c_j0, w2c_j1, w2c_j2);
   goto w2c_B245;
   w2c_B248:;
   w2c_j0 = w2c_l11;
@@ -37777,7 +37776,7 @@ static void w2c_f57(Z_hayro_jbig2_instance_t* instance, u64 w2c_p0, u64 w2c_p1, 
   w2c_j2 = w2c_l22;
   w2c_j3 = 3ull;
   w2c_j2 <<= (w2c_j3 & 63);
-  (*Z_heapZ_jbig2_c_give_back)(instance->Z_heap_instance, w2c_j0, w2c_j1, w2c_j2);
+  (*Z_heapZ_jbig2_c_give_back)((struct Z_heap_instance_t*)instance, w2c_j0, w2c_j1, w2c_j2);
   goto w2c_B194;
   w2c_B247:;
   w2c_j0 = w2c_l22;
@@ -37788,7 +37787,7 @@ static void w2c_f57(Z_hayro_jbig2_instance_t* instance, u64 w2c_p0, u64 w2c_p1, 
   w2c_j2 = w2c_l22;
   w2c_j3 = 3ull;
   w2c_j2 <<= (w2c_j3 & 63);
-  (*Z_heapZ_jbig2_c_give_back)(instance->Z_heap_instance, w2c_j0, w2c_j1, w2c_j2);
+  (*Z_heapZ_jbig2_c_give_back)((struct Z_heap_instance_t*)instance, w2c_j0, w2c_j1, w2c_j2);
   w2c_B269:;
   w2c_j0 = w2c_l11;
   w2c_i0 = (u32)(w2c_j0);
@@ -37856,7 +37855,7 @@ static void w2c_f57(Z_hayro_jbig2_instance_t* instance, u64 w2c_p0, u64 w2c_p1, 
   w2c_j0 = w2c_p6;
   w2c_j1 = w2c_p5;
   w2c_j2 = w2c_p7;
-  (*Z_heapZ_jbig2_c_give_back)(instance->Z_heap_instance, w2c_j0, w2c_j1, w2c_j2);
+  (*Z_heapZ_jbig2_c_give_back)((struct Z_heap_instance_t*)instance, w2c_j0, w2c_j1, w2c_j2);
   w2c_B272:;
   w2c_j0 = w2c_p1;
   w2c_i0 = !(w2c_j0);
@@ -37864,7 +37863,7 @@ static void w2c_f57(Z_hayro_jbig2_instance_t* instance, u64 w2c_p0, u64 w2c_p1, 
   w2c_j0 = w2c_p4;
   w2c_j1 = w2c_p10;
   w2c_j2 = w2c_p1;
-  (*Z_heapZ_jbig2_c_give_back)(instance->Z_heap_instance, w2c_j0, w2c_j1, w2c_j2);
+  (*Z_heapZ_jbig2_c_give_back)((struct Z_heap_instance_t*)instance, w2c_j0, w2c_j1, w2c_j2);
   w2c_B273:;
   w2c_i0 = 0u;
   w2c_p8 = w2c_i0;
@@ -37947,7 +37946,7 @@ static void w2c_f57(Z_hayro_jbig2_instance_t* instance, u64 w2c_p0, u64 w2c_p1, 
     w2c_i1 = (u32)(w2c_j1);
     w2c_j1 = i64_load(&instance->w2c_memory, (u64)(w2c_i1));
     w2c_j2 = w2c_l23;
-    (*Z_heapZ_jbig2_c_give_back)(instance->Z_heap_instance, w2c_j0, w2c_j1, w2c_j2);
+    (*Z_heapZ_jbig2_c_give_back)((struct Z_heap_instance_t*)instance, w2c_j0, w2c_j1, w2c_j2);
     w2c_B276:;
     w2c_j0 = w2c_l15;
     w2c_j1 = 32ull;
@@ -37969,7 +37968,7 @@ static void w2c_f57(Z_hayro_jbig2_instance_t* instance, u64 w2c_p0, u64 w2c_p1, 
   w2c_j2 = w2c_l14;
   w2c_j3 = 5ull;
   w2c_j2 <<= (w2c_j3 & 63);
-  (*Z_heapZ_jbig2_c_give_back)(instance->Z_heap_instance, w2c_j0, w2c_j1, w2c_j2);
+  (*Z_heapZ_jbig2_c_give_back)((struct Z_heap_instance_t*)instance, w2c_j0, w2c_j1, w2c_j2);
   w2c_B277:;
   w2c_j0 = w2c_l12;
   w2c_i0 = !(w2c_j0);
@@ -37977,7 +37976,7 @@ static void w2c_f57(Z_hayro_jbig2_instance_t* instance, u64 w2c_p0, u64 w2c_p1, 
   w2c_j0 = w2c_l25;
   w2c_j1 = w2c_l16;
   w2c_j2 = w2c_l12;
-  (*Z_heapZ_jbig2_c_give_back)(instance->Z_heap_instance, w2c_j0, w2c_j1, w2c_j2);
+  (*Z_heapZ_jbig2_c_give_back)((struct Z_heap_instance_t*)instance, w2c_j0, w2c_j1, w2c_j2);
   w2c_B278:;
   w2c_j0 = w2c_l11;
   w2c_i0 = (u32)(w2c_j0);
@@ -38008,7 +38007,7 @@ static void w2c_f57(Z_hayro_jbig2_instance_t* instance, u64 w2c_p0, u64 w2c_p1, 
   w2c_j2 = w2c_l15;
   w2c_j3 = 3ull;
   w2c_j2 <<= (w2c_j3 & 63);
-  (*Z_heapZ_jbig2_c_give_back)(instance->Z_heap_instance, w2c_j0, w2c_j1, w2c_j2);
+  (*Z_heapZ_jbig2_c_give_back)((struct Z_heap_instance_t*)instance, w2c_j0, w2c_j1, w2c_j2);
   w2c_B245:;
   w2c_j0 = w2c_l13;
   w2c_i0 = !(w2c_j0);
@@ -38037,7 +38036,7 @@ static void w2c_f57(Z_hayro_jbig2_instance_t* instance, u64 w2c_p0, u64 w2c_p1, 
     w2c_j2 = w2c_p2;
     w2c_j3 = 3ull;
     w2c_j2 <<= (w2c_j3 & 63);
-    (*Z_heapZ_jbig2_c_give_back)(instance->Z_heap_instance, w2c_j0, w2c_j1, w2c_j2);
+    (*Z_heapZ_jbig2_c_give_back)((struct Z_heap_instance_t*)instance, w2c_j0, w2c_j1, w2c_j2);
     w2c_B281:;
     w2c_j0 = w2c_l15;
     w2c_j1 = 48ull;
@@ -38059,7 +38058,7 @@ static void w2c_f57(Z_hayro_jbig2_instance_t* instance, u64 w2c_p0, u64 w2c_p1, 
   w2c_j2 = w2c_p5;
   w2c_j3 = 48ull;
   w2c_j2 *= w2c_j3;
-  (*Z_heapZ_jbig2_c_give_back)(instance->Z_heap_instance, w2c_j0, w2c_j1, w2c_j2);
+  (*Z_heapZ_jbig2_c_give_back)((struct Z_heap_instance_t*)instance, w2c_j0, w2c_j1, w2c_j2);
   w2c_B194:;
   w2c_j0 = w2c_l11;
   w2c_i0 = (u32)(w2c_j0);
@@ -38111,7 +38110,7 @@ static void w2c_f57(Z_hayro_jbig2_instance_t* instance, u64 w2c_p0, u64 w2c_p1, 
     w2c_i1 = (u32)(w2c_j1);
     w2c_j1 = i64_load(&instance->w2c_memory, (u64)(w2c_i1));
     w2c_j2 = w2c_p2;
-    (*Z_heapZ_jbig2_c_give_back)(instance->Z_heap_instance, w2c_j0, w2c_j1, w2c_j2);
+    (*Z_heapZ_jbig2_c_give_back)((struct Z_heap_instance_t*)instance, w2c_j0, w2c_j1, w2c_j2);
     w2c_B284:;
     w2c_j0 = w2c_l13;
     w2c_j1 = 32ull;
@@ -38133,7 +38132,7 @@ static void w2c_f57(Z_hayro_jbig2_instance_t* instance, u64 w2c_p0, u64 w2c_p1, 
   w2c_j2 = w2c_l19;
   w2c_j3 = 5ull;
   w2c_j2 <<= (w2c_j3 & 63);
-  (*Z_heapZ_jbig2_c_give_back)(instance->Z_heap_instance, w2c_j0, w2c_j1, w2c_j2);
+  (*Z_heapZ_jbig2_c_give_back)((struct Z_heap_instance_t*)instance, w2c_j0, w2c_j1, w2c_j2);
   w2c_B285:;
   w2c_j0 = w2c_l24;
   w2c_i0 = !(w2c_j0);
@@ -38141,7 +38140,7 @@ static void w2c_f57(Z_hayro_jbig2_instance_t* instance, u64 w2c_p0, u64 w2c_p1, 
   w2c_j0 = w2c_p1;
   w2c_j1 = w2c_p7;
   w2c_j2 = w2c_l24;
-  (*Z_heapZ_jbig2_c_give_back)(instance->Z_heap_instance, w2c_j0, w2c_j1, w2c_j2);
+  (*Z_heapZ_jbig2_c_give_back)((struct Z_heap_instance_t*)instance, w2c_j0, w2c_j1, w2c_j2);
   w2c_B286:;
   w2c_j0 = w2c_l11;
   w2c_i0 = (u32)(w2c_j0);
@@ -38168,7 +38167,7 @@ static void w2c_f57(Z_hayro_jbig2_instance_t* instance, u64 w2c_p0, u64 w2c_p1, 
   w2c_i1 = (u32)(w2c_j1);
   w2c_j1 = i64_load(&instance->w2c_memory, (u64)(w2c_i1) + 3504u);
   w2c_j2 = w2c_l24;
-  (*Z_heapZ_jbig2_c_give_back)(instance->Z_heap_instance, w2c_j0, w2c_j1, w2c_j2);
+  (*Z_heapZ_jbig2_c_give_back)((struct Z_heap_instance_t*)instance, w2c_j0, w2c_j1, w2c_j2);
   w2c_B287:;
   w2c_j0 = w2c_l13;
   w2c_i0 = !(w2c_j0);
@@ -38176,7 +38175,7 @@ static void w2c_f57(Z_hayro_jbig2_instance_t* instance, u64 w2c_p0, u64 w2c_p1, 
   w2c_j0 = w2c_l15;
   w2c_j1 = w2c_p2;
   w2c_j2 = w2c_l13;
-  (*Z_heapZ_jbig2_c_give_back)(instance->Z_heap_instance, w2c_j0, w2c_j1, w2c_j2);
+  (*Z_heapZ_jbig2_c_give_back)((struct Z_heap_instance_t*)instance, w2c_j0, w2c_j1, w2c_j2);
   w2c_B288:;
   w2c_i0 = 0u;
   w2c_p8 = w2c_i0;
@@ -38210,7 +38209,7 @@ static void w2c_f57(Z_hayro_jbig2_instance_t* instance, u64 w2c_p0, u64 w2c_p1, 
   w2c_j0 = w2c_p9;
   w2c_j1 = w2c_l12;
   w2c_j2 = w2c_l14;
-  (*Z_heapZ_jbig2_c_give_back)(instance->Z_heap_instance, w2c_j0, w2c_j1, w2c_j2);
+  (*Z_heapZ_jbig2_c_give_back)((struct Z_heap_instance_t*)instance, w2c_j0, w2c_j1, w2c_j2);
   w2c_B289:;
   w2c_j0 = w2c_l20;
   w2c_i0 = !(w2c_j0);
@@ -38218,7 +38217,7 @@ static void w2c_f57(Z_hayro_jbig2_instance_t* instance, u64 w2c_p0, u64 w2c_p1, 
   w2c_j0 = w2c_l19;
   w2c_j1 = w2c_l17;
   w2c_j2 = w2c_l20;
-  (*Z_heapZ_jbig2_c_give_back)(instance->Z_heap_instance, w2c_j0, w2c_j1, w2c_j2);
+  (*Z_heapZ_jbig2_c_give_back)((struct Z_heap_instance_t*)instance, w2c_j0, w2c_j1, w2c_j2);
   w2c_B290:;
   w2c_i0 = 0u;
   w2c_p8 = w2c_i0;
@@ -38247,7 +38246,7 @@ static void w2c_f57(Z_hayro_jbig2_instance_t* instance, u64 w2c_p0, u64 w2c_p1, 
   w2c_j2 = w2c_l13;
   w2c_j3 = 3ull;
   w2c_j2 <<= (w2c_j3 & 63);
-  (*Z_heapZ_jbig2_c_give_back)(instance->Z_heap_instance, w2c_j0, w2c_j1, w2c_j2);
+  (*Z_heapZ_jbig2_c_give_back)((struct Z_heap_instance_t*)instance, w2c_j0, w2c_j1, w2c_j2);
   w2c_B84:;
   w2c_j0 = w2c_l24;
   w2c_i0 = !(w2c_j0);
@@ -38276,7 +38275,7 @@ static void w2c_f57(Z_hayro_jbig2_instance_t* instance, u64 w2c_p0, u64 w2c_p1, 
     w2c_j2 = w2c_l15;
     w2c_j3 = 3ull;
     w2c_j2 <<= (w2c_j3 & 63);
-    (*Z_heapZ_jbig2_c_give_back)(instance->Z_heap_instance, w2c_j0, w2c_j1, w2c_j2);
+    (*Z_heapZ_jbig2_c_give_back)((struct Z_heap_instance_t*)instance, w2c_j0, w2c_j1, w2c_j2);
     w2c_B293:;
     w2c_j0 = w2c_l13;
     w2c_j1 = 48ull;
@@ -38298,7 +38297,7 @@ static void w2c_f57(Z_hayro_jbig2_instance_t* instance, u64 w2c_p0, u64 w2c_p1, 
   w2c_j2 = w2c_l25;
   w2c_j3 = 48ull;
   w2c_j2 *= w2c_j3;
-  (*Z_heapZ_jbig2_c_give_back)(instance->Z_heap_instance, w2c_j0, w2c_j1, w2c_j2);
+  (*Z_heapZ_jbig2_c_give_back)((struct Z_heap_instance_t*)instance, w2c_j0, w2c_j1, w2c_j2);
   goto w2c_B75;
   w2c_B83:;
   w2c_j0 = w2c_l11;
@@ -38384,7 +38383,7 @@ static void w2c_f57(Z_hayro_jbig2_instance_t* instance, u64 w2c_p0, u64 w2c_p1, 
     w2c_j2 = w2c_p2;
     w2c_j3 = 3ull;
     w2c_j2 <<= (w2c_j3 & 63);
-    (*Z_heapZ_jbig2_c_give_back)(instance->Z_heap_instance, w2c_j0, w2c_j1, w2c_j2);
+    (*Z_heapZ_jbig2_c_give_back)((struct Z_heap_instance_t*)instance, w2c_j0, w2c_j1, w2c_j2);
     w2c_B298:;
     w2c_j0 = w2c_l15;
     w2c_j1 = 48ull;
@@ -38406,7 +38405,7 @@ static void w2c_f57(Z_hayro_jbig2_instance_t* instance, u64 w2c_p0, u64 w2c_p1, 
   w2c_j2 = w2c_l24;
   w2c_j3 = 48ull;
   w2c_j2 *= w2c_j3;
-  (*Z_heapZ_jbig2_c_give_back)(instance->Z_heap_instance, w2c_j0, w2c_j1, w2c_j2);
+  (*Z_heapZ_jbig2_c_give_back)((struct Z_heap_instance_t*)instance, w2c_j0, w2c_j1, w2c_j2);
   w2c_B299:;
   w2c_i0 = 0u;
   w2c_l47 = w2c_i0;
@@ -38420,7 +38419,7 @@ static void w2c_f57(Z_hayro_jbig2_instance_t* instance, u64 w2c_p0, u64 w2c_p1, 
   w2c_j2 = w2c_p7;
   w2c_j3 = 3ull;
   w2c_j2 <<= (w2c_j3 & 63);
-  (*Z_heapZ_jbig2_c_give_back)(instance->Z_heap_instance, w2c_j0, w2c_j1, w2c_j2);
+  (*Z_heapZ_jbig2_c_give_back)((struct Z_heap_instance_t*)instance, w2c_j0, w2c_j1, w2c_j2);
   goto w2c_B75;
   w2c_B295:;
   w2c_j0 = w2c_l11;
@@ -38439,7 +38438,7 @@ static void w2c_f57(Z_hayro_jbig2_instance_t* instance, u64 w2c_p0, u64 w2c_p1, 
   w2c_j2 = w2c_p7;
   w2c_j3 = 3ull;
   w2c_j2 <<= (w2c_j3 & 63);
-  (*Z_heapZ_jbig2_c_give_back)(instance->Z_heap_instance, w2c_j0, w2c_j1, w2c_j2);
+  (*Z_heapZ_jbig2_c_give_back)((struct Z_heap_instance_t*)instance, w2c_j0, w2c_j1, w2c_j2);
   goto w2c_B75;
   w2c_B294:;
   w2c_j0 = w2c_p7;
@@ -38450,7 +38449,7 @@ static void w2c_f57(Z_hayro_jbig2_instance_t* instance, u64 w2c_p0, u64 w2c_p1, 
   w2c_j2 = w2c_p7;
   w2c_j3 = 3ull;
   w2c_j2 <<= (w2c_j3 & 63);
-  (*Z_heapZ_jbig2_c_give_back)(instance->Z_heap_instance, w2c_j0, w2c_j1, w2c_j2);
+  (*Z_heapZ_jbig2_c_give_back)((struct Z_heap_instance_t*)instance, w2c_j0, w2c_j1, w2c_j2);
   w2c_B300:;
   w2c_j0 = w2c_l11;
   w2c_i0 = (u32)(w2c_j0);
@@ -38518,7 +38517,7 @@ static void w2c_f57(Z_hayro_jbig2_instance_t* instance, u64 w2c_p0, u64 w2c_p1, 
   w2c_j0 = w2c_p6;
   w2c_j1 = w2c_p5;
   w2c_j2 = w2c_p7;
-  (*Z_heapZ_jbig2_c_give_back)(instance->Z_heap_instance, w2c_j0, w2c_j1, w2c_j2);
+  (*Z_heapZ_jbig2_c_give_back)((struct Z_heap_instance_t*)instance, w2c_j0, w2c_j1, w2c_j2);
   w2c_B303:;
   w2c_j0 = w2c_p1;
   w2c_i0 = !(w2c_j0);
@@ -38526,7 +38525,7 @@ static void w2c_f57(Z_hayro_jbig2_instance_t* instance, u64 w2c_p0, u64 w2c_p1, 
   w2c_j0 = w2c_p4;
   w2c_j1 = w2c_p10;
   w2c_j2 = w2c_p1;
-  (*Z_heapZ_jbig2_c_give_back)(instance->Z_heap_instance, w2c_j0, w2c_j1, w2c_j2);
+  (*Z_heapZ_jbig2_c_give_back)((struct Z_heap_instance_t*)instance, w2c_j0, w2c_j1, w2c_j2);
   w2c_B304:;
   w2c_i0 = 0u;
   w2c_p8 = w2c_i0;
@@ -38588,7 +38587,7 @@ static void w2c_f57(Z_hayro_jbig2_instance_t* instance, u64 w2c_p0, u64 w2c_p1, 
   w2c_j2 = w2c_l40;
   w2c_j3 = 2ull;
   w2c_j2 <<= (w2c_j3 & 63);
-  (*Z_heapZ_jbig2_c_give_back)(instance->Z_heap_instance, w2c_j0, w2c_j1, w2c_j2);
+  (*Z_heapZ_jbig2_c_give_back)((struct Z_heap_instance_t*)instance, w2c_j0, w2c_j1, w2c_j2);
   w2c_j0 = w2c_l11;
   w2c_i0 = (u32)(w2c_j0);
   w2c_j0 = i64_load(&instance->w2c_memory, (u64)(w2c_i0) + 4752u);
@@ -38606,7 +38605,7 @@ static void w2c_f57(Z_hayro_jbig2_instance_t* instance, u64 w2c_p0, u64 w2c_p1, 
   w2c_j2 = w2c_l40;
   w2c_j3 = 2ull;
   w2c_j2 <<= (w2c_j3 & 63);
-  (*Z_heapZ_jbig2_c_give_back)(instance->Z_heap_instance, w2c_j0, w2c_j1, w2c_j2);
+  (*Z_heapZ_jbig2_c_give_back)((struct Z_heap_instance_t*)instance, w2c_j0, w2c_j1, w2c_j2);
   w2c_j0 = w2c_l11;
   w2c_i0 = (u32)(w2c_j0);
   w2c_j0 = i64_load(&instance->w2c_memory, (u64)(w2c_i0) + 4752u);
@@ -38671,7 +38670,7 @@ static void w2c_f57(Z_hayro_jbig2_instance_t* instance, u64 w2c_p0, u64 w2c_p1, 
     w2c_j2 = w2c_p2;
     w2c_j3 = 3ull;
     w2c_j2 <<= (w2c_j3 & 63);
-    (*Z_heapZ_jbig2_c_give_back)(instance->Z_heap_instance, w2c_j0, w2c_j1, w2c_j2);
+    (*Z_heapZ_jbig2_c_give_back)((struct Z_heap_instance_t*)instance, w2c_j0, w2c_j1, w2c_j2);
     w2c_B307:;
     w2c_j0 = w2c_l13;
     w2c_j1 = 48ull;
@@ -38693,7 +38692,7 @@ static void w2c_f57(Z_hayro_jbig2_instance_t* instance, u64 w2c_p0, u64 w2c_p1, 
   w2c_j2 = w2c_l24;
   w2c_j3 = 48ull;
   w2c_j2 *= w2c_j3;
-  (*Z_heapZ_jbig2_c_give_back)(instance->Z_heap_instance, w2c_j0, w2c_j1, w2c_j2);
+  (*Z_heapZ_jbig2_c_give_back)((struct Z_heap_instance_t*)instance, w2c_j0, w2c_j1, w2c_j2);
   w2c_B75:;
   w2c_j0 = w2c_l11;
   w2c_i0 = (u32)(w2c_j0);
@@ -38720,7 +38719,7 @@ static void w2c_f57(Z_hayro_jbig2_instance_t* instance, u64 w2c_p0, u64 w2c_p1, 
   w2c_i1 = (u32)(w2c_j1);
   w2c_j1 = i64_load(&instance->w2c_memory, (u64)(w2c_i1) + 4664u);
   w2c_j2 = w2c_l24;
-  (*Z_heapZ_jbig2_c_give_back)(instance->Z_heap_instance, w2c_j0, w2c_j1, w2c_j2);
+  (*Z_heapZ_jbig2_c_give_back)((struct Z_heap_instance_t*)instance, w2c_j0, w2c_j1, w2c_j2);
   w2c_B308:;
   w2c_j0 = w2c_l13;
   w2c_i0 = !(w2c_j0);
@@ -38728,7 +38727,7 @@ static void w2c_f57(Z_hayro_jbig2_instance_t* instance, u64 w2c_p0, u64 w2c_p1, 
   w2c_j0 = w2c_l15;
   w2c_j1 = w2c_p2;
   w2c_j2 = w2c_l13;
-  (*Z_heapZ_jbig2_c_give_back)(instance->Z_heap_instance, w2c_j0, w2c_j1, w2c_j2);
+  (*Z_heapZ_jbig2_c_give_back)((struct Z_heap_instance_t*)instance, w2c_j0, w2c_j1, w2c_j2);
   w2c_B309:;
   w2c_i0 = 0u;
   w2c_p8 = w2c_i0;
@@ -38800,7 +38799,7 @@ static void w2c_f57(Z_hayro_jbig2_instance_t* instance, u64 w2c_p0, u64 w2c_p1, 
   w2c_j2 = w2c_l12;
   w2c_j3 = 4ull;
   w2c_j2 <<= (w2c_j3 & 63);
-  (*Z_heapZ_jbig2_c_give_back)(instance->Z_heap_instance, w2c_j0, w2c_j1, w2c_j2);
+  (*Z_heapZ_jbig2_c_give_back)((struct Z_heap_instance_t*)instance, w2c_j0, w2c_j1, w2c_j2);
   w2c_B310:;
   w2c_j0 = w2c_l15;
   w2c_i0 = !(w2c_j0);
@@ -38810,7 +38809,7 @@ static void w2c_f57(Z_hayro_jbig2_instance_t* instance, u64 w2c_p0, u64 w2c_p1, 
   w2c_j2 = w2c_l15;
   w2c_j3 = 24ull;
   w2c_j2 *= w2c_j3;
-  (*Z_heapZ_jbig2_c_give_back)(instance->Z_heap_instance, w2c_j0, w2c_j1, w2c_j2);
+  (*Z_heapZ_jbig2_c_give_back)((struct Z_heap_instance_t*)instance, w2c_j0, w2c_j1, w2c_j2);
   w2c_B311:;
   w2c_j0 = w2c_p0;
   w2c_i0 = (u32)(w2c_j0);
@@ -38950,7 +38949,7 @@ static void w2c_f57(Z_hayro_jbig2_instance_t* instance, u64 w2c_p0, u64 w2c_p1, 
   w2c_j0 = w2c_p9;
   w2c_j1 = w2c_l12;
   w2c_j2 = w2c_l14;
-  (*Z_heapZ_jbig2_c_give_back)(instance->Z_heap_instance, w2c_j0, w2c_j1, w2c_j2);
+  (*Z_heapZ_jbig2_c_give_back)((struct Z_heap_instance_t*)instance, w2c_j0, w2c_j1, w2c_j2);
   w2c_B312:;
   w2c_j0 = w2c_l20;
   w2c_i0 = !(w2c_j0);
@@ -38958,7 +38957,7 @@ static void w2c_f57(Z_hayro_jbig2_instance_t* instance, u64 w2c_p0, u64 w2c_p1, 
   w2c_j0 = w2c_l19;
   w2c_j1 = w2c_l17;
   w2c_j2 = w2c_l20;
-  (*Z_heapZ_jbig2_c_give_back)(instance->Z_heap_instance, w2c_j0, w2c_j1, w2c_j2);
+  (*Z_heapZ_jbig2_c_give_back)((struct Z_heap_instance_t*)instance, w2c_j0, w2c_j1, w2c_j2);
   w2c_B313:;
   w2c_j0 = w2c_p0;
   w2c_i0 = (u32)(w2c_j0);
@@ -39087,7 +39086,7 @@ static void w2c_f57(Z_hayro_jbig2_instance_t* instance, u64 w2c_p0, u64 w2c_p1, 
   w2c_j2 = w2c_l13;
   w2c_j3 = 4ull;
   w2c_j2 <<= (w2c_j3 & 63);
-  (*Z_heapZ_jbig2_c_give_back)(instance->Z_heap_instance, w2c_j0, w2c_j1, w2c_j2);
+  (*Z_heapZ_jbig2_c_give_back)((struct Z_heap_instance_t*)instance, w2c_j0, w2c_j1, w2c_j2);
   w2c_B314:;
   w2c_i0 = 0u;
   w2c_l50 = w2c_i0;
@@ -39116,7 +39115,7 @@ static void w2c_f57(Z_hayro_jbig2_instance_t* instance, u64 w2c_p0, u64 w2c_p1, 
   w2c_j0 = w2c_p9;
   w2c_j1 = w2c_l12;
   w2c_j2 = w2c_l14;
-  (*Z_heapZ_jbig2_c_give_back)(instance->Z_heap_instance, w2c_j0, w2c_j1, w2c_j2);
+  (*Z_heapZ_jbig2_c_give_back)((struct Z_heap_instance_t*)instance, w2c_j0, w2c_j1, w2c_j2);
   w2c_B315:;
   w2c_j0 = w2c_l20;
   w2c_i0 = !(w2c_j0);
@@ -39124,7 +39123,7 @@ static void w2c_f57(Z_hayro_jbig2_instance_t* instance, u64 w2c_p0, u64 w2c_p1, 
   w2c_j0 = w2c_l19;
   w2c_j1 = w2c_l17;
   w2c_j2 = w2c_l20;
-  (*Z_heapZ_jbig2_c_give_back)(instance->Z_heap_instance, w2c_j0, w2c_j1, w2c_j2);
+  (*Z_heapZ_jbig2_c_give_back)((struct Z_heap_instance_t*)instance, w2c_j0, w2c_j1, w2c_j2);
   w2c_B316:;
   w2c_j0 = w2c_p0;
   w2c_i0 = (u32)(w2c_j0);
@@ -39276,7 +39275,7 @@ static void w2c_f57(Z_hayro_jbig2_instance_t* instance, u64 w2c_p0, u64 w2c_p1, 
   FUNC_EPILOGUE;
 }
 
-static void w2c_f58(Z_hayro_jbig2_instance_t* instance, u64 w2c_p0) {
+static void w2c_f58(Z_hayro_jbig2_instance_t* RESTRICT instance, u64 w2c_p0) {
   u64 w2c_l1 = 0, w2c_l2 = 0, w2c_l3 = 0, w2c_l4 = 0, w2c_l5 = 0;
   FUNC_PROLOGUE;
   u32 w2c_i0, w2c_i1;
@@ -39319,7 +39318,7 @@ static void w2c_f58(Z_hayro_jbig2_instance_t* instance, u64 w2c_p0) {
   w2c_j2 = w2c_l5;
   w2c_j3 = 3ull;
   w2c_j2 <<= (w2c_j3 & 63);
-  (*Z_heapZ_jbig2_c_give_back)(instance->Z_heap_instance, w2c_j0, w2c_j1, w2c_j2);
+  (*Z_heapZ_jbig2_c_give_back)((struct Z_heap_instance_t*)instance, w2c_j0, w2c_j1, w2c_j2);
   w2c_B1:;
   w2c_j0 = w2c_l3;
   w2c_i0 = !(w2c_j0);
@@ -39329,7 +39328,7 @@ static void w2c_f58(Z_hayro_jbig2_instance_t* instance, u64 w2c_p0) {
   w2c_j2 = w2c_l3;
   w2c_j3 = 3ull;
   w2c_j2 <<= (w2c_j3 & 63);
-  (*Z_heapZ_jbig2_c_give_back)(instance->Z_heap_instance, w2c_j0, w2c_j1, w2c_j2);
+  (*Z_heapZ_jbig2_c_give_back)((struct Z_heap_instance_t*)instance, w2c_j0, w2c_j1, w2c_j2);
   w2c_B2:;
   w2c_j0 = w2c_l1;
   instance->w2c_g0 = w2c_j0;
@@ -39340,7 +39339,7 @@ static void w2c_f58(Z_hayro_jbig2_instance_t* instance, u64 w2c_p0) {
   FUNC_EPILOGUE;
 }
 
-static u32 w2c_f59(Z_hayro_jbig2_instance_t* instance, u64 w2c_p0) {
+static u32 w2c_f59(Z_hayro_jbig2_instance_t* RESTRICT instance, u64 w2c_p0) {
   u32 w2c_l11 = 0;
   u64 w2c_l1 = 0, w2c_l2 = 0, w2c_l3 = 0, w2c_l4 = 0, w2c_l5 = 0, w2c_l6 = 0, w2c_l7 = 0, w2c_l8 = 0, 
       w2c_l9 = 0, w2c_l10 = 0;
@@ -39426,7 +39425,7 @@ static u32 w2c_f59(Z_hayro_jbig2_instance_t* instance, u64 w2c_p0) {
   w2c_j1 = i64_load(&instance->w2c_memory, (u64)(w2c_i1));
   w2c_j2 = w2c_l1;
   w2c_j3 = 8ull;
-  (*Z_heapZ_jbig2_c_take)(instance->Z_heap_instance, w2c_j0, w2c_j1, w2c_j2, w2c_j3);
+  (*Z_heapZ_jbig2_c_take)((struct Z_heap_instance_t*)instance, w2c_j0, w2c_j1, w2c_j2, w2c_j3);
   w2c_j0 = w2c_l2;
   w2c_i0 = (u32)(w2c_j0);
   w2c_i0 = i32_load8_u(&instance->w2c_memory, (u64)(w2c_i0));
@@ -39598,7 +39597,7 @@ static u32 w2c_f59(Z_hayro_jbig2_instance_t* instance, u64 w2c_p0) {
   w2c_j2 = w2c_l4;
   w2c_j3 = 120ull;
   w2c_j2 *= w2c_j3;
-  (*Z_heapZ_jbig2_c_give_back)(instance->Z_heap_instance, w2c_j0, w2c_j1, w2c_j2);
+  (*Z_heapZ_jbig2_c_give_back)((struct Z_heap_instance_t*)instance, w2c_j0, w2c_j1, w2c_j2);
   goto w2c_B2;
   w2c_B3:;
   w2c_j0 = w2c_l2;
@@ -39617,7 +39616,7 @@ static u32 w2c_f59(Z_hayro_jbig2_instance_t* instance, u64 w2c_p0) {
   w2c_j1 = i64_load(&instance->w2c_memory, (u64)(w2c_i1));
   w2c_j2 = w2c_l1;
   w2c_j3 = 8ull;
-  (*Z_heapZ_jbig2_c_take)(instance->Z_heap_instance, w2c_j0, w2c_j1, w2c_j2, w2c_j3);
+  (*Z_heapZ_jbig2_c_take)((struct Z_heap_instance_t*)instance, w2c_j0, w2c_j1, w2c_j2, w2c_j3);
   w2c_j0 = w2c_l2;
   w2c_i0 = (u32)(w2c_j0);
   w2c_i0 = i32_load8_u(&instance->w2c_memory, (u64)(w2c_i0));
@@ -39656,7 +39655,7 @@ static u32 w2c_f59(Z_hayro_jbig2_instance_t* instance, u64 w2c_p0) {
   return w2c_i0;
 }
 
-static u32 w2c_f60(Z_hayro_jbig2_instance_t* instance, u64 w2c_p0) {
+static u32 w2c_f60(Z_hayro_jbig2_instance_t* RESTRICT instance, u64 w2c_p0) {
   u32 w2c_l12 = 0;
   u64 w2c_l1 = 0, w2c_l2 = 0, w2c_l3 = 0, w2c_l4 = 0, w2c_l5 = 0, w2c_l6 = 0, w2c_l7 = 0, w2c_l8 = 0, 
       w2c_l9 = 0, w2c_l10 = 0, w2c_l11 = 0;
@@ -39742,7 +39741,7 @@ static u32 w2c_f60(Z_hayro_jbig2_instance_t* instance, u64 w2c_p0) {
   w2c_j1 = i64_load(&instance->w2c_memory, (u64)(w2c_i1));
   w2c_j2 = w2c_l3;
   w2c_j3 = 8ull;
-  (*Z_heapZ_jbig2_c_take)(instance->Z_heap_instance, w2c_j0, w2c_j1, w2c_j2, w2c_j3);
+  (*Z_heapZ_jbig2_c_take)((struct Z_heap_instance_t*)instance, w2c_j0, w2c_j1, w2c_j2, w2c_j3);
   w2c_j0 = w2c_l1;
   w2c_i0 = (u32)(w2c_j0);
   w2c_i0 = i32_load8_u(&instance->w2c_memory, (u64)(w2c_i0));
@@ -39897,7 +39896,7 @@ static u32 w2c_f60(Z_hayro_jbig2_instance_t* instance, u64 w2c_p0) {
   w2c_j2 = w2c_l4;
   w2c_j3 = 3ull;
   w2c_j2 <<= (w2c_j3 & 63);
-  (*Z_heapZ_jbig2_c_give_back)(instance->Z_heap_instance, w2c_j0, w2c_j1, w2c_j2);
+  (*Z_heapZ_jbig2_c_give_back)((struct Z_heap_instance_t*)instance, w2c_j0, w2c_j1, w2c_j2);
   goto w2c_B2;
   w2c_B3:;
   w2c_j0 = w2c_l1;
@@ -39916,7 +39915,7 @@ static u32 w2c_f60(Z_hayro_jbig2_instance_t* instance, u64 w2c_p0) {
   w2c_j1 = i64_load(&instance->w2c_memory, (u64)(w2c_i1));
   w2c_j2 = w2c_l3;
   w2c_j3 = 8ull;
-  (*Z_heapZ_jbig2_c_take)(instance->Z_heap_instance, w2c_j0, w2c_j1, w2c_j2, w2c_j3);
+  (*Z_heapZ_jbig2_c_take)((struct Z_heap_instance_t*)instance, w2c_j0, w2c_j1, w2c_j2, w2c_j3);
   w2c_j0 = w2c_l1;
   w2c_i0 = (u32)(w2c_j0);
   w2c_i0 = i32_load8_u(&instance->w2c_memory, (u64)(w2c_i0));
@@ -39955,7 +39954,7 @@ static u32 w2c_f60(Z_hayro_jbig2_instance_t* instance, u64 w2c_p0) {
   return w2c_i0;
 }
 
-static void w2c_f61(Z_hayro_jbig2_instance_t* instance, u64 w2c_p0, u64 w2c_p1) {
+static void w2c_f61(Z_hayro_jbig2_instance_t* RESTRICT instance, u64 w2c_p0, u64 w2c_p1) {
   u32 w2c_l2 = 0, w2c_l3 = 0, w2c_l4 = 0, w2c_l5 = 0, w2c_l6 = 0, w2c_l7 = 0, w2c_l8 = 0, w2c_l9 = 0;
   u64 w2c_l10 = 0, w2c_l11 = 0, w2c_l12 = 0, w2c_l13 = 0, w2c_l14 = 0, w2c_l15 = 0, w2c_l16 = 0;
   FUNC_PROLOGUE;
@@ -40444,7 +40443,7 @@ static void w2c_f61(Z_hayro_jbig2_instance_t* instance, u64 w2c_p0, u64 w2c_p1) 
   FUNC_EPILOGUE;
 }
 
-static u32 w2c_f62(Z_hayro_jbig2_instance_t* instance, u64 w2c_p0, u64 w2c_p1) {
+static u32 w2c_f62(Z_hayro_jbig2_instance_t* RESTRICT instance, u64 w2c_p0, u64 w2c_p1) {
   u32 w2c_l5 = 0;
   u64 w2c_l2 = 0, w2c_l3 = 0, w2c_l4 = 0;
   FUNC_PROLOGUE;
@@ -40511,7 +40510,7 @@ static u32 w2c_f62(Z_hayro_jbig2_instance_t* instance, u64 w2c_p0, u64 w2c_p1) {
   return w2c_i0;
 }
 
-static void w2c_f63(Z_hayro_jbig2_instance_t* instance, u64 w2c_p0, u64 w2c_p1, u64 w2c_p2) {
+static void w2c_f63(Z_hayro_jbig2_instance_t* RESTRICT instance, u64 w2c_p0, u64 w2c_p1, u64 w2c_p2) {
   u32 w2c_l14 = 0, w2c_l15 = 0, w2c_l16 = 0, w2c_l17 = 0;
   u64 w2c_l3 = 0, w2c_l4 = 0, w2c_l5 = 0, w2c_l6 = 0, w2c_l7 = 0, w2c_l8 = 0, w2c_l9 = 0, w2c_l10 = 0, 
       w2c_l11 = 0, w2c_l12 = 0, w2c_l13 = 0;
@@ -41743,7 +41742,7 @@ static void w2c_f63(Z_hayro_jbig2_instance_t* instance, u64 w2c_p0, u64 w2c_p1, 
   FUNC_EPILOGUE;
 }
 
-static void w2c_f64(Z_hayro_jbig2_instance_t* instance, u64 w2c_p0, u64 w2c_p1, u32 w2c_p2, u32 w2c_p3, u64 w2c_p4) {
+static void w2c_f64(Z_hayro_jbig2_instance_t* RESTRICT instance, u64 w2c_p0, u64 w2c_p1, u32 w2c_p2, u32 w2c_p3, u64 w2c_p4) {
   u32 w2c_l10 = 0;
   u64 w2c_l5 = 0, w2c_l6 = 0, w2c_l7 = 0, w2c_l8 = 0, w2c_l9 = 0;
   FUNC_PROLOGUE;
@@ -42042,7 +42041,7 @@ static void w2c_f64(Z_hayro_jbig2_instance_t* instance, u64 w2c_p0, u64 w2c_p1, 
   w2c_j2 = w2c_p4;
   w2c_j3 = 3ull;
   w2c_j2 <<= (w2c_j3 & 63);
-  (*Z_heapZ_jbig2_c_give_back)(instance->Z_heap_instance, w2c_j0, w2c_j1, w2c_j2);
+  (*Z_heapZ_jbig2_c_give_back)((struct Z_heap_instance_t*)instance, w2c_j0, w2c_j1, w2c_j2);
   w2c_B6:;
   w2c_j0 = w2c_l5;
   w2c_i0 = (u32)(w2c_j0);
@@ -42176,7 +42175,7 @@ static void w2c_f64(Z_hayro_jbig2_instance_t* instance, u64 w2c_p0, u64 w2c_p1, 
   FUNC_EPILOGUE;
 }
 
-static void w2c_f65(Z_hayro_jbig2_instance_t* instance, u64 w2c_p0, u64 w2c_p1, u64 w2c_p2, u64 w2c_p3, u64 w2c_p4, u64 w2c_p5) {
+static void w2c_f65(Z_hayro_jbig2_instance_t* RESTRICT instance, u64 w2c_p0, u64 w2c_p1, u64 w2c_p2, u64 w2c_p3, u64 w2c_p4, u64 w2c_p5) {
   u32 w2c_l11 = 0, w2c_l12 = 0, w2c_l13 = 0, w2c_l14 = 0, w2c_l15 = 0;
   u64 w2c_l6 = 0, w2c_l7 = 0, w2c_l8 = 0, w2c_l9 = 0, w2c_l10 = 0;
   FUNC_PROLOGUE;
@@ -43004,7 +43003,7 @@ static void w2c_f65(Z_hayro_jbig2_instance_t* instance, u64 w2c_p0, u64 w2c_p1, 
   FUNC_EPILOGUE;
 }
 
-static void w2c_f66(Z_hayro_jbig2_instance_t* instance, u64 w2c_p0, u64 w2c_p1, u64 w2c_p2, u64 w2c_p3, u64 w2c_p4) {
+static void w2c_f66(Z_hayro_jbig2_instance_t* RESTRICT instance, u64 w2c_p0, u64 w2c_p1, u64 w2c_p2, u64 w2c_p3, u64 w2c_p4) {
   u32 w2c_l10 = 0, w2c_l11 = 0, w2c_l12 = 0, w2c_l13 = 0;
   u64 w2c_l5 = 0, w2c_l6 = 0, w2c_l7 = 0, w2c_l8 = 0, w2c_l9 = 0;
   FUNC_PROLOGUE;
@@ -43362,7 +43361,7 @@ static void w2c_f66(Z_hayro_jbig2_instance_t* instance, u64 w2c_p0, u64 w2c_p1, 
   FUNC_EPILOGUE;
 }
 
-static u32 w2c_f67(Z_hayro_jbig2_instance_t* instance, u64 w2c_p0) {
+static u32 w2c_f67(Z_hayro_jbig2_instance_t* RESTRICT instance, u64 w2c_p0) {
   u32 w2c_l17 = 0;
   u64 w2c_l1 = 0, w2c_l2 = 0, w2c_l3 = 0, w2c_l4 = 0, w2c_l5 = 0, w2c_l6 = 0, w2c_l7 = 0, w2c_l8 = 0, 
       w2c_l9 = 0, w2c_l10 = 0, w2c_l11 = 0, w2c_l12 = 0, w2c_l13 = 0, w2c_l14 = 0, w2c_l15 = 0, w2c_l16 = 0;
@@ -43448,7 +43447,7 @@ static u32 w2c_f67(Z_hayro_jbig2_instance_t* instance, u64 w2c_p0) {
   w2c_j1 = i64_load(&instance->w2c_memory, (u64)(w2c_i1));
   w2c_j2 = w2c_l3;
   w2c_j3 = 8ull;
-  (*Z_heapZ_jbig2_c_take)(instance->Z_heap_instance, w2c_j0, w2c_j1, w2c_j2, w2c_j3);
+  (*Z_heapZ_jbig2_c_take)((struct Z_heap_instance_t*)instance, w2c_j0, w2c_j1, w2c_j2, w2c_j3);
   w2c_j0 = w2c_l2;
   w2c_i0 = (u32)(w2c_j0);
   w2c_i0 = i32_load8_u(&instance->w2c_memory, (u64)(w2c_i0));
@@ -43863,7 +43862,7 @@ static u32 w2c_f67(Z_hayro_jbig2_instance_t* instance, u64 w2c_p0) {
   w2c_j2 = w2c_l4;
   w2c_j3 = 48ull;
   w2c_j2 *= w2c_j3;
-  (*Z_heapZ_jbig2_c_give_back)(instance->Z_heap_instance, w2c_j0, w2c_j1, w2c_j2);
+  (*Z_heapZ_jbig2_c_give_back)((struct Z_heap_instance_t*)instance, w2c_j0, w2c_j1, w2c_j2);
   goto w2c_B2;
   w2c_B3:;
   w2c_j0 = w2c_l2;
@@ -43882,7 +43881,7 @@ static u32 w2c_f67(Z_hayro_jbig2_instance_t* instance, u64 w2c_p0) {
   w2c_j1 = i64_load(&instance->w2c_memory, (u64)(w2c_i1));
   w2c_j2 = w2c_l3;
   w2c_j3 = 8ull;
-  (*Z_heapZ_jbig2_c_take)(instance->Z_heap_instance, w2c_j0, w2c_j1, w2c_j2, w2c_j3);
+  (*Z_heapZ_jbig2_c_take)((struct Z_heap_instance_t*)instance, w2c_j0, w2c_j1, w2c_j2, w2c_j3);
   w2c_j0 = w2c_l2;
   w2c_i0 = (u32)(w2c_j0);
   w2c_i0 = i32_load8_u(&instance->w2c_memory, (u64)(w2c_i0));
@@ -43921,7 +43920,7 @@ static u32 w2c_f67(Z_hayro_jbig2_instance_t* instance, u64 w2c_p0) {
   return w2c_i0;
 }
 
-static void w2c_f68(Z_hayro_jbig2_instance_t* instance, u64 w2c_p0, u64 w2c_p1, u32 w2c_p2, u64 w2c_p3, u32 w2c_p4, u32 w2c_p5, u64 w2c_p6, u64 w2c_p7) {
+static void w2c_f68(Z_hayro_jbig2_instance_t* RESTRICT instance, u64 w2c_p0, u64 w2c_p1, u32 w2c_p2, u64 w2c_p3, u32 w2c_p4, u32 w2c_p5, u64 w2c_p6, u64 w2c_p7) {
   u32 w2c_l13 = 0;
   u64 w2c_l8 = 0, w2c_l9 = 0, w2c_l10 = 0, w2c_l11 = 0, w2c_l12 = 0;
   FUNC_PROLOGUE;
@@ -44467,7 +44466,7 @@ static void w2c_f68(Z_hayro_jbig2_instance_t* instance, u64 w2c_p0, u64 w2c_p1, 
   FUNC_EPILOGUE;
 }
 
-static void w2c_f69(Z_hayro_jbig2_instance_t* instance, u64 w2c_p0, u64 w2c_p1, u64 w2c_p2, u64 w2c_p3) {
+static void w2c_f69(Z_hayro_jbig2_instance_t* RESTRICT instance, u64 w2c_p0, u64 w2c_p1, u64 w2c_p2, u64 w2c_p3) {
   u32 w2c_l21 = 0, w2c_l22 = 0, w2c_l23 = 0, w2c_l24 = 0, w2c_l25 = 0, w2c_l26 = 0, w2c_l27 = 0, w2c_l28 = 0, 
       w2c_l29 = 0;
   u64 w2c_l4 = 0, w2c_l5 = 0, w2c_l6 = 0, w2c_l7 = 0, w2c_l8 = 0, w2c_l9 = 0, w2c_l10 = 0, w2c_l11 = 0, 
@@ -44586,7 +44585,7 @@ static void w2c_f69(Z_hayro_jbig2_instance_t* instance, u64 w2c_p0, u64 w2c_p1, 
   w2c_j2 = w2c_p3;
   w2c_j3 = 3ull;
   w2c_j2 <<= (w2c_j3 & 63);
-  (*Z_heapZ_jbig2_c_give_back)(instance->Z_heap_instance, w2c_j0, w2c_j1, w2c_j2);
+  (*Z_heapZ_jbig2_c_give_back)((struct Z_heap_instance_t*)instance, w2c_j0, w2c_j1, w2c_j2);
   goto w2c_B1;
   w2c_B4:;
   w2c_j0 = w2c_l5;
@@ -44953,7 +44952,7 @@ static void w2c_f69(Z_hayro_jbig2_instance_t* instance, u64 w2c_p0, u64 w2c_p1, 
   FUNC_EPILOGUE;
 }
 
-static void w2c_f70(Z_hayro_jbig2_instance_t* instance, u64 w2c_p0, u64 w2c_p1, u64 w2c_p2, u64 w2c_p3, u32 w2c_p4) {
+static void w2c_f70(Z_hayro_jbig2_instance_t* RESTRICT instance, u64 w2c_p0, u64 w2c_p1, u64 w2c_p2, u64 w2c_p3, u32 w2c_p4) {
   u32 w2c_l12 = 0, w2c_l13 = 0, w2c_l14 = 0;
   u64 w2c_l5 = 0, w2c_l6 = 0, w2c_l7 = 0, w2c_l8 = 0, w2c_l9 = 0, w2c_l10 = 0, w2c_l11 = 0;
   FUNC_PROLOGUE;
@@ -45010,7 +45009,7 @@ static void w2c_f70(Z_hayro_jbig2_instance_t* instance, u64 w2c_p0, u64 w2c_p1, 
     w2c_j1 = w2c_p1;
     w2c_j2 = 512ull;
     w2c_j3 = 1ull;
-    (*Z_heapZ_jbig2_c_take)(instance->Z_heap_instance, w2c_j0, w2c_j1, w2c_j2, w2c_j3);
+    (*Z_heapZ_jbig2_c_take)((struct Z_heap_instance_t*)instance, w2c_j0, w2c_j1, w2c_j2, w2c_j3);
     w2c_j0 = w2c_l5;
     w2c_i0 = (u32)(w2c_j0);
     w2c_i0 = i32_load8_u(&instance->w2c_memory, (u64)(w2c_i0) + 8u);
@@ -45222,7 +45221,7 @@ static void w2c_f70(Z_hayro_jbig2_instance_t* instance, u64 w2c_p0, u64 w2c_p1, 
     w2c_i1 = (u32)(w2c_j1);
     w2c_j1 = i64_load(&instance->w2c_memory, (u64)(w2c_i1));
     w2c_j2 = w2c_p1;
-    (*Z_heapZ_jbig2_c_give_back)(instance->Z_heap_instance, w2c_j0, w2c_j1, w2c_j2);
+    (*Z_heapZ_jbig2_c_give_back)((struct Z_heap_instance_t*)instance, w2c_j0, w2c_j1, w2c_j2);
     w2c_B14:;
     w2c_j0 = w2c_l10;
     w2c_j1 = 32ull;
@@ -45244,13 +45243,13 @@ static void w2c_f70(Z_hayro_jbig2_instance_t* instance, u64 w2c_p0, u64 w2c_p1, 
   w2c_j2 = w2c_l7;
   w2c_j3 = 5ull;
   w2c_j2 <<= (w2c_j3 & 63);
-  (*Z_heapZ_jbig2_c_give_back)(instance->Z_heap_instance, w2c_j0, w2c_j1, w2c_j2);
+  (*Z_heapZ_jbig2_c_give_back)((struct Z_heap_instance_t*)instance, w2c_j0, w2c_j1, w2c_j2);
   goto w2c_B1;
   w2c_B6:;
   w2c_j0 = w2c_p1;
   w2c_j1 = w2c_l9;
   w2c_j2 = 512ull;
-  (*Z_heapZ_jbig2_c_give_back)(instance->Z_heap_instance, w2c_j0, w2c_j1, w2c_j2);
+  (*Z_heapZ_jbig2_c_give_back)((struct Z_heap_instance_t*)instance, w2c_j0, w2c_j1, w2c_j2);
   w2c_j0 = w2c_l5;
   w2c_i0 = (u32)(w2c_j0);
   w2c_j0 = i64_load(&instance->w2c_memory, (u64)(w2c_i0) + 64u);
@@ -45289,7 +45288,7 @@ static void w2c_f70(Z_hayro_jbig2_instance_t* instance, u64 w2c_p0, u64 w2c_p1, 
     w2c_i1 = (u32)(w2c_j1);
     w2c_j1 = i64_load(&instance->w2c_memory, (u64)(w2c_i1));
     w2c_j2 = w2c_p1;
-    (*Z_heapZ_jbig2_c_give_back)(instance->Z_heap_instance, w2c_j0, w2c_j1, w2c_j2);
+    (*Z_heapZ_jbig2_c_give_back)((struct Z_heap_instance_t*)instance, w2c_j0, w2c_j1, w2c_j2);
     w2c_B17:;
     w2c_j0 = w2c_l8;
     w2c_j1 = 32ull;
@@ -45311,7 +45310,7 @@ static void w2c_f70(Z_hayro_jbig2_instance_t* instance, u64 w2c_p0, u64 w2c_p1, 
   w2c_j2 = w2c_l7;
   w2c_j3 = 5ull;
   w2c_j2 <<= (w2c_j3 & 63);
-  (*Z_heapZ_jbig2_c_give_back)(instance->Z_heap_instance, w2c_j0, w2c_j1, w2c_j2);
+  (*Z_heapZ_jbig2_c_give_back)((struct Z_heap_instance_t*)instance, w2c_j0, w2c_j1, w2c_j2);
   goto w2c_B1;
   w2c_B5:;
   w2c_j0 = w2c_l5;
@@ -45327,7 +45326,7 @@ static void w2c_f70(Z_hayro_jbig2_instance_t* instance, u64 w2c_p0, u64 w2c_p1, 
   w2c_i1 = (u32)(w2c_j1);
   w2c_j1 = i64_load(&instance->w2c_memory, (u64)(w2c_i1) + 40u);
   w2c_j2 = w2c_p1;
-  (*Z_heapZ_jbig2_c_give_back)(instance->Z_heap_instance, w2c_j0, w2c_j1, w2c_j2);
+  (*Z_heapZ_jbig2_c_give_back)((struct Z_heap_instance_t*)instance, w2c_j0, w2c_j1, w2c_j2);
   w2c_B18:;
   w2c_j0 = w2c_l8;
   w2c_i0 = !(w2c_j0);
@@ -45356,7 +45355,7 @@ static void w2c_f70(Z_hayro_jbig2_instance_t* instance, u64 w2c_p0, u64 w2c_p1, 
     w2c_i1 = (u32)(w2c_j1);
     w2c_j1 = i64_load(&instance->w2c_memory, (u64)(w2c_i1));
     w2c_j2 = w2c_p1;
-    (*Z_heapZ_jbig2_c_give_back)(instance->Z_heap_instance, w2c_j0, w2c_j1, w2c_j2);
+    (*Z_heapZ_jbig2_c_give_back)((struct Z_heap_instance_t*)instance, w2c_j0, w2c_j1, w2c_j2);
     w2c_B21:;
     w2c_j0 = w2c_l8;
     w2c_j1 = 32ull;
@@ -45378,7 +45377,7 @@ static void w2c_f70(Z_hayro_jbig2_instance_t* instance, u64 w2c_p0, u64 w2c_p1, 
   w2c_j2 = w2c_l7;
   w2c_j3 = 5ull;
   w2c_j2 <<= (w2c_j3 & 63);
-  (*Z_heapZ_jbig2_c_give_back)(instance->Z_heap_instance, w2c_j0, w2c_j1, w2c_j2);
+  (*Z_heapZ_jbig2_c_give_back)((struct Z_heap_instance_t*)instance, w2c_j0, w2c_j1, w2c_j2);
   w2c_B22:;
   w2c_j0 = w2c_p0;
   w2c_i0 = (u32)(w2c_j0);
@@ -45645,7 +45644,7 @@ static void w2c_f70(Z_hayro_jbig2_instance_t* instance, u64 w2c_p0, u64 w2c_p1, 
   FUNC_EPILOGUE;
 }
 
-static void w2c_f71(Z_hayro_jbig2_instance_t* instance, u64 w2c_p0, u64 w2c_p1, u32 w2c_p2) {
+static void w2c_f71(Z_hayro_jbig2_instance_t* RESTRICT instance, u64 w2c_p0, u64 w2c_p1, u32 w2c_p2) {
   u32 w2c_l8 = 0, w2c_l9 = 0, w2c_l10 = 0, w2c_l11 = 0, w2c_l12 = 0, w2c_l13 = 0;
   u64 w2c_l3 = 0, w2c_l4 = 0, w2c_l5 = 0, w2c_l6 = 0, w2c_l7 = 0;
   FUNC_PROLOGUE;
@@ -46156,7 +46155,7 @@ static void w2c_f71(Z_hayro_jbig2_instance_t* instance, u64 w2c_p0, u64 w2c_p1, 
   FUNC_EPILOGUE;
 }
 
-static void w2c_f72(Z_hayro_jbig2_instance_t* instance, u64 w2c_p0, u64 w2c_p1, u64 w2c_p2, u64 w2c_p3, u64 w2c_p4, u64 w2c_p5) {
+static void w2c_f72(Z_hayro_jbig2_instance_t* RESTRICT instance, u64 w2c_p0, u64 w2c_p1, u64 w2c_p2, u64 w2c_p3, u64 w2c_p4, u64 w2c_p5) {
   u32 w2c_l11 = 0, w2c_l12 = 0, w2c_l13 = 0, w2c_l14 = 0, w2c_l15 = 0;
   u64 w2c_l6 = 0, w2c_l7 = 0, w2c_l8 = 0, w2c_l9 = 0, w2c_l10 = 0;
   FUNC_PROLOGUE;
@@ -46866,7 +46865,7 @@ static void w2c_f72(Z_hayro_jbig2_instance_t* instance, u64 w2c_p0, u64 w2c_p1, 
   FUNC_EPILOGUE;
 }
 
-static u32 w2c_f73(Z_hayro_jbig2_instance_t* instance, u64 w2c_p0, u64 w2c_p1, u64 w2c_p2, u32 w2c_p3) {
+static u32 w2c_f73(Z_hayro_jbig2_instance_t* RESTRICT instance, u64 w2c_p0, u64 w2c_p1, u64 w2c_p2, u32 w2c_p3) {
   u32 w2c_l7 = 0, w2c_l8 = 0, w2c_l9 = 0, w2c_l10 = 0;
   u64 w2c_l4 = 0, w2c_l5 = 0, w2c_l6 = 0;
   FUNC_PROLOGUE;
@@ -47017,7 +47016,7 @@ static u32 w2c_f73(Z_hayro_jbig2_instance_t* instance, u64 w2c_p0, u64 w2c_p1, u
   return w2c_i0;
 }
 
-static void w2c_f74(Z_hayro_jbig2_instance_t* instance, u32 w2c_p0, u32 w2c_p1, u64 w2c_p2, u64 w2c_p3, u64 w2c_p4, u64 w2c_p5, u64 w2c_p6) {
+static void w2c_f74(Z_hayro_jbig2_instance_t* RESTRICT instance, u32 w2c_p0, u32 w2c_p1, u64 w2c_p2, u64 w2c_p3, u64 w2c_p4, u64 w2c_p5, u64 w2c_p6) {
   u32 w2c_l50 = 0, w2c_l51 = 0, w2c_l52 = 0, w2c_l53 = 0, w2c_l54 = 0, w2c_l55 = 0, w2c_l56 = 0, w2c_l57 = 0, 
       w2c_l58 = 0, w2c_l59 = 0, w2c_l60 = 0, w2c_l61 = 0, w2c_l62 = 0, w2c_l63 = 0, w2c_l64 = 0, w2c_l65 = 0, 
       w2c_l66 = 0, w2c_l67 = 0, w2c_l68 = 0, w2c_l69 = 0, w2c_l70 = 0, w2c_l71 = 0, w2c_l72 = 0, w2c_l73 = 0, 
@@ -51752,7 +51751,7 @@ static void w2c_f74(Z_hayro_jbig2_instance_t* instance, u32 w2c_p0, u32 w2c_p1, 
   FUNC_EPILOGUE;
 }
 
-static void w2c_f75(Z_hayro_jbig2_instance_t* instance, u32 w2c_p0, u32 w2c_p1, u64 w2c_p2, u64 w2c_p3, u64 w2c_p4, u64 w2c_p5, u64 w2c_p6) {
+static void w2c_f75(Z_hayro_jbig2_instance_t* RESTRICT instance, u32 w2c_p0, u32 w2c_p1, u64 w2c_p2, u64 w2c_p3, u64 w2c_p4, u64 w2c_p5, u64 w2c_p6) {
   u32 w2c_l27 = 0, w2c_l28 = 0, w2c_l29 = 0, w2c_l30 = 0, w2c_l31 = 0, w2c_l32 = 0, w2c_l33 = 0, w2c_l34 = 0, 
       w2c_l35 = 0;
   u64 w2c_l7 = 0, w2c_l8 = 0, w2c_l9 = 0, w2c_l10 = 0, w2c_l11 = 0, w2c_l12 = 0, w2c_l13 = 0, w2c_l14 = 0, 
@@ -53712,7 +53711,7 @@ static void w2c_f75(Z_hayro_jbig2_instance_t* instance, u32 w2c_p0, u32 w2c_p1, 
   FUNC_EPILOGUE;
 }
 
-static void w2c_f76(Z_hayro_jbig2_instance_t* instance, u64 w2c_p0, u64 w2c_p1, u64 w2c_p2, u64 w2c_p3, u64 w2c_p4, u64 w2c_p5, u64 w2c_p6, u64 w2c_p7) {
+static void w2c_f76(Z_hayro_jbig2_instance_t* RESTRICT instance, u64 w2c_p0, u64 w2c_p1, u64 w2c_p2, u64 w2c_p3, u64 w2c_p4, u64 w2c_p5, u64 w2c_p6, u64 w2c_p7) {
   u64 w2c_l8 = 0, w2c_l9 = 0, w2c_l10 = 0, w2c_l11 = 0, w2c_l12 = 0;
   FUNC_PROLOGUE;
   u32 w2c_i0, w2c_i1;
@@ -53825,7 +53824,7 @@ static void w2c_f76(Z_hayro_jbig2_instance_t* instance, u64 w2c_p0, u64 w2c_p1, 
     w2c_j2 = w2c_p3;
     w2c_j3 = 3ull;
     w2c_j2 <<= (w2c_j3 & 63);
-    (*Z_heapZ_jbig2_c_give_back)(instance->Z_heap_instance, w2c_j0, w2c_j1, w2c_j2);
+    (*Z_heapZ_jbig2_c_give_back)((struct Z_heap_instance_t*)instance, w2c_j0, w2c_j1, w2c_j2);
     w2c_B7:;
     w2c_j0 = w2c_p6;
     w2c_j1 = 48ull;
@@ -53847,7 +53846,7 @@ static void w2c_f76(Z_hayro_jbig2_instance_t* instance, u64 w2c_p0, u64 w2c_p1, 
   w2c_j2 = w2c_l11;
   w2c_j3 = 48ull;
   w2c_j2 *= w2c_j3;
-  (*Z_heapZ_jbig2_c_give_back)(instance->Z_heap_instance, w2c_j0, w2c_j1, w2c_j2);
+  (*Z_heapZ_jbig2_c_give_back)((struct Z_heap_instance_t*)instance, w2c_j0, w2c_j1, w2c_j2);
   w2c_B8:;
   w2c_j0 = w2c_p0;
   w2c_i0 = (u32)(w2c_j0);
@@ -53957,7 +53956,7 @@ static void w2c_f76(Z_hayro_jbig2_instance_t* instance, u64 w2c_p0, u64 w2c_p1, 
   FUNC_EPILOGUE;
 }
 
-static u32 w2c_f77(Z_hayro_jbig2_instance_t* instance, u64 w2c_p0, u64 w2c_p1) {
+static u32 w2c_f77(Z_hayro_jbig2_instance_t* RESTRICT instance, u64 w2c_p0, u64 w2c_p1) {
   u32 w2c_l11 = 0;
   u64 w2c_l2 = 0, w2c_l3 = 0, w2c_l4 = 0, w2c_l5 = 0, w2c_l6 = 0, w2c_l7 = 0, w2c_l8 = 0, w2c_l9 = 0, 
       w2c_l10 = 0;
@@ -54014,7 +54013,7 @@ static u32 w2c_f77(Z_hayro_jbig2_instance_t* instance, u64 w2c_p0, u64 w2c_p1) {
   w2c_j1 = i64_load(&instance->w2c_memory, (u64)(w2c_i1));
   w2c_j2 = w2c_p1;
   w2c_j3 = 1ull;
-  (*Z_heapZ_jbig2_c_take)(instance->Z_heap_instance, w2c_j0, w2c_j1, w2c_j2, w2c_j3);
+  (*Z_heapZ_jbig2_c_take)((struct Z_heap_instance_t*)instance, w2c_j0, w2c_j1, w2c_j2, w2c_j3);
   w2c_j0 = w2c_l3;
   w2c_i0 = (u32)(w2c_j0);
   w2c_i0 = i32_load8_u(&instance->w2c_memory, (u64)(w2c_i0));
@@ -54152,7 +54151,7 @@ static u32 w2c_f77(Z_hayro_jbig2_instance_t* instance, u64 w2c_p0, u64 w2c_p1) {
   w2c_j0 = i64_load(&instance->w2c_memory, (u64)(w2c_i0));
   w2c_j1 = w2c_l5;
   w2c_j2 = w2c_l4;
-  (*Z_heapZ_jbig2_c_give_back)(instance->Z_heap_instance, w2c_j0, w2c_j1, w2c_j2);
+  (*Z_heapZ_jbig2_c_give_back)((struct Z_heap_instance_t*)instance, w2c_j0, w2c_j1, w2c_j2);
   goto w2c_B2;
   w2c_B3:;
   w2c_j0 = w2c_l3;
@@ -54171,7 +54170,7 @@ static u32 w2c_f77(Z_hayro_jbig2_instance_t* instance, u64 w2c_p0, u64 w2c_p1) {
   w2c_j1 = i64_load(&instance->w2c_memory, (u64)(w2c_i1));
   w2c_j2 = w2c_p1;
   w2c_j3 = 1ull;
-  (*Z_heapZ_jbig2_c_take)(instance->Z_heap_instance, w2c_j0, w2c_j1, w2c_j2, w2c_j3);
+  (*Z_heapZ_jbig2_c_take)((struct Z_heap_instance_t*)instance, w2c_j0, w2c_j1, w2c_j2, w2c_j3);
   w2c_j0 = w2c_l3;
   w2c_i0 = (u32)(w2c_j0);
   w2c_i0 = i32_load8_u(&instance->w2c_memory, (u64)(w2c_i0));
@@ -54210,7 +54209,7 @@ static u32 w2c_f77(Z_hayro_jbig2_instance_t* instance, u64 w2c_p0, u64 w2c_p1) {
   return w2c_i0;
 }
 
-static void w2c_f78(Z_hayro_jbig2_instance_t* instance, u64 w2c_p0, u64 w2c_p1, u64 w2c_p2, u64 w2c_p3, u64 w2c_p4, u64 w2c_p5, u64 w2c_p6) {
+static void w2c_f78(Z_hayro_jbig2_instance_t* RESTRICT instance, u64 w2c_p0, u64 w2c_p1, u64 w2c_p2, u64 w2c_p3, u64 w2c_p4, u64 w2c_p5, u64 w2c_p6) {
   u32 w2c_l19 = 0, w2c_l20 = 0, w2c_l21 = 0, w2c_l22 = 0, w2c_l23 = 0, w2c_l24 = 0;
   u64 w2c_l7 = 0, w2c_l8 = 0, w2c_l9 = 0, w2c_l10 = 0, w2c_l11 = 0, w2c_l12 = 0, w2c_l13 = 0, w2c_l14 = 0, 
       w2c_l15 = 0, w2c_l16 = 0, w2c_l17 = 0, w2c_l18 = 0;
@@ -55653,7 +55652,7 @@ static void w2c_f78(Z_hayro_jbig2_instance_t* instance, u64 w2c_p0, u64 w2c_p1, 
   FUNC_EPILOGUE;
 }
 
-static void w2c_f79(Z_hayro_jbig2_instance_t* instance, u64 w2c_p0, u64 w2c_p1, u32 w2c_p2, u64 w2c_p3, u64 w2c_p4, u64 w2c_p5, u64 w2c_p6) {
+static void w2c_f79(Z_hayro_jbig2_instance_t* RESTRICT instance, u64 w2c_p0, u64 w2c_p1, u32 w2c_p2, u64 w2c_p3, u64 w2c_p4, u64 w2c_p5, u64 w2c_p6) {
   u32 w2c_l13 = 0, w2c_l14 = 0, w2c_l15 = 0, w2c_l16 = 0, w2c_l17 = 0, w2c_l18 = 0, w2c_l19 = 0, w2c_l20 = 0, 
       w2c_l21 = 0, w2c_l22 = 0, w2c_l23 = 0;
   u64 w2c_l7 = 0, w2c_l8 = 0, w2c_l9 = 0, w2c_l10 = 0, w2c_l11 = 0, w2c_l12 = 0;
@@ -55905,7 +55904,7 @@ static void w2c_f79(Z_hayro_jbig2_instance_t* instance, u64 w2c_p0, u64 w2c_p1, 
   w2c_j2 = w2c_p4;
   w2c_j3 = 3ull;
   w2c_j2 <<= (w2c_j3 & 63);
-  (*Z_heapZ_jbig2_c_give_back)(instance->Z_heap_instance, w2c_j0, w2c_j1, w2c_j2);
+  (*Z_heapZ_jbig2_c_give_back)((struct Z_heap_instance_t*)instance, w2c_j0, w2c_j1, w2c_j2);
   goto w2c_B1;
   w2c_B13:;
   w2c_j0 = w2c_p3;
@@ -55954,7 +55953,7 @@ static void w2c_f79(Z_hayro_jbig2_instance_t* instance, u64 w2c_p0, u64 w2c_p1, 
   w2c_j2 = w2c_p4;
   w2c_j3 = 3ull;
   w2c_j2 <<= (w2c_j3 & 63);
-  (*Z_heapZ_jbig2_c_give_back)(instance->Z_heap_instance, w2c_j0, w2c_j1, w2c_j2);
+  (*Z_heapZ_jbig2_c_give_back)((struct Z_heap_instance_t*)instance, w2c_j0, w2c_j1, w2c_j2);
   goto w2c_B1;
   w2c_B10:;
   w2c_i0 = w2c_l18;
@@ -56048,7 +56047,7 @@ static void w2c_f79(Z_hayro_jbig2_instance_t* instance, u64 w2c_p0, u64 w2c_p1, 
   w2c_j2 = w2c_p4;
   w2c_j3 = 3ull;
   w2c_j2 <<= (w2c_j3 & 63);
-  (*Z_heapZ_jbig2_c_give_back)(instance->Z_heap_instance, w2c_j0, w2c_j1, w2c_j2);
+  (*Z_heapZ_jbig2_c_give_back)((struct Z_heap_instance_t*)instance, w2c_j0, w2c_j1, w2c_j2);
   goto w2c_B1;
   w2c_B5:;
   w2c_i0 = w2c_l16;
@@ -56064,7 +56063,7 @@ static void w2c_f79(Z_hayro_jbig2_instance_t* instance, u64 w2c_p0, u64 w2c_p1, 
   w2c_j2 = w2c_p4;
   w2c_j3 = 3ull;
   w2c_j2 <<= (w2c_j3 & 63);
-  (*Z_heapZ_jbig2_c_give_back)(instance->Z_heap_instance, w2c_j0, w2c_j1, w2c_j2);
+  (*Z_heapZ_jbig2_c_give_back)((struct Z_heap_instance_t*)instance, w2c_j0, w2c_j1, w2c_j2);
   goto w2c_B1;
   w2c_B4:;
   w2c_j0 = w2c_p0;
@@ -56234,7 +56233,7 @@ static void w2c_f79(Z_hayro_jbig2_instance_t* instance, u64 w2c_p0, u64 w2c_p1, 
   w2c_j2 = w2c_p4;
   w2c_j3 = 3ull;
   w2c_j2 <<= (w2c_j3 & 63);
-  (*Z_heapZ_jbig2_c_give_back)(instance->Z_heap_instance, w2c_j0, w2c_j1, w2c_j2);
+  (*Z_heapZ_jbig2_c_give_back)((struct Z_heap_instance_t*)instance, w2c_j0, w2c_j1, w2c_j2);
   w2c_B31:;
   w2c_j0 = w2c_p0;
   w2c_i0 = (u32)(w2c_j0);
@@ -56279,7 +56278,7 @@ static void w2c_f79(Z_hayro_jbig2_instance_t* instance, u64 w2c_p0, u64 w2c_p1, 
   w2c_j2 = w2c_p4;
   w2c_j3 = 3ull;
   w2c_j2 <<= (w2c_j3 & 63);
-  (*Z_heapZ_jbig2_c_give_back)(instance->Z_heap_instance, w2c_j0, w2c_j1, w2c_j2);
+  (*Z_heapZ_jbig2_c_give_back)((struct Z_heap_instance_t*)instance, w2c_j0, w2c_j1, w2c_j2);
   w2c_B33:;
   w2c_j0 = w2c_p0;
   w2c_i0 = (u32)(w2c_j0);
@@ -56335,7 +56334,7 @@ static void w2c_f79(Z_hayro_jbig2_instance_t* instance, u64 w2c_p0, u64 w2c_p1, 
   FUNC_EPILOGUE;
 }
 
-static u32 w2c_f80(Z_hayro_jbig2_instance_t* instance, u32 w2c_p0, u32 w2c_p1, u64 w2c_p2, u64 w2c_p3) {
+static u32 w2c_f80(Z_hayro_jbig2_instance_t* RESTRICT instance, u32 w2c_p0, u32 w2c_p1, u64 w2c_p2, u64 w2c_p3) {
   u32 w2c_l6 = 0;
   u64 w2c_l4 = 0, w2c_l5 = 0;
   FUNC_PROLOGUE;
@@ -56409,7 +56408,7 @@ static u32 w2c_f80(Z_hayro_jbig2_instance_t* instance, u32 w2c_p0, u32 w2c_p1, u
   return w2c_i0;
 }
 
-static void w2c_f81(Z_hayro_jbig2_instance_t* instance, u64 w2c_p0, u64 w2c_p1, u64 w2c_p2, u64 w2c_p3) {
+static void w2c_f81(Z_hayro_jbig2_instance_t* RESTRICT instance, u64 w2c_p0, u64 w2c_p1, u64 w2c_p2, u64 w2c_p3) {
   u32 w2c_l23 = 0, w2c_l24 = 0, w2c_l25 = 0, w2c_l26 = 0, w2c_l27 = 0, w2c_l28 = 0, w2c_l29 = 0, w2c_l30 = 0, 
       w2c_l31 = 0, w2c_l32 = 0, w2c_l33 = 0, w2c_l34 = 0, w2c_l35 = 0, w2c_l36 = 0, w2c_l37 = 0, w2c_l38 = 0, 
       w2c_l39 = 0;
@@ -59655,7 +59654,7 @@ static void w2c_f81(Z_hayro_jbig2_instance_t* instance, u64 w2c_p0, u64 w2c_p1, 
   FUNC_EPILOGUE;
 }
 
-static void w2c_f82(Z_hayro_jbig2_instance_t* instance, u64 w2c_p0, u64 w2c_p1, u64 w2c_p2) {
+static void w2c_f82(Z_hayro_jbig2_instance_t* RESTRICT instance, u64 w2c_p0, u64 w2c_p1, u64 w2c_p2) {
   u32 w2c_l3 = 0, w2c_l4 = 0, w2c_l5 = 0;
   u64 w2c_l6 = 0, w2c_l7 = 0, w2c_l8 = 0, w2c_l9 = 0;
   FUNC_PROLOGUE;
@@ -60183,7 +60182,7 @@ static void w2c_f82(Z_hayro_jbig2_instance_t* instance, u64 w2c_p0, u64 w2c_p1, 
   FUNC_EPILOGUE;
 }
 
-static void w2c_f83(Z_hayro_jbig2_instance_t* instance, u64 w2c_p0, u64 w2c_p1, u32 w2c_p2, u32 w2c_p3, u32 w2c_p4) {
+static void w2c_f83(Z_hayro_jbig2_instance_t* RESTRICT instance, u64 w2c_p0, u64 w2c_p1, u32 w2c_p2, u32 w2c_p3, u32 w2c_p4) {
   u32 w2c_l22 = 0, w2c_l23 = 0, w2c_l24 = 0, w2c_l25 = 0, w2c_l26 = 0, w2c_l27 = 0;
   u64 w2c_l5 = 0, w2c_l6 = 0, w2c_l7 = 0, w2c_l8 = 0, w2c_l9 = 0, w2c_l10 = 0, w2c_l11 = 0, w2c_l12 = 0, 
       w2c_l13 = 0, w2c_l14 = 0, w2c_l15 = 0, w2c_l16 = 0, w2c_l17 = 0, w2c_l18 = 0, w2c_l19 = 0, w2c_l20 = 0, 
@@ -61667,7 +61666,7 @@ static void w2c_f83(Z_hayro_jbig2_instance_t* instance, u64 w2c_p0, u64 w2c_p1, 
   FUNC_EPILOGUE;
 }
 
-static void w2c_f84(Z_hayro_jbig2_instance_t* instance, u64 w2c_p0, u64 w2c_p1, u32 w2c_p2, u64 w2c_p3) {
+static void w2c_f84(Z_hayro_jbig2_instance_t* RESTRICT instance, u64 w2c_p0, u64 w2c_p1, u32 w2c_p2, u64 w2c_p3) {
   u32 w2c_l4 = 0, w2c_l5 = 0, w2c_l6 = 0, w2c_l7 = 0, w2c_l8 = 0, w2c_l9 = 0, w2c_l10 = 0, w2c_l11 = 0, 
       w2c_l12 = 0, w2c_l13 = 0, w2c_l14 = 0, w2c_l15 = 0, w2c_l16 = 0, w2c_l17 = 0, w2c_l18 = 0, w2c_l19 = 0, 
       w2c_l20 = 0;
@@ -62902,7 +62901,7 @@ static void w2c_f84(Z_hayro_jbig2_instance_t* instance, u64 w2c_p0, u64 w2c_p1, 
   FUNC_EPILOGUE;
 }
 
-static void w2c_f85(Z_hayro_jbig2_instance_t* instance, u64 w2c_p0, u64 w2c_p1, u32 w2c_p2, u32 w2c_p3, u32 w2c_p4) {
+static void w2c_f85(Z_hayro_jbig2_instance_t* RESTRICT instance, u64 w2c_p0, u64 w2c_p1, u32 w2c_p2, u32 w2c_p3, u32 w2c_p4) {
   u32 w2c_l14 = 0, w2c_l15 = 0, w2c_l16 = 0, w2c_l17 = 0;
   u64 w2c_l5 = 0, w2c_l6 = 0, w2c_l7 = 0, w2c_l8 = 0, w2c_l9 = 0, w2c_l10 = 0, w2c_l11 = 0, w2c_l12 = 0, 
       w2c_l13 = 0;
@@ -63252,7 +63251,7 @@ static void w2c_f85(Z_hayro_jbig2_instance_t* instance, u64 w2c_p0, u64 w2c_p1, 
   FUNC_EPILOGUE;
 }
 
-static void w2c_f86(Z_hayro_jbig2_instance_t* instance, u64 w2c_p0, u64 w2c_p1, u32 w2c_p2, u32 w2c_p3) {
+static void w2c_f86(Z_hayro_jbig2_instance_t* RESTRICT instance, u64 w2c_p0, u64 w2c_p1, u32 w2c_p2, u32 w2c_p3) {
   u64 w2c_l4 = 0;
   FUNC_PROLOGUE;
   u32 w2c_i0, w2c_i1, w2c_i2, w2c_i3, w2c_i4;
@@ -63454,7 +63453,7 @@ static void w2c_f86(Z_hayro_jbig2_instance_t* instance, u64 w2c_p0, u64 w2c_p1, 
   w2c_j2 = w2c_p1;
   w2c_j3 = 3ull;
   w2c_j2 <<= (w2c_j3 & 63);
-  (*Z_heapZ_jbig2_c_give_back)(instance->Z_heap_instance, w2c_j0, w2c_j1, w2c_j2);
+  (*Z_heapZ_jbig2_c_give_back)((struct Z_heap_instance_t*)instance, w2c_j0, w2c_j1, w2c_j2);
   w2c_B4:;
   w2c_j0 = w2c_p0;
   w2c_i0 = (u32)(w2c_j0);
@@ -63520,7 +63519,7 @@ static void w2c_f86(Z_hayro_jbig2_instance_t* instance, u64 w2c_p0, u64 w2c_p1, 
   FUNC_EPILOGUE;
 }
 
-static void w2c_f87(Z_hayro_jbig2_instance_t* instance, u64 w2c_p0, u64 w2c_p1, u64 w2c_p2, u64 w2c_p3, u32 w2c_p4) {
+static void w2c_f87(Z_hayro_jbig2_instance_t* RESTRICT instance, u64 w2c_p0, u64 w2c_p1, u64 w2c_p2, u64 w2c_p3, u32 w2c_p4) {
   u32 w2c_l17 = 0, w2c_l18 = 0, w2c_l19 = 0, w2c_l20 = 0, w2c_l21 = 0, w2c_l22 = 0, w2c_l23 = 0, w2c_l24 = 0, 
       w2c_l25 = 0, w2c_l26 = 0, w2c_l27 = 0, w2c_l28 = 0;
   u64 w2c_l5 = 0, w2c_l6 = 0, w2c_l7 = 0, w2c_l8 = 0, w2c_l9 = 0, w2c_l10 = 0, w2c_l11 = 0, w2c_l12 = 0, 
@@ -65109,7 +65108,7 @@ static void w2c_f87(Z_hayro_jbig2_instance_t* instance, u64 w2c_p0, u64 w2c_p1, 
   FUNC_EPILOGUE;
 }
 
-static u32 w2c_f88(Z_hayro_jbig2_instance_t* instance, u64 w2c_p0, u32 w2c_p1, u32 w2c_p2, u64 w2c_p3, u32 w2c_p4) {
+static u32 w2c_f88(Z_hayro_jbig2_instance_t* RESTRICT instance, u64 w2c_p0, u32 w2c_p1, u32 w2c_p2, u64 w2c_p3, u32 w2c_p4) {
   u32 w2c_l5 = 0, w2c_l6 = 0;
   u64 w2c_l7 = 0, w2c_l8 = 0, w2c_l9 = 0, w2c_l10 = 0;
   FUNC_PROLOGUE;
@@ -65296,7 +65295,7 @@ static u32 w2c_f88(Z_hayro_jbig2_instance_t* instance, u64 w2c_p0, u32 w2c_p1, u
   return w2c_i0;
 }
 
-static void w2c_f89(Z_hayro_jbig2_instance_t* instance, u64 w2c_p0, u64 w2c_p1, u64 w2c_p2, u64 w2c_p3, u64 w2c_p4, u64 w2c_p5, u64 w2c_p6, u64 w2c_p7) {
+static void w2c_f89(Z_hayro_jbig2_instance_t* RESTRICT instance, u64 w2c_p0, u64 w2c_p1, u64 w2c_p2, u64 w2c_p3, u64 w2c_p4, u64 w2c_p5, u64 w2c_p6, u64 w2c_p7) {
   u32 w2c_l24 = 0, w2c_l25 = 0;
   u64 w2c_l8 = 0, w2c_l9 = 0, w2c_l10 = 0, w2c_l11 = 0, w2c_l12 = 0, w2c_l13 = 0, w2c_l14 = 0, w2c_l15 = 0, 
       w2c_l16 = 0, w2c_l17 = 0, w2c_l18 = 0, w2c_l19 = 0, w2c_l20 = 0, w2c_l21 = 0, w2c_l22 = 0, w2c_l23 = 0;
@@ -65680,7 +65679,7 @@ static void w2c_f89(Z_hayro_jbig2_instance_t* instance, u64 w2c_p0, u64 w2c_p1, 
   w2c_j2 = w2c_l20;
   w2c_j3 = 3ull;
   w2c_j2 <<= (w2c_j3 & 63);
-  (*Z_heapZ_jbig2_c_give_back)(instance->Z_heap_instance, w2c_j0, w2c_j1, w2c_j2);
+  (*Z_heapZ_jbig2_c_give_back)((struct Z_heap_instance_t*)instance, w2c_j0, w2c_j1, w2c_j2);
   w2c_B2:;
   w2c_j0 = w2c_l8;
   w2c_i0 = (u32)(w2c_j0);
@@ -65724,7 +65723,7 @@ static void w2c_f89(Z_hayro_jbig2_instance_t* instance, u64 w2c_p0, u64 w2c_p1, 
     w2c_j2 = w2c_l17;
     w2c_j3 = 3ull;
     w2c_j2 <<= (w2c_j3 & 63);
-    (*Z_heapZ_jbig2_c_give_back)(instance->Z_heap_instance, w2c_j0, w2c_j1, w2c_j2);
+    (*Z_heapZ_jbig2_c_give_back)((struct Z_heap_instance_t*)instance, w2c_j0, w2c_j1, w2c_j2);
     w2c_B13:;
     w2c_j0 = w2c_p1;
     w2c_j1 = 48ull;
@@ -65746,7 +65745,7 @@ static void w2c_f89(Z_hayro_jbig2_instance_t* instance, u64 w2c_p0, u64 w2c_p1, 
   w2c_j2 = w2c_l23;
   w2c_j3 = 48ull;
   w2c_j2 *= w2c_j3;
-  (*Z_heapZ_jbig2_c_give_back)(instance->Z_heap_instance, w2c_j0, w2c_j1, w2c_j2);
+  (*Z_heapZ_jbig2_c_give_back)((struct Z_heap_instance_t*)instance, w2c_j0, w2c_j1, w2c_j2);
   w2c_B14:;
   w2c_j0 = w2c_p0;
   w2c_i0 = (u32)(w2c_j0);
@@ -65808,7 +65807,7 @@ static void w2c_f89(Z_hayro_jbig2_instance_t* instance, u64 w2c_p0, u64 w2c_p1, 
   FUNC_EPILOGUE;
 }
 
-static void w2c_f90(Z_hayro_jbig2_instance_t* instance, u64 w2c_p0, u64 w2c_p1, u64 w2c_p2, u64 w2c_p3) {
+static void w2c_f90(Z_hayro_jbig2_instance_t* RESTRICT instance, u64 w2c_p0, u64 w2c_p1, u64 w2c_p2, u64 w2c_p3) {
   u32 w2c_l15 = 0, w2c_l16 = 0, w2c_l17 = 0, w2c_l18 = 0;
   u64 w2c_l4 = 0, w2c_l5 = 0, w2c_l6 = 0, w2c_l7 = 0, w2c_l8 = 0, w2c_l9 = 0, w2c_l10 = 0, w2c_l11 = 0, 
       w2c_l12 = 0, w2c_l13 = 0, w2c_l14 = 0;
@@ -66152,7 +66151,7 @@ static void w2c_f90(Z_hayro_jbig2_instance_t* instance, u64 w2c_p0, u64 w2c_p1, 
   w2c_j2 = w2c_p2;
   w2c_j3 = 3ull;
   w2c_j2 <<= (w2c_j3 & 63);
-  (*Z_heapZ_jbig2_c_give_back)(instance->Z_heap_instance, w2c_j0, w2c_j1, w2c_j2);
+  (*Z_heapZ_jbig2_c_give_back)((struct Z_heap_instance_t*)instance, w2c_j0, w2c_j1, w2c_j2);
   w2c_B10:;
   w2c_j0 = 0ull;
   w2c_p3 = w2c_j0;
@@ -66306,7 +66305,7 @@ static void w2c_f90(Z_hayro_jbig2_instance_t* instance, u64 w2c_p0, u64 w2c_p1, 
   FUNC_EPILOGUE;
 }
 
-static u32 w2c_f91(Z_hayro_jbig2_instance_t* instance, u64 w2c_p0) {
+static u32 w2c_f91(Z_hayro_jbig2_instance_t* RESTRICT instance, u64 w2c_p0) {
   u32 w2c_l15 = 0;
   u64 w2c_l1 = 0, w2c_l2 = 0, w2c_l3 = 0, w2c_l4 = 0, w2c_l5 = 0, w2c_l6 = 0, w2c_l7 = 0, w2c_l8 = 0, 
       w2c_l9 = 0, w2c_l10 = 0, w2c_l11 = 0, w2c_l12 = 0, w2c_l13 = 0, w2c_l14 = 0;
@@ -66392,7 +66391,7 @@ static u32 w2c_f91(Z_hayro_jbig2_instance_t* instance, u64 w2c_p0) {
   w2c_j1 = i64_load(&instance->w2c_memory, (u64)(w2c_i1));
   w2c_j2 = w2c_l3;
   w2c_j3 = 8ull;
-  (*Z_heapZ_jbig2_c_take)(instance->Z_heap_instance, w2c_j0, w2c_j1, w2c_j2, w2c_j3);
+  (*Z_heapZ_jbig2_c_take)((struct Z_heap_instance_t*)instance, w2c_j0, w2c_j1, w2c_j2, w2c_j3);
   w2c_j0 = w2c_l2;
   w2c_i0 = (u32)(w2c_j0);
   w2c_i0 = i32_load8_u(&instance->w2c_memory, (u64)(w2c_i0));
@@ -66703,7 +66702,7 @@ static u32 w2c_f91(Z_hayro_jbig2_instance_t* instance, u64 w2c_p0) {
   w2c_j2 = w2c_l4;
   w2c_j3 = 5ull;
   w2c_j2 <<= (w2c_j3 & 63);
-  (*Z_heapZ_jbig2_c_give_back)(instance->Z_heap_instance, w2c_j0, w2c_j1, w2c_j2);
+  (*Z_heapZ_jbig2_c_give_back)((struct Z_heap_instance_t*)instance, w2c_j0, w2c_j1, w2c_j2);
   goto w2c_B2;
   w2c_B3:;
   w2c_j0 = w2c_l2;
@@ -66722,7 +66721,7 @@ static u32 w2c_f91(Z_hayro_jbig2_instance_t* instance, u64 w2c_p0) {
   w2c_j1 = i64_load(&instance->w2c_memory, (u64)(w2c_i1));
   w2c_j2 = w2c_l3;
   w2c_j3 = 8ull;
-  (*Z_heapZ_jbig2_c_take)(instance->Z_heap_instance, w2c_j0, w2c_j1, w2c_j2, w2c_j3);
+  (*Z_heapZ_jbig2_c_take)((struct Z_heap_instance_t*)instance, w2c_j0, w2c_j1, w2c_j2, w2c_j3);
   w2c_j0 = w2c_l2;
   w2c_i0 = (u32)(w2c_j0);
   w2c_i0 = i32_load8_u(&instance->w2c_memory, (u64)(w2c_i0));
@@ -66761,7 +66760,7 @@ static u32 w2c_f91(Z_hayro_jbig2_instance_t* instance, u64 w2c_p0) {
   return w2c_i0;
 }
 
-static void w2c_f92(Z_hayro_jbig2_instance_t* instance, u64 w2c_p0, u64 w2c_p1, u64 w2c_p2, u64 w2c_p3, u64 w2c_p4, u64 w2c_p5, u64 w2c_p6) {
+static void w2c_f92(Z_hayro_jbig2_instance_t* RESTRICT instance, u64 w2c_p0, u64 w2c_p1, u64 w2c_p2, u64 w2c_p3, u64 w2c_p4, u64 w2c_p5, u64 w2c_p6) {
   u32 w2c_l12 = 0, w2c_l13 = 0, w2c_l14 = 0, w2c_l15 = 0, w2c_l16 = 0, w2c_l17 = 0, w2c_l18 = 0, w2c_l19 = 0;
   u64 w2c_l7 = 0, w2c_l8 = 0, w2c_l9 = 0, w2c_l10 = 0, w2c_l11 = 0;
   FUNC_PROLOGUE;
@@ -67634,7 +67633,7 @@ static void w2c_f92(Z_hayro_jbig2_instance_t* instance, u64 w2c_p0, u64 w2c_p1, 
   FUNC_EPILOGUE;
 }
 
-static void w2c_f93(Z_hayro_jbig2_instance_t* instance, u64 w2c_p0, u64 w2c_p1, u64 w2c_p2, u64 w2c_p3) {
+static void w2c_f93(Z_hayro_jbig2_instance_t* RESTRICT instance, u64 w2c_p0, u64 w2c_p1, u64 w2c_p2, u64 w2c_p3) {
   u32 w2c_l12 = 0, w2c_l13 = 0, w2c_l14 = 0, w2c_l15 = 0, w2c_l16 = 0, w2c_l17 = 0, w2c_l18 = 0, w2c_l19 = 0;
   u64 w2c_l4 = 0, w2c_l5 = 0, w2c_l6 = 0, w2c_l7 = 0, w2c_l8 = 0, w2c_l9 = 0, w2c_l10 = 0, w2c_l11 = 0;
   FUNC_PROLOGUE;
@@ -68139,7 +68138,7 @@ static void w2c_f93(Z_hayro_jbig2_instance_t* instance, u64 w2c_p0, u64 w2c_p1, 
   FUNC_EPILOGUE;
 }
 
-static void w2c_f94(Z_hayro_jbig2_instance_t* instance, u64 w2c_p0, u64 w2c_p1, u64 w2c_p2, u64 w2c_p3) {
+static void w2c_f94(Z_hayro_jbig2_instance_t* RESTRICT instance, u64 w2c_p0, u64 w2c_p1, u64 w2c_p2, u64 w2c_p3) {
   u32 w2c_l19 = 0, w2c_l20 = 0, w2c_l21 = 0, w2c_l22 = 0, w2c_l23 = 0, w2c_l24 = 0, w2c_l25 = 0, w2c_l26 = 0, 
       w2c_l27 = 0, w2c_l28 = 0, w2c_l29 = 0;
   u64 w2c_l4 = 0, w2c_l5 = 0, w2c_l6 = 0, w2c_l7 = 0, w2c_l8 = 0, w2c_l9 = 0, w2c_l10 = 0, w2c_l11 = 0, 
@@ -69170,7 +69169,7 @@ static void w2c_f94(Z_hayro_jbig2_instance_t* instance, u64 w2c_p0, u64 w2c_p1, 
   FUNC_EPILOGUE;
 }
 
-static void w2c_f95(Z_hayro_jbig2_instance_t* instance, u64 w2c_p0, u64 w2c_p1, u64 w2c_p2, u64 w2c_p3) {
+static void w2c_f95(Z_hayro_jbig2_instance_t* RESTRICT instance, u64 w2c_p0, u64 w2c_p1, u64 w2c_p2, u64 w2c_p3) {
   u32 w2c_l19 = 0, w2c_l20 = 0, w2c_l21 = 0, w2c_l22 = 0, w2c_l23 = 0, w2c_l24 = 0, w2c_l25 = 0, w2c_l26 = 0, 
       w2c_l27 = 0, w2c_l28 = 0, w2c_l29 = 0, w2c_l30 = 0;
   u64 w2c_l4 = 0, w2c_l5 = 0, w2c_l6 = 0, w2c_l7 = 0, w2c_l8 = 0, w2c_l9 = 0, w2c_l10 = 0, w2c_l11 = 0, 
@@ -70206,7 +70205,7 @@ static void w2c_f95(Z_hayro_jbig2_instance_t* instance, u64 w2c_p0, u64 w2c_p1, 
   FUNC_EPILOGUE;
 }
 
-static void w2c_f96(Z_hayro_jbig2_instance_t* instance, u64 w2c_p0, u64 w2c_p1, u64 w2c_p2, u64 w2c_p3) {
+static void w2c_f96(Z_hayro_jbig2_instance_t* RESTRICT instance, u64 w2c_p0, u64 w2c_p1, u64 w2c_p2, u64 w2c_p3) {
   u32 w2c_l19 = 0, w2c_l20 = 0, w2c_l21 = 0, w2c_l22 = 0, w2c_l23 = 0, w2c_l24 = 0, w2c_l25 = 0, w2c_l26 = 0, 
       w2c_l27 = 0, w2c_l28 = 0, w2c_l29 = 0, w2c_l30 = 0;
   u64 w2c_l4 = 0, w2c_l5 = 0, w2c_l6 = 0, w2c_l7 = 0, w2c_l8 = 0, w2c_l9 = 0, w2c_l10 = 0, w2c_l11 = 0, 
@@ -71242,7 +71241,7 @@ static void w2c_f96(Z_hayro_jbig2_instance_t* instance, u64 w2c_p0, u64 w2c_p1, 
   FUNC_EPILOGUE;
 }
 
-static void w2c_f97(Z_hayro_jbig2_instance_t* instance, u64 w2c_p0, u64 w2c_p1, u64 w2c_p2, u64 w2c_p3) {
+static void w2c_f97(Z_hayro_jbig2_instance_t* RESTRICT instance, u64 w2c_p0, u64 w2c_p1, u64 w2c_p2, u64 w2c_p3) {
   u32 w2c_l17 = 0, w2c_l18 = 0, w2c_l19 = 0, w2c_l20 = 0, w2c_l21 = 0, w2c_l22 = 0, w2c_l23 = 0, w2c_l24 = 0, 
       w2c_l25 = 0, w2c_l26 = 0, w2c_l27 = 0;
   u64 w2c_l4 = 0, w2c_l5 = 0, w2c_l6 = 0, w2c_l7 = 0, w2c_l8 = 0, w2c_l9 = 0, w2c_l10 = 0, w2c_l11 = 0, 
@@ -72221,7 +72220,7 @@ static void w2c_f97(Z_hayro_jbig2_instance_t* instance, u64 w2c_p0, u64 w2c_p1, 
   FUNC_EPILOGUE;
 }
 
-static void w2c_f98(Z_hayro_jbig2_instance_t* instance, u64 w2c_p0, u32 w2c_p1, u64 w2c_p2, u64 w2c_p3, u64 w2c_p4) {
+static void w2c_f98(Z_hayro_jbig2_instance_t* RESTRICT instance, u64 w2c_p0, u32 w2c_p1, u64 w2c_p2, u64 w2c_p3, u64 w2c_p4) {
   u32 w2c_l26 = 0, w2c_l27 = 0, w2c_l28 = 0, w2c_l29 = 0, w2c_l30 = 0, w2c_l31 = 0, w2c_l32 = 0, w2c_l33 = 0, 
       w2c_l34 = 0, w2c_l35 = 0, w2c_l36 = 0, w2c_l37 = 0, w2c_l38 = 0, w2c_l39 = 0, w2c_l40 = 0, w2c_l41 = 0, 
       w2c_l42 = 0, w2c_l43 = 0, w2c_l44 = 0, w2c_l45 = 0;
@@ -73736,7 +73735,7 @@ static void w2c_f98(Z_hayro_jbig2_instance_t* instance, u64 w2c_p0, u32 w2c_p1, 
   FUNC_EPILOGUE;
 }
 
-static void w2c_f99(Z_hayro_jbig2_instance_t* instance, u64 w2c_p0, u32 w2c_p1, u64 w2c_p2, u64 w2c_p3, u64 w2c_p4) {
+static void w2c_f99(Z_hayro_jbig2_instance_t* RESTRICT instance, u64 w2c_p0, u32 w2c_p1, u64 w2c_p2, u64 w2c_p3, u64 w2c_p4) {
   u32 w2c_l26 = 0, w2c_l27 = 0, w2c_l28 = 0, w2c_l29 = 0, w2c_l30 = 0, w2c_l31 = 0, w2c_l32 = 0, w2c_l33 = 0, 
       w2c_l34 = 0, w2c_l35 = 0, w2c_l36 = 0, w2c_l37 = 0, w2c_l38 = 0, w2c_l39 = 0, w2c_l40 = 0, w2c_l41 = 0, 
       w2c_l42 = 0, w2c_l43 = 0, w2c_l44 = 0, w2c_l45 = 0, w2c_l46 = 0;
@@ -75256,7 +75255,7 @@ static void w2c_f99(Z_hayro_jbig2_instance_t* instance, u64 w2c_p0, u32 w2c_p1, 
   FUNC_EPILOGUE;
 }
 
-static void w2c_f100(Z_hayro_jbig2_instance_t* instance, u64 w2c_p0, u32 w2c_p1, u64 w2c_p2, u64 w2c_p3, u64 w2c_p4) {
+static void w2c_f100(Z_hayro_jbig2_instance_t* RESTRICT instance, u64 w2c_p0, u32 w2c_p1, u64 w2c_p2, u64 w2c_p3, u64 w2c_p4) {
   u32 w2c_l26 = 0, w2c_l27 = 0, w2c_l28 = 0, w2c_l29 = 0, w2c_l30 = 0, w2c_l31 = 0, w2c_l32 = 0, w2c_l33 = 0, 
       w2c_l34 = 0, w2c_l35 = 0, w2c_l36 = 0, w2c_l37 = 0, w2c_l38 = 0, w2c_l39 = 0, w2c_l40 = 0, w2c_l41 = 0, 
       w2c_l42 = 0, w2c_l43 = 0, w2c_l44 = 0, w2c_l45 = 0, w2c_l46 = 0;
@@ -76776,7 +76775,7 @@ static void w2c_f100(Z_hayro_jbig2_instance_t* instance, u64 w2c_p0, u32 w2c_p1,
   FUNC_EPILOGUE;
 }
 
-static void w2c_f101(Z_hayro_jbig2_instance_t* instance, u64 w2c_p0, u32 w2c_p1, u64 w2c_p2, u64 w2c_p3, u64 w2c_p4) {
+static void w2c_f101(Z_hayro_jbig2_instance_t* RESTRICT instance, u64 w2c_p0, u32 w2c_p1, u64 w2c_p2, u64 w2c_p3, u64 w2c_p4) {
   u32 w2c_l20 = 0, w2c_l21 = 0, w2c_l22 = 0, w2c_l23 = 0, w2c_l24 = 0, w2c_l25 = 0, w2c_l26 = 0, w2c_l27 = 0, 
       w2c_l28 = 0, w2c_l29 = 0, w2c_l30 = 0, w2c_l31 = 0, w2c_l32 = 0, w2c_l33 = 0, w2c_l34 = 0, w2c_l35 = 0, 
       w2c_l36 = 0, w2c_l37 = 0;
@@ -78085,7 +78084,7 @@ static void w2c_f101(Z_hayro_jbig2_instance_t* instance, u64 w2c_p0, u32 w2c_p1,
   FUNC_EPILOGUE;
 }
 
-static void w2c_f102(Z_hayro_jbig2_instance_t* instance, u64 w2c_p0, u64 w2c_p1, u64 w2c_p2, u64 w2c_p3) {
+static void w2c_f102(Z_hayro_jbig2_instance_t* RESTRICT instance, u64 w2c_p0, u64 w2c_p1, u64 w2c_p2, u64 w2c_p3) {
   u32 w2c_l10 = 0, w2c_l11 = 0, w2c_l12 = 0;
   u64 w2c_l4 = 0, w2c_l5 = 0, w2c_l6 = 0, w2c_l7 = 0, w2c_l8 = 0, w2c_l9 = 0;
   FUNC_PROLOGUE;
@@ -78460,7 +78459,7 @@ static void w2c_f102(Z_hayro_jbig2_instance_t* instance, u64 w2c_p0, u64 w2c_p1,
   FUNC_EPILOGUE;
 }
 
-static u32 w2c_f103(Z_hayro_jbig2_instance_t* instance, u64 w2c_p0) {
+static u32 w2c_f103(Z_hayro_jbig2_instance_t* RESTRICT instance, u64 w2c_p0) {
   u32 w2c_l17 = 0;
   u64 w2c_l1 = 0, w2c_l2 = 0, w2c_l3 = 0, w2c_l4 = 0, w2c_l5 = 0, w2c_l6 = 0, w2c_l7 = 0, w2c_l8 = 0, 
       w2c_l9 = 0, w2c_l10 = 0, w2c_l11 = 0, w2c_l12 = 0, w2c_l13 = 0, w2c_l14 = 0, w2c_l15 = 0, w2c_l16 = 0;
@@ -78546,7 +78545,7 @@ static u32 w2c_f103(Z_hayro_jbig2_instance_t* instance, u64 w2c_p0) {
   w2c_j1 = i64_load(&instance->w2c_memory, (u64)(w2c_i1));
   w2c_j2 = w2c_l3;
   w2c_j3 = 8ull;
-  (*Z_heapZ_jbig2_c_take)(instance->Z_heap_instance, w2c_j0, w2c_j1, w2c_j2, w2c_j3);
+  (*Z_heapZ_jbig2_c_take)((struct Z_heap_instance_t*)instance, w2c_j0, w2c_j1, w2c_j2, w2c_j3);
   w2c_j0 = w2c_l2;
   w2c_i0 = (u32)(w2c_j0);
   w2c_i0 = i32_load8_u(&instance->w2c_memory, (u64)(w2c_i0));
@@ -78961,7 +78960,7 @@ static u32 w2c_f103(Z_hayro_jbig2_instance_t* instance, u64 w2c_p0) {
   w2c_j2 = w2c_l4;
   w2c_j3 = 48ull;
   w2c_j2 *= w2c_j3;
-  (*Z_heapZ_jbig2_c_give_back)(instance->Z_heap_instance, w2c_j0, w2c_j1, w2c_j2);
+  (*Z_heapZ_jbig2_c_give_back)((struct Z_heap_instance_t*)instance, w2c_j0, w2c_j1, w2c_j2);
   goto w2c_B2;
   w2c_B3:;
   w2c_j0 = w2c_l2;
@@ -78980,7 +78979,7 @@ static u32 w2c_f103(Z_hayro_jbig2_instance_t* instance, u64 w2c_p0) {
   w2c_j1 = i64_load(&instance->w2c_memory, (u64)(w2c_i1));
   w2c_j2 = w2c_l3;
   w2c_j3 = 8ull;
-  (*Z_heapZ_jbig2_c_take)(instance->Z_heap_instance, w2c_j0, w2c_j1, w2c_j2, w2c_j3);
+  (*Z_heapZ_jbig2_c_take)((struct Z_heap_instance_t*)instance, w2c_j0, w2c_j1, w2c_j2, w2c_j3);
   w2c_j0 = w2c_l2;
   w2c_i0 = (u32)(w2c_j0);
   w2c_i0 = i32_load8_u(&instance->w2c_memory, (u64)(w2c_i0));
@@ -79019,7 +79018,7 @@ static u32 w2c_f103(Z_hayro_jbig2_instance_t* instance, u64 w2c_p0) {
   return w2c_i0;
 }
 
-static u32 w2c_f104(Z_hayro_jbig2_instance_t* instance, u64 w2c_p0) {
+static u32 w2c_f104(Z_hayro_jbig2_instance_t* RESTRICT instance, u64 w2c_p0) {
   u32 w2c_l12 = 0;
   u64 w2c_l1 = 0, w2c_l2 = 0, w2c_l3 = 0, w2c_l4 = 0, w2c_l5 = 0, w2c_l6 = 0, w2c_l7 = 0, w2c_l8 = 0, 
       w2c_l9 = 0, w2c_l10 = 0, w2c_l11 = 0;
@@ -79100,7 +79099,7 @@ static u32 w2c_f104(Z_hayro_jbig2_instance_t* instance, u64 w2c_p0) {
   w2c_j1 = i64_load(&instance->w2c_memory, (u64)(w2c_i1));
   w2c_j2 = w2c_l3;
   w2c_j3 = 8ull;
-  (*Z_heapZ_jbig2_c_take)(instance->Z_heap_instance, w2c_j0, w2c_j1, w2c_j2, w2c_j3);
+  (*Z_heapZ_jbig2_c_take)((struct Z_heap_instance_t*)instance, w2c_j0, w2c_j1, w2c_j2, w2c_j3);
   w2c_j0 = w2c_l1;
   w2c_i0 = (u32)(w2c_j0);
   w2c_i0 = i32_load8_u(&instance->w2c_memory, (u64)(w2c_i0));
@@ -79260,7 +79259,7 @@ static u32 w2c_f104(Z_hayro_jbig2_instance_t* instance, u64 w2c_p0) {
   w2c_j2 = w2c_l4;
   w2c_j3 = 1104ull;
   w2c_j2 *= w2c_j3;
-  (*Z_heapZ_jbig2_c_give_back)(instance->Z_heap_instance, w2c_j0, w2c_j1, w2c_j2);
+  (*Z_heapZ_jbig2_c_give_back)((struct Z_heap_instance_t*)instance, w2c_j0, w2c_j1, w2c_j2);
   goto w2c_B2;
   w2c_B3:;
   w2c_j0 = w2c_l1;
@@ -79279,7 +79278,7 @@ static u32 w2c_f104(Z_hayro_jbig2_instance_t* instance, u64 w2c_p0) {
   w2c_j1 = i64_load(&instance->w2c_memory, (u64)(w2c_i1));
   w2c_j2 = w2c_l3;
   w2c_j3 = 8ull;
-  (*Z_heapZ_jbig2_c_take)(instance->Z_heap_instance, w2c_j0, w2c_j1, w2c_j2, w2c_j3);
+  (*Z_heapZ_jbig2_c_take)((struct Z_heap_instance_t*)instance, w2c_j0, w2c_j1, w2c_j2, w2c_j3);
   w2c_j0 = w2c_l1;
   w2c_i0 = (u32)(w2c_j0);
   w2c_i0 = i32_load8_u(&instance->w2c_memory, (u64)(w2c_i0));
@@ -79318,7 +79317,7 @@ static u32 w2c_f104(Z_hayro_jbig2_instance_t* instance, u64 w2c_p0) {
   return w2c_i0;
 }
 
-static void w2c_f105(Z_hayro_jbig2_instance_t* instance, u64 w2c_p0, u64 w2c_p1, u32 w2c_p2, u32 w2c_p3, u64 w2c_p4, u64 w2c_p5, u64 w2c_p6) {
+static void w2c_f105(Z_hayro_jbig2_instance_t* RESTRICT instance, u64 w2c_p0, u64 w2c_p1, u32 w2c_p2, u32 w2c_p3, u64 w2c_p4, u64 w2c_p5, u64 w2c_p6) {
   u32 w2c_l29 = 0, w2c_l30 = 0, w2c_l31 = 0, w2c_l32 = 0, w2c_l33 = 0, w2c_l34 = 0, w2c_l35 = 0, w2c_l36 = 0, 
       w2c_l37 = 0, w2c_l38 = 0, w2c_l39 = 0, w2c_l40 = 0, w2c_l41 = 0, w2c_l42 = 0, w2c_l43 = 0, w2c_l44 = 0, 
       w2c_l45 = 0, w2c_l46 = 0, w2c_l47 = 0, w2c_l48 = 0, w2c_l49 = 0, w2c_l50 = 0, w2c_l51 = 0, w2c_l52 = 0;
@@ -80396,7 +80395,7 @@ static void w2c_f105(Z_hayro_jbig2_instance_t* instance, u64 w2c_p0, u64 w2c_p1,
   w2c_j0 = w2c_l9;
   w2c_j1 = w2c_l19;
   w2c_j2 = w2c_l17;
-  (*Z_heapZ_jbig2_c_give_back)(instance->Z_heap_instance, w2c_j0, w2c_j1, w2c_j2);
+  (*Z_heapZ_jbig2_c_give_back)((struct Z_heap_instance_t*)instance, w2c_j0, w2c_j1, w2c_j2);
   w2c_B38:;
   w2c_j0 = w2c_l7;
   w2c_i0 = (u32)(w2c_j0);
@@ -80482,7 +80481,7 @@ static void w2c_f105(Z_hayro_jbig2_instance_t* instance, u64 w2c_p0, u64 w2c_p1,
   w2c_i1 = (u32)(w2c_j1);
   w2c_j1 = i64_load(&instance->w2c_memory, (u64)(w2c_i1) + 10024u);
   w2c_j2 = w2c_p4;
-  (*Z_heapZ_jbig2_c_give_back)(instance->Z_heap_instance, w2c_j0, w2c_j1, w2c_j2);
+  (*Z_heapZ_jbig2_c_give_back)((struct Z_heap_instance_t*)instance, w2c_j0, w2c_j1, w2c_j2);
   w2c_i0 = 0u;
   w2c_p3 = w2c_i0;
   goto w2c_B6;
@@ -80502,7 +80501,7 @@ static void w2c_f105(Z_hayro_jbig2_instance_t* instance, u64 w2c_p0, u64 w2c_p1,
   w2c_i1 = (u32)(w2c_j1);
   w2c_j1 = i64_load(&instance->w2c_memory, (u64)(w2c_i1) + 10024u);
   w2c_j2 = w2c_p4;
-  (*Z_heapZ_jbig2_c_give_back)(instance->Z_heap_instance, w2c_j0, w2c_j1, w2c_j2);
+  (*Z_heapZ_jbig2_c_give_back)((struct Z_heap_instance_t*)instance, w2c_j0, w2c_j1, w2c_j2);
   w2c_B27:;
   w2c_i0 = 0u;
   w2c_p3 = w2c_i0;
@@ -81564,7 +81563,7 @@ static void w2c_f105(Z_hayro_jbig2_instance_t* instance, u64 w2c_p0, u64 w2c_p1,
   w2c_j0 = w2c_l21;
   w2c_j1 = w2c_l19;
   w2c_j2 = w2c_l9;
-  (*Z_heapZ_jbig2_c_give_back)(instance->Z_heap_instance, w2c_j0, w2c_j1, w2c_j2);
+  (*Z_heapZ_jbig2_c_give_back)((struct Z_heap_instance_t*)instance, w2c_j0, w2c_j1, w2c_j2);
   goto w2c_B39;
   w2c_B40:;
   w2c_j0 = w2c_l7;
@@ -81580,7 +81579,7 @@ static void w2c_f105(Z_hayro_jbig2_instance_t* instance, u64 w2c_p0, u64 w2c_p1,
   w2c_i1 = (u32)(w2c_j1);
   w2c_j1 = i64_load(&instance->w2c_memory, (u64)(w2c_i1) + 8920u);
   w2c_j2 = w2c_p4;
-  (*Z_heapZ_jbig2_c_give_back)(instance->Z_heap_instance, w2c_j0, w2c_j1, w2c_j2);
+  (*Z_heapZ_jbig2_c_give_back)((struct Z_heap_instance_t*)instance, w2c_j0, w2c_j1, w2c_j2);
   w2c_B39:;
   w2c_j0 = w2c_l7;
   w2c_i0 = (u32)(w2c_j0);
@@ -81609,7 +81608,7 @@ static void w2c_f105(Z_hayro_jbig2_instance_t* instance, u64 w2c_p0, u64 w2c_p1,
   w2c_j2 = w2c_l12;
   w2c_j3 = 4ull;
   w2c_j2 <<= (w2c_j3 & 63);
-  (*Z_heapZ_jbig2_c_give_back)(instance->Z_heap_instance, w2c_j0, w2c_j1, w2c_j2);
+  (*Z_heapZ_jbig2_c_give_back)((struct Z_heap_instance_t*)instance, w2c_j0, w2c_j1, w2c_j2);
   w2c_B79:;
   w2c_j0 = w2c_p4;
   w2c_i0 = !(w2c_j0);
@@ -81619,7 +81618,7 @@ static void w2c_f105(Z_hayro_jbig2_instance_t* instance, u64 w2c_p0, u64 w2c_p1,
   w2c_j2 = w2c_p4;
   w2c_j3 = 24ull;
   w2c_j2 *= w2c_j3;
-  (*Z_heapZ_jbig2_c_give_back)(instance->Z_heap_instance, w2c_j0, w2c_j1, w2c_j2);
+  (*Z_heapZ_jbig2_c_give_back)((struct Z_heap_instance_t*)instance, w2c_j0, w2c_j1, w2c_j2);
   goto w2c_B6;
   w2c_B16:;
   UNREACHABLE;
@@ -84204,7 +84203,7 @@ static void w2c_f105(Z_hayro_jbig2_instance_t* instance, u64 w2c_p0, u64 w2c_p1,
   w2c_j0 = w2c_l21;
   w2c_j1 = w2c_l19;
   w2c_j2 = w2c_l9;
-  (*Z_heapZ_jbig2_c_give_back)(instance->Z_heap_instance, w2c_j0, w2c_j1, w2c_j2);
+  (*Z_heapZ_jbig2_c_give_back)((struct Z_heap_instance_t*)instance, w2c_j0, w2c_j1, w2c_j2);
   w2c_B125:;
   w2c_j0 = w2c_l7;
   w2c_i0 = (u32)(w2c_j0);
@@ -84233,7 +84232,7 @@ static void w2c_f105(Z_hayro_jbig2_instance_t* instance, u64 w2c_p0, u64 w2c_p1,
   w2c_j2 = w2c_l10;
   w2c_j3 = 4ull;
   w2c_j2 <<= (w2c_j3 & 63);
-  (*Z_heapZ_jbig2_c_give_back)(instance->Z_heap_instance, w2c_j0, w2c_j1, w2c_j2);
+  (*Z_heapZ_jbig2_c_give_back)((struct Z_heap_instance_t*)instance, w2c_j0, w2c_j1, w2c_j2);
   w2c_B126:;
   w2c_j0 = w2c_l7;
   w2c_j1 = 5624ull;
@@ -84247,7 +84246,7 @@ static void w2c_f105(Z_hayro_jbig2_instance_t* instance, u64 w2c_p0, u64 w2c_p1,
   w2c_j2 = w2c_l17;
   w2c_j3 = 24ull;
   w2c_j2 *= w2c_j3;
-  (*Z_heapZ_jbig2_c_give_back)(instance->Z_heap_instance, w2c_j0, w2c_j1, w2c_j2);
+  (*Z_heapZ_jbig2_c_give_back)((struct Z_heap_instance_t*)instance, w2c_j0, w2c_j1, w2c_j2);
   w2c_B127:;
   w2c_j0 = w2c_l7;
   w2c_i0 = (u32)(w2c_j0);
@@ -84436,7 +84435,7 @@ static void w2c_f105(Z_hayro_jbig2_instance_t* instance, u64 w2c_p0, u64 w2c_p1,
   w2c_j0 = w2c_l21;
   w2c_j1 = w2c_l19;
   w2c_j2 = w2c_l9;
-  (*Z_heapZ_jbig2_c_give_back)(instance->Z_heap_instance, w2c_j0, w2c_j1, w2c_j2);
+  (*Z_heapZ_jbig2_c_give_back)((struct Z_heap_instance_t*)instance, w2c_j0, w2c_j1, w2c_j2);
   w2c_B128:;
   w2c_j0 = w2c_l7;
   w2c_i0 = (u32)(w2c_j0);
@@ -84465,7 +84464,7 @@ static void w2c_f105(Z_hayro_jbig2_instance_t* instance, u64 w2c_p0, u64 w2c_p1,
   w2c_j2 = w2c_l12;
   w2c_j3 = 4ull;
   w2c_j2 <<= (w2c_j3 & 63);
-  (*Z_heapZ_jbig2_c_give_back)(instance->Z_heap_instance, w2c_j0, w2c_j1, w2c_j2);
+  (*Z_heapZ_jbig2_c_give_back)((struct Z_heap_instance_t*)instance, w2c_j0, w2c_j1, w2c_j2);
   w2c_B129:;
   w2c_j0 = w2c_p4;
   w2c_i0 = !(w2c_j0);
@@ -84475,7 +84474,7 @@ static void w2c_f105(Z_hayro_jbig2_instance_t* instance, u64 w2c_p0, u64 w2c_p1,
   w2c_j2 = w2c_p4;
   w2c_j3 = 24ull;
   w2c_j2 *= w2c_j3;
-  (*Z_heapZ_jbig2_c_give_back)(instance->Z_heap_instance, w2c_j0, w2c_j1, w2c_j2);
+  (*Z_heapZ_jbig2_c_give_back)((struct Z_heap_instance_t*)instance, w2c_j0, w2c_j1, w2c_j2);
   goto w2c_B6;
   w2c_B8:;
   w2c_i0 = w2c_l32;
@@ -84814,7 +84813,7 @@ static void w2c_f105(Z_hayro_jbig2_instance_t* instance, u64 w2c_p0, u64 w2c_p1,
   w2c_j2 = w2c_l13;
   w2c_j3 = 3ull;
   w2c_j2 <<= (w2c_j3 & 63);
-  (*Z_heapZ_jbig2_c_give_back)(instance->Z_heap_instance, w2c_j0, w2c_j1, w2c_j2);
+  (*Z_heapZ_jbig2_c_give_back)((struct Z_heap_instance_t*)instance, w2c_j0, w2c_j1, w2c_j2);
   w2c_B130:;
   w2c_j0 = w2c_l11;
   w2c_i0 = !(w2c_j0);
@@ -84824,7 +84823,7 @@ static void w2c_f105(Z_hayro_jbig2_instance_t* instance, u64 w2c_p0, u64 w2c_p1,
   w2c_j2 = w2c_l11;
   w2c_j3 = 3ull;
   w2c_j2 <<= (w2c_j3 & 63);
-  (*Z_heapZ_jbig2_c_give_back)(instance->Z_heap_instance, w2c_j0, w2c_j1, w2c_j2);
+  (*Z_heapZ_jbig2_c_give_back)((struct Z_heap_instance_t*)instance, w2c_j0, w2c_j1, w2c_j2);
   w2c_B131:;
   w2c_i0 = 0u;
   w2c_p2 = w2c_i0;
@@ -85180,7 +85179,7 @@ static void w2c_f105(Z_hayro_jbig2_instance_t* instance, u64 w2c_p0, u64 w2c_p1,
   FUNC_EPILOGUE;
 }
 
-static void w2c_f106(Z_hayro_jbig2_instance_t* instance, u64 w2c_p0, u64 w2c_p1, u64 w2c_p2, u64 w2c_p3) {
+static void w2c_f106(Z_hayro_jbig2_instance_t* RESTRICT instance, u64 w2c_p0, u64 w2c_p1, u64 w2c_p2, u64 w2c_p3) {
   u32 w2c_l13 = 0, w2c_l14 = 0, w2c_l15 = 0, w2c_l16 = 0, w2c_l17 = 0, w2c_l18 = 0, w2c_l19 = 0;
   u64 w2c_l4 = 0, w2c_l5 = 0, w2c_l6 = 0, w2c_l7 = 0, w2c_l8 = 0, w2c_l9 = 0, w2c_l10 = 0, w2c_l11 = 0, 
       w2c_l12 = 0;
@@ -85538,7 +85537,7 @@ static void w2c_f106(Z_hayro_jbig2_instance_t* instance, u64 w2c_p0, u64 w2c_p1,
   w2c_j2 = w2c_p3;
   w2c_j3 = 3ull;
   w2c_j2 <<= (w2c_j3 & 63);
-  (*Z_heapZ_jbig2_c_give_back)(instance->Z_heap_instance, w2c_j0, w2c_j1, w2c_j2);
+  (*Z_heapZ_jbig2_c_give_back)((struct Z_heap_instance_t*)instance, w2c_j0, w2c_j1, w2c_j2);
   w2c_B9:;
   w2c_j0 = w2c_l4;
   w2c_i0 = (u32)(w2c_j0);
@@ -85926,7 +85925,7 @@ static void w2c_f106(Z_hayro_jbig2_instance_t* instance, u64 w2c_p0, u64 w2c_p1,
   w2c_j2 = w2c_l5;
   w2c_j3 = 3ull;
   w2c_j2 <<= (w2c_j3 & 63);
-  (*Z_heapZ_jbig2_c_give_back)(instance->Z_heap_instance, w2c_j0, w2c_j1, w2c_j2);
+  (*Z_heapZ_jbig2_c_give_back)((struct Z_heap_instance_t*)instance, w2c_j0, w2c_j1, w2c_j2);
   w2c_B10:;
   w2c_j0 = w2c_l4;
   w2c_i0 = (u32)(w2c_j0);
@@ -86394,7 +86393,7 @@ static void w2c_f106(Z_hayro_jbig2_instance_t* instance, u64 w2c_p0, u64 w2c_p1,
   FUNC_EPILOGUE;
 }
 
-static u32 w2c_f107(Z_hayro_jbig2_instance_t* instance, u64 w2c_p0) {
+static u32 w2c_f107(Z_hayro_jbig2_instance_t* RESTRICT instance, u64 w2c_p0) {
   u32 w2c_l12 = 0;
   u64 w2c_l1 = 0, w2c_l2 = 0, w2c_l3 = 0, w2c_l4 = 0, w2c_l5 = 0, w2c_l6 = 0, w2c_l7 = 0, w2c_l8 = 0, 
       w2c_l9 = 0, w2c_l10 = 0, w2c_l11 = 0;
@@ -86480,7 +86479,7 @@ static u32 w2c_f107(Z_hayro_jbig2_instance_t* instance, u64 w2c_p0) {
   w2c_j1 = i64_load(&instance->w2c_memory, (u64)(w2c_i1));
   w2c_j2 = w2c_l3;
   w2c_j3 = 8ull;
-  (*Z_heapZ_jbig2_c_take)(instance->Z_heap_instance, w2c_j0, w2c_j1, w2c_j2, w2c_j3);
+  (*Z_heapZ_jbig2_c_take)((struct Z_heap_instance_t*)instance, w2c_j0, w2c_j1, w2c_j2, w2c_j3);
   w2c_j0 = w2c_l1;
   w2c_i0 = (u32)(w2c_j0);
   w2c_i0 = i32_load8_u(&instance->w2c_memory, (u64)(w2c_i0));
@@ -86640,7 +86639,7 @@ static u32 w2c_f107(Z_hayro_jbig2_instance_t* instance, u64 w2c_p0) {
   w2c_j2 = w2c_l4;
   w2c_j3 = 72ull;
   w2c_j2 *= w2c_j3;
-  (*Z_heapZ_jbig2_c_give_back)(instance->Z_heap_instance, w2c_j0, w2c_j1, w2c_j2);
+  (*Z_heapZ_jbig2_c_give_back)((struct Z_heap_instance_t*)instance, w2c_j0, w2c_j1, w2c_j2);
   goto w2c_B2;
   w2c_B3:;
   w2c_j0 = w2c_l1;
@@ -86659,7 +86658,7 @@ static u32 w2c_f107(Z_hayro_jbig2_instance_t* instance, u64 w2c_p0) {
   w2c_j1 = i64_load(&instance->w2c_memory, (u64)(w2c_i1));
   w2c_j2 = w2c_l3;
   w2c_j3 = 8ull;
-  (*Z_heapZ_jbig2_c_take)(instance->Z_heap_instance, w2c_j0, w2c_j1, w2c_j2, w2c_j3);
+  (*Z_heapZ_jbig2_c_take)((struct Z_heap_instance_t*)instance, w2c_j0, w2c_j1, w2c_j2, w2c_j3);
   w2c_j0 = w2c_l1;
   w2c_i0 = (u32)(w2c_j0);
   w2c_i0 = i32_load8_u(&instance->w2c_memory, (u64)(w2c_i0));
@@ -86698,7 +86697,7 @@ static u32 w2c_f107(Z_hayro_jbig2_instance_t* instance, u64 w2c_p0) {
   return w2c_i0;
 }
 
-static u32 w2c_f108(Z_hayro_jbig2_instance_t* instance, u64 w2c_p0, u64 w2c_p1) {
+static u32 w2c_f108(Z_hayro_jbig2_instance_t* RESTRICT instance, u64 w2c_p0, u64 w2c_p1) {
   u32 w2c_l5 = 0;
   u64 w2c_l2 = 0, w2c_l3 = 0, w2c_l4 = 0;
   FUNC_PROLOGUE;
@@ -86765,7 +86764,7 @@ static u32 w2c_f108(Z_hayro_jbig2_instance_t* instance, u64 w2c_p0, u64 w2c_p1) 
   return w2c_i0;
 }
 
-static void w2c_f109(Z_hayro_jbig2_instance_t* instance, u64 w2c_p0, u64 w2c_p1, u64 w2c_p2, u64 w2c_p3) {
+static void w2c_f109(Z_hayro_jbig2_instance_t* RESTRICT instance, u64 w2c_p0, u64 w2c_p1, u64 w2c_p2, u64 w2c_p3) {
   u32 w2c_l9 = 0;
   u64 w2c_l4 = 0, w2c_l5 = 0, w2c_l6 = 0, w2c_l7 = 0, w2c_l8 = 0;
   FUNC_PROLOGUE;
@@ -86927,7 +86926,7 @@ static void w2c_f109(Z_hayro_jbig2_instance_t* instance, u64 w2c_p0, u64 w2c_p1,
   w2c_j2 = w2c_l8;
   w2c_j3 = 4ull;
   w2c_j2 <<= (w2c_j3 & 63);
-  (*Z_heapZ_jbig2_c_give_back)(instance->Z_heap_instance, w2c_j0, w2c_j1, w2c_j2);
+  (*Z_heapZ_jbig2_c_give_back)((struct Z_heap_instance_t*)instance, w2c_j0, w2c_j1, w2c_j2);
   w2c_B3:;
   w2c_j0 = w2c_p0;
   w2c_i0 = (u32)(w2c_j0);
@@ -86973,7 +86972,7 @@ static void w2c_f109(Z_hayro_jbig2_instance_t* instance, u64 w2c_p0, u64 w2c_p1,
   w2c_j2 = w2c_l4;
   w2c_j3 = 4ull;
   w2c_j2 <<= (w2c_j3 & 63);
-  (*Z_heapZ_jbig2_c_give_back)(instance->Z_heap_instance, w2c_j0, w2c_j1, w2c_j2);
+  (*Z_heapZ_jbig2_c_give_back)((struct Z_heap_instance_t*)instance, w2c_j0, w2c_j1, w2c_j2);
   w2c_B7:;
   w2c_j0 = w2c_p0;
   w2c_i0 = (u32)(w2c_j0);
@@ -87005,7 +87004,7 @@ static void w2c_f109(Z_hayro_jbig2_instance_t* instance, u64 w2c_p0, u64 w2c_p1,
   FUNC_EPILOGUE;
 }
 
-static u32 w2c_f110(Z_hayro_jbig2_instance_t* instance, u64 w2c_p0, u64 w2c_p1) {
+static u32 w2c_f110(Z_hayro_jbig2_instance_t* RESTRICT instance, u64 w2c_p0, u64 w2c_p1) {
   u32 w2c_l11 = 0;
   u64 w2c_l2 = 0, w2c_l3 = 0, w2c_l4 = 0, w2c_l5 = 0, w2c_l6 = 0, w2c_l7 = 0, w2c_l8 = 0, w2c_l9 = 0, 
       w2c_l10 = 0;
@@ -87062,7 +87061,7 @@ static u32 w2c_f110(Z_hayro_jbig2_instance_t* instance, u64 w2c_p0, u64 w2c_p1) 
   w2c_j1 = i64_load(&instance->w2c_memory, (u64)(w2c_i1));
   w2c_j2 = w2c_p1;
   w2c_j3 = 1ull;
-  (*Z_heapZ_jbig2_c_take)(instance->Z_heap_instance, w2c_j0, w2c_j1, w2c_j2, w2c_j3);
+  (*Z_heapZ_jbig2_c_take)((struct Z_heap_instance_t*)instance, w2c_j0, w2c_j1, w2c_j2, w2c_j3);
   w2c_j0 = w2c_l3;
   w2c_i0 = (u32)(w2c_j0);
   w2c_i0 = i32_load8_u(&instance->w2c_memory, (u64)(w2c_i0));
@@ -87200,7 +87199,7 @@ static u32 w2c_f110(Z_hayro_jbig2_instance_t* instance, u64 w2c_p0, u64 w2c_p1) 
   w2c_j0 = i64_load(&instance->w2c_memory, (u64)(w2c_i0));
   w2c_j1 = w2c_l5;
   w2c_j2 = w2c_l4;
-  (*Z_heapZ_jbig2_c_give_back)(instance->Z_heap_instance, w2c_j0, w2c_j1, w2c_j2);
+  (*Z_heapZ_jbig2_c_give_back)((struct Z_heap_instance_t*)instance, w2c_j0, w2c_j1, w2c_j2);
   goto w2c_B2;
   w2c_B3:;
   w2c_j0 = w2c_l3;
@@ -87219,7 +87218,7 @@ static u32 w2c_f110(Z_hayro_jbig2_instance_t* instance, u64 w2c_p0, u64 w2c_p1) 
   w2c_j1 = i64_load(&instance->w2c_memory, (u64)(w2c_i1));
   w2c_j2 = w2c_p1;
   w2c_j3 = 1ull;
-  (*Z_heapZ_jbig2_c_take)(instance->Z_heap_instance, w2c_j0, w2c_j1, w2c_j2, w2c_j3);
+  (*Z_heapZ_jbig2_c_take)((struct Z_heap_instance_t*)instance, w2c_j0, w2c_j1, w2c_j2, w2c_j3);
   w2c_j0 = w2c_l3;
   w2c_i0 = (u32)(w2c_j0);
   w2c_i0 = i32_load8_u(&instance->w2c_memory, (u64)(w2c_i0));
@@ -87258,7 +87257,7 @@ static u32 w2c_f110(Z_hayro_jbig2_instance_t* instance, u64 w2c_p0, u64 w2c_p1) 
   return w2c_i0;
 }
 
-static void w2c_f111(Z_hayro_jbig2_instance_t* instance, u64 w2c_p0, u64 w2c_p1, u64 w2c_p2, u64 w2c_p3) {
+static void w2c_f111(Z_hayro_jbig2_instance_t* RESTRICT instance, u64 w2c_p0, u64 w2c_p1, u64 w2c_p2, u64 w2c_p3) {
   u32 w2c_l10 = 0, w2c_l11 = 0;
   u64 w2c_l4 = 0, w2c_l5 = 0, w2c_l6 = 0, w2c_l7 = 0, w2c_l8 = 0, w2c_l9 = 0;
   FUNC_PROLOGUE;
@@ -87659,7 +87658,7 @@ static void w2c_f111(Z_hayro_jbig2_instance_t* instance, u64 w2c_p0, u64 w2c_p1,
   FUNC_EPILOGUE;
 }
 
-static void w2c_f112(Z_hayro_jbig2_instance_t* instance, u64 w2c_p0) {
+static void w2c_f112(Z_hayro_jbig2_instance_t* RESTRICT instance, u64 w2c_p0) {
   u64 w2c_l1 = 0, w2c_l2 = 0, w2c_l3 = 0, w2c_l4 = 0, w2c_l5 = 0, w2c_l6 = 0, w2c_l7 = 0, w2c_l8 = 0, 
       w2c_l9 = 0, w2c_l10 = 0, w2c_l11 = 0;
   FUNC_PROLOGUE;
@@ -87769,7 +87768,7 @@ static void w2c_f112(Z_hayro_jbig2_instance_t* instance, u64 w2c_p0) {
   w2c_j2 = w2c_l3;
   w2c_j3 = 4ull;
   w2c_j2 <<= (w2c_j3 & 63);
-  (*Z_heapZ_jbig2_c_give_back)(instance->Z_heap_instance, w2c_j0, w2c_j1, w2c_j2);
+  (*Z_heapZ_jbig2_c_give_back)((struct Z_heap_instance_t*)instance, w2c_j0, w2c_j1, w2c_j2);
   w2c_B5:;
   w2c_j0 = w2c_l11;
   w2c_i0 = !(w2c_j0);
@@ -87779,7 +87778,7 @@ static void w2c_f112(Z_hayro_jbig2_instance_t* instance, u64 w2c_p0) {
   w2c_j2 = w2c_l11;
   w2c_j3 = 24ull;
   w2c_j2 *= w2c_j3;
-  (*Z_heapZ_jbig2_c_give_back)(instance->Z_heap_instance, w2c_j0, w2c_j1, w2c_j2);
+  (*Z_heapZ_jbig2_c_give_back)((struct Z_heap_instance_t*)instance, w2c_j0, w2c_j1, w2c_j2);
   w2c_B4:;
   w2c_j0 = w2c_l8;
   w2c_i0 = !(w2c_j0);
@@ -87789,7 +87788,7 @@ static void w2c_f112(Z_hayro_jbig2_instance_t* instance, u64 w2c_p0) {
   w2c_j2 = w2c_l8;
   w2c_j3 = 3ull;
   w2c_j2 <<= (w2c_j3 & 63);
-  (*Z_heapZ_jbig2_c_give_back)(instance->Z_heap_instance, w2c_j0, w2c_j1, w2c_j2);
+  (*Z_heapZ_jbig2_c_give_back)((struct Z_heap_instance_t*)instance, w2c_j0, w2c_j1, w2c_j2);
   w2c_B6:;
   w2c_j0 = w2c_l5;
   w2c_i0 = !(w2c_j0);
@@ -87799,7 +87798,7 @@ static void w2c_f112(Z_hayro_jbig2_instance_t* instance, u64 w2c_p0) {
   w2c_j2 = w2c_l5;
   w2c_j3 = 3ull;
   w2c_j2 <<= (w2c_j3 & 63);
-  (*Z_heapZ_jbig2_c_give_back)(instance->Z_heap_instance, w2c_j0, w2c_j1, w2c_j2);
+  (*Z_heapZ_jbig2_c_give_back)((struct Z_heap_instance_t*)instance, w2c_j0, w2c_j1, w2c_j2);
   w2c_j0 = w2c_l1;
   instance->w2c_g0 = w2c_j0;
   goto w2c_Bfunc;
@@ -87816,7 +87815,7 @@ static void w2c_f112(Z_hayro_jbig2_instance_t* instance, u64 w2c_p0) {
   w2c_j2 = w2c_l2;
   w2c_j3 = 3ull;
   w2c_j2 <<= (w2c_j3 & 63);
-  (*Z_heapZ_jbig2_c_give_back)(instance->Z_heap_instance, w2c_j0, w2c_j1, w2c_j2);
+  (*Z_heapZ_jbig2_c_give_back)((struct Z_heap_instance_t*)instance, w2c_j0, w2c_j1, w2c_j2);
   w2c_B1:;
   w2c_j0 = w2c_l1;
   instance->w2c_g0 = w2c_j0;
@@ -87827,7 +87826,7 @@ static void w2c_f112(Z_hayro_jbig2_instance_t* instance, u64 w2c_p0) {
   FUNC_EPILOGUE;
 }
 
-static void w2c_f113(Z_hayro_jbig2_instance_t* instance, u64 w2c_p0, u64 w2c_p1, u64 w2c_p2, u64 w2c_p3, u64 w2c_p4) {
+static void w2c_f113(Z_hayro_jbig2_instance_t* RESTRICT instance, u64 w2c_p0, u64 w2c_p1, u64 w2c_p2, u64 w2c_p3, u64 w2c_p4) {
   u32 w2c_l49 = 0, w2c_l50 = 0, w2c_l51 = 0, w2c_l52 = 0, w2c_l53 = 0, w2c_l54 = 0, w2c_l55 = 0, w2c_l56 = 0, 
       w2c_l57 = 0, w2c_l58 = 0, w2c_l59 = 0, w2c_l60 = 0, w2c_l61 = 0, w2c_l62 = 0, w2c_l63 = 0, w2c_l64 = 0, 
       w2c_l65 = 0, w2c_l66 = 0, w2c_l67 = 0, w2c_l68 = 0, w2c_l69 = 0, w2c_l70 = 0, w2c_l71 = 0, w2c_l72 = 0, 
@@ -88073,7 +88072,7 @@ static void w2c_f113(Z_hayro_jbig2_instance_t* instance, u64 w2c_p0, u64 w2c_p1,
     w2c_i1 = (u32)(w2c_j1);
     w2c_j1 = i64_load(&instance->w2c_memory, (u64)(w2c_i1));
     w2c_j2 = w2c_l8;
-    (*Z_heapZ_jbig2_c_give_back)(instance->Z_heap_instance, w2c_j0, w2c_j1, w2c_j2);
+    (*Z_heapZ_jbig2_c_give_back)((struct Z_heap_instance_t*)instance, w2c_j0, w2c_j1, w2c_j2);
     w2c_B20:;
     w2c_j0 = w2c_l5;
     w2c_j1 = 32ull;
@@ -88095,7 +88094,7 @@ static void w2c_f113(Z_hayro_jbig2_instance_t* instance, u64 w2c_p0, u64 w2c_p1,
   w2c_j2 = w2c_l7;
   w2c_j3 = 5ull;
   w2c_j2 <<= (w2c_j3 & 63);
-  (*Z_heapZ_jbig2_c_give_back)(instance->Z_heap_instance, w2c_j0, w2c_j1, w2c_j2);
+  (*Z_heapZ_jbig2_c_give_back)((struct Z_heap_instance_t*)instance, w2c_j0, w2c_j1, w2c_j2);
   w2c_B21:;
   w2c_j0 = w2c_l6;
   w2c_i0 = (u32)(w2c_j0);
@@ -88110,7 +88109,7 @@ static void w2c_f113(Z_hayro_jbig2_instance_t* instance, u64 w2c_p0, u64 w2c_p1,
   w2c_i1 = (u32)(w2c_j1);
   w2c_j1 = i64_load(&instance->w2c_memory, (u64)(w2c_i1) + 344u);
   w2c_j2 = w2c_l5;
-  (*Z_heapZ_jbig2_c_give_back)(instance->Z_heap_instance, w2c_j0, w2c_j1, w2c_j2);
+  (*Z_heapZ_jbig2_c_give_back)((struct Z_heap_instance_t*)instance, w2c_j0, w2c_j1, w2c_j2);
   goto w2c_B14;
   w2c_B17:;
   w2c_j0 = w2c_l6;
@@ -88681,7 +88680,7 @@ static void w2c_f113(Z_hayro_jbig2_instance_t* instance, u64 w2c_p0, u64 w2c_p1,
   w2c_j2 = w2c_l5;
   w2c_j3 = 3ull;
   w2c_j2 <<= (w2c_j3 & 63);
-  (*Z_heapZ_jbig2_c_give_back)(instance->Z_heap_instance, w2c_j0, w2c_j1, w2c_j2);
+  (*Z_heapZ_jbig2_c_give_back)((struct Z_heap_instance_t*)instance, w2c_j0, w2c_j1, w2c_j2);
   goto w2c_B3;
   w2c_B49:;
   w2c_j0 = w2c_l6;
@@ -89173,7 +89172,7 @@ static void w2c_f113(Z_hayro_jbig2_instance_t* instance, u64 w2c_p0, u64 w2c_p1,
   w2c_j2 = w2c_l5;
   w2c_j3 = 2ull;
   w2c_j2 <<= (w2c_j3 & 63);
-  (*Z_heapZ_jbig2_c_give_back)(instance->Z_heap_instance, w2c_j0, w2c_j1, w2c_j2);
+  (*Z_heapZ_jbig2_c_give_back)((struct Z_heap_instance_t*)instance, w2c_j0, w2c_j1, w2c_j2);
   goto w2c_B7;
   w2c_B62:;
   w2c_j0 = w2c_l6;
@@ -89324,7 +89323,7 @@ static void w2c_f113(Z_hayro_jbig2_instance_t* instance, u64 w2c_p0, u64 w2c_p1,
   w2c_j2 = w2c_l5;
   w2c_j3 = 2ull;
   w2c_j2 <<= (w2c_j3 & 63);
-  (*Z_heapZ_jbig2_c_give_back)(instance->Z_heap_instance, w2c_j0, w2c_j1, w2c_j2);
+  (*Z_heapZ_jbig2_c_give_back)((struct Z_heap_instance_t*)instance, w2c_j0, w2c_j1, w2c_j2);
   goto w2c_B7;
   w2c_B58:;
   w2c_j0 = w2c_l12;
@@ -89398,7 +89397,7 @@ static void w2c_f113(Z_hayro_jbig2_instance_t* instance, u64 w2c_p0, u64 w2c_p1,
   w2c_j2 = w2c_l5;
   w2c_j3 = 2ull;
   w2c_j2 <<= (w2c_j3 & 63);
-  (*Z_heapZ_jbig2_c_give_back)(instance->Z_heap_instance, w2c_j0, w2c_j1, w2c_j2);
+  (*Z_heapZ_jbig2_c_give_back)((struct Z_heap_instance_t*)instance, w2c_j0, w2c_j1, w2c_j2);
   goto w2c_B7;
   w2c_B11:;
   w2c_j0 = w2c_l6;
@@ -89797,7 +89796,7 @@ static void w2c_f113(Z_hayro_jbig2_instance_t* instance, u64 w2c_p0, u64 w2c_p1,
     w2c_j2 = w2c_l10;
     w2c_j3 = 3ull;
     w2c_j2 <<= (w2c_j3 & 63);
-    (*Z_heapZ_jbig2_c_give_back)(instance->Z_heap_instance, w2c_j0, w2c_j1, w2c_j2);
+    (*Z_heapZ_jbig2_c_give_back)((struct Z_heap_instance_t*)instance, w2c_j0, w2c_j1, w2c_j2);
     w2c_B77:;
     w2c_j0 = w2c_l9;
     w2c_j1 = w2c_l7;
@@ -89839,7 +89838,7 @@ static void w2c_f113(Z_hayro_jbig2_instance_t* instance, u64 w2c_p0, u64 w2c_p1,
   w2c_j2 = w2c_l5;
   w2c_j3 = 3ull;
   w2c_j2 <<= (w2c_j3 & 63);
-  (*Z_heapZ_jbig2_c_give_back)(instance->Z_heap_instance, w2c_j0, w2c_j1, w2c_j2);
+  (*Z_heapZ_jbig2_c_give_back)((struct Z_heap_instance_t*)instance, w2c_j0, w2c_j1, w2c_j2);
   goto w2c_B71;
   w2c_B74:;
   w2c_j0 = w2c_l6;
@@ -89865,7 +89864,7 @@ static void w2c_f113(Z_hayro_jbig2_instance_t* instance, u64 w2c_p0, u64 w2c_p1,
   w2c_j2 = w2c_l5;
   w2c_j3 = 3ull;
   w2c_j2 <<= (w2c_j3 & 63);
-  (*Z_heapZ_jbig2_c_give_back)(instance->Z_heap_instance, w2c_j0, w2c_j1, w2c_j2);
+  (*Z_heapZ_jbig2_c_give_back)((struct Z_heap_instance_t*)instance, w2c_j0, w2c_j1, w2c_j2);
   goto w2c_B71;
   w2c_B73:;
   w2c_i0 = w2c_l58;
@@ -91229,7 +91228,7 @@ static void w2c_f113(Z_hayro_jbig2_instance_t* instance, u64 w2c_p0, u64 w2c_p1,
     w2c_j2 = w2c_l5;
     w2c_j3 = 3ull;
     w2c_j2 <<= (w2c_j3 & 63);
-    (*Z_heapZ_jbig2_c_give_back)(instance->Z_heap_instance, w2c_j0, w2c_j1, w2c_j2);
+    (*Z_heapZ_jbig2_c_give_back)((struct Z_heap_instance_t*)instance, w2c_j0, w2c_j1, w2c_j2);
     goto w2c_B71;
     w2c_B90:;
     w2c_i0 = 0u;
@@ -91822,7 +91821,7 @@ static void w2c_f113(Z_hayro_jbig2_instance_t* instance, u64 w2c_p0, u64 w2c_p1,
     w2c_j2 = w2c_l5;
     w2c_j3 = 3ull;
     w2c_j2 <<= (w2c_j3 & 63);
-    (*Z_heapZ_jbig2_c_give_back)(instance->Z_heap_instance, w2c_j0, w2c_j1, w2c_j2);
+    (*Z_heapZ_jbig2_c_give_back)((struct Z_heap_instance_t*)instance, w2c_j0, w2c_j1, w2c_j2);
     w2c_B124:;
     w2c_i0 = w2c_l55;
     w2c_i1 = w2c_l65;
@@ -91870,7 +91869,7 @@ static void w2c_f113(Z_hayro_jbig2_instance_t* instance, u64 w2c_p0, u64 w2c_p1,
   w2c_j2 = w2c_l25;
   w2c_j3 = 2ull;
   w2c_j2 <<= (w2c_j3 & 63);
-  (*Z_heapZ_jbig2_c_give_back)(instance->Z_heap_instance, w2c_j0, w2c_j1, w2c_j2);
+  (*Z_heapZ_jbig2_c_give_back)((struct Z_heap_instance_t*)instance, w2c_j0, w2c_j1, w2c_j2);
   w2c_B125:;
   w2c_j0 = 0ull;
   w2c_l24 = w2c_j0;
@@ -91901,7 +91900,7 @@ static void w2c_f113(Z_hayro_jbig2_instance_t* instance, u64 w2c_p0, u64 w2c_p1,
   w2c_j2 = w2c_l5;
   w2c_j3 = 3ull;
   w2c_j2 <<= (w2c_j3 & 63);
-  (*Z_heapZ_jbig2_c_give_back)(instance->Z_heap_instance, w2c_j0, w2c_j1, w2c_j2);
+  (*Z_heapZ_jbig2_c_give_back)((struct Z_heap_instance_t*)instance, w2c_j0, w2c_j1, w2c_j2);
   w2c_B126:;
   w2c_i0 = w2c_l51;
   w2c_i0 = !(w2c_i0);
@@ -92140,7 +92139,7 @@ static void w2c_f113(Z_hayro_jbig2_instance_t* instance, u64 w2c_p0, u64 w2c_p1,
   w2c_j2 = w2c_l25;
   w2c_j3 = 2ull;
   w2c_j2 <<= (w2c_j3 & 63);
-  (*Z_heapZ_jbig2_c_give_back)(instance->Z_heap_instance, w2c_j0, w2c_j1, w2c_j2);
+  (*Z_heapZ_jbig2_c_give_back)((struct Z_heap_instance_t*)instance, w2c_j0, w2c_j1, w2c_j2);
   w2c_B135:;
   w2c_j0 = w2c_l6;
   w2c_i0 = (u32)(w2c_j0);
@@ -92231,7 +92230,7 @@ static void w2c_f113(Z_hayro_jbig2_instance_t* instance, u64 w2c_p0, u64 w2c_p1,
   FUNC_EPILOGUE;
 }
 
-static void w2c_f114(Z_hayro_jbig2_instance_t* instance, u64 w2c_p0, u64 w2c_p1, u64 w2c_p2, u64 w2c_p3, u64 w2c_p4, u64 w2c_p5, u64 w2c_p6, u64 w2c_p7) {
+static void w2c_f114(Z_hayro_jbig2_instance_t* RESTRICT instance, u64 w2c_p0, u64 w2c_p1, u64 w2c_p2, u64 w2c_p3, u64 w2c_p4, u64 w2c_p5, u64 w2c_p6, u64 w2c_p7) {
   u32 w2c_l10 = 0;
   u64 w2c_l8 = 0, w2c_l9 = 0;
   FUNC_PROLOGUE;
@@ -92437,7 +92436,7 @@ static void w2c_f114(Z_hayro_jbig2_instance_t* instance, u64 w2c_p0, u64 w2c_p1,
   w2c_i1 = (u32)(w2c_j1);
   w2c_j1 = i64_load(&instance->w2c_memory, (u64)(w2c_i1) + 144u);
   w2c_j2 = w2c_p3;
-  (*Z_heapZ_jbig2_c_give_back)(instance->Z_heap_instance, w2c_j0, w2c_j1, w2c_j2);
+  (*Z_heapZ_jbig2_c_give_back)((struct Z_heap_instance_t*)instance, w2c_j0, w2c_j1, w2c_j2);
   w2c_B3:;
   w2c_j0 = w2c_p0;
   w2c_i0 = (u32)(w2c_j0);
@@ -92478,7 +92477,7 @@ static void w2c_f114(Z_hayro_jbig2_instance_t* instance, u64 w2c_p0, u64 w2c_p1,
   FUNC_EPILOGUE;
 }
 
-static void w2c_f115(Z_hayro_jbig2_instance_t* instance, u64 w2c_p0, u64 w2c_p1, u64 w2c_p2, u64 w2c_p3, u64 w2c_p4, u64 w2c_p5, u64 w2c_p6, u64 w2c_p7) {
+static void w2c_f115(Z_hayro_jbig2_instance_t* RESTRICT instance, u64 w2c_p0, u64 w2c_p1, u64 w2c_p2, u64 w2c_p3, u64 w2c_p4, u64 w2c_p5, u64 w2c_p6, u64 w2c_p7) {
   u32 w2c_l10 = 0;
   u64 w2c_l8 = 0, w2c_l9 = 0;
   FUNC_PROLOGUE;
@@ -92684,7 +92683,7 @@ static void w2c_f115(Z_hayro_jbig2_instance_t* instance, u64 w2c_p0, u64 w2c_p1,
   w2c_i1 = (u32)(w2c_j1);
   w2c_j1 = i64_load(&instance->w2c_memory, (u64)(w2c_i1) + 144u);
   w2c_j2 = w2c_p3;
-  (*Z_heapZ_jbig2_c_give_back)(instance->Z_heap_instance, w2c_j0, w2c_j1, w2c_j2);
+  (*Z_heapZ_jbig2_c_give_back)((struct Z_heap_instance_t*)instance, w2c_j0, w2c_j1, w2c_j2);
   w2c_B3:;
   w2c_j0 = w2c_p0;
   w2c_i0 = (u32)(w2c_j0);
@@ -92725,7 +92724,7 @@ static void w2c_f115(Z_hayro_jbig2_instance_t* instance, u64 w2c_p0, u64 w2c_p1,
   FUNC_EPILOGUE;
 }
 
-static void w2c_f116(Z_hayro_jbig2_instance_t* instance, u64 w2c_p0, u64 w2c_p1, u64 w2c_p2, u64 w2c_p3, u64 w2c_p4) {
+static void w2c_f116(Z_hayro_jbig2_instance_t* RESTRICT instance, u64 w2c_p0, u64 w2c_p1, u64 w2c_p2, u64 w2c_p3, u64 w2c_p4) {
   u32 w2c_l10 = 0, w2c_l11 = 0, w2c_l12 = 0, w2c_l13 = 0, w2c_l14 = 0, w2c_l15 = 0;
   u64 w2c_l5 = 0, w2c_l6 = 0, w2c_l7 = 0, w2c_l8 = 0, w2c_l9 = 0;
   FUNC_PROLOGUE;
@@ -93136,7 +93135,7 @@ static void w2c_f116(Z_hayro_jbig2_instance_t* instance, u64 w2c_p0, u64 w2c_p1,
   FUNC_EPILOGUE;
 }
 
-static void w2c_f117(Z_hayro_jbig2_instance_t* instance, u64 w2c_p0, u64 w2c_p1) {
+static void w2c_f117(Z_hayro_jbig2_instance_t* RESTRICT instance, u64 w2c_p0, u64 w2c_p1) {
   u32 w2c_l2 = 0, w2c_l3 = 0, w2c_l4 = 0;
   u64 w2c_l5 = 0, w2c_l6 = 0, w2c_l7 = 0, w2c_l8 = 0, w2c_l9 = 0, w2c_l10 = 0, w2c_l11 = 0, w2c_l12 = 0, 
       w2c_l13 = 0, w2c_l14 = 0;
@@ -93492,7 +93491,7 @@ static void w2c_f117(Z_hayro_jbig2_instance_t* instance, u64 w2c_p0, u64 w2c_p1)
   FUNC_EPILOGUE;
 }
 
-static void w2c_f118(Z_hayro_jbig2_instance_t* instance, u64 w2c_p0, u64 w2c_p1, u64 w2c_p2) {
+static void w2c_f118(Z_hayro_jbig2_instance_t* RESTRICT instance, u64 w2c_p0, u64 w2c_p1, u64 w2c_p2) {
   u32 w2c_l6 = 0, w2c_l7 = 0, w2c_l8 = 0, w2c_l9 = 0;
   u64 w2c_l3 = 0, w2c_l4 = 0, w2c_l5 = 0;
   FUNC_PROLOGUE;
@@ -93664,7 +93663,7 @@ static void w2c_f118(Z_hayro_jbig2_instance_t* instance, u64 w2c_p0, u64 w2c_p1,
   w2c_i1 = (u32)(w2c_j1);
   w2c_j1 = i64_load(&instance->w2c_memory, (u64)(w2c_i1) + 40u);
   w2c_j2 = w2c_p2;
-  (*Z_heapZ_jbig2_c_give_back)(instance->Z_heap_instance, w2c_j0, w2c_j1, w2c_j2);
+  (*Z_heapZ_jbig2_c_give_back)((struct Z_heap_instance_t*)instance, w2c_j0, w2c_j1, w2c_j2);
   w2c_B6:;
   w2c_j0 = 0ull;
   w2c_l4 = w2c_j0;
@@ -93770,7 +93769,7 @@ static void w2c_f118(Z_hayro_jbig2_instance_t* instance, u64 w2c_p0, u64 w2c_p1,
   FUNC_EPILOGUE;
 }
 
-static void w2c_f119(Z_hayro_jbig2_instance_t* instance, u64 w2c_p0, u64 w2c_p1, u64 w2c_p2, u64 w2c_p3, u32 w2c_p4, u64 w2c_p5) {
+static void w2c_f119(Z_hayro_jbig2_instance_t* RESTRICT instance, u64 w2c_p0, u64 w2c_p1, u64 w2c_p2, u64 w2c_p3, u32 w2c_p4, u64 w2c_p5) {
   u32 w2c_l34 = 0, w2c_l35 = 0, w2c_l36 = 0, w2c_l37 = 0, w2c_l38 = 0, w2c_l39 = 0, w2c_l40 = 0, w2c_l41 = 0;
   u64 w2c_l6 = 0, w2c_l7 = 0, w2c_l8 = 0, w2c_l9 = 0, w2c_l10 = 0, w2c_l11 = 0, w2c_l12 = 0, w2c_l13 = 0, 
       w2c_l14 = 0, w2c_l15 = 0, w2c_l16 = 0, w2c_l17 = 0, w2c_l18 = 0, w2c_l19 = 0, w2c_l20 = 0, w2c_l21 = 0, 
@@ -94231,7 +94230,7 @@ static void w2c_f119(Z_hayro_jbig2_instance_t* instance, u64 w2c_p0, u64 w2c_p1,
     w2c_j2 = w2c_l12;
     w2c_j3 = 2ull;
     w2c_j2 <<= (w2c_j3 & 63);
-    (*Z_heapZ_jbig2_c_give_back)(instance->Z_heap_instance, w2c_j0, w2c_j1, w2c_j2);
+    (*Z_heapZ_jbig2_c_give_back)((struct Z_heap_instance_t*)instance, w2c_j0, w2c_j1, w2c_j2);
     w2c_B9:;
     w2c_j0 = w2c_l6;
     w2c_j1 = 72ull;
@@ -94253,7 +94252,7 @@ static void w2c_f119(Z_hayro_jbig2_instance_t* instance, u64 w2c_p0, u64 w2c_p1,
   w2c_j2 = w2c_l9;
   w2c_j3 = 72ull;
   w2c_j2 *= w2c_j3;
-  (*Z_heapZ_jbig2_c_give_back)(instance->Z_heap_instance, w2c_j0, w2c_j1, w2c_j2);
+  (*Z_heapZ_jbig2_c_give_back)((struct Z_heap_instance_t*)instance, w2c_j0, w2c_j1, w2c_j2);
   goto w2c_B4;
   w2c_B5:;
   w2c_j0 = w2c_p0;
@@ -94376,7 +94375,7 @@ static void w2c_f119(Z_hayro_jbig2_instance_t* instance, u64 w2c_p0, u64 w2c_p1,
       w2c_j2 = w2c_l11;
       w2c_j3 = 2ull;
       w2c_j2 <<= (w2c_j3 & 63);
-      (*Z_heapZ_jbig2_c_give_back)(instance->Z_heap_instance, w2c_j0, w2c_j1, w2c_j2);
+      (*Z_heapZ_jbig2_c_give_back)((struct Z_heap_instance_t*)instance, w2c_j0, w2c_j1, w2c_j2);
       w2c_B14:;
       w2c_j0 = w2c_l6;
       w2c_j1 = 72ull;
@@ -94397,7 +94396,7 @@ static void w2c_f119(Z_hayro_jbig2_instance_t* instance, u64 w2c_p0, u64 w2c_p1,
     w2c_j2 = w2c_l14;
     w2c_j3 = 72ull;
     w2c_j2 *= w2c_j3;
-    (*Z_heapZ_jbig2_c_give_back)(instance->Z_heap_instance, w2c_j0, w2c_j1, w2c_j2);
+    (*Z_heapZ_jbig2_c_give_back)((struct Z_heap_instance_t*)instance, w2c_j0, w2c_j1, w2c_j2);
     w2c_B15:;
     w2c_j0 = w2c_p0;
     w2c_i0 = (u32)(w2c_j0);
@@ -94737,7 +94736,7 @@ static void w2c_f119(Z_hayro_jbig2_instance_t* instance, u64 w2c_p0, u64 w2c_p1,
     w2c_j2 = w2c_l25;
     w2c_j3 = 2ull;
     w2c_j2 <<= (w2c_j3 & 63);
-    (*Z_heapZ_jbig2_c_give_back)(instance->Z_heap_instance, w2c_j0, w2c_j1, w2c_j2);
+    (*Z_heapZ_jbig2_c_give_back)((struct Z_heap_instance_t*)instance, w2c_j0, w2c_j1, w2c_j2);
     goto w2c_B20;
     w2c_B21:;
     w2c_j0 = w2c_l7;
@@ -94964,7 +94963,7 @@ static void w2c_f119(Z_hayro_jbig2_instance_t* instance, u64 w2c_p0, u64 w2c_p1,
     w2c_j2 = w2c_l25;
     w2c_j3 = 2ull;
     w2c_j2 <<= (w2c_j3 & 63);
-    (*Z_heapZ_jbig2_c_give_back)(instance->Z_heap_instance, w2c_j0, w2c_j1, w2c_j2);
+    (*Z_heapZ_jbig2_c_give_back)((struct Z_heap_instance_t*)instance, w2c_j0, w2c_j1, w2c_j2);
     goto w2c_B20;
     w2c_B24:;
     w2c_j0 = w2c_l23;
@@ -95110,7 +95109,7 @@ static void w2c_f119(Z_hayro_jbig2_instance_t* instance, u64 w2c_p0, u64 w2c_p1,
     w2c_j1 = i64_load(&instance->w2c_memory, (u64)(w2c_i1) + 1200u);
     w2c_j2 = 184ull;
     w2c_j3 = 8ull;
-    (*Z_heapZ_jbig2_c_take)(instance->Z_heap_instance, w2c_j0, w2c_j1, w2c_j2, w2c_j3);
+    (*Z_heapZ_jbig2_c_take)((struct Z_heap_instance_t*)instance, w2c_j0, w2c_j1, w2c_j2, w2c_j3);
     w2c_j0 = w2c_l7;
     w2c_i0 = (u32)(w2c_j0);
     w2c_i0 = i32_load8_u(&instance->w2c_memory, (u64)(w2c_i0) + 1272u);
@@ -95324,7 +95323,7 @@ static void w2c_f119(Z_hayro_jbig2_instance_t* instance, u64 w2c_p0, u64 w2c_p1,
     w2c_j1 = i64_load(&instance->w2c_memory, (u64)(w2c_i1) + 1200u);
     w2c_j2 = 312ull;
     w2c_j3 = 8ull;
-    (*Z_heapZ_jbig2_c_take)(instance->Z_heap_instance, w2c_j0, w2c_j1, w2c_j2, w2c_j3);
+    (*Z_heapZ_jbig2_c_take)((struct Z_heap_instance_t*)instance, w2c_j0, w2c_j1, w2c_j2, w2c_j3);
     w2c_j0 = w2c_l7;
     w2c_i0 = (u32)(w2c_j0);
     w2c_i0 = i32_load8_u(&instance->w2c_memory, (u64)(w2c_i0) + 1240u);
@@ -95583,7 +95582,7 @@ static void w2c_f119(Z_hayro_jbig2_instance_t* instance, u64 w2c_p0, u64 w2c_p1,
     w2c_j0 = i64_load(&instance->w2c_memory, (u64)(w2c_i0) + 1200u);
     w2c_j1 = w2c_l11;
     w2c_j2 = 312ull;
-    (*Z_heapZ_jbig2_c_give_back)(instance->Z_heap_instance, w2c_j0, w2c_j1, w2c_j2);
+    (*Z_heapZ_jbig2_c_give_back)((struct Z_heap_instance_t*)instance, w2c_j0, w2c_j1, w2c_j2);
     w2c_j0 = w2c_l7;
     w2c_i0 = (u32)(w2c_j0);
     w2c_j1 = w2c_l6;
@@ -95628,7 +95627,7 @@ static void w2c_f119(Z_hayro_jbig2_instance_t* instance, u64 w2c_p0, u64 w2c_p1,
       w2c_j2 = w2c_l12;
       w2c_j3 = 2ull;
       w2c_j2 <<= (w2c_j3 & 63);
-      (*Z_heapZ_jbig2_c_give_back)(instance->Z_heap_instance, w2c_j0, w2c_j1, w2c_j2);
+      (*Z_heapZ_jbig2_c_give_back)((struct Z_heap_instance_t*)instance, w2c_j0, w2c_j1, w2c_j2);
       w2c_B58:;
       w2c_j0 = w2c_l6;
       w2c_j1 = 72ull;
@@ -95650,7 +95649,7 @@ static void w2c_f119(Z_hayro_jbig2_instance_t* instance, u64 w2c_p0, u64 w2c_p1,
     w2c_j2 = w2c_p3;
     w2c_j3 = 72ull;
     w2c_j2 *= w2c_j3;
-    (*Z_heapZ_jbig2_c_give_back)(instance->Z_heap_instance, w2c_j0, w2c_j1, w2c_j2);
+    (*Z_heapZ_jbig2_c_give_back)((struct Z_heap_instance_t*)instance, w2c_j0, w2c_j1, w2c_j2);
     goto w2c_B20;
     w2c_B38:;
     w2c_i0 = w2c_l41;
@@ -95789,7 +95788,7 @@ static void w2c_f119(Z_hayro_jbig2_instance_t* instance, u64 w2c_p0, u64 w2c_p1,
     w2c_j2 = w2c_l25;
     w2c_j3 = 2ull;
     w2c_j2 <<= (w2c_j3 & 63);
-    (*Z_heapZ_jbig2_c_give_back)(instance->Z_heap_instance, w2c_j0, w2c_j1, w2c_j2);
+    (*Z_heapZ_jbig2_c_give_back)((struct Z_heap_instance_t*)instance, w2c_j0, w2c_j1, w2c_j2);
     w2c_B59:;
     w2c_j0 = w2c_l7;
     w2c_i0 = (u32)(w2c_j0);
@@ -95833,7 +95832,7 @@ static void w2c_f119(Z_hayro_jbig2_instance_t* instance, u64 w2c_p0, u64 w2c_p1,
       w2c_j2 = w2c_l12;
       w2c_j3 = 2ull;
       w2c_j2 <<= (w2c_j3 & 63);
-      (*Z_heapZ_jbig2_c_give_back)(instance->Z_heap_instance, w2c_j0, w2c_j1, w2c_j2);
+      (*Z_heapZ_jbig2_c_give_back)((struct Z_heap_instance_t*)instance, w2c_j0, w2c_j1, w2c_j2);
       w2c_B62:;
       w2c_j0 = w2c_l6;
       w2c_j1 = 72ull;
@@ -95855,7 +95854,7 @@ static void w2c_f119(Z_hayro_jbig2_instance_t* instance, u64 w2c_p0, u64 w2c_p1,
     w2c_j2 = w2c_p3;
     w2c_j3 = 72ull;
     w2c_j2 *= w2c_j3;
-    (*Z_heapZ_jbig2_c_give_back)(instance->Z_heap_instance, w2c_j0, w2c_j1, w2c_j2);
+    (*Z_heapZ_jbig2_c_give_back)((struct Z_heap_instance_t*)instance, w2c_j0, w2c_j1, w2c_j2);
     goto w2c_B20;
     w2c_B35:;
     w2c_j0 = w2c_l11;
@@ -95984,7 +95983,7 @@ static void w2c_f119(Z_hayro_jbig2_instance_t* instance, u64 w2c_p0, u64 w2c_p1,
       w2c_j2 = w2c_p2;
       w2c_j3 = 2ull;
       w2c_j2 <<= (w2c_j3 & 63);
-      (*Z_heapZ_jbig2_c_give_back)(instance->Z_heap_instance, w2c_j0, w2c_j1, w2c_j2);
+      (*Z_heapZ_jbig2_c_give_back)((struct Z_heap_instance_t*)instance, w2c_j0, w2c_j1, w2c_j2);
       w2c_B67:;
       w2c_j0 = w2c_l6;
       w2c_j1 = 72ull;
@@ -96006,7 +96005,7 @@ static void w2c_f119(Z_hayro_jbig2_instance_t* instance, u64 w2c_p0, u64 w2c_p1,
     w2c_j2 = w2c_l12;
     w2c_j3 = 72ull;
     w2c_j2 *= w2c_j3;
-    (*Z_heapZ_jbig2_c_give_back)(instance->Z_heap_instance, w2c_j0, w2c_j1, w2c_j2);
+    (*Z_heapZ_jbig2_c_give_back)((struct Z_heap_instance_t*)instance, w2c_j0, w2c_j1, w2c_j2);
     w2c_B20:;
     w2c_j0 = w2c_l7;
     w2c_i0 = (u32)(w2c_j0);
@@ -96078,7 +96077,7 @@ static void w2c_f119(Z_hayro_jbig2_instance_t* instance, u64 w2c_p0, u64 w2c_p1,
       w2c_j2 = w2c_l12;
       w2c_j3 = 2ull;
       w2c_j2 <<= (w2c_j3 & 63);
-      (*Z_heapZ_jbig2_c_give_back)(instance->Z_heap_instance, w2c_j0, w2c_j1, w2c_j2);
+      (*Z_heapZ_jbig2_c_give_back)((struct Z_heap_instance_t*)instance, w2c_j0, w2c_j1, w2c_j2);
       w2c_B70:;
       w2c_j0 = w2c_l6;
       w2c_j1 = 72ull;
@@ -96100,7 +96099,7 @@ static void w2c_f119(Z_hayro_jbig2_instance_t* instance, u64 w2c_p0, u64 w2c_p1,
     w2c_j2 = w2c_p3;
     w2c_j3 = 72ull;
     w2c_j2 *= w2c_j3;
-    (*Z_heapZ_jbig2_c_give_back)(instance->Z_heap_instance, w2c_j0, w2c_j1, w2c_j2);
+    (*Z_heapZ_jbig2_c_give_back)((struct Z_heap_instance_t*)instance, w2c_j0, w2c_j1, w2c_j2);
     w2c_B71:;
     w2c_j0 = w2c_l20;
     w2c_f126(instance, w2c_j0);
@@ -96958,7 +96957,7 @@ static void w2c_f119(Z_hayro_jbig2_instance_t* instance, u64 w2c_p0, u64 w2c_p1,
   FUNC_EPILOGUE;
 }
 
-static void w2c_f120(Z_hayro_jbig2_instance_t* instance, u64 w2c_p0, u64 w2c_p1, u64 w2c_p2, u64 w2c_p3, u32 w2c_p4) {
+static void w2c_f120(Z_hayro_jbig2_instance_t* RESTRICT instance, u64 w2c_p0, u64 w2c_p1, u64 w2c_p2, u64 w2c_p3, u32 w2c_p4) {
   u32 w2c_l19 = 0, w2c_l20 = 0, w2c_l21 = 0, w2c_l22 = 0, w2c_l23 = 0, w2c_l24 = 0, w2c_l25 = 0, w2c_l26 = 0;
   u64 w2c_l5 = 0, w2c_l6 = 0, w2c_l7 = 0, w2c_l8 = 0, w2c_l9 = 0, w2c_l10 = 0, w2c_l11 = 0, w2c_l12 = 0, 
       w2c_l13 = 0, w2c_l14 = 0, w2c_l15 = 0, w2c_l16 = 0, w2c_l17 = 0, w2c_l18 = 0;
@@ -97493,7 +97492,7 @@ static void w2c_f120(Z_hayro_jbig2_instance_t* instance, u64 w2c_p0, u64 w2c_p1,
   w2c_j2 = w2c_l6;
   w2c_j3 = 2ull;
   w2c_j2 <<= (w2c_j3 & 63);
-  (*Z_heapZ_jbig2_c_give_back)(instance->Z_heap_instance, w2c_j0, w2c_j1, w2c_j2);
+  (*Z_heapZ_jbig2_c_give_back)((struct Z_heap_instance_t*)instance, w2c_j0, w2c_j1, w2c_j2);
   w2c_B18:;
   w2c_j0 = w2c_l5;
   w2c_i0 = (u32)(w2c_j0);
@@ -97537,7 +97536,7 @@ static void w2c_f120(Z_hayro_jbig2_instance_t* instance, u64 w2c_p0, u64 w2c_p1,
     w2c_j2 = w2c_p1;
     w2c_j3 = 2ull;
     w2c_j2 <<= (w2c_j3 & 63);
-    (*Z_heapZ_jbig2_c_give_back)(instance->Z_heap_instance, w2c_j0, w2c_j1, w2c_j2);
+    (*Z_heapZ_jbig2_c_give_back)((struct Z_heap_instance_t*)instance, w2c_j0, w2c_j1, w2c_j2);
     w2c_B21:;
     w2c_j0 = w2c_p2;
     w2c_j1 = 56ull;
@@ -97563,7 +97562,7 @@ static void w2c_f120(Z_hayro_jbig2_instance_t* instance, u64 w2c_p0, u64 w2c_p1,
   w2c_j2 = w2c_l7;
   w2c_j3 = 56ull;
   w2c_j2 *= w2c_j3;
-  (*Z_heapZ_jbig2_c_give_back)(instance->Z_heap_instance, w2c_j0, w2c_j1, w2c_j2);
+  (*Z_heapZ_jbig2_c_give_back)((struct Z_heap_instance_t*)instance, w2c_j0, w2c_j1, w2c_j2);
   goto w2c_B12;
   w2c_B13:;
   w2c_j0 = w2c_l5;
@@ -97620,7 +97619,7 @@ static void w2c_f120(Z_hayro_jbig2_instance_t* instance, u64 w2c_p0, u64 w2c_p1,
     w2c_j2 = w2c_p3;
     w2c_j3 = 2ull;
     w2c_j2 <<= (w2c_j3 & 63);
-    (*Z_heapZ_jbig2_c_give_back)(instance->Z_heap_instance, w2c_j0, w2c_j1, w2c_j2);
+    (*Z_heapZ_jbig2_c_give_back)((struct Z_heap_instance_t*)instance, w2c_j0, w2c_j1, w2c_j2);
     w2c_B25:;
     w2c_j0 = w2c_p2;
     w2c_j1 = 56ull;
@@ -97642,7 +97641,7 @@ static void w2c_f120(Z_hayro_jbig2_instance_t* instance, u64 w2c_p0, u64 w2c_p1,
   w2c_j2 = w2c_l14;
   w2c_j3 = 56ull;
   w2c_j2 *= w2c_j3;
-  (*Z_heapZ_jbig2_c_give_back)(instance->Z_heap_instance, w2c_j0, w2c_j1, w2c_j2);
+  (*Z_heapZ_jbig2_c_give_back)((struct Z_heap_instance_t*)instance, w2c_j0, w2c_j1, w2c_j2);
   w2c_B12:;
   w2c_j0 = w2c_l5;
   w2c_i0 = (u32)(w2c_j0);
@@ -98071,7 +98070,7 @@ static void w2c_f120(Z_hayro_jbig2_instance_t* instance, u64 w2c_p0, u64 w2c_p1,
   w2c_j2 = w2c_l9;
   w2c_j3 = 2ull;
   w2c_j2 <<= (w2c_j3 & 63);
-  (*Z_heapZ_jbig2_c_give_back)(instance->Z_heap_instance, w2c_j0, w2c_j1, w2c_j2);
+  (*Z_heapZ_jbig2_c_give_back)((struct Z_heap_instance_t*)instance, w2c_j0, w2c_j1, w2c_j2);
   w2c_B33:;
   w2c_j0 = w2c_l5;
   w2c_i0 = (u32)(w2c_j0);
@@ -98143,7 +98142,7 @@ static void w2c_f120(Z_hayro_jbig2_instance_t* instance, u64 w2c_p0, u64 w2c_p1,
     w2c_j2 = w2c_p1;
     w2c_j3 = 2ull;
     w2c_j2 <<= (w2c_j3 & 63);
-    (*Z_heapZ_jbig2_c_give_back)(instance->Z_heap_instance, w2c_j0, w2c_j1, w2c_j2);
+    (*Z_heapZ_jbig2_c_give_back)((struct Z_heap_instance_t*)instance, w2c_j0, w2c_j1, w2c_j2);
     w2c_B36:;
     w2c_j0 = w2c_p2;
     w2c_j1 = 72ull;
@@ -98165,7 +98164,7 @@ static void w2c_f120(Z_hayro_jbig2_instance_t* instance, u64 w2c_p0, u64 w2c_p1,
   w2c_j2 = w2c_l7;
   w2c_j3 = 72ull;
   w2c_j2 *= w2c_j3;
-  (*Z_heapZ_jbig2_c_give_back)(instance->Z_heap_instance, w2c_j0, w2c_j1, w2c_j2);
+  (*Z_heapZ_jbig2_c_give_back)((struct Z_heap_instance_t*)instance, w2c_j0, w2c_j1, w2c_j2);
   w2c_B37:;
   w2c_j0 = w2c_l5;
   w2c_i0 = (u32)(w2c_j0);
@@ -98342,7 +98341,7 @@ static void w2c_f120(Z_hayro_jbig2_instance_t* instance, u64 w2c_p0, u64 w2c_p1,
     w2c_j2 = w2c_p3;
     w2c_j3 = 2ull;
     w2c_j2 <<= (w2c_j3 & 63);
-    (*Z_heapZ_jbig2_c_give_back)(instance->Z_heap_instance, w2c_j0, w2c_j1, w2c_j2);
+    (*Z_heapZ_jbig2_c_give_back)((struct Z_heap_instance_t*)instance, w2c_j0, w2c_j1, w2c_j2);
     w2c_B41:;
     w2c_j0 = w2c_p2;
     w2c_j1 = 72ull;
@@ -98364,7 +98363,7 @@ static void w2c_f120(Z_hayro_jbig2_instance_t* instance, u64 w2c_p0, u64 w2c_p1,
   w2c_j2 = w2c_p1;
   w2c_j3 = 72ull;
   w2c_j2 *= w2c_j3;
-  (*Z_heapZ_jbig2_c_give_back)(instance->Z_heap_instance, w2c_j0, w2c_j1, w2c_j2);
+  (*Z_heapZ_jbig2_c_give_back)((struct Z_heap_instance_t*)instance, w2c_j0, w2c_j1, w2c_j2);
   w2c_B42:;
   w2c_j0 = w2c_l5;
   w2c_i0 = (u32)(w2c_j0);
@@ -98584,7 +98583,7 @@ static void w2c_f120(Z_hayro_jbig2_instance_t* instance, u64 w2c_p0, u64 w2c_p1,
     w2c_j2 = w2c_p1;
     w2c_j3 = 2ull;
     w2c_j2 <<= (w2c_j3 & 63);
-    (*Z_heapZ_jbig2_c_give_back)(instance->Z_heap_instance, w2c_j0, w2c_j1, w2c_j2);
+    (*Z_heapZ_jbig2_c_give_back)((struct Z_heap_instance_t*)instance, w2c_j0, w2c_j1, w2c_j2);
     w2c_B48:;
     w2c_j0 = w2c_p2;
     w2c_j1 = 72ull;
@@ -98606,7 +98605,7 @@ static void w2c_f120(Z_hayro_jbig2_instance_t* instance, u64 w2c_p0, u64 w2c_p1,
   w2c_j2 = w2c_l7;
   w2c_j3 = 72ull;
   w2c_j2 *= w2c_j3;
-  (*Z_heapZ_jbig2_c_give_back)(instance->Z_heap_instance, w2c_j0, w2c_j1, w2c_j2);
+  (*Z_heapZ_jbig2_c_give_back)((struct Z_heap_instance_t*)instance, w2c_j0, w2c_j1, w2c_j2);
   w2c_B49:;
   w2c_i0 = w2c_l21;
   w2c_i1 = 0u;
@@ -98770,7 +98769,7 @@ static void w2c_f120(Z_hayro_jbig2_instance_t* instance, u64 w2c_p0, u64 w2c_p1,
   FUNC_EPILOGUE;
 }
 
-static u32 w2c_f121(Z_hayro_jbig2_instance_t* instance, u64 w2c_p0, u64 w2c_p1, u64 w2c_p2, u64 w2c_p3, u64 w2c_p4) {
+static u32 w2c_f121(Z_hayro_jbig2_instance_t* RESTRICT instance, u64 w2c_p0, u64 w2c_p1, u64 w2c_p2, u64 w2c_p3, u64 w2c_p4) {
   u32 w2c_l20 = 0, w2c_l21 = 0, w2c_l22 = 0;
   u64 w2c_l5 = 0, w2c_l6 = 0, w2c_l7 = 0, w2c_l8 = 0, w2c_l9 = 0, w2c_l10 = 0, w2c_l11 = 0, w2c_l12 = 0, 
       w2c_l13 = 0, w2c_l14 = 0, w2c_l15 = 0, w2c_l16 = 0, w2c_l17 = 0, w2c_l18 = 0, w2c_l19 = 0;
@@ -98845,7 +98844,7 @@ static u32 w2c_f121(Z_hayro_jbig2_instance_t* instance, u64 w2c_p0, u64 w2c_p1, 
   w2c_j1 = i64_load(&instance->w2c_memory, (u64)(w2c_i1));
   w2c_j2 = 184ull;
   w2c_j3 = 8ull;
-  (*Z_heapZ_jbig2_c_take)(instance->Z_heap_instance, w2c_j0, w2c_j1, w2c_j2, w2c_j3);
+  (*Z_heapZ_jbig2_c_take)((struct Z_heap_instance_t*)instance, w2c_j0, w2c_j1, w2c_j2, w2c_j3);
   w2c_j0 = w2c_l5;
   w2c_i0 = (u32)(w2c_j0);
   w2c_i0 = i32_load8_u(&instance->w2c_memory, (u64)(w2c_i0));
@@ -98870,7 +98869,7 @@ static u32 w2c_f121(Z_hayro_jbig2_instance_t* instance, u64 w2c_p0, u64 w2c_p1, 
   w2c_j1 = i64_load(&instance->w2c_memory, (u64)(w2c_i1));
   w2c_j2 = 312ull;
   w2c_j3 = 8ull;
-  (*Z_heapZ_jbig2_c_take)(instance->Z_heap_instance, w2c_j0, w2c_j1, w2c_j2, w2c_j3);
+  (*Z_heapZ_jbig2_c_take)((struct Z_heap_instance_t*)instance, w2c_j0, w2c_j1, w2c_j2, w2c_j3);
   w2c_j0 = w2c_l5;
   w2c_i0 = (u32)(w2c_j0);
   w2c_i0 = i32_load8_u(&instance->w2c_memory, (u64)(w2c_i0));
@@ -99621,7 +99620,7 @@ static u32 w2c_f121(Z_hayro_jbig2_instance_t* instance, u64 w2c_p0, u64 w2c_p1, 
   return w2c_i0;
 }
 
-static void w2c_f122(Z_hayro_jbig2_instance_t* instance, u64 w2c_p0, u64 w2c_p1, u32 w2c_p2) {
+static void w2c_f122(Z_hayro_jbig2_instance_t* RESTRICT instance, u64 w2c_p0, u64 w2c_p1, u32 w2c_p2) {
   u32 w2c_l13 = 0;
   u64 w2c_l3 = 0, w2c_l4 = 0, w2c_l5 = 0, w2c_l6 = 0, w2c_l7 = 0, w2c_l8 = 0, w2c_l9 = 0, w2c_l10 = 0, 
       w2c_l11 = 0, w2c_l12 = 0;
@@ -99988,7 +99987,7 @@ static void w2c_f122(Z_hayro_jbig2_instance_t* instance, u64 w2c_p0, u64 w2c_p1,
   FUNC_EPILOGUE;
 }
 
-static void w2c_f123(Z_hayro_jbig2_instance_t* instance, u64 w2c_p0, u64 w2c_p1, u64 w2c_p2) {
+static void w2c_f123(Z_hayro_jbig2_instance_t* RESTRICT instance, u64 w2c_p0, u64 w2c_p1, u64 w2c_p2) {
   u64 w2c_l3 = 0, w2c_l4 = 0, w2c_l5 = 0, w2c_l6 = 0, w2c_l7 = 0, w2c_l8 = 0, w2c_l9 = 0, w2c_l10 = 0, 
       w2c_l11 = 0, w2c_l12 = 0, w2c_l13 = 0, w2c_l14 = 0, w2c_l15 = 0;
   FUNC_PROLOGUE;
@@ -100373,7 +100372,7 @@ static void w2c_f123(Z_hayro_jbig2_instance_t* instance, u64 w2c_p0, u64 w2c_p1,
   FUNC_EPILOGUE;
 }
 
-static u32 w2c_f124(Z_hayro_jbig2_instance_t* instance, u64 w2c_p0) {
+static u32 w2c_f124(Z_hayro_jbig2_instance_t* RESTRICT instance, u64 w2c_p0) {
   u32 w2c_l15 = 0;
   u64 w2c_l1 = 0, w2c_l2 = 0, w2c_l3 = 0, w2c_l4 = 0, w2c_l5 = 0, w2c_l6 = 0, w2c_l7 = 0, w2c_l8 = 0, 
       w2c_l9 = 0, w2c_l10 = 0, w2c_l11 = 0, w2c_l12 = 0, w2c_l13 = 0, w2c_l14 = 0;
@@ -100459,7 +100458,7 @@ static u32 w2c_f124(Z_hayro_jbig2_instance_t* instance, u64 w2c_p0) {
   w2c_j1 = i64_load(&instance->w2c_memory, (u64)(w2c_i1));
   w2c_j2 = w2c_l3;
   w2c_j3 = 8ull;
-  (*Z_heapZ_jbig2_c_take)(instance->Z_heap_instance, w2c_j0, w2c_j1, w2c_j2, w2c_j3);
+  (*Z_heapZ_jbig2_c_take)((struct Z_heap_instance_t*)instance, w2c_j0, w2c_j1, w2c_j2, w2c_j3);
   w2c_j0 = w2c_l2;
   w2c_i0 = (u32)(w2c_j0);
   w2c_i0 = i32_load8_u(&instance->w2c_memory, (u64)(w2c_i0));
@@ -100770,7 +100769,7 @@ static u32 w2c_f124(Z_hayro_jbig2_instance_t* instance, u64 w2c_p0) {
   w2c_j2 = w2c_l4;
   w2c_j3 = 5ull;
   w2c_j2 <<= (w2c_j3 & 63);
-  (*Z_heapZ_jbig2_c_give_back)(instance->Z_heap_instance, w2c_j0, w2c_j1, w2c_j2);
+  (*Z_heapZ_jbig2_c_give_back)((struct Z_heap_instance_t*)instance, w2c_j0, w2c_j1, w2c_j2);
   goto w2c_B2;
   w2c_B3:;
   w2c_j0 = w2c_l2;
@@ -100789,7 +100788,7 @@ static u32 w2c_f124(Z_hayro_jbig2_instance_t* instance, u64 w2c_p0) {
   w2c_j1 = i64_load(&instance->w2c_memory, (u64)(w2c_i1));
   w2c_j2 = w2c_l3;
   w2c_j3 = 8ull;
-  (*Z_heapZ_jbig2_c_take)(instance->Z_heap_instance, w2c_j0, w2c_j1, w2c_j2, w2c_j3);
+  (*Z_heapZ_jbig2_c_take)((struct Z_heap_instance_t*)instance, w2c_j0, w2c_j1, w2c_j2, w2c_j3);
   w2c_j0 = w2c_l2;
   w2c_i0 = (u32)(w2c_j0);
   w2c_i0 = i32_load8_u(&instance->w2c_memory, (u64)(w2c_i0));
@@ -100828,7 +100827,7 @@ static u32 w2c_f124(Z_hayro_jbig2_instance_t* instance, u64 w2c_p0) {
   return w2c_i0;
 }
 
-static void w2c_f125(Z_hayro_jbig2_instance_t* instance, u64 w2c_p0) {
+static void w2c_f125(Z_hayro_jbig2_instance_t* RESTRICT instance, u64 w2c_p0) {
   u64 w2c_l1 = 0, w2c_l2 = 0, w2c_l3 = 0, w2c_l4 = 0, w2c_l5 = 0, w2c_l6 = 0, w2c_l7 = 0;
   FUNC_PROLOGUE;
   u32 w2c_i0, w2c_i1, w2c_i3;
@@ -100899,7 +100898,7 @@ static void w2c_f125(Z_hayro_jbig2_instance_t* instance, u64 w2c_p0) {
     w2c_j2 = w2c_l6;
     w2c_j3 = 2ull;
     w2c_j2 <<= (w2c_j3 & 63);
-    (*Z_heapZ_jbig2_c_give_back)(instance->Z_heap_instance, w2c_j0, w2c_j1, w2c_j2);
+    (*Z_heapZ_jbig2_c_give_back)((struct Z_heap_instance_t*)instance, w2c_j0, w2c_j1, w2c_j2);
     w2c_B4:;
     w2c_j0 = w2c_p0;
     w2c_j1 = 72ull;
@@ -100940,7 +100939,7 @@ static void w2c_f125(Z_hayro_jbig2_instance_t* instance, u64 w2c_p0) {
     w2c_j2 = w2c_l5;
     w2c_j3 = 2ull;
     w2c_j2 <<= (w2c_j3 & 63);
-    (*Z_heapZ_jbig2_c_give_back)(instance->Z_heap_instance, w2c_j0, w2c_j1, w2c_j2);
+    (*Z_heapZ_jbig2_c_give_back)((struct Z_heap_instance_t*)instance, w2c_j0, w2c_j1, w2c_j2);
     w2c_B6:;
     w2c_j0 = w2c_p0;
     w2c_j1 = 72ull;
@@ -100962,7 +100961,7 @@ static void w2c_f125(Z_hayro_jbig2_instance_t* instance, u64 w2c_p0) {
   w2c_j2 = w2c_l3;
   w2c_j3 = 72ull;
   w2c_j2 *= w2c_j3;
-  (*Z_heapZ_jbig2_c_give_back)(instance->Z_heap_instance, w2c_j0, w2c_j1, w2c_j2);
+  (*Z_heapZ_jbig2_c_give_back)((struct Z_heap_instance_t*)instance, w2c_j0, w2c_j1, w2c_j2);
   w2c_B7:;
   w2c_j0 = w2c_l1;
   instance->w2c_g0 = w2c_j0;
@@ -100973,7 +100972,7 @@ static void w2c_f125(Z_hayro_jbig2_instance_t* instance, u64 w2c_p0) {
   FUNC_EPILOGUE;
 }
 
-static void w2c_f126(Z_hayro_jbig2_instance_t* instance, u64 w2c_p0) {
+static void w2c_f126(Z_hayro_jbig2_instance_t* RESTRICT instance, u64 w2c_p0) {
   u64 w2c_l1 = 0, w2c_l2 = 0, w2c_l3 = 0, w2c_l4 = 0, w2c_l5 = 0, w2c_l6 = 0, w2c_l7 = 0, w2c_l8 = 0, 
       w2c_l9 = 0, w2c_l10 = 0, w2c_l11 = 0;
   FUNC_PROLOGUE;
@@ -101052,7 +101051,7 @@ static void w2c_f126(Z_hayro_jbig2_instance_t* instance, u64 w2c_p0) {
       w2c_j2 = w2c_l11;
       w2c_j3 = 2ull;
       w2c_j2 <<= (w2c_j3 & 63);
-      (*Z_heapZ_jbig2_c_give_back)(instance->Z_heap_instance, w2c_j0, w2c_j1, w2c_j2);
+      (*Z_heapZ_jbig2_c_give_back)((struct Z_heap_instance_t*)instance, w2c_j0, w2c_j1, w2c_j2);
       w2c_B5:;
       w2c_j0 = w2c_p0;
       w2c_j1 = 72ull;
@@ -101074,7 +101073,7 @@ static void w2c_f126(Z_hayro_jbig2_instance_t* instance, u64 w2c_p0) {
     w2c_j2 = w2c_l8;
     w2c_j3 = 72ull;
     w2c_j2 *= w2c_j3;
-    (*Z_heapZ_jbig2_c_give_back)(instance->Z_heap_instance, w2c_j0, w2c_j1, w2c_j2);
+    (*Z_heapZ_jbig2_c_give_back)((struct Z_heap_instance_t*)instance, w2c_j0, w2c_j1, w2c_j2);
     w2c_B6:;
     w2c_j0 = w2c_l6;
     w2c_j1 = 1ull;
@@ -101092,7 +101091,7 @@ static void w2c_f126(Z_hayro_jbig2_instance_t* instance, u64 w2c_p0) {
   w2c_j2 = w2c_l3;
   w2c_j3 = 5ull;
   w2c_j2 <<= (w2c_j3 & 63);
-  (*Z_heapZ_jbig2_c_give_back)(instance->Z_heap_instance, w2c_j0, w2c_j1, w2c_j2);
+  (*Z_heapZ_jbig2_c_give_back)((struct Z_heap_instance_t*)instance, w2c_j0, w2c_j1, w2c_j2);
   w2c_B7:;
   w2c_j0 = w2c_l1;
   instance->w2c_g0 = w2c_j0;
@@ -101103,7 +101102,7 @@ static void w2c_f126(Z_hayro_jbig2_instance_t* instance, u64 w2c_p0) {
   FUNC_EPILOGUE;
 }
 
-static void w2c_f127(Z_hayro_jbig2_instance_t* instance, u64 w2c_p0, u64 w2c_p1) {
+static void w2c_f127(Z_hayro_jbig2_instance_t* RESTRICT instance, u64 w2c_p0, u64 w2c_p1) {
   u32 w2c_l19 = 0;
   u64 w2c_l2 = 0, w2c_l3 = 0, w2c_l4 = 0, w2c_l5 = 0, w2c_l6 = 0, w2c_l7 = 0, w2c_l8 = 0, w2c_l9 = 0, 
       w2c_l10 = 0, w2c_l11 = 0, w2c_l12 = 0, w2c_l13 = 0, w2c_l14 = 0, w2c_l15 = 0, w2c_l16 = 0, w2c_l17 = 0, 
@@ -101723,7 +101722,7 @@ static void w2c_f127(Z_hayro_jbig2_instance_t* instance, u64 w2c_p0, u64 w2c_p1)
   w2c_j0 = w2c_l12;
   w2c_j1 = w2c_p0;
   w2c_j2 = 184ull;
-  (*Z_heapZ_jbig2_c_give_back)(instance->Z_heap_instance, w2c_j0, w2c_j1, w2c_j2);
+  (*Z_heapZ_jbig2_c_give_back)((struct Z_heap_instance_t*)instance, w2c_j0, w2c_j1, w2c_j2);
   w2c_j0 = w2c_l2;
   instance->w2c_g0 = w2c_j0;
   goto w2c_Bfunc;
@@ -102214,7 +102213,7 @@ static void w2c_f127(Z_hayro_jbig2_instance_t* instance, u64 w2c_p0, u64 w2c_p1)
   w2c_j0 = w2c_l12;
   w2c_j1 = w2c_p0;
   w2c_j2 = 312ull;
-  (*Z_heapZ_jbig2_c_give_back)(instance->Z_heap_instance, w2c_j0, w2c_j1, w2c_j2);
+  (*Z_heapZ_jbig2_c_give_back)((struct Z_heap_instance_t*)instance, w2c_j0, w2c_j1, w2c_j2);
   w2c_j0 = w2c_l2;
   instance->w2c_g0 = w2c_j0;
   goto w2c_Bfunc;
@@ -102257,7 +102256,7 @@ static void w2c_f127(Z_hayro_jbig2_instance_t* instance, u64 w2c_p0, u64 w2c_p1)
   w2c_j0 = w2c_l12;
   w2c_j1 = w2c_p0;
   w2c_j2 = 184ull;
-  (*Z_heapZ_jbig2_c_give_back)(instance->Z_heap_instance, w2c_j0, w2c_j1, w2c_j2);
+  (*Z_heapZ_jbig2_c_give_back)((struct Z_heap_instance_t*)instance, w2c_j0, w2c_j1, w2c_j2);
   w2c_j0 = w2c_l2;
   instance->w2c_g0 = w2c_j0;
   goto w2c_Bfunc;
@@ -102265,14 +102264,14 @@ static void w2c_f127(Z_hayro_jbig2_instance_t* instance, u64 w2c_p0, u64 w2c_p1)
   w2c_j0 = w2c_l12;
   w2c_j1 = w2c_p0;
   w2c_j2 = 312ull;
-  (*Z_heapZ_jbig2_c_give_back)(instance->Z_heap_instance, w2c_j0, w2c_j1, w2c_j2);
+  (*Z_heapZ_jbig2_c_give_back)((struct Z_heap_instance_t*)instance, w2c_j0, w2c_j1, w2c_j2);
   w2c_j0 = w2c_l2;
   instance->w2c_g0 = w2c_j0;
   w2c_Bfunc:;
   FUNC_EPILOGUE;
 }
 
-static void w2c_f128(Z_hayro_jbig2_instance_t* instance, u64 w2c_p0) {
+static void w2c_f128(Z_hayro_jbig2_instance_t* RESTRICT instance, u64 w2c_p0) {
   u32 w2c_l3 = 0;
   u64 w2c_l1 = 0, w2c_l2 = 0;
   FUNC_PROLOGUE;
@@ -102327,7 +102326,7 @@ static void w2c_f128(Z_hayro_jbig2_instance_t* instance, u64 w2c_p0) {
   FUNC_EPILOGUE;
 }
 
-static void w2c_f129(Z_hayro_jbig2_instance_t* instance, u64 w2c_p0, u64 w2c_p1, u32 w2c_p2, u64 w2c_p3, u64 w2c_p4) {
+static void w2c_f129(Z_hayro_jbig2_instance_t* RESTRICT instance, u64 w2c_p0, u64 w2c_p1, u32 w2c_p2, u64 w2c_p3, u64 w2c_p4) {
   u32 w2c_l21 = 0, w2c_l22 = 0;
   u64 w2c_l5 = 0, w2c_l6 = 0, w2c_l7 = 0, w2c_l8 = 0, w2c_l9 = 0, w2c_l10 = 0, w2c_l11 = 0, w2c_l12 = 0, 
       w2c_l13 = 0, w2c_l14 = 0, w2c_l15 = 0, w2c_l16 = 0, w2c_l17 = 0, w2c_l18 = 0, w2c_l19 = 0, w2c_l20 = 0;
@@ -102668,7 +102667,7 @@ static void w2c_f129(Z_hayro_jbig2_instance_t* instance, u64 w2c_p0, u64 w2c_p1,
       w2c_j2 = w2c_l5;
       w2c_j3 = 2ull;
       w2c_j2 <<= (w2c_j3 & 63);
-      (*Z_heapZ_jbig2_c_give_back)(instance->Z_heap_instance, w2c_j0, w2c_j1, w2c_j2);
+      (*Z_heapZ_jbig2_c_give_back)((struct Z_heap_instance_t*)instance, w2c_j0, w2c_j1, w2c_j2);
       w2c_B13:;
       w2c_j0 = w2c_p3;
       w2c_j1 = 72ull;
@@ -102690,7 +102689,7 @@ static void w2c_f129(Z_hayro_jbig2_instance_t* instance, u64 w2c_p0, u64 w2c_p1,
     w2c_j2 = w2c_l16;
     w2c_j3 = 72ull;
     w2c_j2 *= w2c_j3;
-    (*Z_heapZ_jbig2_c_give_back)(instance->Z_heap_instance, w2c_j0, w2c_j1, w2c_j2);
+    (*Z_heapZ_jbig2_c_give_back)((struct Z_heap_instance_t*)instance, w2c_j0, w2c_j1, w2c_j2);
     w2c_B14:;
     w2c_i0 = 1u;
     w2c_l21 = w2c_i0;
@@ -102745,7 +102744,7 @@ static void w2c_f129(Z_hayro_jbig2_instance_t* instance, u64 w2c_p0, u64 w2c_p1,
       w2c_j2 = w2c_l5;
       w2c_j3 = 2ull;
       w2c_j2 <<= (w2c_j3 & 63);
-      (*Z_heapZ_jbig2_c_give_back)(instance->Z_heap_instance, w2c_j0, w2c_j1, w2c_j2);
+      (*Z_heapZ_jbig2_c_give_back)((struct Z_heap_instance_t*)instance, w2c_j0, w2c_j1, w2c_j2);
       w2c_B20:;
       w2c_j0 = w2c_p3;
       w2c_j1 = 72ull;
@@ -102767,7 +102766,7 @@ static void w2c_f129(Z_hayro_jbig2_instance_t* instance, u64 w2c_p0, u64 w2c_p1,
     w2c_j2 = w2c_l16;
     w2c_j3 = 72ull;
     w2c_j2 *= w2c_j3;
-    (*Z_heapZ_jbig2_c_give_back)(instance->Z_heap_instance, w2c_j0, w2c_j1, w2c_j2);
+    (*Z_heapZ_jbig2_c_give_back)((struct Z_heap_instance_t*)instance, w2c_j0, w2c_j1, w2c_j2);
     w2c_B21:;
     w2c_j0 = w2c_l6;
     w2c_i0 = (u32)(w2c_j0);
@@ -102897,7 +102896,7 @@ static void w2c_f129(Z_hayro_jbig2_instance_t* instance, u64 w2c_p0, u64 w2c_p1,
       w2c_j2 = w2c_l5;
       w2c_j3 = 2ull;
       w2c_j2 <<= (w2c_j3 & 63);
-      (*Z_heapZ_jbig2_c_give_back)(instance->Z_heap_instance, w2c_j0, w2c_j1, w2c_j2);
+      (*Z_heapZ_jbig2_c_give_back)((struct Z_heap_instance_t*)instance, w2c_j0, w2c_j1, w2c_j2);
       w2c_B26:;
       w2c_j0 = w2c_p3;
       w2c_j1 = 72ull;
@@ -102919,7 +102918,7 @@ static void w2c_f129(Z_hayro_jbig2_instance_t* instance, u64 w2c_p0, u64 w2c_p1,
     w2c_j2 = w2c_l16;
     w2c_j3 = 72ull;
     w2c_j2 *= w2c_j3;
-    (*Z_heapZ_jbig2_c_give_back)(instance->Z_heap_instance, w2c_j0, w2c_j1, w2c_j2);
+    (*Z_heapZ_jbig2_c_give_back)((struct Z_heap_instance_t*)instance, w2c_j0, w2c_j1, w2c_j2);
     w2c_B27:;
     w2c_j0 = w2c_l6;
     w2c_i0 = (u32)(w2c_j0);
@@ -103273,7 +103272,7 @@ static void w2c_f129(Z_hayro_jbig2_instance_t* instance, u64 w2c_p0, u64 w2c_p1,
   FUNC_EPILOGUE;
 }
 
-static void w2c_f130(Z_hayro_jbig2_instance_t* instance, u64 w2c_p0, u64 w2c_p1, u32 w2c_p2, u64 w2c_p3, u64 w2c_p4, u64 w2c_p5, u64 w2c_p6) {
+static void w2c_f130(Z_hayro_jbig2_instance_t* RESTRICT instance, u64 w2c_p0, u64 w2c_p1, u32 w2c_p2, u64 w2c_p3, u64 w2c_p4, u64 w2c_p5, u64 w2c_p6) {
   u32 w2c_l9 = 0, w2c_l10 = 0, w2c_l11 = 0, w2c_l12 = 0, w2c_l13 = 0, w2c_l14 = 0, w2c_l15 = 0;
   u64 w2c_l7 = 0, w2c_l8 = 0;
   FUNC_PROLOGUE;
@@ -103901,7 +103900,7 @@ static void w2c_f130(Z_hayro_jbig2_instance_t* instance, u64 w2c_p0, u64 w2c_p1,
   FUNC_EPILOGUE;
 }
 
-static void w2c_f131(Z_hayro_jbig2_instance_t* instance, u64 w2c_p0) {
+static void w2c_f131(Z_hayro_jbig2_instance_t* RESTRICT instance, u64 w2c_p0) {
   u64 w2c_l1 = 0, w2c_l2 = 0, w2c_l3 = 0, w2c_l4 = 0, w2c_l5 = 0, w2c_l6 = 0, w2c_l7 = 0, w2c_l8 = 0, 
       w2c_l9 = 0, w2c_l10 = 0, w2c_l11 = 0;
   FUNC_PROLOGUE;
@@ -103980,7 +103979,7 @@ static void w2c_f131(Z_hayro_jbig2_instance_t* instance, u64 w2c_p0) {
       w2c_j2 = w2c_l11;
       w2c_j3 = 2ull;
       w2c_j2 <<= (w2c_j3 & 63);
-      (*Z_heapZ_jbig2_c_give_back)(instance->Z_heap_instance, w2c_j0, w2c_j1, w2c_j2);
+      (*Z_heapZ_jbig2_c_give_back)((struct Z_heap_instance_t*)instance, w2c_j0, w2c_j1, w2c_j2);
       w2c_B5:;
       w2c_j0 = w2c_p0;
       w2c_j1 = 72ull;
@@ -104002,7 +104001,7 @@ static void w2c_f131(Z_hayro_jbig2_instance_t* instance, u64 w2c_p0) {
     w2c_j2 = w2c_l8;
     w2c_j3 = 72ull;
     w2c_j2 *= w2c_j3;
-    (*Z_heapZ_jbig2_c_give_back)(instance->Z_heap_instance, w2c_j0, w2c_j1, w2c_j2);
+    (*Z_heapZ_jbig2_c_give_back)((struct Z_heap_instance_t*)instance, w2c_j0, w2c_j1, w2c_j2);
     w2c_B6:;
     w2c_j0 = w2c_l6;
     w2c_j1 = 1ull;
@@ -104020,7 +104019,7 @@ static void w2c_f131(Z_hayro_jbig2_instance_t* instance, u64 w2c_p0) {
   w2c_j2 = w2c_l3;
   w2c_j3 = 48ull;
   w2c_j2 *= w2c_j3;
-  (*Z_heapZ_jbig2_c_give_back)(instance->Z_heap_instance, w2c_j0, w2c_j1, w2c_j2);
+  (*Z_heapZ_jbig2_c_give_back)((struct Z_heap_instance_t*)instance, w2c_j0, w2c_j1, w2c_j2);
   w2c_B7:;
   w2c_j0 = w2c_l1;
   instance->w2c_g0 = w2c_j0;
@@ -104031,7 +104030,7 @@ static void w2c_f131(Z_hayro_jbig2_instance_t* instance, u64 w2c_p0) {
   FUNC_EPILOGUE;
 }
 
-static void w2c_f132(Z_hayro_jbig2_instance_t* instance, u64 w2c_p0) {
+static void w2c_f132(Z_hayro_jbig2_instance_t* RESTRICT instance, u64 w2c_p0) {
   u64 w2c_l1 = 0, w2c_l2 = 0;
   FUNC_PROLOGUE;
   u32 w2c_i0, w2c_i1;
@@ -104056,7 +104055,7 @@ static void w2c_f132(Z_hayro_jbig2_instance_t* instance, u64 w2c_p0) {
   w2c_j2 = w2c_l2;
   w2c_j3 = 1ull;
   w2c_j2 <<= (w2c_j3 & 63);
-  (*Z_heapZ_jbig2_c_give_back)(instance->Z_heap_instance, w2c_j0, w2c_j1, w2c_j2);
+  (*Z_heapZ_jbig2_c_give_back)((struct Z_heap_instance_t*)instance, w2c_j0, w2c_j1, w2c_j2);
   w2c_B1:;
   w2c_j0 = w2c_l1;
   instance->w2c_g0 = w2c_j0;
@@ -104067,7 +104066,7 @@ static void w2c_f132(Z_hayro_jbig2_instance_t* instance, u64 w2c_p0) {
   FUNC_EPILOGUE;
 }
 
-static u32 w2c_f133(Z_hayro_jbig2_instance_t* instance, u64 w2c_p0, u64 w2c_p1, u64 w2c_p2) {
+static u32 w2c_f133(Z_hayro_jbig2_instance_t* RESTRICT instance, u64 w2c_p0, u64 w2c_p1, u64 w2c_p2) {
   u32 w2c_l10 = 0;
   u64 w2c_l3 = 0, w2c_l4 = 0, w2c_l5 = 0, w2c_l6 = 0, w2c_l7 = 0, w2c_l8 = 0, w2c_l9 = 0;
   FUNC_PROLOGUE;
@@ -106018,7 +106017,7 @@ static u32 w2c_f133(Z_hayro_jbig2_instance_t* instance, u64 w2c_p0, u64 w2c_p1, 
   return w2c_i0;
 }
 
-static u32 w2c_f134(Z_hayro_jbig2_instance_t* instance, u64 w2c_p0) {
+static u32 w2c_f134(Z_hayro_jbig2_instance_t* RESTRICT instance, u64 w2c_p0) {
   u32 w2c_l18 = 0;
   u64 w2c_l1 = 0, w2c_l2 = 0, w2c_l3 = 0, w2c_l4 = 0, w2c_l5 = 0, w2c_l6 = 0, w2c_l7 = 0, w2c_l8 = 0, 
       w2c_l9 = 0, w2c_l10 = 0, w2c_l11 = 0, w2c_l12 = 0, w2c_l13 = 0, w2c_l14 = 0, w2c_l15 = 0, w2c_l16 = 0, 
@@ -106105,7 +106104,7 @@ static u32 w2c_f134(Z_hayro_jbig2_instance_t* instance, u64 w2c_p0) {
   w2c_j1 = i64_load(&instance->w2c_memory, (u64)(w2c_i1));
   w2c_j2 = w2c_l3;
   w2c_j3 = 8ull;
-  (*Z_heapZ_jbig2_c_take)(instance->Z_heap_instance, w2c_j0, w2c_j1, w2c_j2, w2c_j3);
+  (*Z_heapZ_jbig2_c_take)((struct Z_heap_instance_t*)instance, w2c_j0, w2c_j1, w2c_j2, w2c_j3);
   w2c_j0 = w2c_l2;
   w2c_i0 = (u32)(w2c_j0);
   w2c_i0 = i32_load8_u(&instance->w2c_memory, (u64)(w2c_i0));
@@ -106572,7 +106571,7 @@ static u32 w2c_f134(Z_hayro_jbig2_instance_t* instance, u64 w2c_p0) {
   w2c_j2 = w2c_l4;
   w2c_j3 = 56ull;
   w2c_j2 *= w2c_j3;
-  (*Z_heapZ_jbig2_c_give_back)(instance->Z_heap_instance, w2c_j0, w2c_j1, w2c_j2);
+  (*Z_heapZ_jbig2_c_give_back)((struct Z_heap_instance_t*)instance, w2c_j0, w2c_j1, w2c_j2);
   goto w2c_B2;
   w2c_B3:;
   w2c_j0 = w2c_l2;
@@ -106591,7 +106590,7 @@ static u32 w2c_f134(Z_hayro_jbig2_instance_t* instance, u64 w2c_p0) {
   w2c_j1 = i64_load(&instance->w2c_memory, (u64)(w2c_i1));
   w2c_j2 = w2c_l3;
   w2c_j3 = 8ull;
-  (*Z_heapZ_jbig2_c_take)(instance->Z_heap_instance, w2c_j0, w2c_j1, w2c_j2, w2c_j3);
+  (*Z_heapZ_jbig2_c_take)((struct Z_heap_instance_t*)instance, w2c_j0, w2c_j1, w2c_j2, w2c_j3);
   w2c_j0 = w2c_l2;
   w2c_i0 = (u32)(w2c_j0);
   w2c_i0 = i32_load8_u(&instance->w2c_memory, (u64)(w2c_i0));
@@ -106630,7 +106629,7 @@ static u32 w2c_f134(Z_hayro_jbig2_instance_t* instance, u64 w2c_p0) {
   return w2c_i0;
 }
 
-static void w2c_f135(Z_hayro_jbig2_instance_t* instance, u64 w2c_p0) {
+static void w2c_f135(Z_hayro_jbig2_instance_t* RESTRICT instance, u64 w2c_p0) {
   u64 w2c_l1 = 0, w2c_l2 = 0, w2c_l3 = 0, w2c_l4 = 0, w2c_l5 = 0, w2c_l6 = 0, w2c_l7 = 0;
   FUNC_PROLOGUE;
   u32 w2c_i0, w2c_i1, w2c_i3;
@@ -106701,7 +106700,7 @@ static void w2c_f135(Z_hayro_jbig2_instance_t* instance, u64 w2c_p0) {
     w2c_j2 = w2c_l6;
     w2c_j3 = 2ull;
     w2c_j2 <<= (w2c_j3 & 63);
-    (*Z_heapZ_jbig2_c_give_back)(instance->Z_heap_instance, w2c_j0, w2c_j1, w2c_j2);
+    (*Z_heapZ_jbig2_c_give_back)((struct Z_heap_instance_t*)instance, w2c_j0, w2c_j1, w2c_j2);
     w2c_B4:;
     w2c_j0 = w2c_p0;
     w2c_j1 = 56ull;
@@ -106742,7 +106741,7 @@ static void w2c_f135(Z_hayro_jbig2_instance_t* instance, u64 w2c_p0) {
     w2c_j2 = w2c_l5;
     w2c_j3 = 2ull;
     w2c_j2 <<= (w2c_j3 & 63);
-    (*Z_heapZ_jbig2_c_give_back)(instance->Z_heap_instance, w2c_j0, w2c_j1, w2c_j2);
+    (*Z_heapZ_jbig2_c_give_back)((struct Z_heap_instance_t*)instance, w2c_j0, w2c_j1, w2c_j2);
     w2c_B6:;
     w2c_j0 = w2c_p0;
     w2c_j1 = 56ull;
@@ -106764,7 +106763,7 @@ static void w2c_f135(Z_hayro_jbig2_instance_t* instance, u64 w2c_p0) {
   w2c_j2 = w2c_l3;
   w2c_j3 = 56ull;
   w2c_j2 *= w2c_j3;
-  (*Z_heapZ_jbig2_c_give_back)(instance->Z_heap_instance, w2c_j0, w2c_j1, w2c_j2);
+  (*Z_heapZ_jbig2_c_give_back)((struct Z_heap_instance_t*)instance, w2c_j0, w2c_j1, w2c_j2);
   w2c_B7:;
   w2c_j0 = w2c_l1;
   instance->w2c_g0 = w2c_j0;
@@ -106775,7 +106774,7 @@ static void w2c_f135(Z_hayro_jbig2_instance_t* instance, u64 w2c_p0) {
   FUNC_EPILOGUE;
 }
 
-static u32 w2c_f136(Z_hayro_jbig2_instance_t* instance, u64 w2c_p0) {
+static u32 w2c_f136(Z_hayro_jbig2_instance_t* RESTRICT instance, u64 w2c_p0) {
   u32 w2c_l17 = 0;
   u64 w2c_l1 = 0, w2c_l2 = 0, w2c_l3 = 0, w2c_l4 = 0, w2c_l5 = 0, w2c_l6 = 0, w2c_l7 = 0, w2c_l8 = 0, 
       w2c_l9 = 0, w2c_l10 = 0, w2c_l11 = 0, w2c_l12 = 0, w2c_l13 = 0, w2c_l14 = 0, w2c_l15 = 0, w2c_l16 = 0;
@@ -106861,7 +106860,7 @@ static u32 w2c_f136(Z_hayro_jbig2_instance_t* instance, u64 w2c_p0) {
   w2c_j1 = i64_load(&instance->w2c_memory, (u64)(w2c_i1));
   w2c_j2 = w2c_l3;
   w2c_j3 = 8ull;
-  (*Z_heapZ_jbig2_c_take)(instance->Z_heap_instance, w2c_j0, w2c_j1, w2c_j2, w2c_j3);
+  (*Z_heapZ_jbig2_c_take)((struct Z_heap_instance_t*)instance, w2c_j0, w2c_j1, w2c_j2, w2c_j3);
   w2c_j0 = w2c_l2;
   w2c_i0 = (u32)(w2c_j0);
   w2c_i0 = i32_load8_u(&instance->w2c_memory, (u64)(w2c_i0));
@@ -107276,7 +107275,7 @@ static u32 w2c_f136(Z_hayro_jbig2_instance_t* instance, u64 w2c_p0) {
   w2c_j2 = w2c_l4;
   w2c_j3 = 48ull;
   w2c_j2 *= w2c_j3;
-  (*Z_heapZ_jbig2_c_give_back)(instance->Z_heap_instance, w2c_j0, w2c_j1, w2c_j2);
+  (*Z_heapZ_jbig2_c_give_back)((struct Z_heap_instance_t*)instance, w2c_j0, w2c_j1, w2c_j2);
   goto w2c_B2;
   w2c_B3:;
   w2c_j0 = w2c_l2;
@@ -107295,7 +107294,7 @@ static u32 w2c_f136(Z_hayro_jbig2_instance_t* instance, u64 w2c_p0) {
   w2c_j1 = i64_load(&instance->w2c_memory, (u64)(w2c_i1));
   w2c_j2 = w2c_l3;
   w2c_j3 = 8ull;
-  (*Z_heapZ_jbig2_c_take)(instance->Z_heap_instance, w2c_j0, w2c_j1, w2c_j2, w2c_j3);
+  (*Z_heapZ_jbig2_c_take)((struct Z_heap_instance_t*)instance, w2c_j0, w2c_j1, w2c_j2, w2c_j3);
   w2c_j0 = w2c_l2;
   w2c_i0 = (u32)(w2c_j0);
   w2c_i0 = i32_load8_u(&instance->w2c_memory, (u64)(w2c_i0));
@@ -107334,7 +107333,7 @@ static u32 w2c_f136(Z_hayro_jbig2_instance_t* instance, u64 w2c_p0) {
   return w2c_i0;
 }
 
-static void w2c_f137(Z_hayro_jbig2_instance_t* instance, u64 w2c_p0) {
+static void w2c_f137(Z_hayro_jbig2_instance_t* RESTRICT instance, u64 w2c_p0) {
   u64 w2c_l1 = 0, w2c_l2 = 0, w2c_l3 = 0, w2c_l4 = 0, w2c_l5 = 0, w2c_l6 = 0, w2c_l7 = 0, w2c_l8 = 0, 
       w2c_l9 = 0, w2c_l10 = 0, w2c_l11 = 0, w2c_l12 = 0;
   FUNC_PROLOGUE;
@@ -107426,7 +107425,7 @@ static void w2c_f137(Z_hayro_jbig2_instance_t* instance, u64 w2c_p0) {
       w2c_j2 = w2c_l12;
       w2c_j3 = 2ull;
       w2c_j2 <<= (w2c_j3 & 63);
-      (*Z_heapZ_jbig2_c_give_back)(instance->Z_heap_instance, w2c_j0, w2c_j1, w2c_j2);
+      (*Z_heapZ_jbig2_c_give_back)((struct Z_heap_instance_t*)instance, w2c_j0, w2c_j1, w2c_j2);
       w2c_B6:;
       w2c_j0 = w2c_p0;
       w2c_j1 = 72ull;
@@ -107448,7 +107447,7 @@ static void w2c_f137(Z_hayro_jbig2_instance_t* instance, u64 w2c_p0) {
     w2c_j2 = w2c_l10;
     w2c_j3 = 72ull;
     w2c_j2 *= w2c_j3;
-    (*Z_heapZ_jbig2_c_give_back)(instance->Z_heap_instance, w2c_j0, w2c_j1, w2c_j2);
+    (*Z_heapZ_jbig2_c_give_back)((struct Z_heap_instance_t*)instance, w2c_j0, w2c_j1, w2c_j2);
     w2c_B7:;
     w2c_j0 = w2c_l6;
     w2c_j1 = 1ull;
@@ -107511,7 +107510,7 @@ static void w2c_f137(Z_hayro_jbig2_instance_t* instance, u64 w2c_p0) {
       w2c_j2 = w2c_l12;
       w2c_j3 = 2ull;
       w2c_j2 <<= (w2c_j3 & 63);
-      (*Z_heapZ_jbig2_c_give_back)(instance->Z_heap_instance, w2c_j0, w2c_j1, w2c_j2);
+      (*Z_heapZ_jbig2_c_give_back)((struct Z_heap_instance_t*)instance, w2c_j0, w2c_j1, w2c_j2);
       w2c_B11:;
       w2c_j0 = w2c_p0;
       w2c_j1 = 72ull;
@@ -107533,7 +107532,7 @@ static void w2c_f137(Z_hayro_jbig2_instance_t* instance, u64 w2c_p0) {
     w2c_j2 = w2c_l10;
     w2c_j3 = 72ull;
     w2c_j2 *= w2c_j3;
-    (*Z_heapZ_jbig2_c_give_back)(instance->Z_heap_instance, w2c_j0, w2c_j1, w2c_j2);
+    (*Z_heapZ_jbig2_c_give_back)((struct Z_heap_instance_t*)instance, w2c_j0, w2c_j1, w2c_j2);
     w2c_B12:;
     w2c_j0 = w2c_l6;
     w2c_j1 = 1ull;
@@ -107551,7 +107550,7 @@ static void w2c_f137(Z_hayro_jbig2_instance_t* instance, u64 w2c_p0) {
   w2c_j2 = w2c_l3;
   w2c_j3 = 5ull;
   w2c_j2 <<= (w2c_j3 & 63);
-  (*Z_heapZ_jbig2_c_give_back)(instance->Z_heap_instance, w2c_j0, w2c_j1, w2c_j2);
+  (*Z_heapZ_jbig2_c_give_back)((struct Z_heap_instance_t*)instance, w2c_j0, w2c_j1, w2c_j2);
   w2c_B13:;
   w2c_j0 = w2c_l1;
   instance->w2c_g0 = w2c_j0;
@@ -107562,7 +107561,7 @@ static void w2c_f137(Z_hayro_jbig2_instance_t* instance, u64 w2c_p0) {
   FUNC_EPILOGUE;
 }
 
-static u32 w2c_f138(Z_hayro_jbig2_instance_t* instance, u64 w2c_p0) {
+static u32 w2c_f138(Z_hayro_jbig2_instance_t* RESTRICT instance, u64 w2c_p0) {
   u32 w2c_l12 = 0;
   u64 w2c_l1 = 0, w2c_l2 = 0, w2c_l3 = 0, w2c_l4 = 0, w2c_l5 = 0, w2c_l6 = 0, w2c_l7 = 0, w2c_l8 = 0, 
       w2c_l9 = 0, w2c_l10 = 0, w2c_l11 = 0;
@@ -107648,7 +107647,7 @@ static u32 w2c_f138(Z_hayro_jbig2_instance_t* instance, u64 w2c_p0) {
   w2c_j1 = i64_load(&instance->w2c_memory, (u64)(w2c_i1));
   w2c_j2 = w2c_l6;
   w2c_j3 = 1ull;
-  (*Z_heapZ_jbig2_c_take)(instance->Z_heap_instance, w2c_j0, w2c_j1, w2c_j2, w2c_j3);
+  (*Z_heapZ_jbig2_c_take)((struct Z_heap_instance_t*)instance, w2c_j0, w2c_j1, w2c_j2, w2c_j3);
   w2c_j0 = w2c_l1;
   w2c_i0 = (u32)(w2c_j0);
   w2c_i0 = i32_load8_u(&instance->w2c_memory, (u64)(w2c_i0));
@@ -107760,7 +107759,7 @@ static u32 w2c_f138(Z_hayro_jbig2_instance_t* instance, u64 w2c_p0) {
   w2c_j0 = i64_load(&instance->w2c_memory, (u64)(w2c_i0));
   w2c_j1 = w2c_l7;
   w2c_j2 = w2c_l5;
-  (*Z_heapZ_jbig2_c_give_back)(instance->Z_heap_instance, w2c_j0, w2c_j1, w2c_j2);
+  (*Z_heapZ_jbig2_c_give_back)((struct Z_heap_instance_t*)instance, w2c_j0, w2c_j1, w2c_j2);
   goto w2c_B2;
   w2c_B3:;
   w2c_j0 = w2c_l1;
@@ -107779,7 +107778,7 @@ static u32 w2c_f138(Z_hayro_jbig2_instance_t* instance, u64 w2c_p0) {
   w2c_j1 = i64_load(&instance->w2c_memory, (u64)(w2c_i1));
   w2c_j2 = w2c_l6;
   w2c_j3 = 1ull;
-  (*Z_heapZ_jbig2_c_take)(instance->Z_heap_instance, w2c_j0, w2c_j1, w2c_j2, w2c_j3);
+  (*Z_heapZ_jbig2_c_take)((struct Z_heap_instance_t*)instance, w2c_j0, w2c_j1, w2c_j2, w2c_j3);
   w2c_j0 = w2c_l1;
   w2c_i0 = (u32)(w2c_j0);
   w2c_i0 = i32_load8_u(&instance->w2c_memory, (u64)(w2c_i0));
@@ -107818,7 +107817,7 @@ static u32 w2c_f138(Z_hayro_jbig2_instance_t* instance, u64 w2c_p0) {
   return w2c_i0;
 }
 
-static void w2c_f139(Z_hayro_jbig2_instance_t* instance, u64 w2c_p0, u64 w2c_p1, u32 w2c_p2, u64 w2c_p3, u64 w2c_p4, u64 w2c_p5, u64 w2c_p6) {
+static void w2c_f139(Z_hayro_jbig2_instance_t* RESTRICT instance, u64 w2c_p0, u64 w2c_p1, u32 w2c_p2, u64 w2c_p3, u64 w2c_p4, u64 w2c_p5, u64 w2c_p6) {
   u32 w2c_l14 = 0, w2c_l15 = 0, w2c_l16 = 0;
   u64 w2c_l7 = 0, w2c_l8 = 0, w2c_l9 = 0, w2c_l10 = 0, w2c_l11 = 0, w2c_l12 = 0, w2c_l13 = 0;
   FUNC_PROLOGUE;
@@ -108447,7 +108446,7 @@ static void w2c_f139(Z_hayro_jbig2_instance_t* instance, u64 w2c_p0, u64 w2c_p1,
       w2c_j2 = w2c_p4;
       w2c_j3 = 4ull;
       w2c_j2 <<= (w2c_j3 & 63);
-      (*Z_heapZ_jbig2_c_give_back)(instance->Z_heap_instance, w2c_j0, w2c_j1, w2c_j2);
+      (*Z_heapZ_jbig2_c_give_back)((struct Z_heap_instance_t*)instance, w2c_j0, w2c_j1, w2c_j2);
       w2c_B21:;
       w2c_j0 = w2c_p1;
       w2c_i0 = !(w2c_j0);
@@ -108457,7 +108456,7 @@ static void w2c_f139(Z_hayro_jbig2_instance_t* instance, u64 w2c_p0, u64 w2c_p1,
       w2c_j2 = w2c_p1;
       w2c_j3 = 24ull;
       w2c_j2 *= w2c_j3;
-      (*Z_heapZ_jbig2_c_give_back)(instance->Z_heap_instance, w2c_j0, w2c_j1, w2c_j2);
+      (*Z_heapZ_jbig2_c_give_back)((struct Z_heap_instance_t*)instance, w2c_j0, w2c_j1, w2c_j2);
       w2c_B22:;
       w2c_j0 = w2c_p3;
       w2c_j1 = 1096ull;
@@ -108479,7 +108478,7 @@ static void w2c_f139(Z_hayro_jbig2_instance_t* instance, u64 w2c_p0, u64 w2c_p1,
     w2c_j2 = w2c_l11;
     w2c_j3 = 1096ull;
     w2c_j2 *= w2c_j3;
-    (*Z_heapZ_jbig2_c_give_back)(instance->Z_heap_instance, w2c_j0, w2c_j1, w2c_j2);
+    (*Z_heapZ_jbig2_c_give_back)((struct Z_heap_instance_t*)instance, w2c_j0, w2c_j1, w2c_j2);
     w2c_B23:;
     w2c_j0 = w2c_l7;
     w2c_i0 = (u32)(w2c_j0);
@@ -108494,7 +108493,7 @@ static void w2c_f139(Z_hayro_jbig2_instance_t* instance, u64 w2c_p0, u64 w2c_p1,
     w2c_i1 = (u32)(w2c_j1);
     w2c_j1 = i64_load(&instance->w2c_memory, (u64)(w2c_i1) + 424u);
     w2c_j2 = w2c_p3;
-    (*Z_heapZ_jbig2_c_give_back)(instance->Z_heap_instance, w2c_j0, w2c_j1, w2c_j2);
+    (*Z_heapZ_jbig2_c_give_back)((struct Z_heap_instance_t*)instance, w2c_j0, w2c_j1, w2c_j2);
     w2c_B24:;
     w2c_j0 = w2c_l7;
     w2c_j1 = 824ull;
@@ -108645,7 +108644,7 @@ static void w2c_f139(Z_hayro_jbig2_instance_t* instance, u64 w2c_p0, u64 w2c_p1,
     w2c_j2 = w2c_p4;
     w2c_j3 = 4ull;
     w2c_j2 <<= (w2c_j3 & 63);
-    (*Z_heapZ_jbig2_c_give_back)(instance->Z_heap_instance, w2c_j0, w2c_j1, w2c_j2);
+    (*Z_heapZ_jbig2_c_give_back)((struct Z_heap_instance_t*)instance, w2c_j0, w2c_j1, w2c_j2);
     w2c_B27:;
     w2c_j0 = w2c_p1;
     w2c_i0 = !(w2c_j0);
@@ -108655,7 +108654,7 @@ static void w2c_f139(Z_hayro_jbig2_instance_t* instance, u64 w2c_p0, u64 w2c_p1,
     w2c_j2 = w2c_p1;
     w2c_j3 = 24ull;
     w2c_j2 *= w2c_j3;
-    (*Z_heapZ_jbig2_c_give_back)(instance->Z_heap_instance, w2c_j0, w2c_j1, w2c_j2);
+    (*Z_heapZ_jbig2_c_give_back)((struct Z_heap_instance_t*)instance, w2c_j0, w2c_j1, w2c_j2);
     w2c_B28:;
     w2c_j0 = w2c_p3;
     w2c_j1 = 1096ull;
@@ -108677,7 +108676,7 @@ static void w2c_f139(Z_hayro_jbig2_instance_t* instance, u64 w2c_p0, u64 w2c_p1,
   w2c_j2 = w2c_l11;
   w2c_j3 = 1096ull;
   w2c_j2 *= w2c_j3;
-  (*Z_heapZ_jbig2_c_give_back)(instance->Z_heap_instance, w2c_j0, w2c_j1, w2c_j2);
+  (*Z_heapZ_jbig2_c_give_back)((struct Z_heap_instance_t*)instance, w2c_j0, w2c_j1, w2c_j2);
   w2c_B29:;
   w2c_j0 = w2c_l7;
   w2c_i0 = (u32)(w2c_j0);
@@ -108692,7 +108691,7 @@ static void w2c_f139(Z_hayro_jbig2_instance_t* instance, u64 w2c_p0, u64 w2c_p1,
   w2c_i1 = (u32)(w2c_j1);
   w2c_j1 = i64_load(&instance->w2c_memory, (u64)(w2c_i1) + 424u);
   w2c_j2 = w2c_p3;
-  (*Z_heapZ_jbig2_c_give_back)(instance->Z_heap_instance, w2c_j0, w2c_j1, w2c_j2);
+  (*Z_heapZ_jbig2_c_give_back)((struct Z_heap_instance_t*)instance, w2c_j0, w2c_j1, w2c_j2);
   w2c_B30:;
   w2c_j0 = w2c_l7;
   w2c_j1 = 168ull;
@@ -108769,7 +108768,7 @@ static void w2c_f139(Z_hayro_jbig2_instance_t* instance, u64 w2c_p0, u64 w2c_p1,
     w2c_j2 = w2c_p4;
     w2c_j3 = 4ull;
     w2c_j2 <<= (w2c_j3 & 63);
-    (*Z_heapZ_jbig2_c_give_back)(instance->Z_heap_instance, w2c_j0, w2c_j1, w2c_j2);
+    (*Z_heapZ_jbig2_c_give_back)((struct Z_heap_instance_t*)instance, w2c_j0, w2c_j1, w2c_j2);
     w2c_B33:;
     w2c_j0 = w2c_p1;
     w2c_i0 = !(w2c_j0);
@@ -108779,7 +108778,7 @@ static void w2c_f139(Z_hayro_jbig2_instance_t* instance, u64 w2c_p0, u64 w2c_p1,
     w2c_j2 = w2c_p1;
     w2c_j3 = 24ull;
     w2c_j2 *= w2c_j3;
-    (*Z_heapZ_jbig2_c_give_back)(instance->Z_heap_instance, w2c_j0, w2c_j1, w2c_j2);
+    (*Z_heapZ_jbig2_c_give_back)((struct Z_heap_instance_t*)instance, w2c_j0, w2c_j1, w2c_j2);
     w2c_B34:;
     w2c_j0 = w2c_p3;
     w2c_j1 = 1096ull;
@@ -108801,7 +108800,7 @@ static void w2c_f139(Z_hayro_jbig2_instance_t* instance, u64 w2c_p0, u64 w2c_p1,
   w2c_j2 = w2c_l11;
   w2c_j3 = 1096ull;
   w2c_j2 *= w2c_j3;
-  (*Z_heapZ_jbig2_c_give_back)(instance->Z_heap_instance, w2c_j0, w2c_j1, w2c_j2);
+  (*Z_heapZ_jbig2_c_give_back)((struct Z_heap_instance_t*)instance, w2c_j0, w2c_j1, w2c_j2);
   w2c_B35:;
   w2c_j0 = w2c_l7;
   w2c_i0 = (u32)(w2c_j0);
@@ -108816,7 +108815,7 @@ static void w2c_f139(Z_hayro_jbig2_instance_t* instance, u64 w2c_p0, u64 w2c_p1,
   w2c_i1 = (u32)(w2c_j1);
   w2c_j1 = i64_load(&instance->w2c_memory, (u64)(w2c_i1) + 424u);
   w2c_j2 = w2c_p3;
-  (*Z_heapZ_jbig2_c_give_back)(instance->Z_heap_instance, w2c_j0, w2c_j1, w2c_j2);
+  (*Z_heapZ_jbig2_c_give_back)((struct Z_heap_instance_t*)instance, w2c_j0, w2c_j1, w2c_j2);
   w2c_B36:;
   w2c_j0 = w2c_l7;
   w2c_j1 = 824ull;
@@ -108940,7 +108939,7 @@ static void w2c_f139(Z_hayro_jbig2_instance_t* instance, u64 w2c_p0, u64 w2c_p1,
   FUNC_EPILOGUE;
 }
 
-static void w2c_f140(Z_hayro_jbig2_instance_t* instance, u64 w2c_p0, u64 w2c_p1, u64 w2c_p2) {
+static void w2c_f140(Z_hayro_jbig2_instance_t* RESTRICT instance, u64 w2c_p0, u64 w2c_p1, u64 w2c_p2) {
   u32 w2c_l9 = 0;
   u64 w2c_l3 = 0, w2c_l4 = 0, w2c_l5 = 0, w2c_l6 = 0, w2c_l7 = 0, w2c_l8 = 0;
   FUNC_PROLOGUE;
@@ -109049,7 +109048,7 @@ static void w2c_f140(Z_hayro_jbig2_instance_t* instance, u64 w2c_p0, u64 w2c_p1,
   FUNC_EPILOGUE;
 }
 
-static void w2c_f141(Z_hayro_jbig2_instance_t* instance, u64 w2c_p0, u64 w2c_p1, u64 w2c_p2) {
+static void w2c_f141(Z_hayro_jbig2_instance_t* RESTRICT instance, u64 w2c_p0, u64 w2c_p1, u64 w2c_p2) {
   u64 w2c_l3 = 0, w2c_l4 = 0, w2c_l5 = 0, w2c_l6 = 0, w2c_l7 = 0, w2c_l8 = 0, w2c_l9 = 0;
   FUNC_PROLOGUE;
   u32 w2c_i0, w2c_i1;
@@ -109157,7 +109156,7 @@ static void w2c_f141(Z_hayro_jbig2_instance_t* instance, u64 w2c_p0, u64 w2c_p1,
   FUNC_EPILOGUE;
 }
 
-static void w2c_f142(Z_hayro_jbig2_instance_t* instance, u64 w2c_p0, u64 w2c_p1, u32 w2c_p2, u32 w2c_p3, u64 w2c_p4, u64 w2c_p5, u64 w2c_p6) {
+static void w2c_f142(Z_hayro_jbig2_instance_t* RESTRICT instance, u64 w2c_p0, u64 w2c_p1, u32 w2c_p2, u32 w2c_p3, u64 w2c_p4, u64 w2c_p5, u64 w2c_p6) {
   u32 w2c_l8 = 0;
   u64 w2c_l7 = 0;
   FUNC_PROLOGUE;
@@ -109273,7 +109272,7 @@ static void w2c_f142(Z_hayro_jbig2_instance_t* instance, u64 w2c_p0, u64 w2c_p1,
   w2c_j1 = w2c_p1;
   w2c_j2 = 144ull;
   w2c_j3 = 8ull;
-  (*Z_heapZ_jbig2_c_take)(instance->Z_heap_instance, w2c_j0, w2c_j1, w2c_j2, w2c_j3);
+  (*Z_heapZ_jbig2_c_take)((struct Z_heap_instance_t*)instance, w2c_j0, w2c_j1, w2c_j2, w2c_j3);
   w2c_j0 = w2c_l7;
   w2c_i0 = (u32)(w2c_j0);
   w2c_i0 = i32_load8_u(&instance->w2c_memory, (u64)(w2c_i0) + 488u);
@@ -109403,7 +109402,7 @@ static void w2c_f142(Z_hayro_jbig2_instance_t* instance, u64 w2c_p0, u64 w2c_p1,
   FUNC_EPILOGUE;
 }
 
-static void w2c_f143(Z_hayro_jbig2_instance_t* instance, u64 w2c_p0, u64 w2c_p1, u64 w2c_p2, u64 w2c_p3, u32 w2c_p4, u64 w2c_p5) {
+static void w2c_f143(Z_hayro_jbig2_instance_t* RESTRICT instance, u64 w2c_p0, u64 w2c_p1, u64 w2c_p2, u64 w2c_p3, u32 w2c_p4, u64 w2c_p5) {
   u32 w2c_l10 = 0, w2c_l11 = 0, w2c_l12 = 0, w2c_l13 = 0;
   u64 w2c_l6 = 0, w2c_l7 = 0, w2c_l8 = 0, w2c_l9 = 0;
   FUNC_PROLOGUE;
@@ -109574,7 +109573,7 @@ static void w2c_f143(Z_hayro_jbig2_instance_t* instance, u64 w2c_p0, u64 w2c_p1,
     w2c_j2 = w2c_p2;
     w2c_j3 = 2ull;
     w2c_j2 <<= (w2c_j3 & 63);
-    (*Z_heapZ_jbig2_c_give_back)(instance->Z_heap_instance, w2c_j0, w2c_j1, w2c_j2);
+    (*Z_heapZ_jbig2_c_give_back)((struct Z_heap_instance_t*)instance, w2c_j0, w2c_j1, w2c_j2);
     w2c_B7:;
     w2c_j0 = w2c_p1;
     w2c_j1 = 72ull;
@@ -109596,7 +109595,7 @@ static void w2c_f143(Z_hayro_jbig2_instance_t* instance, u64 w2c_p0, u64 w2c_p1,
   w2c_j2 = w2c_l8;
   w2c_j3 = 72ull;
   w2c_j2 *= w2c_j3;
-  (*Z_heapZ_jbig2_c_give_back)(instance->Z_heap_instance, w2c_j0, w2c_j1, w2c_j2);
+  (*Z_heapZ_jbig2_c_give_back)((struct Z_heap_instance_t*)instance, w2c_j0, w2c_j1, w2c_j2);
   w2c_B8:;
   w2c_j0 = w2c_p0;
   w2c_i0 = (u32)(w2c_j0);
@@ -109710,7 +109709,7 @@ static void w2c_f143(Z_hayro_jbig2_instance_t* instance, u64 w2c_p0, u64 w2c_p1,
     w2c_j2 = w2c_p2;
     w2c_j3 = 2ull;
     w2c_j2 <<= (w2c_j3 & 63);
-    (*Z_heapZ_jbig2_c_give_back)(instance->Z_heap_instance, w2c_j0, w2c_j1, w2c_j2);
+    (*Z_heapZ_jbig2_c_give_back)((struct Z_heap_instance_t*)instance, w2c_j0, w2c_j1, w2c_j2);
     w2c_B11:;
     w2c_j0 = w2c_p1;
     w2c_j1 = 72ull;
@@ -109742,7 +109741,7 @@ static void w2c_f143(Z_hayro_jbig2_instance_t* instance, u64 w2c_p0, u64 w2c_p1,
   w2c_j2 = w2c_l8;
   w2c_j3 = 72ull;
   w2c_j2 *= w2c_j3;
-  (*Z_heapZ_jbig2_c_give_back)(instance->Z_heap_instance, w2c_j0, w2c_j1, w2c_j2);
+  (*Z_heapZ_jbig2_c_give_back)((struct Z_heap_instance_t*)instance, w2c_j0, w2c_j1, w2c_j2);
   w2c_B12:;
   w2c_j0 = w2c_p0;
   w2c_i0 = (u32)(w2c_j0);
@@ -109779,7 +109778,7 @@ static void w2c_f143(Z_hayro_jbig2_instance_t* instance, u64 w2c_p0, u64 w2c_p1,
   FUNC_EPILOGUE;
 }
 
-static void w2c_f144(Z_hayro_jbig2_instance_t* instance, u64 w2c_p0, u64 w2c_p1, u32 w2c_p2, u64 w2c_p3, u64 w2c_p4, u32 w2c_p5, u64 w2c_p6) {
+static void w2c_f144(Z_hayro_jbig2_instance_t* RESTRICT instance, u64 w2c_p0, u64 w2c_p1, u32 w2c_p2, u64 w2c_p3, u64 w2c_p4, u32 w2c_p5, u64 w2c_p6) {
   u32 w2c_l9 = 0;
   u64 w2c_l7 = 0, w2c_l8 = 0;
   FUNC_PROLOGUE;
@@ -109979,7 +109978,7 @@ static void w2c_f144(Z_hayro_jbig2_instance_t* instance, u64 w2c_p0, u64 w2c_p1,
   FUNC_EPILOGUE;
 }
 
-static void w2c_f145(Z_hayro_jbig2_instance_t* instance, u64 w2c_p0, u64 w2c_p1, u32 w2c_p2, u32 w2c_p3, u64 w2c_p4, u64 w2c_p5, u64 w2c_p6) {
+static void w2c_f145(Z_hayro_jbig2_instance_t* RESTRICT instance, u64 w2c_p0, u64 w2c_p1, u32 w2c_p2, u32 w2c_p3, u64 w2c_p4, u64 w2c_p5, u64 w2c_p6) {
   u32 w2c_l17 = 0, w2c_l18 = 0, w2c_l19 = 0, w2c_l20 = 0;
   u64 w2c_l7 = 0, w2c_l8 = 0, w2c_l9 = 0, w2c_l10 = 0, w2c_l11 = 0, w2c_l12 = 0, w2c_l13 = 0, w2c_l14 = 0, 
       w2c_l15 = 0, w2c_l16 = 0;
@@ -110093,7 +110092,7 @@ static void w2c_f145(Z_hayro_jbig2_instance_t* instance, u64 w2c_p0, u64 w2c_p1,
   w2c_i1 = (u32)(w2c_j1);
   w2c_j1 = i64_load(&instance->w2c_memory, (u64)(w2c_i1) + 552u);
   w2c_j2 = w2c_l8;
-  (*Z_heapZ_jbig2_c_give_back)(instance->Z_heap_instance, w2c_j0, w2c_j1, w2c_j2);
+  (*Z_heapZ_jbig2_c_give_back)((struct Z_heap_instance_t*)instance, w2c_j0, w2c_j1, w2c_j2);
   goto w2c_B4;
   w2c_B5:;
   w2c_j0 = w2c_l7;
@@ -110303,7 +110302,7 @@ static void w2c_f145(Z_hayro_jbig2_instance_t* instance, u64 w2c_p0, u64 w2c_p1,
   w2c_i1 = (u32)(w2c_j1);
   w2c_j1 = i64_load(&instance->w2c_memory, (u64)(w2c_i1) + 520u);
   w2c_j2 = w2c_l8;
-  (*Z_heapZ_jbig2_c_give_back)(instance->Z_heap_instance, w2c_j0, w2c_j1, w2c_j2);
+  (*Z_heapZ_jbig2_c_give_back)((struct Z_heap_instance_t*)instance, w2c_j0, w2c_j1, w2c_j2);
   w2c_B4:;
   w2c_i0 = 0u;
   w2c_p2 = w2c_i0;
@@ -110347,7 +110346,7 @@ static void w2c_f145(Z_hayro_jbig2_instance_t* instance, u64 w2c_p0, u64 w2c_p1,
   w2c_j0 = w2c_l8;
   w2c_j1 = w2c_p4;
   w2c_j2 = 144ull;
-  (*Z_heapZ_jbig2_c_give_back)(instance->Z_heap_instance, w2c_j0, w2c_j1, w2c_j2);
+  (*Z_heapZ_jbig2_c_give_back)((struct Z_heap_instance_t*)instance, w2c_j0, w2c_j1, w2c_j2);
   w2c_j0 = w2c_l7;
   w2c_j1 = 584ull;
   w2c_j0 += w2c_j1;
@@ -110538,7 +110537,7 @@ static void w2c_f145(Z_hayro_jbig2_instance_t* instance, u64 w2c_p0, u64 w2c_p1,
     w2c_j2 = w2c_l16;
     w2c_j3 = 2ull;
     w2c_j2 <<= (w2c_j3 & 63);
-    (*Z_heapZ_jbig2_c_give_back)(instance->Z_heap_instance, w2c_j0, w2c_j1, w2c_j2);
+    (*Z_heapZ_jbig2_c_give_back)((struct Z_heap_instance_t*)instance, w2c_j0, w2c_j1, w2c_j2);
     w2c_B26:;
     w2c_j0 = w2c_l8;
     w2c_j1 = 72ull;
@@ -110560,7 +110559,7 @@ static void w2c_f145(Z_hayro_jbig2_instance_t* instance, u64 w2c_p0, u64 w2c_p1,
   w2c_j2 = w2c_p6;
   w2c_j3 = 72ull;
   w2c_j2 *= w2c_j3;
-  (*Z_heapZ_jbig2_c_give_back)(instance->Z_heap_instance, w2c_j0, w2c_j1, w2c_j2);
+  (*Z_heapZ_jbig2_c_give_back)((struct Z_heap_instance_t*)instance, w2c_j0, w2c_j1, w2c_j2);
   w2c_B23:;
   w2c_j0 = w2c_l7;
   w2c_i0 = (u32)(w2c_j0);
@@ -110720,7 +110719,7 @@ static void w2c_f145(Z_hayro_jbig2_instance_t* instance, u64 w2c_p0, u64 w2c_p1,
   w2c_j0 = w2c_l14;
   w2c_j1 = w2c_l12;
   w2c_j2 = w2c_l9;
-  (*Z_heapZ_jbig2_c_give_back)(instance->Z_heap_instance, w2c_j0, w2c_j1, w2c_j2);
+  (*Z_heapZ_jbig2_c_give_back)((struct Z_heap_instance_t*)instance, w2c_j0, w2c_j1, w2c_j2);
   w2c_B27:;
   w2c_i0 = w2c_p3;
   w2c_i1 = 255u;
@@ -110758,7 +110757,7 @@ static void w2c_f145(Z_hayro_jbig2_instance_t* instance, u64 w2c_p0, u64 w2c_p1,
   w2c_j0 = w2c_l11;
   w2c_j1 = w2c_p4;
   w2c_j2 = 144ull;
-  (*Z_heapZ_jbig2_c_give_back)(instance->Z_heap_instance, w2c_j0, w2c_j1, w2c_j2);
+  (*Z_heapZ_jbig2_c_give_back)((struct Z_heap_instance_t*)instance, w2c_j0, w2c_j1, w2c_j2);
   w2c_j0 = w2c_l7;
   w2c_j1 = 584ull;
   w2c_j0 += w2c_j1;
@@ -110794,7 +110793,7 @@ static void w2c_f145(Z_hayro_jbig2_instance_t* instance, u64 w2c_p0, u64 w2c_p1,
   FUNC_EPILOGUE;
 }
 
-static void w2c_f146(Z_hayro_jbig2_instance_t* instance, u64 w2c_p0, u32 w2c_p1, u64 w2c_p2, u64 w2c_p3, u64 w2c_p4, u64 w2c_p5, u32 w2c_p6, u64 w2c_p7, 
+static void w2c_f146(Z_hayro_jbig2_instance_t* RESTRICT instance, u64 w2c_p0, u32 w2c_p1, u64 w2c_p2, u64 w2c_p3, u64 w2c_p4, u64 w2c_p5, u32 w2c_p6, u64 w2c_p7, 
     u64 w2c_p8) {
   u32 w2c_l10 = 0, w2c_l11 = 0, w2c_l12 = 0;
   u64 w2c_l9 = 0;
@@ -111033,7 +111032,7 @@ static void w2c_f146(Z_hayro_jbig2_instance_t* instance, u64 w2c_p0, u32 w2c_p1,
     w2c_j2 = w2c_p5;
     w2c_j3 = 2ull;
     w2c_j2 <<= (w2c_j3 & 63);
-    (*Z_heapZ_jbig2_c_give_back)(instance->Z_heap_instance, w2c_j0, w2c_j1, w2c_j2);
+    (*Z_heapZ_jbig2_c_give_back)((struct Z_heap_instance_t*)instance, w2c_j0, w2c_j1, w2c_j2);
     w2c_B7:;
     w2c_j0 = w2c_p3;
     w2c_j1 = 72ull;
@@ -111055,7 +111054,7 @@ static void w2c_f146(Z_hayro_jbig2_instance_t* instance, u64 w2c_p0, u32 w2c_p1,
   w2c_j2 = w2c_p4;
   w2c_j3 = 72ull;
   w2c_j2 *= w2c_j3;
-  (*Z_heapZ_jbig2_c_give_back)(instance->Z_heap_instance, w2c_j0, w2c_j1, w2c_j2);
+  (*Z_heapZ_jbig2_c_give_back)((struct Z_heap_instance_t*)instance, w2c_j0, w2c_j1, w2c_j2);
   w2c_B4:;
   w2c_j0 = w2c_l9;
   w2c_j1 = 632ull;
@@ -111140,7 +111139,7 @@ static void w2c_f146(Z_hayro_jbig2_instance_t* instance, u64 w2c_p0, u32 w2c_p1,
   FUNC_EPILOGUE;
 }
 
-static void w2c_f147(Z_hayro_jbig2_instance_t* instance, u64 w2c_p0, u64 w2c_p1, u32 w2c_p2, u64 w2c_p3, u64 w2c_p4) {
+static void w2c_f147(Z_hayro_jbig2_instance_t* RESTRICT instance, u64 w2c_p0, u64 w2c_p1, u32 w2c_p2, u64 w2c_p3, u64 w2c_p4) {
   u32 w2c_l19 = 0, w2c_l20 = 0, w2c_l21 = 0, w2c_l22 = 0, w2c_l23 = 0;
   u64 w2c_l5 = 0, w2c_l6 = 0, w2c_l7 = 0, w2c_l8 = 0, w2c_l9 = 0, w2c_l10 = 0, w2c_l11 = 0, w2c_l12 = 0, 
       w2c_l13 = 0, w2c_l14 = 0, w2c_l15 = 0, w2c_l16 = 0, w2c_l17 = 0, w2c_l18 = 0;
@@ -111652,7 +111651,7 @@ static void w2c_f147(Z_hayro_jbig2_instance_t* instance, u64 w2c_p0, u64 w2c_p1,
   FUNC_EPILOGUE;
 }
 
-static void w2c_f148(Z_hayro_jbig2_instance_t* instance, u64 w2c_p0, u64 w2c_p1, u64 w2c_p2) {
+static void w2c_f148(Z_hayro_jbig2_instance_t* RESTRICT instance, u64 w2c_p0, u64 w2c_p1, u64 w2c_p2) {
   u32 w2c_l8 = 0, w2c_l9 = 0, w2c_l10 = 0, w2c_l11 = 0, w2c_l12 = 0;
   u64 w2c_l3 = 0, w2c_l4 = 0, w2c_l5 = 0, w2c_l6 = 0, w2c_l7 = 0;
   FUNC_PROLOGUE;
@@ -112526,7 +112525,7 @@ static void w2c_f148(Z_hayro_jbig2_instance_t* instance, u64 w2c_p0, u64 w2c_p1,
   FUNC_EPILOGUE;
 }
 
-static void w2c_f149(Z_hayro_jbig2_instance_t* instance, u64 w2c_p0, u64 w2c_p1, u64 w2c_p2, u64 w2c_p3) {
+static void w2c_f149(Z_hayro_jbig2_instance_t* RESTRICT instance, u64 w2c_p0, u64 w2c_p1, u64 w2c_p2, u64 w2c_p3) {
   u32 w2c_l4 = 0, w2c_l5 = 0, w2c_l6 = 0, w2c_l7 = 0;
   u64 w2c_l8 = 0, w2c_l9 = 0, w2c_l10 = 0, w2c_l11 = 0, w2c_l12 = 0, w2c_l13 = 0, w2c_l14 = 0, w2c_l15 = 0, 
       w2c_l16 = 0, w2c_l17 = 0;
@@ -113002,7 +113001,7 @@ static void w2c_f149(Z_hayro_jbig2_instance_t* instance, u64 w2c_p0, u64 w2c_p1,
   FUNC_EPILOGUE;
 }
 
-static void w2c_f150(Z_hayro_jbig2_instance_t* instance, u64 w2c_p0, u32 w2c_p1, u64 w2c_p2, u64 w2c_p3, u64 w2c_p4, u32 w2c_p5, u64 w2c_p6, u64 w2c_p7) {
+static void w2c_f150(Z_hayro_jbig2_instance_t* RESTRICT instance, u64 w2c_p0, u32 w2c_p1, u64 w2c_p2, u64 w2c_p3, u64 w2c_p4, u32 w2c_p5, u64 w2c_p6, u64 w2c_p7) {
   u32 w2c_l12 = 0, w2c_l13 = 0, w2c_l14 = 0;
   u64 w2c_l8 = 0, w2c_l9 = 0, w2c_l10 = 0, w2c_l11 = 0;
   FUNC_PROLOGUE;
@@ -113238,7 +113237,7 @@ static void w2c_f150(Z_hayro_jbig2_instance_t* instance, u64 w2c_p0, u32 w2c_p1,
     w2c_j2 = w2c_p4;
     w2c_j3 = 2ull;
     w2c_j2 <<= (w2c_j3 & 63);
-    (*Z_heapZ_jbig2_c_give_back)(instance->Z_heap_instance, w2c_j0, w2c_j1, w2c_j2);
+    (*Z_heapZ_jbig2_c_give_back)((struct Z_heap_instance_t*)instance, w2c_j0, w2c_j1, w2c_j2);
     w2c_B7:;
     w2c_j0 = w2c_p3;
     w2c_j1 = 72ull;
@@ -113260,7 +113259,7 @@ static void w2c_f150(Z_hayro_jbig2_instance_t* instance, u64 w2c_p0, u32 w2c_p1,
   w2c_j2 = w2c_l10;
   w2c_j3 = 72ull;
   w2c_j2 *= w2c_j3;
-  (*Z_heapZ_jbig2_c_give_back)(instance->Z_heap_instance, w2c_j0, w2c_j1, w2c_j2);
+  (*Z_heapZ_jbig2_c_give_back)((struct Z_heap_instance_t*)instance, w2c_j0, w2c_j1, w2c_j2);
   w2c_B4:;
   w2c_j0 = w2c_l8;
   w2c_i0 = (u32)(w2c_j0);
@@ -113325,7 +113324,7 @@ static void w2c_f150(Z_hayro_jbig2_instance_t* instance, u64 w2c_p0, u32 w2c_p1,
   w2c_j2 = w2c_p3;
   w2c_j3 = 1ull;
   w2c_j2 <<= (w2c_j3 & 63);
-  (*Z_heapZ_jbig2_c_give_back)(instance->Z_heap_instance, w2c_j0, w2c_j1, w2c_j2);
+  (*Z_heapZ_jbig2_c_give_back)((struct Z_heap_instance_t*)instance, w2c_j0, w2c_j1, w2c_j2);
   w2c_B9:;
   w2c_j0 = w2c_p0;
   w2c_i0 = (u32)(w2c_j0);
@@ -113432,7 +113431,7 @@ static void w2c_f150(Z_hayro_jbig2_instance_t* instance, u64 w2c_p0, u32 w2c_p1,
   w2c_j2 = w2c_p3;
   w2c_j3 = 1ull;
   w2c_j2 <<= (w2c_j3 & 63);
-  (*Z_heapZ_jbig2_c_give_back)(instance->Z_heap_instance, w2c_j0, w2c_j1, w2c_j2);
+  (*Z_heapZ_jbig2_c_give_back)((struct Z_heap_instance_t*)instance, w2c_j0, w2c_j1, w2c_j2);
   w2c_B11:;
   w2c_j0 = w2c_p0;
   w2c_i0 = (u32)(w2c_j0);
@@ -113449,7 +113448,7 @@ static void w2c_f150(Z_hayro_jbig2_instance_t* instance, u64 w2c_p0, u32 w2c_p1,
   FUNC_EPILOGUE;
 }
 
-static void w2c_jbig2_c_release(Z_hayro_jbig2_instance_t* instance, u64 w2c_p0) {
+static void w2c_jbig2_c_release(Z_hayro_jbig2_instance_t* RESTRICT instance, u64 w2c_p0) {
   FUNC_PROLOGUE;
   u32 w2c_i0;
   u64 w2c_j0;
@@ -113465,7 +113464,7 @@ static void w2c_jbig2_c_release(Z_hayro_jbig2_instance_t* instance, u64 w2c_p0) 
   FUNC_EPILOGUE;
 }
 
-static void w2c_f152(Z_hayro_jbig2_instance_t* instance, u64 w2c_p0) {
+static void w2c_f152(Z_hayro_jbig2_instance_t* RESTRICT instance, u64 w2c_p0) {
   u64 w2c_l1 = 0, w2c_l2 = 0, w2c_l3 = 0;
   FUNC_PROLOGUE;
   u32 w2c_i0;
@@ -113489,7 +113488,7 @@ static void w2c_f152(Z_hayro_jbig2_instance_t* instance, u64 w2c_p0) {
   w2c_l3 = w2c_j0;
   w2c_j1 = w2c_p0;
   w2c_j2 = 16ull;
-  (*Z_heapZ_jbig2_c_give_back)(instance->Z_heap_instance, w2c_j0, w2c_j1, w2c_j2);
+  (*Z_heapZ_jbig2_c_give_back)((struct Z_heap_instance_t*)instance, w2c_j0, w2c_j1, w2c_j2);
   w2c_j0 = w2c_l2;
   w2c_j1 = w2c_l3;
   w2c_f6(instance, w2c_j0, w2c_j1);
@@ -113498,7 +113497,7 @@ static void w2c_f152(Z_hayro_jbig2_instance_t* instance, u64 w2c_p0) {
   FUNC_EPILOGUE;
 }
 
-static u64 w2c_hayro_jbig2_file_page_count(Z_hayro_jbig2_instance_t* instance, u64 w2c_p0) {
+static u64 w2c_hayro_jbig2_file_page_count(Z_hayro_jbig2_instance_t* RESTRICT instance, u64 w2c_p0) {
   FUNC_PROLOGUE;
   u32 w2c_i0;
   u64 w2c_j0;
@@ -113517,7 +113516,7 @@ static u64 w2c_hayro_jbig2_file_page_count(Z_hayro_jbig2_instance_t* instance, u
   return w2c_j0;
 }
 
-static u64 w2c_f154(Z_hayro_jbig2_instance_t* instance, u64 w2c_p0) {
+static u64 w2c_f154(Z_hayro_jbig2_instance_t* RESTRICT instance, u64 w2c_p0) {
   u64 w2c_l1 = 0;
   FUNC_PROLOGUE;
   u32 w2c_i0, w2c_i1;
@@ -113553,7 +113552,7 @@ static u64 w2c_f154(Z_hayro_jbig2_instance_t* instance, u64 w2c_p0) {
   return w2c_j0;
 }
 
-static u32 w2c_hayro_jbig2_context_new(Z_hayro_jbig2_instance_t* instance, u64 w2c_p0, u64 w2c_p1) {
+static u32 w2c_hayro_jbig2_context_new(Z_hayro_jbig2_instance_t* RESTRICT instance, u64 w2c_p0, u64 w2c_p1) {
   u32 w2c_l2 = 0;
   FUNC_PROLOGUE;
   u32 w2c_i0;
@@ -113574,7 +113573,7 @@ static u32 w2c_hayro_jbig2_context_new(Z_hayro_jbig2_instance_t* instance, u64 w
   return w2c_i0;
 }
 
-static u32 w2c_f156(Z_hayro_jbig2_instance_t* instance, u64 w2c_p0, u64 w2c_p1) {
+static u32 w2c_f156(Z_hayro_jbig2_instance_t* RESTRICT instance, u64 w2c_p0, u64 w2c_p1) {
   u32 w2c_l7 = 0, w2c_l8 = 0, w2c_l9 = 0, w2c_l10 = 0, w2c_l11 = 0;
   u64 w2c_l2 = 0, w2c_l3 = 0, w2c_l4 = 0, w2c_l5 = 0, w2c_l6 = 0;
   FUNC_PROLOGUE;
@@ -114968,7 +114967,7 @@ static u32 w2c_f156(Z_hayro_jbig2_instance_t* instance, u64 w2c_p0, u64 w2c_p1) 
   return w2c_i0;
 }
 
-static u32 w2c_hayro_jbig2_context_set_work_limit(Z_hayro_jbig2_instance_t* instance, u64 w2c_p0, u64 w2c_p1) {
+static u32 w2c_hayro_jbig2_context_set_work_limit(Z_hayro_jbig2_instance_t* RESTRICT instance, u64 w2c_p0, u64 w2c_p1) {
   u32 w2c_l2 = 0;
   FUNC_PROLOGUE;
   u32 w2c_i0;
@@ -114989,7 +114988,7 @@ static u32 w2c_hayro_jbig2_context_set_work_limit(Z_hayro_jbig2_instance_t* inst
   return w2c_i0;
 }
 
-static u32 w2c_f158(Z_hayro_jbig2_instance_t* instance, u64 w2c_p0, u64 w2c_p1) {
+static u32 w2c_f158(Z_hayro_jbig2_instance_t* RESTRICT instance, u64 w2c_p0, u64 w2c_p1) {
   u32 w2c_l6 = 0;
   u64 w2c_l2 = 0, w2c_l3 = 0, w2c_l4 = 0, w2c_l5 = 0;
   FUNC_PROLOGUE;
@@ -115070,7 +115069,7 @@ static u32 w2c_f158(Z_hayro_jbig2_instance_t* instance, u64 w2c_p0, u64 w2c_p1) 
   return w2c_i0;
 }
 
-static u32 w2c_hayro_jbig2_embedded_size(Z_hayro_jbig2_instance_t* instance, u32 w2c_p0, u64 w2c_p1, u64 w2c_p2, u64 w2c_p3, u64 w2c_p4) {
+static u32 w2c_hayro_jbig2_embedded_size(Z_hayro_jbig2_instance_t* RESTRICT instance, u32 w2c_p0, u64 w2c_p1, u64 w2c_p2, u64 w2c_p3, u64 w2c_p4) {
   FUNC_PROLOGUE;
   u32 w2c_i0;
   u64 w2c_j1, w2c_j2, w2c_j3, w2c_j4;
@@ -115093,7 +115092,7 @@ static u32 w2c_hayro_jbig2_embedded_size(Z_hayro_jbig2_instance_t* instance, u32
   return w2c_i0;
 }
 
-static u32 w2c_f160(Z_hayro_jbig2_instance_t* instance, u32 w2c_p0, u64 w2c_p1, u64 w2c_p2, u64 w2c_p3, u64 w2c_p4) {
+static u32 w2c_f160(Z_hayro_jbig2_instance_t* RESTRICT instance, u32 w2c_p0, u64 w2c_p1, u64 w2c_p2, u64 w2c_p3, u64 w2c_p4) {
   u32 w2c_l11 = 0;
   u64 w2c_l5 = 0, w2c_l6 = 0, w2c_l7 = 0, w2c_l8 = 0, w2c_l9 = 0, w2c_l10 = 0;
   FUNC_PROLOGUE;
@@ -115195,7 +115194,7 @@ static u32 w2c_f160(Z_hayro_jbig2_instance_t* instance, u32 w2c_p0, u64 w2c_p1, 
     w2c_j2 = w2c_l10;
     w2c_j3 = 2ull;
     w2c_j2 <<= (w2c_j3 & 63);
-    (*Z_heapZ_jbig2_c_give_back)(instance->Z_heap_instance, w2c_j0, w2c_j1, w2c_j2);
+    (*Z_heapZ_jbig2_c_give_back)((struct Z_heap_instance_t*)instance, w2c_j0, w2c_j1, w2c_j2);
     w2c_B7:;
     w2c_j0 = w2c_p1;
     w2c_j1 = 72ull;
@@ -115217,7 +115216,7 @@ static u32 w2c_f160(Z_hayro_jbig2_instance_t* instance, u32 w2c_p0, u64 w2c_p1, 
   w2c_j2 = w2c_l8;
   w2c_j3 = 72ull;
   w2c_j2 *= w2c_j3;
-  (*Z_heapZ_jbig2_c_give_back)(instance->Z_heap_instance, w2c_j0, w2c_j1, w2c_j2);
+  (*Z_heapZ_jbig2_c_give_back)((struct Z_heap_instance_t*)instance, w2c_j0, w2c_j1, w2c_j2);
   w2c_B4:;
   w2c_j0 = w2c_p3;
   w2c_i0 = (u32)(w2c_j0);
@@ -115315,7 +115314,7 @@ static u32 w2c_f160(Z_hayro_jbig2_instance_t* instance, u32 w2c_p0, u64 w2c_p1, 
   return w2c_i0;
 }
 
-static u32 w2c_hayro_jbig2_file_draw(Z_hayro_jbig2_instance_t* instance, u64 w2c_p0, u64 w2c_p1, u64 w2c_p2) {
+static u32 w2c_hayro_jbig2_file_draw(Z_hayro_jbig2_instance_t* RESTRICT instance, u64 w2c_p0, u64 w2c_p1, u64 w2c_p2) {
   u32 w2c_l3 = 0;
   FUNC_PROLOGUE;
   u32 w2c_i0;
@@ -115337,7 +115336,7 @@ static u32 w2c_hayro_jbig2_file_draw(Z_hayro_jbig2_instance_t* instance, u64 w2c
   return w2c_i0;
 }
 
-static u32 w2c_f162(Z_hayro_jbig2_instance_t* instance, u64 w2c_p0, u64 w2c_p1, u64 w2c_p2) {
+static u32 w2c_f162(Z_hayro_jbig2_instance_t* RESTRICT instance, u64 w2c_p0, u64 w2c_p1, u64 w2c_p2) {
   u32 w2c_l13 = 0, w2c_l14 = 0, w2c_l15 = 0, w2c_l16 = 0;
   u64 w2c_l3 = 0, w2c_l4 = 0, w2c_l5 = 0, w2c_l6 = 0, w2c_l7 = 0, w2c_l8 = 0, w2c_l9 = 0, w2c_l10 = 0, 
       w2c_l11 = 0, w2c_l12 = 0;
@@ -115571,7 +115570,7 @@ static u32 w2c_f162(Z_hayro_jbig2_instance_t* instance, u64 w2c_p0, u64 w2c_p1, 
     w2c_j2 = w2c_l12;
     w2c_j3 = 2ull;
     w2c_j2 <<= (w2c_j3 & 63);
-    (*Z_heapZ_jbig2_c_give_back)(instance->Z_heap_instance, w2c_j0, w2c_j1, w2c_j2);
+    (*Z_heapZ_jbig2_c_give_back)((struct Z_heap_instance_t*)instance, w2c_j0, w2c_j1, w2c_j2);
     w2c_B10:;
     w2c_j0 = w2c_p1;
     w2c_j1 = 72ull;
@@ -115593,7 +115592,7 @@ static u32 w2c_f162(Z_hayro_jbig2_instance_t* instance, u64 w2c_p0, u64 w2c_p1, 
   w2c_j2 = w2c_l9;
   w2c_j3 = 72ull;
   w2c_j2 *= w2c_j3;
-  (*Z_heapZ_jbig2_c_give_back)(instance->Z_heap_instance, w2c_j0, w2c_j1, w2c_j2);
+  (*Z_heapZ_jbig2_c_give_back)((struct Z_heap_instance_t*)instance, w2c_j0, w2c_j1, w2c_j2);
   w2c_B7:;
   w2c_i0 = w2c_l15;
   w2c_i1 = 0u;
@@ -115744,7 +115743,7 @@ static u32 w2c_f162(Z_hayro_jbig2_instance_t* instance, u64 w2c_p0, u64 w2c_p1, 
   return w2c_i0;
 }
 
-static u32 w2c_hayro_jbig2_file_get_info(Z_hayro_jbig2_instance_t* instance, u64 w2c_p0, u64 w2c_p1, u64 w2c_p2) {
+static u32 w2c_hayro_jbig2_file_get_info(Z_hayro_jbig2_instance_t* RESTRICT instance, u64 w2c_p0, u64 w2c_p1, u64 w2c_p2) {
   u32 w2c_l3 = 0;
   FUNC_PROLOGUE;
   u32 w2c_i0;
@@ -115766,7 +115765,7 @@ static u32 w2c_hayro_jbig2_file_get_info(Z_hayro_jbig2_instance_t* instance, u64
   return w2c_i0;
 }
 
-static u32 w2c_f164(Z_hayro_jbig2_instance_t* instance, u64 w2c_p0, u64 w2c_p1, u64 w2c_p2) {
+static u32 w2c_f164(Z_hayro_jbig2_instance_t* RESTRICT instance, u64 w2c_p0, u64 w2c_p1, u64 w2c_p2) {
   u32 w2c_l11 = 0, w2c_l12 = 0, w2c_l13 = 0;
   u64 w2c_l3 = 0, w2c_l4 = 0, w2c_l5 = 0, w2c_l6 = 0, w2c_l7 = 0, w2c_l8 = 0, w2c_l9 = 0, w2c_l10 = 0;
   FUNC_PROLOGUE;
@@ -115878,7 +115877,7 @@ static u32 w2c_f164(Z_hayro_jbig2_instance_t* instance, u64 w2c_p0, u64 w2c_p1, 
     w2c_j2 = w2c_l10;
     w2c_j3 = 2ull;
     w2c_j2 <<= (w2c_j3 & 63);
-    (*Z_heapZ_jbig2_c_give_back)(instance->Z_heap_instance, w2c_j0, w2c_j1, w2c_j2);
+    (*Z_heapZ_jbig2_c_give_back)((struct Z_heap_instance_t*)instance, w2c_j0, w2c_j1, w2c_j2);
     w2c_B7:;
     w2c_j0 = w2c_l3;
     w2c_j1 = 72ull;
@@ -115900,7 +115899,7 @@ static u32 w2c_f164(Z_hayro_jbig2_instance_t* instance, u64 w2c_p0, u64 w2c_p1, 
   w2c_j2 = w2c_l8;
   w2c_j3 = 72ull;
   w2c_j2 *= w2c_j3;
-  (*Z_heapZ_jbig2_c_give_back)(instance->Z_heap_instance, w2c_j0, w2c_j1, w2c_j2);
+  (*Z_heapZ_jbig2_c_give_back)((struct Z_heap_instance_t*)instance, w2c_j0, w2c_j1, w2c_j2);
   w2c_B4:;
   w2c_j0 = w2c_p0;
   w2c_i0 = (u32)(w2c_j0);
@@ -115956,7 +115955,7 @@ static u32 w2c_f164(Z_hayro_jbig2_instance_t* instance, u64 w2c_p0, u64 w2c_p1, 
   return w2c_i0;
 }
 
-static u32 w2c_hayro_jbig2_file_new(Z_hayro_jbig2_instance_t* instance, u64 w2c_p0, u32 w2c_p1, u64 w2c_p2, u64 w2c_p3, u64 w2c_p4) {
+static u32 w2c_hayro_jbig2_file_new(Z_hayro_jbig2_instance_t* RESTRICT instance, u64 w2c_p0, u32 w2c_p1, u64 w2c_p2, u64 w2c_p3, u64 w2c_p4) {
   FUNC_PROLOGUE;
   u32 w2c_i0, w2c_i1;
   u64 w2c_j0, w2c_j2, w2c_j3, w2c_j4;
@@ -115979,7 +115978,7 @@ static u32 w2c_hayro_jbig2_file_new(Z_hayro_jbig2_instance_t* instance, u64 w2c_
   return w2c_i0;
 }
 
-static u32 w2c_f166(Z_hayro_jbig2_instance_t* instance, u64 w2c_p0, u32 w2c_p1, u64 w2c_p2, u64 w2c_p3, u64 w2c_p4) {
+static u32 w2c_f166(Z_hayro_jbig2_instance_t* RESTRICT instance, u64 w2c_p0, u32 w2c_p1, u64 w2c_p2, u64 w2c_p3, u64 w2c_p4) {
   u32 w2c_l6 = 0, w2c_l7 = 0;
   u64 w2c_l5 = 0;
   FUNC_PROLOGUE;
@@ -116238,7 +116237,7 @@ static u32 w2c_f166(Z_hayro_jbig2_instance_t* instance, u64 w2c_p0, u32 w2c_p1, 
   return w2c_i0;
 }
 
-static u32 w2c_hayro_jbig2_file_new_salvaged(Z_hayro_jbig2_instance_t* instance, u64 w2c_p0, u64 w2c_p1, u64 w2c_p2, u64 w2c_p3, u64 w2c_p4) {
+static u32 w2c_hayro_jbig2_file_new_salvaged(Z_hayro_jbig2_instance_t* RESTRICT instance, u64 w2c_p0, u64 w2c_p1, u64 w2c_p2, u64 w2c_p3, u64 w2c_p4) {
   u32 w2c_l5 = 0;
   FUNC_PROLOGUE;
   u32 w2c_i0;
@@ -116262,7 +116261,7 @@ static u32 w2c_hayro_jbig2_file_new_salvaged(Z_hayro_jbig2_instance_t* instance,
   return w2c_i0;
 }
 
-static u32 w2c_f168(Z_hayro_jbig2_instance_t* instance, u64 w2c_p0, u64 w2c_p1, u64 w2c_p2, u64 w2c_p3, u64 w2c_p4) {
+static u32 w2c_f168(Z_hayro_jbig2_instance_t* RESTRICT instance, u64 w2c_p0, u64 w2c_p1, u64 w2c_p2, u64 w2c_p3, u64 w2c_p4) {
   u32 w2c_l6 = 0, w2c_l7 = 0, w2c_l8 = 0;
   u64 w2c_l5 = 0;
   FUNC_PROLOGUE;
@@ -116524,7 +116523,7 @@ static u32 w2c_f168(Z_hayro_jbig2_instance_t* instance, u64 w2c_p0, u64 w2c_p1, 
   return w2c_i0;
 }
 
-static u32 w2c_hayro_jbig2_file_new_within(Z_hayro_jbig2_instance_t* instance, u64 w2c_p0, u32 w2c_p1, u64 w2c_p2, u64 w2c_p3, u64 w2c_p4, u64 w2c_p5) {
+static u32 w2c_hayro_jbig2_file_new_within(Z_hayro_jbig2_instance_t* RESTRICT instance, u64 w2c_p0, u32 w2c_p1, u64 w2c_p2, u64 w2c_p3, u64 w2c_p4, u64 w2c_p5) {
   FUNC_PROLOGUE;
   u32 w2c_i0, w2c_i1;
   u64 w2c_j0, w2c_j2, w2c_j3, w2c_j4, w2c_j5;
@@ -116548,7 +116547,7 @@ static u32 w2c_hayro_jbig2_file_new_within(Z_hayro_jbig2_instance_t* instance, u
   return w2c_i0;
 }
 
-static u32 w2c_f170(Z_hayro_jbig2_instance_t* instance, u64 w2c_p0, u32 w2c_p1, u64 w2c_p2, u64 w2c_p3, u64 w2c_p4, u64 w2c_p5) {
+static u32 w2c_f170(Z_hayro_jbig2_instance_t* RESTRICT instance, u64 w2c_p0, u32 w2c_p1, u64 w2c_p2, u64 w2c_p3, u64 w2c_p4, u64 w2c_p5) {
   u32 w2c_l7 = 0, w2c_l8 = 0;
   u64 w2c_l6 = 0;
   FUNC_PROLOGUE;
@@ -116814,7 +116813,7 @@ static u32 w2c_f170(Z_hayro_jbig2_instance_t* instance, u64 w2c_p0, u32 w2c_p1, 
   return w2c_i0;
 }
 
-static u32 w2c_hayro_jbig2_globals_new(Z_hayro_jbig2_instance_t* instance, u64 w2c_p0, u32 w2c_p1, u64 w2c_p2, u64 w2c_p3, u64 w2c_p4) {
+static u32 w2c_hayro_jbig2_globals_new(Z_hayro_jbig2_instance_t* RESTRICT instance, u64 w2c_p0, u32 w2c_p1, u64 w2c_p2, u64 w2c_p3, u64 w2c_p4) {
   FUNC_PROLOGUE;
   u32 w2c_i0, w2c_i1;
   u64 w2c_j0, w2c_j2, w2c_j3, w2c_j4;
@@ -116837,7 +116836,7 @@ static u32 w2c_hayro_jbig2_globals_new(Z_hayro_jbig2_instance_t* instance, u64 w
   return w2c_i0;
 }
 
-static u32 w2c_f172(Z_hayro_jbig2_instance_t* instance, u64 w2c_p0, u32 w2c_p1, u64 w2c_p2, u64 w2c_p3, u64 w2c_p4) {
+static u32 w2c_f172(Z_hayro_jbig2_instance_t* RESTRICT instance, u64 w2c_p0, u32 w2c_p1, u64 w2c_p2, u64 w2c_p3, u64 w2c_p4) {
   u32 w2c_l6 = 0;
   u64 w2c_l5 = 0;
   FUNC_PROLOGUE;
@@ -116998,7 +116997,7 @@ static u32 w2c_f172(Z_hayro_jbig2_instance_t* instance, u64 w2c_p0, u32 w2c_p1, 
   return w2c_i0;
 }
 
-static u32 w2c_hayro_jbig2_globals_new_salvaged(Z_hayro_jbig2_instance_t* instance, u64 w2c_p0, u64 w2c_p1, u64 w2c_p2, u64 w2c_p3, u64 w2c_p4) {
+static u32 w2c_hayro_jbig2_globals_new_salvaged(Z_hayro_jbig2_instance_t* RESTRICT instance, u64 w2c_p0, u64 w2c_p1, u64 w2c_p2, u64 w2c_p3, u64 w2c_p4) {
   u32 w2c_l5 = 0;
   FUNC_PROLOGUE;
   u32 w2c_i0;
@@ -117022,7 +117021,7 @@ static u32 w2c_hayro_jbig2_globals_new_salvaged(Z_hayro_jbig2_instance_t* instan
   return w2c_i0;
 }
 
-static u32 w2c_f174(Z_hayro_jbig2_instance_t* instance, u64 w2c_p0, u64 w2c_p1, u64 w2c_p2, u64 w2c_p3, u64 w2c_p4) {
+static u32 w2c_f174(Z_hayro_jbig2_instance_t* RESTRICT instance, u64 w2c_p0, u64 w2c_p1, u64 w2c_p2, u64 w2c_p3, u64 w2c_p4) {
   u32 w2c_l6 = 0, w2c_l7 = 0, w2c_l8 = 0;
   u64 w2c_l5 = 0;
   FUNC_PROLOGUE;
@@ -117143,7 +117142,7 @@ static u32 w2c_f174(Z_hayro_jbig2_instance_t* instance, u64 w2c_p0, u64 w2c_p1, 
   w2c_j1 = w2c_p0;
   w2c_j2 = 144ull;
   w2c_j3 = 8ull;
-  (*Z_heapZ_jbig2_c_take)(instance->Z_heap_instance, w2c_j0, w2c_j1, w2c_j2, w2c_j3);
+  (*Z_heapZ_jbig2_c_take)((struct Z_heap_instance_t*)instance, w2c_j0, w2c_j1, w2c_j2, w2c_j3);
   w2c_j0 = w2c_l5;
   w2c_i0 = (u32)(w2c_j0);
   w2c_i0 = i32_load8_u(&instance->w2c_memory, (u64)(w2c_i0) + 488u);
@@ -117356,7 +117355,7 @@ static u32 w2c_f174(Z_hayro_jbig2_instance_t* instance, u64 w2c_p0, u64 w2c_p1, 
   return w2c_i0;
 }
 
-static u32 w2c_hayro_jbig2_globals_new_within(Z_hayro_jbig2_instance_t* instance, u64 w2c_p0, u32 w2c_p1, u64 w2c_p2, u64 w2c_p3, u64 w2c_p4, u64 w2c_p5) {
+static u32 w2c_hayro_jbig2_globals_new_within(Z_hayro_jbig2_instance_t* RESTRICT instance, u64 w2c_p0, u32 w2c_p1, u64 w2c_p2, u64 w2c_p3, u64 w2c_p4, u64 w2c_p5) {
   FUNC_PROLOGUE;
   u32 w2c_i0, w2c_i1;
   u64 w2c_j0, w2c_j2, w2c_j3, w2c_j4, w2c_j5;
@@ -117380,7 +117379,7 @@ static u32 w2c_hayro_jbig2_globals_new_within(Z_hayro_jbig2_instance_t* instance
   return w2c_i0;
 }
 
-static u32 w2c_f176(Z_hayro_jbig2_instance_t* instance, u64 w2c_p0, u32 w2c_p1, u64 w2c_p2, u64 w2c_p3, u64 w2c_p4, u64 w2c_p5) {
+static u32 w2c_f176(Z_hayro_jbig2_instance_t* RESTRICT instance, u64 w2c_p0, u32 w2c_p1, u64 w2c_p2, u64 w2c_p3, u64 w2c_p4, u64 w2c_p5) {
   u32 w2c_l7 = 0;
   u64 w2c_l6 = 0;
   FUNC_PROLOGUE;
@@ -117547,7 +117546,7 @@ static u32 w2c_f176(Z_hayro_jbig2_instance_t* instance, u64 w2c_p0, u32 w2c_p1, 
   return w2c_i0;
 }
 
-static u32 w2c_hayro_jbig2_globals_share(Z_hayro_jbig2_instance_t* instance, u64 w2c_p0, u64 w2c_p1, u64 w2c_p2) {
+static u32 w2c_hayro_jbig2_globals_share(Z_hayro_jbig2_instance_t* RESTRICT instance, u64 w2c_p0, u64 w2c_p1, u64 w2c_p2) {
   u32 w2c_l3 = 0;
   FUNC_PROLOGUE;
   u32 w2c_i0;
@@ -117569,7 +117568,7 @@ static u32 w2c_hayro_jbig2_globals_share(Z_hayro_jbig2_instance_t* instance, u64
   return w2c_i0;
 }
 
-static u32 w2c_f178(Z_hayro_jbig2_instance_t* instance, u64 w2c_p0, u64 w2c_p1, u64 w2c_p2) {
+static u32 w2c_f178(Z_hayro_jbig2_instance_t* RESTRICT instance, u64 w2c_p0, u64 w2c_p1, u64 w2c_p2) {
   u32 w2c_l8 = 0, w2c_l9 = 0, w2c_l10 = 0, w2c_l11 = 0;
   u64 w2c_l3 = 0, w2c_l4 = 0, w2c_l5 = 0, w2c_l6 = 0, w2c_l7 = 0;
   FUNC_PROLOGUE;
@@ -117825,7 +117824,7 @@ static u32 w2c_f178(Z_hayro_jbig2_instance_t* instance, u64 w2c_p0, u64 w2c_p1, 
   return w2c_i0;
 }
 
-static u32 w2c_hayro_jbig2_page_count(Z_hayro_jbig2_instance_t* instance, u32 w2c_p0, u64 w2c_p1, u64 w2c_p2, u64 w2c_p3) {
+static u32 w2c_hayro_jbig2_page_count(Z_hayro_jbig2_instance_t* RESTRICT instance, u32 w2c_p0, u64 w2c_p1, u64 w2c_p2, u64 w2c_p3) {
   FUNC_PROLOGUE;
   u32 w2c_i0;
   u64 w2c_j1, w2c_j2, w2c_j3;
@@ -117847,7 +117846,7 @@ static u32 w2c_hayro_jbig2_page_count(Z_hayro_jbig2_instance_t* instance, u32 w2
   return w2c_i0;
 }
 
-static u32 w2c_f180(Z_hayro_jbig2_instance_t* instance, u32 w2c_p0, u64 w2c_p1, u64 w2c_p2, u64 w2c_p3) {
+static u32 w2c_f180(Z_hayro_jbig2_instance_t* RESTRICT instance, u32 w2c_p0, u64 w2c_p1, u64 w2c_p2, u64 w2c_p3) {
   u32 w2c_l8 = 0, w2c_l9 = 0, w2c_l10 = 0, w2c_l11 = 0;
   u64 w2c_l4 = 0, w2c_l5 = 0, w2c_l6 = 0, w2c_l7 = 0;
   FUNC_PROLOGUE;
@@ -118017,7 +118016,7 @@ static u32 w2c_f180(Z_hayro_jbig2_instance_t* instance, u32 w2c_p0, u64 w2c_p1, 
   w2c_j2 = w2c_l6;
   w2c_j3 = 1ull;
   w2c_j2 <<= (w2c_j3 & 63);
-  (*Z_heapZ_jbig2_c_give_back)(instance->Z_heap_instance, w2c_j0, w2c_j1, w2c_j2);
+  (*Z_heapZ_jbig2_c_give_back)((struct Z_heap_instance_t*)instance, w2c_j0, w2c_j1, w2c_j2);
   w2c_B5:;
   w2c_j0 = w2c_p3;
   w2c_i0 = (u32)(w2c_j0);
@@ -118103,7 +118102,7 @@ static u32 w2c_f180(Z_hayro_jbig2_instance_t* instance, u32 w2c_p0, u64 w2c_p1, 
   return w2c_i0;
 }
 
-static u32 w2c_hayro_jbig2_page_draw(Z_hayro_jbig2_instance_t* instance, u64 w2c_p0, u64 w2c_p1) {
+static u32 w2c_hayro_jbig2_page_draw(Z_hayro_jbig2_instance_t* RESTRICT instance, u64 w2c_p0, u64 w2c_p1) {
   u32 w2c_l2 = 0;
   FUNC_PROLOGUE;
   u32 w2c_i0;
@@ -118124,7 +118123,7 @@ static u32 w2c_hayro_jbig2_page_draw(Z_hayro_jbig2_instance_t* instance, u64 w2c
   return w2c_i0;
 }
 
-static u32 w2c_f182(Z_hayro_jbig2_instance_t* instance, u64 w2c_p0, u64 w2c_p1) {
+static u32 w2c_f182(Z_hayro_jbig2_instance_t* RESTRICT instance, u64 w2c_p0, u64 w2c_p1) {
   u32 w2c_l13 = 0, w2c_l14 = 0, w2c_l15 = 0, w2c_l16 = 0;
   u64 w2c_l2 = 0, w2c_l3 = 0, w2c_l4 = 0, w2c_l5 = 0, w2c_l6 = 0, w2c_l7 = 0, w2c_l8 = 0, w2c_l9 = 0, 
       w2c_l10 = 0, w2c_l11 = 0, w2c_l12 = 0;
@@ -118356,7 +118355,7 @@ static u32 w2c_f182(Z_hayro_jbig2_instance_t* instance, u64 w2c_p0, u64 w2c_p1) 
     w2c_j2 = w2c_l8;
     w2c_j3 = 2ull;
     w2c_j2 <<= (w2c_j3 & 63);
-    (*Z_heapZ_jbig2_c_give_back)(instance->Z_heap_instance, w2c_j0, w2c_j1, w2c_j2);
+    (*Z_heapZ_jbig2_c_give_back)((struct Z_heap_instance_t*)instance, w2c_j0, w2c_j1, w2c_j2);
     w2c_B10:;
     w2c_j0 = w2c_l10;
     w2c_j1 = 72ull;
@@ -118378,7 +118377,7 @@ static u32 w2c_f182(Z_hayro_jbig2_instance_t* instance, u64 w2c_p0, u64 w2c_p1) 
   w2c_j2 = w2c_l9;
   w2c_j3 = 72ull;
   w2c_j2 *= w2c_j3;
-  (*Z_heapZ_jbig2_c_give_back)(instance->Z_heap_instance, w2c_j0, w2c_j1, w2c_j2);
+  (*Z_heapZ_jbig2_c_give_back)((struct Z_heap_instance_t*)instance, w2c_j0, w2c_j1, w2c_j2);
   w2c_B7:;
   w2c_j0 = w2c_p0;
   w2c_i0 = (u32)(w2c_j0);
@@ -118443,7 +118442,7 @@ static u32 w2c_f182(Z_hayro_jbig2_instance_t* instance, u64 w2c_p0, u64 w2c_p1) 
     w2c_j2 = w2c_l8;
     w2c_j3 = 2ull;
     w2c_j2 <<= (w2c_j3 & 63);
-    (*Z_heapZ_jbig2_c_give_back)(instance->Z_heap_instance, w2c_j0, w2c_j1, w2c_j2);
+    (*Z_heapZ_jbig2_c_give_back)((struct Z_heap_instance_t*)instance, w2c_j0, w2c_j1, w2c_j2);
     w2c_B13:;
     w2c_j0 = w2c_l10;
     w2c_j1 = 72ull;
@@ -118475,7 +118474,7 @@ static u32 w2c_f182(Z_hayro_jbig2_instance_t* instance, u64 w2c_p0, u64 w2c_p1) 
   w2c_j2 = w2c_l9;
   w2c_j3 = 72ull;
   w2c_j2 *= w2c_j3;
-  (*Z_heapZ_jbig2_c_give_back)(instance->Z_heap_instance, w2c_j0, w2c_j1, w2c_j2);
+  (*Z_heapZ_jbig2_c_give_back)((struct Z_heap_instance_t*)instance, w2c_j0, w2c_j1, w2c_j2);
   goto w2c_B4;
   w2c_B5:;
   w2c_j0 = w2c_l2;
@@ -118603,7 +118602,7 @@ static u32 w2c_f182(Z_hayro_jbig2_instance_t* instance, u64 w2c_p0, u64 w2c_p1) 
   return w2c_i0;
 }
 
-static u32 w2c_hayro_jbig2_page_get_info(Z_hayro_jbig2_instance_t* instance, u64 w2c_p0, u64 w2c_p1) {
+static u32 w2c_hayro_jbig2_page_get_info(Z_hayro_jbig2_instance_t* RESTRICT instance, u64 w2c_p0, u64 w2c_p1) {
   u32 w2c_l2 = 0;
   FUNC_PROLOGUE;
   u32 w2c_i0;
@@ -118624,7 +118623,7 @@ static u32 w2c_hayro_jbig2_page_get_info(Z_hayro_jbig2_instance_t* instance, u64
   return w2c_i0;
 }
 
-static u32 w2c_f184(Z_hayro_jbig2_instance_t* instance, u64 w2c_p0, u64 w2c_p1) {
+static u32 w2c_f184(Z_hayro_jbig2_instance_t* RESTRICT instance, u64 w2c_p0, u64 w2c_p1) {
   u32 w2c_l2 = 0;
   u64 w2c_l3 = 0;
   FUNC_PROLOGUE;
@@ -118675,7 +118674,7 @@ static u32 w2c_f184(Z_hayro_jbig2_instance_t* instance, u64 w2c_p0, u64 w2c_p1) 
   return w2c_i0;
 }
 
-static u32 w2c_hayro_jbig2_page_get_left_out(Z_hayro_jbig2_instance_t* instance, u64 w2c_p0, u64 w2c_p1) {
+static u32 w2c_hayro_jbig2_page_get_left_out(Z_hayro_jbig2_instance_t* RESTRICT instance, u64 w2c_p0, u64 w2c_p1) {
   u32 w2c_l2 = 0;
   FUNC_PROLOGUE;
   u32 w2c_i0;
@@ -118696,7 +118695,7 @@ static u32 w2c_hayro_jbig2_page_get_left_out(Z_hayro_jbig2_instance_t* instance,
   return w2c_i0;
 }
 
-static u32 w2c_f186(Z_hayro_jbig2_instance_t* instance, u64 w2c_p0, u64 w2c_p1) {
+static u32 w2c_f186(Z_hayro_jbig2_instance_t* RESTRICT instance, u64 w2c_p0, u64 w2c_p1) {
   u32 w2c_l2 = 0;
   u64 w2c_l3 = 0, w2c_l4 = 0, w2c_l5 = 0;
   FUNC_PROLOGUE;
@@ -118767,7 +118766,7 @@ static u32 w2c_f186(Z_hayro_jbig2_instance_t* instance, u64 w2c_p0, u64 w2c_p1) 
   return w2c_i0;
 }
 
-static u32 w2c_hayro_jbig2_page_size(Z_hayro_jbig2_instance_t* instance, u32 w2c_p0, u64 w2c_p1, u64 w2c_p2, u64 w2c_p3, u64 w2c_p4, u64 w2c_p5) {
+static u32 w2c_hayro_jbig2_page_size(Z_hayro_jbig2_instance_t* RESTRICT instance, u32 w2c_p0, u64 w2c_p1, u64 w2c_p2, u64 w2c_p3, u64 w2c_p4, u64 w2c_p5) {
   FUNC_PROLOGUE;
   u32 w2c_i0;
   u64 w2c_j1, w2c_j2, w2c_j3, w2c_j4, w2c_j5;
@@ -118791,7 +118790,7 @@ static u32 w2c_hayro_jbig2_page_size(Z_hayro_jbig2_instance_t* instance, u32 w2c
   return w2c_i0;
 }
 
-static u32 w2c_f188(Z_hayro_jbig2_instance_t* instance, u32 w2c_p0, u64 w2c_p1, u64 w2c_p2, u64 w2c_p3, u64 w2c_p4, u64 w2c_p5) {
+static u32 w2c_f188(Z_hayro_jbig2_instance_t* RESTRICT instance, u32 w2c_p0, u64 w2c_p1, u64 w2c_p2, u64 w2c_p3, u64 w2c_p4, u64 w2c_p5) {
   u32 w2c_l11 = 0, w2c_l12 = 0, w2c_l13 = 0;
   u64 w2c_l6 = 0, w2c_l7 = 0, w2c_l8 = 0, w2c_l9 = 0, w2c_l10 = 0;
   FUNC_PROLOGUE;
@@ -118971,7 +118970,7 @@ static u32 w2c_f188(Z_hayro_jbig2_instance_t* instance, u32 w2c_p0, u64 w2c_p1, 
     w2c_j2 = w2c_p3;
     w2c_j3 = 2ull;
     w2c_j2 <<= (w2c_j3 & 63);
-    (*Z_heapZ_jbig2_c_give_back)(instance->Z_heap_instance, w2c_j0, w2c_j1, w2c_j2);
+    (*Z_heapZ_jbig2_c_give_back)((struct Z_heap_instance_t*)instance, w2c_j0, w2c_j1, w2c_j2);
     w2c_B8:;
     w2c_j0 = w2c_p1;
     w2c_j1 = 72ull;
@@ -118993,7 +118992,7 @@ static u32 w2c_f188(Z_hayro_jbig2_instance_t* instance, u32 w2c_p0, u64 w2c_p1, 
   w2c_j2 = w2c_l9;
   w2c_j3 = 72ull;
   w2c_j2 *= w2c_j3;
-  (*Z_heapZ_jbig2_c_give_back)(instance->Z_heap_instance, w2c_j0, w2c_j1, w2c_j2);
+  (*Z_heapZ_jbig2_c_give_back)((struct Z_heap_instance_t*)instance, w2c_j0, w2c_j1, w2c_j2);
   w2c_B5:;
   w2c_j0 = w2c_l6;
   w2c_i0 = (u32)(w2c_j0);
@@ -119058,7 +119057,7 @@ static u32 w2c_f188(Z_hayro_jbig2_instance_t* instance, u32 w2c_p0, u64 w2c_p1, 
   w2c_j2 = w2c_p1;
   w2c_j3 = 1ull;
   w2c_j2 <<= (w2c_j3 & 63);
-  (*Z_heapZ_jbig2_c_give_back)(instance->Z_heap_instance, w2c_j0, w2c_j1, w2c_j2);
+  (*Z_heapZ_jbig2_c_give_back)((struct Z_heap_instance_t*)instance, w2c_j0, w2c_j1, w2c_j2);
   w2c_B10:;
   w2c_j0 = w2c_p4;
   w2c_i0 = (u32)(w2c_j0);
@@ -119137,7 +119136,7 @@ static u32 w2c_f188(Z_hayro_jbig2_instance_t* instance, u32 w2c_p0, u64 w2c_p1, 
   w2c_j2 = w2c_p1;
   w2c_j3 = 1ull;
   w2c_j2 <<= (w2c_j3 & 63);
-  (*Z_heapZ_jbig2_c_give_back)(instance->Z_heap_instance, w2c_j0, w2c_j1, w2c_j2);
+  (*Z_heapZ_jbig2_c_give_back)((struct Z_heap_instance_t*)instance, w2c_j0, w2c_j1, w2c_j2);
   w2c_B12:;
   w2c_i0 = 101u;
   w2c_l11 = w2c_i0;
@@ -119219,7 +119218,7 @@ static u32 w2c_f188(Z_hayro_jbig2_instance_t* instance, u32 w2c_p0, u64 w2c_p1, 
   return w2c_i0;
 }
 
-static u32 w2c_jbig2_c_page_alone(Z_hayro_jbig2_instance_t* instance, u64 w2c_p0, u32 w2c_p1, u64 w2c_p2, u64 w2c_p3, u64 w2c_p4) {
+static u32 w2c_jbig2_c_page_alone(Z_hayro_jbig2_instance_t* RESTRICT instance, u64 w2c_p0, u32 w2c_p1, u64 w2c_p2, u64 w2c_p3, u64 w2c_p4) {
   FUNC_PROLOGUE;
   u32 w2c_i0, w2c_i1;
   u64 w2c_j0, w2c_j2, w2c_j3, w2c_j4;
@@ -119242,7 +119241,7 @@ static u32 w2c_jbig2_c_page_alone(Z_hayro_jbig2_instance_t* instance, u64 w2c_p0
   return w2c_i0;
 }
 
-static u32 w2c_f190(Z_hayro_jbig2_instance_t* instance, u64 w2c_p0, u32 w2c_p1, u64 w2c_p2, u64 w2c_p3, u64 w2c_p4) {
+static u32 w2c_f190(Z_hayro_jbig2_instance_t* RESTRICT instance, u64 w2c_p0, u32 w2c_p1, u64 w2c_p2, u64 w2c_p3, u64 w2c_p4) {
   u32 w2c_l6 = 0;
   u64 w2c_l5 = 0;
   FUNC_PROLOGUE;
@@ -119405,7 +119404,7 @@ static u32 w2c_f190(Z_hayro_jbig2_instance_t* instance, u64 w2c_p0, u32 w2c_p1, 
   return w2c_i0;
 }
 
-static u32 w2c_jbig2_c_salvaged_alone(Z_hayro_jbig2_instance_t* instance, u64 w2c_p0, u64 w2c_p1, u64 w2c_p2, u64 w2c_p3) {
+static u32 w2c_jbig2_c_salvaged_alone(Z_hayro_jbig2_instance_t* RESTRICT instance, u64 w2c_p0, u64 w2c_p1, u64 w2c_p2, u64 w2c_p3) {
   u32 w2c_l4 = 0;
   FUNC_PROLOGUE;
   u32 w2c_i0;
@@ -119428,7 +119427,7 @@ static u32 w2c_jbig2_c_salvaged_alone(Z_hayro_jbig2_instance_t* instance, u64 w2
   return w2c_i0;
 }
 
-static u32 w2c_f192(Z_hayro_jbig2_instance_t* instance, u64 w2c_p0, u64 w2c_p1, u64 w2c_p2, u64 w2c_p3) {
+static u32 w2c_f192(Z_hayro_jbig2_instance_t* RESTRICT instance, u64 w2c_p0, u64 w2c_p1, u64 w2c_p2, u64 w2c_p3) {
   u32 w2c_l5 = 0, w2c_l6 = 0;
   u64 w2c_l4 = 0;
   FUNC_PROLOGUE;
@@ -119587,7 +119586,7 @@ static u32 w2c_f192(Z_hayro_jbig2_instance_t* instance, u64 w2c_p0, u64 w2c_p1, 
   return w2c_i0;
 }
 
-static u32 w2c_jbig2_c_page_with(Z_hayro_jbig2_instance_t* instance, u64 w2c_p0, u32 w2c_p1, u64 w2c_p2, u64 w2c_p3, u64 w2c_p4, u64 w2c_p5) {
+static u32 w2c_jbig2_c_page_with(Z_hayro_jbig2_instance_t* RESTRICT instance, u64 w2c_p0, u32 w2c_p1, u64 w2c_p2, u64 w2c_p3, u64 w2c_p4, u64 w2c_p5) {
   FUNC_PROLOGUE;
   u32 w2c_i0, w2c_i1;
   u64 w2c_j0, w2c_j2, w2c_j3, w2c_j4, w2c_j5;
@@ -119611,7 +119610,7 @@ static u32 w2c_jbig2_c_page_with(Z_hayro_jbig2_instance_t* instance, u64 w2c_p0,
   return w2c_i0;
 }
 
-static u32 w2c_f194(Z_hayro_jbig2_instance_t* instance, u64 w2c_p0, u32 w2c_p1, u64 w2c_p2, u64 w2c_p3, u64 w2c_p4, u64 w2c_p5) {
+static u32 w2c_f194(Z_hayro_jbig2_instance_t* RESTRICT instance, u64 w2c_p0, u32 w2c_p1, u64 w2c_p2, u64 w2c_p3, u64 w2c_p4, u64 w2c_p5) {
   u32 w2c_l11 = 0, w2c_l12 = 0, w2c_l13 = 0;
   u64 w2c_l6 = 0, w2c_l7 = 0, w2c_l8 = 0, w2c_l9 = 0, w2c_l10 = 0;
   FUNC_PROLOGUE;
@@ -119859,7 +119858,7 @@ static u32 w2c_f194(Z_hayro_jbig2_instance_t* instance, u64 w2c_p0, u32 w2c_p1, 
   return w2c_i0;
 }
 
-static u32 w2c_jbig2_c_salvaged_with(Z_hayro_jbig2_instance_t* instance, u64 w2c_p0, u64 w2c_p1, u64 w2c_p2, u64 w2c_p3, u64 w2c_p4) {
+static u32 w2c_jbig2_c_salvaged_with(Z_hayro_jbig2_instance_t* RESTRICT instance, u64 w2c_p0, u64 w2c_p1, u64 w2c_p2, u64 w2c_p3, u64 w2c_p4) {
   u32 w2c_l5 = 0;
   FUNC_PROLOGUE;
   u32 w2c_i0;
@@ -119883,7 +119882,7 @@ static u32 w2c_jbig2_c_salvaged_with(Z_hayro_jbig2_instance_t* instance, u64 w2c
   return w2c_i0;
 }
 
-static u32 w2c_f196(Z_hayro_jbig2_instance_t* instance, u64 w2c_p0, u64 w2c_p1, u64 w2c_p2, u64 w2c_p3, u64 w2c_p4) {
+static u32 w2c_f196(Z_hayro_jbig2_instance_t* RESTRICT instance, u64 w2c_p0, u64 w2c_p1, u64 w2c_p2, u64 w2c_p3, u64 w2c_p4) {
   u32 w2c_l10 = 0, w2c_l11 = 0, w2c_l12 = 0, w2c_l13 = 0;
   u64 w2c_l5 = 0, w2c_l6 = 0, w2c_l7 = 0, w2c_l8 = 0, w2c_l9 = 0;
   FUNC_PROLOGUE;
@@ -120127,7 +120126,7 @@ static u32 w2c_f196(Z_hayro_jbig2_instance_t* instance, u64 w2c_p0, u64 w2c_p1, 
   return w2c_i0;
 }
 
-static u32 w2c_hayro_jbig2_context_get_passed_over(Z_hayro_jbig2_instance_t* instance, u64 w2c_p0, u64 w2c_p1) {
+static u32 w2c_hayro_jbig2_context_get_passed_over(Z_hayro_jbig2_instance_t* RESTRICT instance, u64 w2c_p0, u64 w2c_p1) {
   u32 w2c_l2 = 0;
   FUNC_PROLOGUE;
   u32 w2c_i0;
@@ -120148,7 +120147,7 @@ static u32 w2c_hayro_jbig2_context_get_passed_over(Z_hayro_jbig2_instance_t* ins
   return w2c_i0;
 }
 
-static u32 w2c_f198(Z_hayro_jbig2_instance_t* instance, u64 w2c_p0, u64 w2c_p1) {
+static u32 w2c_f198(Z_hayro_jbig2_instance_t* RESTRICT instance, u64 w2c_p0, u64 w2c_p1) {
   u32 w2c_l2 = 0, w2c_l3 = 0;
   u64 w2c_l4 = 0;
   FUNC_PROLOGUE;
@@ -120325,7 +120324,7 @@ static u32 w2c_f198(Z_hayro_jbig2_instance_t* instance, u64 w2c_p0, u64 w2c_p1) 
   return w2c_i0;
 }
 
-static u32 w2c_hayro_jbig2_globals_get_left_out(Z_hayro_jbig2_instance_t* instance, u64 w2c_p0, u64 w2c_p1) {
+static u32 w2c_hayro_jbig2_globals_get_left_out(Z_hayro_jbig2_instance_t* RESTRICT instance, u64 w2c_p0, u64 w2c_p1) {
   u32 w2c_l2 = 0;
   FUNC_PROLOGUE;
   u32 w2c_i0;
@@ -120346,7 +120345,7 @@ static u32 w2c_hayro_jbig2_globals_get_left_out(Z_hayro_jbig2_instance_t* instan
   return w2c_i0;
 }
 
-static u32 w2c_f200(Z_hayro_jbig2_instance_t* instance, u64 w2c_p0, u64 w2c_p1) {
+static u32 w2c_f200(Z_hayro_jbig2_instance_t* RESTRICT instance, u64 w2c_p0, u64 w2c_p1) {
   u32 w2c_l2 = 0, w2c_l3 = 0, w2c_l4 = 0, w2c_l5 = 0;
   u64 w2c_l6 = 0;
   FUNC_PROLOGUE;
@@ -120649,7 +120648,7 @@ static u32 w2c_f200(Z_hayro_jbig2_instance_t* instance, u64 w2c_p0, u64 w2c_p1) 
   return w2c_i0;
 }
 
-static u32 w2c_hayro_jbig2_file_get_left_out(Z_hayro_jbig2_instance_t* instance, u64 w2c_p0, u64 w2c_p1) {
+static u32 w2c_hayro_jbig2_file_get_left_out(Z_hayro_jbig2_instance_t* RESTRICT instance, u64 w2c_p0, u64 w2c_p1) {
   u32 w2c_l2 = 0;
   FUNC_PROLOGUE;
   u32 w2c_i0;
@@ -120670,7 +120669,7 @@ static u32 w2c_hayro_jbig2_file_get_left_out(Z_hayro_jbig2_instance_t* instance,
   return w2c_i0;
 }
 
-static u32 w2c_f202(Z_hayro_jbig2_instance_t* instance, u64 w2c_p0, u64 w2c_p1) {
+static u32 w2c_f202(Z_hayro_jbig2_instance_t* RESTRICT instance, u64 w2c_p0, u64 w2c_p1) {
   u32 w2c_l2 = 0, w2c_l3 = 0, w2c_l4 = 0, w2c_l5 = 0, w2c_l6 = 0;
   u64 w2c_l7 = 0, w2c_l8 = 0;
   FUNC_PROLOGUE;
@@ -121095,7 +121094,7 @@ static u32 w2c_f202(Z_hayro_jbig2_instance_t* instance, u64 w2c_p0, u64 w2c_p1) 
   return w2c_i0;
 }
 
-static u32 w2c_hayro_jbig2_context_get_work_left(Z_hayro_jbig2_instance_t* instance, u64 w2c_p0, u64 w2c_p1) {
+static u32 w2c_hayro_jbig2_context_get_work_left(Z_hayro_jbig2_instance_t* RESTRICT instance, u64 w2c_p0, u64 w2c_p1) {
   u32 w2c_l2 = 0;
   FUNC_PROLOGUE;
   u32 w2c_i0;
@@ -121116,7 +121115,7 @@ static u32 w2c_hayro_jbig2_context_get_work_left(Z_hayro_jbig2_instance_t* insta
   return w2c_i0;
 }
 
-static u32 w2c_f204(Z_hayro_jbig2_instance_t* instance, u64 w2c_p0, u64 w2c_p1) {
+static u32 w2c_f204(Z_hayro_jbig2_instance_t* RESTRICT instance, u64 w2c_p0, u64 w2c_p1) {
   u32 w2c_l2 = 0;
   FUNC_PROLOGUE;
   u32 w2c_i0, w2c_i1, w2c_i3, w2c_i4;
@@ -121165,7 +121164,7 @@ static u32 w2c_f204(Z_hayro_jbig2_instance_t* instance, u64 w2c_p0, u64 w2c_p1) 
   return w2c_i0;
 }
 
-static u32 w2c_hayro_jbig2_embedded_image(Z_hayro_jbig2_instance_t* instance, u32 w2c_p0, u64 w2c_p1, u64 w2c_p2, u64 w2c_p3, u64 w2c_p4, u64 w2c_p5, u64 w2c_p6) {
+static u32 w2c_hayro_jbig2_embedded_image(Z_hayro_jbig2_instance_t* RESTRICT instance, u32 w2c_p0, u64 w2c_p1, u64 w2c_p2, u64 w2c_p3, u64 w2c_p4, u64 w2c_p5, u64 w2c_p6) {
   FUNC_PROLOGUE;
   u32 w2c_i0;
   u64 w2c_j1, w2c_j2, w2c_j3, w2c_j4, w2c_j5, w2c_j6;
@@ -121190,7 +121189,7 @@ static u32 w2c_hayro_jbig2_embedded_image(Z_hayro_jbig2_instance_t* instance, u3
   return w2c_i0;
 }
 
-static u32 w2c_f206(Z_hayro_jbig2_instance_t* instance, u32 w2c_p0, u64 w2c_p1, u64 w2c_p2, u64 w2c_p3, u64 w2c_p4, u64 w2c_p5, u64 w2c_p6) {
+static u32 w2c_f206(Z_hayro_jbig2_instance_t* RESTRICT instance, u32 w2c_p0, u64 w2c_p1, u64 w2c_p2, u64 w2c_p3, u64 w2c_p4, u64 w2c_p5, u64 w2c_p6) {
   u32 w2c_l8 = 0;
   u64 w2c_l7 = 0;
   FUNC_PROLOGUE;
@@ -121357,7 +121356,7 @@ static u32 w2c_f206(Z_hayro_jbig2_instance_t* instance, u32 w2c_p0, u64 w2c_p1, 
   return w2c_i0;
 }
 
-static u32 w2c_hayro_jbig2_embedded_packed(Z_hayro_jbig2_instance_t* instance, u32 w2c_p0, u64 w2c_p1, u64 w2c_p2, u64 w2c_p3, u64 w2c_p4, u64 w2c_p5, u64 w2c_p6) {
+static u32 w2c_hayro_jbig2_embedded_packed(Z_hayro_jbig2_instance_t* RESTRICT instance, u32 w2c_p0, u64 w2c_p1, u64 w2c_p2, u64 w2c_p3, u64 w2c_p4, u64 w2c_p5, u64 w2c_p6) {
   FUNC_PROLOGUE;
   u32 w2c_i0;
   u64 w2c_j1, w2c_j2, w2c_j3, w2c_j4, w2c_j5, w2c_j6;
@@ -121382,7 +121381,7 @@ static u32 w2c_hayro_jbig2_embedded_packed(Z_hayro_jbig2_instance_t* instance, u
   return w2c_i0;
 }
 
-static u32 w2c_f208(Z_hayro_jbig2_instance_t* instance, u32 w2c_p0, u64 w2c_p1, u64 w2c_p2, u64 w2c_p3, u64 w2c_p4, u64 w2c_p5, u64 w2c_p6) {
+static u32 w2c_f208(Z_hayro_jbig2_instance_t* RESTRICT instance, u32 w2c_p0, u64 w2c_p1, u64 w2c_p2, u64 w2c_p3, u64 w2c_p4, u64 w2c_p5, u64 w2c_p6) {
   u32 w2c_l8 = 0;
   u64 w2c_l7 = 0;
   FUNC_PROLOGUE;
@@ -121549,7 +121548,7 @@ static u32 w2c_f208(Z_hayro_jbig2_instance_t* instance, u32 w2c_p0, u64 w2c_p1, 
   return w2c_i0;
 }
 
-static u32 w2c_hayro_jbig2_page_image(Z_hayro_jbig2_instance_t* instance, u32 w2c_p0, u64 w2c_p1, u64 w2c_p2, u64 w2c_p3, u64 w2c_p4, u64 w2c_p5) {
+static u32 w2c_hayro_jbig2_page_image(Z_hayro_jbig2_instance_t* RESTRICT instance, u32 w2c_p0, u64 w2c_p1, u64 w2c_p2, u64 w2c_p3, u64 w2c_p4, u64 w2c_p5) {
   FUNC_PROLOGUE;
   u32 w2c_i0;
   u64 w2c_j1, w2c_j2, w2c_j3, w2c_j4, w2c_j5;
@@ -121573,7 +121572,7 @@ static u32 w2c_hayro_jbig2_page_image(Z_hayro_jbig2_instance_t* instance, u32 w2
   return w2c_i0;
 }
 
-static u32 w2c_f210(Z_hayro_jbig2_instance_t* instance, u32 w2c_p0, u64 w2c_p1, u64 w2c_p2, u64 w2c_p3, u64 w2c_p4, u64 w2c_p5) {
+static u32 w2c_f210(Z_hayro_jbig2_instance_t* RESTRICT instance, u32 w2c_p0, u64 w2c_p1, u64 w2c_p2, u64 w2c_p3, u64 w2c_p4, u64 w2c_p5) {
   u32 w2c_l7 = 0;
   u64 w2c_l6 = 0;
   FUNC_PROLOGUE;
@@ -121733,7 +121732,7 @@ static u32 w2c_f210(Z_hayro_jbig2_instance_t* instance, u32 w2c_p0, u64 w2c_p1, 
   return w2c_i0;
 }
 
-static u32 w2c_hayro_jbig2_page_packed(Z_hayro_jbig2_instance_t* instance, u32 w2c_p0, u64 w2c_p1, u64 w2c_p2, u64 w2c_p3, u64 w2c_p4, u64 w2c_p5) {
+static u32 w2c_hayro_jbig2_page_packed(Z_hayro_jbig2_instance_t* RESTRICT instance, u32 w2c_p0, u64 w2c_p1, u64 w2c_p2, u64 w2c_p3, u64 w2c_p4, u64 w2c_p5) {
   FUNC_PROLOGUE;
   u32 w2c_i0;
   u64 w2c_j1, w2c_j2, w2c_j3, w2c_j4, w2c_j5;
@@ -121757,7 +121756,7 @@ static u32 w2c_hayro_jbig2_page_packed(Z_hayro_jbig2_instance_t* instance, u32 w
   return w2c_i0;
 }
 
-static u32 w2c_f212(Z_hayro_jbig2_instance_t* instance, u32 w2c_p0, u64 w2c_p1, u64 w2c_p2, u64 w2c_p3, u64 w2c_p4, u64 w2c_p5) {
+static u32 w2c_f212(Z_hayro_jbig2_instance_t* RESTRICT instance, u32 w2c_p0, u64 w2c_p1, u64 w2c_p2, u64 w2c_p3, u64 w2c_p4, u64 w2c_p5) {
   u32 w2c_l7 = 0;
   u64 w2c_l6 = 0;
   FUNC_PROLOGUE;
@@ -121917,7 +121916,7 @@ static u32 w2c_f212(Z_hayro_jbig2_instance_t* instance, u32 w2c_p0, u64 w2c_p1, 
   return w2c_i0;
 }
 
-static u32 w2c_hayro_jbig2_context_rows(Z_hayro_jbig2_instance_t* instance, u64 w2c_p0, u64 w2c_p1, u64 w2c_p2, u64 w2c_p3) {
+static u32 w2c_hayro_jbig2_context_rows(Z_hayro_jbig2_instance_t* RESTRICT instance, u64 w2c_p0, u64 w2c_p1, u64 w2c_p2, u64 w2c_p3) {
   u32 w2c_l4 = 0;
   FUNC_PROLOGUE;
   u32 w2c_i0;
@@ -121940,7 +121939,7 @@ static u32 w2c_hayro_jbig2_context_rows(Z_hayro_jbig2_instance_t* instance, u64 
   return w2c_i0;
 }
 
-static u32 w2c_f214(Z_hayro_jbig2_instance_t* instance, u64 w2c_p0, u64 w2c_p1, u64 w2c_p2, u64 w2c_p3) {
+static u32 w2c_f214(Z_hayro_jbig2_instance_t* RESTRICT instance, u64 w2c_p0, u64 w2c_p1, u64 w2c_p2, u64 w2c_p3) {
   u32 w2c_l9 = 0, w2c_l10 = 0;
   u64 w2c_l4 = 0, w2c_l5 = 0, w2c_l6 = 0, w2c_l7 = 0, w2c_l8 = 0;
   FUNC_PROLOGUE;
@@ -122102,176 +122101,176 @@ static u32 w2c_f214(Z_hayro_jbig2_instance_t* instance, u64 w2c_p0, u64 w2c_p1, 
 }
 
 /* export: 'memory' */
-wasm_rt_memory_t* Z_hayro_jbig2Z_memory(Z_hayro_jbig2_instance_t* instance) {
+wasm_rt_memory_t* Z_hayro_jbig2Z_memory(Z_hayro_jbig2_instance_t* RESTRICT instance) {
   return &instance->w2c_memory;
 }
 
 /* export: 'jbig2_c_release' */
-void Z_hayro_jbig2Z_jbig2_c_release(Z_hayro_jbig2_instance_t* instance, u64 w2c_p0) {
+void Z_hayro_jbig2Z_jbig2_c_release(Z_hayro_jbig2_instance_t* RESTRICT instance, u64 w2c_p0) {
   return w2c_jbig2_c_release(instance, w2c_p0);
 }
 
 /* export: 'hayro_jbig2_file_page_count' */
-u64 Z_hayro_jbig2Z_hayro_jbig2_file_page_count(Z_hayro_jbig2_instance_t* instance, u64 w2c_p0) {
+u64 Z_hayro_jbig2Z_hayro_jbig2_file_page_count(Z_hayro_jbig2_instance_t* RESTRICT instance, u64 w2c_p0) {
   return w2c_hayro_jbig2_file_page_count(instance, w2c_p0);
 }
 
 /* export: 'hayro_jbig2_context_new' */
-u32 Z_hayro_jbig2Z_hayro_jbig2_context_new(Z_hayro_jbig2_instance_t* instance, u64 w2c_p0, u64 w2c_p1) {
+u32 Z_hayro_jbig2Z_hayro_jbig2_context_new(Z_hayro_jbig2_instance_t* RESTRICT instance, u64 w2c_p0, u64 w2c_p1) {
   return w2c_hayro_jbig2_context_new(instance, w2c_p0, w2c_p1);
 }
 
 /* export: 'hayro_jbig2_context_set_work_limit' */
-u32 Z_hayro_jbig2Z_hayro_jbig2_context_set_work_limit(Z_hayro_jbig2_instance_t* instance, u64 w2c_p0, u64 w2c_p1) {
+u32 Z_hayro_jbig2Z_hayro_jbig2_context_set_work_limit(Z_hayro_jbig2_instance_t* RESTRICT instance, u64 w2c_p0, u64 w2c_p1) {
   return w2c_hayro_jbig2_context_set_work_limit(instance, w2c_p0, w2c_p1);
 }
 
 /* export: 'hayro_jbig2_embedded_size' */
-u32 Z_hayro_jbig2Z_hayro_jbig2_embedded_size(Z_hayro_jbig2_instance_t* instance, u32 w2c_p0, u64 w2c_p1, u64 w2c_p2, u64 w2c_p3, u64 w2c_p4) {
+u32 Z_hayro_jbig2Z_hayro_jbig2_embedded_size(Z_hayro_jbig2_instance_t* RESTRICT instance, u32 w2c_p0, u64 w2c_p1, u64 w2c_p2, u64 w2c_p3, u64 w2c_p4) {
   return w2c_hayro_jbig2_embedded_size(instance, w2c_p0, w2c_p1, w2c_p2, w2c_p3, w2c_p4);
 }
 
 /* export: 'hayro_jbig2_file_draw' */
-u32 Z_hayro_jbig2Z_hayro_jbig2_file_draw(Z_hayro_jbig2_instance_t* instance, u64 w2c_p0, u64 w2c_p1, u64 w2c_p2) {
+u32 Z_hayro_jbig2Z_hayro_jbig2_file_draw(Z_hayro_jbig2_instance_t* RESTRICT instance, u64 w2c_p0, u64 w2c_p1, u64 w2c_p2) {
   return w2c_hayro_jbig2_file_draw(instance, w2c_p0, w2c_p1, w2c_p2);
 }
 
 /* export: 'hayro_jbig2_file_get_info' */
-u32 Z_hayro_jbig2Z_hayro_jbig2_file_get_info(Z_hayro_jbig2_instance_t* instance, u64 w2c_p0, u64 w2c_p1, u64 w2c_p2) {
+u32 Z_hayro_jbig2Z_hayro_jbig2_file_get_info(Z_hayro_jbig2_instance_t* RESTRICT instance, u64 w2c_p0, u64 w2c_p1, u64 w2c_p2) {
   return w2c_hayro_jbig2_file_get_info(instance, w2c_p0, w2c_p1, w2c_p2);
 }
 
 /* export: 'hayro_jbig2_file_new' */
-u32 Z_hayro_jbig2Z_hayro_jbig2_file_new(Z_hayro_jbig2_instance_t* instance, u64 w2c_p0, u32 w2c_p1, u64 w2c_p2, u64 w2c_p3, u64 w2c_p4) {
+u32 Z_hayro_jbig2Z_hayro_jbig2_file_new(Z_hayro_jbig2_instance_t* RESTRICT instance, u64 w2c_p0, u32 w2c_p1, u64 w2c_p2, u64 w2c_p3, u64 w2c_p4) {
   return w2c_hayro_jbig2_file_new(instance, w2c_p0, w2c_p1, w2c_p2, w2c_p3, w2c_p4);
 }
 
 /* export: 'hayro_jbig2_file_new_salvaged' */
-u32 Z_hayro_jbig2Z_hayro_jbig2_file_new_salvaged(Z_hayro_jbig2_instance_t* instance, u64 w2c_p0, u64 w2c_p1, u64 w2c_p2, u64 w2c_p3, u64 w2c_p4) {
+u32 Z_hayro_jbig2Z_hayro_jbig2_file_new_salvaged(Z_hayro_jbig2_instance_t* RESTRICT instance, u64 w2c_p0, u64 w2c_p1, u64 w2c_p2, u64 w2c_p3, u64 w2c_p4) {
   return w2c_hayro_jbig2_file_new_salvaged(instance, w2c_p0, w2c_p1, w2c_p2, w2c_p3, w2c_p4);
 }
 
 /* export: 'hayro_jbig2_file_new_within' */
-u32 Z_hayro_jbig2Z_hayro_jbig2_file_new_within(Z_hayro_jbig2_instance_t* instance, u64 w2c_p0, u32 w2c_p1, u64 w2c_p2, u64 w2c_p3, u64 w2c_p4, u64 w2c_p5) {
+u32 Z_hayro_jbig2Z_hayro_jbig2_file_new_within(Z_hayro_jbig2_instance_t* RESTRICT instance, u64 w2c_p0, u32 w2c_p1, u64 w2c_p2, u64 w2c_p3, u64 w2c_p4, u64 w2c_p5) {
   return w2c_hayro_jbig2_file_new_within(instance, w2c_p0, w2c_p1, w2c_p2, w2c_p3, w2c_p4, w2c_p5);
 }
 
 /* export: 'hayro_jbig2_globals_new' */
-u32 Z_hayro_jbig2Z_hayro_jbig2_globals_new(Z_hayro_jbig2_instance_t* instance, u64 w2c_p0, u32 w2c_p1, u64 w2c_p2, u64 w2c_p3, u64 w2c_p4) {
+u32 Z_hayro_jbig2Z_hayro_jbig2_globals_new(Z_hayro_jbig2_instance_t* RESTRICT instance, u64 w2c_p0, u32 w2c_p1, u64 w2c_p2, u64 w2c_p3, u64 w2c_p4) {
   return w2c_hayro_jbig2_globals_new(instance, w2c_p0, w2c_p1, w2c_p2, w2c_p3, w2c_p4);
 }
 
 /* export: 'hayro_jbig2_globals_new_salvaged' */
-u32 Z_hayro_jbig2Z_hayro_jbig2_globals_new_salvaged(Z_hayro_jbig2_instance_t* instance, u64 w2c_p0, u64 w2c_p1, u64 w2c_p2, u64 w2c_p3, u64 w2c_p4) {
+u32 Z_hayro_jbig2Z_hayro_jbig2_globals_new_salvaged(Z_hayro_jbig2_instance_t* RESTRICT instance, u64 w2c_p0, u64 w2c_p1, u64 w2c_p2, u64 w2c_p3, u64 w2c_p4) {
   return w2c_hayro_jbig2_globals_new_salvaged(instance, w2c_p0, w2c_p1, w2c_p2, w2c_p3, w2c_p4);
 }
 
 /* export: 'hayro_jbig2_globals_new_within' */
-u32 Z_hayro_jbig2Z_hayro_jbig2_globals_new_within(Z_hayro_jbig2_instance_t* instance, u64 w2c_p0, u32 w2c_p1, u64 w2c_p2, u64 w2c_p3, u64 w2c_p4, u64 w2c_p5) {
+u32 Z_hayro_jbig2Z_hayro_jbig2_globals_new_within(Z_hayro_jbig2_instance_t* RESTRICT instance, u64 w2c_p0, u32 w2c_p1, u64 w2c_p2, u64 w2c_p3, u64 w2c_p4, u64 w2c_p5) {
   return w2c_hayro_jbig2_globals_new_within(instance, w2c_p0, w2c_p1, w2c_p2, w2c_p3, w2c_p4, w2c_p5);
 }
 
 /* export: 'hayro_jbig2_globals_share' */
-u32 Z_hayro_jbig2Z_hayro_jbig2_globals_share(Z_hayro_jbig2_instance_t* instance, u64 w2c_p0, u64 w2c_p1, u64 w2c_p2) {
+u32 Z_hayro_jbig2Z_hayro_jbig2_globals_share(Z_hayro_jbig2_instance_t* RESTRICT instance, u64 w2c_p0, u64 w2c_p1, u64 w2c_p2) {
   return w2c_hayro_jbig2_globals_share(instance, w2c_p0, w2c_p1, w2c_p2);
 }
 
 /* export: 'hayro_jbig2_page_count' */
-u32 Z_hayro_jbig2Z_hayro_jbig2_page_count(Z_hayro_jbig2_instance_t* instance, u32 w2c_p0, u64 w2c_p1, u64 w2c_p2, u64 w2c_p3) {
+u32 Z_hayro_jbig2Z_hayro_jbig2_page_count(Z_hayro_jbig2_instance_t* RESTRICT instance, u32 w2c_p0, u64 w2c_p1, u64 w2c_p2, u64 w2c_p3) {
   return w2c_hayro_jbig2_page_count(instance, w2c_p0, w2c_p1, w2c_p2, w2c_p3);
 }
 
 /* export: 'hayro_jbig2_page_draw' */
-u32 Z_hayro_jbig2Z_hayro_jbig2_page_draw(Z_hayro_jbig2_instance_t* instance, u64 w2c_p0, u64 w2c_p1) {
+u32 Z_hayro_jbig2Z_hayro_jbig2_page_draw(Z_hayro_jbig2_instance_t* RESTRICT instance, u64 w2c_p0, u64 w2c_p1) {
   return w2c_hayro_jbig2_page_draw(instance, w2c_p0, w2c_p1);
 }
 
 /* export: 'hayro_jbig2_page_get_info' */
-u32 Z_hayro_jbig2Z_hayro_jbig2_page_get_info(Z_hayro_jbig2_instance_t* instance, u64 w2c_p0, u64 w2c_p1) {
+u32 Z_hayro_jbig2Z_hayro_jbig2_page_get_info(Z_hayro_jbig2_instance_t* RESTRICT instance, u64 w2c_p0, u64 w2c_p1) {
   return w2c_hayro_jbig2_page_get_info(instance, w2c_p0, w2c_p1);
 }
 
 /* export: 'hayro_jbig2_page_get_left_out' */
-u32 Z_hayro_jbig2Z_hayro_jbig2_page_get_left_out(Z_hayro_jbig2_instance_t* instance, u64 w2c_p0, u64 w2c_p1) {
+u32 Z_hayro_jbig2Z_hayro_jbig2_page_get_left_out(Z_hayro_jbig2_instance_t* RESTRICT instance, u64 w2c_p0, u64 w2c_p1) {
   return w2c_hayro_jbig2_page_get_left_out(instance, w2c_p0, w2c_p1);
 }
 
 /* export: 'hayro_jbig2_page_size' */
-u32 Z_hayro_jbig2Z_hayro_jbig2_page_size(Z_hayro_jbig2_instance_t* instance, u32 w2c_p0, u64 w2c_p1, u64 w2c_p2, u64 w2c_p3, u64 w2c_p4, u64 w2c_p5) {
+u32 Z_hayro_jbig2Z_hayro_jbig2_page_size(Z_hayro_jbig2_instance_t* RESTRICT instance, u32 w2c_p0, u64 w2c_p1, u64 w2c_p2, u64 w2c_p3, u64 w2c_p4, u64 w2c_p5) {
   return w2c_hayro_jbig2_page_size(instance, w2c_p0, w2c_p1, w2c_p2, w2c_p3, w2c_p4, w2c_p5);
 }
 
 /* export: 'jbig2_c_page_alone' */
-u32 Z_hayro_jbig2Z_jbig2_c_page_alone(Z_hayro_jbig2_instance_t* instance, u64 w2c_p0, u32 w2c_p1, u64 w2c_p2, u64 w2c_p3, u64 w2c_p4) {
+u32 Z_hayro_jbig2Z_jbig2_c_page_alone(Z_hayro_jbig2_instance_t* RESTRICT instance, u64 w2c_p0, u32 w2c_p1, u64 w2c_p2, u64 w2c_p3, u64 w2c_p4) {
   return w2c_jbig2_c_page_alone(instance, w2c_p0, w2c_p1, w2c_p2, w2c_p3, w2c_p4);
 }
 
 /* export: 'jbig2_c_salvaged_alone' */
-u32 Z_hayro_jbig2Z_jbig2_c_salvaged_alone(Z_hayro_jbig2_instance_t* instance, u64 w2c_p0, u64 w2c_p1, u64 w2c_p2, u64 w2c_p3) {
+u32 Z_hayro_jbig2Z_jbig2_c_salvaged_alone(Z_hayro_jbig2_instance_t* RESTRICT instance, u64 w2c_p0, u64 w2c_p1, u64 w2c_p2, u64 w2c_p3) {
   return w2c_jbig2_c_salvaged_alone(instance, w2c_p0, w2c_p1, w2c_p2, w2c_p3);
 }
 
 /* export: 'jbig2_c_page_with' */
-u32 Z_hayro_jbig2Z_jbig2_c_page_with(Z_hayro_jbig2_instance_t* instance, u64 w2c_p0, u32 w2c_p1, u64 w2c_p2, u64 w2c_p3, u64 w2c_p4, u64 w2c_p5) {
+u32 Z_hayro_jbig2Z_jbig2_c_page_with(Z_hayro_jbig2_instance_t* RESTRICT instance, u64 w2c_p0, u32 w2c_p1, u64 w2c_p2, u64 w2c_p3, u64 w2c_p4, u64 w2c_p5) {
   return w2c_jbig2_c_page_with(instance, w2c_p0, w2c_p1, w2c_p2, w2c_p3, w2c_p4, w2c_p5);
 }
 
 /* export: 'jbig2_c_salvaged_with' */
-u32 Z_hayro_jbig2Z_jbig2_c_salvaged_with(Z_hayro_jbig2_instance_t* instance, u64 w2c_p0, u64 w2c_p1, u64 w2c_p2, u64 w2c_p3, u64 w2c_p4) {
+u32 Z_hayro_jbig2Z_jbig2_c_salvaged_with(Z_hayro_jbig2_instance_t* RESTRICT instance, u64 w2c_p0, u64 w2c_p1, u64 w2c_p2, u64 w2c_p3, u64 w2c_p4) {
   return w2c_jbig2_c_salvaged_with(instance, w2c_p0, w2c_p1, w2c_p2, w2c_p3, w2c_p4);
 }
 
 /* export: 'hayro_jbig2_context_get_passed_over' */
-u32 Z_hayro_jbig2Z_hayro_jbig2_context_get_passed_over(Z_hayro_jbig2_instance_t* instance, u64 w2c_p0, u64 w2c_p1) {
+u32 Z_hayro_jbig2Z_hayro_jbig2_context_get_passed_over(Z_hayro_jbig2_instance_t* RESTRICT instance, u64 w2c_p0, u64 w2c_p1) {
   return w2c_hayro_jbig2_context_get_passed_over(instance, w2c_p0, w2c_p1);
 }
 
 /* export: 'hayro_jbig2_globals_get_left_out' */
-u32 Z_hayro_jbig2Z_hayro_jbig2_globals_get_left_out(Z_hayro_jbig2_instance_t* instance, u64 w2c_p0, u64 w2c_p1) {
+u32 Z_hayro_jbig2Z_hayro_jbig2_globals_get_left_out(Z_hayro_jbig2_instance_t* RESTRICT instance, u64 w2c_p0, u64 w2c_p1) {
   return w2c_hayro_jbig2_globals_get_left_out(instance, w2c_p0, w2c_p1);
 }
 
 /* export: 'hayro_jbig2_file_get_left_out' */
-u32 Z_hayro_jbig2Z_hayro_jbig2_file_get_left_out(Z_hayro_jbig2_instance_t* instance, u64 w2c_p0, u64 w2c_p1) {
+u32 Z_hayro_jbig2Z_hayro_jbig2_file_get_left_out(Z_hayro_jbig2_instance_t* RESTRICT instance, u64 w2c_p0, u64 w2c_p1) {
   return w2c_hayro_jbig2_file_get_left_out(instance, w2c_p0, w2c_p1);
 }
 
 /* export: 'hayro_jbig2_context_get_work_left' */
-u32 Z_hayro_jbig2Z_hayro_jbig2_context_get_work_left(Z_hayro_jbig2_instance_t* instance, u64 w2c_p0, u64 w2c_p1) {
+u32 Z_hayro_jbig2Z_hayro_jbig2_context_get_work_left(Z_hayro_jbig2_instance_t* RESTRICT instance, u64 w2c_p0, u64 w2c_p1) {
   return w2c_hayro_jbig2_context_get_work_left(instance, w2c_p0, w2c_p1);
 }
 
 /* export: 'hayro_jbig2_embedded_image' */
-u32 Z_hayro_jbig2Z_hayro_jbig2_embedded_image(Z_hayro_jbig2_instance_t* instance, u32 w2c_p0, u64 w2c_p1, u64 w2c_p2, u64 w2c_p3, u64 w2c_p4, u64 w2c_p5, u64 w2c_p6) {
+u32 Z_hayro_jbig2Z_hayro_jbig2_embedded_image(Z_hayro_jbig2_instance_t* RESTRICT instance, u32 w2c_p0, u64 w2c_p1, u64 w2c_p2, u64 w2c_p3, u64 w2c_p4, u64 w2c_p5, u64 w2c_p6) {
   return w2c_hayro_jbig2_embedded_image(instance, w2c_p0, w2c_p1, w2c_p2, w2c_p3, w2c_p4, w2c_p5, w2c_p6);
 }
 
 /* export: 'hayro_jbig2_embedded_packed' */
-u32 Z_hayro_jbig2Z_hayro_jbig2_embedded_packed(Z_hayro_jbig2_instance_t* instance, u32 w2c_p0, u64 w2c_p1, u64 w2c_p2, u64 w2c_p3, u64 w2c_p4, u64 w2c_p5, u64 w2c_p6) {
+u32 Z_hayro_jbig2Z_hayro_jbig2_embedded_packed(Z_hayro_jbig2_instance_t* RESTRICT instance, u32 w2c_p0, u64 w2c_p1, u64 w2c_p2, u64 w2c_p3, u64 w2c_p4, u64 w2c_p5, u64 w2c_p6) {
   return w2c_hayro_jbig2_embedded_packed(instance, w2c_p0, w2c_p1, w2c_p2, w2c_p3, w2c_p4, w2c_p5, w2c_p6);
 }
 
 /* export: 'hayro_jbig2_page_image' */
-u32 Z_hayro_jbig2Z_hayro_jbig2_page_image(Z_hayro_jbig2_instance_t* instance, u32 w2c_p0, u64 w2c_p1, u64 w2c_p2, u64 w2c_p3, u64 w2c_p4, u64 w2c_p5) {
+u32 Z_hayro_jbig2Z_hayro_jbig2_page_image(Z_hayro_jbig2_instance_t* RESTRICT instance, u32 w2c_p0, u64 w2c_p1, u64 w2c_p2, u64 w2c_p3, u64 w2c_p4, u64 w2c_p5) {
   return w2c_hayro_jbig2_page_image(instance, w2c_p0, w2c_p1, w2c_p2, w2c_p3, w2c_p4, w2c_p5);
 }
 
 /* export: 'hayro_jbig2_page_packed' */
-u32 Z_hayro_jbig2Z_hayro_jbig2_page_packed(Z_hayro_jbig2_instance_t* instance, u32 w2c_p0, u64 w2c_p1, u64 w2c_p2, u64 w2c_p3, u64 w2c_p4, u64 w2c_p5) {
+u32 Z_hayro_jbig2Z_hayro_jbig2_page_packed(Z_hayro_jbig2_instance_t* RESTRICT instance, u32 w2c_p0, u64 w2c_p1, u64 w2c_p2, u64 w2c_p3, u64 w2c_p4, u64 w2c_p5) {
   return w2c_hayro_jbig2_page_packed(instance, w2c_p0, w2c_p1, w2c_p2, w2c_p3, w2c_p4, w2c_p5);
 }
 
 /* export: 'hayro_jbig2_context_rows' */
-u32 Z_hayro_jbig2Z_hayro_jbig2_context_rows(Z_hayro_jbig2_instance_t* instance, u64 w2c_p0, u64 w2c_p1, u64 w2c_p2, u64 w2c_p3) {
+u32 Z_hayro_jbig2Z_hayro_jbig2_context_rows(Z_hayro_jbig2_instance_t* RESTRICT instance, u64 w2c_p0, u64 w2c_p1, u64 w2c_p2, u64 w2c_p3) {
   return w2c_hayro_jbig2_context_rows(instance, w2c_p0, w2c_p1, w2c_p2, w2c_p3);
 }
 
 /* export: '__heap_base' */
-u64* Z_hayro_jbig2Z___heap_base(Z_hayro_jbig2_instance_t* instance) {
+u64* Z_hayro_jbig2Z___heap_base(Z_hayro_jbig2_instance_t* RESTRICT instance) {
   return &instance->w2c___heap_base;
 }
 
-static void init_instance_import(Z_hayro_jbig2_instance_t* instance, struct Z_heap_instance_t* Z_heap_instance){
+static void init_instance_import(Z_hayro_jbig2_instance_t* RESTRICT instance, struct Z_heap_instance_t* Z_heap_instance){
   instance->Z_heap_instance = Z_heap_instance;
 }
 
@@ -122281,7 +122280,7 @@ void Z_hayro_jbig2_init_module(void) {
   init_func_types();
 }
 
-void Z_hayro_jbig2_instantiate(Z_hayro_jbig2_instance_t* instance, struct Z_heap_instance_t* Z_heap_instance) {
+void Z_hayro_jbig2_instantiate(Z_hayro_jbig2_instance_t* RESTRICT instance, struct Z_heap_instance_t* Z_heap_instance) {
   assert(wasm_rt_is_initialized());
   assert(s_module_initialized);
   init_instance_import(instance, Z_heap_instance);
@@ -122290,6 +122289,6 @@ void Z_hayro_jbig2_instantiate(Z_hayro_jbig2_instance_t* instance, struct Z_heap
   init_data_instances(instance);
 }
 
-void Z_hayro_jbig2_free(Z_hayro_jbig2_instance_t* instance) {
+void Z_hayro_jbig2_free(Z_hayro_jbig2_instance_t* RESTRICT instance) {
   wasm_rt_free_memory(&instance->w2c_memory);
 }

@@ -51,15 +51,16 @@ void wasm_rt_trap(wasm_rt_trap_t reason) { longjmp(*running->landing, (int)reaso
 
 /* The memory that the module begins with. Where there is none for it, the module's first store traps. */
 void wasm_rt_allocate_memory(wasm_rt_memory_t *memory, uint32_t pages, uint32_t most) {
-    const uint64_t own = (uint64_t)pages * PAGE, more = (running->room + PAGE - 1) / PAGE * PAGE;
+    const uint64_t own = (uint64_t)pages * PAGE, more = running->room;
     (void)most;
-    if (running->room > HAYRO_JBIG2_MOST_MEMORY || own + more > HAYRO_JBIG2_MOST_MEMORY)
+    if (more > HAYRO_JBIG2_MOST_MEMORY || own + more > HAYRO_JBIG2_MOST_MEMORY)
         return;
-    memory->data = (uint8_t *)jbig2_portable_take(running->memory, (size_t)(own + more));
+    memory->data = (uint8_t *)jbig2_portable_take(running->memory, (size_t)(own + more) + SPARE_BYTES);
     if (memory->data == NULL)
         return;
     memory->size = (size_t)(own + more);
-    memset(memory->data, 0, (size_t)own);
+    /* The module's variables are zero at first. The stack, which lies before them, is like C's. */
+    memset(memory->data + running->module.w2c_g0, 0, (size_t)(own - running->module.w2c_g0));
 }
 
 void wasm_rt_free_memory(wasm_rt_memory_t *memory) { (void)memory; }
@@ -67,6 +68,8 @@ void wasm_rt_free_memory(wasm_rt_memory_t *memory) { (void)memory; }
 void jbig2_portable_begin(struct instance *instance, const hayro_jbig2_memory *memory, const struct instance *like,
                           uint64_t room) {
     wasm_rt_memory_t *own = &instance->module.w2c_memory;
+    if (like != NULL && like->is_broken)
+        wasm_rt_trap(WASM_RT_TRAP_UNREACHABLE);
     instance->memory = memory;
     instance->room = like == NULL ? room : like->end - like->module.w2c___heap_base + room;
     Z_hayro_jbig2_instantiate(&instance->module, (struct Z_heap_instance_t *)instance);
@@ -81,26 +84,27 @@ void jbig2_portable_begin(struct instance *instance, const hayro_jbig2_memory *m
 }
 
 void jbig2_portable_free(struct instance *instance) {
-    jbig2_portable_give_back(instance->memory, instance->module.w2c_memory.data, instance->module.w2c_memory.size);
+    const wasm_rt_memory_t *memory = &instance->module.w2c_memory;
+    jbig2_portable_give_back(instance->memory, memory->data, memory->size + SPARE_BYTES);
 }
 
 /* Makes the memory larger by a half at least, so that it is seldom moved. */
 static bool has_grown(struct instance *instance, uint64_t needed) {
     wasm_rt_memory_t *memory = &instance->module.w2c_memory;
     const uint64_t usual = (uint64_t)memory->size + memory->size / 2;
-    uint64_t size = ((needed > usual ? needed : usual) + PAGE - 1) / PAGE * PAGE;
+    uint64_t size = needed > usual ? needed : usual;
     uint8_t *data;
     if (size > HAYRO_JBIG2_MOST_MEMORY)
         size = HAYRO_JBIG2_MOST_MEMORY;
     if (size < needed)
         return false;
     if (instance->memory == NULL) {
-        data = (uint8_t *)realloc(memory->data, (size_t)size);
+        data = (uint8_t *)realloc(memory->data, (size_t)size + SPARE_BYTES);
     } else {
-        data = (uint8_t *)jbig2_portable_take(instance->memory, (size_t)size);
+        data = (uint8_t *)jbig2_portable_take(instance->memory, (size_t)size + SPARE_BYTES);
         if (data != NULL) {
             memcpy(data, memory->data, memory->size);
-            jbig2_portable_give_back(instance->memory, memory->data, memory->size);
+            jbig2_portable_give_back(instance->memory, memory->data, memory->size + SPARE_BYTES);
         }
     }
     if (data == NULL)

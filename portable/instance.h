@@ -7,7 +7,7 @@
 
 #include <setjmp.h>
 
-/* The most bytes that the memory of an instance may have. */
+/* The most bytes that the memory of an instance may have. Its first 17 pages of 65536 are the module's own. */
 #ifndef HAYRO_JBIG2_MOST_MEMORY
 #define HAYRO_JBIG2_MOST_MEMORY 0xFFFF0000u
 #endif
