@@ -426,7 +426,7 @@ static uint32_t copy_rows(struct held *held, struct context *context, size_t len
     size_t place = 0;
     context->length = 0;
     while (answer == HAYRO_JBIG2_OK && place < length) {
-        const size_t count = length - place < PIECE ? length - place : PIECE;
+        const size_t count = length - place < (size_t)PIECE ? length - place : (size_t)PIECE;
         answer = Z_hayro_jbig2Z_hayro_jbig2_context_rows(&instance->module, held->context, place, piece, count);
         jbig2_portable_copy_out(instance, piece, context->rows + place, count);
         place += count;

@@ -116,7 +116,7 @@ static void say_file(struct file file, enum reading reading, hayro_jbig2_context
 /* The bytes as an embedded page, after the file's header, with themselves as globals. */
 static void say_page(struct file file, enum reading reading, hayro_jbig2_context *context) {
     enum { HEADER = 13 };
-    const size_t skipped = file.length < HEADER ? file.length : HEADER, length = file.length - skipped;
+    const size_t skipped = file.length < (size_t)HEADER ? file.length : (size_t)HEADER, length = file.length - skipped;
     const uint8_t *stream = file.bytes + skipped;
     hayro_jbig2_globals *globals = NULL;
     hayro_jbig2_page *page = NULL;

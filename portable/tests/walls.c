@@ -1,9 +1,26 @@
 /* What happens where the module can't go on, and where memory has a ceiling. It looks inside of a handle, as no caller may.
  * usage: walls FILE, t88-h1.jb2 of crates/jbig2_decode/data */
-#include "../../c/checks.h"
 #include "../instance.h"
 
-static struct bytes book;
+#include <stdio.h>
+#include <stdlib.h>
+
+static unsigned checks, failures;
+
+static void check(bool holds, int line, const char *condition) {
+    checks++;
+    if (!holds) {
+        failures++;
+        printf("walls.c:%d: not so: %s\n", line, condition);
+    }
+}
+
+#define CHECK(condition) check((condition), __LINE__, #condition)
+
+static struct {
+    uint8_t at[4096];
+    size_t length;
+} book;
 
 /* The instance of a handle lies in its block, and has the address of itself, which the module calls its host. */
 static struct instance *instance_of(void *handle) {
@@ -136,9 +153,11 @@ static void keeps_ceilings(void) {
 }
 
 int main(int count, char **words) {
-    if (count != 2)
+    FILE *file = count == 2 ? fopen(words[1], "rb") : NULL;
+    if (file == NULL)
         return 2;
-    read_file(words[1], &book);
+    book.length = fread(book.at, 1, sizeof book.at, file);
+    fclose(file);
     traps(loads_outside);
     traps(stores_at_the_end);
     traps(copies_outside);
