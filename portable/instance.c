@@ -115,7 +115,7 @@ static bool has_grown(struct instance *instance, uint64_t needed) {
 }
 
 /* Blocks have four sizes in each doubling, so that at most a quarter of a block is lost. Sets `room` to the size of a
- * block for so many bytes, and returns its number. */
+ * block for these bytes, and returns its number. */
 static unsigned size_of_block(uint64_t size, uint64_t *room) {
     unsigned bits = 6;
     uint64_t steps;

@@ -1,4 +1,4 @@
-/* An instance of the module: its variables, a memory of its own, and a heap in that. Each handle but a context has one. */
+/* An instance of the module: its variables, a memory of its own, and a heap in that. */
 #ifndef HAYRO_JBIG2_INSTANCE_H
 #define HAYRO_JBIG2_INSTANCE_H
 
@@ -28,12 +28,12 @@ struct instance {
 void *jbig2_portable_take(const hayro_jbig2_memory *memory, size_t size);
 void jbig2_portable_give_back(const hayro_jbig2_memory *memory, void *block, size_t size);
 
-/* Does some work that calls the module. Where the module traps, the work ends there with HAYRO_JBIG2_OUT_OF_MEMORY, and
- * so does each later run of this instance. */
+/* Does some work that calls the module. Where the module traps, the work ends there with HAYRO_JBIG2_OUT_OF_MEMORY,
+ * and so does each later run of this instance. */
 uint32_t jbig2_portable_run(struct instance *instance, uint32_t (*work)(void *words), void *words);
 
-/* Begins an instance of zeros, with room for some bytes, as a copy of another one where `like` is not NULL. It has to be
- * run, and freed also where it fails. */
+/* Begins an instance of zeros, with room for some bytes, as a copy of another one where `like` is not NULL. It has to
+ * be run, and freed also where it fails. */
 void jbig2_portable_begin(struct instance *instance, const hayro_jbig2_memory *memory, const struct instance *like,
                           uint64_t room);
 void jbig2_portable_free(struct instance *instance);

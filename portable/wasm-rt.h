@@ -1,10 +1,11 @@
 /*
- * What hayro_jbig2_module.c asks of its run time, in place of the wasm-rt.h of wabt 1.0.32. The names and the structs are
- * wabt's (Copyright 2018 WebAssembly Community Group participants, Apache License 2.0, ../LICENSE-APACHE). What differs:
+ * What hayro_jbig2_module.c asks of its run time, in place of the wasm-rt.h of wabt 1.0.32. The names and the structs
+ * are wabt's (Copyright 2018 WebAssembly Community Group participants, Apache License 2.0, ../LICENSE-APACHE). What
+ * differs:
  *
  * - The bounds of each load and store are checked by a comparison. There is no signal handler, and no addresses are
  *   reserved.
- * - The memory has the order of bytes of WebAssembly on each machine. So instance.c copies bytes in and out as they are.
+ * - The memory has WebAssembly's order of bytes on each machine. So instance.c copies bytes in and out as they are.
  * - The module has no tables and no floating point, so what wabt has for these is left out, or never called.
  * - The names that a linker sees begin with jbig2_portable, so that a program may have other modules of wasm2c.
  */
@@ -71,8 +72,8 @@ typedef enum {
 #define wasm_rt_trap jbig2_portable_trap
 WASM_RT_NO_RETURN void wasm_rt_trap(wasm_rt_trap_t reason);
 
-/* After the `size` bytes there are SPARE_BYTES more in the same block. So a number that begins within the memory lies in the
- * block, and one comparison checks it. */
+/* After the `size` bytes there are SPARE_BYTES more in the same block. So a number that begins within the memory lies
+ * in the block, and one comparison checks it. */
 enum { SPARE_BYTES = 8 };
 typedef struct {
     uint8_t *data;

@@ -1,4 +1,5 @@
-/* Prints what the library says of files, in the same words on each machine: all that its calls return, and a sum of the rows.
+/* Prints what the library says of files, in the same words on each machine: all that its calls return, and a sum of the
+ * rows.
  * usage: answers FILE ..
  *        answers --damaged COUNT FILE ..: of so many damaged copies, which are the same on each machine */
 #include "hayro_jbig2.h"

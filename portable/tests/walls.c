@@ -1,4 +1,5 @@
-/* What happens where the module can't go on, and where memory has a ceiling. It looks inside of a handle, as no caller may.
+/* What happens where the module can't go on, and where memory has a ceiling. It looks inside of a handle, as no caller
+ * may.
  * usage: walls FILE, t88-h1.jb2 of crates/jbig2_decode/data */
 #include "../instance.h"
 
