@@ -5,6 +5,11 @@
 
 #include <pthread.h>
 
+/* How many requests for memory a trial makes at least. The library of portable/ makes fewer. */
+#ifndef FEWEST_REFUSALS
+#define FEWEST_REFUSALS 100
+#endif
+
 static struct bytes page, book, globals, taken, faulty;
 static uint8_t rows[4096];
 
@@ -237,7 +242,7 @@ static void tells_want_of_memory(void) {
         CHECK(answer == HAYRO_JBIG2_OUT_OF_MEMORY);
         refusals++;
     }
-    CHECK(refusals > 100);
+    CHECK(refusals > FEWEST_REFUSALS);
 }
 
 /* A thread has a handle of the globals and a context of its own. */

@@ -5,6 +5,11 @@
 
 #include <ctype.h>
 
+/* As in handle_calls.c. */
+#ifndef FEWEST_REFUSALS
+#define FEWEST_REFUSALS 20
+#endif
+
 /* The pieces of the rows, as digits. */
 #define PAGE_OF(number, width, height) "00000000 30 00 " number "00000013" width height "0000000000000000000000"
 #define PAGE PAGE_OF("01", "00000008", "00000001")
@@ -296,7 +301,7 @@ static void tells_want_of_memory(void) {
         CHECK(answer == HAYRO_JBIG2_OUT_OF_MEMORY);
         refusals++;
     }
-    CHECK(refusals > 20);
+    CHECK(refusals > FEWEST_REFUSALS);
     uint64_t work = 0;
     while (reads_all(NULL, work) == HAYRO_JBIG2_OUT_OF_MEMORY && work < 1 << 20)
         work += 101;
