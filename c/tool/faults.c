@@ -1,0 +1,173 @@
+#include "platform.h"
+
+#include "faults.h"
+
+#include "names.h"
+
+#include <stdio.h>
+#include <string.h>
+
+uint32_t precise_answer(uint32_t answer, const struct budget *budget) {
+    if (answer != HAYRO_JBIG2_OUT_OF_MEMORY)
+        return answer;
+    if (!budget->was_refused)
+        return OVER_WORK_LIMIT;
+    return budget->limit < SIZE_MAX ? OVER_MEMORY_LIMIT : answer;
+}
+
+bool is_of_limits(uint32_t answer) {
+    return answer == OVER_WORK_LIMIT || answer == OVER_MEMORY_LIMIT || answer == HAYRO_JBIG2_OUT_OF_MEMORY;
+}
+
+const char *text_of_answer(uint32_t answer) {
+    switch (answer) {
+    case OVER_WORK_LIMIT:
+        return "refused by the limit of work (--work)";
+    case OVER_MEMORY_LIMIT:
+        return "refused by the limit of memory (--memory)";
+    case CANT_BE_READ:
+        return "can't be read";
+    default:
+        return hayro_jbig2_error_text(answer);
+    }
+}
+
+void add_fault(struct faults *faults, struct fault fault) {
+    if (faults->count < MOST_FAULTS)
+        faults->at[faults->count++] = fault;
+}
+
+static struct fault fault_at(const struct segment *segment, uint32_t error) {
+    return (struct fault){
+        .error = error,
+        .has_segment = true,
+        .segment = segment->number,
+        .has_type = true,
+        .type = segment->type,
+        .has_place = true,
+        .place = segment->place,
+    };
+}
+
+struct fault fault_of_number(const struct segment_list *list, uint32_t number, uint32_t error) {
+    const struct segment *segment = segment_of_number(list, number);
+    if (segment != NULL)
+        return fault_at(segment, error);
+    return (struct fault){.error = error, .has_segment = true, .segment = number};
+}
+
+/* The segment that ended the list, as far as its header says what it is. */
+static struct fault fault_at_end(const struct segment_list *list, uint32_t error) {
+    struct fault fault = fault_at(&list->last, error);
+    fault.has_segment = list->known >= KNOWS_NUMBER;
+    fault.has_type = list->known >= KNOWS_TYPE;
+    size_t rest = list->size - list->last.place;
+    if (list->known == KNOWS_HEADER && list->last.stated != UNKNOWN_LENGTH && list->error == error)
+        snprintf(fault.note, sizeof fault.note, "cut off, %zu of its %lu bytes are there", list->last.length,
+                 (unsigned long)list->last.stated);
+    else if (list->known < KNOWS_HEADER && error == HAYRO_JBIG2_PARSE_UNEXPECTED_EOF)
+        snprintf(fault.note, sizeof fault.note, "cut off in its header, of which %zu bytes are there", rest);
+    return fault;
+}
+
+static bool breaks_rule(const struct segment *segment, uint32_t error) {
+    switch (error) {
+    case HAYRO_JBIG2_SEGMENT_UNKNOWN_TYPE:
+        return !is_known_type(segment->type);
+    case HAYRO_JBIG2_SEGMENT_INVALID_UNKNOWN_LENGTH:
+        return segment->stated == UNKNOWN_LENGTH && segment->type != 38;
+    case HAYRO_JBIG2_SEGMENT_MISSING_PAGE_ASSOCIATION:
+        return segment->page == 0 && (is_region(segment->type) || (segment->type >= 48 && segment->type <= 50));
+    case HAYRO_JBIG2_UNSUPPORTED:
+        return segment->type == EXTENSION;
+    default:
+        return false;
+    }
+}
+
+struct fault fault_of_list(const struct segment_list *list, uint32_t error) {
+    for (size_t i = 0; i < list->count; i++)
+        if (breaks_rule(&list->at[i], error))
+            return fault_at(&list->at[i], error);
+    if (list->error == error)
+        return fault_at_end(list, error);
+    return (struct fault){.error = error};
+}
+
+void add_left_out(struct faults *faults, const struct segment_list *list, const hayro_jbig2_left_out *left_out) {
+    if (left_out->segments > 0) {
+        struct fault fault = fault_of_number(list, left_out->segment, left_out->error);
+        fault.others = left_out->segments - 1;
+        add_fault(faults, fault);
+    }
+    if (left_out->pages > 0) {
+        struct fault fault = {.error = left_out->page_error};
+        snprintf(fault.note, sizeof fault.note, "%zu pages can't begin and are left out", left_out->pages);
+        add_fault(faults, fault);
+    }
+    if (left_out->list_error != HAYRO_JBIG2_OK) {
+        struct fault fault = fault_of_list(list, left_out->list_error);
+        if (fault.note[0] == '\0')
+            snprintf(fault.note, sizeof fault.note, "what follows is left out");
+        add_fault(faults, fault);
+    }
+}
+
+void add_fault_text(struct text *text, const struct fault *fault) {
+    if (fault->is_of_globals)
+        add_text(text, "globals: ");
+    if (fault->has_segment && fault->has_type)
+        add_text(text, "segment %lu (%s): ", (unsigned long)fault->segment, name_of_type(fault->type));
+    else if (fault->has_segment)
+        add_text(text, "segment %lu: ", (unsigned long)fault->segment);
+    add_text(text, "%s", text_of_answer(fault->error));
+    if (fault->note[0] != '\0')
+        add_text(text, ": %s", fault->note);
+    if (fault->others > 0)
+        add_text(text, ", and %zu more segments are left out", fault->others);
+}
+
+void add_fault_lines(struct text *text, const char *place, const struct faults *faults) {
+    for (size_t i = 0; i < faults->count; i++) {
+        add_text(text, "%s", place);
+        add_fault_text(text, &faults->at[i]);
+        add_text(text, "\n");
+    }
+}
+
+/* The first page without exactly one end of page, by its number in the file; 0 where each has one. */
+static uint32_t page_without_end(const struct segment_list *list) {
+    for (size_t i = 0; i < list->count; i++) {
+        uint32_t page = list->at[i].page, ends = 0;
+        if (list->at[i].type != PAGE_INFORMATION || page == 0)
+            continue;
+        for (size_t j = 0; j < list->count && ends < 2; j++)
+            ends += list->at[j].type == END_OF_PAGE && list->at[j].page == page;
+        if (ends != 1)
+            return page;
+    }
+    return 0;
+}
+
+void find_faults_of_file(const struct document *document, struct faults *faults) {
+    if (document->strict_answer == HAYRO_JBIG2_OK)
+        return;
+    struct fault fault = fault_of_list(&document->list, document->strict_answer);
+    uint32_t page;
+    switch (document->strict_answer) {
+    case HAYRO_JBIG2_FORMAT_PAGE_COUNT_MISMATCH:
+        snprintf(fault.note, sizeof fault.note, "it states %lu, and %zu are there",
+                 (unsigned long)document->header.page_count, document->count);
+        break;
+    case HAYRO_JBIG2_FORMAT_INVALID_END_OF_PAGE:
+        page = page_without_end(&document->list);
+        snprintf(fault.note, sizeof fault.note, "the page of number %lu may be cut off", (unsigned long)page);
+        break;
+    default:
+        break;
+    }
+    bool is_left_out = document->left_out.list_error == document->strict_answer;
+    if (!is_left_out)
+        add_fault(faults, fault);
+    add_left_out(faults, &document->list, &document->left_out);
+}

@@ -1,0 +1,141 @@
+#include "platform.h"
+
+#include "drawing.h"
+
+#include <stdlib.h>
+#include <string.h>
+
+/* The segments of a page one after the other, as an embedded page has them. */
+struct slice {
+    uint8_t *bytes;
+    size_t length;
+    const struct segment **segments;
+    size_t *ends; /* of each segment */
+    size_t count;
+};
+
+static size_t header_size(const struct segment_list *list, const struct segment *segment) {
+    bool has_long_page = list->bytes[segment->place + 4] & 0x40;
+    size_t end_of_referred = segment->referred + (size_t)segment->referred_count * segment->referred_size;
+    return end_of_referred + (has_long_page ? 4 : 1) + 4 - segment->place;
+}
+
+/* Takes the segments of a page, or all where it is embedded. */
+static void cut_slice(struct slice *slice, const struct segment_list *list, bool is_embedded, uint32_t page) {
+    *slice = (struct slice){.bytes = room_for(list->size)};
+    slice->segments = room_for(list->count * sizeof *slice->segments);
+    slice->ends = room_for(list->count * sizeof *slice->ends);
+    for (size_t i = 0; i < list->count; i++) {
+        const struct segment *segment = &list->at[i];
+        if (!is_embedded && segment->page != page)
+            continue;
+        size_t size = header_size(list, segment);
+        memcpy(slice->bytes + slice->length, list->bytes + segment->place, size);
+        memcpy(slice->bytes + slice->length + size, list->bytes + segment->data, segment->length);
+        slice->length += size + segment->length;
+        slice->segments[slice->count] = segment;
+        slice->ends[slice->count++] = slice->length;
+    }
+}
+
+static void free_slice(struct slice *slice) {
+    free(slice->bytes);
+    free(slice->segments);
+    free(slice->ends);
+}
+
+/* What drawing pages to find a fault may take in all. The painter's context has the page, so it has another. */
+struct search {
+    const struct attempt *attempt;
+    hayro_jbig2_context *context;
+    hayro_jbig2_globals *globals;
+    uint64_t work;
+};
+
+static uint32_t error_of_page(struct search *search, const struct slice *slice, size_t length) {
+    const struct attempt *attempt = search->attempt;
+    const hayro_jbig2_memory *memory = &attempt->painter->budget.memory;
+    bool is_salvage = !attempt->is_strict && attempt->document->reading.way == SALVAGE;
+    hayro_jbig2_page *page = NULL;
+    uint64_t left = 0;
+    uint32_t answer = is_salvage ? hayro_jbig2_page_new_salvaged(memory, search->globals, slice->bytes, length, &page)
+                                 : hayro_jbig2_page_new(memory, attempt->is_strict, search->globals, slice->bytes,
+                                                        length, &page);
+    if (answer == HAYRO_JBIG2_OK)
+        answer = hayro_jbig2_context_set_work_limit(search->context, search->work);
+    if (answer == HAYRO_JBIG2_OK) {
+        answer = hayro_jbig2_page_draw(page, search->context);
+        hayro_jbig2_context_get_work_left(search->context, &left);
+        search->work = left;
+    }
+    hayro_jbig2_page_free(page);
+    return answer;
+}
+
+/* The first segment with which the page's beginning has the error, or NULL. */
+static const struct segment *find_segment(struct search *search, const struct slice *slice, uint32_t error) {
+    size_t without = 0, with = slice->count;
+    if (with == 0 || error_of_page(search, slice, slice->length) != error)
+        return NULL;
+    while (with - without > 1) {
+        size_t middle = without + (with - without) / 2;
+        uint32_t answer = error_of_page(search, slice, slice->ends[middle - 1]);
+        if (answer == HAYRO_JBIG2_OUT_OF_MEMORY)
+            return NULL;
+        if (answer == error)
+            with = middle;
+        else
+            without = middle;
+    }
+    return slice->segments[with - 1];
+}
+
+/* The first segment of a file's globals that can't be decoded, if that has the error. */
+static bool is_fault_of_globals(const struct attempt *attempt, uint32_t error, struct search *search,
+                                struct fault *fault) {
+    const struct segment_list *list = attempt->list;
+    struct slice slice;
+    hayro_jbig2_left_out left_out = {0};
+    cut_slice(&slice, list, false, 0);
+    if (slice.count > 0)
+        hayro_jbig2_globals_new_salvaged(&attempt->painter->budget.memory, search->work, slice.bytes, slice.length,
+                                         &search->globals);
+    if (search->globals != NULL)
+        hayro_jbig2_globals_get_left_out(search->globals, &left_out);
+    free_slice(&slice);
+    if (left_out.segments == 0 || left_out.error != error)
+        return false;
+    *fault = fault_of_number(list, left_out.segment, error);
+    fault->is_of_globals = true;
+    return true;
+}
+
+static struct fault search_for_fault(struct search *search, const struct drawn *drawn, uint32_t error) {
+    const struct attempt *attempt = search->attempt;
+    bool is_embedded = attempt->document->kind != KIND_FILE;
+    struct fault fault = {.error = error};
+    struct slice slice;
+    if (!is_embedded && is_fault_of_globals(attempt, error, search, &fault))
+        return fault;
+    cut_slice(&slice, attempt->list, is_embedded, drawn->number);
+    const struct segment *segment = find_segment(search, &slice, error);
+    if (segment != NULL)
+        fault = fault_of_number(attempt->list, segment->number, error);
+    free_slice(&slice);
+    return fault;
+}
+
+struct fault locate_fault(const struct attempt *attempt, const struct drawn *drawn, uint32_t error) {
+    struct fault fault = fault_of_list(attempt->list, error);
+    if (fault.has_segment || is_of_limits(error) || error == HAYRO_JBIG2_OK || drawn->width == 0)
+        return fault;
+    struct search search = {.attempt = attempt};
+    search.work = work_for(&attempt->document->reading, (uint64_t)drawn->width * drawn->height);
+    search.globals = attempt->source->handle;
+    if (hayro_jbig2_context_new(&attempt->painter->budget.memory, &search.context) == HAYRO_JBIG2_OK)
+        fault = search_for_fault(&search, drawn, error);
+    hayro_jbig2_context_free(search.context);
+    if (search.globals != attempt->source->handle)
+        hayro_jbig2_globals_free(search.globals);
+    return fault;
+}
