@@ -71,6 +71,7 @@ struct document {
     struct file_header header;
     struct segment_list list;
     uint32_t strict_answer; /* why strict reading refuses the file, or 0 */
+    uint32_t refusal;       /* why it can't be read at all, or 0 */
     hayro_jbig2_left_out left_out;
     struct reader *strict_readers, *other_readers; /* those that no thread uses */
     /* Of a PDF file: */

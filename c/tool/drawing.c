@@ -109,7 +109,7 @@ static void refuse_page(struct drawn *drawn, struct fault fault) {
 }
 
 /* What the other way drew of a page that strict reading refused with an error. */
-static void add_what_it_lacks(const struct attempt *attempt, uint32_t error, const hayro_jbig2_left_out *left_out,
+static void add_what_it_lacks(struct attempt *attempt, uint32_t error, const hayro_jbig2_left_out *left_out,
                               struct drawn *drawn) {
     hayro_jbig2_passed_over passed = {0, 0, 0};
     hayro_jbig2_context_get_passed_over(attempt->painter->context, &passed);
@@ -122,8 +122,14 @@ static void add_what_it_lacks(const struct attempt *attempt, uint32_t error, con
     add_left_out(&drawn->faults, attempt->list, left_out);
     if (attempt->list->error == HAYRO_JBIG2_PARSE_UNEXPECTED_EOF && attempt->document->kind != KIND_FILE)
         add_fault(&drawn->faults, fault_of_list(attempt->list, attempt->list->error));
-    if (drawn->faults.count == before && error != HAYRO_JBIG2_OK)
+    if (attempt->document->kind == KIND_FILE && !has_one_end(attempt->list, drawn->number))
+        add_fault(&drawn->faults, (struct fault){.error = HAYRO_JBIG2_FORMAT_INVALID_END_OF_PAGE});
+    if (drawn->faults.count == before && error == HAYRO_JBIG2_OK)
+        error = strict_error_of_page(attempt, drawn);
+    if (drawn->faults.count == before && error != HAYRO_JBIG2_OK) {
+        attempt->is_strict = true;
         add_fault(&drawn->faults, locate_fault(attempt, drawn, error));
+    }
     if (drawn->faults.count > before)
         drawn->status = INCOMPLETE;
 }

@@ -49,6 +49,8 @@ struct attempt {
     bool is_strict;
 };
 
+/* The error of a page alone by strict reading, where that refuses its file as a whole. */
+uint32_t strict_error_of_page(const struct attempt *attempt, const struct drawn *drawn);
 /* The fault of an attempt that ended with an error, with its segment where that can be found. */
 struct fault locate_fault(const struct attempt *attempt, const struct drawn *drawn, uint32_t error);
 

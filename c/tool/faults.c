@@ -127,47 +127,44 @@ void add_fault_text(struct text *text, const struct fault *fault) {
         add_text(text, ", and %zu more segments are left out", fault->others);
 }
 
-void add_fault_lines(struct text *text, const char *place, const struct faults *faults) {
+void add_fault_lines(struct text *text, const char *place, const struct faults *faults, const char *hint) {
     for (size_t i = 0; i < faults->count; i++) {
         add_text(text, "%s", place);
         add_fault_text(text, &faults->at[i]);
-        add_text(text, "\n");
+        add_text(text, "%s\n", i + 1 == faults->count ? hint : "");
     }
 }
 
-/* The first page without exactly one end of page, by its number in the file; 0 where each has one. */
-static uint32_t page_without_end(const struct segment_list *list) {
-    for (size_t i = 0; i < list->count; i++) {
-        uint32_t page = list->at[i].page, ends = 0;
-        if (list->at[i].type != PAGE_INFORMATION || page == 0)
-            continue;
-        for (size_t j = 0; j < list->count && ends < 2; j++)
-            ends += list->at[j].type == END_OF_PAGE && list->at[j].page == page;
-        if (ends != 1)
-            return page;
-    }
-    return 0;
+const char *hint_after(uint32_t answer, enum way way) {
+    bool helps = answer != CANT_BE_READ && answer != HAYRO_JBIG2_FORMAT_INVALID_HEADER && !is_of_limits(answer);
+    return helps && way == LENIENT ? " (--salvage may draw what is left)" : "";
+}
+
+bool has_one_end(const struct segment_list *list, uint32_t page) {
+    size_t ends = 0;
+    for (size_t i = 0; i < list->count; i++)
+        ends += list->at[i].type == END_OF_PAGE && list->at[i].page == page;
+    return ends == 1;
+}
+
+static struct fault fault_of_count(const struct document *document) {
+    struct fault fault = {.error = HAYRO_JBIG2_FORMAT_PAGE_COUNT_MISMATCH};
+    snprintf(fault.note, sizeof fault.note, "it states %lu, and %zu can be read",
+             (unsigned long)document->header.page_count, document->count);
+    return fault;
 }
 
 void find_faults_of_file(const struct document *document, struct faults *faults) {
-    if (document->strict_answer == HAYRO_JBIG2_OK)
+    uint32_t answer = document->refusal != HAYRO_JBIG2_OK ? document->refusal : document->strict_answer;
+    if (answer == HAYRO_JBIG2_OK)
         return;
-    struct fault fault = fault_of_list(&document->list, document->strict_answer);
-    uint32_t page;
-    switch (document->strict_answer) {
-    case HAYRO_JBIG2_FORMAT_PAGE_COUNT_MISMATCH:
-        snprintf(fault.note, sizeof fault.note, "it states %lu, and %zu are there",
-                 (unsigned long)document->header.page_count, document->count);
-        break;
-    case HAYRO_JBIG2_FORMAT_INVALID_END_OF_PAGE:
-        page = page_without_end(&document->list);
-        snprintf(fault.note, sizeof fault.note, "the page of number %lu may be cut off", (unsigned long)page);
-        break;
-    default:
-        break;
-    }
-    bool is_left_out = document->left_out.list_error == document->strict_answer;
-    if (!is_left_out)
+    bool is_count = answer == HAYRO_JBIG2_FORMAT_PAGE_COUNT_MISMATCH && document->refusal == HAYRO_JBIG2_OK;
+    struct fault fault = is_count ? fault_of_count(document) : fault_of_list(&document->list, answer);
+    bool is_of_page = answer == HAYRO_JBIG2_FORMAT_INVALID_END_OF_PAGE && document->refusal == HAYRO_JBIG2_OK;
+    if (!is_of_page && document->left_out.list_error != answer)
         add_fault(faults, fault);
+    if (document->header.has_count && document->header.page_count != document->count &&
+        document->refusal == HAYRO_JBIG2_OK && answer != HAYRO_JBIG2_FORMAT_PAGE_COUNT_MISMATCH)
+        add_fault(faults, fault_of_count(document));
     add_left_out(faults, &document->list, &document->left_out);
 }

@@ -40,9 +40,14 @@ void add_left_out(struct faults *faults, const struct segment_list *list, const 
 
 /* "segment 7 (symbol dictionary): invalid Huffman code" */
 void add_fault_text(struct text *text, const struct fault *fault);
-/* A line for each fault, after a place such as "scan.jb2: page 2: ". */
-void add_fault_lines(struct text *text, const char *place, const struct faults *faults);
+/* A line for each fault, after a place such as "scan.jb2: page 2: ". The last has the hint. */
+void add_fault_lines(struct text *text, const char *place, const struct faults *faults, const char *hint);
 
+/* What can be done about a page or a file that is refused, or "". */
+const char *hint_after(uint32_t answer, enum way way);
+
+/* Whether a page of a file ends as it has to. */
+bool has_one_end(const struct segment_list *list, uint32_t page);
 /* The faults of a file as a whole. */
 void find_faults_of_file(const struct document *document, struct faults *faults);
 

@@ -71,7 +71,7 @@ enum opened next_document(struct inputs *inputs, struct document *document, stru
     if (inputs->next == inputs->words->input_count)
         return NO_INPUT;
     if (!read_next(inputs, &bytes, &name, messages))
-        return NOT_OPENED;
+        return NOT_READ;
     if (are_for_all(inputs, &bytes)) {
         inputs->globals = bytes;
         return next_document(inputs, document, messages, status);
@@ -82,8 +82,5 @@ enum opened next_document(struct inputs *inputs, struct document *document, stru
     *status = open_document(document, shown_name(name), bytes, has_own ? &own : &inputs->globals,
                             inputs->words->password, messages);
     free_bytes(&own);
-    if (*status == ALL_WHOLE || *status == INCOMPLETE)
-        return OPENED;
-    close_document(document);
-    return NOT_OPENED;
+    return *status == ALL_WHOLE || *status == INCOMPLETE ? OPENED : REFUSED;
 }

@@ -12,14 +12,14 @@ struct inputs {
     struct bytes ahead;
 };
 
-enum opened { NO_INPUT, OPENED, NOT_OPENED };
+/* What is refused or open has to be closed. */
+enum opened { NO_INPUT, NOT_READ, REFUSED, OPENED };
 
 /* Reads --globals. False with messages where that can't be done. */
 bool open_inputs(struct inputs *inputs, const struct words *words, struct text *messages);
 void close_inputs(struct inputs *inputs);
 
-/* Opens the next input, with what is wrong with it as a whole in messages and status. Where it is opened, it has to be
- * closed. */
+/* Opens the next input, with what is wrong with it as a whole in messages and status. */
 enum opened next_document(struct inputs *inputs, struct document *document, struct text *messages, enum status *status);
 
 #endif

@@ -62,11 +62,12 @@ static void list_pages(struct document *document, struct reader *reader) {
         document->images[i] = (struct image){.page = i + 1, .all = 1, .globals = NO_GLOBALS};
 }
 
-static enum status refuse_file(const struct document *document, uint32_t answer, struct text *messages) {
+static enum status refuse_file(struct document *document, uint32_t answer, struct text *messages) {
     struct fault fault = fault_of_list(&document->list, answer);
+    document->refusal = answer;
     add_text(messages, "%s: ", document->name);
     add_fault_text(messages, &fault);
-    add_text(messages, "\n");
+    add_text(messages, "%s\n", hint_after(answer, document->reading.way));
     return is_of_limits(answer) ? OVER_LIMIT : NOT_DONE;
 }
 
@@ -91,7 +92,7 @@ enum status open_file(struct document *document, struct text *messages) {
     struct text place = {NULL, 0, 0};
     add_text(&place, "%s: ", document->name);
     find_faults_of_file(document, &faults);
-    add_fault_lines(messages, place.at, &faults);
+    add_fault_lines(messages, place.at, &faults, "");
     free_text(&place);
     return faults.count > 0 ? INCOMPLETE : ALL_WHOLE;
 }

@@ -36,10 +36,14 @@ static void describe(const struct words *words, const struct task *task, const s
                      struct report *report) {
     struct document *document = &task->use->document;
     struct text place = {NULL, 0, 0};
+    bool is_refused = drawn->status == NOT_DONE;
     add_place(&place, document, task->index);
     if (drawn->status == INCOMPLETE)
         add_text(&place, "incomplete: ");
-    add_fault_lines(&report->messages, place.at, &drawn->faults);
+    const char *hint = is_refused && drawn->faults.count > 0
+                           ? hint_after(drawn->faults.at[drawn->faults.count - 1].error, words->reading.way)
+                           : "";
+    add_fault_lines(&report->messages, place.at, &drawn->faults, hint);
     free_text(&place);
     if (!words->is_quiet)
         add_notes(&report->messages, document, task->index);

@@ -90,33 +90,51 @@ static const struct segment *find_segment(struct search *search, const struct sl
     return slice->segments[with - 1];
 }
 
-/* The first segment of a file's globals that can't be decoded, if that has the error. */
-static bool is_fault_of_globals(const struct attempt *attempt, uint32_t error, struct search *search,
-                                struct fault *fault) {
-    const struct segment_list *list = attempt->list;
+/* Makes the globals of a file once more for its page alone. */
+static uint32_t make_globals(struct search *search, bool is_salvage) {
+    const struct attempt *attempt = search->attempt;
+    const hayro_jbig2_memory *memory = &attempt->painter->budget.memory;
     struct slice slice;
-    hayro_jbig2_left_out left_out = {0};
-    cut_slice(&slice, list, false, 0);
-    if (slice.count > 0)
-        hayro_jbig2_globals_new_salvaged(&attempt->painter->budget.memory, search->work, slice.bytes, slice.length,
-                                         &search->globals);
-    if (search->globals != NULL)
-        hayro_jbig2_globals_get_left_out(search->globals, &left_out);
+    uint32_t answer = HAYRO_JBIG2_OK;
+    if (attempt->document->kind != KIND_FILE) {
+        search->globals = attempt->source->handle;
+        return HAYRO_JBIG2_OK;
+    }
+    cut_slice(&slice, attempt->list, false, 0);
+    if (slice.count > 0 && is_salvage)
+        answer = hayro_jbig2_globals_new_salvaged(memory, search->work, slice.bytes, slice.length, &search->globals);
+    else if (slice.count > 0)
+        answer = hayro_jbig2_globals_new_within(memory, true, search->work, slice.bytes, slice.length, &search->globals);
     free_slice(&slice);
-    if (left_out.segments == 0 || left_out.error != error)
-        return false;
-    *fault = fault_of_number(list, left_out.segment, error);
-    fault->is_of_globals = true;
-    return true;
+    return answer;
+}
+
+static uint32_t open_search(struct search *search, const struct attempt *attempt, const struct drawn *drawn) {
+    uint64_t pixels = (uint64_t)drawn->width * drawn->height;
+    *search = (struct search){.attempt = attempt, .work = work_for(&attempt->document->reading, pixels)};
+    return hayro_jbig2_context_new(&attempt->painter->budget.memory, &search->context);
+}
+
+static void close_search(struct search *search) {
+    hayro_jbig2_context_free(search->context);
+    if (search->globals != search->attempt->source->handle)
+        hayro_jbig2_globals_free(search->globals);
 }
 
 static struct fault search_for_fault(struct search *search, const struct drawn *drawn, uint32_t error) {
     const struct attempt *attempt = search->attempt;
     bool is_embedded = attempt->document->kind != KIND_FILE;
+    hayro_jbig2_left_out left_out = {0};
     struct fault fault = {.error = error};
     struct slice slice;
-    if (!is_embedded && is_fault_of_globals(attempt, error, search, &fault))
+    make_globals(search, true);
+    if (!is_embedded && search->globals != NULL)
+        hayro_jbig2_globals_get_left_out(search->globals, &left_out);
+    if (left_out.segments > 0 && left_out.error == error) {
+        fault = fault_of_number(attempt->list, left_out.segment, error);
+        fault.is_of_globals = true;
         return fault;
+    }
     cut_slice(&slice, attempt->list, is_embedded, drawn->number);
     const struct segment *segment = find_segment(search, &slice, error);
     if (segment != NULL)
@@ -127,15 +145,29 @@ static struct fault search_for_fault(struct search *search, const struct drawn *
 
 struct fault locate_fault(const struct attempt *attempt, const struct drawn *drawn, uint32_t error) {
     struct fault fault = fault_of_list(attempt->list, error);
+    struct search search;
     if (fault.has_segment || is_of_limits(error) || error == HAYRO_JBIG2_OK || drawn->width == 0)
         return fault;
-    struct search search = {.attempt = attempt};
-    search.work = work_for(&attempt->document->reading, (uint64_t)drawn->width * drawn->height);
-    search.globals = attempt->source->handle;
-    if (hayro_jbig2_context_new(&attempt->painter->budget.memory, &search.context) == HAYRO_JBIG2_OK)
+    if (open_search(&search, attempt, drawn) == HAYRO_JBIG2_OK)
         fault = search_for_fault(&search, drawn, error);
-    hayro_jbig2_context_free(search.context);
-    if (search.globals != attempt->source->handle)
-        hayro_jbig2_globals_free(search.globals);
+    close_search(&search);
     return fault;
+}
+
+uint32_t strict_error_of_page(const struct attempt *attempt, const struct drawn *drawn) {
+    struct attempt strictly = *attempt;
+    struct search search;
+    struct slice slice;
+    strictly.is_strict = true;
+    uint32_t answer = open_search(&search, &strictly, drawn);
+    if (answer == HAYRO_JBIG2_OK)
+        answer = make_globals(&search, false);
+    if (answer == HAYRO_JBIG2_OK) {
+        cut_slice(&slice, attempt->list, attempt->document->kind != KIND_FILE, drawn->number);
+        answer = error_of_page(&search, &slice, slice.length);
+        free_slice(&slice);
+    }
+    close_search(&search);
+    /* Where there was no room to look, nothing was found. */
+    return answer == HAYRO_JBIG2_OUT_OF_MEMORY ? HAYRO_JBIG2_OK : answer;
 }

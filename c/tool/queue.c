@@ -92,8 +92,11 @@ static bool open_next(struct queue *queue) {
         if (status == WRONG_WORDS)
             use->next = use->document.count;
         queue->use = use;
-    } else
+    } else {
+        if (opened == REFUSED)
+            close_document(&use->document);
         free(use);
+    }
     if (report.messages.length > 0)
         note_report(queue, next_order(queue), report);
     return opened != NO_INPUT;
