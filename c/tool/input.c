@@ -67,20 +67,19 @@ static enum kind kind_of_segments(const struct bytes *bytes) {
     return !is_one || has_others ? KIND_UNKNOWN : KIND_GLOBALS;
 }
 
-enum kind kind_of(const struct bytes *bytes) {
-    if (has_file_header(bytes->at, bytes->length))
-        return KIND_FILE;
-    return is_pdf(bytes) ? KIND_PDF : kind_of_segments(bytes);
-}
-
+/* Whether there are no control characters, and most are those of ASCII. */
 static bool is_text(const struct bytes *bytes) {
-    for (size_t i = 0; i < bytes->length && i < 512; i++)
-        if (bytes->at[i] < ' ' && strchr("\t\n\f\r\33", bytes->at[i]) == NULL)
+    size_t count = bytes->length < 512 ? bytes->length : 512, others = 0;
+    for (size_t i = 0; i < count; i++) {
+        if (bytes->at[i] < ' ' && memchr("\t\n\f\r\33", bytes->at[i], 5) == NULL)
             return false;
-    return true;
+        others += bytes->at[i] >= 127;
+    }
+    return others <= count / 4;
 }
 
-static const char *name_of_unknown(const struct bytes *bytes) {
+/* The name of another format by its first bytes, or NULL. */
+static const char *name_of_other_format(const struct bytes *bytes) {
     static const struct {
         const char *beginning;
         size_t length;
@@ -99,7 +98,20 @@ static const char *name_of_unknown(const struct bytes *bytes) {
     for (size_t i = 0; i < sizeof names / sizeof *names; i++)
         if (begins_with(bytes, names[i].beginning, names[i].length))
             return names[i].name;
-    return is_text(bytes) ? "text" : "no segment of JBIG2 at its start";
+    return NULL;
+}
+
+enum kind kind_of(const struct bytes *bytes) {
+    if (has_file_header(bytes->at, bytes->length))
+        return KIND_FILE;
+    if (is_pdf(bytes))
+        return KIND_PDF;
+    return name_of_other_format(bytes) != NULL ? KIND_UNKNOWN : kind_of_segments(bytes);
+}
+
+static const char *name_of_unknown(const struct bytes *bytes) {
+    const char *name = name_of_other_format(bytes);
+    return name != NULL ? name : is_text(bytes) ? "text" : "no segment of JBIG2 at its start";
 }
 
 const char *name_of_kind(enum kind kind, const struct bytes *bytes) {

@@ -19,6 +19,16 @@ static uint32_t decode_globals(struct globals *globals, const struct reading *re
     return precise_answer(answer, &globals->budget);
 }
 
+/* Salvage says which segment refuses globals. */
+static void look_for_fault(struct globals *globals, const struct reading *reading) {
+    hayro_jbig2_globals *salvaged = NULL;
+    hayro_jbig2_globals_new_salvaged(&globals->budget.memory, work_for(reading, globals->pixels), globals->bytes.at,
+                                     globals->bytes.length, &salvaged);
+    if (salvaged != NULL)
+        hayro_jbig2_globals_get_left_out(salvaged, &globals->left_out);
+    hayro_jbig2_globals_free(salvaged);
+}
+
 /* Decodes globals once. The document is locked. */
 static void read_globals(struct document *document, struct globals *globals) {
     if (globals->is_read)
@@ -37,10 +47,14 @@ static void read_globals(struct document *document, struct globals *globals) {
         globals->answer = decode_globals(globals, &document->reading, false);
     if (globals->answer == HAYRO_JBIG2_OK)
         hayro_jbig2_globals_get_left_out(globals->handle, &globals->left_out);
+    else if (!is_of_limits(globals->answer))
+        look_for_fault(globals, &document->reading);
 }
 
 static struct fault fault_of_globals(const struct globals *globals, uint32_t answer) {
-    struct fault fault = fault_of_list(&globals->list, answer);
+    bool is_at_segment = globals->left_out.segments > 0 && globals->left_out.error == answer;
+    struct fault fault = is_at_segment ? fault_of_number(&globals->list, globals->left_out.segment, answer)
+                                       : fault_of_list(&globals->list, answer);
     fault.is_of_globals = true;
     if (globals->unreadable.length > 0)
         snprintf(fault.note, sizeof fault.note, "%s", globals->unreadable.at);
