@@ -103,6 +103,9 @@ static bool is_jbig2(qpdf_data qpdf, qpdf_oh stream) {
 
 bool read_pdf_stream(struct document *document, int object, int generation, struct bytes *bytes, struct text *reason) {
     qpdf_data qpdf = document->pdf->qpdf;
+    /* An error that is still there would be taken for one of this stream. */
+    if (qpdf_has_error(qpdf))
+        qpdf_get_error(qpdf);
     qpdf_oh stream = qpdf_get_object_by_id(qpdf, object, generation);
     enum qpdf_stream_decode_level_e level = qpdf_dl_all;
     QPDF_BOOL is_decoded = QPDF_TRUE;
