@@ -40,7 +40,8 @@ static enum status refuse(const struct document *document, struct text *messages
     if (document->kind == KIND_GLOBALS)
         add_text(messages, "%s: globals without a page: name the embedded page before them\n", document->name);
     else
-        add_text(messages, "%s: neither a JBIG2 file, nor an embedded page, nor a PDF file: %s\n", document->name, name);
+        add_text(messages, "%s: neither a JBIG2 file, nor an embedded page, nor a PDF file: %s\n", document->name,
+                 name);
     return NOT_DONE;
 }
 

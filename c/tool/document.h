@@ -29,7 +29,7 @@ struct image {
     size_t page;     /* from 1 */
     size_t nth, all; /* which image of this page of a PDF file, and of how many */
     int object, generation;
-    int globals; /* an index of the document's globals, or NO_GLOBALS */
+    int globals;            /* an index of the document's globals, or NO_GLOBALS */
     uint32_t width, height; /* as a PDF file says */
     bool is_inverted, is_mask;
 };

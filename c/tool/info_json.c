@@ -6,9 +6,18 @@
 #include <stdio.h>
 #include <string.h>
 
-/* How many bytes a character of UTF-8 has here, or 0 where there is none. */
+/* How many bytes a character of UTF-8 has by its first byte, or 0 where none begins so. */
+static int size_by_first(unsigned char first) {
+    if (first < 0x80)
+        return 1;
+    if (first < 0xC2 || first > 0xF4)
+        return 0;
+    return first < 0xE0 ? 2 : first < 0xF0 ? 3 : 4;
+}
+
+/* How many bytes the character has here, or 0 where there is none. */
 static int utf8_size(const unsigned char *at) {
-    int size = at[0] < 0x80 ? 1 : at[0] >= 0xC2 && at[0] < 0xE0 ? 2 : at[0] >= 0xE0 && at[0] < 0xF0 ? 3 : at[0] >= 0xF0 && at[0] < 0xF5 ? 4 : 0;
+    int size = size_by_first(at[0]);
     for (int i = 1; i < size; i++)
         if ((at[i] & 0xC0) != 0x80)
             return 0;
@@ -34,9 +43,7 @@ static void print_string(const char *text) {
 }
 
 /* The key of a member. All but the first have a comma before them. */
-static void print_key(const char *key, bool is_first) {
-    printf("%s\"%s\": ", is_first ? "" : ", ", key);
-}
+static void print_key(const char *key, bool is_first) { printf("%s\"%s\": ", is_first ? "" : ", ", key); }
 
 static void print_number(const char *key, unsigned long long number) {
     print_key(key, false);

@@ -99,8 +99,8 @@ static void print_segment(const struct segment_list *list, const struct segment 
     add_referred(&referred, list, segment);
     add_region(&region, list, segment);
     add_coding(&coding, list, segment);
-    printf("  %8lu  %-37s  %4lu  %9zu  %8zu%s  %-9s  %-27s", (unsigned long)segment->number, name_of_type(segment->type),
-           (unsigned long)segment->page, segment->place, segment->length,
+    printf("  %8lu  %-37s  %4lu  %9zu  %8zu%s  %-9s  %-27s", (unsigned long)segment->number,
+           name_of_type(segment->type), (unsigned long)segment->page, segment->place, segment->length,
            segment->stated == UNKNOWN_LENGTH ? "*" : " ", referred.at, region.at);
     print_text(&coding, "\n");
     free_text(&referred);
@@ -108,7 +108,8 @@ static void print_segment(const struct segment_list *list, const struct segment 
 }
 
 /* Faults of one page, or of all where `page` is 0. Those of globals have places of their own. */
-static void print_faults_at(const struct listing *listing, size_t page, const struct segment *segment, bool are_shared) {
+static void print_faults_at(const struct listing *listing, size_t page, const struct segment *segment,
+                            bool are_shared) {
     for (size_t i = 0; i < listing->found_count; i++) {
         const struct found *found = &listing->found[i];
         bool is_here = found->fault.has_place && found->fault.place == segment->place;
@@ -120,8 +121,8 @@ static void print_faults_at(const struct listing *listing, size_t page, const st
 static void print_segments(const struct listing *listing, const struct segment_list *list, size_t page) {
     bool is_file = listing->document->kind == KIND_FILE;
     if (list->count > 0 || list->known >= KNOWS_TYPE)
-        printf("  %8s  %-37s  %4s  %9s  %8s   %-9s  %-27s%s\n", "segment", "type", "page", "byte", "length", "refers to",
-               "region", "coding");
+        printf("  %8s  %-37s  %4s  %9s  %8s   %-9s  %-27s%s\n", "segment", "type", "page", "byte", "length",
+               "refers to", "region", "coding");
     for (size_t i = 0; i < list->count; i++) {
         print_segment(list, &list->at[i]);
         print_faults_at(listing, page, &list->at[i], is_file);

@@ -86,11 +86,16 @@ static const char *name_of_other_format(const struct bytes *bytes) {
         const char *name;
     } names[] = {
         {"\x97JB2", 4, "a JBIG2 file whose header is damaged, perhaps by a transfer as text"},
-        {"\x89PNG", 4, "a PNG picture"},      {"\xFF\xD8\xFF", 3, "a JPEG picture"},
-        {"II*\0", 4, "a TIFF picture"},       {"MM\0*", 4, "a TIFF picture"},
-        {"GIF8", 4, "a GIF picture"},         {"AT&TFORM", 8, "a DjVu file"},
-        {"PK\3\4", 4, "a ZIP archive"},       {"\x1F\x8B", 2, "a file that gzip packed"},
-        {"%!PS", 4, "a PostScript file"},     {"P4", 2, "a PBM picture"},
+        {"\x89PNG", 4, "a PNG picture"},
+        {"\xFF\xD8\xFF", 3, "a JPEG picture"},
+        {"II*\0", 4, "a TIFF picture"},
+        {"MM\0*", 4, "a TIFF picture"},
+        {"GIF8", 4, "a GIF picture"},
+        {"AT&TFORM", 8, "a DjVu file"},
+        {"PK\3\4", 4, "a ZIP archive"},
+        {"\x1F\x8B", 2, "a file that gzip packed"},
+        {"%!PS", 4, "a PostScript file"},
+        {"P4", 2, "a PBM picture"},
         {"\0\0\0\x0CjP", 6, "a JPEG 2000 picture"},
     };
     if (bytes->length == 0)

@@ -86,8 +86,8 @@ static void append_to_single(struct work *work, const struct picture *picture, s
     struct text reason = {NULL, 0, 0};
     if (work->has_failed)
         return;
-    bool is_written = work->is_open || open_output(&work->single, work->single_name, words->format,
-                                                   words->is_forced, &reason);
+    bool is_written =
+        work->is_open || open_output(&work->single, work->single_name, words->format, words->is_forced, &reason);
     work->is_open = true;
     is_written = is_written && add_picture(&work->single, picture, &reason);
     work->has_failed = !is_written;

@@ -58,9 +58,9 @@ static uint32_t error_of_page(struct search *search, const struct slice *slice, 
     bool is_salvage = !attempt->is_strict && attempt->document->reading.way == SALVAGE;
     hayro_jbig2_page *page = NULL;
     uint64_t left = 0;
-    uint32_t answer = is_salvage ? hayro_jbig2_page_new_salvaged(memory, search->globals, slice->bytes, length, &page)
-                                 : hayro_jbig2_page_new(memory, attempt->is_strict, search->globals, slice->bytes,
-                                                        length, &page);
+    uint32_t answer =
+        is_salvage ? hayro_jbig2_page_new_salvaged(memory, search->globals, slice->bytes, length, &page)
+                   : hayro_jbig2_page_new(memory, attempt->is_strict, search->globals, slice->bytes, length, &page);
     if (answer == HAYRO_JBIG2_OK)
         answer = hayro_jbig2_context_set_work_limit(search->context, search->work);
     if (answer == HAYRO_JBIG2_OK) {
@@ -104,7 +104,8 @@ static uint32_t make_globals(struct search *search, bool is_salvage) {
     if (slice.count > 0 && is_salvage)
         answer = hayro_jbig2_globals_new_salvaged(memory, search->work, slice.bytes, slice.length, &search->globals);
     else if (slice.count > 0)
-        answer = hayro_jbig2_globals_new_within(memory, true, search->work, slice.bytes, slice.length, &search->globals);
+        answer =
+            hayro_jbig2_globals_new_within(memory, true, search->work, slice.bytes, slice.length, &search->globals);
     free_slice(&slice);
     return answer;
 }

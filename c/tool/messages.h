@@ -15,7 +15,8 @@
 
 enum status { ALL_WHOLE = 0, NOT_DONE = 1, WRONG_WORDS = 2, INCOMPLETE = 3, OVER_LIMIT = 4 };
 
-/* The status of two things together: what wasn't done comes first, then what a limit refused, then what is incomplete. */
+/* The status of two things together: what wasn't done comes first, then what a limit refused, then what is incomplete.
+ */
 enum status worse_of(enum status one, enum status other);
 
 /* A text that grows. It begins as {NULL, 0, 0}. */

@@ -131,16 +131,24 @@ void add_coding(struct text *text, const struct segment_list *list, const struct
     case PATTERN_DICTIONARY:
         add_pattern_dictionary(text, list, segment);
         break;
-    case 4: case 6: case 7:
+    case 4:
+    case 6:
+    case 7:
         add_text_region(text, list, segment);
         break;
-    case 20: case 22: case 23:
+    case 20:
+    case 22:
+    case 23:
         add_halftone_region(text, list, segment);
         break;
-    case 36: case 38: case 39:
+    case 36:
+    case 38:
+    case 39:
         add_generic_region(text, list, segment);
         break;
-    case 40: case 42: case 43:
+    case 40:
+    case 42:
+    case 43:
         add_refinement_region(text, list, segment);
         break;
     default:

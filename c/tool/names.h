@@ -9,7 +9,8 @@
 const char *name_of_type(unsigned type);
 /* The name of a combination operator (7.4.1.5). */
 const char *name_of_operator(unsigned value);
-/* How a segment's data are coded, and what they state besides, "arithmetic, template 0". Nothing where that isn't known. */
+/* How a segment's data are coded, and what they state besides, "arithmetic, template 0". Nothing where that isn't
+ * known. */
 void add_coding(struct text *text, const struct segment_list *list, const struct segment *segment);
 
 /* The region segment information (7.4.1). */

@@ -44,8 +44,8 @@ enum status open_pdf(struct document *document, const char *password, struct tex
     *pdf = (struct pdf){.qpdf = qpdf_init()};
     qpdf_silence_errors(pdf->qpdf);
     qpdf_set_suppress_warnings(pdf->qpdf, QPDF_TRUE);
-    QPDF_ERROR_CODE code = qpdf_read_memory(pdf->qpdf, document->name, (const char *)document->bytes.at,
-                                            document->bytes.length, password);
+    QPDF_ERROR_CODE code =
+        qpdf_read_memory(pdf->qpdf, document->name, (const char *)document->bytes.at, document->bytes.length, password);
     if (code & QPDF_ERRORS)
         return refuse_pdf(document, messages);
     int pages = qpdf_get_num_pages(pdf->qpdf);
@@ -116,7 +116,8 @@ bool read_pdf_stream(struct document *document, int object, int generation, stru
         stream = stream_without_last_filter(qpdf, stream);
     else if (is_image)
         level = qpdf_dl_none;
-    bool is_read = stream != 0 && !(qpdf_oh_get_stream_data(qpdf, stream, level, &is_decoded, &data, &length) & QPDF_ERRORS);
+    bool is_read =
+        stream != 0 && !(qpdf_oh_get_stream_data(qpdf, stream, level, &is_decoded, &data, &length) & QPDF_ERRORS);
     if (is_read && level == qpdf_dl_all && !is_decoded) {
         free(data);
         is_read = false;

@@ -45,8 +45,7 @@ bool write_pbm(FILE *file, const struct picture *picture, struct text *reason) {
     (void)reason;
     for (uint32_t y = 0; y < picture->height && is_written; y += at_once) {
         uint32_t count = picture->height - y < at_once ? picture->height - y : at_once;
-        is_written = read_rows(picture, y, count, rows) &&
-                     fwrite(rows, row_size(picture), count, file) == count;
+        is_written = read_rows(picture, y, count, rows) && fwrite(rows, row_size(picture), count, file) == count;
     }
     free(rows);
     return is_written;

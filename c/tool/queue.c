@@ -67,7 +67,8 @@ static enum status check_pages(struct queue *queue, const struct document *docum
     if (document->count == 0)
         add_text(messages, "%s: no page\n", document->name);
     else if (is_full)
-        add_text(messages, "%s: a PNG file holds one page: give -o FOLDER/, --pages N, or --format tiff\n", document->name);
+        add_text(messages, "%s: a PNG file holds one page: give -o FOLDER/, --pages N, or --format tiff\n",
+                 document->name);
     status = is_full ? WRONG_WORDS : document->count == 0 ? NOT_DONE : ALL_WHOLE;
     for (size_t i = 0; i < words->range_count && document->count > 0; i++) {
         size_t last = words->ranges[i].last == SIZE_MAX ? words->ranges[i].first : words->ranges[i].last;

@@ -1,4 +1,5 @@
-/* The pages that are to be drawn, in order, and what was said of each. Threads take pages; reports come out in order. */
+/* The pages that are to be drawn, in order, and what was said of each. Threads take pages; reports come out in order.
+ */
 #ifndef HAYRO_TOOL_QUEUE_H
 #define HAYRO_TOOL_QUEUE_H
 

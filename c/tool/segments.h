@@ -38,7 +38,7 @@ struct segment_list {
     size_t size;
     struct segment *at;
     size_t count, room;
-    uint32_t error; /* what ended the list early, a number of hayro_jbig2.h, or 0 */
+    uint32_t error;      /* what ended the list early, a number of hayro_jbig2.h, or 0 */
     struct segment last; /* the segment of that error, as far as its header was read */
     enum known known;
 };

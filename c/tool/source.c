@@ -12,8 +12,8 @@ static uint32_t decode_globals(struct globals *globals, const struct reading *re
     uint32_t answer;
     globals->budget.was_refused = false;
     if (is_strict || reading->way == LENIENT)
-        answer = hayro_jbig2_globals_new_within(&globals->budget.memory, is_strict, work, bytes->at,
-                                                length, &globals->handle);
+        answer = hayro_jbig2_globals_new_within(&globals->budget.memory, is_strict, work, bytes->at, length,
+                                                &globals->handle);
     else
         answer = hayro_jbig2_globals_new_salvaged(&globals->budget.memory, work, bytes->at, length, &globals->handle);
     return precise_answer(answer, &globals->budget);

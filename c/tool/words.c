@@ -16,14 +16,14 @@ enum { MOST_JOBS = 256 };
 enum { FORCE = 256, STRICTLY, SALVAGED, PASSWORD, WORK, MEMORY, JSON };
 
 static const struct option options[] = {
-    {"output", required_argument, NULL, 'o'},  {"format", required_argument, NULL, 'f'},
-    {"pages", required_argument, NULL, 'p'},   {"globals", required_argument, NULL, 'g'},
-    {"jobs", required_argument, NULL, 'j'},    {"quiet", no_argument, NULL, 'q'},
-    {"help", no_argument, NULL, 'h'},          {"version", no_argument, NULL, 'V'},
-    {"force", no_argument, NULL, FORCE},       {"strict", no_argument, NULL, STRICTLY},
-    {"salvage", no_argument, NULL, SALVAGED},  {"password", required_argument, NULL, PASSWORD},
-    {"work", required_argument, NULL, WORK},   {"memory", required_argument, NULL, MEMORY},
-    {"json", no_argument, NULL, JSON},         {NULL, 0, NULL, 0},
+    {"output", required_argument, NULL, 'o'}, {"format", required_argument, NULL, 'f'},
+    {"pages", required_argument, NULL, 'p'},  {"globals", required_argument, NULL, 'g'},
+    {"jobs", required_argument, NULL, 'j'},   {"quiet", no_argument, NULL, 'q'},
+    {"help", no_argument, NULL, 'h'},         {"version", no_argument, NULL, 'V'},
+    {"force", no_argument, NULL, FORCE},      {"strict", no_argument, NULL, STRICTLY},
+    {"salvage", no_argument, NULL, SALVAGED}, {"password", required_argument, NULL, PASSWORD},
+    {"work", required_argument, NULL, WORK},  {"memory", required_argument, NULL, MEMORY},
+    {"json", no_argument, NULL, JSON},        {NULL, 0, NULL, 0},
 };
 
 /* A whole number of decimal digits at `*at`, which moves after it. */
@@ -202,7 +202,8 @@ static enum request check_words(struct words *words) {
         words->output = "-";
     if (!choose_format(words))
         return wrong("no format for the ending of (or give --format)", words->output);
-    bool is_terminal = !words->is_info && words->output != NULL && strcmp(words->output, "-") == 0 && isatty(STDOUT_FILENO);
+    bool is_terminal =
+        !words->is_info && words->output != NULL && strcmp(words->output, "-") == 0 && isatty(STDOUT_FILENO);
     return is_terminal ? wrong("no picture is written to a terminal: give -o FILE", NULL) : GO_ON;
 }
 

@@ -46,7 +46,8 @@ class Info(Case):
         states = {}
         for document in documents:
             for page in document["pages"]:
-                states[document["file"].rsplit("/", 1)[1][:-4], page["page"] - 1] = page["state"], bool(document["faults"])
+                name = document["file"].rsplit("/", 1)[1][:-4]
+                states[name, page["page"] - 1] = page["state"], bool(document["faults"])
         for entry in ENTRIES:
             state, has_faults = states.get((entry.name, entry.page), ("refused", True))
             if entry.strict == PICTURE and not entry.is_embedded:
@@ -56,9 +57,11 @@ class Info(Case):
 
     def test_the_example(self):
         [document] = self.listed(EXAMPLE)
-        self.assertEqual((document["kind"], document["organisation"], document["stated_pages"]), ("file", "sequential", 3))
+        known = document["kind"], document["organisation"], document["stated_pages"]
+        self.assertEqual(known, ("file", "sequential", 3))
         first = document["pages"][0]
-        self.assertEqual((first["width"], first["height"], first["state"], first["combination"]), (64, 56, "whole", "or"))
+        known = first["width"], first["height"], first["state"], first["combination"]
+        self.assertEqual(known, (64, 56, "whole", "or"))
         text = document["segments"][3]
         self.assertEqual(text["name"], "immediate lossless text region")
         self.assertEqual(text["refers_to"], [0, 2])
@@ -75,7 +78,8 @@ class Info(Case):
         scan = self.made(data)
         self.assertEqual(self.listed(scan)[0]["pages"][0]["x_resolution"], 11811)
         self.assertIn(b"page 1: whole, 64 by 56 pixels, 300.0 dpi, white", self.run_here("info", scan).output)
-        striped = next(entry.name for entry in ENTRIES if "stripes" in "".join(entry.features) and entry.strict == PICTURE)
+        drawn = [entry for entry in ENTRIES if entry.strict == PICTURE]
+        striped = next(entry.name for entry in drawn if "stripes" in "".join(entry.features))
         self.assertIn(b"striped (at most", self.run_here("info", SUITE / f"{striped}.jb2").output)
 
     def test_faults_have_segment_and_byte(self):
@@ -87,9 +91,9 @@ class Info(Case):
         known = fault["segment"], fault["byte"], fault["error"], fault["text"]
         self.assertEqual(known, (11, place, 26, "invalid adaptive template pixel location"))
         table = self.run_here("info", scan).output.decode().splitlines()
-        row = next(index for index, line in enumerate(table) if line.startswith("        11  immediate lossless generic"))
-        self.assertEqual(table[row + 1].strip(), f"^ FAULT at byte {place}: segment 11 (immediate lossless generic region): "
-                                                 "invalid adaptive template pixel location")
+        row = next(row for row, line in enumerate(table) if line.startswith("        11  immediate lossless generic"))
+        what = "segment 11 (immediate lossless generic region): invalid adaptive template pixel location"
+        self.assertEqual(table[row + 1].strip(), f"^ FAULT at byte {place}: {what}")
 
     def test_a_file_that_is_refused_is_listed(self):
         place = BOOK.index(bytes.fromhex("0000000b 27 00 02 00000023"))
@@ -97,7 +101,8 @@ class Info(Case):
         [document] = self.listed(scan, status=NOT_DONE)
         self.assertEqual(len(document["segments"]), 11)
         [fault] = document["faults"]
-        self.assertEqual((fault["segment"], fault["byte"], fault["text"]), (11, place, "invalid referred-to segment count"))
+        known = fault["segment"], fault["byte"], fault["text"]
+        self.assertEqual(known, (11, place, "invalid referred-to segment count"))
         [document] = self.listed(scan, "--salvage", status=INCOMPLETE)
         self.assertEqual([page["state"] for page in document["pages"]], ["whole", "incomplete"])
 

@@ -51,7 +51,8 @@ def strips_of_tiff(data: bytes) -> list[tuple[int, int, bytes]]:
         for number in range(count):
             at = place + 2 + 12 * number
             tag, kind, _ = struct.unpack(order + "HHI", data[at : at + 8])
-            [fields[tag]] = struct.unpack(order + ("H" if kind == 3 else "I"), data[at + 8 : at + (10 if kind == 3 else 12)])
+            form, size = ("H", 2) if kind == 3 else ("I", 4)
+            [fields[tag]] = struct.unpack(order + form, data[at + 8 : at + 8 + size])
         assert (fields[259], fields[262], fields.get(266, 1)) == (4, 0, 1), fields
         pages.append((fields[256], fields[257], data[fields[273] : fields[273] + fields[279]]))
         [place] = struct.unpack(order + "I", data[place + 2 + 12 * count : place + 6 + 12 * count])

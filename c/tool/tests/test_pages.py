@@ -6,7 +6,18 @@ import random
 import unittest
 
 from support import (
-    BOOK, EXAMPLE, INCOMPLETE, NOT_DONE, OVER_LIMIT, SANITIZED, SUITE, WHOLE, Case, decoded, picture_of_png, pictures_of,
+    BOOK,
+    EXAMPLE,
+    INCOMPLETE,
+    NOT_DONE,
+    OVER_LIMIT,
+    SANITIZED,
+    SUITE,
+    WHOLE,
+    Case,
+    decoded,
+    picture_of_png,
+    pictures_of,
     run,
 )
 
@@ -34,7 +45,8 @@ def ends_of_segments(data):
 def lenient_pictures(name):
     """The pictures that the manifest has of a file's pages, None for those that are refused."""
     entries = [entry for entry in ENTRIES if entry.name == name]
-    return {entry.page: decoded(SUITE / f"{name}.jb2", entry.page) if entry.lenient == PICTURE else None for entry in entries}
+    path = SUITE / f"{name}.jb2"
+    return {entry.page: decoded(path, entry.page) if entry.lenient == PICTURE else None for entry in entries}
 
 
 class Suite(Case):
@@ -71,8 +83,8 @@ class Suite(Case):
                     self.assertEqual(pictures_of(ended.output), [decoded(whole, 0)])
 
     def test_each_cut(self):
-        """A file that is cut off anywhere is whole, or a message and a status say that it isn't. So is an embedded page, but
-        where it ends between two segments: nothing says how many it has."""
+        """A file that is cut off anywhere is whole, or a message and a status say that it isn't. So is an embedded
+        page, but where it ends between two segments: nothing says how many it has."""
         meant = [decoded(EXAMPLE, index) for index in range(3)]
         page = embedded_page(BOOK, 1)
         stream = page.shared + page.stream
@@ -101,7 +113,8 @@ class Suite(Case):
                 self.assertEqual(pictures_of(ended.output), [decoded(EXAMPLE, 1)])
 
     def test_hostile_files(self):
-        """Damaged files and streams, by the build with sanitizers: it ends with a status, and a message where that isn't 0."""
+        """Damaged files and streams, by the build with sanitizers: each run ends with a status, and a message unless it
+        is 0."""
         chance = random.Random(7)
         samples = [chance.choice(ENTRIES) for _ in range(200)]
         trials = []
@@ -128,8 +141,8 @@ class Faults(Case):
         """The segment that was passed over, with its name and error, and status 3; strict reading refuses the page."""
         scan = self.made(BOOK.replace(bytes.fromhex("000000360000002c000000040000000b00 08 03FF"),
                                       bytes.fromhex("000000360000002c000000040000000b00 08 0300")))
-        text = "page 2: incomplete: segment 11 (immediate lossless generic region): invalid adaptive template pixel location"
-        self.assert_ends(self.run_here(scan), INCOMPLETE, f"scan.jb2: {text}")
+        text = "segment 11 (immediate lossless generic region): invalid adaptive template pixel location"
+        self.assert_ends(self.run_here(scan), INCOMPLETE, f"scan.jb2: page 2: incomplete: {text}")
         self.assertEqual(len(self.files()), 4)
         shown = picture_of_png((self.room / "scan-2.png").read_bytes())
         self.assertEqual(shown, decoded(scan, 1))
@@ -194,7 +207,8 @@ class Limits(Case):
     # A page of 1 by 65535 with a region of 65535 by 65535, which takes hours.
     WIDE = bytes.fromhex(
         "974A42320D0A1A0A 01 00000001 00000000 30 00 01 00000013 00000001 0000FFFF" + "00" * 11
-        + "00000001 26 00 01 0000001A 0000FFFF 0000FFFF 000000000000000000 00 02FFFDFF02FEFEFE" + "00000002 31 00 01 00000000"
+        + "00000001 26 00 01 0000001A 0000FFFF 0000FFFF 000000000000000000 00 02FFFDFF02FEFEFE"
+        + "00000002 31 00 01 00000000"
     )
 
     def test_work(self):
@@ -212,11 +226,13 @@ class Limits(Case):
         text = "refused by the limit of memory (--memory)"
         self.assert_ends(self.run_here(EXAMPLE, "--memory", "1K", "-o", "a/"), OVER_LIMIT, text)
         self.assert_ends(self.run_here(EXAMPLE, "--memory", "1M", "-o", "a/"), WHOLE)
-        blank = self.made(self.WIDE[:24] + b"\0\0\xff\xff\0\0\xff\xff" + self.WIDE[32:43] + self.WIDE[-11:], "blank.jb2")
+        blank = self.WIDE[:24] + b"\0\0\xff\xff\0\0\xff\xff" + self.WIDE[32:43] + self.WIDE[-11:]
+        blank = self.made(blank, "blank.jb2")
         self.assert_ends(self.run_here(blank, "--memory", "100m"), OVER_LIMIT, f"blank.jb2: page 1: {text}")
         statuses = set()
         for size in (*range(200, 100000, 7000), 1 << 20):
-            first, second = (self.run_here(EXAMPLE, "--memory", size, "-j", jobs, "-o", "-", "-f", "pbm") for jobs in (1, 3))
+            words = [EXAMPLE, "--memory", size, "-o", "-", "-f", "pbm"]
+            first, second = (self.run_here(*words, "-j", jobs) for jobs in (1, 3))
             self.assertEqual(first, second)
             self.assertEqual(first.status == WHOLE, first.errors == "")
             statuses.add(first.status)

@@ -24,7 +24,8 @@ def needs(program):
 
 def one_image(words: str, stream: bytes, shared: bytes, filters: str, extra: str = "") -> bytes:
     """A PDF file of one page, whose image has these filters and words."""
-    image = f"/Type /XObject /Subtype /Image /Width 64 /Height 56 /ColorSpace /DeviceGray /BitsPerComponent 1 {filters} {words}"
+    image = "/Type /XObject /Subtype /Image /Width 64 /Height 56 /ColorSpace /DeviceGray /BitsPerComponent 1"
+    image += f" {filters} {words}"
     return joined([
         b"<< /Type /Catalog /Pages 2 0 R >>",
         b"<< /Type /Pages /Kids [3 0 R] /Count 1 /Resources << /XObject << /Image 5 0 R >> >> >>",
@@ -86,7 +87,8 @@ class Pdf(Case):
                 is_locked = "secret" in words
                 ended = self.run_here("made.pdf", "-o", "gone/")
                 if is_locked:
-                    self.assert_ends(ended, NOT_DONE, "made.pdf: the PDF file is encrypted: give its password by --password")
+                    text = "made.pdf: the PDF file is encrypted: give its password by --password"
+                    self.assert_ends(ended, NOT_DONE, text)
                     self.assert_ends(self.run_here("made.pdf", "--password", "guess"), NOT_DONE, "encrypted")
                 password = ["--password", "secret"] if is_locked else []
                 self.assertEqual(self.pages_of("made.pdf", *password), self.meant)
@@ -94,24 +96,26 @@ class Pdf(Case):
     @needs("pdftocairo")
     def test_written_by_cairo(self):
         self.made(pdf_of(self.images), "scan.pdf")
-        subprocess.run(["pdftocairo", "-pdf", "scan.pdf", "made.pdf"], cwd=self.room, check=True, stderr=subprocess.DEVNULL)
+        words = ["pdftocairo", "-pdf", "scan.pdf", "made.pdf"]
+        subprocess.run(words, cwd=self.room, check=True, stderr=subprocess.DEVNULL)
         self.assertIn(b"JBIG2Decode", (self.room / "made.pdf").read_bytes())
         self.assertEqual(self.pages_of("made.pdf"), self.meant)
 
     def test_filters_before(self):
         image = self.images[1]
-        for data, filters in (
-            (zlib.compress(image.stream), "/Filter [/FlateDecode /JBIG2Decode] /DecodeParms [null << /JBIG2Globals 6 0 R >>]"),
-            (image.stream.hex().encode() + b">",
-             "/Filter [/ASCIIHexDecode /JBIG2Decode] /DecodeParms [null << /JBIG2Globals 6 0 R >>]"),
-            (zlib.compress(image.stream).hex().encode() + b">",
-             "/Filter [/AHx /FlateDecode /JBIG2Decode] /DecodeParms [null null << /JBIG2Globals 6 0 R >>]"),
-            (image.stream, "/Filter [/JBIG2Decode] /DecodeParms [<< /JBIG2Globals 6 0 R >>]"),
+        packed = zlib.compress(image.stream)
+        for data, filters, before in (
+            (packed, "/FlateDecode", "null"),
+            (image.stream.hex().encode() + b">", "/ASCIIHexDecode", "null"),
+            (packed.hex().encode() + b">", "/AHx /FlateDecode", "null null"),
+            (image.stream, "", ""),
         ):
             with self.subTest(filters=filters):
-                self.made(one_image("", data, image.shared, filters), "scan.pdf")
+                words = f"/Filter [{filters} /JBIG2Decode] /DecodeParms [{before} << /JBIG2Globals 6 0 R >>]"
+                self.made(one_image("", data, image.shared, words), "scan.pdf")
                 self.assertEqual(self.pages_of("scan.pdf"), [self.meant[1]])
-        for filters, reason in ("[/DCTDecode /JBIG2Decode]", ""), ("[/Crypto /JBIG2Decode]", "its filters can't be undone"):
+        unknown = "[/Crypto /JBIG2Decode]", "its filters can't be undone"
+        for filters, reason in ("[/DCTDecode /JBIG2Decode]", ""), unknown:
             self.made(one_image("", image.stream, b"", f"/Filter {filters}"), "scan.pdf")
             self.assert_ends(self.run_here("scan.pdf"), NOT_DONE, f"scan.pdf: page 1: can't be read: {reason}")
 
@@ -119,7 +123,8 @@ class Pdf(Case):
         image = dataclasses.replace(self.images[1])
         parameters = "/Filter /JBIG2Decode /DecodeParms << /JBIG2Globals 6 0 R >>"
         self.made(one_image("/Decode [1 0] /ImageMask true", image.stream, image.shared, parameters), "scan.pdf")
-        texts = ["page 1: note: the PDF file shows this image inverted (/Decode)", "page 1: note: in the PDF file this image is a mask"]
+        texts = ["page 1: note: the PDF file shows this image inverted (/Decode)"]
+        texts += ["page 1: note: in the PDF file this image is a mask"]
         self.assertEqual(self.pages_of("scan.pdf", texts=texts), [self.meant[1]])
         self.assertEqual(self.pages_of("scan.pdf", "--quiet"), [self.meant[1]])
         listed = self.run_here("info", "scan.pdf").output.decode()
@@ -131,7 +136,8 @@ class Pdf(Case):
         words += " /DecodeParms << /JBIG2Globals 6 0 R >>"
         resources = "/Resources << /XObject << /A 5 0 R /B 7 0 R >> >>"
         form = "/Type /XObject /Subtype /Form /BBox [0 0 1 1] /Resources << /XObject << /C 8 0 R /D 5 0 R >> >>"
-        masked = f"/Type /XObject /Subtype /Image /Width 1 /Height 1 /ColorSpace /DeviceGray /BitsPerComponent 8 /Mask 9 0 R"
+        masked = "/Type /XObject /Subtype /Image /Width 1 /Height 1 /ColorSpace /DeviceGray /BitsPerComponent 8"
+        masked += " /Mask 9 0 R"
         self.made(joined([
             b"<< /Type /Catalog /Pages 2 0 R >>",
             b"<< /Type /Pages /Kids [3 0 R] /Count 1 >>",
@@ -149,15 +155,18 @@ class Pdf(Case):
 
     def test_damage(self):
         first = self.images[1]
-        images = [dataclasses.replace(first, stream=first.stream[:-9]), first, dataclasses.replace(first, shared=first.shared[:-9]),
-                  dataclasses.replace(first, shared=b"\0\0\0\0\0\0\1\0\0\0\1" + b"x")]
-        self.made(pdf_of(images), "scan.pdf")
+        cut = dataclasses.replace(first, stream=first.stream[:-9])
+        cut_globals = dataclasses.replace(first, shared=first.shared[:-9])
+        bad_globals = dataclasses.replace(first, shared=b"\0\0\0\0\0\0\1\0\0\0\1" + b"x")
+        self.made(pdf_of([cut, first, cut_globals, bad_globals]), "scan.pdf")
         ended = self.run_here("scan.pdf", "-o", "out/")
         self.assertEqual(ended.status, NOT_DONE)
-        self.assertRegex(ended.errors, r"scan.pdf: page 1: incomplete: segment \d+ \(immediate lossless halftone region\): "
-                                       r"unexpected end of input: cut off, \d+ of its \d+ bytes are there")
-        self.assertRegex(ended.errors, r"scan.pdf: page 3: incomplete: globals: segment \d+ \(.*\): unexpected end of input: cut off")
-        self.assertRegex(ended.errors, r"scan.pdf: page 4: globals: segment 0 \(symbol dictionary\): unexpected end of input")
+        for text in (
+            r"page 1: incomplete: segment \d+ \(immediate lossless halftone region\): unexpected end of input: cut off,",
+            r"page 3: incomplete: globals: segment \d+ \(.*\): unexpected end of input: cut off",
+            r"page 4: globals: segment 0 \(symbol dictionary\): unexpected end of input",
+        ):
+            self.assertRegex(ended.errors, f"scan.pdf: {text}")
         self.assertNotIn("page 2", ended.errors)
         ended = self.run_here("scan.pdf", "-o", "out/", "--salvage", "--force")
         self.assert_ends(ended, INCOMPLETE, "page 4: incomplete: globals: segment 0 (symbol dictionary)")
