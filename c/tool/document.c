@@ -72,7 +72,7 @@ void close_document(struct document *document) {
             close_budget(&globals->budget);
         free_segments(&globals->list);
         free_bytes(&globals->bytes);
-        free_text(&globals->unreadable);
+        free_text(&globals->reason);
     }
     free(document->globals);
     free(document->images);

@@ -46,7 +46,7 @@ struct globals {
     uint32_t answer; /* why there is no handle */
     uint32_t strict_answer;
     hayro_jbig2_left_out left_out;
-    struct text unreadable; /* why a PDF file has no bytes of them */
+    struct text reason; /* why a PDF file has no bytes of them, or is damaged there */
 };
 
 /* A file that is read. Each thread takes one of its own. */
@@ -75,6 +75,7 @@ struct document {
     hayro_jbig2_left_out left_out;
     struct reader *strict_readers, *other_readers; /* those that no thread uses */
     /* Of a PDF file: */
+    bool is_damaged;
     struct pdf *pdf;
 };
 

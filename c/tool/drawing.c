@@ -92,10 +92,12 @@ static uint32_t try_to_draw(const struct attempt *attempt, struct drawn *drawn, 
 
 static void add_faults_of_globals(const struct globals *globals, struct faults *faults) {
     struct faults own = {.count = 0};
-    if (globals == NULL || globals->strict_answer == HAYRO_JBIG2_OK)
+    if (globals == NULL)
         return;
+    if (globals->reason.length > 0)
+        add_fault(&own, fault_of_pdf(DAMAGED_PDF, &globals->reason));
     add_left_out(&own, &globals->list, &globals->left_out);
-    if (own.count == 0)
+    if (own.count == 0 && globals->strict_answer != HAYRO_JBIG2_OK)
         add_fault(&own, fault_of_list(&globals->list, globals->strict_answer));
     for (size_t i = 0; i < own.count; i++) {
         own.at[i].is_of_globals = true;
@@ -178,6 +180,8 @@ void draw_page(struct painter *painter, struct document *document, size_t index,
         list_segments(&list, source.stream.at, source.stream.length, 0, false);
         attempt.list = &list;
     }
+    if (source.is_damaged)
+        add_fault(&drawn->faults, fault);
     draw_attempt(&attempt, drawn);
     free_segments(&list);
     close_source(&source);

@@ -30,12 +30,14 @@ void draw_page(struct painter *painter, struct document *document, size_t index,
 /* Where a page comes from: its stream and its globals. A page of a file has neither. */
 struct source {
     struct bytes stream;
-    bool is_own; /* to be freed */
+    bool is_own;     /* to be freed */
+    bool is_damaged; /* as the fault of open_source says */
     struct globals *globals;
     hayro_jbig2_globals *handle;
 };
 
-/* False with the fault where there is no stream, or no globals that the page needs. */
+/* False with the fault where there is no stream, or no globals that the page needs. A damaged PDF file has a fault too.
+ */
 bool open_source(struct document *document, size_t index, struct source *source, struct fault *fault);
 void close_source(struct source *source);
 

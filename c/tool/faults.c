@@ -27,6 +27,8 @@ const char *text_of_answer(uint32_t answer) {
         return "refused by the limit of memory (--memory)";
     case CANT_BE_READ:
         return "can't be read";
+    case DAMAGED_PDF:
+        return "the PDF file is damaged";
     default:
         return hayro_jbig2_error_text(answer);
     }
@@ -35,6 +37,12 @@ const char *text_of_answer(uint32_t answer) {
 void add_fault(struct faults *faults, struct fault fault) {
     if (faults->count < MOST_FAULTS)
         faults->at[faults->count++] = fault;
+}
+
+struct fault fault_of_pdf(uint32_t error, const struct text *reason) {
+    struct fault fault = {.error = error};
+    snprintf(fault.note, sizeof fault.note, "%s", reason->length > 0 ? reason->at : "");
+    return fault;
 }
 
 static struct fault fault_at(const struct segment *segment, uint32_t error) {

@@ -5,7 +5,7 @@
 #include "document.h"
 
 /* Answers besides those of hayro_jbig2.h. */
-enum { OVER_WORK_LIMIT = 1000, OVER_MEMORY_LIMIT, CANT_BE_READ };
+enum { OVER_WORK_LIMIT = 1000, OVER_MEMORY_LIMIT, CANT_BE_READ, DAMAGED_PDF };
 
 /* An answer of a call that took memory from a budget: which of three ways memory ran out. */
 uint32_t precise_answer(uint32_t answer, const struct budget *budget);
@@ -42,6 +42,9 @@ void add_left_out(struct faults *faults, const struct segment_list *list, const 
 void add_fault_text(struct text *text, const struct fault *fault);
 /* A line for each fault, after a place such as "scan.jb2: page 2: ". The last has the hint. */
 void add_fault_lines(struct text *text, const char *place, const struct faults *faults, const char *hint);
+
+/* A fault of a PDF file or of an object in it. */
+struct fault fault_of_pdf(uint32_t error, const struct text *reason);
 
 /* What can be done about a page or a file that is refused, or "". */
 const char *hint_after(uint32_t answer, enum way way);

@@ -39,6 +39,15 @@ static void count_images(struct document *document) {
     }
 }
 
+/* Adds the first warning that came since, and forgets all. */
+static void add_warning(qpdf_data qpdf, struct text *text) {
+    for (bool is_first = true; qpdf_more_warnings(qpdf); is_first = false) {
+        qpdf_error warning = qpdf_next_warning(qpdf);
+        if (is_first)
+            add_text(text, "%s", qpdf_get_error_message_detail(qpdf, warning));
+    }
+}
+
 enum status open_pdf(struct document *document, const char *password, struct text *messages) {
     struct pdf *pdf = document->pdf = room_for(sizeof *pdf);
     *pdf = (struct pdf){.qpdf = qpdf_init()};
@@ -55,8 +64,15 @@ enum status open_pdf(struct document *document, const char *password, struct tex
     for (int page = 0; page < pages; page++)
         find_images_of_page(document, (size_t)page);
     count_images(document);
+    /* What qpdf mended may have lost pages. */
+    struct text warning = {NULL, 0, 0};
+    add_warning(pdf->qpdf, &warning);
+    document->is_damaged = warning.length > 0;
+    if (document->is_damaged)
+        add_text(messages, "%s: the PDF file is damaged: %s\n", document->name, warning.at);
+    free_text(&warning);
     if (document->count > 0)
-        return ALL_WHOLE;
+        return document->is_damaged ? INCOMPLETE : ALL_WHOLE;
     add_text(messages, "%s: the PDF file has no JBIG2 image\n", document->name);
     return NOT_DONE;
 }
@@ -122,11 +138,12 @@ bool read_pdf_stream(struct document *document, int object, int generation, stru
         free(data);
         is_read = false;
     }
+    add_warning(qpdf, reason);
     if (is_read)
         *bytes = (struct bytes){data, length};
-    else if (qpdf_has_error(qpdf))
+    else if (reason->length == 0 && qpdf_has_error(qpdf))
         add_text(reason, "%s", qpdf_get_error_message_detail(qpdf, qpdf_get_error(qpdf)));
-    else
+    else if (reason->length == 0)
         add_text(reason, "its filters can't be undone");
     qpdf_oh_release_all(qpdf);
     return is_read;

@@ -66,10 +66,12 @@ static enum status check_pages(struct queue *queue, const struct document *docum
     enum status status = ALL_WHOLE;
     if (document->count == 0)
         add_text(messages, "%s: no page\n", document->name);
+    else if (wanted == 0 && words->ranges[0].first <= document->pages)
+        add_text(messages, "%s: no JBIG2 image on these pages\n", document->name);
     else if (is_full)
         add_text(messages, "%s: a PNG file holds one page: give -o FOLDER/, --pages N, or --format tiff\n",
                  document->name);
-    status = is_full ? WRONG_WORDS : document->count == 0 ? NOT_DONE : ALL_WHOLE;
+    status = is_full ? WRONG_WORDS : wanted == 0 ? NOT_DONE : ALL_WHOLE;
     for (size_t i = 0; i < words->range_count && document->count > 0; i++) {
         size_t last = words->ranges[i].last == SIZE_MAX ? words->ranges[i].first : words->ranges[i].last;
         if (last <= document->pages)

@@ -3,8 +3,6 @@
 #include "drawing.h"
 #include "pdf.h"
 
-#include <stdio.h>
-
 static uint32_t decode_globals(struct globals *globals, const struct reading *reading, bool is_strict) {
     uint64_t work = work_for(reading, globals->pixels);
     const struct bytes *bytes = &globals->bytes;
@@ -35,8 +33,8 @@ static void read_globals(struct document *document, struct globals *globals) {
         return;
     globals->is_read = true;
     open_budget(&globals->budget, document->reading.memory);
-    bool has_bytes = document->kind != KIND_PDF || read_pdf_stream(document, globals->object, globals->generation,
-                                                                   &globals->bytes, &globals->unreadable);
+    bool has_bytes = document->kind != KIND_PDF ||
+                     read_pdf_stream(document, globals->object, globals->generation, &globals->bytes, &globals->reason);
     if (!has_bytes) {
         globals->answer = globals->strict_answer = CANT_BE_READ;
         return;
@@ -55,9 +53,9 @@ static struct fault fault_of_globals(const struct globals *globals, uint32_t ans
     bool is_at_segment = globals->left_out.segments > 0 && globals->left_out.error == answer;
     struct fault fault = is_at_segment ? fault_of_number(&globals->list, globals->left_out.segment, answer)
                                        : fault_of_list(&globals->list, answer);
+    if (globals->answer == CANT_BE_READ)
+        fault = fault_of_pdf(CANT_BE_READ, &globals->reason);
     fault.is_of_globals = true;
-    if (globals->unreadable.length > 0)
-        snprintf(fault.note, sizeof fault.note, "%s", globals->unreadable.at);
     return fault;
 }
 
@@ -84,10 +82,9 @@ static bool read_stream(struct document *document, size_t index, struct source *
     const struct image *image = &document->images[index];
     struct text reason = {NULL, 0, 0};
     source->is_own = read_pdf_stream(document, image->object, image->generation, &source->stream, &reason);
-    if (!source->is_own) {
-        *fault = (struct fault){.error = CANT_BE_READ};
-        snprintf(fault->note, sizeof fault->note, "%s", reason.at);
-    }
+    source->is_damaged = source->is_own && reason.length > 0;
+    if (reason.length > 0)
+        *fault = fault_of_pdf(source->is_own ? DAMAGED_PDF : CANT_BE_READ, &reason);
     free_text(&reason);
     return source->is_own;
 }

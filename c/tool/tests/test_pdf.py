@@ -2,6 +2,7 @@
 from __future__ import annotations
 
 import dataclasses
+import re
 import shutil
 import subprocess
 import unittest
@@ -170,6 +171,24 @@ class Pdf(Case):
         self.assertNotIn("page 2", ended.errors)
         ended = self.run_here("scan.pdf", "-o", "out/", "--salvage", "--force")
         self.assert_ends(ended, INCOMPLETE, "page 4: incomplete: globals: segment 0 (symbol dictionary)")
+
+    def test_what_qpdf_mends_is_reported(self):
+        """Pages of a damaged PDF file may be lost, so it is incomplete, though what is found is drawn."""
+        data = pdf_of(self.images)
+        self.made(re.sub(rb"startxref\n\d+", b"startxref\n1", data), "scan.pdf")
+        self.assertEqual(self.pages_of("scan.pdf", status=INCOMPLETE, texts=["the PDF file is damaged: "]), self.meant)
+        length = len(self.images[1].stream)
+        self.made(data.replace(b"/Length %d >>" % length, b"/Length %d >>" % (length + 3), 1), "scan.pdf")
+        texts = ["scan.pdf: the PDF file is damaged: expected endstream"]
+        self.assertEqual(self.pages_of("scan.pdf", status=INCOMPLETE, texts=texts), self.meant)
+
+    def test_a_page_without_an_image(self):
+        data = pdf_of(self.images[:2])
+        second = max(map(int, re.findall(rb"/Image (\d+) 0 R", data)))
+        self.made(data.replace(b"/Image %d 0 R" % second, b"/Other 9 0 R  "[: len(b"/Image %d 0 R" % second)]), "scan.pdf")
+        ended = self.run_here("scan.pdf", "-p", "2")
+        self.assert_ends(ended, NOT_DONE, "scan.pdf: no JBIG2 image on these pages")
+        self.assert_ends(self.run_here("scan.pdf", "-p", "3"), NOT_DONE, "scan.pdf: no page 3, the last is 2")
 
     def test_without_images(self):
         self.made(pdf_of([]), "none.pdf")
