@@ -20,16 +20,22 @@ struct work {
     bool lacks_pages; /* that were refused */
 };
 
-static void add_notes(struct text *messages, const struct document *document, size_t index) {
+static void add_notes(struct text *messages, const struct document *document, size_t index, const struct drawn *drawn) {
     const struct image *image = &document->images[index];
-    static const char inverted[] = "note: the PDF file shows this image inverted (/Decode)\n";
-    static const char mask[] = "note: in the PDF file this image is a mask (/ImageMask)\n";
-    if (image->is_inverted)
+    if (image->is_inverted) {
         add_place(messages, document, index);
-    add_text(messages, "%s", image->is_inverted ? inverted : "");
-    if (image->is_mask)
+        add_text(messages, "note: the PDF file shows this image inverted (/Decode)\n");
+    }
+    if (image->is_mask) {
         add_place(messages, document, index);
-    add_text(messages, "%s", image->is_mask ? mask : "");
+        add_text(messages, "note: in the PDF file this image is a mask (/ImageMask)\n");
+    }
+    if (document->kind == KIND_PDF && (image->width != drawn->width || image->height != drawn->height)) {
+        add_place(messages, document, index);
+        add_text(messages, "note: it has %lu by %lu pixels, and %lu by %lu by the PDF file\n",
+                 (unsigned long)drawn->width, (unsigned long)drawn->height, (unsigned long)image->width,
+                 (unsigned long)image->height);
+    }
 }
 
 static void describe(const struct words *words, const struct task *task, const struct drawn *drawn,
@@ -45,8 +51,8 @@ static void describe(const struct words *words, const struct task *task, const s
                            : "";
     add_fault_lines(&report->messages, place.at, &drawn->faults, hint);
     free_text(&place);
-    if (!words->is_quiet)
-        add_notes(&report->messages, document, task->index);
+    if (!words->is_quiet && (drawn->status == ALL_WHOLE || drawn->status == INCOMPLETE))
+        add_notes(&report->messages, document, task->index, drawn);
     report->status = drawn->status;
 }
 

@@ -4,7 +4,7 @@ from __future__ import annotations
 import json
 import unittest
 
-from support import BOOK, EXAMPLE, INCOMPLETE, NOT_DONE, SUITE, WHOLE, Case
+from support import BOOK, EXAMPLE, HAS_PDF, INCOMPLETE, NOT_DONE, SUITE, WHOLE, Case
 
 from conformance.runner.embedding import embedded_page
 from conformance.runner.manifest import PICTURE, read_manifest
@@ -106,11 +106,10 @@ class Info(Case):
         [document] = self.listed(scan, "--salvage", status=INCOMPLETE)
         self.assertEqual([page["state"] for page in document["pages"]], ["whole", "incomplete"])
 
+    @unittest.skipUnless(HAS_PDF, "libqpdf is not here")
     def test_a_pdf_file(self):
         images = [image_of(embedded_page(BOOK, index)) for index in (1, 1, 2)]
         scan = self.made(pdf_of(images), "scan.pdf")
-        if b"PDF: not here" in self.run_here("-V").output:
-            self.skipTest("libqpdf is not here")
         [document] = self.listed(scan)
         self.assertEqual((document["kind"], document["pdf_pages"], len(document["globals"])), ("pdf", 3, 2))
         self.assertEqual([len(page["segments"]) for page in document["pages"]], [4, 4, 2])

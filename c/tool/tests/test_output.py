@@ -10,7 +10,7 @@ import subprocess
 import time
 import unittest
 
-from support import BOOK, EXAMPLE, NOT_DONE, TOOL, WHOLE, Case, decoded, picture_of_png, pictures_of
+from support import BOOK, EXAMPLE, HAS_TIFF, NOT_DONE, TOOL, WHOLE, Case, decoded, picture_of_png, pictures_of
 
 MEANT = [decoded(EXAMPLE, index) for index in range(3)]
 NOBODY = 65534
@@ -76,8 +76,8 @@ class Output(Case):
         self.assert_ends(self.run_here("scan.jb2", "-f", "pbm", "-o", "new/"), WHOLE)
         self.assertEqual(pictures_of((self.room / "new/scan-2.pbm").read_bytes()), [MEANT[1]])
         (self.room / "old").mkdir()
-        self.assert_ends(self.run_here("scan.jb2", "-o", "old", "-f", "tiff", "-p", "3"), WHOLE)
-        self.assertIn("old/scan-3.tiff", self.files())
+        self.assert_ends(self.run_here("scan.jb2", "-o", "old", "-f", "pbm", "-p", "3"), WHOLE)
+        self.assertIn("old/scan-3.pbm", self.files())
         self.assert_ends(self.run_here("scan.jb2", "-p3", "-o", "third.png"), WHOLE)
         self.assertEqual(picture_of_png((self.room / "third.png").read_bytes()), MEANT[2])
         one = self.made(BOOK[:12] + b"\1" + BOOK[13:400], "one.jb2")
@@ -125,6 +125,9 @@ class Output(Case):
     def test_pages_in_one_file(self):
         self.assert_ends(self.run_here(EXAMPLE, "-o", "all.pbm"), WHOLE)
         self.assertEqual(pictures_of((self.room / "all.pbm").read_bytes()), MEANT)
+
+    @unittest.skipUnless(HAS_TIFF, "libtiff is not here")
+    def test_pages_in_a_tiff_file(self):
         self.assert_ends(self.run_here(EXAMPLE, "-o", "all.tif"), WHOLE)
         piped = self.run_here(EXAMPLE, "-o", "-", "-f", "tiff")
         self.assertEqual(piped.output, (self.room / "all.tif").read_bytes())
@@ -134,7 +137,7 @@ class Output(Case):
             self.assertEqual(pictures_of(ended.output), [meant])
 
     def test_a_full_disk(self):
-        for form in "png", "pbm", "tiff":
+        for form in "png", "pbm", *(["tiff"] if HAS_TIFF else []):
             with self.subTest(form=form), open("/dev/full", "wb") as full:
                 words = [EXAMPLE, "-p", "1", "-f", form]
                 ended = self.run_here(*words, "-o", "-", stdout=full)
@@ -175,7 +178,7 @@ class Output(Case):
 
     def test_a_file_that_lacks_pages_is_not_written(self):
         damaged = self.made(BOOK[:36] + b"\xff" * 4 + BOOK[40:])
-        ended = self.run_here(damaged, "-o", "all.tif")
+        ended = self.run_here(damaged, "-o", "all.pbm")
         self.assertEqual((ended.status, self.files()), (NOT_DONE, ["scan.jb2"]), ended.errors)
 
     def test_a_signal_leaves_no_part(self):

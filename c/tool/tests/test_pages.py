@@ -8,6 +8,7 @@ import unittest
 from support import (
     BOOK,
     EXAMPLE,
+    HAS_TIFF,
     INCOMPLETE,
     NOT_DONE,
     OVER_LIMIT,
@@ -194,7 +195,8 @@ class Faults(Case):
 class Jobs(Case):
     def test_the_same_for_any_number(self):
         names = [SUITE / f"{name}.jb2" for name in FILES[::40]]
-        runs = [self.run_here(*names, EXAMPLE, "-j", jobs, "-o", "-", "-f", "tiff") for jobs in (1, 2, 4, 9, 1000)]
+        words = [*names, EXAMPLE, "-o", "-", "-f", "tiff" if HAS_TIFF else "pbm"]
+        runs = [self.run_here(*words, "-j", jobs) for jobs in (1, 2, 4, 9, 1000)]
         for ended in runs[1:]:
             self.assertEqual(ended, runs[0])
         for jobs in 1, 4:

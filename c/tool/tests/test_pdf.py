@@ -8,15 +8,13 @@ import subprocess
 import unittest
 import zlib
 
-from support import BOOK, INCOMPLETE, NOT_DONE, SUITE, TOOL, WHOLE, Case, picture_of_png, run
+from support import BOOK, HAS_PDF, INCOMPLETE, NOT_DONE, SUITE, WHOLE, Case, picture_of_png
 
 from conformance.runner.manifest import read_manifest
 from conformance.runner.embedding import embedded_page
 from conformance.runner.pdf import stream_object
 from documents import Image, image_of, joined, pdf_of
 from samples import image_of_sample, samples_of
-
-HAS_PDF = b"reads PDF: libqpdf" in run("--version", program=TOOL).output
 
 
 def needs(program):
@@ -128,6 +126,9 @@ class Pdf(Case):
         texts += ["page 1: note: in the PDF file this image is a mask"]
         self.assertEqual(self.pages_of("scan.pdf", texts=texts), [self.meant[1]])
         self.assertEqual(self.pages_of("scan.pdf", "--quiet"), [self.meant[1]])
+        self.made(one_image("", self.images[2].stream, self.images[2].shared, parameters), "small.pdf")
+        text = "small.pdf: page 1: note: it has 37 by 8 pixels, and 64 by 56 by the PDF file"
+        self.assert_ends(self.run_here("small.pdf"), WHOLE, text)
         listed = self.run_here("info", "scan.pdf").output.decode()
         self.assertIn("inverted (/Decode), a mask (/ImageMask)", listed)
 
