@@ -122,6 +122,18 @@ class Output(Case):
             self.assert_ends(self.run_here("scan.jb2", "--force", *words), WHOLE)
             self.assertNotEqual((self.room / words[-1]).read_bytes(), b"mine")
 
+    def test_a_file_that_comes_meanwhile_is_not_overwritten(self):
+        self.made(slow_page(5000), "slow.jb2e")
+        words = [TOOL, "slow.jb2e", "-o", "slow.pbm"]
+        with subprocess.Popen(words, cwd=self.room, stderr=subprocess.PIPE) as process:
+            time.sleep(0.3)
+            self.made(b"mine", "slow.pbm")
+            said = process.communicate()[1].decode()
+        self.assertEqual(process.returncode, NOT_DONE)
+        self.assertRegex(said, "slow.pbm: (File exists|is there already)")
+        self.assertEqual((self.room / "slow.pbm").read_bytes(), b"mine")
+        self.assertEqual(self.files(), ["slow.jb2e", "slow.pbm"])
+
     def test_pages_in_one_file(self):
         self.assert_ends(self.run_here(EXAMPLE, "-o", "all.pbm"), WHOLE)
         self.assertEqual(pictures_of((self.room / "all.pbm").read_bytes()), MEANT)
