@@ -122,17 +122,25 @@ class Output(Case):
             self.assert_ends(self.run_here("scan.jb2", "--force", *words), WHOLE)
             self.assertNotEqual((self.room / words[-1]).read_bytes(), b"mine")
 
+    def wait_for_part(self):
+        """Waits until the first of two pages is written, under the name that the file has meanwhile."""
+        for _ in range(2000):
+            if len(self.files()) == 3:
+                break
+            time.sleep(0.01)
+        self.assertRegex(self.files()[0], r"both\.pbm\.part-")
+
     def test_a_file_that_comes_meanwhile_is_not_overwritten(self):
+        self.made(slow_page(100), "quick.jb2e")
         self.made(slow_page(5000), "slow.jb2e")
-        words = [TOOL, "slow.jb2e", "-o", "slow.pbm"]
+        words = [TOOL, "quick.jb2e", "slow.jb2e", "-o", "both.pbm"]
         with subprocess.Popen(words, cwd=self.room, stderr=subprocess.PIPE) as process:
-            time.sleep(0.3)
-            self.made(b"mine", "slow.pbm")
+            self.wait_for_part()
+            self.made(b"mine", "both.pbm")
             said = process.communicate()[1].decode()
-        self.assertEqual(process.returncode, NOT_DONE)
-        self.assertRegex(said, "slow.pbm: (File exists|is there already)")
-        self.assertEqual((self.room / "slow.pbm").read_bytes(), b"mine")
-        self.assertEqual(self.files(), ["slow.jb2e", "slow.pbm"])
+        self.assertEqual((process.returncode, said), (NOT_DONE, "hayro-jbig2: both.pbm: File exists\n"))
+        self.assertEqual((self.room / "both.pbm").read_bytes(), b"mine")
+        self.assertEqual(self.files(), ["both.pbm", "quick.jb2e", "slow.jb2e"])
 
     def test_pages_in_one_file(self):
         self.assert_ends(self.run_here(EXAMPLE, "-o", "all.pbm"), WHOLE)
@@ -198,11 +206,7 @@ class Output(Case):
         self.made(slow_page(60000), "slow.jb2e")
         words = [TOOL, "quick.jb2e", "slow.jb2e", "-o", "both.pbm"]
         with subprocess.Popen(words, cwd=self.room, stderr=subprocess.DEVNULL) as process:
-            for _ in range(500):
-                if len(self.files()) == 3:
-                    break
-                time.sleep(0.01)
-            self.assertRegex(self.files()[0], r"both\.pbm\.part-")
+            self.wait_for_part()
             process.send_signal(signal.SIGTERM)
             self.assertEqual(process.wait(20), -signal.SIGTERM)
         self.assertEqual(self.files(), ["quick.jb2e", "slow.jb2e"])
