@@ -1,12 +1,12 @@
 #!/usr/bin/env python3
-"""Puts the pages of JBIG2 files into PDF files, cuts them out again by examples/pdf-to-pbm, and compares the bitmaps
-with those that jbig2dec draws of the files themselves. It reports where Poppler draws another bitmap of the PDF file.
+"""Puts the pages of JBIG2 files into PDF files, draws these by the command hayro-jbig2, and compares the bitmaps with
+those that jbig2dec draws of the files themselves. It reports where Poppler draws another bitmap of the PDF file.
 
     pdf.py FILE.jb2 ..
 
 Each FILE is sequential and has one page. Two PDF files are made of it: one by `pdf_of` below, with dictionaries and
 tables in /JBIG2Globals, and one by pdftocairo of Poppler from that, which takes the image's data over as they are.
-Needs jbig2dec, and pdfimages and pdftocairo (Debian's poppler-utils).
+Needs make and libqpdf (Debian's libqpdf-dev), jbig2dec, and pdfimages and pdftocairo (Debian's poppler-utils).
 """
 import pathlib
 import subprocess
@@ -36,16 +36,16 @@ def bitmap(path):
 
 def drawn_of(pdf, room):
     """The bitmap that we draw of the image of a PDF file, and the one that Poppler draws."""
-    ours, theirs = room / "ours", room / "theirs"
-    theirs.mkdir(parents=True)
-    subprocess.run([pathlib.Path(ROOT, "examples/pdf-to-pbm"), pdf, ours], check=True, stdout=subprocess.DEVNULL)
-    subprocess.run(["pdfimages", pdf, theirs / "image"], check=True, stderr=subprocess.DEVNULL)
-    return bitmap(ours / "image-000.pbm"), bitmap(theirs / "image-000.pbm")
+    room.mkdir()
+    subprocess.run([pathlib.Path(ROOT, "c/out/hayro-jbig2"), pdf, "-o", room / "ours.pbm"], check=True)
+    subprocess.run(["pdfimages", pdf, room / "theirs"], check=True, stderr=subprocess.DEVNULL)
+    return bitmap(room / "ours.pbm"), bitmap(room / "theirs-000.pbm")
 
 
 def main():
     if len(sys.argv) < 2:
         sys.exit(__doc__)
+    subprocess.run(["make", "--quiet", "-C", pathlib.Path(ROOT, "c")], check=True, stdout=subprocess.DEVNULL)
     wrong = 0
     for file in map(pathlib.Path, sys.argv[1:]):
         with tempfile.TemporaryDirectory() as folder:

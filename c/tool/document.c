@@ -1,0 +1,88 @@
+#include "platform.h"
+
+#include "document.h"
+
+#include "jbig2_file.h"
+#include "pdf.h"
+
+#include <stdlib.h>
+#include <string.h>
+
+uint64_t work_for(const struct reading *reading, uint64_t pixels) {
+    enum { LEAST = 1 << 24, FOR_A_PIXEL = 100 };
+    if (reading->has_own_work)
+        return reading->work;
+    if (pixels > UINT64_MAX / FOR_A_PIXEL)
+        return UINT64_MAX - 1;
+    return pixels * FOR_A_PIXEL < LEAST ? LEAST : pixels * FOR_A_PIXEL;
+}
+
+static enum status open_embedded(struct document *document, const struct bytes *globals) {
+    document->count = document->pages = 1;
+    document->images = room_for(sizeof *document->images);
+    *document->images = (struct image){.page = 1, .all = 1, .globals = NO_GLOBALS};
+    if (globals->length > 0) {
+        struct bytes copy = {room_for(globals->length), globals->length};
+        memcpy(copy.at, globals->at, globals->length);
+        struct segment_list list;
+        list_segments(&list, document->bytes.at, document->bytes.length, 0, false);
+        document->globals_count = 1;
+        document->globals = room_for(sizeof *document->globals);
+        *document->globals = (struct globals){.bytes = copy, .pixels = stated_pixels(&list)};
+        document->images->globals = 0;
+        free_segments(&list);
+    }
+    return ALL_WHOLE;
+}
+
+static enum status refuse(const struct document *document, struct text *messages) {
+    const char *name = name_of_kind(document->kind, &document->bytes);
+    if (document->kind == KIND_GLOBALS)
+        add_text(messages, "%s: globals without a page: name the embedded page before them\n", document->name);
+    else
+        add_text(messages, "%s: neither a JBIG2 file, nor an embedded page, nor a PDF file: %s\n", document->name,
+                 name);
+    return NOT_DONE;
+}
+
+enum status open_document(struct document *document, const char *name, struct bytes bytes, const struct bytes *globals,
+                          const char *password, struct text *messages) {
+    struct reading reading = document->reading;
+    *document = (struct document){.name = name, .kind = kind_of(&bytes), .reading = reading, .bytes = bytes};
+    pthread_mutex_init(&document->lock, NULL);
+    switch (document->kind) {
+    case KIND_FILE:
+        return open_file(document, messages);
+    case KIND_PDF:
+        return open_pdf(document, password, messages);
+    case KIND_EMBEDDED:
+        return open_embedded(document, globals);
+    default:
+        return refuse(document, messages);
+    }
+}
+
+void close_document(struct document *document) {
+    close_file(document);
+    close_pdf(document);
+    for (size_t i = 0; i < document->globals_count; i++) {
+        struct globals *globals = &document->globals[i];
+        hayro_jbig2_globals_free(globals->handle);
+        if (globals->is_read)
+            close_budget(&globals->budget);
+        free_segments(&globals->list);
+        free_bytes(&globals->bytes);
+        free_text(&globals->reason);
+    }
+    free(document->globals);
+    free(document->images);
+    free_bytes(&document->bytes);
+    pthread_mutex_destroy(&document->lock);
+}
+
+void add_place(struct text *text, const struct document *document, size_t index) {
+    const struct image *image = &document->images[index];
+    add_text(text, "%s: page %zu: ", document->name, image->page);
+    if (image->all > 1)
+        add_text(text, "image %zu: ", image->nth);
+}

@@ -1,0 +1,177 @@
+#include "platform.h"
+
+#include "listing.h"
+#include "names.h"
+
+#include <stdio.h>
+#include <stdlib.h>
+#include <string.h>
+
+/* Control characters of a name could be meant for the terminal. */
+static void print_name(const char *name) {
+    for (; *name != '\0'; name++)
+        putchar((unsigned char)*name < ' ' || *name == 127 ? '?' : *name);
+}
+
+static void print_text(struct text *text, const char *end) {
+    if (text->length > 0)
+        print_name(text->at);
+    fputs(end, stdout);
+    free_text(text);
+}
+
+static void print_fault(const char *beginning, const struct fault *fault) {
+    struct text text = {NULL, 0, 0};
+    fputs(beginning, stdout);
+    if (fault->has_place)
+        printf("byte %zu: ", fault->place);
+    add_fault_text(&text, fault);
+    print_text(&text, "\n");
+}
+
+static void begin(const struct listing *listing) {
+    const struct document *document = listing->document;
+    const struct file_header *header = &document->header;
+    print_name(document->name);
+    printf(": %s, %zu bytes", name_of_kind(document->kind, &document->bytes), document->bytes.length);
+    if (document->kind == KIND_FILE)
+        printf(", %s", header->is_sequential ? "sequential" : "random access");
+    if (document->kind == KIND_FILE && header->has_count)
+        printf(", %lu pages stated", (unsigned long)header->page_count);
+    if (document->kind == KIND_PDF)
+        printf(", %zu pages, %zu JBIG2 images", document->pages, document->count);
+    putchar('\n');
+    for (size_t i = 0; i < listing->found_count; i++)
+        print_fault("  FAULT: ", &listing->found[i].fault);
+}
+
+static void print_resolution(const struct page_information *information) {
+    double x = information->x_resolution * 0.0254, y = information->y_resolution * 0.0254;
+    if (information->x_resolution == 0 && information->y_resolution == 0)
+        fputs(", no resolution", stdout);
+    else if (information->x_resolution == information->y_resolution)
+        printf(", %.1f dpi", x);
+    else
+        printf(", %.1f by %.1f dpi", x, y);
+}
+
+static void print_information(const struct page_information *information) {
+    enum { IS_BLACK = 4, IS_STRIPED = 0x8000 };
+    print_resolution(information);
+    if (information->striping & IS_STRIPED)
+        printf(", striped (at most %d rows)", information->striping & 0x7FFF);
+    if (information->height == UNKNOWN_LENGTH)
+        fputs(", height not stated", stdout);
+    printf(", %s, combined by %s", information->flags & IS_BLACK ? "black" : "white",
+           name_of_operator(information->flags >> 3 & 3));
+}
+
+static void print_image(const struct document *document, const struct image *image) {
+    printf("  object %d %d, %lu by %lu", image->object, image->generation, (unsigned long)image->width,
+           (unsigned long)image->height);
+    if (image->globals != NO_GLOBALS)
+        printf(", globals in object %d %d", document->globals[image->globals].object,
+               document->globals[image->globals].generation);
+    printf("%s%s\n", image->is_inverted ? ", inverted (/Decode)" : "", image->is_mask ? ", a mask (/ImageMask)" : "");
+}
+
+static void add_referred(struct text *text, const struct segment_list *list, const struct segment *segment) {
+    enum { SHOWN = 12 };
+    for (uint32_t i = 0; i < segment->referred_count && i < SHOWN; i++)
+        add_text(text, "%s%lu", i > 0 ? "," : "", (unsigned long)referred_number(list, segment, i));
+    if (segment->referred_count > SHOWN)
+        add_text(text, ".. (%lu)", (unsigned long)segment->referred_count);
+    if (segment->referred_count == 0)
+        add_text(text, "-");
+}
+
+static void add_region(struct text *text, const struct segment_list *list, const struct segment *segment) {
+    struct region region;
+    if (region_of(list, segment, &region))
+        add_text(text, "%lu by %lu at %ld,%ld %s", (unsigned long)region.width, (unsigned long)region.height,
+                 (long)region.x, (long)region.y, name_of_operator(region.flags & 7));
+    else
+        add_text(text, "-");
+}
+
+static void print_segment(const struct segment_list *list, const struct segment *segment) {
+    struct text referred = {NULL, 0, 0}, region = {NULL, 0, 0}, coding = {NULL, 0, 0};
+    add_referred(&referred, list, segment);
+    add_region(&region, list, segment);
+    add_coding(&coding, list, segment);
+    printf("  %8lu  %-37s  %4lu  %9zu  %8zu%s  %-9s  %-27s", (unsigned long)segment->number,
+           name_of_type(segment->type), (unsigned long)segment->page, segment->place, segment->length,
+           segment->stated == UNKNOWN_LENGTH ? "*" : " ", referred.at, region.at);
+    print_text(&coding, "\n");
+    free_text(&referred);
+    free_text(&region);
+}
+
+/* Faults of one page, or of all where `page` is 0. Those of globals have places of their own. */
+static void print_faults_at(const struct listing *listing, size_t page, const struct segment *segment,
+                            bool are_shared) {
+    for (size_t i = 0; i < listing->found_count; i++) {
+        const struct found *found = &listing->found[i];
+        bool is_here = found->fault.has_place && found->fault.place == segment->place;
+        if (is_here && (page == 0 || found->page == page) && (are_shared || !found->fault.is_of_globals))
+            print_fault("      ^ FAULT at ", &found->fault);
+    }
+}
+
+static void print_segments(const struct listing *listing, const struct segment_list *list, size_t page) {
+    bool is_file = listing->document->kind == KIND_FILE;
+    if (list->count > 0 || list->known >= KNOWS_TYPE)
+        printf("  %8s  %-37s  %4s  %9s  %8s   %-9s  %-27s%s\n", "segment", "type", "page", "byte", "length",
+               "refers to", "region", "coding");
+    for (size_t i = 0; i < list->count; i++) {
+        print_segment(list, &list->at[i]);
+        print_faults_at(listing, page, &list->at[i], is_file);
+    }
+    if (list->error != HAYRO_JBIG2_OK && list->known >= KNOWS_TYPE) {
+        print_segment(list, &list->last);
+        print_faults_at(listing, page, &list->last, is_file);
+    }
+}
+
+static void print_page(const struct listing *listing, size_t index, const struct drawn *drawn,
+                       const struct segment_list *list) {
+    const struct document *document = listing->document;
+    const struct image *image = &document->images[index];
+    printf("page %zu", image->page);
+    if (image->all > 1)
+        printf(", image %zu", image->nth);
+    if (document->kind == KIND_FILE && drawn->number != image->page && drawn->width > 0)
+        printf(" (number %lu)", (unsigned long)drawn->number);
+    printf(": %s", name_of_state(drawn->status));
+    if (drawn->width > 0)
+        printf(", %lu by %lu pixels", (unsigned long)drawn->width, (unsigned long)drawn->height);
+    if (drawn->has_information)
+        print_information(&drawn->information);
+    putchar('\n');
+    for (size_t i = 0; i < drawn->faults.count; i++)
+        print_fault("  FAULT: ", &drawn->faults.at[i]);
+    if (document->kind == KIND_PDF)
+        print_image(document, image);
+    if (list != NULL)
+        print_segments(listing, list, image->page);
+}
+
+static void end(const struct listing *listing) {
+    const struct document *document = listing->document;
+    if (document->kind == KIND_FILE)
+        print_segments(listing, &document->list, 0);
+    for (size_t i = 0; i < document->globals_count; i++) {
+        const struct globals *globals = &document->globals[i];
+        if (!globals->is_read)
+            continue;
+        fputs("globals", stdout);
+        if (document->kind == KIND_PDF)
+            printf(" in object %d %d", globals->object, globals->generation);
+        printf(": %zu bytes\n", globals->bytes.length);
+        print_segments(&(struct listing){.document = document}, &globals->list, 0);
+    }
+}
+
+static void finish(void) {}
+
+const struct printer table_printer = {begin, print_page, end, finish};

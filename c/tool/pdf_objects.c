@@ -1,0 +1,152 @@
+#include "platform.h"
+
+#ifdef HAVE_QPDF
+
+#include "pdf_objects.h"
+
+#include <stdlib.h>
+#include <string.h>
+
+/* Objects inside of each other, far more than a page has. */
+enum { DEEPEST = 50 };
+
+int filter_index_of_jbig2(qpdf_data qpdf, qpdf_oh dictionary) {
+    qpdf_oh filter = qpdf_oh_get_key(qpdf, dictionary, "/Filter");
+    int last = 0;
+    if (qpdf_oh_is_array(qpdf, filter)) {
+        last = qpdf_oh_get_array_n_items(qpdf, filter) - 1;
+        if (last < 0)
+            return -1;
+        filter = qpdf_oh_get_array_item(qpdf, filter, last);
+    }
+    return qpdf_oh_is_name_and_equals(qpdf, filter, "/JBIG2Decode") ? last : -1;
+}
+
+/* Whether an object of the file comes up for the first time. */
+static bool is_new(struct pdf *pdf, qpdf_oh object) {
+    int number = qpdf_oh_get_object_id(pdf->qpdf, object);
+    if (number <= 0)
+        return true;
+    if ((size_t)number >= pdf->seen_room) {
+        size_t room = 2 * (size_t)number + 64;
+        pdf->seen = larger_room(pdf->seen, room);
+        memset(pdf->seen + pdf->seen_room, 0, room - pdf->seen_room);
+        pdf->seen_room = room;
+    }
+    bool is_first = !pdf->seen[number];
+    pdf->seen[number] = 1;
+    return is_first;
+}
+
+static int index_of_globals(struct document *document, qpdf_oh stream) {
+    qpdf_data qpdf = document->pdf->qpdf;
+    int object = qpdf_oh_get_object_id(qpdf, stream), generation = qpdf_oh_get_generation(qpdf, stream);
+    for (size_t i = document->globals_count; i-- > 0;)
+        if (document->globals[i].object == object && document->globals[i].generation == generation)
+            return (int)i;
+    size_t room = (document->globals_count + 1) * sizeof *document->globals;
+    document->globals = larger_room(document->globals, room);
+    document->globals[document->globals_count] = (struct globals){.object = object, .generation = generation};
+    return (int)document->globals_count++;
+}
+
+/* The globals of an image, by the parameters of its filter. */
+static int globals_of(struct document *document, qpdf_oh dictionary, int filter) {
+    qpdf_data qpdf = document->pdf->qpdf;
+    qpdf_oh parameters = qpdf_oh_get_key(qpdf, dictionary, "/DecodeParms");
+    if (qpdf_oh_is_array(qpdf, parameters) && filter < qpdf_oh_get_array_n_items(qpdf, parameters))
+        parameters = qpdf_oh_get_array_item(qpdf, parameters, filter);
+    qpdf_oh globals = qpdf_oh_get_key_if_dict(qpdf, parameters, "/JBIG2Globals");
+    return qpdf_oh_is_stream(qpdf, globals) ? index_of_globals(document, globals) : NO_GLOBALS;
+}
+
+static uint32_t side_of(qpdf_data qpdf, qpdf_oh dictionary, const char *key) {
+    long long side = 0;
+    bool is_side = qpdf_oh_get_value_as_longlong(qpdf, qpdf_oh_get_key(qpdf, dictionary, key), &side);
+    return !is_side || side < 0 ? 0 : side > 65535 ? 65535 : (uint32_t)side;
+}
+
+static bool is_inverted(qpdf_data qpdf, qpdf_oh dictionary) {
+    qpdf_oh decode = qpdf_oh_get_key(qpdf, dictionary, "/Decode");
+    if (!qpdf_oh_is_array(qpdf, decode) || qpdf_oh_get_array_n_items(qpdf, decode) < 1)
+        return false;
+    return qpdf_oh_get_numeric_value(qpdf, qpdf_oh_get_array_item(qpdf, decode, 0)) > 0;
+}
+
+static void add_image(struct document *document, qpdf_oh stream, size_t page) {
+    qpdf_data qpdf = document->pdf->qpdf;
+    qpdf_oh dictionary = qpdf_oh_get_dict(qpdf, stream);
+    int filter = filter_index_of_jbig2(qpdf, dictionary);
+    if (filter < 0)
+        return;
+    QPDF_BOOL is_mask = QPDF_FALSE;
+    qpdf_oh_get_value_as_bool(qpdf, qpdf_oh_get_key(qpdf, dictionary, "/ImageMask"), &is_mask);
+    document->images = larger_room(document->images, (document->count + 1) * sizeof *document->images);
+    document->images[document->count++] = (struct image){
+        .page = page + 1,
+        .object = qpdf_oh_get_object_id(qpdf, stream),
+        .generation = qpdf_oh_get_generation(qpdf, stream),
+        .globals = globals_of(document, dictionary, filter),
+        .width = side_of(qpdf, dictionary, "/Width"),
+        .height = side_of(qpdf, dictionary, "/Height"),
+        .is_inverted = is_inverted(qpdf, dictionary),
+        .is_mask = is_mask,
+    };
+}
+
+static void walk(struct document *document, qpdf_oh object, size_t page, int depth);
+
+/* Goes on with each value of a dictionary but the way back to the tree of pages. */
+static void walk_dictionary(struct document *document, qpdf_oh dictionary, size_t page, int depth) {
+    qpdf_data qpdf = document->pdf->qpdf;
+    char **keys = NULL;
+    size_t count = 0;
+    /* The walk below has iterations of its own, so the keys are copied first. */
+    qpdf_oh_begin_dict_key_iter(qpdf, dictionary);
+    while (qpdf_oh_dict_more_keys(qpdf)) {
+        const char *key = qpdf_oh_dict_next_key(qpdf);
+        keys = larger_room(keys, (count + 1) * sizeof *keys);
+        size_t size = strlen(key) + 1;
+        keys[count] = room_for(size);
+        memcpy(keys[count++], key, size);
+    }
+    for (size_t i = 0; i < count; i++) {
+        if (strcmp(keys[i], "/Parent") != 0 && strcmp(keys[i], "/P") != 0)
+            walk(document, qpdf_oh_get_key(qpdf, dictionary, keys[i]), page, depth + 1);
+        free(keys[i]);
+    }
+    free(keys);
+}
+
+static void walk(struct document *document, qpdf_oh object, size_t page, int depth) {
+    qpdf_data qpdf = document->pdf->qpdf;
+    bool is_stream = qpdf_oh_is_stream(qpdf, object);
+    if (depth > DEEPEST || !is_new(document->pdf, object))
+        return;
+    if (is_stream)
+        add_image(document, object, page);
+    if (is_stream || qpdf_oh_is_dictionary(qpdf, object))
+        walk_dictionary(document, is_stream ? qpdf_oh_get_dict(qpdf, object) : object, page, depth);
+    else if (qpdf_oh_is_array(qpdf, object))
+        for (int i = 0; i < qpdf_oh_get_array_n_items(qpdf, object); i++)
+            walk(document, qpdf_oh_get_array_item(qpdf, object, i), page, depth + 1);
+}
+
+void find_images_of_page(struct document *document, size_t page) {
+    qpdf_data qpdf = document->pdf->qpdf;
+    qpdf_oh dictionary = qpdf_get_page_n(qpdf, page);
+    walk(document, qpdf_oh_get_key_if_dict(qpdf, dictionary, "/Resources"), page, 0);
+    qpdf_oh annotations = qpdf_oh_get_key_if_dict(qpdf, dictionary, "/Annots");
+    for (int i = 0; qpdf_oh_is_array(qpdf, annotations) && i < qpdf_oh_get_array_n_items(qpdf, annotations); i++) {
+        qpdf_oh annotation = qpdf_oh_get_array_item(qpdf, annotations, i);
+        walk(document, qpdf_oh_get_key_if_dict(qpdf, annotation, "/AP"), page, 0);
+    }
+    qpdf_oh_release_all(qpdf);
+}
+
+#else
+
+/* No translation unit may be empty. */
+typedef int no_pdf_objects;
+
+#endif

@@ -1,0 +1,92 @@
+/* The segments of a file, an embedded page or globals, by their headers (T.88, 7.2 and Annex D). Nothing that is drawn
+ * depends on this list: it is for `info`, for messages, and to see what the end of the bytes cuts off. */
+#ifndef HAYRO_TOOL_SEGMENTS_H
+#define HAYRO_TOOL_SEGMENTS_H
+
+#include <stdbool.h>
+#include <stddef.h>
+#include <stdint.h>
+
+enum {
+    SYMBOL_DICTIONARY = 0,
+    PATTERN_DICTIONARY = 16,
+    PAGE_INFORMATION = 48,
+    END_OF_PAGE = 49,
+    END_OF_STRIPE = 50,
+    END_OF_FILE = 51,
+    TABLES = 53,
+    EXTENSION = 62
+};
+
+struct segment {
+    size_t place, data; /* where its header and its data begin */
+    size_t length;      /* how many bytes of its data are there */
+    uint32_t stated;    /* the field of its length */
+    uint32_t number, page;
+    uint8_t type;
+    /* The numbers that it refers to: their count, where they begin, and the bytes of each. */
+    uint32_t referred_count;
+    size_t referred;
+    uint8_t referred_size;
+};
+
+/* How much of a header could be read. */
+enum known { KNOWS_NOTHING, KNOWS_NUMBER, KNOWS_TYPE, KNOWS_HEADER };
+
+struct segment_list {
+    const uint8_t *bytes;
+    size_t size;
+    struct segment *at;
+    size_t count, room;
+    uint32_t error;      /* what ended the list early, a number of hayro_jbig2.h, or 0 */
+    struct segment last; /* the segment of that error, as far as its header was read */
+    enum known known;
+};
+
+#define UNKNOWN_LENGTH UINT32_C(0xFFFFFFFF)
+
+/* The segments of `size` bytes from `start` on. The bytes must stay until free_segments. */
+void list_segments(struct segment_list *list, const uint8_t *bytes, size_t size, size_t start, bool has_random_access);
+void free_segments(struct segment_list *list);
+
+/* The header of a file (T.88, D.4). */
+struct file_header {
+    bool is_sequential, has_count;
+    uint32_t page_count;
+    size_t size;
+};
+
+/* Whether the bytes begin with such a header. */
+bool has_file_header(const uint8_t *bytes, size_t size);
+/* Reads it, and says whether it is whole. */
+bool read_file_header(struct file_header *header, const uint8_t *bytes, size_t size);
+
+/* A number that a segment refers to, by its index. */
+uint32_t referred_number(const struct segment_list *list, const struct segment *segment, uint32_t index);
+/* The first segment with a number, or NULL. */
+const struct segment *segment_of_number(const struct segment_list *list, uint32_t number);
+
+/* A big number of 1 to 4 bytes in a segment's data, or 0 past its end. */
+uint32_t number_in(const struct segment_list *list, const struct segment *segment, size_t place, size_t size);
+
+bool is_known_type(unsigned type);
+bool is_region(unsigned type);
+
+/* What the page information says (T.88, 7.4.8). */
+struct page_information {
+    uint32_t width, height; /* height: UNKNOWN_LENGTH where it is unknown */
+    uint32_t x_resolution, y_resolution;
+    uint8_t flags;
+    uint16_t striping;
+};
+
+enum { ANY_PAGE = 0 };
+
+/* The first page information of a page, by the segments' numbers, or of any; false where there is none. */
+bool page_information_of(const struct segment_list *list, uint32_t page, struct page_information *information);
+/* How many pixels the pages state. Those whose height is unknown count up to the last stripe of all. */
+uint64_t stated_pixels(const struct segment_list *list);
+/* How many bytes there are without a line end after the last segment, which writers of PDF files may count in. */
+size_t size_without_line_end(const struct segment_list *list);
+
+#endif

@@ -1,0 +1,114 @@
+"""What the tests have in common: the builds of the program, files, and PNG pictures as packed rows."""
+from __future__ import annotations
+
+import dataclasses
+import os
+import pathlib
+import struct
+import subprocess
+import sys
+import tempfile
+import unittest
+import zlib
+
+ROOT = pathlib.Path(__file__).resolve().parents[3]
+sys.path[1:1] = [str(ROOT), str(ROOT / "dropin" / "tests")]
+
+from conformance.runner.pictures import Picture, of_numbers, pictures_of  # noqa: E402
+
+# The builds, by c/tool/test: the usual one, one with sanitizers, one without libraries.
+TOOL = os.environ["TOOL"]
+SANITIZED = os.environ.get("SANITIZED") or TOOL
+BARE = os.environ["BARE"]
+DECODER = os.environ["PROGRAM"]
+SUITE = pathlib.Path(os.environ["SUITE"])
+EXAMPLE = ROOT / "crates" / "jbig2_decode" / "data" / "t88-h1.jb2"
+BOOK = EXAMPLE.read_bytes()
+PNG = b"\x89PNG\r\n\x1a\n"
+
+VERSIONS = subprocess.run([TOOL, "--version"], capture_output=True, check=True).stdout
+HAS_PNG, HAS_TIFF, HAS_PDF = (name in VERSIONS for name in (b": libpng", b": libtiff", b": libqpdf"))
+
+WHOLE, NOT_DONE, WRONG_WORDS, INCOMPLETE, OVER_LIMIT = range(5)
+
+
+@dataclasses.dataclass(frozen=True)
+class Ended:
+    """How a run ended."""
+
+    status: int
+    output: bytes
+    errors: str
+
+
+def run(*words, program: str = TOOL, **how) -> Ended:
+    """Runs the program."""
+    how = {"stdout": subprocess.PIPE, "stderr": subprocess.PIPE, "timeout": 120, **how}
+    if "input" not in how:
+        how.setdefault("stdin", subprocess.DEVNULL)
+    ended = subprocess.run([program, *map(str, words)], check=False, **how)
+    return Ended(ended.returncode, ended.stdout or b"", (ended.stderr or b"").decode(errors="replace"))
+
+
+def decoded(file: pathlib.Path, index: int, *words: str) -> Picture | None:
+    """A page by the proved program."""
+    ended = subprocess.run([DECODER, *words, "pbm", str(file), str(index)], capture_output=True, check=False)
+    return pictures_of(ended.stdout)[0] if ended.returncode == 0 else None
+
+
+def chunks_of(data: bytes) -> dict[bytes, bytes]:
+    """The chunks of a PNG file, those of one name joined, with their sums checked."""
+    assert data.startswith(PNG), data[:8]
+    place, chunks = 8, {}
+    while place < len(data):
+        size, name = struct.unpack(">I4s", data[place : place + 8])
+        content = data[place + 8 : place + 8 + size]
+        assert zlib.crc32(name + content) == int.from_bytes(data[place + 8 + size : place + 12 + size], "big")
+        chunks[name] = chunks.get(name, b"") + content
+        place += 12 + size
+    return chunks
+
+
+def picture_of_png(data: bytes) -> Picture:
+    """The picture of a PNG file of 1 bit, without a filter other than 0."""
+    chunks = chunks_of(data)
+    width, height, depth, colour, _, _, interlaced = struct.unpack(">IIBBBBB", chunks[b"IHDR"])
+    assert (depth, colour, interlaced) == (1, 0, 0)
+    stride = (width + 7) // 8
+    lines = zlib.decompress(chunks[b"IDAT"])
+    assert len(lines) == height * (stride + 1) and not any(lines[:: stride + 1])
+    rows = [lines[y * (stride + 1) + 1 : (y + 1) * (stride + 1)] for y in range(height)]
+    full = (1 << 8 * stride) - 1
+    return of_numbers([(int.from_bytes(row, "big") ^ full) >> (8 * stride - width) for row in rows], width)
+
+
+class Case(unittest.TestCase):
+    """A test with a folder of its own, in which the program runs."""
+
+    maxDiff = 600
+
+    def setUp(self):
+        if not HAS_PNG:
+            self.skipTest("libpng is not here")
+        room = tempfile.TemporaryDirectory()
+        self.addCleanup(room.cleanup)
+        self.room = pathlib.Path(room.name)
+
+    def made(self, data: bytes, name: str = "scan.jb2") -> pathlib.Path:
+        path = self.room / name
+        path.write_bytes(data)
+        return path
+
+    def run_here(self, *words, **how) -> Ended:
+        return run(*words, cwd=self.room, **how)
+
+    def files(self) -> list[str]:
+        return sorted(str(path.relative_to(self.room)) for path in self.room.rglob("*") if path.is_file())
+
+    def assert_ends(self, ended: Ended, status: int, *texts: str):
+        """The status, and texts that standard error has; none where there are none."""
+        self.assertEqual(ended.status, status, ended.errors)
+        for text in texts:
+            self.assertIn(text, ended.errors)
+        if not texts:
+            self.assertEqual(ended.errors, "")

@@ -1,0 +1,136 @@
+"""`info`: pages and segments beside the suite's own reader, and faults at their segment and byte."""
+from __future__ import annotations
+
+import json
+import unittest
+
+from support import BOOK, EXAMPLE, HAS_PDF, INCOMPLETE, NOT_DONE, SUITE, WHOLE, Case
+
+from conformance.runner.embedding import embedded_page
+from conformance.runner.manifest import PICTURE, read_manifest
+from conformance.runner.segments import segments_of_file
+from documents import image_of, pdf_of
+
+ENTRIES = read_manifest(SUITE / "manifest.tsv")
+
+
+class Info(Case):
+    def listed(self, *words, status=WHOLE):
+        ended = self.run_here("info", "--json", *words)
+        self.assertEqual(ended.status, status, ended.errors)
+        return json.loads(ended.output)
+
+    def test_the_suite(self):
+        files = sorted({entry.name for entry in ENTRIES if not entry.is_embedded})
+        paths = [SUITE / f"{name}.jb2" for name in files]
+        readable = [path for path in paths if path.read_bytes()[:8] == BOOK[:8]]
+        documents = self.listed(*readable, status=NOT_DONE)
+        self.assertEqual([document["file"] for document in documents], list(map(str, readable)))
+        compared = 0
+        for document, path in zip(documents, readable):
+            meant = segments_of_file(path.read_bytes())
+            found = document["segments"]
+            compared += len(meant)
+            if "list_ends" not in document:
+                self.assertEqual(len(found), len(meant), path)
+            for one, other in zip(found, meant):
+                known = one["number"], one["type"], one["page"], one["length"]
+                self.assertEqual(known, (other.number, other.kind, other.page, len(other.data)), path)
+                data = path.read_bytes()
+                self.assertEqual(data[one["data_byte"] : one["data_byte"] + one["length"]], other.data)
+                self.assertEqual(data[one["byte"] : one["byte"] + 4], other.number.to_bytes(4, "big"))
+        self.assertGreater(compared, 4000)
+        self.compare_states(documents)
+
+    def compare_states(self, documents):
+        states = {}
+        for document in documents:
+            for page in document["pages"]:
+                name = document["file"].rsplit("/", 1)[1][:-4]
+                states[name, page["page"] - 1] = page["state"], bool(document["faults"])
+        for entry in ENTRIES:
+            state, has_faults = states.get((entry.name, entry.page), ("refused", True))
+            if entry.strict == PICTURE and not entry.is_embedded:
+                self.assertEqual((state, has_faults), ("whole", False), entry.label)
+            elif entry.lenient == PICTURE and not entry.is_embedded:
+                self.assertTrue(state == "incomplete" or has_faults, entry.label)
+
+    def test_the_example(self):
+        [document] = self.listed(EXAMPLE)
+        known = document["kind"], document["organisation"], document["stated_pages"]
+        self.assertEqual(known, ("file", "sequential", 3))
+        first = document["pages"][0]
+        known = first["width"], first["height"], first["state"], first["combination"]
+        self.assertEqual(known, (64, 56, "whole", "or"))
+        text = document["segments"][3]
+        self.assertEqual(text["name"], "immediate lossless text region")
+        self.assertEqual(text["refers_to"], [0, 2])
+        self.assertEqual(text["region"], {"width": 37, "height": 8, "x": 4, "y": 1, "operator": "or"})
+        self.assertEqual(text["coding"], "Huffman, 5 instances")
+        table = self.run_here("info", EXAMPLE).output.decode()
+        self.assertIn("page 3: whole, 37 by 8 pixels, no resolution, white, combined by or\n", table)
+        self.assertRegex(table, r"\n +17  symbol dictionary +3 +745 +32 +16 +- +arithmetic, template 2, refinement and")
+        self.assertEqual(len(table.splitlines()), 1 + 3 + 1 + 21)
+
+    def test_resolution_and_stripes(self):
+        place = BOOK.index(bytes.fromhex("00000013 00000040 00000038")) + 12
+        data = BOOK[:place] + (11811).to_bytes(4, "big") * 2 + BOOK[place + 8 :]
+        scan = self.made(data)
+        self.assertEqual(self.listed(scan)[0]["pages"][0]["x_resolution"], 11811)
+        self.assertIn(b"page 1: whole, 64 by 56 pixels, 300.0 dpi, white", self.run_here("info", scan).output)
+        drawn = [entry for entry in ENTRIES if entry.strict == PICTURE]
+        striped = next(entry.name for entry in drawn if "stripes" in "".join(entry.features))
+        self.assertIn(b"striped (at most", self.run_here("info", SUITE / f"{striped}.jb2").output)
+
+    def test_faults_have_segment_and_byte(self):
+        header = bytes.fromhex("000000360000002c000000040000000b00 08 03FF")
+        place = BOOK.index(bytes.fromhex("0000000b 27 00 02 00000023"))
+        scan = self.made(BOOK.replace(header, header[:-1] + b"\0"))
+        [document] = self.listed(scan, status=INCOMPLETE)
+        [fault] = document["pages"][1]["faults"]
+        known = fault["segment"], fault["byte"], fault["error"], fault["text"]
+        self.assertEqual(known, (11, place, 26, "invalid adaptive template pixel location"))
+        table = self.run_here("info", scan).output.decode().splitlines()
+        row = next(row for row, line in enumerate(table) if line.startswith("        11  immediate lossless generic"))
+        what = "segment 11 (immediate lossless generic region): invalid adaptive template pixel location"
+        self.assertEqual(table[row + 1].strip(), f"^ FAULT at byte {place}: {what}")
+
+    def test_a_file_that_is_refused_is_listed(self):
+        place = BOOK.index(bytes.fromhex("0000000b 27 00 02 00000023"))
+        scan = self.made(BOOK[: place + 5] + b"\xa0" + BOOK[place + 6 :])
+        [document] = self.listed(scan, status=NOT_DONE)
+        self.assertEqual(len(document["segments"]), 11)
+        [fault] = document["faults"]
+        known = fault["segment"], fault["byte"], fault["text"]
+        self.assertEqual(known, (11, place, "invalid referred-to segment count"))
+        [document] = self.listed(scan, "--salvage", status=INCOMPLETE)
+        self.assertEqual([page["state"] for page in document["pages"]], ["whole", "incomplete"])
+
+    @unittest.skipUnless(HAS_PDF, "libqpdf is not here")
+    def test_a_pdf_file(self):
+        images = [image_of(embedded_page(BOOK, index)) for index in (1, 1, 2)]
+        scan = self.made(pdf_of(images), "scan.pdf")
+        [document] = self.listed(scan)
+        self.assertEqual((document["kind"], document["pdf_pages"], len(document["globals"])), ("pdf", 3, 2))
+        self.assertEqual([len(page["segments"]) for page in document["pages"]], [4, 4, 2])
+        self.assertEqual(document["pages"][0]["globals"], document["globals"][0]["object"])
+        self.assertEqual(len(self.listed(scan, "-p", "2")[0]["pages"]), 1)
+        table = self.run_here("info", scan).output.decode()
+        self.assertIn("scan.pdf: a PDF file", table)
+        self.assertIn("globals in object", table)
+
+    def test_names_are_escaped(self):
+        scan = self.made(BOOK, 'a"\\\33\udcff\xe9.jb2')
+        [document] = self.listed(scan.name)
+        self.assertEqual(document["file"], 'a"\\\33\ufffd\xe9.jb2')
+        self.assertNotIn(b"\33", self.run_here("info", scan.name).output)
+        self.assertNotIn("\33", self.run_here(scan.name, "-p", "9").errors)
+
+    def test_unreadable_inputs(self):
+        ended = self.run_here("info", "--json", "gone.jb2")
+        self.assert_ends(ended, NOT_DONE, "gone.jb2: can't be read")
+        self.assertEqual(json.loads(ended.output), [])
+
+
+if __name__ == "__main__":
+    unittest.main()

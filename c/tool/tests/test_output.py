@@ -1,0 +1,238 @@
+"""Where pictures go: names, folders, standard output; files that are whole or not there."""
+from __future__ import annotations
+
+import os
+import pathlib
+import pty
+import signal
+import struct
+import subprocess
+import time
+import unittest
+
+from support import BOOK, EXAMPLE, HAS_TIFF, NOT_DONE, TOOL, WHOLE, Case, decoded, picture_of_png, pictures_of
+
+MEANT = [decoded(EXAMPLE, index) for index in range(3)]
+NOBODY = 65534
+
+
+def slow_page(side: int) -> bytes:
+    """A page that takes long: a generic region of no bytes, with a moved adaptive pixel."""
+    sides = side.to_bytes(4, "big").hex() * 2
+    return bytes.fromhex(
+        f"00000000 30 00 01 00000013 {sides}" + "00" * 11 + f"00000001 26 00 01 0000001A {sides}"
+        "000000000000000000 00 02FFFDFF02FEFEFE"
+    )
+
+
+def shown_on_terminal(words: list[str], room: pathlib.Path) -> str:
+    """What a program that ends well shows on a terminal as its standard error."""
+    leader, follower = pty.openpty()
+    subprocess.run(words, cwd=room, stderr=follower, check=True)
+    os.close(follower)
+    shown = b""
+    try:
+        while piece := os.read(leader, 4096):
+            shown += piece
+    except OSError:
+        pass
+    os.close(leader)
+    return shown.decode()
+
+
+def strips_of_tiff(data: bytes) -> list[tuple[int, int, bytes]]:
+    """Width, height and strip of each page of a TIFF file."""
+    order = "<" if data[:2] == b"II" else ">"
+    [place] = struct.unpack(order + "I", data[4:8])
+    pages = []
+    while place:
+        [count] = struct.unpack(order + "H", data[place : place + 2])
+        fields = {}
+        for number in range(count):
+            at = place + 2 + 12 * number
+            tag, kind, _ = struct.unpack(order + "HHI", data[at : at + 8])
+            form, size = ("H", 2) if kind == 3 else ("I", 4)
+            [fields[tag]] = struct.unpack(order + form, data[at + 8 : at + 8 + size])
+        assert (fields[259], fields[262], fields.get(266, 1)) == (4, 0, 1), fields
+        pages.append((fields[256], fields[257], data[fields[273] : fields[273] + fields[279]]))
+        [place] = struct.unpack(order + "I", data[place + 2 + 12 * count : place + 6 + 12 * count])
+    return pages
+
+
+def page_of_t6(width: int, height: int, coded: bytes) -> bytes:
+    """An embedded page of an MMR region, whose data are T.6 as a strip of a TIFF file is."""
+    sides = struct.pack(">II", width, height)
+    region = sides + bytes(9) + b"\1" + coded
+    return (bytes.fromhex("00000000 30 00 01 00000013") + sides + bytes(11)
+            + bytes.fromhex("00000001 26 00 01") + len(region).to_bytes(4, "big") + region)
+
+
+class Output(Case):
+    def test_names(self):
+        self.assert_ends(self.run_here(self.made(BOOK)), WHOLE)
+        names = [f"scan-{page}.png" for page in (1, 2, 3)]
+        self.assertEqual(self.files(), sorted(["scan.jb2", *names]))
+        self.assertEqual([picture_of_png((self.room / name).read_bytes()) for name in names], MEANT)
+        self.assert_ends(self.run_here("scan.jb2", "-f", "pbm", "-o", "new/"), WHOLE)
+        self.assertEqual(pictures_of((self.room / "new/scan-2.pbm").read_bytes()), [MEANT[1]])
+        (self.room / "old").mkdir()
+        self.assert_ends(self.run_here("scan.jb2", "-o", "old", "-f", "pbm", "-p", "3"), WHOLE)
+        self.assertIn("old/scan-3.pbm", self.files())
+        self.assert_ends(self.run_here("scan.jb2", "-p3", "-o", "third.png"), WHOLE)
+        self.assertEqual(picture_of_png((self.room / "third.png").read_bytes()), MEANT[2])
+        one = self.made(BOOK[:12] + b"\1" + BOOK[13:400], "one.jb2")
+        self.assert_ends(self.run_here(one), WHOLE)
+        self.assertIn("one.png", self.files())
+        mode = os.stat(self.room / "one.png").st_mode & 0o777
+        mask = os.umask(0)
+        os.umask(mask)
+        self.assertEqual(mode, 0o666 & ~mask)
+
+    def test_standard_input_and_output(self):
+        for words in (["-", "-f", "pbm"], ["-", "-o", "-", "-f", "pbm"]):
+            ended = self.run_here(*words, input=BOOK)
+            self.assert_ends(ended, WHOLE)
+            self.assertEqual(pictures_of(ended.output), MEANT)
+        ended = self.run_here("-", "-p", "2", input=BOOK)
+        self.assertEqual(picture_of_png(ended.output), MEANT[1])
+        self.assert_ends(self.run_here("-", "-o", "here/", input=BOOK), WHOLE)
+        self.assertEqual(self.files(), [f"here/stdin-{page}.png" for page in (1, 2, 3)])
+        ended = self.run_here(EXAMPLE, EXAMPLE, "-o", "-", "-f", "pbm")
+        self.assertEqual(pictures_of(ended.output), MEANT + MEANT)
+
+    def test_several_inputs(self):
+        scan = self.made(BOOK)
+        other = self.room / "other"
+        other.mkdir()
+        (other / "scan.jb2").write_bytes(BOOK)
+        ended = self.run_here(scan, "gone.jb2", other / "scan.jb2", "-p", "1", "--force")
+        self.assert_ends(ended, NOT_DONE, "gone.jb2: can't be read", "scan-1.png: another page was written to it")
+        self.assertEqual(self.files(), ["other/scan.jb2", "scan-1.png", "scan.jb2"])
+
+    def test_nothing_is_overwritten(self):
+        self.made(BOOK)
+        self.made(b"mine", "scan-2.png")
+        self.assert_ends(self.run_here("scan.jb2"), NOT_DONE, "scan-2.png: is there already; --force overwrites it")
+        self.assertEqual((self.room / "scan-2.png").read_bytes(), b"mine")
+        self.assertEqual(len(self.files()), 4)
+        for words in ["-p", "2", "-o", "scan-2.png"], ["-o", "all.pbm"]:
+            self.made(b"mine", words[-1])
+            self.assert_ends(self.run_here("scan.jb2", *words), NOT_DONE, "is there already")
+            self.assertEqual((self.room / words[-1]).read_bytes(), b"mine")
+            self.assert_ends(self.run_here("scan.jb2", "--force", *words), WHOLE)
+            self.assertNotEqual((self.room / words[-1]).read_bytes(), b"mine")
+
+    def wait_for_part(self):
+        """Waits until the first of two pages is written, under the name that the file has meanwhile."""
+        for _ in range(2000):
+            if len(self.files()) == 3:
+                break
+            time.sleep(0.01)
+        self.assertRegex(self.files()[0], r"both\.pbm\.part-")
+
+    def test_a_file_that_comes_meanwhile_is_not_overwritten(self):
+        self.made(slow_page(100), "quick.jb2e")
+        self.made(slow_page(5000), "slow.jb2e")
+        words = [TOOL, "quick.jb2e", "slow.jb2e", "-o", "both.pbm"]
+        with subprocess.Popen(words, cwd=self.room, stderr=subprocess.PIPE) as process:
+            self.wait_for_part()
+            self.made(b"mine", "both.pbm")
+            said = process.communicate()[1].decode()
+        self.assertEqual((process.returncode, said), (NOT_DONE, "hayro-jbig2: both.pbm: File exists\n"))
+        self.assertEqual((self.room / "both.pbm").read_bytes(), b"mine")
+        self.assertEqual(self.files(), ["both.pbm", "quick.jb2e", "slow.jb2e"])
+
+    def test_pages_in_one_file(self):
+        self.assert_ends(self.run_here(EXAMPLE, "-o", "all.pbm"), WHOLE)
+        self.assertEqual(pictures_of((self.room / "all.pbm").read_bytes()), MEANT)
+
+    @unittest.skipUnless(HAS_TIFF, "libtiff is not here")
+    def test_pages_in_a_tiff_file(self):
+        self.assert_ends(self.run_here(EXAMPLE, "-o", "all.tif"), WHOLE)
+        piped = self.run_here(EXAMPLE, "-o", "-", "-f", "tiff")
+        self.assertEqual(piped.output, (self.room / "all.tif").read_bytes())
+        for page, meant in zip(strips_of_tiff(piped.output), MEANT, strict=True):
+            ended = self.run_here("-", "-f", "pbm", input=page_of_t6(*page))
+            self.assert_ends(ended, WHOLE)
+            self.assertEqual(pictures_of(ended.output), [meant])
+
+    def test_a_full_disk(self):
+        for form in "png", "pbm", *(["tiff"] if HAS_TIFF else []):
+            with self.subTest(form=form), open("/dev/full", "wb") as full:
+                words = [EXAMPLE, "-p", "1", "-f", form]
+                ended = self.run_here(*words, "-o", "-", stdout=full)
+                self.assert_ends(ended, NOT_DONE, "standard output: No space left on device")
+                ended = self.run_here(*words, "-o", "/dev/full")
+                self.assert_ends(ended, NOT_DONE, "/dev/full: No space left on device")
+        with open("/dev/full", "wb") as full:
+            self.assert_ends(self.run_here("info", EXAMPLE, stdout=full), NOT_DONE, "No space left on device")
+
+    def test_a_limit_of_file_sizes(self):
+        self.made(slow_page(4096)[:30], "white.jb2e")
+        limited = ["sh", "-c", 'trap "" XFSZ; ulimit -f 1; exec "$@"', "sh", TOOL, "white.jb2e", "-o", "all.pbm"]
+        ended = subprocess.run(limited, cwd=self.room, capture_output=True, check=False)
+        self.assertEqual((ended.returncode, self.files()), (NOT_DONE, ["white.jb2e"]), ended.stderr)
+        self.assertIn(b"File too large", ended.stderr)
+
+    def test_a_closed_pipe(self):
+        for words in ["-f", "pbm"], ["-f", "png", "-p", "1"]:
+            reading, writing = os.pipe()
+            os.close(reading)
+            ended = self.run_here(EXAMPLE, *words, "-o", "-", stdout=writing)
+            os.close(writing)
+            self.assert_ends(ended, NOT_DONE, "standard output: Broken pipe")
+
+    def test_a_folder_without_rights(self):
+        how = {"user": NOBODY, "group": NOBODY, "extra_groups": []} if os.getuid() == 0 else {}
+        closed = self.room / "closed"
+        closed.mkdir()
+        closed.chmod(0o555)
+        self.room.chmod(0o755)
+        ended = self.run_here(EXAMPLE, "-o", "closed/", **how)
+        self.assert_ends(ended, NOT_DONE, "closed/t88-h1-1.png: Permission denied")
+        ended = self.run_here(EXAMPLE, "-o", "closed/new/", **how)
+        self.assert_ends(ended, NOT_DONE, "closed/new/: the folder can't be made: Permission denied")
+        ended = self.run_here(EXAMPLE, "-o", "gone/page.pbm")
+        self.assert_ends(ended, NOT_DONE, "gone/page.pbm: No such file or directory")
+        self.assertEqual(self.files(), [])
+
+    def test_a_file_that_lacks_pages_is_not_written(self):
+        damaged = self.made(BOOK[:36] + b"\xff" * 4 + BOOK[40:])
+        ended = self.run_here(damaged, "-o", "all.pbm")
+        self.assertEqual((ended.status, self.files()), (NOT_DONE, ["scan.jb2"]), ended.errors)
+
+    def test_a_signal_leaves_no_part(self):
+        self.made(slow_page(100), "quick.jb2e")
+        self.made(slow_page(60000), "slow.jb2e")
+        words = [TOOL, "quick.jb2e", "slow.jb2e", "-o", "both.pbm"]
+        with subprocess.Popen(words, cwd=self.room, stderr=subprocess.DEVNULL) as process:
+            self.wait_for_part()
+            process.send_signal(signal.SIGTERM)
+            self.assertEqual(process.wait(20), -signal.SIGTERM)
+        self.assertEqual(self.files(), ["quick.jb2e", "slow.jb2e"])
+
+    def test_a_terminal(self):
+        leader, follower = pty.openpty()
+        ended = self.run_here(EXAMPLE, "-p", "1", "-o", "-", stdout=follower)
+        self.assertEqual(ended.status, 2)
+        self.assertIn("no picture is written to a terminal", ended.errors)
+        os.close(leader)
+        os.close(follower)
+
+    def test_progress_on_a_terminal_alone(self):
+        many = [self.made(slow_page(2000), f"page-{number}.jb2e") for number in range(12)]
+        words = [TOOL, *map(str, many), "-j", "1", "-f", "pbm", "-o", "/dev/null"]
+        shown = shown_on_terminal(words, self.room)
+        self.assertRegex(shown, r"\d+ of \d+ pages")
+        self.assertTrue(shown.endswith("\r\033[K"), shown[-20:])
+        self.assertEqual(shown_on_terminal([*words, "--quiet"], self.room), "")
+
+    def test_the_stem_of_hidden_and_odd_names(self):
+        for name, stem in {".jb2": ".jb2", "a.b.jb2": "a.b", "plain": "plain"}.items():
+            self.made(BOOK, name)
+            self.assert_ends(self.run_here(name, "-p", "1"), WHOLE)
+            self.assertIn(f"{stem}-1.png", self.files())
+
+
+if __name__ == "__main__":
+    unittest.main()

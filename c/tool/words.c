@@ -1,0 +1,232 @@
+#include "platform.h"
+
+#include "words.h"
+
+#include "help.h"
+
+#include <ctype.h>
+#include <errno.h>
+#include <getopt.h>
+#include <stdio.h>
+#include <stdlib.h>
+#include <string.h>
+#include <unistd.h>
+
+enum { MOST_JOBS = 256 };
+enum { FORCE = 256, STRICTLY, SALVAGED, PASSWORD, WORK, MEMORY, JSON };
+
+static const struct option options[] = {
+    {"output", required_argument, NULL, 'o'}, {"format", required_argument, NULL, 'f'},
+    {"pages", required_argument, NULL, 'p'},  {"globals", required_argument, NULL, 'g'},
+    {"jobs", required_argument, NULL, 'j'},   {"quiet", no_argument, NULL, 'q'},
+    {"help", no_argument, NULL, 'h'},         {"version", no_argument, NULL, 'V'},
+    {"force", no_argument, NULL, FORCE},      {"strict", no_argument, NULL, STRICTLY},
+    {"salvage", no_argument, NULL, SALVAGED}, {"password", required_argument, NULL, PASSWORD},
+    {"work", required_argument, NULL, WORK},  {"memory", required_argument, NULL, MEMORY},
+    {"json", no_argument, NULL, JSON},        {NULL, 0, NULL, 0},
+};
+
+/* A whole number of decimal digits at `*at`, which moves after it. */
+static bool read_number(const char **at, uint64_t *number) {
+    char *end;
+    if (!isdigit((unsigned char)**at))
+        return false;
+    errno = 0;
+    unsigned long long value = strtoull(*at, &end, 10);
+    *number = value;
+    *at = end;
+    return errno == 0;
+}
+
+static bool read_range(const char **at, struct range *range) {
+    uint64_t first, last;
+    if (!read_number(at, &first))
+        return false;
+    last = first;
+    if (**at == '-') {
+        ++*at;
+        if (isdigit((unsigned char)**at) ? !read_number(at, &last) : (last = SIZE_MAX, false))
+            return false;
+    }
+    *range = (struct range){first, last > SIZE_MAX ? SIZE_MAX : last};
+    return first >= 1 && first <= last;
+}
+
+static bool read_ranges(struct words *words, const char *at) {
+    do {
+        struct range range;
+        if (!read_range(&at, &range))
+            return false;
+        words->ranges = larger_room(words->ranges, (words->range_count + 1) * sizeof *words->ranges);
+        words->ranges[words->range_count++] = range;
+    } while (*at++ == ',');
+    return at[-1] == '\0';
+}
+
+static bool read_size(const char *at, size_t *size) {
+    static const char units[] = "KMG";
+    uint64_t number;
+    if (!read_number(&at, &number) || number == 0)
+        return false;
+    const char *unit = *at != '\0' ? strchr(units, toupper((unsigned char)*at)) : NULL;
+    unsigned shift = unit != NULL ? 10 * (unsigned)(unit - units + 1) : 0;
+    at += unit != NULL;
+    *size = number >> (63 - shift) != 0 ? SIZE_MAX - 1 : (size_t)(number << shift);
+    return *at == '\0';
+}
+
+static bool read_work(struct reading *reading, const char *at) {
+    reading->has_own_work = true;
+    reading->work = HAYRO_JBIG2_NO_WORK_LIMIT;
+    return strcmp(at, "none") == 0 || (read_number(&at, &reading->work) && *at == '\0');
+}
+
+static bool read_jobs(unsigned *jobs, const char *at) {
+    uint64_t number;
+    bool is_number = read_number(&at, &number) && *at == '\0' && number >= 1;
+    *jobs = is_number && number < MOST_JOBS ? (unsigned)number : MOST_JOBS;
+    return is_number;
+}
+
+static bool read_format(struct words *words, const char *name) {
+    static const struct {
+        const char *name;
+        enum format format;
+    } names[] = {{"png", FORMAT_PNG}, {"pbm", FORMAT_PBM}, {"tiff", FORMAT_TIFF}, {"tif", FORMAT_TIFF}};
+    words->has_format = false;
+    for (size_t i = 0; i < sizeof names / sizeof *names; i++)
+        if (strcmp(name, names[i].name) == 0) {
+            words->has_format = true;
+            words->format = names[i].format;
+        }
+    return words->has_format;
+}
+
+static bool set_way(struct words *words, enum way way) {
+    bool is_other = words->reading.way != LENIENT && words->reading.way != way;
+    words->reading.way = way;
+    return !is_other;
+}
+
+/* False where the option's own word is wrong. */
+static bool take_option(struct words *words, int option, const char *word) {
+    switch (option) {
+    case 'o':
+        words->output = word;
+        return word[0] != '\0';
+    case 'f':
+        return read_format(words, word);
+    case 'p':
+        return read_ranges(words, word);
+    case 'g':
+        words->globals = word;
+        return true;
+    case 'j':
+        return read_jobs(&words->jobs, word);
+    case 'q':
+        return words->is_quiet = true;
+    case FORCE:
+        return words->is_forced = true;
+    case STRICTLY:
+        return set_way(words, STRICT);
+    case SALVAGED:
+        return set_way(words, SALVAGE);
+    case PASSWORD:
+        words->password = word;
+        return true;
+    case WORK:
+        return read_work(&words->reading, word);
+    case MEMORY:
+        return read_size(word, &words->reading.memory);
+    default:
+        return words->is_json = true;
+    }
+}
+
+static enum request wrong(const char *what, const char *word) {
+    complain("%s%s%s; see " PROGRAM " --help", what, word != NULL ? " " : "", word != NULL ? word : "");
+    return STOP_WRONG;
+}
+
+static const char *name_of_option(int option) {
+    for (const struct option *at = options; at->name != NULL; at++)
+        if (at->val == option)
+            return at->name;
+    return "?";
+}
+
+static enum request read_options(struct words *words, int count, char **all) {
+    int option;
+    opterr = 0;
+    while ((option = getopt_long(count, all, ":o:f:p:g:j:qhV", options, NULL)) != -1) {
+        if (option == 'h' || option == 'V') {
+            (option == 'h' ? print_help : print_version)();
+            return STOP_WELL;
+        }
+        if (option == ':')
+            return wrong("a word is missing after", all[optind - 1]);
+        if (option == '?')
+            return wrong("there is no option", all[optind - 1]);
+        if (!take_option(words, option, optarg)) {
+            char what[40];
+            snprintf(what, sizeof what, "wrong word for --%s:", name_of_option(option));
+            return option == STRICTLY || option == SALVAGED ? wrong("either --strict or --salvage", NULL)
+                                                            : wrong(what, optarg);
+        }
+    }
+    return GO_ON;
+}
+
+/* The format by the name's ending, if nothing else says it. */
+static bool choose_format(struct words *words) {
+    const char *name = words->output != NULL ? words->output : "";
+    const char *slash = strrchr(name, '/'), *dot = strrchr(slash != NULL ? slash : name, '.');
+    if (words->has_format || dot == NULL || dot == name || dot[1] == '\0' || strcmp(name, "..") == 0)
+        return true;
+    return read_format(words, dot + 1);
+}
+
+static enum request check_words(struct words *words) {
+    size_t standard_inputs = words->globals != NULL && strcmp(words->globals, "-") == 0;
+    if (words->input_count == 0)
+        return wrong("name a file", NULL);
+    for (size_t i = 0; i < words->input_count; i++)
+        standard_inputs += strcmp(words->inputs[i], "-") == 0;
+    if (standard_inputs > 1)
+        return wrong("standard input can be read once", NULL);
+    if (words->is_info && (words->output != NULL || words->has_format))
+        return wrong("info writes to standard output", NULL);
+    if (!words->is_info && words->is_json)
+        return wrong("--json is for info", NULL);
+    if (words->output == NULL && words->input_count == 1 && standard_inputs == 1)
+        words->output = "-";
+    if (!choose_format(words))
+        return wrong("no format for the ending of (or give --format)", words->output);
+    bool is_terminal =
+        !words->is_info && words->output != NULL && strcmp(words->output, "-") == 0 && isatty(STDOUT_FILENO);
+    return is_terminal ? wrong("no picture is written to a terminal: give -o FILE", NULL) : GO_ON;
+}
+
+enum request read_words(struct words *words, int count, char **all) {
+    *words = (struct words){.reading = {.way = LENIENT, .memory = SIZE_MAX}, .password = NULL};
+    enum request request = read_options(words, count, all);
+    if (request != GO_ON)
+        return request;
+    words->is_info = optind < count && strcmp(all[optind], "info") == 0;
+    words->inputs = all + optind + words->is_info;
+    words->input_count = (size_t)(count - optind - words->is_info);
+    if (words->jobs == 0) {
+        long processors = sysconf(_SC_NPROCESSORS_ONLN);
+        words->jobs = processors < 1 ? 1 : processors > MOST_JOBS ? MOST_JOBS : (unsigned)processors;
+    }
+    return check_words(words);
+}
+
+void free_words(struct words *words) { free(words->ranges); }
+
+bool is_wanted(const struct words *words, size_t page) {
+    bool is_in_range = words->range_count == 0;
+    for (size_t i = 0; i < words->range_count; i++)
+        is_in_range = is_in_range || (page >= words->ranges[i].first && page <= words->ranges[i].last);
+    return is_in_range;
+}
