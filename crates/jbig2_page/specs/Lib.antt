@@ -1,6 +1,7 @@
 pub mod Calls
 pub mod Causes
 pub mod Files
+pub mod Forms
 pub mod Image
 pub mod Lenient
 pub mod Names

@@ -12,6 +12,7 @@ ghost use Rattle.jbig2_base.specs.inner.SegmentViews.{segment_views};
 pub(crate) mod beginning;
 mod calls;
 pub mod decoder;
+pub mod form;
 mod image;
 mod output;
 mod page_segments;

@@ -3,6 +3,7 @@ ghost use Rattle.std.specs.Prelude.{◌≡◌, ◌+◌, ◌*◌, ◌≤◌, IfEr
 ghost use Rattle.jbig2_base.specs.Results.{Gives, Leaves};
 ghost use Rattle.jbig2_page.specs.Calls.{Decodes, IsCountable};
 ghost use Rattle.hayro_jbig2.specs.Context.{IsLeft, IsWithin};
+ghost use Rattle.jbig2_page.specs.Forms.{bytes_of_page, size_in};
 ghost use Rattle.jbig2_page.specs.Image.{image_of_page, packed_of_page, packed_size};
 ghost use Rattle.jbig2_page.specs.Page.{drawing_of_page, grid_of_page};
 ghost use Rattle.jbig2_page.specs.Returned.{IsReturned};
@@ -16,6 +17,7 @@ use crate::work_limit::WorkLimit;
 use jbig2_base::bitmap::steps::Work;
 use jbig2_base::error::Result;
 use jbig2_page::page::decoder::Decoder;
+use jbig2_page::page::form::Form;
 use std::alloc::Allocator;
 use std::marker::Brand;
 use std::sync::ledger::{Blank, Ledger};
@@ -58,21 +60,23 @@ impl<'a, A: Allocator + Clone> Page<'a, A> {
         ensures taken { let page = self.now.initial_page in
             IfOk result (λ _. Takes (price_of_bitmap page.width page.height) work.old work.new) }
     {
-        self.read_counted::<Brand>(buf, work, Blank::new(6))
+        self.read_counted::<Brand>(Form::Image, buf, work, Blank::new(6))
     }
 
+    /// Writes the page in this form, by a counter that may take what is left of the limit.
     fn read_counted<L: Ledger>(
         &self,
+        form: Form,
         buf: &mut [u8],
         limit: &mut WorkLimit,
         blank: Blank,
     ) -> Result<()>
-        requires sized { length buf.old
-            ≡ self.now.initial_page.width * self.now.initial_page.height }
+        requires sized { let page = self.now.initial_page in
+            length buf.old ≡ size_in form page.width page.height }
         requires name { blank.name ≡ L.name }
         requires parts { blank.parts ≡ L.parts }
         requires enough { blank.parts ≡ 6 }
-        ensures value { Gives (λ _. buf.new) result (image_of_page self.now) }
+        ensures value { Gives (λ _. buf.new) result (bytes_of_page form self.now) }
         ensures unchanged { OnErr result (buf.new ≡ buf.old) }
         ensures errors { IfErr result IsReturned }
         ensures limit { Takes 0 limit.old limit.new }
@@ -80,7 +84,7 @@ impl<'a, A: Allocator + Clone> Page<'a, A> {
             IfOk result (λ _. Takes (price_of_bitmap page.width page.height) limit.old limit.new) }
     {
         let mut work = limit.counter::<L>(blank);
-        let read = self.content.read_image(buf, &mut work);
+        let read = self.content.read_into(form, buf, &mut work);
         limit.end(&work);
         read
     }
@@ -100,7 +104,7 @@ impl<'a, A: Allocator + Clone> Page<'a, A> {
             let price = price_of_bitmap page.width page.height in
             IfOk result (λ _. budget work.new + 32 * price ≤ budget work.old) }
     {
-        self.content.read_image(buf, work)
+        self.content.read_into(Form::Image, buf, work)
     }
 
     /// Writes the page into `buf` as packed rows, from the top: a bit for each pixel, 1 for black, the leftmost pixel
@@ -129,31 +133,7 @@ impl<'a, A: Allocator + Clone> Page<'a, A> {
         ensures taken { let page = self.now.initial_page in
             IfOk result (λ _. Takes (price_of_bitmap page.width page.height) work.old work.new) }
     {
-        self.read_packed_counted::<Brand>(buf, work, Blank::new(6))
-    }
-
-    fn read_packed_counted<L: Ledger>(
-        &self,
-        buf: &mut [u8],
-        limit: &mut WorkLimit,
-        blank: Blank,
-    ) -> Result<()>
-        requires sized { length buf.old ≡ packed_size self.now.initial_page.width
-            self.now.initial_page.height }
-        requires name { blank.name ≡ L.name }
-        requires parts { blank.parts ≡ L.parts }
-        requires enough { blank.parts ≡ 6 }
-        ensures value { Gives (λ _. buf.new) result (packed_of_page self.now) }
-        ensures unchanged { OnErr result (buf.new ≡ buf.old) }
-        ensures errors { IfErr result IsReturned }
-        ensures limit { Takes 0 limit.old limit.new }
-        ensures taken { let page = self.now.initial_page in
-            IfOk result (λ _. Takes (price_of_bitmap page.width page.height) limit.old limit.new) }
-    {
-        let mut work = limit.counter::<L>(blank);
-        let read = self.content.read_packed(buf, &mut work);
-        limit.end(&work);
-        read
+        self.read_counted::<Brand>(Form::Packed, buf, work, Blank::new(6))
     }
 
     /// Draws the page in a context, which earlier pages may have used. The context then lends the page's packed rows,

@@ -4,6 +4,7 @@
 ghost use Rattle.std.specs.Prelude.{◌≡◌, ◌+◌, ◌*◌, ◌≤◌, IfErr, IfOk, OnErr, length};
 ghost use Rattle.jbig2_base.specs.Results.{Gives, Leaves};
 ghost use Rattle.jbig2_page.specs.Calls.{Decodes, IsCountable};
+ghost use Rattle.jbig2_page.specs.Forms.{bytes_of_page, size_in};
 ghost use Rattle.jbig2_page.specs.Image.{image_of_page, packed_of_page, packed_size};
 ghost use Rattle.jbig2_page.specs.Page.{segments_drawn, drawing_of_page, grid_of_page, blank_page};
 ghost use Rattle.jbig2_page.specs.Returned.{IsReturned};
@@ -15,6 +16,7 @@ use crate::kept::names::KeptNames;
 use crate::page::PageContent;
 use crate::page::calls::push_bitmap;
 use crate::page::decoder::Decoder;
+use crate::page::form::Form;
 use crate::page::image::write_image;
 use jbig2_base::bitmap::steps::Work;
 use jbig2_base::error::Result;
@@ -22,11 +24,32 @@ use std::alloc::Allocator;
 use std::sync::ledger::Ledger;
 
 impl<'a, A: Allocator + Clone> PageContent<'a, A> {
+    /// Writes the page into `buf` in this form.
+    ///
+    /// Returns the first fault of a segment that lenient reading does not pass over; `buf` is then as it was.
+    pub fn read_into<L: Ledger>(&self, form: Form, buf: &mut [u8], work: &mut Work<L>) -> Result<()>
+        requires { let page = self.now.initial_page in
+            length buf.old ≡ size_in form page.width page.height }
+        ensures value { Gives (λ _. buf.new) result (bytes_of_page form self.now) }
+        ensures unchanged { OnErr result (buf.new ≡ buf.old) }
+        ensures errors { IfErr result IsReturned }
+        ensures limit { IsWithinLimit work.old work.new }
+        ensures paid { Paid work.old work.new }
+        ensures taken { let page = self.now.initial_page in
+            let price = price_of_bitmap page.width page.height in
+            IfOk result (λ _. budget work.new + 32 * price ≤ budget work.old) }
+    {
+        match form {
+            Form::Image => self.read_image(buf, work),
+            Form::Packed => self.read_packed(buf, work),
+        }
+    }
+
     /// Writes the page into `buf`, which holds a byte for each pixel: rows from the top, 0 for
     /// black and 255 for white.
     ///
     /// Returns the first fault that lenient reading does not pass over; `buf` is then as it was.
-    pub fn read_image<L: Ledger>(&self, buf: &mut [u8], work: &mut Work<L>) -> Result<()>
+    fn read_image<L: Ledger>(&self, buf: &mut [u8], work: &mut Work<L>) -> Result<()>
         requires { length buf.old ≡ self.now.initial_page.width * self.now.initial_page.height }
         ensures value { Gives (λ _. buf.new) result (image_of_page self.now) }
         ensures unchanged { OnErr result (buf.new ≡ buf.old) }
@@ -47,7 +70,7 @@ impl<'a, A: Allocator + Clone> PageContent<'a, A> {
     /// PBM, TIFF and PDF.
     ///
     /// Returns the first fault of a segment that lenient reading does not pass over; `buf` is then as it was.
-    pub fn read_packed<L: Ledger>(&self, buf: &mut [u8], work: &mut Work<L>) -> Result<()>
+    fn read_packed<L: Ledger>(&self, buf: &mut [u8], work: &mut Work<L>) -> Result<()>
         requires { length buf.old ≡ packed_size self.now.initial_page.width
             self.now.initial_page.height }
         ensures value { Gives (λ _. buf.new) result (packed_of_page self.now) }

@@ -7,11 +7,11 @@ use Rattle.hayro_jbig2.proofs.page.Page.read_counted.Goals as goal
 
 pub returns-clause-limit : goal.returns-clause-limit
 returns-clause-limit g c =
-    limit-taken c.args.limit.now c.end.new.self c.counter-work.result c.read_image-read.new.work 0 c.end.ensures c.counter-work.ensures.steps c.counter-work.ensures.left
-    (omega (arith, c.read_image-read.ensures.paid))
+    limit-taken c.args.limit.now c.end.new.self c.counter-work.result c.read_into-read.new.work 0 c.end.ensures c.counter-work.ensures.steps c.counter-work.ensures.left
+    (omega (arith, c.read_into-read.ensures.paid))
 
 pub returns-clause-taken : goal.returns-clause-taken
 returns-clause-taken g c =
     let page = c.args.self.now.initial_page in
-    limit-taken-by c.read_image-read.result c.args.limit.now c.end.new.self c.counter-work.result c.read_image-read.new.work (price_of_bitmap page.width page.height) c.end.ensures c.counter-work.ensures.steps c.counter-work.ensures.left
-    (subst (λ (p : ReadPage). IfOk c.read_image-read.result (λ _. budget c.read_image-read.new.work + 32 * price_of_bitmap p.initial_page.width p.initial_page.height ≤ budget c.counter-work.result)) c.self.view_is c.read_image-read.ensures.taken)
+    limit-taken-by c.read_into-read.result c.args.limit.now c.end.new.self c.counter-work.result c.read_into-read.new.work (price_of_bitmap page.width page.height) c.end.ensures c.counter-work.ensures.steps c.counter-work.ensures.left
+    (subst (λ (p : ReadPage). IfOk c.read_into-read.result (λ _. budget c.read_into-read.new.work + 32 * price_of_bitmap p.initial_page.width p.initial_page.height ≤ budget c.counter-work.result)) c.self.view_is c.read_into-read.ensures.taken)
