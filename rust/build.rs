@@ -7,10 +7,8 @@
 use std::path::{Path, PathBuf};
 use std::{env, fs};
 
-/// The text of the repository, from here and from `with-image`, and its copy in a packaged crate. `HAYRO_JBIG2_TEXT`
-/// may name another.
-const TEXTS: [&str; 3] =
-    ["../dist/x86_64/libhayro_jbig2.s", "../../dist/x86_64/libhayro_jbig2.s", "text/libhayro_jbig2.s"];
+/// The text of the repository, and its copy in a packaged crate. `HAYRO_JBIG2_TEXT` may name another.
+const TEXTS: [&str; 2] = ["../dist/x86_64/libhayro_jbig2.s", "text/libhayro_jbig2.s"];
 
 /// What the text calls of `src/library/memory.rs`.
 const CALLED: [&str; 2] = ["jbig2_c_take", "jbig2_c_give_back"];
