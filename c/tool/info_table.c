@@ -107,30 +107,42 @@ static void print_segment(const struct segment_list *list, const struct segment 
     free_text(&region);
 }
 
-/* Faults of one page, or of all where `page` is 0. Those of globals have places of their own. */
-static void print_faults_at(const struct listing *listing, size_t page, const struct segment *segment,
-                            bool are_shared) {
+static int compare_places(const void *one, const void *other) {
+    const struct fault *a = one, *b = other;
+    return a->place < b->place ? -1 : a->place > b->place;
+}
+
+/* Faults of one page, or of all where `page` is 0, by their places. Those of globals have places of their own. */
+static size_t sort_faults(const struct listing *listing, size_t page, struct fault **sorted) {
+    bool is_file = listing->document->kind == KIND_FILE;
+    size_t count = 0;
+    *sorted = room_for(listing->found_count * sizeof **sorted);
     for (size_t i = 0; i < listing->found_count; i++) {
         const struct found *found = &listing->found[i];
-        bool is_here = found->fault.has_place && found->fault.place == segment->place;
-        if (is_here && (page == 0 || found->page == page) && (are_shared || !found->fault.is_of_globals))
-            print_fault("      ^ FAULT at ", &found->fault);
+        bool is_shown = found->fault.has_place && (is_file || !found->fault.is_of_globals);
+        if (is_shown && (page == 0 || found->page == page))
+            (*sorted)[count++] = found->fault;
     }
+    qsort(*sorted, count, sizeof **sorted, compare_places);
+    return count;
 }
 
 static void print_segments(const struct listing *listing, const struct segment_list *list, size_t page) {
-    bool is_file = listing->document->kind == KIND_FILE;
-    if (list->count > 0 || list->known >= KNOWS_TYPE)
+    struct fault *faults;
+    size_t count = sort_faults(listing, page, &faults), next = 0;
+    bool has_last = list->error != HAYRO_JBIG2_OK && list->known >= KNOWS_TYPE;
+    if (list->count > 0 || has_last)
         printf("  %8s  %-37s  %4s  %9s  %8s   %-9s  %-27s%s\n", "segment", "type", "page", "byte", "length",
                "refers to", "region", "coding");
-    for (size_t i = 0; i < list->count; i++) {
-        print_segment(list, &list->at[i]);
-        print_faults_at(listing, page, &list->at[i], is_file);
+    for (size_t i = 0; i < list->count + has_last; i++) {
+        const struct segment *segment = i < list->count ? &list->at[i] : &list->last;
+        print_segment(list, segment);
+        while (next < count && faults[next].place < segment->place)
+            next++;
+        for (; next < count && faults[next].place == segment->place; next++)
+            print_fault("      ^ FAULT at ", &faults[next]);
     }
-    if (list->error != HAYRO_JBIG2_OK && list->known >= KNOWS_TYPE) {
-        print_segment(list, &list->last);
-        print_faults_at(listing, page, &list->last, is_file);
-    }
+    free(faults);
 }
 
 static void print_page(const struct listing *listing, size_t index, const struct drawn *drawn,

@@ -16,8 +16,7 @@ struct work {
     struct output single;
     const char *single_name;
     bool is_open;
-    bool has_failed;  /* to write the single output */
-    bool lacks_pages; /* that were refused */
+    bool has_failed; /* to write the single output */
 };
 
 static void add_notes(struct text *messages, const struct document *document, size_t index, const struct drawn *drawn) {
@@ -115,8 +114,6 @@ static void do_task(struct work *work, struct painter *painter, struct task *tas
         wait_for_turn(&work->queue, task);
     if (work->queue.is_single && has_page)
         append_to_single(work, &picture, &report);
-    else if (work->queue.is_single)
-        work->lacks_pages = true;
     else if (has_page)
         write_own_file(work->words, task->name, &picture, &report);
     finish_task(&work->queue, task, report);
@@ -141,13 +138,14 @@ static unsigned start_threads(struct work *work, pthread_t *threads) {
     return count;
 }
 
-/* A file without the pages that were refused isn't the document, so it doesn't appear. */
-static enum status finish_single(struct work *work) {
+/* A file that lacks pages doesn't appear. */
+static enum status finish_single(struct work *work, enum status status) {
     struct text reason = {NULL, 0, 0};
     bool is_written = !work->has_failed;
     if (!work->is_open)
         return ALL_WHOLE;
-    if (work->lacks_pages && work->single_name != NULL && is_written) {
+    bool lacks_pages = status != ALL_WHOLE && status != INCOMPLETE;
+    if (lacks_pages && work->single_name != NULL && is_written) {
         complain("%s is not written, since it would lack pages", work->single_name);
         is_written = false;
     }
@@ -172,7 +170,7 @@ static enum status run(struct work *work) {
     for (unsigned i = 0; i < count; i++)
         pthread_join(threads[i], NULL);
     free(threads);
-    return worse_of(status, finish_single(work));
+    return worse_of(status, finish_single(work, status));
 }
 
 /* What can be known before anything is drawn. */

@@ -166,6 +166,24 @@ static void list_headers_first(struct segment_list *list, struct cursor *cursor)
     }
 }
 
+/* By page, then by number, then by place. */
+static int compare_informations(const void *one, const void *other) {
+    const struct segment *a = *(const struct segment *const *)one, *b = *(const struct segment *const *)other;
+    if (a->page != b->page)
+        return a->page < b->page ? -1 : 1;
+    if (a->number != b->number)
+        return a->number < b->number ? -1 : 1;
+    return a < b ? -1 : a > b;
+}
+
+static void list_informations(struct segment_list *list) {
+    list->informations = room_for(list->count * sizeof *list->informations);
+    for (size_t i = 0; i < list->count; i++)
+        if (list->at[i].type == PAGE_INFORMATION)
+            list->informations[list->information_count++] = &list->at[i];
+    qsort(list->informations, list->information_count, sizeof *list->informations, compare_informations);
+}
+
 void list_segments(struct segment_list *list, const uint8_t *bytes, size_t size, size_t start, bool has_random_access) {
     struct cursor cursor = {.bytes = bytes, .size = size, .place = start < size ? start : size};
     *list = (struct segment_list){.bytes = bytes, .size = size};
@@ -173,10 +191,12 @@ void list_segments(struct segment_list *list, const uint8_t *bytes, size_t size,
         list_headers_first(list, &cursor);
     else
         list_one_after_the_other(list, &cursor);
+    list_informations(list);
 }
 
 void free_segments(struct segment_list *list) {
     free(list->at);
+    free(list->informations);
     *list = (struct segment_list){.bytes = NULL};
 }
 
@@ -235,16 +255,18 @@ static void read_page_information(const struct segment_list *list, const struct 
 }
 
 bool page_information_of(const struct segment_list *list, uint32_t page, struct page_information *information) {
-    const struct segment *first = NULL;
-    for (size_t i = 0; i < list->count; i++) {
-        const struct segment *segment = &list->at[i];
-        bool is_of_page = page == ANY_PAGE || segment->page == page;
-        if (segment->type == PAGE_INFORMATION && is_of_page && (first == NULL || segment->number < first->number))
-            first = segment;
+    size_t first = 0, end = list->information_count;
+    while (first < end) {
+        size_t middle = first + (end - first) / 2;
+        if (list->informations[middle]->page < page)
+            first = middle + 1;
+        else
+            end = middle;
     }
-    if (first != NULL)
-        read_page_information(list, first, information);
-    return first != NULL;
+    if (first == list->information_count || list->informations[first]->page != page)
+        return false;
+    read_page_information(list, list->informations[first], information);
+    return true;
 }
 
 /* One more than the greatest last row of all stripes, for pages whose height is unknown. */

@@ -41,6 +41,9 @@ struct segment_list {
     uint32_t error;      /* what ended the list early, a number of hayro_jbig2.h, or 0 */
     struct segment last; /* the segment of that error, as far as its header was read */
     enum known known;
+    /* The page informations by page and number, so that a file of many pages doesn't take the square of its length. */
+    const struct segment **informations;
+    size_t information_count;
 };
 
 #define UNKNOWN_LENGTH UINT32_C(0xFFFFFFFF)
@@ -80,9 +83,7 @@ struct page_information {
     uint16_t striping;
 };
 
-enum { ANY_PAGE = 0 };
-
-/* The first page information of a page, by the segments' numbers, or of any; false where there is none. */
+/* The first page information of a page, by the segments' numbers; false where there is none. */
 bool page_information_of(const struct segment_list *list, uint32_t page, struct page_information *information);
 /* How many pixels the pages state. Those whose height is unknown count up to the last stripe of all. */
 uint64_t stated_pixels(const struct segment_list *list);

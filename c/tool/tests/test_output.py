@@ -200,6 +200,10 @@ class Output(Case):
         damaged = self.made(BOOK[:36] + b"\xff" * 4 + BOOK[40:])
         ended = self.run_here(damaged, "-o", "all.pbm")
         self.assertEqual((ended.status, self.files()), (NOT_DONE, ["scan.jb2"]), ended.errors)
+        for words in [EXAMPLE, "gone.jb2"], [EXAMPLE, "--pages", "1-4"]:
+            ended = self.run_here(*words, "-o", "all.pbm")
+            self.assert_ends(ended, NOT_DONE, "all.pbm is not written, since it would lack pages")
+            self.assertEqual(self.files(), ["scan.jb2"])
 
     def test_a_signal_leaves_no_part(self):
         self.made(slow_page(100), "quick.jb2e")
