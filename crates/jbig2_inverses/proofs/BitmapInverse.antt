@@ -1,5 +1,5 @@
 -- Bitmaps by MMR are read back.
-use Rattle.std.proofs.Common.{◌≡◌, ℕ, zero, suc, ◌+◌, ◌-◌, ◌*◌, ◌/◌, ◌<◌, eqb, ltb, leb, Bool, true, false, cond, not, ◌&&◌, ◌||◌, List, [], ◌∷◌, ◌++◌, length, take, drop, get_or, replicate, Option, Some, None, Result, Ok, Err, refl, sym, ◌∙◌, ap, subst, arith, ne_eqb, lt-ltb, le-leb, append_assoc, append-nil}
+use Rattle.std.proofs.Common.{◌≡◌, ℕ, zero, suc, ◌+◌, ◌-◌, ◌*◌, ◌/◌, ◌<◌, ◌≤◌, eqb, ltb, leb, Bool, true, false, cond, not, ◌&&◌, ◌||◌, List, [], ◌∷◌, ◌++◌, length, length-append, take, drop, get_or, replicate, Option, Some, None, Result, Ok, Err, refl, sym, ◌∙◌, ap, subst, arith, ne_eqb, lt-ltb, le-leb, append_assoc, append-nil}
 use Rattle.std.specs.Prelude.{codes}
 use Rattle.std.specs.List.{flat_map}
 use Rattle.std.proofs.lemmas.Bool.{cond-true, cond-false, and_left, and_right, and_from, or_from, lt-leb}
@@ -14,10 +14,10 @@ use Rattle.jbig2_base.proofs.GridLemmas.{grid_of-ext}
 use Rattle.jbig2_mmr.specs.T6Codes.{word}
 use Rattle.jbig2_mmr.specs.T6.{Rows, row, pixel_of, black_at, ends_block, bits_of, rows_from, rows_of, grid_of_rows, DecodedRows, mmr_rows}
 use Rattle.jbig2_inverses.specs.RowWriter.{row_bits}
-use Rattle.jbig2_inverses.specs.BitmapWriter.{rows_bits, packed, mmr_bits, mmr_bytes, BitmapsReadBack}
-use Rattle.jbig2_inverses.proofs.Packing.{packed-bits}
+use Rattle.jbig2_inverses.specs.BitmapWriter.{rows_bits, packed, mmr_bits, mmr_bytes, BitmapsAreShort, BitmapsReadBack}
+use Rattle.jbig2_inverses.proofs.Packing.{length-packed, packed-bits}
 use Rattle.jbig2_inverses.proofs.RowBits.{are-bits, bits-both}
-use Rattle.jbig2_inverses.proofs.RowInverse.{reads-row, row-are-bits, row-no_end}
+use Rattle.jbig2_inverses.proofs.RowInverse.{reads-row, row-are-bits, row-length, row-no_end}
 
 -- what is left after all rows
 abbrev after_rows : List ℕ → List ℕ
@@ -171,3 +171,40 @@ module _ (strict ends : Bool) (w h : ℕ) (pixels : ℕ → ℕ → Bool) (wide 
 
 pub bitmaps_read_back : BitmapsReadBack
 bitmaps_read_back = reads-bitmap
+
+-- ---- lengths
+rows-length : (w : ℕ) (pixels : ℕ → ℕ → Bool) (n y : ℕ) (seen : ℕ → Bool) → length (rows_bits w pixels n y seen) ≤ n * (7 * w + 60)
+unfolding rows_bits
+rows-length w pixels zero y seen = omega arith
+rows-length w pixels (suc n) y seen =
+    let others = rows_bits w pixels n (y + 1) (λ x. ltb x w && pixels x y) in
+    let size = length-append (row_bits w seen (λ x. pixels x y)) others in
+    let one = row-length w seen (λ x. pixels x y) in
+    let more = rows-length w pixels n (y + 1) (λ x. ltb x w && pixels x y) in
+    let up = suc-times n (7 * w + 60) in
+    omega (arith, size, one, more, up)
+  where
+    suc-times : (n k : ℕ) → suc n * k ≡ n * k + k
+    suc-times n k = omega arith
+
+end-length : (ends : Bool) → length (end_bits ends) ≤ 24
+end-length true = omega arith
+end-length false = omega arith
+
+all-length : (ends : Bool) (w h : ℕ) (pixels : ℕ → ℕ → Bool) → length (mmr_bits ends w h pixels) ≤ h * (7 * w + 60) + 24
+unfolding mmr_bits
+all-length ends w h pixels =
+    let rs = rows_bits w pixels h 0 (λ x. false) in
+    let size = length-append rs (end_bits ends) in
+    let a = rows-length w pixels h 0 (λ x. false) in
+    let b = end-length ends in
+    omega (arith, size, a, b)
+
+pub bitmaps_are_short : BitmapsAreShort
+unfolding mmr_bytes
+bitmaps_are_short ends w h pixels =
+    let bits = mmr_bits ends w h pixels in
+    let n = (length bits + 7) / 8 in
+    let size = length-packed n bits in
+    let few = all-length ends w h pixels in
+    omega (arith, size, few)

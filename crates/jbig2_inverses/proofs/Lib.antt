@@ -18,6 +18,7 @@ mod RegionWorked
 pub mod RowBits
 pub mod RowCodes
 pub mod RowInverse
+pub mod RowLengths
 pub mod RowModes
 mod RowWorked
 pub mod SegmentInverse

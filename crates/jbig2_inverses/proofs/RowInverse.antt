@@ -1,6 +1,6 @@
 -- Rows of T.6 are read back.
-use Rattle.std.proofs.Common.{◌≡◌, ◌⊎◌, ℕ, zero, suc, ◌+◌, ◌<◌, ◌≤◌, ltb, leb, Bool, false, ◌&&◌, List, [], ◌++◌, length, Option, Some, None, refl, sym, ◌∙◌, ap, subst, arith, inl, inr, ⊎_elim, le-leb, le-ltb, append-nil, append_assoc, length-append}
-use Rattle.std.proofs.lemmas.Bool.{cond-true, cond-false, cases_lt, lt-leb, true≢false}
+use Rattle.std.proofs.Common.{◌≡◌, ◌⊎◌, ℕ, zero, suc, ◌+◌, ◌<◌, ◌≤◌, ltb, leb, Bool, false, ◌&&◌, List, [], ◌++◌, length, Option, Some, None, refl, sym, ◌∙◌, ap, subst, arith, inl, inr, ⊎_elim, le-leb, le-ltb, append-nil, append_assoc, length-append, ◌*◌}
+use Rattle.std.proofs.lemmas.Bool.{cond-true, cond-false, cond_both, cases_lt, lt-leb, true≢false}
 use Rattle.std.proofs.lemmas.List.{nil_from_length}
 use Rattle.jbig2_base.specs.inner.BitLists.{AreBits}
 use Rattle.jbig2_mmr.specs.T6Codes.{modes}
@@ -8,7 +8,7 @@ use Rattle.jbig2_mmr.specs.T6.{Head, Step, read_code, row, pixel_of, row_from, r
 use Rattle.jbig2_mmr.proofs.T6Rows.{change-none}
 use Rattle.jbig2_inverses.specs.RowWriter.{Code, code_of, bits_from, row_bits, RowsReadBack}
 use Rattle.jbig2_inverses.proofs.RowBits.{bits-both}
-use Rattle.jbig2_inverses.proofs.RowModes.{Done, Follows, measure, follows}
+use Rattle.jbig2_inverses.proofs.RowModes.{Done, Follows, measure, room_of, follows}
 
 ended : (most w : ℕ) (above : ℕ → Bool) (h : Head) (changes bits : List ℕ) → w ≤ h.a0 → row_from most w above h changes bits ≡ Some (changes, bits)
 unfolding row_from
@@ -145,6 +145,28 @@ module _ (w : ℕ) (above pixels : ℕ → Bool) where
 
   pub row-are-bits : AreBits (row_bits w above pixels)
   row-are-bits = subst AreBits (sym bits-are) (rest-bits (w + 1) row_start [] start)
+
+  -- at most seven bits for each pixel, and 60 more
+  rest-length : (most : ℕ) (h : Head) (changes : List ℕ) → Done w pixels h changes → length (bits_from w above pixels most h) ≤ room_of w h
+  unfolding bits_from
+  rest-length zero h changes d = omega arith
+  rest-length (suc most) h changes d = ⊎_elim
+      (λ (room : h.a0 < w).
+      let code = code_of w above pixels h in
+      let f = follows w above pixels h changes d room in
+      let size = ap length (more-bits most h room) ∙ length-append code.bits (bits_from w above pixels most code.head) in
+      let few = f.short in
+      let ih = rest-length most code.head (changes ++ f.added) f.done in
+      omega (arith, size, few, ih))
+      (λ (e : w ≤ h.a0). let none = ap length (no-bits (suc most) h e) in omega (arith, none))
+      (cases_lt h.a0 w)
+
+  start-room : room_of w row_start ≤ 7 * w + 60
+  unfolding room_of
+  start-room = let c = cond_both {A = ℕ} (ltb 0 w) 30 0 (λ (n : ℕ). n ≤ 30) (λ e. omega arith) (λ e. omega arith) in omega (arith, c)
+
+  pub row-length : length (row_bits w above pixels) ≤ 7 * w + 60
+  row-length = let e = ap length bits-are in let r = rest-length (w + 1) row_start [] start in let s = start-room in omega (arith, e, r, s)
 
   pub row-no_end : 0 < w → (rest : List ℕ) → ends_block (row_bits w above pixels ++ rest) ≡ false
   row-no_end some rest =

@@ -1,5 +1,5 @@
 -- One mode of a row, written and read.
-use Rattle.std.proofs.Common.{◌≡◌, ℕ, zero, suc, ◌+◌, ◌-◌, ◌<◌, ◌≤◌, ltb, leb, Bool, true, false, cond, not, ◌&&◌, List, [], ◌∷◌, ◌++◌, ℤ, pos, negsuc, ◌+ℤ◌, ◌-ℤ◌, Option, Some, None, refl, sym, ◌∙◌, ap, subst, arith, ⊎_elim, lt-ltb, le-ltb, le-leb, leb-true, ltb-true, append_assoc}
+use Rattle.std.proofs.Common.{◌≡◌, ℕ, zero, suc, ◌+◌, ◌-◌, ◌<◌, ◌≤◌, ltb, leb, Bool, true, false, cond, not, ◌&&◌, List, [], ◌∷◌, ◌++◌, ℤ, pos, negsuc, ◌+ℤ◌, ◌-ℤ◌, Option, Some, None, refl, sym, ◌∙◌, ap, subst, arith, ⊎_elim, lt-ltb, le-ltb, le-leb, leb-true, ltb-true, append_assoc, ◌*◌, length, length-append}
 use Rattle.std.proofs.lemmas.Bool.{cond-true, cond-false, cond_both, cases_eq, cases_lt, cases_Bool, and_parts, and_from, lt-leb, true≢false}
 use Rattle.jbig2_base.specs.Grid.{differ}
 use Rattle.jbig2_base.specs.Search.{least, place_from}
@@ -13,6 +13,7 @@ use Rattle.jbig2_mmr.specs.inner.T6Reading.{IsTurn}
 use Rattle.jbig2_mmr.proofs.T6Rows.{changes-both, step-by, pass-turn, vertical-turn, runs-turn}
 use Rattle.jbig2_inverses.specs.RowWriter.{Code, mode_word, run_bits, next_other, code_of}
 use Rattle.jbig2_inverses.proofs.RowBits.{pass-no_end, horizontal-no_end, right-no_end, left-no_end, mode-bits, run-bits, bits-both}
+use Rattle.jbig2_inverses.proofs.RowLengths.{mode-length, pass-length, horizontal-length, runs-length, run-length}
 use Rattle.jbig2_inverses.proofs.RowCodes.{pass-read, horizontal-read, right-read, left-read, run-read}
 
 -- ---- the search for a place
@@ -85,6 +86,10 @@ pub record Done (w : ℕ) (pixels : ℕ → Bool) (h : Head) (changes : List ℕ
 unfoldable pub measure : ℕ → Head → ℕ
 measure w h = w - h.a0 + cond h.past_start 0 1
 
+-- the most bits that may still come: seven for each pixel, and 30 both for the first mode and for the last one
+unfoldable pub room_of : ℕ → Head → ℕ
+room_of w h = 7 * (w - h.a0) + cond h.past_start 0 30 + cond (ltb h.a0 w) 30 0
+
 -- a mode that is written is read, and the row is done a bit further
 pub record Follows (w : ℕ) (above pixels : ℕ → Bool) (h : Head) (changes : List ℕ) (code : Code) : Type 0 where
   pub added : List ℕ
@@ -93,6 +98,7 @@ pub record Follows (w : ℕ) (above pixels : ℕ → Bool) (h : Head) (changes :
   pub less : measure w code.head < measure w h
   pub no_end : (left : List ℕ) → ends_block (code.bits ++ left) ≡ false
   pub bits : AreBits code.bits
+  pub short : length code.bits + room_of w code.head ≤ room_of w h
 
 -- the row so far, and the pixels that a mode adds
 joined : (w : ℕ) (pixels : ℕ → Bool) (h next : Head) (changes added : List ℕ) (turn : ℕ) → Done w pixels h changes → IsTurn w h added turn next
@@ -172,6 +178,27 @@ module _ (w : ℕ) (above pixels : ℕ → Bool) (h : Head) where
       (λ (e : h.past_start ≡ false). let one = cond-false {A = ℕ} h.past_start 0 1 e in omega (arith, one, last, forward))
       (cases_Bool h.past_start)
 
+  shortens : (next : Head) (n : ℕ) → h.a0 < w → next.past_start ≡ true → h.a0 ≤ next.a0 → next.a0 ≤ w → (h.past_start ≡ true → next.a0 < w → n ≤ 7 * (next.a0 - h.a0))
+      → n ≤ 7 * (next.a0 - h.a0) + 30 → n + room_of w next ≤ room_of w h
+  unfolding room_of
+  shortens next n room past forward inside few most =
+      let last = cond-true {A = ℕ} next.past_start 0 30 past in
+      let here = cond-true {A = ℕ} (ltb h.a0 w) 30 0 (lt-ltb h.a0 w room) in
+      ⊎_elim
+      (λ (more : next.a0 < w).
+      let there = cond-true {A = ℕ} (ltb next.a0 w) 30 0 (lt-ltb next.a0 w more) in
+      ⊎_elim
+      (λ (e : h.past_start ≡ true). let none = cond-true {A = ℕ} h.past_start 0 30 e in let f = few e more in omega (arith, last, here, there, none, f, forward))
+      (λ (e : h.past_start ≡ false). let one = cond-false {A = ℕ} h.past_start 0 30 e in omega (arith, last, here, there, one, most, forward, more))
+      (cases_Bool h.past_start))
+      (λ (ends : w ≤ next.a0).
+      let there = cond-false {A = ℕ} (ltb next.a0 w) 30 0 (le-ltb next.a0 w ends) in
+      ⊎_elim
+      (λ (e : h.past_start ≡ true). let none = cond-true {A = ℕ} h.past_start 0 30 e in omega (arith, last, here, there, none, most, ends, inside, room))
+      (λ (e : h.past_start ≡ false). let one = cond-false {A = ℕ} h.past_start 0 30 e in omega (arith, last, here, there, one, most, ends, inside, room))
+      (cases_Bool h.past_start))
+      (cases_lt next.a0 w)
+
   -- after the first mode a1 is right of a0
   further : (changes : List ℕ) (a1 a2 : ℕ) → Done w pixels h changes → h.a0 < w → Turns a1 a2 → h.past_start ≡ true → h.a0 < a1
   further changes a1 a2 d room t past =
@@ -180,6 +207,19 @@ module _ (w : ℕ) (above pixels : ℕ → Bool) (h : Head) where
       (λ (e : h.a0 ≡ a1). absurd (clash h.black (sym (d.colour past room) ∙ ap pixels e ∙ t.at1 (omega (arith, e, room)))))
       (λ (o : h.a0 ≡ a1 → ⊥). omega (arith, low, o))
       (cases_eq h.a0 a1)
+    where
+      clash : (b : Bool) → b ≡ not b → ⊥
+      clash true e = true≢false e
+      clash false e = true≢false (sym e)
+
+  -- the second run has pixels, unless it ends the row
+  second-run : (a1 a2 : ℕ) → Turns a1 a2 → a2 < w → a1 < a2
+  second-run a1 a2 t inside =
+      let mid = t.order2 in
+      ⊎_elim
+      (λ (e : a1 ≡ a2). absurd (clash h.black (sym (ap pixels e ∙ t.at2 inside) ∙ t.at1 (omega (arith, e, inside)))))
+      (λ (o : a1 ≡ a2 → ⊥). omega (arith, mid, o))
+      (cases_eq a1 a2)
     where
       clash : (b : Bool) → b ≡ not b → ⊥
       clash true e = true≢false e
@@ -211,6 +251,9 @@ module _ (w : ℕ) (above pixels : ℕ → Bool) (h : Head) where
         less = lessens next room refl forward (λ e. let f = from-past e in omega (arith, f, start, right));
         no_end = pass-no_end;
         bits = mode-bits Pass;
+        short = shortens next (length (mode_word Pass)) room refl forward reach.1
+            (λ e more. let f = from-past e in let four = pass-length in omega (arith, f, start, right, four))
+            (let four = pass-length in omega (arith, four));
       }
     where
       from-past : h.past_start ≡ true → from_place ≡ h.a0 + 1
@@ -241,6 +284,9 @@ module _ (w : ℕ) (above pixels : ℕ → Bool) (h : Head) where
         less = lessens next room refl low (λ e. further changes a1 a2 d room t e);
         no_end = no_end;
         bits = mode-bits (Vertical distance);
+        short = shortens next (length (mode_word (Vertical distance))) room refl low inside
+            (λ e more. let f = further changes a1 a2 d room t e in let seven = mode-length (Vertical distance) in omega (arith, f, seven))
+            (let seven = mode-length (Vertical distance) in omega (arith, seven));
       }
 
   horizontals : (changes : List ℕ) (a1 a2 : ℕ) → Done w pixels h changes → h.a0 < w → Turns a1 a2
@@ -253,6 +299,9 @@ module _ (w : ℕ) (above pixels : ℕ → Bool) (h : Head) where
       let high = t.within in
       let one = run_bits h.black (a1 - h.a0) in
       let two = run_bits (not h.black) (a2 - a1) in
+      let size = length-append (mode_word Horizontal) (one ++ two) in
+      let size2 = length-append one two in
+      let three = horizontal-length in
       let first : h.a0 + (a1 - h.a0) ≡ a1 = omega (arith, low) in
       let second : a1 + (a2 - a1) ≡ a2 = omega (arith, mid) in
       let made : ℕ → ℕ → List ℕ → Option Step = λ c e left. cond (leb e w) (Some (record { head = record { a0 = e; past_start = true; black = h.black }; added = c ∷ e ∷ []; left = left })) None in
@@ -281,6 +330,14 @@ module _ (w : ℕ) (above pixels : ℕ → Bool) (h : Head) where
         less = lessens next room refl (omega (arith, low, mid)) (λ e. let f = further changes a1 a2 d room t e in omega (arith, f, mid));
         no_end = λ left. ap ends_block (append_assoc (mode_word Horizontal) (one ++ two) left) ∙ horizontal-no_end ((one ++ two) ++ left);
         bits = bits-both (mode_word Horizontal) (one ++ two) (mode-bits Horizontal) (bits-both one two (run-bits h.black (a1 - h.a0)) (run-bits (not h.black) (a2 - a1)));
+        short = shortens next (length (mode_word Horizontal ++ (one ++ two))) room refl (omega (arith, low, mid)) high
+            (λ e more. let f = further changes a1 a2 d room t e in
+            let g = second-run a1 a2 t more in
+            let runs = runs-length h.black (a1 - h.a0) (a2 - a1) (omega (arith, f)) (omega (arith, g)) in
+            omega (arith, size, size2, three, runs, low, mid))
+            (let r1 = run-length h.black (a1 - h.a0) in
+            let r2 = run-length (not h.black) (a2 - a1) in
+            omega (arith, size, size2, three, r1, r2, low, mid));
       }
 
   -- the distance of a vertical mode

@@ -1,6 +1,6 @@
 -- Bitmaps by MMR (T.88, 6.2.6) as they are written: rows of T.6 one after another, and their bits in bytes. Then the law
 -- that `mmr_rows` gives back the bitmap.
-use Rattle.std.specs.Prelude.{◌≡◌, ℕ, zero, suc, ◌+◌, ◌/◌, ◌<◌, Bool, false, ◌&&◌, nat_lt, List, [], ◌∷◌, ◌++◌, length}
+use Rattle.std.specs.Prelude.{◌≡◌, ℕ, zero, suc, ◌+◌, ◌*◌, ◌/◌, ◌<◌, ◌≤◌, Bool, false, ◌&&◌, nat_lt, List, [], ◌∷◌, ◌++◌, length}
 use Rattle.std.specs.Prelude.{take, drop, replicate, codes, if◌then◌else◌, Ok}
 use Rattle.jbig2_base.specs.Bits.{number_after}
 use Rattle.jbig2_base.specs.Grid.{grid_of}
@@ -32,3 +32,8 @@ abbrev pub BitmapsReadBack : Type 0
 BitmapsReadBack = (strict ends : Bool) (w h : ℕ) (pixels : ℕ → ℕ → Bool) → 0 < w → 0 < h
     → let bytes = mmr_bytes ends w h pixels in
     mmr_rows strict w h bytes ≡ Ok (record { grid = grid_of w h pixels; used = length bytes })
+
+-- A bitmap takes at most seven bits for each pixel, and 60 for each row. So a segment can state its length (7.2.7).
+abbrev pub BitmapsAreShort : Type 0
+BitmapsAreShort = (ends : Bool) (w h : ℕ) (pixels : ℕ → ℕ → Bool)
+    → 8 * length (mmr_bytes ends w h pixels) ≤ h * (7 * w + 60) + 31

@@ -2,7 +2,7 @@
 //! definitions of writing and reading, and it holds for all values.
 #![tactic(auto)]
 
-ghost use Rattle.jbig2_inverses.specs.BitmapWriter.{BitmapsReadBack};
+ghost use Rattle.jbig2_inverses.specs.BitmapWriter.{BitmapsAreShort, BitmapsReadBack};
 ghost use Rattle.jbig2_inverses.specs.GenericSegmentWriter.{GenericSegmentsReadBack};
 ghost use Rattle.jbig2_inverses.specs.IntegerWriter.{IntegersReadBack, SymbolIdsReadBack};
 ghost use Rattle.jbig2_inverses.specs.PrefixWriter.{PrefixCodesReadBack};
@@ -49,6 +49,12 @@ pub fn rows_read_back()
 /// block or without, in strict and in lenient mode. All of the bytes are used.
 pub fn bitmaps_read_back()
     ensures { BitmapsReadBack }
+{}
+
+/// Bitmaps by MMR are short: at most seven bits for each pixel, and 60 for each row. So a segment can state the length of
+/// any bitmap with sides up to 65535.
+pub fn bitmaps_are_short()
+    ensures { BitmapsAreShort }
 {}
 
 /// Regions that the arithmetic coder codes pixel by pixel (T.88, 6.2.5 and 6.3.5) are read back, however their contexts
