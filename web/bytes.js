@@ -1,8 +1,8 @@
 const isShared = (buffer) => Object.prototype.toString.call(buffer) === "[object SharedArrayBuffer]";
 
 /**
- * The bytes of an ArrayBuffer or of any view of one, copied only where other threads share them. Other values, as texts, are no
- * bytes.
+ * The bytes of an ArrayBuffer or of any view of one, copied only where other threads share them. Other values, as
+ * texts, are no bytes.
  */
 export function bytesOf(source) {
   const isView = ArrayBuffer.isView(source);

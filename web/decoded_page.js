@@ -43,9 +43,9 @@ export class DecodedPage {
   #data = null;
 
   /**
-   * `rows`: a bit for each pixel, 1 is black, the leftmost the highest of its byte; (width + 7) >> 3 bytes a row. `passedOver`:
-   * of the segments that were passed over their `count`, and `segment` and `error` of the first. `leftOut`: what salvage left
-   * out besides, or null.
+   * `rows`: a bit for each pixel, 1 is black, the leftmost the highest of its byte; (width + 7) >> 3 bytes a row.
+   * `passedOver`: of the segments that were passed over their `count`, and `segment` and `error` of the first.
+   * `leftOut`: what salvage left out besides, or null.
    */
   constructor(width, height, rows, { passedOver, leftOut }) {
     Object.assign(this, { width, height, rows, passedOver, leftOut });

@@ -1,4 +1,6 @@
-/** Pages as figures: a caption, a button that saves the page, and a picture that is drawn while it is near what is seen. */
+/**
+ * Pages as figures: a caption, a button that saves the page, and a picture that is drawn while it is near what is seen.
+ */
 
 import { DecodedPage } from "./decoded_page.js";
 import { pngOf } from "./png.js";
@@ -13,7 +15,8 @@ function made(kind, properties = {}, ...children) {
 }
 
 function canvasOf(page, label) {
-  const canvas = made("canvas", { width: page.width, height: page.height, className: page.width < NARROW ? "narrow" : "" });
+  const className = page.width < NARROW ? "narrow" : "";
+  const canvas = made("canvas", { width: page.width, height: page.height, className });
   canvas.setAttribute("role", "img");
   canvas.setAttribute("aria-label", label);
   const context = canvas.getContext("2d");
@@ -49,7 +52,8 @@ addEventListener("afterprint", () => pictures().forEach((picture) => near.has(pi
 function pictureOf(page, label) {
   const picture = made("div", { className: "picture" });
   const enlarged = page.width < NARROW ? Math.floor(NARROW / page.width) * page.width : page.width;
-  for (const [name, value] of Object.entries({ width: page.width, height: page.height, enlarged })) picture.style.setProperty(`--${name}`, value);
+  const sizes = { width: page.width, height: page.height, enlarged };
+  for (const [name, value] of Object.entries(sizes)) picture.style.setProperty(`--${name}`, value);
   drawings.set(picture, () => {
     try {
       return canvasOf(page, label);
@@ -66,7 +70,8 @@ function pictureOf(page, label) {
 
 /** Saves a page as a PNG file. */
 async function save(page, name) {
-  const link = made("a", { download: name, href: URL.createObjectURL(new Blob([await pngOf(page)], { type: "image/png" })) });
+  const file = new Blob([await pngOf(page)], { type: "image/png" });
+  const link = made("a", { download: name, href: URL.createObjectURL(file) });
   link.click();
   setTimeout(() => URL.revokeObjectURL(link.href), 60_000);
 }
@@ -88,7 +93,8 @@ export function figureOf({ file, name = "", error, lacks, milliseconds, width, h
     return figure;
   }
   const page = new DecodedPage(width, height, rows, {});
-  const caption = made("figcaption", {}, made("b", { textContent: name }), made("span", { textContent: `${width} by ${height} pixels, ${milliseconds.toFixed(1)} ms` }));
+  const caption = made("figcaption", {}, made("b", { textContent: name }));
+  caption.append(made("span", { textContent: `${width} by ${height} pixels, ${milliseconds.toFixed(1)} ms` }));
   if (lacks) caption.append(made("span", { className: "lacks", textContent: `Incomplete: ${lacks}.` }));
   caption.append(saveButton(page, file, name));
   figure.append(caption, pictureOf(page, `${name} of ${file}${lacks ? ", incomplete" : ""}`));

@@ -37,7 +37,7 @@ export interface LeftOut {
 
 /** A page as packed rows, and as the other forms that they can be had in. */
 export class DecodedPage {
-  constructor(width: number, height: number, rows: Uint8Array, lacks: { passedOver: PassedOver; leftOut: LeftOut | null });
+  constructor(width: number, height: number, rows: Uint8Array, lacks: Pick<DecodedPage, "passedOver" | "leftOut">);
   readonly width: number;
   readonly height: number;
   /** A bit for each pixel, 1 is black, the leftmost the highest of its byte; (width + 7) >> 3 bytes a row. */
@@ -55,8 +55,8 @@ export class DecodedPage {
 
 export interface WorkOptions {
   /**
-   * The most units of work, for a page and for what it shares with others, or Infinity. Where it isn't given: 100 for each
-   * pixel of the page, 2^24 at least, and 2^28 for what pages share.
+   * The most units of work, for a page and for what it shares with others, or Infinity. Where it isn't given: 100 for
+   * each pixel of the page, 2^24 at least, and 2^28 for what pages share.
    */
   workLimit?: number | null;
 }

@@ -74,8 +74,8 @@ export class Decoder {
 
   /**
    * Loads the module.
-   * @param source hayro_jbig2.wasm as bytes, as a Response or as a WebAssembly.Module, or a promise of one of these; that
-   *   beside this file where it isn't given (in Node from 20.16 on)
+   * @param source hayro_jbig2.wasm as bytes, as a Response or as a WebAssembly.Module, or a promise of one of these;
+   *   that beside this file where it isn't given (in Node from 20.16 on)
    * @param most the most bytes of memory that decoding may take
    */
   static async load(source = ownModule(), most = 2 ** 31) {
@@ -102,14 +102,13 @@ export class Decoder {
   /** How many pages a file has. What they share is decoded, within the limit of work. */
   pageCount(bytes, { strict = false, salvage = false, workLimit = null } = {}) {
     checkLimit(workLimit);
-    return this.#with([bytesOf(bytes)], 0, ([stream]) =>
-      this.#file(stream, { strict, salvage, workLimit }, (file) => Number(this.#exports.hayro_jbig2_file_page_count(file))),
-    );
+    const count = (file) => Number(this.#exports.hayro_jbig2_file_page_count(file));
+    return this.#with([bytesOf(bytes)], 0, ([stream]) => this.#file(stream, { strict, salvage, workLimit }, count));
   }
 
   /**
-   * Whether the bytes of a file or of an embedded page end inside of a segment. Lenient reading and salvage leave that segment
-   * out, and don't count it. The end of a line after the last segment, as PDF files have it, is none.
+   * Whether the bytes of a file or of an embedded page end inside of a segment. Lenient reading and salvage leave that
+   * segment out, and don't count it. The end of a line after the last segment, as PDF files have it, is none.
    */
   endsEarly(source, { workLimit = null } = {}) {
     checkLimit(workLimit);
@@ -138,16 +137,16 @@ export class Decoder {
   }
 
   /**
-   * Decodes a page: of a file by its index from 0, or an embedded page with its globals, if it has some. Bytes with globals
-   * are an embedded page, others a file where `isFile` says so. Bytes are an ArrayBuffer or a view of one; other values are
-   * refused by a TypeError.
+   * Decodes a page: of a file by its index from 0, or an embedded page with its globals, if it has some. Bytes with
+   * globals are an embedded page, others a file where `isFile` says so. Bytes are an ArrayBuffer or a view of one;
+   * other values are refused by a TypeError.
    *
-   * With `strict` the first fault is thrown. With `salvage`, for viewers of damaged files, whatever a lenient decoder refuses
-   * is left out, and `leftOut` tells what: segments that pages share, as `passedOver`; how many `pages` of a file, with the
-   * error of the first as `firstPage`; and as `rest` the fault at which a list of segments ends early.
+   * With `strict` the first fault is thrown. With `salvage`, for viewers of damaged files, whatever a lenient decoder
+   * refuses is left out, and `leftOut` tells what: segments that pages share, as `passedOver`; how many `pages` of a
+   * file, with the error of the first as `firstPage`; and as `rest` the fault at which a list of segments ends early.
    *
-   * `workLimit` is a number of units, for the page and for what it shares with others, or Infinity. Where it isn't given, it is
-   * 100 for each pixel of the page, and 2^24 at least; for what pages share it is 2^28.
+   * `workLimit` is a number of units, for the page and for what it shares with others, or Infinity. Where it isn't
+   * given, it is 100 for each pixel of the page, and 2^24 at least; for what pages share it is 2^28.
    * @returns {DecodedPage}
    * @throws {WorkLimitReached | Jbig2Error}
    */
@@ -212,7 +211,8 @@ export class Decoder {
   /** What salvage left out of what a handle holds. */
   #leftOut(kind, handle) {
     const counts = this.#numbers([8, 4, 4, 8, 4, 4], `hayro_jbig2_${kind}_get_left_out`, handle);
-    return { passedOver: passedOver(counts), pages: counts[3], firstPage: errorOf(counts[4]), rest: errorOf(counts[5]) };
+    const [pages, firstPage, rest] = counts.slice(3);
+    return { passedOver: passedOver(counts), pages, firstPage: errorOf(firstPage), rest: errorOf(rest) };
   }
 
   /** The packed rows of the page that was drawn last in a context. */
@@ -229,8 +229,8 @@ export class Decoder {
   }
 
   /**
-   * Makes a call, of at most `limit` units of work. After one that doesn't return, the module's stack and memory are not as they
-   * were.
+   * Makes a call, of at most `limit` units of work. After one that doesn't return, the module's stack and memory are
+   * not as they were.
    */
   #call(limit, name, ...words) {
     let answer;

@@ -10,8 +10,8 @@ function rounded(size) {
 }
 
 /**
- * The heap that the module asks for memory: blocks that are given back wait by size, others are cut off the end. When nothing is
- * held any more, it begins anew, so that blocks of earlier sizes take no room.
+ * The heap that the module asks for memory: blocks that are given back wait by size, others are cut off the end. When
+ * nothing is held any more, it begins anew, so that blocks of earlier sizes take no room.
  */
 export class Heap {
   constructor(most) {

@@ -40,7 +40,10 @@ export class Jbig2Image {
     return page;
   }
 
-  /** The packed rows of an image of a PDF file, 1 is black. Of its chunks the last is the image, those before it its globals. */
+  /**
+   * The packed rows of an image of a PDF file, 1 is black. Of its chunks the last is the image, those before it its
+   * globals.
+   */
   parseChunks(chunks) {
     const globals = chunks.length > 1 ? joined(chunks.slice(0, -1)) : null;
     const { rows } = this.#decode(joined(chunks.slice(-1)), globals);

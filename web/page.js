@@ -53,7 +53,8 @@ const queue = new FileQueue({
 });
 
 function take(chosen) {
-  const options = { salvage: element("salvage").checked, isLimited: element("limited").checked, seconds: Math.max(element("seconds").valueAsNumber || 0, 1) };
+  const [salvage, isLimited] = ["salvage", "limited"].map((id) => element(id).checked);
+  const options = { salvage, isLimited, seconds: Math.max(element("seconds").valueAsNumber || 0, 1) };
   for (const file of chosen) queue.add(file, options);
 }
 

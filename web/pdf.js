@@ -1,8 +1,8 @@
 /**
  * The JBIG2 images of a PDF file (ISO 32000-1, 7.4.7): each image's stream, and that of its globals.
  *
- * Objects are found by their words `N G obj`, and those in object streams with them, so a damaged table of references does no
- * harm. Encrypted files are refused. README.md has the bounds of time and memory.
+ * Objects are found by their words `N G obj`, and those in object streams with them, so a damaged table of references
+ * does no harm. Encrypted files are refused. README.md has the bounds of time and memory.
  */
 
 import { bytesOf } from "./bytes.js";
@@ -94,7 +94,8 @@ export class Pdf {
   /** The parameters of a stream's filters: a dictionary or nothing for each. */
   #parameters(object) {
     const parameters = listOf(this.#objects.valueOf(object, "DecodeParms")).slice(0, MOST_FILTERS);
-    return parameters.map((some) => this.#objects.resolved(some)).map((value) => (value instanceof Map ? { value } : {}));
+    const values = parameters.map((some) => this.#objects.resolved(some));
+    return values.map((value) => (value instanceof Map ? { value } : {}));
   }
 
   /** The bytes of a stream, its Flate filters undone. Others, which are rare beside /JBIG2Decode, are refused. */
@@ -107,7 +108,8 @@ export class Pdf {
     for (const [index, filter] of filters.entries()) {
       if (filter === JBIG2 && index === filters.length - 1) break;
       if (!FLATE.has(filter)) throw new PdfError(`the filter ${filter.slice(1, 40)} is not read here`);
-      if (this.#objects.valueOf(parameters[index] ?? {}, "Predictor") > 1) throw new PdfError("predictors of Flate are not read here");
+      const predictor = this.#objects.valueOf(parameters[index] ?? {}, "Predictor");
+      if (predictor > 1) throw new PdfError("predictors of Flate are not read here");
       data = await inflated(data, (size) => this.#room.take(object, size));
     }
     return data;

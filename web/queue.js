@@ -1,14 +1,15 @@
 /**
- * Files that a worker decodes, one after the other. One that takes too long, or that a user stops, ends its worker, and the next
- * file gets another.
+ * Files that a worker decodes, one after the other. One that takes too long, or that a user stops, ends its worker,
+ * and the next file gets another.
  */
 
 /** A worker that has loaded the decoder. */
 function loadedWorker() {
   const worker = new Worker(new URL("worker.js", import.meta.url), { type: "module" });
   return new Promise((resolve, reject) => {
-    worker.onmessage = ({ data }) => (data.isReady ? resolve(worker) : reject(new Error(`the decoder could not be loaded: ${data.error}`)));
-    worker.onerror = (event) => reject(new Error(`the decoder could not be loaded: ${event.message ?? "no module workers"}`));
+    const fail = (text) => reject(new Error(`the decoder could not be loaded: ${text}`));
+    worker.onmessage = ({ data }) => (data.isReady ? resolve(worker) : fail(data.error));
+    worker.onerror = (event) => fail(event.message ?? "no module workers");
   });
 }
 

@@ -6,7 +6,10 @@ let decoder;
 
 /** An image of a PDF file: its name, and how to decode it. */
 function imageOf(pdf, number, options) {
-  const decode = ({ bytes, globals }) => ({ page: decoder.decode(bytes, { globals, ...options }), endsEarly: decoder.endsEarly(bytes, options) });
+  const decode = ({ bytes, globals }) => {
+    const page = decoder.decode(bytes, { globals, ...options });
+    return { page, endsEarly: decoder.endsEarly(bytes, options) };
+  };
   return { name: `object ${number}`, decode: () => pdf.streams(number).then(decode) };
 }
 
@@ -33,8 +36,12 @@ async function contentsOf(bytes, options) {
   }
   const count = decoder.pageCount(bytes, options);
   // What is cut off is at the end, so the last page lacks it.
-  const decode = (page) => ({ page: decoder.decode(bytes, { page, ...options }), endsEarly: endsEarly && page === count - 1 });
-  return { kind: "page", pages: Array.from({ length: count }, (_, page) => ({ decode: () => decode(page) })), faults: [] };
+  const decode = (index) => {
+    const page = decoder.decode(bytes, { page: index, ...options });
+    return { page, endsEarly: endsEarly && index === count - 1 };
+  };
+  const pages = Array.from({ length: count }, (_, index) => ({ decode: () => decode(index) }));
+  return { kind: "page", pages, faults: [] };
 }
 
 const described = (error) => (error.error ? `${error.error}: ${error.message}` : String(error.message ?? error));

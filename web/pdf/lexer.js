@@ -12,11 +12,9 @@ const isRegular = isWhite.map((white, byte) => (white || isDelimiter[byte] ? 0 :
 const isHexadecimal = new Uint8Array(256);
 for (const character of "0123456789ABCDEFabcdef") isHexadecimal[character.charCodeAt(0)] = 1;
 
-const [TAB, LINE_FEED, CARRIAGE_RETURN, SPACE, HASH, PERCENT, OPEN, CLOSE, SLASH, LESS, GREATER, BACKSLASH] = Array.from(
-  "\t\n\r #%()/<>\\",
-  (character) => character.charCodeAt(0),
-);
 const bytesOf = (text) => Uint8Array.from(text, (character) => character.charCodeAt(0));
+const [TAB, LINE_FEED, CARRIAGE_RETURN, SPACE] = bytesOf("\t\n\r ");
+const [HASH, PERCENT, OPEN, CLOSE, SLASH, LESS, GREATER, BACKSLASH] = bytesOf("#%()/<>\\");
 const END_OF_OBJECT = bytesOf("endobj");
 const END_OF_STREAM = bytesOf("endstream");
 const END_OF_FILE = bytesOf("%%EOF");
@@ -44,7 +42,9 @@ export class Lexer {
     this.#reach = end - place;
   }
 
-  /** Reads a word inside of an object. Its kind, and what it means: a number, a name with its slash, or a word's text. */
+  /**
+   * Reads a word inside of an object. Its kind, and what it means: a number, a name with its slash, or a word's text.
+   */
   next() {
     this.#skipWhite();
     const byte = this.#start();
@@ -89,7 +89,9 @@ export class Lexer {
     return this.#has(END_OF_STREAM, place);
   }
 
-  /** The place of the next `endstream` or `endobj`, without the end of the line before it; the end where there is none. */
+  /**
+   * The place of the next `endstream` or `endobj`, without the end of the line before it; the end where there is none.
+   */
   placeOfEnd() {
     let place = this.#found(this.place, [END_OF_STREAM, END_OF_OBJECT]);
     if (place === this.end) return place;
@@ -98,7 +100,9 @@ export class Lexer {
     return place;
   }
 
-  /** Begins a word: the byte that it begins with, or -1 at the end. Where that byte is a regular one, reads the word. */
+  /**
+   * Begins a word: the byte that it begins with, or -1 at the end. Where that byte is a regular one, reads the word.
+   */
   #start() {
     this.#numbers[0] = this.kind === NUMBER ? this.#numbers[1] : -1;
     this.#numbers[1] = this.kind === NUMBER ? this.begin : -1;

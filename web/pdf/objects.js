@@ -103,7 +103,10 @@ class Scan {
     if (dictionary instanceof Map && (dictionary.get("/Encrypt") ?? null) !== null) this.isEncrypted = true;
   }
 
-  /** Whether a stream is longer than it was read, by a length that came after it. What else it has may look like objects. */
+  /**
+   * Whether a stream is longer than it was read, by a length that came after it. What else it has may look like
+   * objects.
+   */
   get hasCutStream() {
     const isCut = (object) => {
       const end = object.begin + Number(this.objects.valueOf(object, "Length"));

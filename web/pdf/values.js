@@ -4,7 +4,7 @@ import { END, NAME, NUMBER, STRING, WORD } from "./lexer.js";
 
 // The keys of dictionaries that are looked at here. What others have is dropped at once.
 const KEYS = new Set(
-  ["Type", "Filter", "DecodeParms", "Length", "N", "First", "JBIG2Globals", "Predictor", "Encrypt"].map((key) => `/${key}`),
+  "/Type /Filter /DecodeParms /Length /N /First /JBIG2Globals /Predictor /Encrypt".split(" "),
 );
 // Image dictionaries have a few dozen words. An object of more words, or with more brackets open, is passed over.
 const MOST_WORDS = 4096;
@@ -43,9 +43,9 @@ function refer(items) {
 }
 
 /**
- * The value at a lexer's place: a number, a name as a text with its slash, a `Reference`, an array, a dictionary as a Map, or
- * null for what nobody needs here. It ends at a word that comes after a value, which is put back, or with the bytes. One that is
- * too long is null, and the lexer stays in it.
+ * The value at a lexer's place: a number, a name as a text with its slash, a `Reference`, an array, a dictionary as a
+ * Map, or null for what nobody needs here. It ends at a word that comes after a value, which is put back, or with the
+ * bytes. One that is too long is null, and the lexer stays in it.
  */
 export function valueAt(lexer) {
   const open = [{ items: [] }];
