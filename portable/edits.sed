@@ -2,6 +2,11 @@
 #
 # Nothing uses alloca, and Windows and BSD have no such header.
 /^#include <alloca\.h>$/d
+# The module has no floating point: with these functions an unoptimized program would need the library of mathematics.
+/^#include <math\.h>$/d
+/^static float quiet_nanf/,/^static inline void memory_fill/{
+/^static inline void memory_fill/!d
+}
 # A value that is loaded and not used need not be loaded: bounds are checked before.
 s/^#define wasm_asm __asm__$/#define wasm_asm(...)/
 # One comparison is enough, since the memory has spare bytes after its end (wasm-rt.h).
