@@ -1,4 +1,6 @@
-//! JBIG2 files by the hooks of the crate `image`, and a page as its decoder. usage: with-image FILE, which is t88-h1.jb2
+//! JBIG2 files by the hooks of the crate `image`, and a page as its decoder.
+//!
+//! usage: with-image FILE, which is t88-h1.jb2
 
 use hayro_jbig2::integration::{Jbig2Decoder, register_decoding_hook};
 use hayro_jbig2::{DecodeSettings, File, Page};
