@@ -3,6 +3,7 @@
 #![tactic(auto)]
 
 ghost use Rattle.jbig2_inverses.specs.BitmapWriter.{BitmapsAreShort, BitmapsReadBack};
+ghost use Rattle.jbig2_inverses.specs.CoderStates.{CodedDataIsShort};
 ghost use Rattle.jbig2_inverses.specs.GenericSegmentWriter.{GenericSegmentsReadBack};
 ghost use Rattle.jbig2_inverses.specs.IntegerWriter.{IntegersReadBack, SymbolIdsReadBack};
 ghost use Rattle.jbig2_inverses.specs.PrefixWriter.{PrefixCodesReadBack};
@@ -36,6 +37,11 @@ pub fn symbol_ids_read_back()
 /// procedures, asked in turn, read the list. All contexts are fresh at first.
 pub fn sequences_read_back()
     ensures { SequencesReadBack }
+{}
+
+/// The data of the encoder of E.2 is short: at most fifteen bits in bytes of seven for each decision, and 40 bits more.
+pub fn coded_data_is_short()
+    ensures { CodedDataIsShort }
 {}
 
 /// Rows of T.6, which T.88 calls MMR, are read back: each row of each width, under each row above it. From the modes and
