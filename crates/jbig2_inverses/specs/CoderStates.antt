@@ -1,4 +1,5 @@
--- The arithmetic decoder (Annex G) in the midst of a list of decisions: its registers, and the contexts by their numbers.
+-- The arithmetic decoder (Annex G) in the midst of a list of decisions: its registers, and the contexts by their
+-- numbers.
 use Rattle.std.specs.Prelude.{◌≡◌, ℕ, zero, suc, ◌+◌, ◌*◌, ◌≤◌, Bool, List, [], ◌∷◌, length, map}
 use Rattle.jbig2_coder.specs.Coder.{Context, Registers, fresh, decision, initial_registers}
 use Rattle.jbig2_coder.specs.Encoder.{with_context, decoded_from, encoded_bytes}
@@ -27,7 +28,8 @@ state_after bytes s (k ∷ contexts) = state_after bytes (state_on bytes s k) co
 abbrev pub initial_state : List ℕ → State
 initial_state bytes = record { registers = initial_registers bytes; contexts = λ _. fresh }
 
-abbrev pub Gives : List ℕ → State → List Entry → Type 0  -- the next decisions are these, if they are asked in their contexts
+-- the next decisions are these, if they are asked in their contexts
+abbrev pub Gives : List ℕ → State → List Entry → Type 0
 Gives bytes s entries = decoded_from bytes s.registers s.contexts (asked entries) ≡ decisions entries
 
 unfoldable pub window : ℕ → ℕ → (ℕ → Context) → List Context  -- the count contexts from number base on
