@@ -1,5 +1,6 @@
 pub mod BitmapInverse
 mod BitmapWorked
+pub mod CodedLength
 pub mod CoderStates
 pub mod Digits
 pub mod GenericInverse

@@ -1,6 +1,7 @@
--- Bitmaps by MMR (T.88, 6.2.6) as they are written: rows of T.6 one after another, and their bits in bytes. Then the law
--- that `mmr_rows` gives back the bitmap.
-use Rattle.std.specs.Prelude.{◌≡◌, ℕ, zero, suc, ◌+◌, ◌*◌, ◌/◌, ◌<◌, ◌≤◌, Bool, false, ◌&&◌, nat_lt, List, [], ◌∷◌, ◌++◌, length}
+-- Bitmaps by MMR (T.88, 6.2.6) as they are written: rows of T.6 one after another, and their bits in bytes. Then the
+-- law that `mmr_rows` gives back the bitmap.
+use Rattle.std.specs.Prelude.{◌≡◌, ℕ, zero, suc, ◌+◌, ◌*◌, ◌/◌, ◌<◌, ◌≤◌, Bool, false, ◌&&◌, nat_lt, List, []}
+use Rattle.std.specs.Prelude.{◌∷◌, ◌++◌, length}
 use Rattle.std.specs.Prelude.{take, drop, replicate, codes, if◌then◌else◌, Ok}
 use Rattle.jbig2_base.specs.Bits.{number_after}
 use Rattle.jbig2_base.specs.Grid.{grid_of}

@@ -1,7 +1,8 @@
--- The arithmetic decoder (Annex G) in the midst of a list of decisions: its registers, and the contexts by their numbers.
-use Rattle.std.specs.Prelude.{◌≡◌, ℕ, zero, suc, ◌+◌, Bool, List, [], ◌∷◌, map}
+-- The arithmetic decoder (Annex G) in the midst of a list of decisions: its registers, and the contexts by their
+-- numbers.
+use Rattle.std.specs.Prelude.{◌≡◌, ℕ, zero, suc, ◌+◌, ◌*◌, ◌≤◌, Bool, List, [], ◌∷◌, length, map}
 use Rattle.jbig2_coder.specs.Coder.{Context, Registers, fresh, decision, initial_registers}
-use Rattle.jbig2_coder.specs.Encoder.{with_context, decoded_from}
+use Rattle.jbig2_coder.specs.Encoder.{with_context, decoded_from, encoded_bytes}
 
 abbrev pub Entry : Type 0  -- a decision, with the number of its context
 Entry = ℕ × Bool
@@ -27,9 +28,14 @@ state_after bytes s (k ∷ contexts) = state_after bytes (state_on bytes s k) co
 abbrev pub initial_state : List ℕ → State
 initial_state bytes = record { registers = initial_registers bytes; contexts = λ _. fresh }
 
-abbrev pub Gives : List ℕ → State → List Entry → Type 0  -- the next decisions are these, if they are asked in their contexts
+-- the next decisions are these, if they are asked in their contexts
+abbrev pub Gives : List ℕ → State → List Entry → Type 0
 Gives bytes s entries = decoded_from bytes s.registers s.contexts (asked entries) ≡ decisions entries
 
 unfoldable pub window : ℕ → ℕ → (ℕ → Context) → List Context  -- the count contexts from number base on
 window base zero contexts = []
 window base (suc count) contexts = contexts base ∷ window (base + 1) count contexts
+
+-- The encoder's data (E.2) is short: no decision takes more than fifteen shifts, and a byte takes at least seven.
+abbrev pub CodedDataIsShort : Type 0
+CodedDataIsShort = (entries : List Entry) → 7 * length (encoded_bytes entries) ≤ 15 * length entries + 40

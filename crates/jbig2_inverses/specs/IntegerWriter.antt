@@ -14,7 +14,8 @@ unfoldable pub range_of : List Range → ℕ → Range  -- the first row of Tabl
 range_of [] size = range [] 0 0
 range_of (row ∷ rows) size = if nat_lt size (row.offset + 2 ^ row.bits) then row else range_of rows size
 
-abbrev pub size_decisions : ℕ → List Bool  -- the prefix of the size's row, and then the size above the row's least value
+-- the prefix of the size's row, and then the size above the row's least value
+abbrev pub size_decisions : ℕ → List Bool
 size_decisions size = let row = range_of ranges size in row.prefix ++ binary row.bits (size - row.offset)
 
 -- An integer (A.2): the sign S, which is 1 for minus, and the size. Out of band is minus zero.
@@ -33,7 +34,8 @@ integer_entries base value = in_contexts prev_of base [] (integer_decisions valu
 
 -- A symbol id (A.3): its binary digits, as many as the code length. A 1 and the digits so far name the next context.
 abbrev pub id_entries : ℕ → ℕ → ℕ → List Entry
-id_entries base code_length number = in_contexts (λ bits. value_of_bits (true ∷ bits)) base [] (binary code_length number)
+id_entries base code_length number =
+    in_contexts (λ bits. value_of_bits (true ∷ bits)) base [] (binary code_length number)
 
 abbrev pub IsWord : Option ℤ → Type 0  -- out of band, or a number of signed 32 bits
 IsWord (Some (pos n)) = n < 2 ^ 31

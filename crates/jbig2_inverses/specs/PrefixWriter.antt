@@ -14,8 +14,8 @@ pub record Chosen : Type 0 where  -- a line of a table, with the lines before an
 abbrev pub lines_of : Chosen → List TableLine
 lines_of c = c.before ++ c.line ∷ c.after
 
--- The code of a line (B.3): the codes of each length are numbered one by one, in the order of the lines, and begin after
--- the shorter codes.
+-- The code of a line (B.3): the codes of each length are numbered one by one, in the order of the lines, and begin
+-- after the shorter codes.
 unfoldable pub code_of_line : Chosen → List ℕ
 code_of_line c =
     let l = c.line.prefix_length in
@@ -30,8 +30,8 @@ abbrev pub GivesFrom : List Member → List ℕ → Option ℤ → Type 0
 GivesFrom table bits value =
     (rest : List ℕ) → decoded_value table (bits ++ rest) ≡ record { result = Ok value; taken = length bits }
 
--- For every table that B.3 accepts, and each of its lines that has a code: the line's numbers that fit signed 32 bits are
--- read back, and so is out of band. No line's code begins the code of a later line, nor the other way round.
+-- For every table that B.3 accepts, and each of its lines that has a code: the line's numbers that fit signed 32 bits
+-- are read back, and so is out of band. No line's code begins the code of a later line, nor the other way round.
 pub record PrefixCodesReadBack : Type 0 where
   pub numbers : (c : Chosen) (table : List Member) → table_of (lines_of c) ≡ Ok table → 0 < c.line.prefix_length
       → c.line.is_out_of_band ≡ false → (distance : ℕ) → distance < 2 ^ c.line.range_length

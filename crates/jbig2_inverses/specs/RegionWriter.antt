@@ -15,8 +15,8 @@ abbrev pub known_or : Option Bool → Entry → List Entry  -- no decision for a
 known_or (Some colour) entry = []
 known_or None entry = entry ∷ []
 
--- A region of w columns, with the pixel at each column and row, and whether each row is typical (LTP). The contexts have
--- the numbers from base on.
+-- A region of w columns, with the pixel at each column and row, and whether each row is typical (LTP). The contexts
+-- have the numbers from base on.
 module _ (coding : Coding) (w h : ℕ) (pixels : ℕ → ℕ → Bool) (typical : ℕ → Bool) (base : ℕ) where
   unfoldable pub pixels_before : ℕ → List Bool  -- the first n pixels of the raster
   pixels_before zero = []

@@ -11,7 +11,8 @@ use Rattle.jbig2_mmr.specs.T6Codes.{modes, vertical_right, vertical_left}
 use Rattle.jbig2_mmr.specs.T6.{Head, runs_of, b1_of, b2_of, row_start, row, pixel_of}
 
 -- ---- codes (T.6, tables 1 to 3)
-unfoldable pub word_of : {A : Type 0} → (A → Bool) → List (A × List ℕ) → List ℕ  -- the word of the first value that passes
+-- the word of the first value that passes
+unfoldable pub word_of : {A : Type 0} → (A → Bool) → List (A × List ℕ) → List ℕ
 word_of is [] = []
 word_of is ((value, word) ∷ codes) = if is value then word else word_of is codes
 
@@ -31,8 +32,8 @@ abbrev pub repeated : ℕ → List ℕ → List ℕ
 repeated zero word = []
 repeated (suc n) word = word ++ repeated n word
 
--- A run: the make-up code of 2560 as often as it fits, the make-up code of the multiple of 64 that is left, if it is not
--- 0, and the terminating code.
+-- A run: the make-up code of 2560 as often as it fits, the make-up code of the multiple of 64 that is left, if it is
+-- not 0, and the terminating code.
 unfoldable pub run_bits : Bool → ℕ → List ℕ
 run_bits black length =
     let left = length % 2560 in

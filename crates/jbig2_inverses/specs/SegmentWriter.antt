@@ -1,5 +1,5 @@
--- Segments and page information (T.88, 7.2, 7.3, 7.4.8 and D.3) as they are written. Then the laws that `Sequential` and
--- `PageInfo` give them back.
+-- Segments and page information (T.88, 7.2, 7.3, 7.4.8 and D.3) as they are written. Then the laws that `Sequential`
+-- and `PageInfo` give them back.
 use Rattle.std.specs.Prelude.{◌≡◌, ℕ, ◌+◌, ◌*◌, ◌^◌, ◌<◌, Bool, false, not, ◌&&◌, List, [], ◌∷◌, ◌++◌, length}
 use Rattle.std.specs.Prelude.{Option, Some, None, Ok}
 use Rattle.std.specs.List.{flat_map}

@@ -3,6 +3,7 @@
 #![tactic(auto)]
 
 ghost use Rattle.jbig2_inverses.specs.BitmapWriter.{BitmapsAreShort, BitmapsReadBack};
+ghost use Rattle.jbig2_inverses.specs.CoderStates.{CodedDataIsShort};
 ghost use Rattle.jbig2_inverses.specs.GenericSegmentWriter.{GenericSegmentsReadBack};
 ghost use Rattle.jbig2_inverses.specs.IntegerWriter.{IntegersReadBack, SymbolIdsReadBack};
 ghost use Rattle.jbig2_inverses.specs.PrefixWriter.{PrefixCodesReadBack};
@@ -38,9 +39,14 @@ pub fn sequences_read_back()
     ensures { SequencesReadBack }
 {}
 
-/// Rows of T.6, which T.88 calls MMR, are read back: each row of each width, under each row above it. From the modes and
-/// runs that T.6's coding procedure chooses for the row, its pixels are read, with white outside of it, and the bits
-/// after it are left.
+/// The data of the encoder of E.2 is short: at most fifteen bits in bytes of seven for each decision, and 40 bits more.
+pub fn coded_data_is_short()
+    ensures { CodedDataIsShort }
+{}
+
+/// Rows of T.6, which T.88 calls MMR, are read back: each row of each width, under each row above it. From the modes
+/// and runs that T.6's coding procedure chooses for the row, its pixels are read, with white outside of it, and the
+/// bits after it are left.
 pub fn rows_read_back()
     ensures { RowsReadBack }
 {}
@@ -51,8 +57,8 @@ pub fn bitmaps_read_back()
     ensures { BitmapsReadBack }
 {}
 
-/// Bitmaps by MMR are short: at most seven bits for each pixel, and 60 for each row. So a segment can state the length of
-/// any bitmap with sides up to 65535.
+/// Bitmaps by MMR are short: at most seven bits for each pixel, and 60 for each row. So a segment can state the length
+/// of any bitmap with sides up to 65535.
 pub fn bitmaps_are_short()
     ensures { BitmapsAreShort }
 {}
@@ -70,8 +76,8 @@ pub fn generic_regions_read_back()
     ensures { GenericRegionsReadBack }
 {}
 
-/// The data of a generic region segment (T.88, 7.4.1 and 7.4.6) is read back: region information, flags, adaptive pixels
-/// and coded bytes, of each header that a segment of known length can have.
+/// The data of a generic region segment (T.88, 7.4.1 and 7.4.6) is read back: region information, flags, adaptive
+/// pixels and coded bytes, of each header that a segment of known length can have.
 pub fn generic_segments_read_back()
     ensures { GenericSegmentsReadBack }
 {}
