@@ -1,0 +1,2 @@
+pub mod PageInverse
+mod PageWorked

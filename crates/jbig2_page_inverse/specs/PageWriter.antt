@@ -1,0 +1,105 @@
+-- An embedded page (T.88, D.3) as it is written: page information, and one immediate generic region of the page's size.
+-- Then the law that the page is read and drawn as the bitmap that was written.
+use Rattle.std.specs.Prelude.{◌≡◌, ℕ, ◌*◌, ◌≤◌, Bool, true, false, if◌then◌else◌, List, [], ◌∷◌, length, Some, None}
+use Rattle.std.specs.Prelude.{Ok}
+use Rattle.std.specs.List.{flat_map}
+use Rattle.jbig2_base.specs.Grid.{grid_of}
+use Rattle.jbig2_base.specs.Segment.{SegmentView}
+use Rattle.jbig2_base.specs.declared.bitmap.operator.CombinationOperator.TheVariants.{Or}
+use Rattle.jbig2_base.specs.declared.page_info.PageInformation.{PageInformation}
+use Rattle.jbig2_base.specs.declared.reading.Reading.{Reading}
+use Rattle.jbig2_base.specs.declared.segment.SegmentType.{SegmentType}
+use Rattle.jbig2_base.specs.declared.segment.SegmentType.TheVariants as types
+use Rattle.jbig2_coder.specs.Encoder.{encoded_bytes}
+use Rattle.jbig2_region.specs.GenericHeader.{GenericHeader}
+use Rattle.jbig2_region.specs.Templates.{FitsTemplate, adaptive_pixel_count, takes_extended}
+use Rattle.jbig2_region.specs.declared.template.AdaptiveTemplatePixel.{AdaptiveTemplatePixel}
+use Rattle.jbig2_region.specs.declared.template.Template.{Template}
+use Rattle.jbig2_page.specs.Names.{Names}
+use Rattle.jbig2_page.specs.Page.{IsSide, ReadPage, page_from, grid_of_page}
+use Rattle.jbig2_inverses.specs.BitmapWriter.{mmr_bytes}
+use Rattle.jbig2_inverses.specs.GenericSegmentWriter.{AreAdaptive, generic_bytes}
+use Rattle.jbig2_inverses.specs.RegionWriter.{generic_entries}
+use Rattle.jbig2_inverses.specs.SegmentWriter.{information_bytes, segment_bytes}
+
+pub record Choice : Type 0 where  -- how a region is coded
+  pub mmr : Bool
+  pub end_of_block : Bool
+  pub template : Template
+  pub extended : Bool
+  pub typical : Bool
+  pub adaptive : List AdaptiveTemplatePixel
+
+pub record IsChoice (c : Choice) : Type 0 where  -- what a segment can have (7.4.6)
+  pub template : FitsTemplate c.extended c.template
+  pub extended : takes_extended c.mmr c.extended c.template ≡ c.extended
+  pub count : length c.adaptive ≡ adaptive_pixel_count c.mmr c.extended c.template
+  pub pixels : AreAdaptive c.adaptive
+
+module _ (c : Choice) (w h : ℕ) (pixels : ℕ → ℕ → Bool) where
+  abbrev pub region_with : Bool → List ℕ → GenericHeader  -- the region at the page's corner, with these coded bytes
+  region_with strict bytes = record {
+    region_info = record { width = w; height = h; x_location = 0; y_location = 0; combination_operator = Or };
+    mmr = c.mmr;
+    template = c.template;
+    extended = c.extended;
+    tpgdon = c.typical;
+    adaptive_template_pixels = c.adaptive;
+    bytes = bytes;
+    strict = strict;
+  }
+
+  unfoldable pub coded_bytes : List ℕ
+  coded_bytes =
+      if c.mmr then mmr_bytes c.end_of_block w h pixels
+      else encoded_bytes (generic_entries (region_with false []) pixels)
+
+  abbrev pub region_bytes : List ℕ
+  region_bytes = generic_bytes (region_with false coded_bytes)
+
+  abbrev pub information : PageInformation  -- a white page of this size
+  information = record {
+    width = w;
+    height = h;
+    x_resolution = None;
+    y_resolution = None;
+    flags = record {
+      is_lossless = true;
+      might_contain_refinements = false;
+      default_pixel = false;
+      default_combination_operator = Or;
+      requires_auxiliary_buffers = false;
+      combination_operator_overridden = false;
+      might_contain_coloured = false;
+    };
+    striping = record { is_striped = false; max_stripe_size = 0 };
+  }
+
+  abbrev pub segment : ℕ → SegmentType → List ℕ → SegmentView  -- a segment of page 1
+  segment number kind bytes = record {
+    header = record {
+      segment_number = number;
+      segment_type = kind;
+      retain_flag = true;
+      page_association = 1;
+      referred_to_segments = [];
+      data_length = Some (length bytes);
+    };
+    bytes = bytes;
+  }
+
+  abbrev pub page_segments : List SegmentView
+  page_segments =
+      segment 0 types.PageInformation (information_bytes information)
+      ∷ segment 1 types.ImmediateGenericRegion region_bytes ∷ []
+
+  unfoldable pub page_bytes : List ℕ
+  page_bytes = flat_map segment_bytes page_segments
+
+-- Each bitmap is a page, in each mode and with any globals. A segment states the length of its data (7.2.7), so a
+-- bitmap that the arithmetic coder codes has at most 10^9 pixels here. By MMR any sides will do.
+abbrev pub PagesReadBack : Type 0
+PagesReadBack = (reading : Reading) (globals : Names) (c : Choice) (w h : ℕ) (pixels : ℕ → ℕ → Bool)
+    → IsChoice c → IsSide w → IsSide h → (c.mmr ≡ false → w * h ≤ 1000000000)
+    → (page : ReadPage) × (page_from reading globals (page_bytes c w h pixels) ≡ Ok page)
+    × (grid_of_page page ≡ Ok (grid_of w h pixels))
