@@ -25,15 +25,18 @@ async function reading(bytes) {
   }
   const { user, system } = process.cpuUsage(before);
   const wrong = errors.find((error) => error.name !== "PdfError");
-  return { seconds: (user + system) / 1e6, memory: process.resourceUsage().maxRSS >> 10, error: wrong ? String(wrong.stack) : null };
+  const memory = process.resourceUsage().maxRSS >> 10;
+  return { seconds: (user + system) / 1e6, memory, error: wrong ? String(wrong.stack) : null };
 }
 
 /** The same in a process of its own. */
 function measured(kind, name, size) {
   const words = [fileURLToPath(import.meta.url), kind, name, String(size)];
-  const { status, stdout, stderr } = spawnSync(process.execPath, words, { timeout: KILLED_AFTER * 1000, killSignal: "SIGKILL", encoding: "utf8" });
-  if (status !== 0) return { seconds: Infinity, memory: Infinity, error: status === null ? `no end in ${KILLED_AFTER} s` : stderr.slice(-400) };
-  return JSON.parse(stdout);
+  const options = { timeout: KILLED_AFTER * 1000, killSignal: "SIGKILL", encoding: "utf8" };
+  const { status, stdout, stderr } = spawnSync(process.execPath, words, options);
+  if (status === 0) return JSON.parse(stdout);
+  const error = status === null ? `no end in ${KILLED_AFTER} s` : stderr.slice(-400);
+  return { seconds: Infinity, memory: Infinity, error };
 }
 
 const shown = ({ seconds, memory }) => `${seconds.toFixed(2)} s, ${memory} MiB`;
@@ -49,7 +52,10 @@ const isSteep = (small, large) => large.seconds > (1.5 * SIZES[1] * small.second
 
 function main() {
   let failed = 0;
-  const complain = (name, fault, ...readings) => (failed++, console.log(`hostile PDF file, ${name}: ${fault}: ${readings.map(shown).join("; ")}`));
+  const complain = (name, fault, ...readings) => {
+    failed++;
+    console.log(`hostile PDF file, ${name}: ${fault}: ${readings.map(shown).join("; ")}`);
+  };
   for (const name of Object.keys(GROWING)) {
     const [small, large] = SIZES.map((size) => measured("growing", name, size));
     const fault = faultOf(large, MOST.growing) ?? (isSteep(small, large) ? "not in proportion to the size" : null);

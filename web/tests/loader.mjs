@@ -1,6 +1,6 @@
 /**
- * Calls the loader with wrong arguments of all kinds, at random and one by one: it has to refuse them by an error that says
- * so, and to decode as before after each.
+ * Calls the loader with wrong arguments of all kinds, at random and one by one: it has to refuse them by an error that
+ * says so, and to decode as before after each.
  *
  * usage: node web/tests/loader.mjs
  */
@@ -26,7 +26,9 @@ function check(holds, name) {
 function outcome(call) {
   try {
     const made = call();
-    return typeof made === "number" ? String(made) : `${made.width} ${made.height} ${made.data.reduce((sum, byte) => (31 * sum + byte) >>> 0, 0)}`;
+    if (typeof made === "number") return String(made);
+    const sum = made.data.reduce((sum, byte) => (31 * sum + byte) >>> 0, 0);
+    return `${made.width} ${made.height} ${sum}`;
   } catch (error) {
     return error;
   }
@@ -65,7 +67,8 @@ function checkBytes() {
   }
 }
 
-const NO_BYTES = [undefined, null, "\x97JB2", "", 5, NaN, 5n, true, {}, { length: 8 }, { length: -1 }, { byteLength: 9 }, [0x97, 0x4a, 0x42, 0x32], () => 1, Symbol("bytes"), new Date(0)];
+const OBJECTS = [{}, { length: 8 }, { length: -1 }, { byteLength: 9 }, [0x97, 0x4a, 0x42, 0x32], () => 1, new Date(0)];
+const NO_BYTES = [undefined, null, "\x97JB2", "", 5, NaN, 5n, true, Symbol("bytes"), ...OBJECTS];
 const NO_PAGES = [0.5, NaN, Infinity, "1", "x", null, {}, [], true, 2n ** 64n, 1n, 2 ** 53];
 
 function checkWrong() {
@@ -94,7 +97,10 @@ function checkTruth() {
     const made = outcome(() => decoder.pageCount(damaged, { strict: truth }));
     check(made.error === strict.error, `strict: ${String(truth)} is not strict`);
   }
-  for (const untruth of [0, "", null, undefined, NaN]) check(outcome(() => decoder.pageCount(damaged, { strict: untruth })) === "3", `strict: ${untruth} is strict`);
+  for (const untruth of [0, "", null, undefined, NaN]) {
+    const made = outcome(() => decoder.pageCount(damaged, { strict: untruth }));
+    check(made === "3", `strict: ${untruth} is strict`);
+  }
 }
 
 /** An embedded page without a region. */
@@ -114,7 +120,10 @@ async function checkRoom() {
   }
 }
 
-/** A module of one call, which doesn't return: a memory, and hayro_jbig2_globals_new_within that comes to an `unreachable`. */
+/**
+ * A module of one call, which doesn't return: a memory, and hayro_jbig2_globals_new_within that comes to an
+ * `unreachable`.
+ */
 const trapping = () => {
   const text = (word) => [word.length, ...Buffer.from(word)];
   const section = (number, ...bytes) => [number, bytes.length, ...bytes];
@@ -173,7 +182,9 @@ function checkRandomCalls() {
   const option = () => pick([undefined, false, true, 1, 0, "yes", null]);
   for (let call = 0; call < CALLS; call++) {
     const workLimit = pick([undefined, null, 0, 1000, 1e6, Infinity]);
-    const options = { strict: option(), salvage: option(), workLimit, page: pick([0, 1, 2, 3, undefined, ...NO_PAGES]), globals: pick([undefined, null, null, null, bytes()]) };
+    const page = pick([0, 1, 2, 3, undefined, ...NO_PAGES]);
+    const globals = pick([undefined, null, null, null, bytes()]);
+    const options = { strict: option(), salvage: option(), workLimit, page, globals };
     const made = outcome(() => (random(4) ? decoder.decode(bytes(), options) : decoder.pageCount(bytes(), options)));
     check(typeof made === "string" || isRefused(made), `a random call: ${made?.stack ?? made}`);
     if (call % 100 === 0) check(isWhole(), `after ${call} random calls the decoder is not as it was`);

@@ -29,7 +29,7 @@ const thrown = (call) => {
   }
 };
 
-const isSame = (some, others) => Buffer.compare(Buffer.from(some.buffer, some.byteOffset, some.byteLength), Buffer.from(others)) === 0;
+const isSame = (some, others) => Buffer.from(some.buffer, some.byteOffset, some.byteLength).equals(Buffer.from(others));
 
 /** Each pixel by itself, from the packed rows. */
 function pixelsOf({ width, height, rows }) {
@@ -68,15 +68,17 @@ function hasPage(png, { width, height, rows }) {
   const [[, header], [, data], ...rest] = chunksOf(png) ?? [["", ""], ["", ""]];
   const stride = Math.ceil(width / 8);
   const lines = Buffer.alloc((stride + 1) * height);
-  for (let y = 0; y < height; y++) for (let place = 0; place < stride; place++) lines[y * (stride + 1) + 1 + place] = rows[y * stride + place] ^ 255;
-  const isHeader = header.readUInt32BE(0) === width && header.readUInt32BE(4) === height && header.toString("hex", 8) === "0100000000";
+  for (let at = 0; at < rows.length; at++) lines[at + Math.floor(at / stride) + 1] = rows[at] ^ 255;
+  const size = [header.readUInt32BE(0), header.readUInt32BE(4)];
+  const isHeader = size[0] === width && size[1] === height && header.toString("hex", 8) === "0100000000";
   return isHeader && inflateSync(data).equals(lines) && rest.length === 1 && rest[0][0] === "IEND";
 }
 
 async function checkForms(name, page) {
   const pixels = pixelsOf(page);
   check(isSame(page.toGray(), pixels), `${name}: grey`);
-  check(isSame(page.toRgba(), Uint8Array.from({ length: 4 * pixels.length }, (_, at) => (at % 4 === 3 ? 255 : pixels[at >> 2]))), `${name}: RGBA`);
+  const colours = Uint8Array.from({ length: 4 * pixels.length }, (_, at) => (at % 4 === 3 ? 255 : pixels[at >> 2]));
+  check(isSame(page.toRgba(), colours), `${name}: RGBA`);
   check(page.data === page.data && isSame(page.data, page.toRgba()), `${name}: data`);
   check(hasPage(Buffer.from(await pngOf(page)), page), `${name}: PNG`);
 }
@@ -86,7 +88,8 @@ const FILE = "974A42320D0A1A0A 01 00000001";
 const page = (width, height) => `00000000 30 00 01 00000013 ${width} ${height} ${"00".repeat(11)}`;
 const END = "00000002 31 00 01 00000000 00000003 33 00 00 00000000";
 // 106 bytes: a page of 1 by 65535 with a region of 65535 by 65535, which would take minutes.
-const WIDE = hex(`${FILE} ${page("00000001", "0000FFFF")} 00000001 26 00 01 0000001E 0000FFFF 0000FFFF ${"00".repeat(9)} 04 03FFFDFF02FEFEFE 0000FFAC ${END}`);
+const REGION = `00000001 26 00 01 0000001E 0000FFFF 0000FFFF ${"00".repeat(9)} 04 03FFFDFF02FEFEFE 0000FFAC`;
+const WIDE = hex(`${FILE} ${page("00000001", "0000FFFF")} ${REGION} ${END}`);
 
 function checkLimit() {
   const blank = hex(page("00000008", "00000001"));
@@ -95,15 +98,18 @@ function checkLimit() {
     const began = performance.now();
     const error = thrown(() => decoder.decode(WIDE, options));
     const seconds = (performance.now() - began) / 1000;
-    const isLimit = error instanceof WorkLimitReached && error instanceof Jbig2Error && error.name === "WorkLimitReached" && error.error === "WORK_LIMIT_REACHED";
-    check(isLimit && seconds < SECONDS, `a wide region, ${JSON.stringify(options)}: ${error}, ${seconds} s`);
+    const isLimit = error instanceof WorkLimitReached && error instanceof Jbig2Error;
+    const isNamed = error?.name === "WorkLimitReached" && error.error === "WORK_LIMIT_REACHED";
+    check(isLimit && isNamed && seconds < SECONDS, `a wide region, ${JSON.stringify(options)}: ${error}, ${seconds} s`);
   }
   check(thrown(() => decoder.decode(blank, { workLimit: 100 })) instanceof WorkLimitReached, "a page over a small limit");
   check(decoder.decode(blank, { workLimit: Infinity }).width === 8, "a page without a limit");
   check(decoder.decode(blank, { workLimit: 1e4 }).width === 8, "a page below a small limit");
   for (const workLimit of [NaN, -1, 0.5, "1", 5n, {}, true]) {
-    for (const call of [() => decoder.decode(blank, { workLimit }), () => decoder.pageCount(WIDE, { workLimit }), () => decoder.endsEarly(blank, { workLimit })])
-      check(thrown(call) instanceof TypeError, `workLimit: ${String(workLimit)} is not refused`);
+    for (const name of ["decode", "pageCount", "endsEarly"]) {
+      const error = thrown(() => decoder[name](WIDE, { workLimit }));
+      check(error instanceof TypeError, `${name}, workLimit: ${String(workLimit)} is not refused`);
+    }
   }
   check(decoder.held === 0, "memory is not given back after the limit");
 }
@@ -132,11 +138,13 @@ async function checkImage(file, stream, globals) {
   await Jbig2Image.load();
   const image = new Jbig2Image();
   const [first, embedded] = [decoder.decode(file), decoder.decode(stream, { globals })];
-  check(isSame(image.parse(file), first.toGray()) && image.width === first.width && image.height === first.height, "Jbig2Image.parse");
+  check(isSame(image.parse(file), first.toGray()), "Jbig2Image.parse");
+  check(image.width === first.width && image.height === first.height, "the size of Jbig2Image");
   const around = (bytes) => ({ data: Uint8Array.from([1, 2, 3, ...bytes, 4]), start: 3, end: bytes.length + 3 });
   const rows = image.parseChunks([around(globals), around(stream)]);
   check(rows instanceof Uint8ClampedArray && isSame(rows, embedded.rows), "Jbig2Image.parseChunks");
-  check(isSame(image.parseChunks([{ data: hex(page("00000008", "00000001")), start: 0, end: 30 }]), [0]), "Jbig2Image.parseChunks of one chunk");
+  const blank = image.parseChunks([{ data: hex(page("00000008", "00000001")), start: 0, end: 30 }]);
+  check(isSame(blank, [0]), "Jbig2Image.parseChunks of one chunk");
   check(thrown(() => image.parse(stream))?.error === "FORMAT_INVALID_HEADER", "Jbig2Image.parse of other bytes");
 }
 
@@ -161,5 +169,6 @@ checkSharedLimit("t88-h1.jb2", read("t88-h1.jb2"));
 await checkMemory();
 checkEarlyEnds("t88-h1.jb2", read("t88-h1.jb2"));
 await checkImage(read("t88-h1.jb2"), read(`${embedded}.page.jb2`), read(`${embedded}.globals.jb2`));
-console.log(`pages: ${forms} in all forms, the limit of work, early ends, pdf.js's interface: ${checks - failed} checks passed, ${failed} failed`);
+const count = `${checks - failed} checks passed, ${failed} failed`;
+console.log(`pages: ${forms} in all forms, the limit of work, early ends, pdf.js's interface: ${count}`);
 process.exit(failed ? 1 : 0);

@@ -1,5 +1,6 @@
 /**
- * Reads PDF files that are damaged, odd or made to mislead, each of one kind, and PDF files of a folder with random damage.
+ * Reads PDF files that are damaged, odd or made to mislead, each of one kind, and PDF files of a folder with random
+ * damage.
  *
  * usage: node web/tests/pdf.mjs FOLDER
  */

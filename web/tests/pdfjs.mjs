@@ -1,5 +1,6 @@
 /**
- * Puts ../jbig2_image.js in the place of pdf.js's own decoder, has pdf.js read PDF files of a folder, and compares the images.
+ * Puts ../jbig2_image.js in the place of pdf.js's own decoder, has pdf.js read PDF files of a folder, and compares the
+ * images.
  *
  * usage: node web/tests/pdfjs.mjs BUILD FOLDER
  *
@@ -46,7 +47,10 @@ async function imageOf(page, { OPS }) {
   return pageOf(await new Promise((resolve) => page.objs.get(name, resolve)));
 }
 
-const withinTime = (work) => Promise.race([work, new Promise((_, reject) => setTimeout(() => reject(new Error("no end")), MOST_MILLISECONDS))]);
+function withinTime(work) {
+  const late = new Promise((_, reject) => setTimeout(() => reject(new Error("no end")), MOST_MILLISECONDS));
+  return Promise.race([work, late]);
+}
 
 const [build, folder] = process.argv.slice(2);
 const answers = JSON.parse(readFileSync(join(folder, "answers.json"), "utf8")).pdf;
@@ -55,7 +59,8 @@ let [same, other] = [0, 0];
 try {
   const pdfJs = await pdfJsWithOurs(build, room);
   for (const name of FILES) {
-    const file = await pdfJs.getDocument({ data: new Uint8Array(readFileSync(join(folder, name))), verbosity: 0, isEvalSupported: false }).promise;
+    const data = new Uint8Array(readFileSync(join(folder, name)));
+    const file = await pdfJs.getDocument({ data, verbosity: 0, isEvalSupported: false }).promise;
     for (let number = 1; number <= PAGES_OF_A_FILE; number++) {
       const made = await withinTime(file.getPage(number).then((page) => imageOf(page, pdfJs))).catch(String);
       if (JSON.stringify(made) === JSON.stringify(answers[name][number - 1])) same++;
