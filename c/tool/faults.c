@@ -70,7 +70,7 @@ static struct fault fault_at_end(const struct segment_list *list, uint32_t error
     fault.has_segment = list->known >= KNOWS_NUMBER;
     fault.has_type = list->known >= KNOWS_TYPE;
     size_t rest = list->size - list->last.place;
-    if (list->known == KNOWS_HEADER && list->last.stated != UNKNOWN_LENGTH && list->error == error)
+    if (list->known == KNOWS_HEADER && list->last.stated != HAYRO_JBIG2_UNKNOWN_LENGTH && list->error == error)
         snprintf(fault.note, sizeof fault.note, "cut off, %zu of its %lu bytes are there", list->last.length,
                  (unsigned long)list->last.stated);
     else if (list->known < KNOWS_HEADER && error == HAYRO_JBIG2_PARSE_UNEXPECTED_EOF)
@@ -83,7 +83,7 @@ static bool breaks_rule(const struct segment *segment, uint32_t error) {
     case HAYRO_JBIG2_SEGMENT_UNKNOWN_TYPE:
         return !is_known_type(segment->type);
     case HAYRO_JBIG2_SEGMENT_INVALID_UNKNOWN_LENGTH:
-        return segment->stated == UNKNOWN_LENGTH && segment->type != 38;
+        return segment->stated == HAYRO_JBIG2_UNKNOWN_LENGTH && segment->type != 38;
     case HAYRO_JBIG2_SEGMENT_MISSING_PAGE_ASSOCIATION:
         return segment->page == 0 && (is_region(segment->type) || (segment->type >= 48 && segment->type <= 50));
     case HAYRO_JBIG2_UNSUPPORTED:

@@ -4,6 +4,7 @@
 #include "names.h"
 
 #include <stdio.h>
+#include <stdlib.h>
 #include <string.h>
 
 /* How many bytes a character of UTF-8 has by its first byte, or 0 where none begins so. */
@@ -79,13 +80,22 @@ static void print_fault(const struct fault *fault) {
     putchar('}');
 }
 
+static void print_referred(const struct segment_list *list, const struct segment *segment) {
+    uint32_t *numbers = referred_numbers(list, segment);
+    fputs(", \"refers_to\": [", stdout);
+    for (size_t i = 0; i < segment->referred_count; i++)
+        printf("%s%lu", i > 0 ? ", " : "", (unsigned long)numbers[i]);
+    putchar(']');
+    free(numbers);
+}
+
 static void print_region(const struct segment_list *list, const struct segment *segment) {
     struct region region;
     if (!region_of(list, segment, &region))
         return;
     printf(", \"region\": {\"width\": %lu, \"height\": %lu, \"x\": %ld, \"y\": %ld", (unsigned long)region.width,
            (unsigned long)region.height, (long)region.x, (long)region.y);
-    print_member("operator", name_of_operator(region.flags & 7));
+    print_member("operator", name_of_operator(region.operator_number));
     putchar('}');
 }
 
@@ -100,11 +110,8 @@ static void print_segment(const struct segment_list *list, const struct segment 
     print_number("byte", segment->place);
     print_number("data_byte", segment->data);
     print_number("length", segment->length);
-    print_truth("length_is_unknown", segment->stated == UNKNOWN_LENGTH);
-    fputs(", \"refers_to\": [", stdout);
-    for (uint32_t i = 0; i < segment->referred_count; i++)
-        printf("%s%lu", i > 0 ? ", " : "", (unsigned long)referred_number(list, segment, i));
-    putchar(']');
+    print_truth("length_is_unknown", segment->stated == HAYRO_JBIG2_UNKNOWN_LENGTH);
+    print_referred(list, segment);
     print_region(list, segment);
     add_coding(&coding, list, segment);
     if (coding.length > 0)
@@ -156,7 +163,7 @@ static void begin(const struct listing *listing) {
 static void print_information(const struct page_information *information) {
     print_number("x_resolution", information->x_resolution);
     print_number("y_resolution", information->y_resolution);
-    print_truth("height_is_stated", information->height != UNKNOWN_LENGTH);
+    print_truth("height_is_stated", information->height != UNKNOWN_HEIGHT);
     print_truth("striped", information->striping & 0x8000);
     print_number("most_rows_of_a_stripe", information->striping & 0x7FFF);
     print_number("default_pixel", information->flags >> 2 & 1);

@@ -60,7 +60,7 @@ static void print_information(const struct page_information *information) {
     print_resolution(information);
     if (information->striping & IS_STRIPED)
         printf(", striped (at most %d rows)", information->striping & 0x7FFF);
-    if (information->height == UNKNOWN_LENGTH)
+    if (information->height == UNKNOWN_HEIGHT)
         fputs(", height not stated", stdout);
     printf(", %s, combined by %s", information->flags & IS_BLACK ? "black" : "white",
            name_of_operator(information->flags >> 3 & 3));
@@ -77,10 +77,12 @@ static void print_image(const struct document *document, const struct image *ima
 
 static void add_referred(struct text *text, const struct segment_list *list, const struct segment *segment) {
     enum { SHOWN = 12 };
-    for (uint32_t i = 0; i < segment->referred_count && i < SHOWN; i++)
-        add_text(text, "%s%lu", i > 0 ? "," : "", (unsigned long)referred_number(list, segment, i));
+    uint32_t *numbers = referred_numbers(list, segment);
+    for (size_t i = 0; i < segment->referred_count && i < SHOWN; i++)
+        add_text(text, "%s%lu", i > 0 ? "," : "", (unsigned long)numbers[i]);
+    free(numbers);
     if (segment->referred_count > SHOWN)
-        add_text(text, ".. (%lu)", (unsigned long)segment->referred_count);
+        add_text(text, ".. (%zu)", segment->referred_count);
     if (segment->referred_count == 0)
         add_text(text, "-");
 }
@@ -89,7 +91,7 @@ static void add_region(struct text *text, const struct segment_list *list, const
     struct region region;
     if (region_of(list, segment, &region))
         add_text(text, "%lu by %lu at %ld,%ld %s", (unsigned long)region.width, (unsigned long)region.height,
-                 (long)region.x, (long)region.y, name_of_operator(region.flags & 7));
+                 (long)region.x, (long)region.y, name_of_operator(region.operator_number));
     else
         add_text(text, "-");
 }
@@ -101,7 +103,7 @@ static void print_segment(const struct segment_list *list, const struct segment 
     add_coding(&coding, list, segment);
     printf("  %8lu  %-37s  %4lu  %9zu  %8zu%s  %-9s  %-27s", (unsigned long)segment->number,
            name_of_type(segment->type), (unsigned long)segment->page, segment->place, segment->length,
-           segment->stated == UNKNOWN_LENGTH ? "*" : " ", referred.at, region.at);
+           segment->stated == HAYRO_JBIG2_UNKNOWN_LENGTH ? "*" : " ", referred.at, region.at);
     print_text(&coding, "\n");
     free_text(&referred);
     free_text(&region);

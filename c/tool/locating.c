@@ -14,12 +14,6 @@ struct slice {
     size_t count;
 };
 
-static size_t header_size(const struct segment_list *list, const struct segment *segment) {
-    bool has_long_page = list->bytes[segment->place + 4] & 0x40;
-    size_t end_of_referred = segment->referred + (size_t)segment->referred_count * segment->referred_size;
-    return end_of_referred + (has_long_page ? 4 : 1) + 4 - segment->place;
-}
-
 /* Takes the segments of a page, or all where it is embedded. */
 static void cut_slice(struct slice *slice, const struct segment_list *list, bool is_embedded, uint32_t page) {
     *slice = (struct slice){.bytes = room_for(list->size)};
@@ -29,7 +23,7 @@ static void cut_slice(struct slice *slice, const struct segment_list *list, bool
         const struct segment *segment = &list->at[i];
         if (!is_embedded && segment->page != page)
             continue;
-        size_t size = header_size(list, segment);
+        size_t size = segment->header_size;
         memcpy(slice->bytes + slice->length, list->bytes + segment->place, size);
         memcpy(slice->bytes + slice->length + size, list->bytes + segment->data, segment->length);
         slice->length += size + segment->length;

@@ -17,12 +17,15 @@ enum status worse_of(enum status one, enum status other) {
     return ALL_WHOLE;
 }
 
+void end_without_memory(void) {
+    complain("out of memory");
+    exit(NOT_DONE);
+}
+
 void *larger_room(void *block, size_t size) {
     void *room = realloc(block, size > 0 ? size : 1);
-    if (room == NULL) {
-        complain("out of memory");
-        exit(NOT_DONE);
-    }
+    if (room == NULL)
+        end_without_memory();
     return room;
 }
 

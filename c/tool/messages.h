@@ -31,6 +31,7 @@ void free_text(struct text *text);
 /* Memory for the program itself. It ends the program where there is none. */
 void *room_for(size_t size);
 void *larger_room(void *block, size_t size);
+void end_without_memory(void);
 
 /* A text of whole lines on standard error, after the progress line was taken away. */
 void print_messages(const struct text *text);

@@ -2,7 +2,10 @@
 
 #include "names.h"
 
-enum { REGION_SIZE = 17 };
+#include <string.h>
+
+/* The region segment information, and its last byte. */
+enum { REGION_SIZE = 17, REGION_FLAGS = 16 };
 
 const char *name_of_type(unsigned type) {
     static const char *const names[64] = {
@@ -40,12 +43,17 @@ const char *name_of_operator(unsigned value) {
 bool region_of(const struct segment_list *list, const struct segment *segment, struct region *region) {
     if (!is_region(segment->type) || segment->length < REGION_SIZE)
         return false;
+    /* The call refuses colours and unknown operators, which are shown too. It gets no flags, so it finds no fault. */
+    uint8_t field[REGION_SIZE] = {0};
+    hayro_jbig2_region_info info = {0};
+    memcpy(field, list->bytes + segment->data, REGION_FLAGS);
+    hayro_jbig2_region_get_info(field, sizeof field, &info);
     *region = (struct region){
-        .width = number_in(list, segment, 0, 4),
-        .height = number_in(list, segment, 4, 4),
-        .x = (int32_t)number_in(list, segment, 8, 4),
-        .y = (int32_t)number_in(list, segment, 12, 4),
-        .flags = (uint8_t)number_in(list, segment, 16, 1),
+        .width = info.width,
+        .height = info.height,
+        .x = (int32_t)info.x,
+        .y = (int32_t)info.y,
+        .operator_number = list->bytes[segment->data + REGION_FLAGS] & 7,
     };
     return true;
 }

@@ -17,7 +17,7 @@ void add_coding(struct text *text, const struct segment_list *list, const struct
 struct region {
     uint32_t width, height;
     int32_t x, y;
-    uint8_t flags;
+    uint8_t operator_number;
 };
 
 bool region_of(const struct segment_list *list, const struct segment *segment, struct region *region);

@@ -2,29 +2,12 @@
 
 #include "segments.h"
 
-#include "hayro_jbig2.h"
 #include "messages.h"
 
 #include <stdlib.h>
 #include <string.h>
 
 enum { IDENTIFICATION_SIZE = 8, IS_SEQUENTIAL = 1, HAS_NO_COUNT = 2 };
-enum { TYPE_BITS = 0x3F, HAS_LONG_PAGE = 0x40, LONG_COUNT = 7, COUNT_BITS = 0x1FFFFFFF };
-
-/* A place in the bytes. Reading past the end gives 0 and notes it. */
-struct cursor {
-    const uint8_t *bytes;
-    size_t size, place;
-    bool is_over;
-};
-
-static size_t bytes_left(const struct cursor *cursor) { return cursor->size - cursor->place; }
-
-static void skip(struct cursor *cursor, size_t size) {
-    cursor->is_over = cursor->is_over || size > bytes_left(cursor);
-    if (!cursor->is_over)
-        cursor->place += size;
-}
 
 static uint32_t number_at(const uint8_t *bytes, size_t size) {
     uint32_t number = 0;
@@ -33,97 +16,85 @@ static uint32_t number_at(const uint8_t *bytes, size_t size) {
     return number;
 }
 
-static uint32_t next_number(struct cursor *cursor, size_t size) {
-    size_t place = cursor->place;
-    skip(cursor, size);
-    return cursor->is_over ? 0 : number_at(cursor->bytes + place, size);
+/* What the library returned. Where it had no memory, the program ends as it does without memory of its own. */
+static uint32_t with_memory(uint32_t answer) {
+    if (answer == HAYRO_JBIG2_OUT_OF_MEMORY)
+        end_without_memory();
+    return answer;
 }
 
-/* The count of the numbers that a segment refers to (7.2.4). The flags of a long count are skipped. */
-static uint32_t read_referred_count(struct cursor *cursor, uint32_t *error) {
-    size_t place = cursor->place;
-    uint32_t first = next_number(cursor, 1), count = first >> 5;
-    if (count < LONG_COUNT) {
-        if (count > 4)
-            *error = HAYRO_JBIG2_SEGMENT_INVALID_REFERRED_COUNT;
-        return count;
-    }
-    cursor->place = cursor->is_over ? cursor->place : place;
-    count = next_number(cursor, 4) & COUNT_BITS;
-    skip(cursor, ((size_t)count + 8) / 8);
-    return count;
-}
-
-static void read_referred(struct cursor *cursor, struct segment *segment, uint32_t *error) {
-    segment->referred_count = read_referred_count(cursor, error);
-    segment->referred_size = segment->number <= 256 ? 1 : segment->number <= 65536 ? 2 : 4;
-    segment->referred = cursor->place;
-    if (*error == HAYRO_JBIG2_OK)
-        skip(cursor, (size_t)segment->referred_count * segment->referred_size);
-    if (cursor->is_over || *error != HAYRO_JBIG2_OK) {
-        segment->referred_count = 0;
-        return;
-    }
-    for (uint32_t i = 0; i < segment->referred_count; i++) {
-        const uint8_t *at = cursor->bytes + segment->referred + (size_t)i * segment->referred_size;
-        if (number_at(at, segment->referred_size) >= segment->number)
-            *error = HAYRO_JBIG2_SEGMENT_INVALID_REFERENCE;
-    }
-}
-
-/* Reads a header (7.2) into `list->last`, and returns its error. */
-static uint32_t read_header(struct segment_list *list, struct cursor *cursor) {
-    struct segment *segment = &list->last;
-    uint32_t error = HAYRO_JBIG2_OK;
-    *segment = (struct segment){.place = cursor->place, .data = cursor->place};
+/* The number and the type are shown of damaged headers too, and of types that T.88 doesn't list. */
+static void read_number_and_type(struct segment_list *list) {
+    enum { NUMBER_SIZE = 4, TYPE_BITS = 0x3F };
+    const uint8_t *bytes = list->bytes + list->last.place;
+    size_t left = list->size - list->last.place;
     list->known = KNOWS_NOTHING;
-    segment->number = next_number(cursor, 4);
-    list->known = cursor->is_over ? KNOWS_NOTHING : KNOWS_NUMBER;
-    uint32_t flags = next_number(cursor, 1);
-    segment->type = flags & TYPE_BITS;
-    list->known = cursor->is_over ? list->known : KNOWS_TYPE;
-    read_referred(cursor, segment, &error);
-    if (error == HAYRO_JBIG2_OK) {
-        segment->page = next_number(cursor, flags & HAS_LONG_PAGE ? 4 : 1);
-        segment->stated = next_number(cursor, 4);
-    }
-    if (cursor->is_over)
-        return HAYRO_JBIG2_PARSE_UNEXPECTED_EOF;
-    list->known = error == HAYRO_JBIG2_OK ? KNOWS_HEADER : list->known;
+    if (left < NUMBER_SIZE)
+        return;
+    list->last.number = number_at(bytes, NUMBER_SIZE);
+    list->known = KNOWS_NUMBER;
+    if (left == NUMBER_SIZE)
+        return;
+    list->last.type = bytes[NUMBER_SIZE] & TYPE_BITS;
+    list->known = KNOWS_TYPE;
+}
+
+/* Reads the header at a place into `list->last`, and returns its error. */
+static uint32_t read_header(struct segment_list *list, size_t place) {
+    struct segment *segment = &list->last;
+    hayro_jbig2_segment_info info;
+    *segment = (struct segment){.place = place, .data = place};
+    read_number_and_type(list);
+    uint32_t error =
+        with_memory(hayro_jbig2_segment_get_info(NULL, false, list->bytes + place, list->size - place, &info));
+    if (error != HAYRO_JBIG2_OK)
+        return error;
+    segment->page = info.page;
+    segment->referred_count = info.references;
+    segment->header_size = info.header_length;
+    segment->stated = info.data_length;
+    list->known = KNOWS_HEADER;
+    return HAYRO_JBIG2_OK;
+}
+
+/* The length of a segment by a copy of its header and of at most `most` bytes of its data. */
+static uint32_t measure_copy(const struct segment_list *list, const struct segment *segment, size_t most,
+                             size_t *taken) {
+    uint8_t *copy = room_for(segment->header_size + most);
+    memcpy(copy, list->bytes + segment->place, segment->header_size);
+    memcpy(copy + segment->header_size, list->bytes + segment->data, most);
+    uint32_t error =
+        with_memory(hayro_jbig2_segment_get_length(NULL, false, copy, segment->header_size + most, taken));
+    free(copy);
     return error;
 }
 
-/* The length of data that a marker ends (7.2.7), from the cursor on. */
-static uint32_t find_length(const struct cursor *cursor, size_t *length) {
-    enum { REGION_SIZE = 17, ROW_COUNT_SIZE = 4, MARKER_SIZE = 2 };
-    struct cursor at = *cursor;
-    skip(&at, REGION_SIZE);
-    uint32_t flags = next_number(&at, 1);
-    bool is_mmr = flags & 1;
-    skip(&at, is_mmr ? 0 : flags & 6 ? 2 : flags & 16 ? 24 : 8);
-    if (at.is_over)
-        return HAYRO_JBIG2_PARSE_UNEXPECTED_EOF;
-    const uint8_t *marker = (const uint8_t *)(is_mmr ? "\0\0" : "\xFF\xAC");
-    for (; bytes_left(&at) >= MARKER_SIZE + ROW_COUNT_SIZE; at.place++)
-        if (memcmp(at.bytes + at.place, marker, MARKER_SIZE) == 0) {
-            *length = at.place + MARKER_SIZE + ROW_COUNT_SIZE - cursor->place;
+/* How many bytes header and data take, where a marker ends the data (7.2.7). Data that don't follow their header are
+ * copied after it, more of them until the marker is there, so that a file with many of them is listed soon. */
+static uint32_t measure(const struct segment_list *list, const struct segment *segment, size_t *taken) {
+    enum { FIRST_COPY = 256 };
+    size_t left = list->size - segment->data;
+    if (segment->data == segment->place + segment->header_size)
+        return with_memory(hayro_jbig2_segment_get_length(NULL, false, list->bytes + segment->place,
+                                                          list->size - segment->place, taken));
+    for (size_t most = FIRST_COPY; most < left; most *= 2)
+        if (measure_copy(list, segment, most, taken) == HAYRO_JBIG2_OK)
             return HAYRO_JBIG2_OK;
-        }
-    return HAYRO_JBIG2_SEGMENT_MISSING_END_MARKER;
+    return measure_copy(list, segment, left, taken);
 }
 
-/* Finds a segment's data at the cursor, and returns the error where they aren't all there. */
-static uint32_t read_data(struct segment *segment, struct cursor *cursor) {
+/* Finds a segment's data at a place, and returns the error where they aren't all there. */
+static uint32_t read_data(const struct segment_list *list, struct segment *segment, size_t place) {
+    size_t left = list->size - place, taken = 0;
     uint32_t error = HAYRO_JBIG2_OK;
-    segment->data = cursor->place;
-    segment->length = segment->stated;
-    if (segment->stated == UNKNOWN_LENGTH)
-        error = find_length(cursor, &segment->length);
-    else if (segment->length > bytes_left(cursor))
+    segment->data = place;
+    if (segment->stated == HAYRO_JBIG2_UNKNOWN_LENGTH)
+        error = measure(list, segment, &taken);
+    else if (segment->stated > left)
         error = HAYRO_JBIG2_PARSE_UNEXPECTED_EOF;
-    if (error != HAYRO_JBIG2_OK)
-        segment->length = bytes_left(cursor);
-    cursor->place += segment->length;
+    else
+        taken = segment->header_size + (size_t)segment->stated;
+    segment->length = error == HAYRO_JBIG2_OK ? taken - segment->header_size : left;
     return error;
 }
 
@@ -135,30 +106,32 @@ static void append(struct segment_list *list) {
     list->at[list->count++] = list->last;
 }
 
-static void list_one_after_the_other(struct segment_list *list, struct cursor *cursor) {
-    while (bytes_left(cursor) > 0) {
-        list->error = read_header(list, cursor);
+static void list_one_after_the_other(struct segment_list *list, size_t place) {
+    struct segment *last = &list->last;
+    for (; place < list->size; place = last->data + last->length) {
+        list->error = read_header(list, place);
         if (list->error == HAYRO_JBIG2_OK)
-            list->error = read_data(&list->last, cursor);
+            list->error = read_data(list, last, place + last->header_size);
         if (list->error != HAYRO_JBIG2_OK)
             return;
         append(list);
-        if (list->last.type == END_OF_FILE)
+        if (last->type == END_OF_FILE)
             return;
     }
 }
 
-static void list_headers_first(struct segment_list *list, struct cursor *cursor) {
+static void list_headers_first(struct segment_list *list, size_t place) {
     bool has_end = false;
-    while (bytes_left(cursor) > 0 && !has_end) {
-        list->error = read_header(list, cursor);
+    for (; place < list->size && !has_end; place += list->last.header_size) {
+        list->error = read_header(list, place);
         if (list->error != HAYRO_JBIG2_OK)
             return;
         append(list);
         has_end = list->last.type == END_OF_FILE;
     }
     for (size_t i = 0; i < list->count; i++) {
-        list->error = read_data(&list->at[i], cursor);
+        list->error = read_data(list, &list->at[i], place);
+        place += list->at[i].length;
         if (list->error == HAYRO_JBIG2_OK)
             continue;
         list->last = list->at[i];
@@ -185,12 +158,11 @@ static void list_informations(struct segment_list *list) {
 }
 
 void list_segments(struct segment_list *list, const uint8_t *bytes, size_t size, size_t start, bool has_random_access) {
-    struct cursor cursor = {.bytes = bytes, .size = size, .place = start < size ? start : size};
     *list = (struct segment_list){.bytes = bytes, .size = size};
     if (has_random_access)
-        list_headers_first(list, &cursor);
+        list_headers_first(list, start);
     else
-        list_one_after_the_other(list, &cursor);
+        list_one_after_the_other(list, start);
     list_informations(list);
 }
 
@@ -205,18 +177,22 @@ bool has_file_header(const uint8_t *bytes, size_t size) {
 }
 
 bool read_file_header(struct file_header *header, const uint8_t *bytes, size_t size) {
-    struct cursor cursor = {.bytes = bytes, .size = size};
-    skip(&cursor, IDENTIFICATION_SIZE);
-    uint32_t flags = next_number(&cursor, 1);
-    header->is_sequential = flags & IS_SEQUENTIAL;
-    header->has_count = !(flags & HAS_NO_COUNT);
-    header->page_count = header->has_count ? next_number(&cursor, 4) : 0;
-    header->size = cursor.place;
-    return !cursor.is_over;
+    enum { FLAGS_END = IDENTIFICATION_SIZE + 1, COUNT_SIZE = 4 };
+    uint8_t flags = size < FLAGS_END ? 0 : bytes[IDENTIFICATION_SIZE];
+    *header = (struct file_header){.is_sequential = flags & IS_SEQUENTIAL, .has_count = !(flags & HAS_NO_COUNT)};
+    size_t whole = header->has_count ? FLAGS_END + COUNT_SIZE : FLAGS_END;
+    bool is_whole = size >= whole;
+    header->size = is_whole ? whole : size < FLAGS_END ? size : FLAGS_END;
+    if (is_whole && header->has_count)
+        header->page_count = number_at(bytes + FLAGS_END, COUNT_SIZE);
+    return is_whole;
 }
 
-uint32_t referred_number(const struct segment_list *list, const struct segment *segment, uint32_t index) {
-    return number_at(list->bytes + segment->referred + (size_t)index * segment->referred_size, segment->referred_size);
+uint32_t *referred_numbers(const struct segment_list *list, const struct segment *segment) {
+    uint32_t *numbers = room_for(segment->referred_count * sizeof *numbers);
+    with_memory(hayro_jbig2_segment_get_references(NULL, false, list->bytes + segment->place,
+                                                   list->size - segment->place, numbers, segment->referred_count));
+    return numbers;
 }
 
 const struct segment *segment_of_number(const struct segment_list *list, uint32_t number) {
@@ -292,7 +268,7 @@ uint64_t stated_pixels(const struct segment_list *list) {
         if (list->at[i].type != PAGE_INFORMATION)
             continue;
         read_page_information(list, &list->at[i], &page);
-        uint32_t height = page.height == UNKNOWN_LENGTH ? rows : page.height;
+        uint32_t height = page.height == UNKNOWN_HEIGHT ? rows : page.height;
         if (page.width <= LONGEST_SIDE && height <= LONGEST_SIDE)
             pixels += (uint64_t)page.width * height;
     }

@@ -3,6 +3,8 @@
 #ifndef HAYRO_TOOL_SEGMENTS_H
 #define HAYRO_TOOL_SEGMENTS_H
 
+#include "hayro_jbig2.h"
+
 #include <stdbool.h>
 #include <stddef.h>
 #include <stdint.h>
@@ -20,14 +22,12 @@ enum {
 
 struct segment {
     size_t place, data; /* where its header and its data begin */
-    size_t length;      /* how many bytes of its data are there */
-    uint32_t stated;    /* the field of its length */
+    size_t header_size;
+    size_t length;   /* how many bytes of its data are there */
+    uint64_t stated; /* how many its header says, or HAYRO_JBIG2_UNKNOWN_LENGTH */
     uint32_t number, page;
     uint8_t type;
-    /* The numbers that it refers to: their count, where they begin, and the bytes of each. */
-    uint32_t referred_count;
-    size_t referred;
-    uint8_t referred_size;
+    size_t referred_count; /* how many segments it refers to */
 };
 
 /* How much of a header could be read. */
@@ -46,8 +46,6 @@ struct segment_list {
     size_t information_count;
 };
 
-#define UNKNOWN_LENGTH UINT32_C(0xFFFFFFFF)
-
 /* The segments of `size` bytes from `start` on. The bytes must stay until free_segments. */
 void list_segments(struct segment_list *list, const uint8_t *bytes, size_t size, size_t start, bool has_random_access);
 void free_segments(struct segment_list *list);
@@ -64,8 +62,8 @@ bool has_file_header(const uint8_t *bytes, size_t size);
 /* Reads it, and says whether it is whole. */
 bool read_file_header(struct file_header *header, const uint8_t *bytes, size_t size);
 
-/* A number that a segment refers to, by its index. */
-uint32_t referred_number(const struct segment_list *list, const struct segment *segment, uint32_t index);
+/* The numbers that a segment refers to. The caller frees them. */
+uint32_t *referred_numbers(const struct segment_list *list, const struct segment *segment);
 /* The first segment with a number, or NULL. */
 const struct segment *segment_of_number(const struct segment_list *list, uint32_t number);
 
@@ -75,9 +73,11 @@ uint32_t number_in(const struct segment_list *list, const struct segment *segmen
 bool is_known_type(unsigned type);
 bool is_region(unsigned type);
 
+#define UNKNOWN_HEIGHT UINT32_C(0xFFFFFFFF)
+
 /* What the page information says (T.88, 7.4.8). */
 struct page_information {
-    uint32_t width, height; /* height: UNKNOWN_LENGTH where it is unknown */
+    uint32_t width, height; /* height: UNKNOWN_HEIGHT where it is unknown */
     uint32_t x_resolution, y_resolution;
     uint8_t flags;
     uint16_t striping;

@@ -22,9 +22,11 @@ static void read_list(struct segment_list *list) {
         const struct segment *segment = &list->at[i];
         if (segment->data > list->size || segment->length > list->size - segment->data)
             abort();
-        for (uint32_t j = 0; j < segment->referred_count; j++)
-            if (referred_number(list, segment, j) >= segment->number)
+        uint32_t *numbers = referred_numbers(list, segment);
+        for (size_t j = 0; j < segment->referred_count; j++)
+            if (numbers[j] >= segment->number)
                 abort();
+        free(numbers);
         region_of(list, segment, &region);
         add_coding(&text, list, segment);
         page_information_of(list, segment->page, &information);

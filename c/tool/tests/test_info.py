@@ -2,6 +2,7 @@
 from __future__ import annotations
 
 import json
+import struct
 import unittest
 
 from support import BOOK, EXAMPLE, HAS_PDF, INCOMPLETE, NOT_DONE, SUITE, WHOLE, Case
@@ -105,6 +106,22 @@ class Info(Case):
         self.assertEqual(known, (11, place, "invalid referred-to segment count"))
         [document] = self.listed(scan, "--salvage", status=INCOMPLETE)
         self.assertEqual([page["state"] for page in document["pages"]], ["whole", "incomplete"])
+
+    def test_unknown_lengths_after_all_headers(self):
+        sizes = [3, 250, 3000]
+        kinds = [(48, 19), *[(38, 0xFFFFFFFF)] * len(sizes), (49, 0), (51, 0)]
+        headers = [struct.pack(">IBBBI", number, kind, 0, 1, size) for number, (kind, size) in enumerate(kinds)]
+        page = struct.pack(">IIIIBH", 8, 8, 0, 0, 0, 0)
+        region = struct.pack(">IIIIBBbb", 8, 8, 0, 0, 0, 6, 2, -1)
+        regions = [region + bytes([1]) * size + bytes.fromhex("FFAC 00000008") for size in sizes]
+        data = [page, *regions, b"", b""]
+        whole = BOOK[:8] + b"\0" + struct.pack(">I", 1) + b"".join(headers + data)
+        [document] = self.listed(self.made(whole))
+        self.assertEqual([one["length"] for one in document["segments"]], [len(one) for one in data])
+        self.assertEqual([one["length_is_unknown"] for one in document["segments"]], [kind == 38 for kind, _ in kinds])
+        [document] = self.listed(self.made(whole[:-1]), status=NOT_DONE)
+        self.assertEqual(len(document["segments"]), 3)
+        self.assertEqual((document["list_ends"]["byte"], document["list_ends"]["error"]), (13 + 3 * 11, 13))
 
     @unittest.skipUnless(HAS_PDF, "libqpdf is not here")
     def test_a_pdf_file(self):
