@@ -104,6 +104,12 @@ u32 Z_hayro_jbig2Z_hayro_jbig2_page_get_left_out(Z_hayro_jbig2_instance_t*, u64,
 /* export: 'hayro_jbig2_page_size' */
 u32 Z_hayro_jbig2Z_hayro_jbig2_page_size(Z_hayro_jbig2_instance_t*, u32, u64, u64, u64, u64, u64);
 
+/* export: 'hayro_jbig2_region_get_info' */
+u32 Z_hayro_jbig2Z_hayro_jbig2_region_get_info(Z_hayro_jbig2_instance_t*, u64, u64, u64);
+
+/* export: 'hayro_jbig2_segment_get_length' */
+u32 Z_hayro_jbig2Z_hayro_jbig2_segment_get_length(Z_hayro_jbig2_instance_t*, u64, u32, u64, u64, u64);
+
 /* export: 'jbig2_c_page_alone' */
 u32 Z_hayro_jbig2Z_jbig2_c_page_alone(Z_hayro_jbig2_instance_t*, u64, u32, u64, u64, u64);
 
@@ -118,6 +124,9 @@ u32 Z_hayro_jbig2Z_jbig2_c_salvaged_with(Z_hayro_jbig2_instance_t*, u64, u64, u6
 
 /* export: 'hayro_jbig2_context_get_passed_over' */
 u32 Z_hayro_jbig2Z_hayro_jbig2_context_get_passed_over(Z_hayro_jbig2_instance_t*, u64, u64);
+
+/* export: 'hayro_jbig2_segment_get_info' */
+u32 Z_hayro_jbig2Z_hayro_jbig2_segment_get_info(Z_hayro_jbig2_instance_t*, u64, u32, u64, u64, u64);
 
 /* export: 'hayro_jbig2_globals_get_left_out' */
 u32 Z_hayro_jbig2Z_hayro_jbig2_globals_get_left_out(Z_hayro_jbig2_instance_t*, u64, u64);
@@ -139,6 +148,9 @@ u32 Z_hayro_jbig2Z_hayro_jbig2_page_image(Z_hayro_jbig2_instance_t*, u32, u64, u
 
 /* export: 'hayro_jbig2_page_packed' */
 u32 Z_hayro_jbig2Z_hayro_jbig2_page_packed(Z_hayro_jbig2_instance_t*, u32, u64, u64, u64, u64, u64);
+
+/* export: 'hayro_jbig2_segment_get_references' */
+u32 Z_hayro_jbig2Z_hayro_jbig2_segment_get_references(Z_hayro_jbig2_instance_t*, u64, u32, u64, u64, u64, u64);
 
 /* export: 'hayro_jbig2_context_rows' */
 u32 Z_hayro_jbig2Z_hayro_jbig2_context_rows(Z_hayro_jbig2_instance_t*, u64, u64, u64, u64);
