@@ -39,6 +39,8 @@ export class Pdf {
   #bytes;
   #objects;
   #room = new Room();
+  // The bytes of globals, promised. Many images may share some that take long to unpack.
+  #shared = new Map();
 
   /** What could not be read of the file, as texts: object streams that are damaged, and objects beyond the most. */
   faults = [];
@@ -109,7 +111,9 @@ export class Pdf {
       if (filter === JBIG2 && index === filters.length - 1) break;
       if (!FLATE.has(filter)) throw new PdfError(`the filter ${filter.slice(1, 40)} is not read here`);
       const predictor = this.#objects.valueOf(parameters[index] ?? {}, "Predictor");
-      if (predictor > 1) throw new PdfError("predictors of Flate are not read here");
+      if (typeof predictor === "number" && predictor > 1) {
+        throw new PdfError("predictors of Flate are not read here");
+      }
       data = await inflated(data, (size) => this.#room.take(object, size));
     }
     return data;
@@ -134,12 +138,18 @@ export class Pdf {
     return stream;
   }
 
+  /** The bytes of globals, unpacked once. */
+  #sharedData(object) {
+    if (!this.#shared.has(object)) this.#shared.set(object, this.#data(object));
+    return this.#shared.get(object);
+  }
+
   /** The bytes of an image, and its globals' or null. */
   async streams(number) {
     const object = this.#objects.get(number);
     if (object?.begin === undefined) throw new PdfError(`the file has no stream ${number}`);
     const shared = this.#globalsOf(object);
-    const globals = shared && (await this.#data(shared));
+    const globals = shared && (await this.#sharedData(shared));
     return { bytes: await this.#data(object), globals };
   }
 }

@@ -3,14 +3,16 @@
  * and the next file gets another.
  */
 
-/** A worker that has loaded the decoder. */
-function loadedWorker() {
+/** A worker, and the promise that it has loaded the decoder. */
+function startedWorker() {
   const worker = new Worker(new URL("worker.js", import.meta.url), { type: "module" });
-  return new Promise((resolve, reject) => {
+  const loaded = new Promise((resolve, reject) => {
     const fail = (text) => reject(new Error(`the decoder could not be loaded: ${text}`));
-    worker.onmessage = ({ data }) => (data.isReady ? resolve(worker) : fail(data.error));
+    worker.onmessage = ({ data }) => (data.isReady ? resolve() : fail(data.error));
     worker.onerror = (event) => fail(event.message ?? "no module workers");
   });
+  loaded.catch(() => {});
+  return { worker, loaded };
 }
 
 /** The bytes of a file. A folder that is dropped is a file too, which can't be read. */
@@ -69,22 +71,21 @@ export class FileQueue {
 
   /** Decodes a file until it is done, fails or is stopped. Only a worker that is done is used again. */
   async #decodeOrStop(file, options) {
-    const worker = (this.#worker ??= loadedWorker());
-    worker.catch(() => {});
+    const started = (this.#worker ??= startedWorker());
     const stopped = new Promise((_, reject) => (this.#stop = (text) => reject(new Error(text))));
     try {
-      await Promise.race([this.#decode(file, options, worker), stopped]);
+      await Promise.race([this.#decode(file, options, started), stopped]);
     } catch (error) {
       this.#show.fail(error.message);
       this.#worker = null;
-      worker.then((loaded) => loaded.terminate()).catch(() => {});
+      started.worker.terminate();
     }
     this.#stop = () => {};
   }
 
-  async #decode(file, { seconds, ...options }, loading) {
+  async #decode(file, { seconds, ...options }, { worker, loaded }) {
     const bytes = await bytesOfFile(file);
-    const worker = await loading;
+    await loaded;
     await new Promise((resolve, reject) => {
       let timer;
       const isLate = () => reject(new Error(`stopped, since a page took more than ${seconds} seconds`));

@@ -98,6 +98,18 @@ class Files(unittest.TestCase):
         with self.assertRaises(hayro_jbig2.WorkLimitReached):
             image.load()
 
+    def test_pages_that_are_too_large_are_refused(self):
+        first, large = (
+            bytes.fromhex(f"0000000{page} 30 00 0{page} 00000013 {size} {size}") + bytes(11)
+            for page, size in ((1, "00000040"), (2, "0000FFFF"))
+        )
+        image = Image.open(io.BytesIO(HEADER[:-1] + b"\2" + first + large))
+        self.assertEqual((image.size, image.n_frames), ((64, 64), 2))
+        with self.assertRaises(Image.DecompressionBombError):
+            image.seek(1)
+        image.load()
+        self.assertEqual((image.tell(), image.size), (0, (64, 64)))
+
     def test_names_say_what_files_are(self):
         self.assertEqual(Image.registered_extensions()[".jb2"], "JBIG2")
 

@@ -21,6 +21,9 @@ const END_OF_FILE = bytesOf("%%EOF");
 const ZERO = "0".charCodeAt(0);
 // No word that means something is longer.
 const LONGEST_WORD = 32;
+// Nor any name, with its escapes. Of a longer one this much is kept.
+const LONGEST_NAME = 256;
+const SHORT_TEXT = 12;
 // Where strings don't close again and again, each is sought less far, but at least as far as this.
 const SHORTEST_REACH = 1024;
 
@@ -33,7 +36,8 @@ export class Lexer {
   #numbers = [-1, -1];
 
   constructor(bytes, place = 0, end = bytes.length) {
-    this.bytes = bytes;
+    // What searches for a byte looks no further than the end.
+    this.bytes = end < bytes.length ? bytes.subarray(0, end) : bytes;
     this.place = place;
     this.end = end;
     this.begin = place;
@@ -176,7 +180,9 @@ export class Lexer {
     return /^[-+]?(\d+\.?\d*|\.\d+)$/.test(text) ? this.#set(NUMBER, Number(text)) : this.#set(WORD, text);
   }
 
+  /** Bytes as a text. A long one that grew by characters would take some 30 bytes for each. */
   #text(begin, end) {
+    if (end - begin > SHORT_TEXT) return String.fromCharCode.apply(null, this.bytes.subarray(begin, end));
     let text = "";
     for (let place = begin; place < end; place++) text += String.fromCharCode(this.bytes[place]);
     return text;
@@ -184,10 +190,10 @@ export class Lexer {
 
   /** The rest of a name, with a slash. Two digits after `#` stand for a byte. */
   #name() {
-    const begin = this.place;
     while (this.place < this.end && isRegular[this.bytes[this.place]]) this.place++;
-    const text = `/${this.#text(begin, this.place)}`;
-    if (!this.bytes.subarray(begin, this.place).includes(HASH)) return text;
+    const end = Math.min(this.place, this.begin + LONGEST_NAME);
+    const text = this.#text(this.begin, end);
+    if (!this.bytes.subarray(this.begin, end).includes(HASH)) return text;
     return text.replace(/#([0-9A-Fa-f]{2})/g, (_, digits) => String.fromCharCode(parseInt(digits, 16)));
   }
 

@@ -86,11 +86,17 @@ class Scan {
     if (this.objects.valueOf(object, "Type") === "/XRef") this.#noteEncryption(object.value);
   }
 
+  /** Where a stream ends by its length among these objects, or NaN. Making a number of an array would take long. */
+  #endByLength(object, objects) {
+    const length = objects.valueOf(object, "Length");
+    return isWhole(length) ? object.begin + length : NaN;
+  }
+
   /** Finds the end of a stream: by its length, where `endstream` follows there, else by that word. */
   #addStream(object) {
     const { lexer } = this;
     object.begin = lexer.enterStream();
-    object.end = object.begin + Number(this.lengths.valueOf(object, "Length"));
+    object.end = this.#endByLength(object, this.lengths);
     if (!(object.end >= object.begin && lexer.hasEndOfStream(object.end))) {
       object.end = lexer.placeOfEnd();
       this.#searched.push(object);
@@ -109,7 +115,7 @@ class Scan {
    */
   get hasCutStream() {
     const isCut = (object) => {
-      const end = object.begin + Number(this.objects.valueOf(object, "Length"));
+      const end = this.#endByLength(object, this.objects);
       return end > object.end && this.lexer.hasEndOfStream(end);
     };
     return this.#searched.some(isCut);

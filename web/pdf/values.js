@@ -9,6 +9,8 @@ const KEYS = new Set(
 // Image dictionaries have a few dozen words. An object of more words, or with more brackets open, is passed over.
 const MOST_WORDS = 4096;
 const MOST_OPEN = 64;
+// Of an array that is kept. Lists of filters and of their parameters have a few.
+const MOST_ITEMS = 16;
 const CONSTANTS = new Map([["true", true], ["false", false], ["null", null]]);
 const AFTER_VALUE = new Set(["obj", "endobj", "stream", "endstream", "trailer", "xref", "startxref"]);
 
@@ -44,14 +46,14 @@ function refer(items) {
 
 /**
  * The value at a lexer's place: a number, a name as a text with its slash, a `Reference`, an array, a dictionary as a
- * Map, or null for what nobody needs here. It ends at a word that comes after a value, which is put back, or with the
- * bytes. One that is too long is null, and the lexer stays in it.
+ * Map, or null for what nobody needs here. Of an array only the first items are kept. A value ends at a word that comes
+ * after it, which is put back, or with the bytes. One that is too long is null, and the lexer stays in it.
  */
 export function valueAt(lexer) {
   const open = [{ items: [] }];
   const close = () => {
     const { kind, items } = open.pop();
-    open.at(-1).items.push(kind === "<<" ? dictionaryOf(items) : items);
+    open.at(-1).items.push(kind === "<<" ? dictionaryOf(items) : items.slice(0, MOST_ITEMS));
   };
   for (let words = 0; words < MOST_WORDS && open.length <= MOST_OPEN; words++) {
     const kind = lexer.next();

@@ -21,6 +21,13 @@ export function packed(size, rounds) {
 const OBJECT_STREAM = "/Type/ObjStm/N 1/First 4";
 const numbered = (count, text) => Array.from({ length: Math.ceil(count) }, (_, at) => text(at + 1)).join("");
 
+const TWICE = "/Filter[/FlateDecode/FlateDecode]";
+/** A file of an object stream that is packed twice. */
+const packedObjects = (count, head, ...parts) =>
+  file(stream(1, `/Type/ObjStm/N ${count}/First ${head.length}${TWICE}`, deflateSync(deflateSync(Buffer.concat([latin1(head), ...parts])))));
+/** The same of `count` objects of one text. */
+const packedCopies = (count, text) => packedObjects(count, numbered(count, (at) => `${at} ${(at - 1) * text.length} `), Buffer.alloc(count * text.length, text));
+
 /** Whose reading takes a time in proportion to their size, at most. */
 export const GROWING = {
   "a run of digits": (size) => file(times("1", size)),
@@ -33,6 +40,13 @@ export const GROWING = {
     return file(numbered(size / one.length, (at) => one.replace("1", String(at))));
   },
   "lengths that are not there": (size) => file(numbered(size / 50, (at) => `${at} 0 obj <</Length 9999999 0 R>>stream\nendstream\n`)),
+  "lengths that are one long array": (size) =>
+    file(`1 0 obj[${times(`/${"A".repeat(200)}`, size / 2)}]endobj `, numbered(size / 100, (at) => `${at + 1} 0 obj<</Length 1 0 R>>stream\n \nendstream endobj\n`)),
+  "predictors that are one long array": (size) => {
+    const one = stream(1, "/Type/ObjStm/N 1/First 4/Filter/Fl/DecodeParms 2 0 R", deflateSync("9 0 7")).toString("latin1");
+    const many = numbered(size / 600, (at) => one.replace("1", String(at + 3)));
+    return file(`2 0 obj<</Predictor 3 0 R>>endobj 3 0 obj[${times(`/${"A".repeat(200)}`, size / 2)}]endobj `, many);
+  },
   "lengths that come later": (size) => file(numbered(size / 70, (at) => `${2 * at} 0 obj<</Length ${2 * at + 1} 0 R>>stream\nendobj endstream\n${2 * at + 1} 0 obj 6 endobj\n`)),
   "strings that don't close": (size) => file(times("1 0 obj(endobj ", size)),
   "strings that don't close in one object": (size) => file("1 0 obj[", times("(", size)),
@@ -64,6 +78,12 @@ export const SMALL = {
   },
   "an object stream that unpacks to 100 MB of numbers": () =>
     file(stream(1, "/Type/ObjStm/N 50000000/First 100000000/Filter[/FlateDecode/FlateDecode]", deflateSync(deflateSync(Buffer.alloc(100e6, "9 "))))),
+  "an object stream of 50000 strings that don't close": () => packedObjects(50000, numbered(50000, (at) => `${at} ${2 * at} `), Buffer.alloc(1e5, "( "), Buffer.alloc(50e6)),
+  "an object stream of a name of 200 MB": () => packedObjects(1, "9 0 ", latin1("<</Type/"), Buffer.alloc(200e6, "A")),
+  "an object stream of 50 MB of long names": () => packedCopies(1e5, `<</Type/${"A".repeat(480)}>>`),
+  "an object stream of 40 MB of arrays": () => packedCopies(3000, `[${"/AB".repeat(4090)}]`),
+  "500 images that share globals of 20 MB": () =>
+    file(stream(1, TWICE, packed(20 << 20, 2)), ...Array.from({ length: 500 }, (_, at) => image(at + 2, "/DecodeParms<</JBIG2Globals 1 0 R>>", "x"))),
   "an object stream that unpacks to 200 MB of objects": () => {
     const head = numbered(1e5, (at) => `${at} ${10 * at} `);
     const data = Buffer.concat([latin1(head), Buffer.alloc(150e6, "<</N 1>>")]);

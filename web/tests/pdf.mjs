@@ -96,6 +96,12 @@ const FILES = {
   "too many brackets": [file("4 0 obj", "[".repeat(1e5), " endobj ", IMAGE), "5 right"],
   "too long an object": [file("4 0 obj[", "1 ".repeat(1e5), "]endobj ", IMAGE), "5 right"],
   "names with digits": [file("5 0 obj<</F#69lter/JBIG2D#65code/Length 5>>stream\nright\nendstream"), "5 right"],
+  "a name that is too long": [file(`5 0 obj<</A/${"B".repeat(1e5)}/Filter/JBIG2Decode/Length 5>>stream\nright\nendstream`), "5 right"],
+  "a long array in a dictionary": [file(`5 0 obj<</A[${"1 ".repeat(1000)}]/Filter/JBIG2Decode/Length 5>>stream\nright\nendstream`), "5 right"],
+  "a string in an object stream that doesn't close": [
+    file(stream(7, "/Type/ObjStm/N 2/First 8", "8 0 9 2 ( /JBIG2Decode endobj"), stream(4, "/Filter 9 0 R", "x")),
+    "4 x",
+  ],
   "words that mean nothing": [file("5 0 obj<</A what/Filter/JBIG2Decode/Length 5>>stream\nright\nendstream"), "5 right"],
   "a comment in a dictionary": [file("5 0 obj<</A 1%/Length 2\n/Filter/JBIG2Decode/Length 5>>stream\nright\nendstream"), "5 right"],
   "a filter around the image": [file(stream(5, "/Filter[/FlateDecode/JBIG2Decode]", deflateSync("right"))), "5 right"],

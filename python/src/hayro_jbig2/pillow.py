@@ -53,8 +53,10 @@ class Jbig2ImageFile(ImageFile.ImageFile):
         self._show(0)
 
     def seek(self, frame: int) -> None:
-        """Chooses a page, from 0. Raises EOFError where there is none."""
+        """Chooses a page, from 0. Raises EOFError where there is none, and as Image.open does where it is too large."""
         if self._seek_check(frame):
+            # Image.open looks at the first page alone.
+            Image._decompression_bomb_check(self._sizes[frame][1:])
             self._show(frame)
 
     def tell(self) -> int:
