@@ -39,18 +39,20 @@ is_assembled() {
 
 # Makes a program, where it isn't there: assemble_program NAME [FOLDER]. The folder is dist/out, or another.
 assemble_program() {
-    local folder=${2:-$dist/out} compile parts room status
+    local folder=${2:-$dist/out} compile parts room status=0
     if is_assembled "$1" "$folder"; then
         return 0
     fi
     compile=$(compiler) && parts=$(sums_of_parts "$1") || return 1
     mkdir -p -- "$folder" && room=$(mktemp -d -- "$folder/room.XXXXXX") || return 1
-    # A run that begins meanwhile has either program whole. The note has the sum of the program that it is of.
-    $compile -O2 "$dist/$processor/$1.s" "$dist/words.c" "$dist/heap.c" -o "$room/made" &&
-        { echo "$compile" && echo "$parts" && sha256sum <"$room/made"; } >"$room/of" &&
-        mv -- "$room/made" "$folder/$1" && mv -- "$room/of" "$folder/$1.of"
-    status=$?
-    rm -rf -- "$room"
+    (
+        # Also where a signal ends it. A caller may have another `room`.
+        trap "rm -rf -- ${room@Q}" EXIT
+        # A run that begins meanwhile has either program whole. The note has the sum of the program that it is of.
+        $compile -O2 "$dist/$processor/$1.s" "$dist/words.c" "$dist/heap.c" -o "$room/made" &&
+            { echo "$compile" && echo "$parts" && sha256sum <"$room/made"; } >"$room/of" &&
+            mv -- "$room/made" "$folder/$1" && mv -- "$room/of" "$folder/$1.of"
+    ) || status=$?
     [ "$status" -eq 0 ] || echo "$compile did not make $1 of dist/$processor/$1.s, dist/words.c and dist/heap.c" >&2
     return "$status"
 }

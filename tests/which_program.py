@@ -136,6 +136,17 @@ class Updates(Case):
         self.assert_runs(CC=compiler)
         self.assertTrue(os.path.exists(log))
 
+    def test_an_interrupted_build_leaves_nothing(self):
+        compiler = os.path.join(self.room, "interrupting-cc")
+        for name in "INT", "TERM":
+            with open(compiler, "w", encoding="utf-8") as file:
+                file.write(f"#!/bin/sh\nkill -{name} 0\n")
+            os.chmod(compiler, 0o755)
+            how = {"env": {**os.environ, "JBIG2_PROVE": "0", "CC": compiler}, "start_new_session": True}
+            ended = subprocess.run([self.path("jbig2-decode")], capture_output=True, check=False, **how)
+            self.assertNotEqual(ended.returncode, 0)
+            self.assertEqual(os.listdir(self.path("dist", "out")), [], name)
+
     def test_a_source_with_an_older_time(self):
         self.assert_runs()
         source = "crates/jbig2_mmr/src/lib.rt"

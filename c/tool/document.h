@@ -75,7 +75,7 @@ struct document {
     hayro_jbig2_left_out left_out;
     struct reader *strict_readers, *other_readers; /* those that no thread uses */
     /* Of a PDF file: */
-    bool is_damaged;
+    struct text damage; /* what qpdf had to mend, or "" */
     struct pdf *pdf;
 };
 

@@ -164,6 +164,8 @@ static struct fault fault_of_count(const struct document *document) {
 
 void find_faults_of_file(const struct document *document, struct faults *faults) {
     uint32_t answer = document->refusal != HAYRO_JBIG2_OK ? document->refusal : document->strict_answer;
+    if (document->damage.length > 0)
+        add_fault(faults, fault_of_pdf(DAMAGED_PDF, &document->damage));
     if (answer == HAYRO_JBIG2_OK)
         return;
     bool is_count = answer == HAYRO_JBIG2_FORMAT_PAGE_COUNT_MISMATCH && document->refusal == HAYRO_JBIG2_OK;

@@ -81,10 +81,12 @@ enum status print_info(const struct words *words) {
         all = worse_of(all, status);
         /* What is wrong with a file is in its list. */
         bool is_listed = opened == OPENED || (opened == REFUSED && document.kind == KIND_FILE);
-        if (is_listed)
+        if (is_listed) {
+            free_text(&messages);
             all = worse_of(all, list_document(printer, &document, words));
-        else
-            print_messages(&messages);
+            all = worse_of(all, find_missing_pages(words, &document, &messages));
+        }
+        print_messages(&messages);
         free_text(&messages);
         if (opened != NOT_READ)
             close_document(&document);

@@ -9,8 +9,8 @@
 
 /* Control characters of a name could be meant for the terminal. */
 static void print_name(const char *name) {
-    for (; *name != '\0'; name++)
-        putchar((unsigned char)*name < ' ' || *name == 127 ? '?' : *name);
+    for (const char *at = name; *at != '\0'; at++)
+        putchar(is_control(name, at) ? '?' : *at);
 }
 
 static void print_text(struct text *text, const char *end) {

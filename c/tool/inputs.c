@@ -84,3 +84,15 @@ enum opened next_document(struct inputs *inputs, struct document *document, stru
     free_bytes(&own);
     return *status == ALL_WHOLE || *status == INCOMPLETE ? OPENED : REFUSED;
 }
+
+enum status find_missing_pages(const struct words *words, const struct document *document, struct text *messages) {
+    enum status status = ALL_WHOLE;
+    for (size_t i = 0; i < words->range_count && document->count > 0; i++) {
+        size_t last = words->ranges[i].last == SIZE_MAX ? words->ranges[i].first : words->ranges[i].last;
+        if (last <= document->pages)
+            continue;
+        add_text(messages, "%s: no page %zu, the last is %zu\n", document->name, last, document->pages);
+        status = NOT_DONE;
+    }
+    return status;
+}

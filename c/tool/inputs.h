@@ -22,4 +22,7 @@ void close_inputs(struct inputs *inputs);
 /* Opens the next input, with what is wrong with it as a whole in messages and status. */
 enum opened next_document(struct inputs *inputs, struct document *document, struct text *messages, enum status *status);
 
+/* Says which of the wanted pages a document has not. One without pages has a message of its own. */
+enum status find_missing_pages(const struct words *words, const struct document *document, struct text *messages);
+
 #endif

@@ -59,6 +59,11 @@ void free_text(struct text *text) {
 
 bool has_progress(void) { return isatty(STDERR_FILENO); }
 
+bool is_control(const char *start, const char *at) {
+    unsigned char byte = (unsigned char)*at, before = at > start ? (unsigned char)at[-1] : 0;
+    return byte < ' ' || byte == 127 || (before == 0xC2 && byte >= 0x80 && byte < 0xA0);
+}
+
 /* Names of files and texts of a PDF file may have bytes that a terminal obeys. */
 void print_messages(const struct text *text) {
     if (text->length == 0)
@@ -66,10 +71,8 @@ void print_messages(const struct text *text) {
     if (shows_progress)
         fputs("\r\033[K", stderr);
     shows_progress = false;
-    for (size_t i = 0; i < text->length; i++) {
-        unsigned char byte = (unsigned char)text->at[i];
-        putc((byte < ' ' && byte != '\n') || byte == 127 ? '?' : byte, stderr);
-    }
+    for (const char *at = text->at; at < text->at + text->length; at++)
+        putc(*at != '\n' && is_control(text->at, at) ? '?' : *at, stderr);
     fflush(stderr);
 }
 

@@ -33,6 +33,9 @@ void *room_for(size_t size);
 void *larger_room(void *block, size_t size);
 void end_without_memory(void);
 
+/* Whether a terminal may obey the byte at `at`, of a text from `start` on: a control character of ASCII, or the second
+ * byte of one from U+0080 to U+009F. */
+bool is_control(const char *start, const char *at);
 /* A text of whole lines on standard error, after the progress line was taken away. */
 void print_messages(const struct text *text);
 /* A line of its own that the next call replaces. Only a terminal shows it. */

@@ -65,14 +65,12 @@ enum status open_pdf(struct document *document, const char *password, struct tex
         find_images_of_page(document, (size_t)page);
     count_images(document);
     /* What qpdf mended may have lost pages. */
-    struct text warning = {NULL, 0, 0};
-    add_warning(pdf->qpdf, &warning);
-    document->is_damaged = warning.length > 0;
-    if (document->is_damaged)
-        add_text(messages, "%s: the PDF file is damaged: %s\n", document->name, warning.at);
-    free_text(&warning);
+    struct text *damage = &document->damage;
+    add_warning(pdf->qpdf, damage);
+    if (damage->length > 0)
+        add_text(messages, "%s: the PDF file is damaged: %s\n", document->name, damage->at);
     if (document->count > 0)
-        return document->is_damaged ? INCOMPLETE : ALL_WHOLE;
+        return damage->length > 0 ? INCOMPLETE : ALL_WHOLE;
     add_text(messages, "%s: the PDF file has no JBIG2 image\n", document->name);
     return NOT_DONE;
 }
@@ -81,7 +79,8 @@ void close_pdf(struct document *document) {
     if (document->pdf == NULL)
         return;
     qpdf_cleanup(&document->pdf->qpdf);
-    free(document->pdf->seen);
+    forget_seen(document->pdf);
+    free_text(&document->damage);
     free(document->pdf);
     document->pdf = NULL;
 }

@@ -4,6 +4,7 @@
 
 #include "pdf_objects.h"
 
+#include <search.h>
 #include <stdlib.h>
 #include <string.h>
 
@@ -22,20 +23,26 @@ int filter_index_of_jbig2(qpdf_data qpdf, qpdf_oh dictionary) {
     return qpdf_oh_is_name_and_equals(qpdf, filter, "/JBIG2Decode") ? last : -1;
 }
 
-/* Whether an object of the file comes up for the first time. */
+static int compare_numbers(const void *one, const void *other) {
+    return ((uintptr_t)one > (uintptr_t)other) - ((uintptr_t)one < (uintptr_t)other);
+}
+
+/* Whether an object of the file comes up for the first time. Numbers may be of any size, so they are kept in a tree. */
 static bool is_new(struct pdf *pdf, qpdf_oh object) {
     int number = qpdf_oh_get_object_id(pdf->qpdf, object);
+    void *key = (void *)(uintptr_t)number;
     if (number <= 0)
         return true;
-    if ((size_t)number >= pdf->seen_room) {
-        size_t room = 2 * (size_t)number + 64;
-        pdf->seen = larger_room(pdf->seen, room);
-        memset(pdf->seen + pdf->seen_room, 0, room - pdf->seen_room);
-        pdf->seen_room = room;
-    }
-    bool is_first = !pdf->seen[number];
-    pdf->seen[number] = 1;
-    return is_first;
+    if (tfind(key, &pdf->seen, compare_numbers) != NULL)
+        return false;
+    if (tsearch(key, &pdf->seen, compare_numbers) == NULL)
+        end_without_memory();
+    return true;
+}
+
+void forget_seen(struct pdf *pdf) {
+    while (pdf->seen != NULL)
+        tdelete(*(void **)pdf->seen, &pdf->seen, compare_numbers);
 }
 
 static int index_of_globals(struct document *document, qpdf_oh stream) {

@@ -8,12 +8,12 @@
 
 struct pdf {
     qpdf_data qpdf;
-    unsigned char *seen; /* a byte for each object by its number */
-    size_t seen_room;
+    void *seen; /* a tree of the numbers of objects that came up */
 };
 
 /* Adds the JBIG2 images that a page, counted from 0, is the first to use. */
 void find_images_of_page(struct document *document, size_t page);
+void forget_seen(struct pdf *pdf);
 /* Where /JBIG2Decode is among a stream's filters, if it is the last; else -1. */
 int filter_index_of_jbig2(qpdf_data qpdf, qpdf_oh dictionary);
 

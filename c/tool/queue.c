@@ -63,7 +63,6 @@ static enum status check_pages(struct queue *queue, const struct document *docum
     const struct words *words = queue->words;
     size_t wanted = count_wanted(words, document);
     bool is_full = queue->is_single && words->format == FORMAT_PNG && queue->pages + wanted > 1;
-    enum status status = ALL_WHOLE;
     if (document->count == 0)
         add_text(messages, "%s: no page\n", document->name);
     else if (wanted == 0 && words->ranges[0].first <= document->pages)
@@ -71,15 +70,8 @@ static enum status check_pages(struct queue *queue, const struct document *docum
     else if (is_full)
         add_text(messages, "%s: a PNG file holds one page: give -o FOLDER/, --pages N, or --format tiff\n",
                  document->name);
-    status = is_full ? WRONG_WORDS : wanted == 0 ? NOT_DONE : ALL_WHOLE;
-    for (size_t i = 0; i < words->range_count && document->count > 0; i++) {
-        size_t last = words->ranges[i].last == SIZE_MAX ? words->ranges[i].first : words->ranges[i].last;
-        if (last <= document->pages)
-            continue;
-        add_text(messages, "%s: no page %zu, the last is %zu\n", document->name, last, document->pages);
-        status = worse_of(status, NOT_DONE);
-    }
-    return status;
+    enum status status = is_full ? WRONG_WORDS : wanted == 0 ? NOT_DONE : ALL_WHOLE;
+    return worse_of(status, find_missing_pages(words, document, messages));
 }
 
 /* Opens the next input. What is wrong with it as a whole is a report of its own. */

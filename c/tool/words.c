@@ -2,6 +2,7 @@
 
 #include "words.h"
 
+#include "file_names.h"
 #include "help.h"
 
 #include <ctype.h>
@@ -155,6 +156,13 @@ static const char *name_of_option(int option) {
     return "?";
 }
 
+/* getopt may still be at the word before that of a short option, as of -zq. */
+static enum request wrong_option(const char *word) {
+    char name[] = {'-', (char)optopt, '\0'};
+    bool is_short = optopt != 0 && strcmp(name_of_option(optopt), "?") == 0;
+    return wrong("there is no option", is_short ? name : word);
+}
+
 static enum request read_options(struct words *words, int count, char **all) {
     int option;
     opterr = 0;
@@ -166,7 +174,7 @@ static enum request read_options(struct words *words, int count, char **all) {
         if (option == ':')
             return wrong("a word is missing after", all[optind - 1]);
         if (option == '?')
-            return wrong("there is no option", all[optind - 1]);
+            return wrong_option(all[optind - 1]);
         if (!take_option(words, option, optarg)) {
             char what[40];
             snprintf(what, sizeof what, "wrong word for --%s:", name_of_option(option));
@@ -177,11 +185,13 @@ static enum request read_options(struct words *words, int count, char **all) {
     return GO_ON;
 }
 
-/* The format by the name's ending, if nothing else says it. */
+/* The format by the ending of a file's name, if nothing else says it. A folder may have any name. */
 static bool choose_format(struct words *words) {
-    const char *name = words->output != NULL ? words->output : "";
+    const char *name;
+    if (words->has_format || !has_single_output(words, &name) || name == NULL)
+        return true;
     const char *slash = strrchr(name, '/'), *dot = strrchr(slash != NULL ? slash : name, '.');
-    if (words->has_format || dot == NULL || dot == name || dot[1] == '\0' || strcmp(name, "..") == 0)
+    if (dot == NULL || dot == name || dot[1] == '\0')
         return true;
     return read_format(words, dot + 1);
 }

@@ -136,12 +136,27 @@ class Info(Case):
         self.assertIn("scan.pdf: a PDF file", table)
         self.assertIn("globals in object", table)
 
+    @unittest.skipUnless(HAS_PDF, "libqpdf is not here")
+    def test_a_damaged_pdf_file(self):
+        data = pdf_of([image_of(embedded_page(BOOK, 1))])
+        scan = self.made(data.replace(b"startxref\n", b"startxref\n9"), "scan.pdf")
+        [document] = self.listed(scan, status=INCOMPLETE)
+        self.assertEqual([fault["text"] for fault in document["faults"]], ["the PDF file is damaged"])
+        self.assertIn(b"\n  FAULT: the PDF file is damaged: ", self.run_here("info", scan).output)
+
+    def test_a_page_that_is_not_there(self):
+        ended = self.run_here("info", "--json", EXAMPLE, "-p", "2,9")
+        self.assert_ends(ended, NOT_DONE, "t88-h1.jb2: no page 9, the last is 3")
+        self.assertEqual(len(json.loads(ended.output)[0]["pages"]), 1)
+
     def test_names_are_escaped(self):
-        scan = self.made(BOOK, 'a"\\\33\udcff\xe9.jb2')
+        scan = self.made(BOOK, 'a"\\\33\x9b\udcff\xe9\u201b.jb2')
         [document] = self.listed(scan.name)
-        self.assertEqual(document["file"], 'a"\\\33\ufffd\xe9.jb2')
-        self.assertNotIn(b"\33", self.run_here("info", scan.name).output)
-        self.assertNotIn("\33", self.run_here(scan.name, "-p", "9").errors)
+        self.assertEqual(document["file"], 'a"\\\33\x9b\ufffd\xe9\u201b.jb2')
+        listed, refused = self.run_here("info", scan.name), self.run_here(scan.name, "-p", "9")
+        for shown in listed.output.decode(errors="replace"), refused.errors:
+            self.assertIn("\xe9\u201b.jb2", shown)
+            self.assertNotRegex(shown, "[\33\x9b]")
 
     def test_unreadable_inputs(self):
         ended = self.run_here("info", "--json", "gone.jb2")

@@ -88,6 +88,11 @@ class Output(Case):
         os.umask(mask)
         self.assertEqual(mode, 0o666 & ~mask)
 
+    def test_a_folder_of_any_name(self):
+        (self.room / "tmp.x9Zq").mkdir()
+        self.assert_ends(self.run_here(EXAMPLE, "-p", "1", "-o", "tmp.x9Zq"), WHOLE)
+        self.assertEqual(self.files(), ["tmp.x9Zq/t88-h1-1.png"])
+
     def test_standard_input_and_output(self):
         for words in (["-", "-f", "pbm"], ["-", "-o", "-", "-f", "pbm"]):
             ended = self.run_here(*words, input=BOOK)
@@ -169,7 +174,7 @@ class Output(Case):
 
     def test_a_limit_of_file_sizes(self):
         self.made(slow_page(4096)[:30], "white.jb2e")
-        limited = ["sh", "-c", 'trap "" XFSZ; ulimit -f 1; exec "$@"', "sh", TOOL, "white.jb2e", "-o", "all.pbm"]
+        limited = ["sh", "-c", 'ulimit -f 1; exec "$@"', "sh", TOOL, "white.jb2e", "-o", "all.pbm"]
         ended = subprocess.run(limited, cwd=self.room, capture_output=True, check=False)
         self.assertEqual((ended.returncode, self.files()), (NOT_DONE, ["white.jb2e"]), ended.stderr)
         self.assertIn(b"File too large", ended.stderr)
@@ -209,11 +214,13 @@ class Output(Case):
         self.made(slow_page(100), "quick.jb2e")
         self.made(slow_page(60000), "slow.jb2e")
         words = [TOOL, "quick.jb2e", "slow.jb2e", "-o", "both.pbm"]
-        with subprocess.Popen(words, cwd=self.room, stderr=subprocess.DEVNULL) as process:
-            self.wait_for_part()
-            process.send_signal(signal.SIGTERM)
-            self.assertEqual(process.wait(20), -signal.SIGTERM)
-        self.assertEqual(self.files(), ["quick.jb2e", "slow.jb2e"])
+        for number in signal.SIGTERM, signal.SIGQUIT, signal.SIGXCPU:
+            with subprocess.Popen(words, cwd=self.room, stderr=subprocess.DEVNULL) as process:
+                self.wait_for_part()
+                process.send_signal(number)
+                self.assertEqual(process.wait(20), -number)
+            files = [name for name in self.files() if not name.startswith("core")]
+            self.assertEqual(files, ["quick.jb2e", "slow.jb2e"])
 
     def test_a_terminal(self):
         leader, follower = pty.openpty()

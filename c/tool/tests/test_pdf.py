@@ -8,7 +8,7 @@ import subprocess
 import unittest
 import zlib
 
-from support import BOOK, HAS_PDF, INCOMPLETE, NOT_DONE, SUITE, WHOLE, Case, picture_of_png
+from support import BOOK, HAS_PDF, INCOMPLETE, NOT_DONE, SUITE, TOOL, WHOLE, Case, picture_of_png
 
 from conformance.runner.manifest import read_manifest
 from conformance.runner.embedding import embedded_page
@@ -172,6 +172,17 @@ class Pdf(Case):
         self.assertNotIn("page 2", ended.errors)
         ended = self.run_here("scan.pdf", "-o", "out/", "--salvage", "--force")
         self.assert_ends(ended, INCOMPLETE, "page 4: incomplete: globals: segment 0 (symbol dictionary)")
+
+    def test_a_high_number_of_an_object_takes_no_memory(self):
+        data, high = pdf_of(self.images[:1]), 1000000000
+        image = int(re.search(rb"/Image (\d+) 0 R", data)[1])
+        data = data.replace(b"/Image %d 0 R" % image, b"/Image %d 0 R" % high)
+        data = data.replace(b"\n%d 0 obj" % image, b"\n%d 0 obj" % high)
+        self.made(data.replace(b"startxref", b""), "scan.pdf")
+        limited = ["sh", "-c", 'ulimit -v 1000000; exec "$@"', "sh", TOOL, "scan.pdf", "-j", "1", "-o", "page.png"]
+        ended = subprocess.run(limited, cwd=self.room, capture_output=True, check=False)
+        self.assertEqual(ended.returncode, INCOMPLETE, ended.stderr)
+        self.assertEqual(picture_of_png((self.room / "page.png").read_bytes()), self.meant[0])
 
     def test_what_qpdf_mends_is_reported(self):
         """Pages of a damaged PDF file may be lost, so it is incomplete, though what is found is drawn."""

@@ -55,6 +55,10 @@ class Words(Case):
                 self.assertTrue(ended.errors)
                 self.assertEqual((ended.output, self.files()), (b"", ["scan.jb2"]))
 
+    def test_an_option_that_is_not_there_is_named(self):
+        for words, name in {("-zq", EXAMPLE): "-z", (EXAMPLE, "-qz"): "-z", (EXAMPLE, "--zq"): "--zq"}.items():
+            self.assert_ends(self.run_here(*words), WRONG_WORDS, f"there is no option {name};")
+
     def test_pages(self):
         for pages, numbers in {"1-3,7": [1, 2, 3], "2": [2], "2-": [2, 3], "3,1": [1, 3], "1,1-2": [1, 2]}.items():
             with self.subTest(pages=pages):
