@@ -51,9 +51,12 @@ void free_context(struct context *context) {
     give_back(context->allocator, context);
 }
 
+/* With the globals that were made of it: a caller whose listener left jbig2_make_global_ctx has the context alone. */
 struct allocator *jbig2_ctx_free(struct context *context) {
     if (context == NULL)
         return NULL;
+    if (context->made.made_of != NULL)
+        return jbig2_global_ctx_free(&context->made);
     struct allocator *allocator = context->allocator;
     free_context(context);
     return allocator;
@@ -144,10 +147,11 @@ struct image *jbig2_page_out(struct context *context) {
     struct page *page = context->ready;
     if (page == NULL)
         return NULL;
+    /* Before the page has another holder: a caller whose listener leaves gets it by the next call. */
+    tell_lacks(context);
     context->ready = page->next;
     page->next = context->handed_out;
     context->handed_out = page;
     page->image.holders++;
-    tell_lacks(context);
     return &page->image;
 }

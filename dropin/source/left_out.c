@@ -67,9 +67,13 @@ void tell_lacks(struct context *context) {
     tell_passed_over(context, (hayro_jbig2_passed_over){left_out->segments, left_out->segment, left_out->error});
     warn_of_several(context, NO_SEGMENT, left_out->pages, "a page is left out", "pages are left out, the first as follows",
                     left_out->page_error);
-    if (left_out->list_error != HAYRO_JBIG2_OK)
+    bool is_ended = left_out->list_error != HAYRO_JBIG2_OK;
+    if (is_ended)
         tell_answer(context, SEVERITY_WARNING, lacks.ended_at, "the rest of the segments is left out",
                     left_out->list_error);
-    else if (lacks.why == HAYRO_JBIG2_PARSE_UNEXPECTED_EOF || lacks.why == HAYRO_JBIG2_SEGMENT_UNKNOWN_TYPE)
+    /* One of an unknown type may stand before the rest. */
+    if (is_ended && lacks.cut_at == lacks.ended_at)
+        return;
+    if (lacks.why == HAYRO_JBIG2_PARSE_UNEXPECTED_EOF || lacks.why == HAYRO_JBIG2_SEGMENT_UNKNOWN_TYPE)
         tell_answer(context, SEVERITY_WARNING, lacks.cut_at, "a segment is left out", lacks.why);
 }

@@ -223,6 +223,26 @@ static void tells_what_is_left_out(void) {
     warns(true, &book, 11 + 11 + 1, "", cut);
 }
 
+/* A segment of type 63, and after it one with a bad count of references, which ends the list. */
+static void tells_what_is_left_out_before_the_rest(void) {
+    static const uint8_t more[] = "\0\0\0\x7B\x3F\0\1\0\0\0\0" "\0\0\0\x7C\x26\xA0\1\0\0\0\0";
+    struct counted memory = counted_allocator();
+    struct heard heard = {0};
+    struct context *context = embedded_context(&memory.base, NULL, &heard);
+    take_in(context, stream.at, stream.length, 4096);
+    take_in(context, more, 11, 11);
+    CHECK(jbig2_complete_page(context) == 0);
+    unsigned before = heard.count[SEVERITY_WARNING];
+    CHECK(heard.segment == 0x7B);
+    take_in(context, stream.at, stream.length, 4096);
+    take_in(context, more, sizeof more - 1, 4096);
+    CHECK(jbig2_complete_page(context) == 0);
+    CHECK(heard.count[SEVERITY_WARNING] == 2 * before + 1);
+    CHECK(heard.segment == 0x7B && strstr(heard.text, "unknown or reserved segment type") != NULL);
+    jbig2_ctx_free(context);
+    CHECK(memory.held == 0);
+}
+
 static void formats_messages(void) {
     struct counted memory = counted_allocator();
     struct heard heard = {0};
@@ -245,5 +265,6 @@ void hands_out_pages(void) {
     tells_what_it_refuses();
     tells_what_was_passed_over();
     tells_what_is_left_out();
+    tells_what_is_left_out_before_the_rest();
     formats_messages();
 }

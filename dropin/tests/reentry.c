@@ -213,9 +213,55 @@ static void a_listener_leaves(bool is_refused) {
     CHECK(memory.held == 0);
 }
 
+/* The caller has no globals then, but the context, and frees that. */
+static void a_listener_leaves_globals(void) {
+    static struct counted memory;
+    memory = counted_allocator();
+    struct context *context =
+        jbig2_ctx_new_imp(&memory.base, OPTION_EMBEDDED, NULL, hear_and_leave, NULL, ABI_MAJOR, ABI_MINOR);
+    jbig2_data_in(context, shared.at, shared.length);
+    jbig2_data_in(context, (const uint8_t *)"1234\x3F", 5);
+    if (setjmp(left) == 0) {
+        jbig2_make_global_ctx(context);
+        CHECK(!"nothing was told");
+    }
+    CHECK(jbig2_ctx_free(context) == &memory.base);
+    CHECK(memory.held == 0);
+}
+
+/* A file of two pages of 8 by 1 pixels. In the second, a region is passed over: its data end before its flags. */
+#define HEADER "\x97JB2\r\n\x1A\n\1\0\0\0\2"
+#define SIZE "\0\0\0\x08\0\0\0\1\0\0\0\0\0\0\0\0"
+#define PAGE(own, page) "\0\0\0" own "\x30\0" page "\0\0\0\x13" SIZE "\0\0\0"
+#define END(own, page) "\0\0\0" own "\x31\0" page "\0\0\0\0"
+#define REGION(own, page) "\0\0\0" own "\x26\0" page "\0\0\0\x11" SIZE "\0"
+
+/* The page at hand comes with the next call. */
+static void a_listener_leaves_a_page_of_a_file(void) {
+    static const uint8_t file[] = HEADER PAGE("\1", "\1") END("\2", "\1") PAGE("\3", "\2") REGION("\4", "\2")
+        END("\5", "\2");
+    static struct counted memory;
+    memory = counted_allocator();
+    struct context *context = jbig2_ctx_new_imp(&memory.base, 0, NULL, hear_and_leave, NULL, ABI_MAJOR, ABI_MINOR);
+    CHECK(jbig2_data_in(context, file, sizeof file - 1) == 0 && jbig2_complete_page(context) == 0);
+    jbig2_release_page(context, jbig2_page_out(context));
+    if (setjmp(left) == 0) {
+        jbig2_page_out(context);
+        CHECK(!"nothing was told");
+    }
+    struct image *image = jbig2_page_out(context);
+    CHECK(image != NULL && image->holders == 2);
+    jbig2_release_page(context, image);
+    CHECK(jbig2_page_out(context) == NULL);
+    jbig2_ctx_free(context);
+    CHECK(memory.held == 0);
+}
+
 void leaves_by_longjmp(void) {
     a_listener_leaves(false);
     a_listener_leaves(true);
+    a_listener_leaves_globals();
+    a_listener_leaves_a_page_of_a_file();
     unsigned long times = 0;
     while (is_left_at(times + 1))
         times++;
