@@ -101,14 +101,38 @@ static void refuses(void) {
     CHECK(taken == sizeof unknown_length);
 }
 
+/* A text region of row R9.2 that refers to a dictionary in the globals, after the information of a page. */
+static void reads_a_stream(const struct bytes *page) {
+    struct bytes globals = {.length = 0}, stream = {.length = 0};
+    hayro_jbig2_segment_info info = {0};
+    hayro_jbig2_region_info region = {9, 9, 9, 9, 9};
+    uint32_t number = 0;
+    size_t taken = 0;
+    page_with_globals(page, &globals, &stream);
+    CHECK(hayro_jbig2_segment_get_length(NULL, true, globals.at, globals.length, &taken) == HAYRO_JBIG2_OK);
+    CHECK(taken == globals.length);
+    CHECK(hayro_jbig2_segment_get_length(NULL, true, stream.at, stream.length, &taken) == HAYRO_JBIG2_OK);
+    CHECK(taken == page->length);
+    CHECK(hayro_jbig2_segment_get_info(NULL, true, stream.at + taken, stream.length - taken, &info) == HAYRO_JBIG2_OK);
+    CHECK(info.number == 2 && info.segment_type == 6 && info.references == 1 && info.data_length == 45);
+    CHECK(hayro_jbig2_segment_get_references(NULL, true, stream.at + taken, stream.length - taken, &number, 1) ==
+          HAYRO_JBIG2_OK);
+    CHECK(number == 1);
+    taken += info.header_length;
+    CHECK(hayro_jbig2_region_get_info(stream.at + taken, stream.length - taken, &region) == HAYRO_JBIG2_OK);
+    CHECK(region.width == 8 && region.height == 1 && region.x == 0 && region.y == 0);
+}
+
 int main(int count, char **words) {
-    static struct bytes file;
+    static struct bytes page, file;
     if (count != 3) {
         fprintf(stderr, "usage: segment_calls PAGE FILE\n");
         return 2;
     }
+    read_file(words[1], &page);
     read_file(words[2], &file);
     CHECK(lists(&file, NULL) == HAYRO_JBIG2_OK);
+    reads_a_stream(&page);
     lists_without_memory(&file);
     reads_a_region(&file);
     refuses();

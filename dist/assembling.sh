@@ -50,6 +50,7 @@ assemble_program() {
         trap "rm -rf -- ${room@Q}" EXIT
         # A run that begins meanwhile has either program whole. The note has the sum of the program that it is of.
         $compile -O2 "$dist/$processor/$1.s" "$dist/words.c" "$dist/heap.c" -o "$room/made" &&
+            [ "$(sums_of_parts "$1")" = "$parts" ] &&
             { echo "$compile" && echo "$parts" && sha256sum <"$room/made"; } >"$room/of" &&
             mv -- "$room/made" "$folder/$1" && mv -- "$room/of" "$folder/$1.of"
     ) || status=$?

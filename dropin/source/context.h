@@ -88,9 +88,9 @@ uint32_t draw_embedded(struct context *context, struct page **page);
 
 /* headers.c */
 
-/* The segment at which reading of a list stops, for its header or its data; NO_SEGMENT where it stops at none, or at
-   one whose number is cut off. Strictly, an unknown type stops it too. */
-uint32_t segment_of_fault(const uint8_t *at, size_t length, bool is_strict);
+/* Whether reading a list of segments stops before its end, and at which: NO_SEGMENT where its number is cut off. Strictly,
+ * a segment of an unknown type stops it too. */
+bool stops_early(const uint8_t *at, size_t length, bool is_strict, uint32_t *segment);
 
 /* left_out.c */
 

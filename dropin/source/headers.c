@@ -80,17 +80,20 @@ static int skip_segment(struct rest *rest, uint32_t own, bool is_strict) {
     return is_there ? (int)(flags & TYPE) : -1;
 }
 
-uint32_t segment_of_fault(const uint8_t *at, size_t length, bool is_strict) {
+bool stops_early(const uint8_t *at, size_t length, bool is_strict, uint32_t *segment) {
     struct rest rest = {at, length, false};
+    *segment = NO_SEGMENT;
     while (rest.length > 0) {
         uint32_t own = number(&rest, 4);
         if (rest.is_cut)
-            return NO_SEGMENT;
+            return true;
         int type = skip_segment(&rest, own, is_strict);
-        if (type < 0)
-            return own;
+        if (type < 0) {
+            *segment = own;
+            return true;
+        }
         if (type == END_OF_FILE)
-            return NO_SEGMENT;
+            return false;
     }
-    return NO_SEGMENT;
+    return false;
 }

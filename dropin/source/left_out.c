@@ -32,16 +32,19 @@ uint32_t look_for_left_out(struct context *context) {
     size_t start = start_of_segments(context);
     const uint8_t *at = start_of(&context->bytes) + start;
     size_t length = context->bytes.length - start;
-    uint32_t answer = read_strictly(context, at, length);
-    for (int i = 0; i < 2 && answer == HAYRO_JBIG2_PARSE_UNEXPECTED_EOF && ends_a_line(at, length); i++)
+    uint32_t cut_at, answer = read_strictly(context, at, length);
+    for (int i = 0; i < 2 && answer == HAYRO_JBIG2_PARSE_UNEXPECTED_EOF && ends_a_line(at, length) &&
+                    stops_early(at, length, true, &cut_at);
+         i++)
         answer = read_strictly(context, at, --length);
     if (answer == HAYRO_JBIG2_OUT_OF_MEMORY)
         return answer;
-    if (answer == HAYRO_JBIG2_OK)
-        return answer;
+    /* Page information that is too short has the same answer as a list that is cut off. */
+    if (answer == HAYRO_JBIG2_OK || !stops_early(at, length, true, &cut_at))
+        return HAYRO_JBIG2_OK;
     context->lacks.why = answer;
-    context->lacks.cut_at = segment_of_fault(at, length, true);
-    context->lacks.ended_at = segment_of_fault(at, length, false);
+    context->lacks.cut_at = cut_at;
+    stops_early(at, length, false, &context->lacks.ended_at);
     return HAYRO_JBIG2_OK;
 }
 
