@@ -2,6 +2,9 @@
 import { FileQueue } from "./queue.js";
 import { FileSection } from "./sections.js";
 
+// A timer of 2^31 milliseconds or more ends at once.
+const MOST_SECONDS = 2_000_000;
+
 const element = (id) => document.querySelector(`#${id}`);
 const [files, note, progress, stop, stopAll] = ["files", "note", "progress", "stop", "stop-all"].map(element);
 
@@ -54,7 +57,8 @@ const queue = new FileQueue({
 
 function take(chosen) {
   const [salvage, isLimited] = ["salvage", "limited"].map((id) => element(id).checked);
-  const options = { salvage, isLimited, seconds: Math.max(element("seconds").valueAsNumber || 0, 1) };
+  const seconds = Math.min(Math.max(element("seconds").valueAsNumber || 0, 1), MOST_SECONDS);
+  const options = { salvage, isLimited, seconds };
   for (const file of chosen) queue.add(file, options);
 }
 

@@ -25,11 +25,12 @@ function entriesOf(data, count, first) {
   const lexer = new Lexer(data, 0, Math.min(first, data.length));
   const entries = [];
   const most = Math.min(count, MOST_OBJECTS);
-  const readNumber = () => (lexer.next() === NUMBER && isWhole(lexer.value) ? lexer.value : data.length);
+  const readNumber = () => (lexer.next() === NUMBER && isWhole(lexer.value) ? lexer.value : NaN);
   for (let read = 0; read < most && lexer.place < lexer.end; read++) {
     const number = readNumber();
     const place = first + readNumber();
-    if (place < data.length) entries.push({ number, place });
+    // No comparison holds of what is no number.
+    if (number >= 0 && place < data.length) entries.push({ number, place });
   }
   return entries.sort((one, other) => one.place - other.place);
 }

@@ -71,14 +71,15 @@ export class FileQueue {
 
   /** Decodes a file until it is done, fails or is stopped. Only a worker that is done is used again. */
   async #decodeOrStop(file, options) {
-    const started = (this.#worker ??= startedWorker());
     const stopped = new Promise((_, reject) => (this.#stop = (text) => reject(new Error(text))));
+    let started = null;
     try {
+      started = this.#worker ??= startedWorker();
       await Promise.race([this.#decode(file, options, started), stopped]);
     } catch (error) {
       this.#show.fail(error.message);
       this.#worker = null;
-      started.worker.terminate();
+      started?.worker.terminate();
     }
     this.#stop = () => {};
   }

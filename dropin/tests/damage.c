@@ -63,7 +63,7 @@ static void draws_what_is_left(void) {
           "a page is left out: page has zero width or height");
     draws(true, BYTES(FILE_HEADER "\3" PAGE REGION PAGE_OF("\2", "\0\0\0\0") PAGE_OF("\3", "\0\1\0\0")), 0x80, 1,
           NO_SEGMENT, "2 pages are left out, the first as follows: page has zero width or height");
-    draws(true, BYTES(FILE_HEADER "\3" PAGE REGION "\0\0\0\7\x30\0\2\0\0\0\1\0"), 0x80, 1, NO_SEGMENT,
+    draws(true, BYTES(FILE_HEADER "\3" "\0\0\0\0\x30\0\2\0\0\0\1\0" PAGE REGION), 0x80, 1, NO_SEGMENT,
           "a page is left out: unexpected end of input");
 }
 

@@ -100,6 +100,8 @@ class Command(unittest.TestCase):
             for words in (), ("--salvage",):
                 said = (0, "", "-: the data ends too early\n")
                 self.assertEqual(self.run_command("-", "text.pbm", *words, data=data), said)
+        # The end of a line after a stream in a PDF file.
+        self.assertEqual(self.run_command("-", "text.pbm", "--globals", "globals", data=TEXT + b"\r\n"), (0, "", ""))
         status, _, message = self.run_command("-", "text.pbm", "--salvage", data=TEXT + b" " * 16)
         self.assertEqual(status, 0)
         self.assertIn("-: page 0: the rest is left out: segment refers to an invalid segment\n", message)

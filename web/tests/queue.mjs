@@ -10,9 +10,12 @@ const FILES = 5;
 let first = null;
 let alive = 0;
 
+const NONE = "no workers here";
+
 /** A worker that says `first` when it is made, if that is something, and then that each file is done. */
 globalThis.Worker = class {
   constructor() {
+    if (first === NONE) throw new Error(NONE);
     alive++;
     if (first) setTimeout(() => this.onmessage({ data: first }), 1);
   }
@@ -42,6 +45,7 @@ const CASES = [
   [{ error: "no module" }, false, "0 alive, 5 faults, the decoder could not be loaded: no module"],
   [null, true, "0 alive, 5 faults, stopped"],
   [{ isReady: true }, false, "1 alive, 0 faults, none"],
+  [NONE, false, "0 alive, 5 faults, no workers here"],
 ];
 let failed = 0;
 for (const [said, isStopped, meant] of CASES) {

@@ -66,21 +66,26 @@ def _warnings(page: Page) -> list[str]:
     return warnings
 
 
-def _is_cut_off(data: bytes) -> bool:
-    """Whether the data ends too early, which lenient reading and salvage pass over."""
-    try:
-        sizes(data, strict=True)
-    except ParseError:
-        return True
-    except Jbig2Error:
-        return False
-    return False
+def _is_cut_off(data: bytes, work_limit: WorkLimit) -> bool:
+    """Whether the data ends too early, which lenient reading and salvage pass over. The end of a line that follows a
+    stream in a PDF file is no segment that is cut off."""
+    for end in range(len(data), len(data) - 3, -1):
+        try:
+            sizes(data[:end], strict=True, work_limit=work_limit)
+        except ParseError:
+            if data[end - 1 : end] not in (b"\n", b"\r"):
+                return True
+        except Jbig2Error:
+            return False
+        else:
+            return False
+    return True
 
 
 def _chosen_pages(words: argparse.Namespace) -> Iterable[tuple[int, Page]]:
     """The pages to be written, with their indices."""
     data = sys.stdin.buffer.read() if words.input == "-" else pathlib.Path(words.input).read_bytes()
-    if _is_cut_off(data):
+    if _is_cut_off(data, words.work_limit):
         print(f"{words.input}: the data ends too early", file=sys.stderr)
     how: dict[str, Any] = {"strict": words.strict, "salvage": words.salvage, "work_limit": words.work_limit}
     if "{}" in words.output:
