@@ -97,7 +97,7 @@ bool stops_early(const uint8_t *at, size_t length, bool is_strict, uint32_t *seg
 /* Notes why strict reading refuses the list of segments that were gathered. The other readings leave out a segment that
    is cut off or of an unknown type, and don't count it. */
 uint32_t look_for_left_out(struct context *context);
-/* One warning of each kind, with the number of the first segment. They are told once. */
+/* One warning of each kind, with the number of the first segment. They are given once. */
 void tell_lacks(struct context *context);
 
 /* file.c */

@@ -55,7 +55,7 @@ static void stop_late(int signal) {
 /* Called before a sanitizer ends the process. */
 void __sanitizer_set_death_callback(void (*callback)(void)) __attribute__((weak));
 
-/* In one of so many requests each is refused, or comes back; 0 never does. */
+/* In one of n requests each is refused, or comes back; 0 never does. */
 struct erratic {
     struct allocator base;
     uint32_t refuses, comes_back, offset;

@@ -35,7 +35,8 @@ export class Room {
 }
 
 /**
- * What bytes of zlib unpack to, as far as it goes: bytes after their end, and damage there, take nothing away.
+ * What bytes of zlib unpack to, as far as it goes. Bytes after their end, and damage there, should take nothing away. Above
+ * some 128 KiB they do in Chromium: a stream that ends in an error drops what it has not handed out yet.
  * @param take is called with the size of each part before it is kept, and may throw
  */
 export async function inflated(bytes, take) {
