@@ -7,6 +7,7 @@ import os
 import re
 import subprocess
 import sys
+import tempfile
 
 HERE = os.path.dirname(os.path.abspath(__file__))
 CRATES = os.path.join(os.path.dirname(HERE), "crates")
@@ -46,13 +47,13 @@ def compare_numbers(library):
     defined = re.findall(r"^\w+_number (\w+)\.(\w+) = (\d+)$", text_of(HERE, "source/specs/Numbers.antt.txt"), re.M)
     defined = {(enum, variant): int(number) for enum, variant, number in defined}
     errors = library_errors()
-    check(len(errors) == 41 and len(defined) == 41 and len(numbers) == 45, "there are 41 errors")
+    check(len(errors) == 41 and len(defined) == 41 and len(numbers) == 46, "there are 41 errors")
     for number, (enum, variant, text) in enumerate(errors, 1):
         name = in_capitals(variant) if enum == "errors" else enum.upper() + "_" + in_capitals(variant)
         check(numbers.get(name) == number, f"HAYRO_JBIG2_{name} is {number} in the header")
         check(defined.get((enum, variant)) == number, f"{enum}.{variant} is {number} in the definitions")
         check(library.hayro_jbig2_error_text(number) == text.encode(), f"the text of {number} is {text}")
-    for name, number in ("OK", 0), ("OTHER_SIZE", 100), ("NO_SUCH_PAGE", 101), ("OTHER_HANDLE", 102):
+    for name, number in ("OK", 0), ("OTHER_SIZE", 100), ("NO_SUCH_PAGE", 101), ("OTHER_HANDLE", 102), ("WORK_LIMIT", 103):
         check(numbers.get(name) == number, f"HAYRO_JBIG2_{name} is {number} in the header")
     parts = re.findall(r"^#define HAYRO_JBIG2_VERSION_\w+ (\d+)$", header, re.M)
     check(library.hayro_jbig2_version().decode() == ".".join(parts), "the version is that of its parts")
@@ -188,6 +189,25 @@ def compare_pages(library, example):
     check(printed.returncode == 0 and printed.stdout == wanted, "the example prints the pages")
 
 
+def try_incomplete_pages(example):
+    """What the example reports of a file whose second page is cut off. Its first page is complete."""
+    with open(os.path.join(DATA, "t88-h1.jb2"), "rb") as file:
+        book = file.read()
+    whole = subprocess.run([example, file.name], stdout=subprocess.PIPE).stdout
+    # In segment 13, the last one of page 2 before its end; and in the number of the first one after page 1.
+    ends = [book.index(bytes.fromhex("31 00 02 00000000")) - 5, book.index(bytes.fromhex("31 00 01 00000000")) + 9]
+    reports = ["page 2 is incomplete: segment 13: unexpected end of input\n", ""]
+    with tempfile.TemporaryDirectory() as folder:
+        for number, (end, report) in enumerate(zip(ends, reports)):
+            name = os.path.join(folder, f"{number}.jb2")
+            with open(name, "wb") as file:
+                file.write(book[:end])
+            ended = subprocess.run([example, name], stdout=subprocess.PIPE, stderr=subprocess.PIPE)
+            check(ended.returncode == 0 and ended.stderr.decode() == report, f"the example reports {report}")
+            first = b"P4\n64 56\n"
+            check(ended.stdout[: len(first) + 448] == whole[: len(first) + 448], "the first page is the same")
+
+
 def try_faults(example):
     """What the example reports of files that it can't read or decode, and of an output that it can't write."""
     good, folder, missing = os.path.join(DATA, "t88-h1.jb2"), DATA, os.path.join(DATA, "no such file")
@@ -205,12 +225,27 @@ def try_faults(example):
         ended = subprocess.run(words, stdout=subprocess.PIPE, stderr=subprocess.PIPE, text=True)
         is_reported = ended.stderr.startswith("error: the pages can't be written: ")
         check(ended.returncode == 1 and is_reported, f"the example ends with status 1 after {output}")
+    try_limit(example)
+
+
+def try_limit(example):
+    """A page of 1 by 65535 pixels with a region of 65535 by 65535, which would take minutes without a limit of work."""
+    page = bytes.fromhex("00000000 30 00 01 00000013 00000001 0000FFFF") + bytes(11)
+    region = bytes.fromhex("00000001 26 00 01 0000001E 0000FFFF 0000FFFF") + bytes(9)
+    region += bytes.fromhex("04 03FFFDFF02FEFEFE 0000FFAC")
+    end = bytes.fromhex("00000002 31 00 01 00000000 00000003 33 00 00 00000000")
+    with tempfile.NamedTemporaryFile() as file:
+        file.write(bytes.fromhex("974A42320D0A1A0A 01 00000001") + page + region + end)
+        file.flush()
+        ended = subprocess.run([example, file.name], stdout=subprocess.PIPE, stderr=subprocess.PIPE, timeout=60)
+    check(ended.returncode == 1 and b"the limit of work is reached" in ended.stderr, "the example has a limit of work")
 
 
 def main(path, example):
     library = loaded(path)
     compare_numbers(library)
     compare_pages(library, example)
+    try_incomplete_pages(example)
     try_faults(example)
     print(f"{checks} checks of calls from Python, and of numbers and texts, {len(failures)} failed")
     return bool(failures)

@@ -1,10 +1,14 @@
-/* Writes all pages of a JBIG2 file as PBM, one after the other. usage: example FILE > pages.pbm */
+/* Writes all pages of a JBIG2 file as PBM, one after the other, and says on standard error which are incomplete.
+ * usage: example FILE > pages.pbm */
 #include "hayro_jbig2.h"
 
 #include <errno.h>
 #include <stdio.h>
 #include <stdlib.h>
 #include <string.h>
+
+/* Units of work for what the pages of a file share, and the least for a page: hundred bytes can ask for hours. */
+#define LEAST_WORK (1u << 24)
 
 /* The bytes of an open file up to its end, or NULL with errno. */
 static uint8_t *read_all(FILE *file, size_t *length) {
@@ -40,13 +44,35 @@ static uint8_t *read_file(const char *name, size_t *length) {
     return bytes;
 }
 
+/* What the page that was drawn last lacks. */
+static uint32_t report(hayro_jbig2_context *context, size_t index) {
+    hayro_jbig2_passed_over passed;
+    uint32_t answer = hayro_jbig2_context_get_passed_over(context, &passed);
+    if (answer != HAYRO_JBIG2_OK || passed.count == 0)
+        return answer;
+    fprintf(stderr, "page %lu is incomplete: ", (unsigned long)index + 1);
+    if (passed.segment != HAYRO_JBIG2_NO_SEGMENT_NUMBER)
+        fprintf(stderr, "segment %lu: ", (unsigned long)passed.segment);
+    fputs(hayro_jbig2_error_text(passed.error), stderr);
+    if (passed.count > 1)
+        fprintf(stderr, ", and %lu more", (unsigned long)passed.count - 1);
+    fputc('\n', stderr);
+    return answer;
+}
+
 /* Returns what the library does; the stream remembers an error of writing. The rows are read in pieces, so that no
  * second copy of a page is needed. */
 static uint32_t write_page(hayro_jbig2_file *file, size_t index, hayro_jbig2_context *context, FILE *out) {
     hayro_jbig2_page_info info;
     uint32_t answer = hayro_jbig2_file_get_info(file, index, &info);
+    if (answer == HAYRO_JBIG2_OK) {
+        uint64_t work = (uint64_t)100 * info.width * info.height;
+        answer = hayro_jbig2_context_set_work_limit(context, work < LEAST_WORK ? LEAST_WORK : work);
+    }
     if (answer == HAYRO_JBIG2_OK)
         answer = hayro_jbig2_file_draw(file, index, context);
+    if (answer == HAYRO_JBIG2_OK)
+        answer = report(context, index);
     if (answer != HAYRO_JBIG2_OK)
         return answer;
     fprintf(out, "P4\n%u %u\n", (unsigned)info.width, (unsigned)info.height);
@@ -66,7 +92,7 @@ static uint32_t write_page(hayro_jbig2_file *file, size_t index, hayro_jbig2_con
 static uint32_t write_pages(const uint8_t *bytes, size_t length, FILE *out) {
     hayro_jbig2_file *file = NULL;
     hayro_jbig2_context *context = NULL;
-    uint32_t answer = hayro_jbig2_file_new(NULL, false, bytes, length, &file);
+    uint32_t answer = hayro_jbig2_file_new_within(NULL, false, LEAST_WORK, bytes, length, &file);
     if (answer == HAYRO_JBIG2_OK)
         answer = hayro_jbig2_context_new(NULL, &context);
     if (answer == HAYRO_JBIG2_OK)

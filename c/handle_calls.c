@@ -285,7 +285,7 @@ static uint64_t left_of(hayro_jbig2_file *file, size_t index, hayro_jbig2_contex
     CHECK(hayro_jbig2_context_set_work_limit(context, work) == HAYRO_JBIG2_OK);
     uint32_t answer = hayro_jbig2_file_draw(file, index, context);
     CHECK(hayro_jbig2_context_get_work_left(context, &left) == HAYRO_JBIG2_OK);
-    return answer == HAYRO_JBIG2_OK ? left : answer == HAYRO_JBIG2_OUT_OF_MEMORY && left == 0 ? work : work + 1;
+    return answer == HAYRO_JBIG2_OK ? left : answer == HAYRO_JBIG2_WORK_LIMIT && left == 0 ? work : work + 1;
 }
 
 /* A page is drawn within what it takes, and refused within any less; then the context draws it without a limit. */
@@ -294,7 +294,7 @@ static void keeps_limits(void) {
     hayro_jbig2_file *file = NULL;
     hayro_jbig2_context *context = NULL;
     hayro_jbig2_globals *shared = NULL;
-    CHECK(hayro_jbig2_file_new_within(NULL, true, 0, book.at, book.length, &file) == HAYRO_JBIG2_OUT_OF_MEMORY);
+    CHECK(hayro_jbig2_file_new_within(NULL, true, 0, book.at, book.length, &file) == HAYRO_JBIG2_WORK_LIMIT);
     CHECK(file == NULL);
     CHECK(hayro_jbig2_file_new_within(NULL, true, most, book.at, book.length, &file) == HAYRO_JBIG2_OK);
     CHECK(hayro_jbig2_context_new(NULL, &context) == HAYRO_JBIG2_OK);
@@ -307,12 +307,60 @@ static void keeps_limits(void) {
         CHECK(left_of(file, index, context, HAYRO_JBIG2_NO_WORK_LIMIT) == HAYRO_JBIG2_NO_WORK_LIMIT);
     }
     CHECK(hayro_jbig2_globals_new_within(NULL, false, 0, globals.at, globals.length, &shared) ==
-          HAYRO_JBIG2_OUT_OF_MEMORY);
+          HAYRO_JBIG2_WORK_LIMIT);
     CHECK(shared == NULL);
     CHECK(hayro_jbig2_globals_new_within(NULL, false, most, globals.at, globals.length, &shared) == HAYRO_JBIG2_OK);
     hayro_jbig2_globals_free(shared);
     hayro_jbig2_context_free(context);
     hayro_jbig2_file_free(file);
+}
+
+/* Whether a context holds no page: it has no rows. */
+static bool holds_no_page(hayro_jbig2_context *context) {
+    hayro_jbig2_passed_over passed = {9, 9, 9};
+    uint8_t row = 9;
+    CHECK(hayro_jbig2_context_get_passed_over(context, &passed) == HAYRO_JBIG2_OK);
+    return hayro_jbig2_context_rows(context, 0, &row, 1) == HAYRO_JBIG2_OTHER_SIZE && row == 9 && passed.count == 0;
+}
+
+/* Draws the file's last page in the context, which holds it then. */
+static void draws_last(hayro_jbig2_file *file, hayro_jbig2_context *context) {
+    uint8_t row;
+    CHECK(hayro_jbig2_context_set_work_limit(context, HAYRO_JBIG2_NO_WORK_LIMIT) == HAYRO_JBIG2_OK);
+    CHECK(hayro_jbig2_file_draw(file, 2, context) == HAYRO_JBIG2_OK);
+    CHECK(hayro_jbig2_context_rows(context, 0, &row, 1) == HAYRO_JBIG2_OK);
+}
+
+/* After each kind of error a context that held a page holds none. */
+static void forgets_after_errors(void) {
+    struct counted counted = {0};
+    const hayro_jbig2_memory memory = {take, give_back, &counted};
+    hayro_jbig2_page *bad = NULL;
+    hayro_jbig2_file *file = NULL;
+    hayro_jbig2_context *context = NULL;
+    CHECK(hayro_jbig2_file_new(NULL, true, book.at, book.length, &file) == HAYRO_JBIG2_OK);
+    CHECK(hayro_jbig2_page_new(&memory, true, NULL, faulty.at, faulty.length, &bad) == HAYRO_JBIG2_OK);
+    CHECK(hayro_jbig2_context_new(&memory, &context) == HAYRO_JBIG2_OK);
+    CHECK(holds_no_page(context));
+    draws_last(file, context);
+    uint32_t answer = hayro_jbig2_page_draw(bad, context);
+    CHECK(answer != HAYRO_JBIG2_OK && answer < HAYRO_JBIG2_UNSUPPORTED && holds_no_page(context));
+    draws_last(file, context);
+    CHECK(hayro_jbig2_file_draw(file, 3, context) == HAYRO_JBIG2_NO_SUCH_PAGE && holds_no_page(context));
+    draws_last(file, context);
+    CHECK(hayro_jbig2_page_draw((hayro_jbig2_page *)file, context) == HAYRO_JBIG2_OTHER_HANDLE);
+    CHECK(holds_no_page(context));
+    draws_last(file, context);
+    CHECK(hayro_jbig2_context_set_work_limit(context, 1500) == HAYRO_JBIG2_OK);
+    CHECK(hayro_jbig2_file_draw(file, 2, context) == HAYRO_JBIG2_WORK_LIMIT && holds_no_page(context));
+    draws_last(file, context);
+    counted.refused_request = counted.requests + 1;
+    CHECK(hayro_jbig2_page_draw(bad, context) == HAYRO_JBIG2_OUT_OF_MEMORY && holds_no_page(context));
+    draws_last(file, context);
+    hayro_jbig2_context_free(context);
+    hayro_jbig2_page_free(bad);
+    hayro_jbig2_file_free(file);
+    CHECK(counted.blocks == 0 && counted.bytes == 0);
 }
 
 int main(int count, char **words) {
@@ -340,6 +388,7 @@ int main(int count, char **words) {
     tells_want_of_memory();
     shares_globals_with_threads();
     keeps_limits();
+    forgets_after_errors();
     printf("%u checks of calls on handles from C, %u failed\n", checks, failures);
     return failures > 0;
 }

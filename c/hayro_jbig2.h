@@ -12,7 +12,8 @@
  * What is proved holds for callers that keep to these rules. Nothing checks them:
  *
  * - No pointer is null, not even beside a length of 0, and each points to as many bytes, or to the one number, that
- *   the call says. An empty std::vector has a null data(): hand over the address of any byte in its place.
+ *   the call says. What a call does with a null pointer is undefined, even if it seems to work. An empty std::vector has
+ *   a null data(): hand over the address of any byte in its place.
  * - What a call writes overlaps nothing else that it is handed. While it runs, nobody else reads or writes that, and
  *   nobody writes what it reads.
  * - A bool is 0 or 1, as stdbool.h's are.
@@ -112,7 +113,9 @@ enum hayro_jbig2_answer {
     /* The file has no page at this index. */
     HAYRO_JBIG2_NO_SUCH_PAGE = 101,
     /* A handle holds something of another kind than the call wants. */
-    HAYRO_JBIG2_OTHER_HANDLE = 102
+    HAYRO_JBIG2_OTHER_HANDLE = 102,
+    /* No unit of the limit of work is left, so what needs more was refused. */
+    HAYRO_JBIG2_WORK_LIMIT = 103
 };
 
 /* How many pages a file has. */
@@ -184,10 +187,22 @@ typedef struct hayro_jbig2_page_info {
     uint32_t number, width, height;
 } hayro_jbig2_page_info;
 
-/* How many segments were passed over in a page, with the number and the error of the first; all 0 where none was. In
- * lenient reading these are regions, in salvage also what they refer to. A segment that the end of the bytes cuts off is
- * left out and not counted: to know of it, read the bytes strictly too, which returns
- * HAYRO_JBIG2_PARSE_UNEXPECTED_EOF. */
+/* The number of a segment of which not even the number is there: the bytes end within it. */
+#define HAYRO_JBIG2_NO_SEGMENT_NUMBER UINT32_MAX
+
+/* What a page that was drawn lacks: how many segments were passed over, with the number and the error of the first. All
+ * 0 where none was: then the page is complete, as far as can be known. The format has no checksum, so damage within
+ * arithmetic data can't be known. Counted are:
+ *
+ * - a region that fails, in salvage also a dictionary or a table that fails;
+ * - a text region, a refinement or a symbol dictionary that refers to a segment which isn't there. It is drawn or kept
+ *   all the same; its error is HAYRO_JBIG2_SEGMENT_INVALID_REFERENCE;
+ * - as the last one the segment at which the list of segments ends early: the bytes end within it, or salvage stops
+ *   there.
+ *
+ * Not counted is what else lenient reading forgives (docs/FORMAT.md, 12.2): rows of MMR data after a fault, gray values
+ * without a pattern, ids without a symbol. Strict reading refuses these. Globals have a report of their own,
+ * hayro_jbig2_globals_get_left_out. */
 typedef struct hayro_jbig2_passed_over {
     size_t count;
     uint32_t segment, error;
@@ -207,8 +222,7 @@ void hayro_jbig2_context_free(hayro_jbig2_context *context);
 uint32_t hayro_jbig2_page_new(const hayro_jbig2_memory *memory, bool strict, hayro_jbig2_globals *globals,
                               const uint8_t *stream, size_t stream_length, hayro_jbig2_page **page);
 uint32_t hayro_jbig2_page_get_info(hayro_jbig2_page *page, hayro_jbig2_page_info *info);
-/* Draws the page in the context. After an error the context holds what was drawn before the fault, or still the page
- * before: take no rows from it then. */
+/* Draws the page in the context. After an error the context holds no page, whatever it held before: it has no rows. */
 uint32_t hayro_jbig2_page_draw(hayro_jbig2_page *page, hayro_jbig2_context *context);
 void hayro_jbig2_page_free(hayro_jbig2_page *page);
 
@@ -229,11 +243,11 @@ uint32_t hayro_jbig2_context_get_passed_over(hayro_jbig2_context *context, hayro
 
 /* A limit of work, for files from strangers. A unit is about a pixel that is decoded, cleared, cut out or combined; what
  * is read besides costs a number of units (docs/FORMAT.md, 12.6). Work that would pass the limit is refused before it
- * starts, with HAYRO_JBIG2_OUT_OF_MEMORY. HAYRO_JBIG2_NO_WORK_LIMIT is no limit, as for the calls without one. */
+ * starts, with HAYRO_JBIG2_WORK_LIMIT. HAYRO_JBIG2_NO_WORK_LIMIT is no limit, as for the calls without one. */
 #define HAYRO_JBIG2_NO_WORK_LIMIT UINT64_MAX
 /* Sets what each page may take that is drawn in the context from now on. */
 uint32_t hayro_jbig2_context_set_work_limit(hayro_jbig2_context *context, uint64_t work);
-/* Writes what the page that was drawn last left of the limit: 0 where it was refused by the limit. */
+/* Writes what the page that was drawn last left of the limit, after an error too: 0 where the limit was reached. */
 uint32_t hayro_jbig2_context_get_work_left(hayro_jbig2_context *context, uint64_t *left);
 /* As hayro_jbig2_globals_new and hayro_jbig2_file_new, where decoding what pages share takes at most `work` units. */
 uint32_t hayro_jbig2_globals_new_within(const hayro_jbig2_memory *memory, bool strict, uint64_t work,
@@ -254,12 +268,16 @@ uint32_t hayro_jbig2_page_new_salvaged(const hayro_jbig2_memory *memory, hayro_j
 uint32_t hayro_jbig2_file_new_salvaged(const hayro_jbig2_memory *memory, uint64_t work, const uint8_t *bytes,
                                        size_t length, hayro_jbig2_file **file);
 
-/* What salvage left out of globals, a page or a file. What it passed over in a page that was drawn comes from
- * hayro_jbig2_context_get_passed_over. All 0 where it left out nothing, and by other readings. */
+/* What lenient reading or salvage left out of globals, a page or a file. What was passed over in a page that was drawn
+ * comes from hayro_jbig2_context_get_passed_over. All 0 where nothing was left out, and after strict reading.
+ *
+ * - Of a page, before it is drawn: the segment at which the list of its segments ends early.
+ * - Of globals and of a file: the segments passed over of those that pages share, or if none was, the segment at which
+ *   the list ends early. Each page of the file that may lack that segment counts it when it is drawn. */
 typedef struct hayro_jbig2_left_out {
-    size_t segments;         /* passed over: of globals, or of what the pages of a file share */
+    size_t segments;         /* how many segments, as above */
     uint32_t segment, error; /* the number and the error of the first */
-    size_t pages;            /* pages of a file that can't begin */
+    size_t pages;            /* pages of a file that can't begin, which salvage leaves out */
     uint32_t page_error;     /* the error of the first */
     uint32_t list_error;     /* the error that ended the list of segments early */
 } hayro_jbig2_left_out;

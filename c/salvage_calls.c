@@ -22,6 +22,9 @@
 #define JUNK "20202020202020202020202020202020"
 #define FILE_HEADER "974A42320D0A1A0A"
 #define OPEN_HEIGHT "FFFFFFFF"
+/* The number of the segment that the junk begins, and what a list lacks that ends early at a segment. */
+enum { SPACES = 0x20202020 };
+#define ENDED(number, why) {.segments = 1, .segment = number, .error = why, .list_error = why}
 
 static struct bytes of(const char *digits) {
     struct bytes bytes = {.length = 0};
@@ -57,7 +60,7 @@ struct drawn {
 #define DOT .height = 1, .rows = {0x80}
 #define WHITE .height = 1, .rows = {0x00}
 
-/* Draws a page in salvage and compares it. Its list's error is refused by lenient reading. */
+/* Draws a page in salvage and compares it. Lenient reading refuses the error that ends its list, but for a cut. */
 static void draws(hayro_jbig2_globals *globals, const char *digits, struct drawn meant) {
     const struct bytes stream = of(digits);
     hayro_jbig2_page *page = NULL, *lenient = NULL;
@@ -78,20 +81,26 @@ static void draws(hayro_jbig2_globals *globals, const char *digits, struct drawn
     CHECK(passed.count == meant.passed.count && passed.segment == meant.passed.segment);
     CHECK(passed.error == meant.passed.error);
     uint32_t answer = hayro_jbig2_page_new(NULL, false, globals, stream.at, stream.length, &lenient);
-    CHECK(answer == meant.left_out.list_error || answer == HAYRO_JBIG2_FORMAT_UNKNOWN_PAGE_HEIGHT);
+    bool is_cut = meant.left_out.list_error == HAYRO_JBIG2_PARSE_UNEXPECTED_EOF;
+    uint32_t refused = is_cut ? HAYRO_JBIG2_OK : meant.left_out.list_error;
+    CHECK(answer == refused || answer == HAYRO_JBIG2_FORMAT_UNKNOWN_PAGE_HEIGHT);
     hayro_jbig2_page_free(lenient);
     hayro_jbig2_page_free(page);
     hayro_jbig2_context_free(context);
 }
 
+/* A page counts the segment at which its list ends. */
 static void ends_lists_early(void) {
+    const uint32_t reference = HAYRO_JBIG2_SEGMENT_INVALID_REFERENCE, marker = HAYRO_JBIG2_SEGMENT_MISSING_END_MARKER;
+    const uint32_t cut = HAYRO_JBIG2_PARSE_UNEXPECTED_EOF;
     draws(NULL, PAGE REGION("01", "00000000") JUNK,
-          (struct drawn){DOT, .left_out = {.list_error = HAYRO_JBIG2_SEGMENT_INVALID_REFERENCE}});
+          (struct drawn){DOT, .passed = {1, SPACES, reference}, .left_out = ENDED(SPACES, reference)});
     draws(NULL,
           PAGE REGION("01", "00000000")
               "00000002 26 00 01 FFFFFFFF 00000008 00000001 00000000 00000000 00 00 03FFFDFF02FEFEFE",
-          (struct drawn){DOT, .left_out = {.list_error = HAYRO_JBIG2_SEGMENT_MISSING_END_MARKER}});
-    draws(NULL, PAGE REGION("01", "00000000") "00000002 26", (struct drawn){DOT});
+          (struct drawn){DOT, .passed = {1, 2, marker}, .left_out = ENDED(2, marker)});
+    draws(NULL, PAGE REGION("01", "00000000") "00000002 26",
+          (struct drawn){DOT, .passed = {1, 2, cut}, .left_out = ENDED(2, cut)});
 }
 
 /* A dictionary that wants a table which isn't there, beside a region that needs it or another one. */
@@ -138,9 +147,11 @@ static void keeps_of_globals(void) {
     keeps_of_globals_what_it_can(SYMBOLS("01", "01", "0009") SYMBOLS("02", "01", "0001"), selection,
                                  (hayro_jbig2_left_out){.segments = 1, .segment = 1, .error = selection},
                                  PAGE TEXT("03", "02"));
+    keeps_of_globals_what_it_can(SYMBOLS("01", "01", "0009") SYMBOLS("02", "01", "0001") JUNK, reference,
+                                 (hayro_jbig2_left_out){1, 1, selection, 0, 0, reference}, PAGE TEXT("03", "02"));
     keeps_of_globals_what_it_can(SYMBOLS("01", "01", "0001") JUNK, reference,
-                                 (hayro_jbig2_left_out){.list_error = reference}, PAGE TEXT("02", "01"));
-    keeps_of_globals_what_it_can(JUNK, reference, (hayro_jbig2_left_out){.list_error = reference},
+                                 (hayro_jbig2_left_out)ENDED(SPACES, reference), PAGE TEXT("02", "01"));
+    keeps_of_globals_what_it_can(JUNK, reference, (hayro_jbig2_left_out)ENDED(SPACES, reference),
                                  PAGE REGION("01", "00000000"));
 }
 
@@ -173,12 +184,12 @@ static void reads_files(void) {
     snprintf(digits, sizeof digits, "%s%s", FILE_HEADER "03" PAGE SYMBOLS("01", "00", "0009"), end);
     reads_file(digits, 1, (hayro_jbig2_left_out){.segments = 1, .segment = 1, .error = selection});
     reads_file(FILE_HEADER "01 00000001" PAGE JUNK, 1,
-               (hayro_jbig2_left_out){.list_error = HAYRO_JBIG2_SEGMENT_INVALID_REFERENCE});
+               (hayro_jbig2_left_out)ENDED(SPACES, HAYRO_JBIG2_SEGMENT_INVALID_REFERENCE));
     /* With random access: the data of page 2 aren't all there. */
     reads_file(FILE_HEADER "00 00000002 00000000 30 00 01 00000013 00000001 30 00 02 00000013"
                            "00000002 33 00 00 00000000 00000008 00000001 0000000000000000000000"
                            "00000008 00000001 00000000000000000000",
-               1, (hayro_jbig2_left_out){.list_error = HAYRO_JBIG2_PARSE_UNEXPECTED_EOF});
+               1, (hayro_jbig2_left_out)ENDED(1, HAYRO_JBIG2_PARSE_UNEXPECTED_EOF));
 }
 
 static struct bytes page, book;
@@ -303,7 +314,7 @@ static void tells_want_of_memory(void) {
     }
     CHECK(refusals > FEWEST_REFUSALS);
     uint64_t work = 0;
-    while (reads_all(NULL, work) == HAYRO_JBIG2_OUT_OF_MEMORY && work < 1 << 20)
+    while (reads_all(NULL, work) == HAYRO_JBIG2_WORK_LIMIT && work < 1 << 20)
         work += 101;
     CHECK(work > 1024 && work < 1 << 20);
     CHECK(reads_all(NULL, work) == HAYRO_JBIG2_OK);

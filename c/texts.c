@@ -56,6 +56,8 @@ const char *hayro_jbig2_error_text(uint32_t answer) {
         return "no such page";
     case HAYRO_JBIG2_OTHER_HANDLE:
         return "handle of another kind";
+    case HAYRO_JBIG2_WORK_LIMIT:
+        return "the limit of work is reached";
     default:
         return "no answer of this library";
     }

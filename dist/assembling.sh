@@ -18,42 +18,134 @@ compiler() {
     return 1
 }
 
-# Whether there is a text of this name for this computer.
+# Whether a processor of x86-64 has what the texts use, of the level x86-64-v2: has_level [FILE]. The file is /proc/cpuinfo or
+# one like it; where it lists no features, the program itself refuses (processor.h).
+has_level() {
+    local line name
+    [ -r "${1:-/proc/cpuinfo}" ] || return 0
+    while read -r line; do
+        [[ $line = flags* ]] || continue
+        for name in pni ssse3 sse4_1 sse4_2 popcnt; do
+            [[ " ${line#*:} " = *" $name "* ]] || return 1
+        done
+        return 0
+    done <"${1:-/proc/cpuinfo}"
+}
+
+# Whether there is a text of this name for this computer, and HAYRO_JBIG2_PORTABLE=1 doesn't pass it over. With a cross
+# compiler, which PROCESSOR stands for, the processor here says nothing.
 has_text() {
-    [ "$system" = Linux ] && [ -e "$dist/$processor/$1.s" ]
+    [ "${HAYRO_JBIG2_PORTABLE:-}" != 1 ] && [ "$system" = Linux ] && [ -e "$dist/$processor/$1.s" ] || return 1
+    [ "$processor" != x86_64 ] || [ -n "${PROCESSOR:-}" ] || has_level
 }
 
-# The sums of what a program is made of: its text, the C, and this script, which has the compiler's options.
+# Whether the programs' text can be linked with the compiler's C library: words.c refuses another one than glibc.
+has_library() {
+    ! $1 -E "$dist/words.c" 2>&1 >/dev/null | grep -q 'needs the GNU C library'
+}
+
+# Whether the text of a program fits, with the compiler that there is.
+takes_text() {
+    local compile
+    has_text "$1" || return 1
+    ! compile=$(compiler 2>/dev/null) || has_library "$compile"
+}
+
+# The files that a program is made of: its text, or the portable C, of which there is jbig2-decode alone.
+of_text() {
+    echo "dist/$processor/$1.s" dist/words.c dist/heap.c dist/processor.h
+}
+of_portable_c() {
+    (cd -- "$dist/.." && echo portable/program/jbig2_decode.c portable/*.[ch] c/handles.c c/texts.c c/hayro_jbig2.h)
+}
+
+# The sums of these files, and of this script, which has the compiler's options.
 sums_of_parts() {
-    (cd -- "$dist" && sha256sum -- "$processor/$1.s" words.c heap.c assembling.sh)
+    (cd -- "$dist/.." && sha256sum -- "$@" dist/assembling.sh)
 }
 
-# Whether a program is there that was made of these parts by this compiler: is_assembled NAME FOLDER. Its note says so,
+# Whether a program is there that was made of these files by this compiler: is_made NAME FOLDER FILE .. Its note says so,
 # beside it. Where there is no compiler, any has made it.
-is_assembled() {
+is_made() {
     local made=$2/$1 compile
     [ -x "$made" ] && [ -s "$made.of" ] || return 1
     compile=$(compiler 2>/dev/null) || compile=$(head -n 1 -- "$made.of")
-    [ "$(echo "$compile" && sums_of_parts "$1" && sha256sum <"$made")" = "$(cat -- "$made.of")" ]
+    [ "$(echo "$compile" && sums_of_parts "${@:3}" && sha256sum <"$made")" = "$(cat -- "$made.of")" ]
 }
 
-# Makes a program, where it isn't there: assemble_program NAME [FOLDER]. The folder is dist/out, or another.
-assemble_program() {
-    local folder=${2:-$dist/out} compile parts room status=0
-    if is_assembled "$1" "$folder"; then
-        return 0
+is_assembled() {
+    is_made "$1" "$2" $(of_text "$1")
+}
+
+is_compiled() {
+    is_made "$1" "$2" $(of_portable_c)
+}
+
+# Whether the program that fits is there.
+is_built() {
+    if takes_text "$1"; then
+        is_assembled "$@"
+    else
+        [ "$1" = jbig2-decode ] && is_compiled "$@"
     fi
-    compile=$(compiler) && parts=$(sums_of_parts "$1") || return 1
+}
+
+# Makes a program of files: make_program NAME FOLDER FILE ..
+make_program() {
+    local name=$1 folder=$2 compile parts room status=0 compiled
+    shift 2
+    mapfile -t compiled < <(printf '%s\n' "$@" | grep -v '\.h$')
+    compile=$(compiler) && parts=$(sums_of_parts "$@") || return 1
     mkdir -p -- "$folder" && room=$(mktemp -d -- "$folder/room.XXXXXX") || return 1
     (
         # Also where a signal ends it. A caller may have another `room`.
         trap "rm -rf -- ${room@Q}" EXIT
         # A run that begins meanwhile has either program whole. The note has the sum of the program that it is of.
-        $compile -O2 "$dist/$processor/$1.s" "$dist/words.c" "$dist/heap.c" -o "$room/made" &&
-            [ "$(sums_of_parts "$1")" = "$parts" ] &&
+        (cd -- "$dist/.." && $compile -O2 -Ic -Iportable "${compiled[@]}" -o "$room/made") &&
+            [ "$(sums_of_parts "$@")" = "$parts" ] &&
             { echo "$compile" && echo "$parts" && sha256sum <"$room/made"; } >"$room/of" &&
-            mv -- "$room/made" "$folder/$1" && mv -- "$room/of" "$folder/$1.of"
+            mv -- "$room/made" "$folder/$name" && mv -- "$room/of" "$folder/$name.of"
     ) || status=$?
-    [ "$status" -eq 0 ] || echo "$compile did not make $1 of dist/$processor/$1.s, dist/words.c and dist/heap.c" >&2
+    [ "$status" -eq 0 ] || echo "$compile did not make $name of" "${compiled[@]}" >&2
     return "$status"
+}
+
+# Makes a program of its text, where it isn't there: assemble_program NAME [FOLDER]. The folder is dist/out, or another.
+assemble_program() {
+    local folder=${2:-$dist/out}
+    is_assembled "$1" "$folder" || make_program "$1" "$folder" $(of_text "$1")
+}
+
+# Why no text is taken: why_portable NAME.
+why_portable() {
+    if [ "${HAYRO_JBIG2_PORTABLE:-}" = 1 ]; then
+        echo "HAYRO_JBIG2_PORTABLE is 1"
+    elif has_text "$1"; then
+        echo "its text in dist/ needs the GNU C library (glibc) 2.33 or later"
+    elif [ "$system" = Linux ] && [ -e "$dist/$processor/$1.s" ]; then
+        echo "this processor is below the level x86-64-v2"
+    else
+        echo "dist/ has no text of it for this computer ($system $processor)"
+    fi
+}
+
+# Makes a program of the portable C, where it isn't there.
+compile_program() {
+    local folder=${2:-$dist/out}
+    is_compiled "$1" "$folder" && return
+    echo "$1: $(why_portable "$1"), so the C of portable/ is compiled, which takes a minute" >&2
+    make_program "$1" "$folder" $(of_portable_c)
+}
+
+# Makes the one that fits: build_program NAME [FOLDER].
+build_program() {
+    compiler >/dev/null || return 1
+    if takes_text "$1"; then
+        assemble_program "$@"
+    elif [ "$1" = jbig2-decode ]; then
+        compile_program "$@"
+    else
+        echo "$1: $(why_portable "$1")" >&2
+        return 1
+    fi
 }

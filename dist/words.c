@@ -9,6 +9,8 @@
 #error "this program needs the GNU C library (glibc) 2.33 or later, and this is another C library or an older one"
 #endif
 
+#include "processor.h"
+
 static int word_count;
 static char **words;
 

@@ -115,8 +115,10 @@ static uint32_t take_over(const struct drawing *drawing) {
     length = ((size_t)jbig2_portable_written(held, 4, 4) + 7) / 8 * (size_t)jbig2_portable_written(held, 8, 4);
     if (!has_room(context, length))
         return HAYRO_JBIG2_OUT_OF_MEMORY;
-    context->passed_over = passed_over;
-    return copy_rows(held, context, length);
+    answer = copy_rows(held, context, length);
+    if (answer == HAYRO_JBIG2_OK)
+        context->passed_over = passed_over;
+    return answer;
 }
 
 static uint32_t draws(void *words) {
@@ -144,12 +146,23 @@ static uint32_t draws(void *words) {
     return answer == HAYRO_JBIG2_OK ? take_over(drawing) : answer;
 }
 
+/* The context holds no page then, as after an error, and nothing of its limit was taken. */
+static void forget_page(struct context *context) {
+    const hayro_jbig2_passed_over nothing = {0, 0, 0};
+    context->length = 0;
+    context->passed_over = nothing;
+    context->left = context->limit;
+}
+
 static uint32_t draw(struct held *held, uint64_t index, hayro_jbig2_context *context) {
     struct drawing drawing;
     drawing.held = held;
     drawing.context = context_of(context);
     drawing.index = index;
-    if (held == NULL || drawing.context == NULL)
+    if (drawing.context == NULL)
+        return HAYRO_JBIG2_OTHER_HANDLE;
+    forget_page(drawing.context);
+    if (held == NULL)
         return HAYRO_JBIG2_OTHER_HANDLE;
     return jbig2_portable_run(&held->instance, draws, &drawing);
 }

@@ -62,38 +62,14 @@ u32 Z_hayro_jbig2Z_hayro_jbig2_context_set_work_limit(Z_hayro_jbig2_instance_t*,
 /* export: 'hayro_jbig2_embedded_size' */
 u32 Z_hayro_jbig2Z_hayro_jbig2_embedded_size(Z_hayro_jbig2_instance_t*, u32, u64, u64, u64, u64);
 
-/* export: 'hayro_jbig2_file_draw' */
-u32 Z_hayro_jbig2Z_hayro_jbig2_file_draw(Z_hayro_jbig2_instance_t*, u64, u64, u64);
-
 /* export: 'hayro_jbig2_file_get_info' */
 u32 Z_hayro_jbig2Z_hayro_jbig2_file_get_info(Z_hayro_jbig2_instance_t*, u64, u64, u64);
-
-/* export: 'hayro_jbig2_file_new' */
-u32 Z_hayro_jbig2Z_hayro_jbig2_file_new(Z_hayro_jbig2_instance_t*, u64, u32, u64, u64, u64);
-
-/* export: 'hayro_jbig2_file_new_salvaged' */
-u32 Z_hayro_jbig2Z_hayro_jbig2_file_new_salvaged(Z_hayro_jbig2_instance_t*, u64, u64, u64, u64, u64);
-
-/* export: 'hayro_jbig2_file_new_within' */
-u32 Z_hayro_jbig2Z_hayro_jbig2_file_new_within(Z_hayro_jbig2_instance_t*, u64, u32, u64, u64, u64, u64);
-
-/* export: 'hayro_jbig2_globals_new' */
-u32 Z_hayro_jbig2Z_hayro_jbig2_globals_new(Z_hayro_jbig2_instance_t*, u64, u32, u64, u64, u64);
-
-/* export: 'hayro_jbig2_globals_new_salvaged' */
-u32 Z_hayro_jbig2Z_hayro_jbig2_globals_new_salvaged(Z_hayro_jbig2_instance_t*, u64, u64, u64, u64, u64);
-
-/* export: 'hayro_jbig2_globals_new_within' */
-u32 Z_hayro_jbig2Z_hayro_jbig2_globals_new_within(Z_hayro_jbig2_instance_t*, u64, u32, u64, u64, u64, u64);
 
 /* export: 'hayro_jbig2_globals_share' */
 u32 Z_hayro_jbig2Z_hayro_jbig2_globals_share(Z_hayro_jbig2_instance_t*, u64, u64, u64);
 
 /* export: 'hayro_jbig2_page_count' */
 u32 Z_hayro_jbig2Z_hayro_jbig2_page_count(Z_hayro_jbig2_instance_t*, u32, u64, u64, u64);
-
-/* export: 'hayro_jbig2_page_draw' */
-u32 Z_hayro_jbig2Z_hayro_jbig2_page_draw(Z_hayro_jbig2_instance_t*, u64, u64);
 
 /* export: 'hayro_jbig2_page_get_info' */
 u32 Z_hayro_jbig2Z_hayro_jbig2_page_get_info(Z_hayro_jbig2_instance_t*, u64, u64);
@@ -133,6 +109,30 @@ u32 Z_hayro_jbig2Z_hayro_jbig2_globals_get_left_out(Z_hayro_jbig2_instance_t*, u
 
 /* export: 'hayro_jbig2_file_get_left_out' */
 u32 Z_hayro_jbig2Z_hayro_jbig2_file_get_left_out(Z_hayro_jbig2_instance_t*, u64, u64);
+
+/* export: 'hayro_jbig2_file_draw' */
+u32 Z_hayro_jbig2Z_hayro_jbig2_file_draw(Z_hayro_jbig2_instance_t*, u64, u64, u64);
+
+/* export: 'hayro_jbig2_page_draw' */
+u32 Z_hayro_jbig2Z_hayro_jbig2_page_draw(Z_hayro_jbig2_instance_t*, u64, u64);
+
+/* export: 'hayro_jbig2_file_new' */
+u32 Z_hayro_jbig2Z_hayro_jbig2_file_new(Z_hayro_jbig2_instance_t*, u64, u32, u64, u64, u64);
+
+/* export: 'hayro_jbig2_file_new_within' */
+u32 Z_hayro_jbig2Z_hayro_jbig2_file_new_within(Z_hayro_jbig2_instance_t*, u64, u32, u64, u64, u64, u64);
+
+/* export: 'hayro_jbig2_globals_new' */
+u32 Z_hayro_jbig2Z_hayro_jbig2_globals_new(Z_hayro_jbig2_instance_t*, u64, u32, u64, u64, u64);
+
+/* export: 'hayro_jbig2_globals_new_within' */
+u32 Z_hayro_jbig2Z_hayro_jbig2_globals_new_within(Z_hayro_jbig2_instance_t*, u64, u32, u64, u64, u64, u64);
+
+/* export: 'hayro_jbig2_file_new_salvaged' */
+u32 Z_hayro_jbig2Z_hayro_jbig2_file_new_salvaged(Z_hayro_jbig2_instance_t*, u64, u64, u64, u64, u64);
+
+/* export: 'hayro_jbig2_globals_new_salvaged' */
+u32 Z_hayro_jbig2Z_hayro_jbig2_globals_new_salvaged(Z_hayro_jbig2_instance_t*, u64, u64, u64, u64, u64);
 
 /* export: 'hayro_jbig2_context_get_work_left' */
 u32 Z_hayro_jbig2Z_hayro_jbig2_context_get_work_left(Z_hayro_jbig2_instance_t*, u64, u64);

@@ -1,10 +1,12 @@
-//! Makes the library's assembly text ready for `global_asm!`.
+//! Makes the library's assembly text ready for `global_asm!`, or compiles the C of `portable/` where no text fits the
+//! target. `HAYRO_JBIG2_PORTABLE=1` takes the C in any case. `CC_TARGET`, `TARGET_CC` or `CC` names the compiler.
 //!
 //! The text is assembled together with the code that rustc makes for this crate. Local labels of both begin with `.L`
 //! and are numbered alike, so those of the text get names of their own. Its other names, and those of this crate that
 //! it calls, are hidden: a library that is linked of this crate exports none of them.
 
 use std::path::{Path, PathBuf};
+use std::process::Command;
 use std::{env, fs};
 
 /// The text of the repository, and its copy in a packaged crate. `HAYRO_JBIG2_TEXT` may name another.
@@ -13,27 +15,95 @@ const TEXTS: [&str; 2] = ["../dist/x86_64/libhayro_jbig2.s", "text/libhayro_jbig
 /// What the text calls of `src/library/memory.rs`.
 const CALLED: [&str; 2] = ["jbig2_c_take", "jbig2_c_give_back"];
 
+/// The folders of the C: in the repository, and in a packaged crate. Those of `c/` are beside them.
+const PORTABLE: [&str; 2] = ["../portable", "portable"];
+const PORTABLE_FILES: [&str; 8] = [
+    "hayro_jbig2_module.c",
+    "instance.c",
+    "handles.c",
+    "drawing.c",
+    "bytes.c",
+    "segments.c",
+    "../c/handles.c",
+    "../c/texts.c",
+];
+
+/// A note of ELF: the program needs a processor of the level x86-64-v2. The loader of glibc 2.33 and later then refuses
+/// an older one, before the first instruction (`dist/processor.h`).
+const LEVEL: &str = "\t.section .note.gnu.property,\"a\",@note\n\t.p2align 3\n\t.long 4, 16, 5\n\t.asciz \"GNU\"\n\
+                     \t.long 0xc0008002, 4, 3, 0\n\t.text\n";
+
 fn main() {
-    check_target();
-    let text = env::var("HAYRO_JBIG2_TEXT").unwrap_or_else(|_| found().to_owned());
+    let target = env::var("TARGET").expect("cargo names the target");
+    let made = PathBuf::from(env::var_os("OUT_DIR").expect("cargo names a folder"));
+    println!("cargo::rustc-check-cfg=cfg(hayro_jbig2_portable)");
+    println!("cargo::rerun-if-env-changed=HAYRO_JBIG2_PORTABLE");
+    if has_text(&target) {
+        prepare_text(&made);
+    } else {
+        println!("cargo::rustc-cfg=hayro_jbig2_portable");
+        compile_portable(&target, &made);
+    }
+}
+
+fn has_text(target: &str) -> bool {
+    let width = env::var("CARGO_CFG_TARGET_POINTER_WIDTH").expect("cargo names the width of pointers");
+    let fits = target.starts_with("x86_64-") && target.contains("-linux-") && width == "64";
+    fits && env::var("HAYRO_JBIG2_PORTABLE").as_deref() != Ok("1")
+}
+
+fn prepare_text(made: &Path) {
+    let text = env::var("HAYRO_JBIG2_TEXT").unwrap_or_else(|_| found(&TEXTS).to_owned());
     println!("cargo::rerun-if-env-changed=HAYRO_JBIG2_TEXT");
     println!("cargo::rerun-if-changed={text}");
     let read = fs::read_to_string(&text).unwrap_or_else(|error| panic!("the library's text {text}: {error}"));
-    let made = PathBuf::from(env::var_os("OUT_DIR").expect("cargo names a folder")).join("libhayro_jbig2.s");
-    fs::write(made, prepared(&read)).expect("the text can be written into cargo's folder");
+    let prepared = prepared(&read) + LEVEL;
+    fs::write(made.join("libhayro_jbig2.s"), prepared).expect("the text can be written into cargo's folder");
 }
 
-fn check_target() {
-    let target = env::var("TARGET").expect("cargo names the target");
-    let width = env::var("CARGO_CFG_TARGET_POINTER_WIDTH").expect("cargo names the width of pointers");
+/// A program of C: that of the variables which name it for the target, or the usual one.
+fn program(name: &str, target: &str, usual: &str) -> String {
+    let variables = [format!("{name}_{}", target.replace('-', "_")), format!("TARGET_{name}"), name.to_owned()];
+    variables.iter().for_each(|variable| println!("cargo::rerun-if-env-changed={variable}"));
+    variables.iter().find_map(|variable| env::var(variable).ok()).unwrap_or_else(|| usual.to_owned())
+}
+
+fn run(command: &mut Command, target: &str) {
+    match command.status() {
+        Ok(status) if status.success() => {}
+        Ok(status) => panic!("the C of portable/ was not compiled for {target}: {command:?}: {status}"),
+        Err(error) => panic!("{target} needs a C compiler for portable/: set CC and AR to their names ({error})"),
+    }
+}
+
+fn compile_portable(target: &str, made: &Path) {
     assert!(
-        target.starts_with("x86_64-") && target.contains("-linux-") && width == "64",
-        "the proved library is assembly text for Linux on x86-64 with pointers of 64 bits, not for {target}"
+        !target.ends_with("-msvc"),
+        "portable/ was not tried with MSVC: take a target that ends in -gnu, not {target}"
     );
+    let folder = Path::new(found(&PORTABLE));
+    let cross = env::var("HOST").is_ok_and(|host| host != target);
+    let (compiler, archiver) = (program("CC", target, "cc"), program("AR", target, "ar"));
+    assert!(!cross || compiler != "cc", "{target} needs a cross compiler: set CC and AR to the names of its programs");
+    println!("cargo::rerun-if-changed={}", folder.display());
+    let archive = made.join("libhayro_jbig2_portable.a");
+    let mut objects = Vec::new();
+    for (number, file) in PORTABLE_FILES.iter().enumerate() {
+        let object = made.join(format!("{number}.o"));
+        let mut command = Command::new(compiler.split(' ').next().unwrap_or("cc"));
+        command.args(compiler.split(' ').skip(1)).args(["-O2", "-std=c99", "-fPIC", "-fvisibility=hidden", "-c", "-I"]);
+        command.arg(folder).arg("-I").arg(folder.join("../c")).arg(folder.join(file)).arg("-o").arg(&object);
+        run(&mut command, target);
+        objects.push(object);
+    }
+    let _ = fs::remove_file(&archive);
+    run(Command::new(archiver).arg("rcs").arg(&archive).args(&objects), target);
+    println!("cargo::rustc-link-search=native={}", made.display());
+    println!("cargo::rustc-link-lib=static=hayro_jbig2_portable");
 }
 
-fn found() -> &'static str {
-    TEXTS.into_iter().find(|text| Path::new(text).exists()).unwrap_or_else(|| panic!("there is none of {TEXTS:?}"))
+fn found(names: &[&'static str; 2]) -> &'static str {
+    names.iter().find(|name| Path::new(name).exists()).unwrap_or_else(|| panic!("there is none of {names:?}"))
 }
 
 fn prepared(text: &str) -> String {

@@ -36,8 +36,9 @@ def copy_repository(to):
     """Copies what ./jbig2-decode reads, with a few small sources in place of the crates', whose sums SOURCES has."""
     shutil.copytree(os.path.join(ROOT, "dist"), os.path.join(to, "dist"), ignore=shutil.ignore_patterns("out"))
     shutil.copy(os.path.join(ROOT, "jbig2-decode"), to)
-    os.mkdir(os.path.join(to, "c"))
-    shutil.copy(os.path.join(ROOT, "c", "crate.txt"), os.path.join(to, "c"))
+    without = shutil.ignore_patterns("out", "source", "tool", "tests", "wrong-bodies")
+    for folder in "c", "portable":
+        shutil.copytree(os.path.join(ROOT, folder), os.path.join(to, folder), ignore=without)
     texts = {"crates.txt": CRATES, **{f"crates/{name}/src/lib.rt": f"// {name}\n" for name in PARTS}}
     texts["crates/jbig2_base/specs/Lib.antt"] = "-- Definitions.\n"
     for name, text in texts.items():
@@ -145,7 +146,8 @@ class Updates(Case):
             how = {"env": {**os.environ, "JBIG2_PROVE": "0", "CC": compiler}, "start_new_session": True}
             ended = subprocess.run([self.path("jbig2-decode")], capture_output=True, check=False, **how)
             self.assertNotEqual(ended.returncode, 0)
-            self.assertEqual(os.listdir(self.path("dist", "out")), [], name)
+            out = self.path("dist", "out")
+            self.assertEqual(os.listdir(out) if os.path.isdir(out) else [], [], name)
 
     def test_a_source_with_an_older_time(self):
         self.assert_runs()
@@ -212,18 +214,6 @@ class Messages(Case):
         self.assert_runs()
         os.utime(self.path("dist", "heap.c"))
         self.assert_runs(CC="/no/such/cc")
-
-    def test_another_processor(self):
-        self.assert_says("no text of it for this computer (Linux aarch64)", PROCESSOR="aarch64")
-        self.assert_runs()
-        self.assert_says("no text of it for this computer (Linux riscv64)", PROCESSOR="riscv64")
-
-    def test_another_c_library(self):
-        for name in "errno.h", "stddef.h", "stdint.h", "string.h":
-            open(os.path.join(self.room, name), "w", encoding="utf-8").close()
-        self.assert_says("needs the GNU C library (glibc) 2.33", CC=f"cc -nostdinc -I{self.room}")
-        if shutil.which("musl-gcc"):
-            self.assert_says("needs the GNU C library (glibc) 2.33", CC="musl-gcc")
 
     def test_no_toolchain(self):
         self.update("crates/jbig2_mmr/src/lib.rt", lambda text: text + "\n// Another.\n")

@@ -44,11 +44,16 @@ export class DecodedPage {
 
   /**
    * `rows`: a bit for each pixel, 1 is black, the leftmost the highest of its byte; (width + 7) >> 3 bytes a row.
-   * `passedOver`: of the segments that were passed over their `count`, and `segment` and `error` of the first.
-   * `leftOut`: what salvage left out besides, or null.
+   * `passedOver`: of what the page lacks the `count` of segments, and `segment` and `error` of the first.
+   * `leftOut`: what reading left out besides.
    */
   constructor(width, height, rows, { passedOver, leftOut }) {
     Object.assign(this, { width, height, rows, passedOver, leftOut });
+  }
+
+  /** Whether nothing is known to be missing of the page, or of what it shares with others. */
+  get isComplete() {
+    return this.passedOver.count === 0 && this.leftOut.passedOver.count === 0;
   }
 
   /** The pixels as ImageData has them, four bytes for each, made when they are asked for first. */

@@ -45,4 +45,5 @@ export const ERRORS = {
   100: ["OTHER_SIZE", "buffer of another size than the page"],
   101: ["NO_SUCH_PAGE", "no such page"],
   102: ["OTHER_HANDLE", "handle of another kind"],
+  103: ["WORK_LIMIT", "the limit of work is reached"],
 };

@@ -17,22 +17,26 @@ export class WorkLimitReached extends Jbig2Error {
   constructor(limit: number);
 }
 
-/** Segments that were passed over: their count, and the number and the error of the first. */
+/**
+ * What a page, or what pages share, lacks: segments that failed or are cut off, and those that refer to a segment that
+ * isn't there. Their count, and the number and the error of the first.
+ */
 export interface PassedOver {
   count: number;
+  /** Null where there is none, or where the bytes end within it. */
   segment: number | null;
   error: Jbig2Error | null;
 }
 
-/** What salvage left out besides what was passed over in the page. */
+/** What reading left out besides what was passed over in the page. */
 export interface LeftOut {
-  /** Segments that pages share. */
+  /** Of segments that pages share. */
   passedOver: PassedOver;
-  /** How many pages of the file can't begin, with the error of the first. */
+  /** How many pages of the file can't begin, with the error of the first. Salvage leaves them out. */
   pages: number;
   firstPage: Jbig2Error | null;
-  /** The fault at which a list of segments ends early. */
-  rest: Jbig2Error | null;
+  /** The segment at which a list of segments ends early; its number is null where it isn't known. */
+  cutOff: { segment: number | null; error: Jbig2Error } | null;
 }
 
 /** A page as packed rows, and as the other forms that they can be had in. */
@@ -42,9 +46,13 @@ export class DecodedPage {
   readonly height: number;
   /** A bit for each pixel, 1 is black, the leftmost the highest of its byte; (width + 7) >> 3 bytes a row. */
   readonly rows: Uint8Array;
+  /**
+   * Whether nothing is known to be missing: no segment of the page failed or is cut off, and each found what it refers
+   * to; nor of its globals, or of what the pages of its file share. Damage within arithmetic data can't be known.
+   */
+  readonly isComplete: boolean;
   readonly passedOver: PassedOver;
-  /** What salvage left out; null in other readings. */
-  readonly leftOut: LeftOut | null;
+  readonly leftOut: LeftOut;
   /** The pixels as ImageData has them, made when they are asked for first. */
   readonly data: Uint8ClampedArray;
   /** The pixels as ImageData has them, made anew. */
@@ -71,7 +79,7 @@ export interface ReadingOptions extends WorkOptions {
 export interface DecodeOptions extends ReadingOptions {
   /** The globals of an embedded page. */
   globals?: Bytes | null;
-  /** The index of a page of a file, from 0. */
+  /** The index of a page of a file, from 0. An embedded page is page 0. */
   page?: number;
 }
 
@@ -91,8 +99,6 @@ export class Decoder {
   readonly held: number;
   /** How many pages a file has. */
   pageCount(bytes: Bytes, options?: ReadingOptions): number;
-  /** Whether the bytes end inside of a segment, which lenient reading and salvage leave out. */
-  endsEarly(bytes: Bytes, options?: WorkOptions): boolean;
   /**
    * Decodes a page of a file, or an embedded page with its globals.
    * @throws {WorkLimitReached | Jbig2Error | TypeError}

@@ -8,11 +8,13 @@
 import { bytesOf } from "./bytes.js";
 import { DecodedPage } from "./decoded_page.js";
 import { Heap } from "./heap.js";
-import { Jbig2Error, OUT_OF_MEMORY, WorkLimitReached } from "./jbig2_error.js";
+import { Jbig2Error, OUT_OF_MEMORY, WORK_LIMIT, WorkLimitReached } from "./jbig2_error.js";
 
 export { DecodedPage, Jbig2Error, WorkLimitReached };
 
 const UNEXPECTED_END = 1;
+const NO_SUCH_PAGE = 101;
+const NO_SEGMENT_NUMBER = 2 ** 32 - 1;
 const ENDS_OF_LINE = [0x0a, 0x0d];
 // In place of the memory of a caller in C, the heap here; and no limit of work.
 const MEMORY = 0n;
@@ -32,14 +34,18 @@ export function isFile(source) {
 /** The error of a number, or null for 0. */
 const errorOf = (number) => (number ? new Jbig2Error(number) : null);
 
-/** What was passed over: how many segments, with the number and the error of the first. */
-const passedOver = ([count, segment, error]) => ({ count, segment: count ? segment : null, error: errorOf(error) });
+/** The number of a segment, or null where the bytes end within it. */
+const numberOf = (segment) => (segment === NO_SEGMENT_NUMBER ? null : segment);
 
-/** What salvage left out of both, for a page and its globals. */
-function joined(one, other) {
-  if (!other) return one;
-  return { ...one, passedOver: other.passedOver, rest: one.rest ?? other.rest };
-}
+/** What was passed over: how many segments, with the number and the error of the first. */
+const passedOver = ([count, segment, error]) => ({
+  count,
+  segment: count ? numberOf(segment) : null,
+  error: errorOf(error),
+});
+
+/** What was left out of both, for a page and its globals. */
+const joined = (one, other) => ({ ...one, passedOver: other.passedOver, cutOff: one.cutOff ?? other.cutOff });
 
 /** A limit of work is a whole number or Infinity, or null for the usual one. */
 function checkLimit(limit) {
@@ -107,43 +113,16 @@ export class Decoder {
   }
 
   /**
-   * Whether the bytes of a file or of an embedded page end inside of a segment. Lenient reading and salvage leave that
-   * segment out, and don't count it. The end of a line after the last segment, as PDF files have it, is none.
-   */
-  endsEarly(source, { workLimit = null } = {}) {
-    checkLimit(workLimit);
-    const bytes = bytesOf(source);
-    let end = bytes.length;
-    let isCutOff = this.#isCutOff(bytes, workLimit);
-    for (let trimmed = 0; isCutOff && trimmed < 2 && ENDS_OF_LINE.includes(bytes[end - 1]); trimmed++) {
-      isCutOff = this.#isCutOff(bytes.subarray(0, --end), workLimit);
-    }
-    return isCutOff;
-  }
-
-  /** Whether strict reading refuses bytes because they end. */
-  #isCutOff(bytes, workLimit) {
-    const reading = { strict: true, salvage: false, workLimit };
-    try {
-      this.#with([bytes], 0, ([stream]) => {
-        if (isFile(bytes)) this.#file(stream, reading, () => {});
-        else this.#page(stream, [], reading, () => {});
-      });
-    } catch (error) {
-      if (!(error instanceof Jbig2Error)) throw error;
-      return error.number === UNEXPECTED_END;
-    }
-    return false;
-  }
-
-  /**
    * Decodes a page: of a file by its index from 0, or an embedded page with its globals, if it has some. Bytes with
-   * globals are an embedded page, others a file where `isFile` says so. Bytes are an ArrayBuffer or a view of one;
-   * other values are refused by a TypeError.
+   * globals are an embedded page, others a file where `isFile` says so. An embedded page is page 0; another index is
+   * NO_SUCH_PAGE. Bytes are an ArrayBuffer or a view of one; other values are refused by a TypeError.
    *
    * With `strict` the first fault is thrown. With `salvage`, for viewers of damaged files, whatever a lenient decoder
-   * refuses is left out, and `leftOut` tells what: segments that pages share, as `passedOver`; how many `pages` of a
-   * file, with the error of the first as `firstPage`; and as `rest` the fault at which a list of segments ends early.
+   * refuses is left out.
+   *
+   * Where the page's `isComplete` is false, `passedOver` tells what it lacks. `leftOut` tells what else reading left
+   * out: segments that pages share, as `passedOver`; how many `pages` of a file, with the error of the first as
+   * `firstPage`; and as `cutOff` the segment at which a list of segments ends early.
    *
    * `workLimit` is a number of units, for the page and for what it shares with others, or Infinity. Where it isn't
    * given, it is 100 for each pixel of the page, and 2^24 at least; for what pages share it is 2^28.
@@ -155,15 +134,17 @@ export class Decoder {
     checkLimit(workLimit);
     const reading = { strict, salvage, workLimit };
     const inputs = (globals === null ? [bytes] : [bytes, globals]).map(bytesOf);
+    const isEmbedded = globals !== null || !isFile(bytes);
+    if (isEmbedded && page !== 0) throw new Jbig2Error(NO_SUCH_PAGE);
     return this.#with(inputs, 0, ([stream, shared]) => {
-      if (globals === null && isFile(bytes)) {
+      if (!isEmbedded) {
         return this.#file(stream, reading, (file) => this.#drawn("file", file, [BigInt(page)], reading));
       }
       if (globals === null) return this.#page(stream, [], reading, (page) => this.#drawn("page", page, [], reading));
       return this.#globals(shared, reading, (shared) =>
         this.#page(stream, [shared], reading, (page) => {
           const drawn = this.#drawn("page", page, [], reading);
-          if (salvage) drawn.leftOut = joined(drawn.leftOut, this.#leftOut("globals", shared));
+          drawn.leftOut = joined(drawn.leftOut, this.#leftOut("globals", shared));
           return drawn;
         }),
       );
@@ -176,7 +157,7 @@ export class Decoder {
   }
 
   #globals(stream, reading, work) {
-    return this.#shared("globals", stream, reading, work);
+    return this.#withoutLineEnd("globals", stream, work, (bytes, work) => this.#shared("globals", bytes, reading, work));
   }
 
   #shared(kind, stream, { strict, salvage, workLimit }, work) {
@@ -189,12 +170,32 @@ export class Decoder {
 
   #page(stream, globals, { strict, salvage }, work) {
     const how = globals.length ? "with" : "alone";
-    if (salvage) return this.#held(work, Infinity, `jbig2_c_salvaged_${how}`, ...globals, ...stream);
-    return this.#held(work, Infinity, `jbig2_c_page_${how}`, strict ? 1 : 0, ...globals, ...stream);
+    const [call, words] = salvage ? ["salvaged", []] : ["page", [strict ? 1 : 0]];
+    return this.#withoutLineEnd("page", stream, work, (bytes, work) =>
+      this.#held(work, Infinity, `jbig2_c_${call}_${how}`, ...words, ...globals, ...bytes),
+    );
+  }
+
+  /**
+   * Reads a stream. PDF files may count in the end of a line after the last segment; the module takes it for a segment
+   * that is cut off within its number.
+   */
+  #withoutLineEnd(kind, [place, length], work, read) {
+    for (let end = length; ; end--) {
+      const isWhole = (handle) => length - end === 2n || !this.#endsALine(kind, handle, place + end);
+      const done = read([place, end], (handle) => isWhole(handle) && { result: work(handle) });
+      if (done) return done.result;
+    }
+  }
+
+  #endsALine(kind, handle, end) {
+    const { cutOff } = this.#leftOut(kind, handle);
+    const isInNumber = cutOff?.segment === null && cutOff.error.number === UNEXPECTED_END;
+    return isInNumber && ENDS_OF_LINE.includes(this.#view().getUint8(Number(end) - 1));
   }
 
   /** Draws a page of a handle, and returns what `decode` does. */
-  #drawn(kind, handle, index, { salvage, workLimit }) {
+  #drawn(kind, handle, index, { workLimit }) {
     const [, width, height] = this.#numbers([4, 4, 4], `hayro_jbig2_${kind}_get_info`, handle, ...index);
     const limit = workLimit ?? Math.max(WORK_OF_PIXEL * width * height, LEAST_WORK);
     const draw = (context) => {
@@ -202,17 +203,24 @@ export class Decoder {
       this.#call(limit, `hayro_jbig2_${kind}_draw`, handle, ...index, context);
       return new DecodedPage(width, height, this.#rows(context, width, height), {
         passedOver: passedOver(this.#numbers([8, 4, 4], "hayro_jbig2_context_get_passed_over", context)),
-        leftOut: salvage ? this.#leftOut(kind, handle) : null,
+        leftOut: this.#leftOut(kind, handle),
       });
     };
     return this.#held(draw, Infinity, "hayro_jbig2_context_new");
   }
 
-  /** What salvage left out of what a handle holds. */
+  /** What was left out of what a handle holds. */
   #leftOut(kind, handle) {
     const counts = this.#numbers([8, 4, 4, 8, 4, 4], `hayro_jbig2_${kind}_get_left_out`, handle);
-    const [pages, firstPage, rest] = counts.slice(3);
-    return { passedOver: passedOver(counts), pages, firstPage: errorOf(firstPage), rest: errorOf(rest) };
+    const [segments, segment, error, pages, firstPage, ended] = counts;
+    // Where no segment was passed over, the one at which the list ends early stands in its place.
+    const isEnd = segments === 1 && error === ended;
+    return {
+      passedOver: passedOver(isEnd ? [0, 0, 0] : counts),
+      pages,
+      firstPage: errorOf(firstPage),
+      cutOff: ended ? { segment: isEnd ? numberOf(segment) : null, error: errorOf(ended) } : null,
+    };
   }
 
   /** The packed rows of the page that was drawn last in a context. */
@@ -234,15 +242,13 @@ export class Decoder {
    */
   #call(limit, name, ...words) {
     let answer;
-    this.#heap.hasRefused = false;
     try {
       answer = this.#exports[name](...words);
     } catch (error) {
       this.#isBroken = true;
       throw error;
     }
-    // Where all memory was given out that the call has asked for, it was the limit.
-    if (answer === OUT_OF_MEMORY && limit < Infinity && !this.#heap.hasRefused) throw new WorkLimitReached(limit);
+    if (answer === WORK_LIMIT) throw new WorkLimitReached(limit);
     if (answer !== 0) throw new Jbig2Error(answer);
   }
 

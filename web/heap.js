@@ -17,7 +17,6 @@ export class Heap {
   constructor(most) {
     this.most = most;
     this.held = 0;
-    this.hasRefused = false;
     this.free = new Map();
   }
 
@@ -47,7 +46,6 @@ export class Heap {
   /** Takes a block for the module, and writes there whether there is one, and where. */
   answer(place, size, align) {
     const block = align <= 16 ? this.take(size) : 0;
-    this.hasRefused ||= !block;
     const view = new DataView(this.memory.buffer);
     view.setUint8(place, block ? 1 : 0);
     view.setBigUint64(place + 8, BigInt(block || place), true);

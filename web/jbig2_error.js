@@ -3,6 +3,7 @@
 import { ERRORS } from "./errors.js";
 
 export const OUT_OF_MEMORY = 41;
+export const WORK_LIMIT = 103;
 
 /** Why a page is not decoded: `number` and `error` as in hayro_jbig2.h, and its text as `message`. */
 export class Jbig2Error extends Error {
@@ -15,10 +16,10 @@ export class Jbig2Error extends Error {
   }
 }
 
-/** A page, or what pages share, asks for more work than the limit allows. The library says OUT_OF_MEMORY there. */
+/** A page, or what pages share, asks for more work than the limit allows: the library's WORK_LIMIT. */
 export class WorkLimitReached extends Jbig2Error {
   constructor(limit) {
-    super(OUT_OF_MEMORY);
+    super(WORK_LIMIT);
     this.name = "WorkLimitReached";
     this.error = "WORK_LIMIT_REACHED";
     this.message = `more work than the limit of ${limit} units`;

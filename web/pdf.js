@@ -107,7 +107,7 @@ export class Pdf {
     const parameters = this.#parameters(object);
     if (filters.length > MOST_FILTERS) throw new PdfError(`more than ${MOST_FILTERS} filters`);
     let data = this.#bytes.subarray(object.begin, object.end);
-    this.#room.begin(object);
+    const take = this.#room.begin(object);
     for (const [index, filter] of filters.entries()) {
       if (filter === JBIG2 && index === filters.length - 1) break;
       if (!FLATE.has(filter)) throw new PdfError(`the filter ${filter.slice(1, 40)} is not read here`);
@@ -115,7 +115,7 @@ export class Pdf {
       if (typeof predictor === "number" && predictor > 1) {
         throw new PdfError("predictors of Flate are not read here");
       }
-      data = await inflated(data, (size) => this.#room.take(object, size));
+      data = await inflated(data, take);
     }
     return data;
   }

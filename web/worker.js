@@ -6,10 +6,7 @@ let decoder;
 
 /** An image of a PDF file: its name, and how to decode it. */
 function imageOf(pdf, number, options) {
-  const decode = ({ bytes, globals }) => {
-    const page = decoder.decode(bytes, { globals, ...options });
-    return { page, endsEarly: decoder.endsEarly(bytes, options) };
-  };
+  const decode = ({ bytes, globals }) => decoder.decode(bytes, { globals, ...options });
   return { name: `object ${number}`, decode: () => pdf.streams(number).then(decode) };
 }
 
@@ -29,17 +26,12 @@ async function contentsOf(bytes, options) {
     const pdf = await Pdf.open(bytes);
     return { kind: "image", pages: pdf.images().map((number) => imageOf(pdf, number, options)), faults: pdf.faults };
   }
-  const endsEarly = decoder.endsEarly(bytes, options);
   if (!isFile(bytes)) {
-    const decode = () => ({ page: withHint(() => decoder.decode(bytes, options)), endsEarly });
+    const decode = () => withHint(() => decoder.decode(bytes, options));
     return { kind: "embedded page", pages: [{ decode }], faults: [] };
   }
   const count = decoder.pageCount(bytes, options);
-  // What is cut off is at the end, so the last page lacks it.
-  const decode = (index) => {
-    const page = decoder.decode(bytes, { page: index, ...options });
-    return { page, endsEarly: endsEarly && index === count - 1 };
-  };
+  const decode = (index) => decoder.decode(bytes, { page: index, ...options });
   const pages = Array.from({ length: count }, (_, index) => ({ decode: () => decode(index) }));
   return { kind: "page", pages, faults: [] };
 }
@@ -48,28 +40,45 @@ const described = (error) => (error.error ? `${error.error}: ${error.message}` :
 
 const counted = (count, what) => `${count} ${what}${count === 1 ? "" : "s"}`;
 
-/** What a page lacks, as a text; empty for a whole page. */
-function lacking({ passedOver, leftOut }, endsEarly) {
+/** A segment and its fault, as a text. */
+function faultOf({ segment, error }) {
+  return `${segment === null ? "" : `segment ${segment}, `}${described(error)}`;
+}
+
+const missing = (passedOver) => `${counted(passedOver.count, "segment")} missing or damaged (${faultOf(passedOver)})`;
+
+/** What a page lacks, as a text; empty for a complete page. */
+function lacking({ isComplete, passedOver, leftOut: { passedOver: shared, cutOff } }) {
+  if (isComplete) return "";
   const lacks = [];
-  for (const { count, error } of [passedOver, leftOut?.passedOver ?? { count: 0 }]) {
-    if (count) lacks.push(`${counted(count, "segment")} passed over (${described(error)})`);
-  }
-  if (leftOut?.pages) lacks.push(`${counted(leftOut.pages, "page")} left out (${described(leftOut.firstPage)})`);
-  if (leftOut?.rest) lacks.push(`the rest of the segments left out (${described(leftOut.rest)})`);
-  else if (endsEarly) lacks.push("the data ends early, and its last segment is left out");
+  if (passedOver.count) lacks.push(missing(passedOver));
+  if (shared.count) lacks.push(`of what pages share, ${missing(shared)}`);
+  if (cutOff && passedOver.count > 1) lacks.push(`the segments end early (${faultOf(cutOff)})`);
   return lacks.join("; ");
 }
 
-/** Decodes a page and sends it to the page that shows it, or its error. */
+/** What a file lacks that none of its pages says, as texts. `shown` has its pages. */
+function lackingOfFile(shown) {
+  const [first] = shown;
+  if (!first) return [];
+  const { pages, firstPage, cutOff } = first.leftOut;
+  const lacks = pages ? [`${counted(pages, "page")} (${described(firstPage)})`] : [];
+  const isTold = shown.some(({ isComplete }) => !isComplete);
+  return cutOff && !isTold ? [...lacks, `what comes from a segment on (${faultOf(cutOff)})`] : lacks;
+}
+
+/** Decodes a page and sends it to the page that shows it, or its error. Returns what is known of it. */
 async function show(label, decode) {
   try {
     const began = performance.now();
-    const { page, endsEarly } = await decode();
+    const page = await decode();
     const milliseconds = performance.now() - began;
-    const { width, height, rows } = page;
-    postMessage({ ...label, width, height, rows, milliseconds, lacks: lacking(page, endsEarly) }, [rows.buffer]);
+    const { width, height, rows, isComplete, leftOut } = page;
+    postMessage({ ...label, width, height, rows, milliseconds, lacks: lacking(page) }, [rows.buffer]);
+    return { isComplete, leftOut };
   } catch (error) {
     postMessage({ ...label, error: described(error) });
+    return null;
   }
 }
 
@@ -77,13 +86,16 @@ async function showFile({ bytes, salvage, isLimited }) {
   try {
     const { kind, pages, faults } = await contentsOf(bytes, { salvage, workLimit: isLimited ? null : Infinity });
     const count = pages.length;
+    const shown = [];
     for (const [index, { name, decode }] of pages.entries()) {
       const number = index + 1;
       const label = { number, count, name: `${kind} ${number} of ${count}${name ? `, ${name}` : ""}` };
       postMessage({ begins: label });
-      await show(label, decode);
+      const page = await show(label, decode);
+      if (page) shown.push(page);
     }
-    for (const fault of faults) postMessage({ error: `left out of this file: ${fault}` });
+    const lacks = kind === "page" ? lackingOfFile(shown) : [];
+    for (const fault of [...faults, ...lacks]) postMessage({ error: `left out of this file: ${fault}` });
     if (count === 0) postMessage({ error: "no JBIG2 page in this file" });
   } catch (error) {
     postMessage({ error: described(error) });

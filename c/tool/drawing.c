@@ -115,24 +115,18 @@ static void refuse_page(struct drawn *drawn, struct fault fault) {
     drawn->status = is_of_limits(fault.error) ? OVER_LIMIT : NOT_DONE;
 }
 
-/* What the other way drew of a page that strict reading refused with an error. */
+/* What the other way drew of a page that strict reading refused with an error. The library counts what is missing. What
+ * it forgives without a count has the error of strict reading. */
 static void add_what_it_lacks(struct attempt *attempt, uint32_t error, const hayro_jbig2_left_out *left_out,
                               struct drawn *drawn) {
     hayro_jbig2_passed_over passed = {0, 0, 0};
     hayro_jbig2_context_get_passed_over(attempt->painter->context, &passed);
     size_t before = drawn->faults.count;
-    if (passed.count > 0) {
-        struct fault fault = fault_of_number(attempt->list, passed.segment, passed.error);
-        fault.others = passed.count - 1;
-        add_fault(&drawn->faults, fault);
-    }
+    /* An embedded page says by itself where it is cut off, and that counts among what is passed over, as the last. */
+    if (left_out->list_error != HAYRO_JBIG2_OK && passed.count > 0)
+        passed.count--;
+    add_segments(&drawn->faults, attempt->list, passed.count, passed.segment, passed.error);
     add_left_out(&drawn->faults, attempt->list, left_out);
-    if (attempt->list->error == HAYRO_JBIG2_PARSE_UNEXPECTED_EOF && attempt->document->kind != KIND_FILE)
-        add_fault(&drawn->faults, fault_of_list(attempt->list, attempt->list->error));
-    if (attempt->document->kind == KIND_FILE && !has_one_end(attempt->list, drawn->number))
-        add_fault(&drawn->faults, (struct fault){.error = HAYRO_JBIG2_FORMAT_INVALID_END_OF_PAGE});
-    if (drawn->faults.count == before && error == HAYRO_JBIG2_OK)
-        error = strict_error_of_page(attempt, drawn);
     if (drawn->faults.count == before && error != HAYRO_JBIG2_OK) {
         attempt->is_strict = true;
         add_fault(&drawn->faults, locate_fault(attempt, drawn, error));

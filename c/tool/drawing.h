@@ -24,7 +24,7 @@ void open_painter(struct painter *painter);
 void close_painter(struct painter *painter);
 
 /* Reads the page strictly, so that a page which is reported as whole is what the standard says. Where strict reading
- * refuses it, it is drawn in the document's other way, with the faults. */
+ * refuses it, or its file, it is drawn in the document's other way, with what the library says that it lacks. */
 void draw_page(struct painter *painter, struct document *document, size_t index, struct drawn *drawn);
 
 /* Where a page comes from: its stream and its globals. A page of a file has neither. */
@@ -51,8 +51,6 @@ struct attempt {
     bool is_strict;
 };
 
-/* The error of a page alone by strict reading, where that refuses its file as a whole. */
-uint32_t strict_error_of_page(const struct attempt *attempt, const struct drawn *drawn);
 /* The fault of an attempt that ended with an error, with its segment where that can be found. */
 struct fault locate_fault(const struct attempt *attempt, const struct drawn *drawn, uint32_t error);
 

@@ -8,11 +8,9 @@
 #include <string.h>
 
 uint32_t precise_answer(uint32_t answer, const struct budget *budget) {
-    if (answer != HAYRO_JBIG2_OUT_OF_MEMORY)
-        return answer;
-    if (!budget->was_refused)
+    if (answer == HAYRO_JBIG2_WORK_LIMIT)
         return OVER_WORK_LIMIT;
-    return budget->limit < SIZE_MAX ? OVER_MEMORY_LIMIT : answer;
+    return answer == HAYRO_JBIG2_OUT_OF_MEMORY && budget->limit < SIZE_MAX ? OVER_MEMORY_LIMIT : answer;
 }
 
 bool is_of_limits(uint32_t answer) {
@@ -57,13 +55,6 @@ static struct fault fault_at(const struct segment *segment, uint32_t error) {
     };
 }
 
-struct fault fault_of_number(const struct segment_list *list, uint32_t number, uint32_t error) {
-    const struct segment *segment = segment_of_number(list, number);
-    if (segment != NULL)
-        return fault_at(segment, error);
-    return (struct fault){.error = error, .has_segment = true, .segment = number};
-}
-
 /* The segment that ended the list, as far as its header says what it is. */
 static struct fault fault_at_end(const struct segment_list *list, uint32_t error) {
     struct fault fault = fault_at(&list->last, error);
@@ -76,6 +67,22 @@ static struct fault fault_at_end(const struct segment_list *list, uint32_t error
     else if (list->known < KNOWS_HEADER && error == HAYRO_JBIG2_PARSE_UNEXPECTED_EOF)
         snprintf(fault.note, sizeof fault.note, "cut off in its header, of which %zu bytes are there", rest);
     return fault;
+}
+
+static bool is_at_end(const struct segment_list *list, uint32_t number, uint32_t error) {
+    if (list->error != error || error == HAYRO_JBIG2_OK)
+        return false;
+    return number == (list->known >= KNOWS_NUMBER ? list->last.number : HAYRO_JBIG2_NO_SEGMENT_NUMBER);
+}
+
+struct fault fault_of_number(const struct segment_list *list, uint32_t number, uint32_t error) {
+    if (is_at_end(list, number, error))
+        return fault_at_end(list, error);
+    const struct segment *segment = segment_of_number(list, number);
+    if (segment != NULL)
+        return fault_at(segment, error);
+    bool has_number = number != HAYRO_JBIG2_NO_SEGMENT_NUMBER;
+    return (struct fault){.error = error, .has_segment = has_number, .segment = number};
 }
 
 static bool breaks_rule(const struct segment *segment, uint32_t error) {
@@ -102,19 +109,28 @@ struct fault fault_of_list(const struct segment_list *list, uint32_t error) {
     return (struct fault){.error = error};
 }
 
+void add_segments(struct faults *faults, const struct segment_list *list, size_t count, uint32_t first,
+                  uint32_t error) {
+    if (count == 0)
+        return;
+    struct fault fault = fault_of_number(list, first, error);
+    fault.others = count - 1;
+    add_fault(faults, fault);
+}
+
 void add_left_out(struct faults *faults, const struct segment_list *list, const hayro_jbig2_left_out *left_out) {
-    if (left_out->segments > 0) {
-        struct fault fault = fault_of_number(list, left_out->segment, left_out->error);
-        fault.others = left_out->segments - 1;
-        add_fault(faults, fault);
-    }
+    /* Where no segment was passed over, the one at which the list ends early stands in its place. */
+    bool is_end = left_out->segments == 1 && left_out->error == left_out->list_error;
+    if (!is_end)
+        add_segments(faults, list, left_out->segments, left_out->segment, left_out->error);
     if (left_out->pages > 0) {
         struct fault fault = {.error = left_out->page_error};
         snprintf(fault.note, sizeof fault.note, "%zu pages can't begin and are left out", left_out->pages);
         add_fault(faults, fault);
     }
     if (left_out->list_error != HAYRO_JBIG2_OK) {
-        struct fault fault = fault_of_list(list, left_out->list_error);
+        struct fault fault = is_end ? fault_of_number(list, left_out->segment, left_out->list_error)
+                                    : fault_of_list(list, left_out->list_error);
         if (fault.note[0] == '\0')
             snprintf(fault.note, sizeof fault.note, "what follows is left out");
         add_fault(faults, fault);
@@ -132,7 +148,7 @@ void add_fault_text(struct text *text, const struct fault *fault) {
     if (fault->note[0] != '\0')
         add_text(text, ": %s", fault->note);
     if (fault->others > 0)
-        add_text(text, ", and %zu more segments are left out", fault->others);
+        add_text(text, ", and %zu more segment%s", fault->others, fault->others > 1 ? "s" : "");
 }
 
 void add_fault_lines(struct text *text, const char *place, const struct faults *faults, const char *hint) {
@@ -146,13 +162,6 @@ void add_fault_lines(struct text *text, const char *place, const struct faults *
 const char *hint_after(uint32_t answer, enum way way) {
     bool helps = answer != CANT_BE_READ && answer != HAYRO_JBIG2_FORMAT_INVALID_HEADER && !is_of_limits(answer);
     return helps && way == LENIENT ? " (--salvage may draw what is left)" : "";
-}
-
-bool has_one_end(const struct segment_list *list, uint32_t page) {
-    size_t ends = 0;
-    for (size_t i = 0; i < list->count; i++)
-        ends += list->at[i].type == END_OF_PAGE && list->at[i].page == page;
-    return ends == 1;
 }
 
 static struct fault fault_of_count(const struct document *document) {
@@ -170,8 +179,7 @@ void find_faults_of_file(const struct document *document, struct faults *faults)
         return;
     bool is_count = answer == HAYRO_JBIG2_FORMAT_PAGE_COUNT_MISMATCH && document->refusal == HAYRO_JBIG2_OK;
     struct fault fault = is_count ? fault_of_count(document) : fault_of_list(&document->list, answer);
-    bool is_of_page = answer == HAYRO_JBIG2_FORMAT_INVALID_END_OF_PAGE && document->refusal == HAYRO_JBIG2_OK;
-    if (!is_of_page && document->left_out.list_error != answer)
+    if (document->left_out.list_error != answer)
         add_fault(faults, fault);
     if (document->header.has_count && document->header.page_count != document->count &&
         document->refusal == HAYRO_JBIG2_OK && answer != HAYRO_JBIG2_FORMAT_PAGE_COUNT_MISMATCH)

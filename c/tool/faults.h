@@ -19,7 +19,7 @@ struct fault {
     bool has_type, has_place;
     uint8_t type;
     size_t place;   /* of the segment's header in its file or stream */
-    size_t others;  /* further segments that are left out */
+    size_t others;  /* further segments with faults */
     char note[120]; /* what else is to be said, or "" */
 };
 
@@ -31,11 +31,14 @@ struct faults {
 };
 
 void add_fault(struct faults *faults, struct fault fault);
-/* A fault of a segment that is known by its number, with its type and place where the list has it. */
+/* A fault of a segment that is known by its number, with its type and place where the list has it. The number is
+ * HAYRO_JBIG2_NO_SEGMENT_NUMBER where the bytes end within it. */
 struct fault fault_of_number(const struct segment_list *list, uint32_t number, uint32_t error);
 /* A fault that reading headers strictly found: it is at the first segment that breaks its rule, where one does. */
 struct fault fault_of_list(const struct segment_list *list, uint32_t error);
-/* What salvage left out of a list of segments. */
+/* Segments that were passed over, by the first of them, unless there are none. */
+void add_segments(struct faults *faults, const struct segment_list *list, size_t count, uint32_t first, uint32_t error);
+/* What was left out of a list of segments. */
 void add_left_out(struct faults *faults, const struct segment_list *list, const hayro_jbig2_left_out *left_out);
 
 /* "segment 7 (symbol dictionary): invalid Huffman code" */
@@ -49,8 +52,6 @@ struct fault fault_of_pdf(uint32_t error, const struct text *reason);
 /* What can be done about a page or a file that is refused, or "". */
 const char *hint_after(uint32_t answer, enum way way);
 
-/* Whether a page of a file ends as it has to. */
-bool has_one_end(const struct segment_list *list, uint32_t page);
 /* The faults of a file as a whole. */
 void find_faults_of_file(const struct document *document, struct faults *faults);
 

@@ -85,23 +85,18 @@ static const struct segment *find_segment(struct search *search, const struct sl
 }
 
 /* Makes the globals of a file once more for its page alone. */
-static uint32_t make_globals(struct search *search, bool is_salvage) {
+static void make_globals(struct search *search) {
     const struct attempt *attempt = search->attempt;
     const hayro_jbig2_memory *memory = &attempt->painter->budget.memory;
     struct slice slice;
-    uint32_t answer = HAYRO_JBIG2_OK;
     if (attempt->document->kind != KIND_FILE) {
         search->globals = attempt->source->handle;
-        return HAYRO_JBIG2_OK;
+        return;
     }
     cut_slice(&slice, attempt->list, false, 0);
-    if (slice.count > 0 && is_salvage)
-        answer = hayro_jbig2_globals_new_salvaged(memory, search->work, slice.bytes, slice.length, &search->globals);
-    else if (slice.count > 0)
-        answer =
-            hayro_jbig2_globals_new_within(memory, true, search->work, slice.bytes, slice.length, &search->globals);
+    if (slice.count > 0)
+        hayro_jbig2_globals_new_salvaged(memory, search->work, slice.bytes, slice.length, &search->globals);
     free_slice(&slice);
-    return answer;
 }
 
 static uint32_t open_search(struct search *search, const struct attempt *attempt, const struct drawn *drawn) {
@@ -122,7 +117,7 @@ static struct fault search_for_fault(struct search *search, const struct drawn *
     hayro_jbig2_left_out left_out = {0};
     struct fault fault = {.error = error};
     struct slice slice;
-    make_globals(search, true);
+    make_globals(search);
     if (!is_embedded && search->globals != NULL)
         hayro_jbig2_globals_get_left_out(search->globals, &left_out);
     if (left_out.segments > 0 && left_out.error == error) {
@@ -147,22 +142,4 @@ struct fault locate_fault(const struct attempt *attempt, const struct drawn *dra
         fault = search_for_fault(&search, drawn, error);
     close_search(&search);
     return fault;
-}
-
-uint32_t strict_error_of_page(const struct attempt *attempt, const struct drawn *drawn) {
-    struct attempt strictly = *attempt;
-    struct search search;
-    struct slice slice;
-    strictly.is_strict = true;
-    uint32_t answer = open_search(&search, &strictly, drawn);
-    if (answer == HAYRO_JBIG2_OK)
-        answer = make_globals(&search, false);
-    if (answer == HAYRO_JBIG2_OK) {
-        cut_slice(&slice, attempt->list, attempt->document->kind != KIND_FILE, drawn->number);
-        answer = error_of_page(&search, &slice, slice.length);
-        free_slice(&slice);
-    }
-    close_search(&search);
-    /* Where there was no room to look, nothing was found. */
-    return answer == HAYRO_JBIG2_OUT_OF_MEMORY ? HAYRO_JBIG2_OK : answer;
 }

@@ -1,5 +1,5 @@
 /* The segments of a file, an embedded page or globals, by their headers (T.88, 7.2 and Annex D). Nothing that is drawn
- * depends on this list: it is for `info`, for messages, and to see what the end of the bytes cuts off. */
+ * depends on this list but for the end of a line after the last segment: it is for `info` and for messages. */
 #ifndef HAYRO_TOOL_SEGMENTS_H
 #define HAYRO_TOOL_SEGMENTS_H
 

@@ -5,7 +5,7 @@ import ctypes
 import dataclasses
 from ctypes import POINTER, byref, c_bool, c_char_p, c_size_t, c_uint32, c_uint64, c_void_p
 
-OK, OUT_OF_MEMORY, NO_SUCH_PAGE = 0, 41, 101
+OK, NO_SUCH_PAGE, WORK_LIMIT = 0, 101, 103
 NO_LIMIT = 2**64 - 1
 
 

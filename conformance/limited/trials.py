@@ -5,7 +5,7 @@ import dataclasses
 import hashlib
 from collections.abc import Callable, Iterator
 
-from .library import NO_LIMIT, OK, OUT_OF_MEMORY, Context, Drawn, Library, Made, Page
+from .library import NO_LIMIT, OK, WORK_LIMIT, Context, Drawn, Library, Made, Page
 from .memory import CountingMemory
 from .subjects import Subject
 
@@ -128,11 +128,11 @@ class Trial:
                 return made.answer
 
         free = answer(NO_LIMIT)
-        self.check(free != OUT_OF_MEMORY, "what pages share is decoded without a limit")
-        units = least(lambda work: work >= LARGE or answer(work) != OUT_OF_MEMORY)
+        self.check(free != WORK_LIMIT, "what pages share is decoded without a limit")
+        units = least(lambda work: work >= LARGE or answer(work) != WORK_LIMIT)
         self.check(answer(units) == free, f"what pages share is the same within {units}")
         for work in limits_below(units, self.every):
-            self.check(answer(work) == OUT_OF_MEMORY, f"what pages share is refused within {work} of {units}")
+            self.check(answer(work) == WORK_LIMIT, f"what pages share is refused within {work} of {units}")
         memories = CountingMemory(), CountingMemory()
         for work, memory in zip((0, units), memories):
             answer(work, memory)
@@ -148,7 +148,7 @@ class Trial:
             context = Context(made)
             example = context.drawn(self.example)
             free, large = context.drawn(page), context.drawn(page, LARGE)
-            self.check(free.left == NO_LIMIT and free.answer != OUT_OF_MEMORY, "a page is drawn without a limit")
+            self.check(free.left == NO_LIMIT and free.answer != WORK_LIMIT, "a page is drawn without a limit")
             units = LARGE - large.left
             self.check(self.subject.units in (None, units), f"{self.subject.units} units are paid, not {units}")
             self.check(units < LARGE and large.is_same(free), "a page is the same within a large limit")
@@ -156,7 +156,7 @@ class Trial:
             self.check(exact.left == 0 and exact.is_same(free), f"a page is the same within {units}, which is used up")
             for work in limits_below(units, self.every):
                 refused = context.within(page, work)
-                self.check(refused == (OUT_OF_MEMORY, 0), f"{work} of {units} units are refused, not {refused}")
+                self.check(refused == (WORK_LIMIT, 0), f"{work} of {units} units are refused, not {refused}")
             self.check(context.drawn(self.example) == example and example.answer == OK, "the example is drawn after")
             self.check(context.drawn(page).is_same(free), "a page is drawn without a limit after refusals")
         return free

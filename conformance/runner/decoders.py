@@ -3,7 +3,8 @@
 Words of a command: {in} the file, {out} where the picture goes (standard output if no word has it), {page} the page
 from 0, {pdf} a PDF file of this page alone, {program} this repository's own. In a command for embedded pages {in} is
 the page's stream and {globals} what it shares; that word is left out if it shares nothing. Without such a command a
-file is made of the page.
+file is made of the page. {stream} and {shared} are the two streams that such a PDF file has of any page, the second of
+no bytes if nothing is shared, {width} and {height} the size that it says.
 """
 from __future__ import annotations
 
@@ -14,7 +15,16 @@ import shlex
 import shutil
 import subprocess
 
+from .mistake import Mistake
+
 ROOT = pathlib.Path(__file__).resolve().parents[2]
+# What the scripts of conformance/peers make.
+PEERS = ROOT / "conformance" / "out"
+PDFJS = ROOT / "conformance" / "peers" / "pdfjs.mjs"
+# The streams of a PDF file and its size, for decoders that take these.
+OF_PDF = "{stream} {shared} {width} {height} {out}"
+# The words of a command that stand for the data.
+INPUTS = ("{in}", "{pdf}", "{stream}")
 JBIG2DEC = "jbig2dec -t pbm -o {out}"
 GS = "gs -q -dSAFER -dBATCH -dNOPAUSE -sDEVICE=pbmraw -r72"
 
@@ -22,7 +32,8 @@ GS = "gs -q -dSAFER -dBATCH -dNOPAUSE -sDEVICE=pbmraw -r72"
 @dataclasses.dataclass(frozen=True)
 class Decoder:
     """A decoder: its command, the one for embedded pages if that is another, its word for strict reading if the
-    manifest has its answers by both readings, its Debian package, and the decoder whose library it calls."""
+    manifest has its answers by both readings, its Debian package, and the decoder whose library it calls. `peer` is the
+    script that makes it of a source package, whose version is then in the file `version` of its folder."""
 
     name: str
     command: str
@@ -30,6 +41,7 @@ class Decoder:
     strict: str = ""
     package: str = ""
     library: str = ""
+    peer: str = ""
 
     def takes_stream(self, has_globals: bool) -> bool:
         """Whether it has a command for an embedded page; one without {globals} is for pages that share nothing."""
@@ -37,11 +49,20 @@ class Decoder:
 
     def missing(self) -> str | None:
         """The program, where it isn't there."""
+        if self.peer and not self.version_file.exists():
+            return f"{self.name}, which conformance/peers/{self.peer} makes,"
         program = shlex.split(self.command)[0].format(program=own_program())
         return None if shutil.which(program) else program
 
+    @property
+    def version_file(self) -> pathlib.Path:
+        """The file with the version of what its script has made."""
+        return PEERS / self.name / "version"
+
     def version(self) -> str:
         """The version of its Debian package."""
+        if self.peer:
+            return self.version_file.read_text(encoding="utf-8").strip()
         if not self.package:
             return "this tree"
         words = ["dpkg-query", "-W", "-f", "${Version}", self.package]
@@ -55,6 +76,8 @@ DECODERS = (
     Decoder("mutool", "mutool draw -q -F pbm -r 72 -o {out} {pdf} 1", package="mupdf-tools", library="jbig2dec"),
     Decoder("gs", f"{GS} -sOutputFile={{out}} {{pdf}}", package="ghostscript", library="jbig2dec"),
     Decoder("pdfimages", "pdfimages {pdf} {out}", package="poppler-utils"),
+    Decoder("pdfium", f"{shlex.quote(str(PEERS / 'pdfium-jbig2'))} {OF_PDF}", package="chromium", peer="pdfium"),
+    Decoder("pdf.js", f"node {shlex.quote(str(PDFJS))} {OF_PDF}", package="pdf.js", peer="pdfjs"),
 )
 
 
@@ -68,8 +91,10 @@ def decoder_of(words: list[str]) -> Decoder:
     for decoder in DECODERS:
         if words == [decoder.name]:
             return decoder
-    if not any("{in}" in word or "{pdf}" in word for word in words):
+    if not any(name in word for word in words for name in INPUTS):
         names = ", ".join(decoder.name for decoder in DECODERS)
-        raise ValueError(f"{shlex.join(words)} is none of {names}, and has neither {{in}} nor {{pdf}}")
+        raise Mistake(
+            f"{shlex.join(words)} is none of {names}, and has none of {', '.join(INPUTS)}; options stand before the command"
+        )
     command = shlex.join(words)
     return Decoder(words[0], command, command if "{globals}" in command else "")

@@ -7,14 +7,11 @@ import hashlib
 import pathlib
 
 from .embedding import Embedded, embedded_page, file_of
+from .mistake import Mistake
 from .pictures import plain
 
 PICTURE = "picture"
 ANY = "any"
-
-
-class OtherSuite(Exception):
-    """The files are not those of the manifest."""
 
 
 @dataclasses.dataclass(frozen=True)
@@ -81,8 +78,13 @@ def entry_of(line: dict[str, str]) -> Entry:
 
 def read_manifest(path: pathlib.Path) -> list[Entry]:
     """The entries of a manifest."""
-    with path.open(newline="", encoding="utf-8") as file:
-        return [entry_of(line) for line in csv.DictReader(file, delimiter="\t", quoting=csv.QUOTE_NONE)]
+    try:
+        with path.open(newline="", encoding="utf-8") as file:
+            return [entry_of(line) for line in csv.DictReader(file, delimiter="\t", quoting=csv.QUOTE_NONE)]
+    except OSError as fault:
+        raise Mistake(f"there is no suite in {path.parent} ({fault.strerror}: {path})") from fault
+    except (AttributeError, KeyError, ValueError) as fault:
+        raise Mistake(f"{path} is no manifest of a suite") from fault
 
 
 @dataclasses.dataclass(frozen=True)
@@ -101,14 +103,21 @@ class Sample:
 
 def read_sample(folder: pathlib.Path, entry: Entry) -> Sample:
     """The bytes of an entry, from the folder that the suite was made into."""
+    try:
+        sample, data = read_files(folder, entry)
+    except OSError as fault:
+        raise Mistake(f"the suite lacks a file ({fault.strerror}: {fault.filename})") from fault
+    if hashlib.sha256(data).hexdigest() != entry.sha256:
+        raise Mistake(f"{folder / entry.name} is another file than the one of the manifest")
+    return sample
+
+
+def read_files(folder: pathlib.Path, entry: Entry) -> tuple[Sample, bytes]:
+    """An entry with its bytes, and those that its sum is of."""
     if entry.is_embedded:
         shared = folder / f"{entry.name}.globals.jb2"
         stream = (folder / f"{entry.name}.page.jb2").read_bytes()
         page = Embedded(stream, shared.read_bytes() if shared.exists() else b"")
-        sample, data = Sample(entry, file_of(page), page), page.stream + page.shared
-    else:
-        data = (folder / f"{entry.name}.jb2").read_bytes()
-        sample = Sample(entry, data, embedded_page(data, entry.page))
-    if hashlib.sha256(data).hexdigest() != entry.sha256:
-        raise OtherSuite(f"{entry.name} is another file than the one of the manifest")
-    return sample
+        return Sample(entry, file_of(page), page), page.stream + page.shared
+    data = (folder / f"{entry.name}.jb2").read_bytes()
+    return Sample(entry, data, embedded_page(data, entry.page)), data

@@ -6,7 +6,8 @@ import hashlib
 import re
 
 NEWLINE_OR_COMMENT = re.compile(rb"(?:\s|#[^\n]*\n)*")
-NUMBER = re.compile(rb"\d+")
+# A side has at most 65535 pixels.
+NUMBER = re.compile(rb"\d{1,6}(?!\d)")
 CALL = re.compile(rb"(push_pixel_chunk|push_pixel|next_line)(?: (true|false))?(?: (\d+))?\n?")
 
 
@@ -77,6 +78,8 @@ def first_picture(data: bytes) -> tuple[Picture, bytes]:
         sides.append(int(number[0]))
         place = number.end()
     width, height = sides
+    if width == 0 or height == 0:
+        raise NoPicture(f"a PBM file of {width} by {height} pixels")
     if data[:2] == b"P1":
         return of_digits(data[place:], width, height)
     size = (width + 7) // 8 * height

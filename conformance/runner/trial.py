@@ -8,13 +8,10 @@ import shlex
 import tempfile
 
 from .decoders import Decoder, own_program
-from .embedding import pdf_of
-from .limits import Ended, Limits, run
+from .embedding import pdf_of, size_in_pdf
+from .limits import MEMORY, Ended, Limits, run
 from .manifest import PICTURE, Entry, Sample
 from .pictures import NoPicture, Picture, pictures_of
-
-# A folder in memory, where there is one.
-MEMORY = "/dev/shm" if pathlib.Path("/dev/shm").is_dir() else None
 
 
 class Verdict(enum.Enum):
@@ -32,12 +29,13 @@ class Verdict(enum.Enum):
 @dataclasses.dataclass(frozen=True)
 class Outcome:
     """What a decoder made of an entry: the verdict, its message, and whether the manifest allows it. `fault` says
-    what is against the manifest."""
+    what is against the manifest. `picture` is what it drew."""
 
     entry: Entry
     verdict: Verdict
     message: str
     fault: str = ""
+    picture: Picture | None = None
 
     @property
     def is_allowed(self) -> bool:
@@ -73,6 +71,10 @@ def filled(command: Command, sample: Sample, folder: pathlib.Path) -> list[str]:
         names["globals"] = written(folder / "globals.jb2", sample.globals)
     if command.has("pdf"):
         names["pdf"] = written(folder / "page.pdf", pdf_of(sample.page, sample.entry.height))
+    if command.has("stream"):
+        names["stream"] = written(folder / "stream.jb2", sample.page.stream)
+        names["shared"] = written(folder / "shared.jb2", sample.page.shared)
+        names["width"], names["height"] = map(str, size_in_pdf(sample.page, sample.entry.height))
     return [replaced(word, names) for word in command.words if "{globals}" not in word or sample.globals]
 
 
@@ -94,12 +96,13 @@ def drawn(command: Command, sample: Sample, limits: Limits) -> tuple[Ended, Pict
     with tempfile.TemporaryDirectory(dir=MEMORY) as name:
         folder = pathlib.Path(name)
         ended = run(filled(command, sample, folder), limits)
-        outputs = [path.read_bytes() for path in sorted(folder.glob("out*"))]
+        outputs = [path.read_bytes() for path in sorted(folder.glob("out*")) if path.is_file()]
     try:
         pictures = pictures_of(b"".join(outputs) if outputs else ended.output)
     except NoPicture as fault:
         return dataclasses.replace(ended, errors=ended.errors or str(fault).encode()), None
-    place = 0 if command.has("page") or command.has("pdf") or command.takes_stream else sample.entry.page
+    is_alone = command.takes_stream or any(command.has(name) for name in ("page", "pdf", "stream"))
+    place = 0 if is_alone else sample.entry.page
     return ended, pictures[place] if place < len(pictures) else None
 
 
@@ -142,10 +145,10 @@ def tried(decoder: Decoder, sample: Sample, limits: Limits) -> Outcome:
     ended, picture = drawn(command, sample, limits)
     verdict = verdict_on(entry, ended, picture)
     if not decoder.strict:
-        return Outcome(entry, verdict, ended.message, fault_of(entry, verdict))
+        return Outcome(entry, verdict, ended.message, fault_of(entry, verdict), picture)
     program, *others = command.words
     strictly = drawn(Command([program, decoder.strict, *others], command.takes_stream), sample, limits)
     answers = {"lenient": (answer_of(entry, ended, picture), entry.lenient)}
     answers["strict"] = (answer_of(entry, *strictly), entry.strict)
     faults = [f"{mode}: {answer}, not {meant}" for mode, (answer, meant) in answers.items() if answer != meant]
-    return Outcome(entry, verdict, ended.message, "; ".join(faults))
+    return Outcome(entry, verdict, ended.message, "; ".join(faults), picture)

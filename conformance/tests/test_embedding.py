@@ -4,7 +4,8 @@ import tempfile
 import unittest
 
 from conformance.runner.embedding import Embedded, embedded_page, file_of, pdf_of, size_in_pdf
-from conformance.runner.manifest import OtherSuite, read_sample
+from conformance.runner.manifest import read_sample
+from conformance.runner.mistake import Mistake
 from conformance.runner.segments import segments_of_file, sequential, unknown_length
 from conformance.tests.small_suite import CROSS, TABLE, written
 from jbig2_encoder.framing import HEADER, page_information, segment
@@ -68,7 +69,7 @@ class EmbeddingTest(unittest.TestCase):
     def test_other_files_are_refused(self):
         folder = pathlib.Path(self.folder.name)
         (folder / "sequential.jb2").write_bytes(HEADER)
-        with self.assertRaises(OtherSuite):
+        with self.assertRaises(Mistake):
             read_sample(folder, self.samples["sequential"].entry)
 
 

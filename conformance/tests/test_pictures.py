@@ -29,7 +29,8 @@ class PicturesTest(unittest.TestCase):
         self.assertEqual(pictures_of(output), [of_numbers([(1 << 17) - 2], 17)])
 
     def test_what_is_no_picture(self):
-        pictures = (b"P5\n1 1\n255\n\0", b"P4\n9\n", b"P4\n9 2\n\0", b"P1\n2 2\n101")
+        pictures = (b"P5\n1 1\n255\n\0", b"P4\n9\n", b"P4\n9 2\n\0", b"P1\n2 2\n101", b"P4\n0 999999\n")
+        pictures += (b"P4\n" + b"1" * 5000 + b" 1\n",)
         for output in (*pictures, b"push_pixel true\n", b"next_line\nx"):
             with self.subTest(output), self.assertRaises(NoPicture):
                 pictures_of(output)

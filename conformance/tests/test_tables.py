@@ -1,18 +1,12 @@
-"""Tables of outcomes, and the whole command over a small suite."""
+"""Tables of outcomes."""
 import pathlib
-import subprocess
-import sys
 import tempfile
 import unittest
 
 from conformance.runner import document, tables
-from conformance.runner.decoders import DECODERS, ROOT
-from conformance.runner.manifest import read_manifest
-from conformance.runner.pictures import of_numbers
+from conformance.runner.decoders import DECODERS
 from conformance.runner.trial import Outcome, Verdict
-from conformance.tests.small_suite import CROSS, write_manifest, written
-
-RUN = str(ROOT / "conformance" / "run")
+from conformance.tests.small_suite import written
 
 
 class TablesTest(unittest.TestCase):
@@ -62,37 +56,6 @@ class TablesTest(unittest.TestCase):
         self.assertIn("2 pages of 2 files to draw, and 1 pages that may have any result.", text)
         self.assertIn("| cut-off | 1 | refused |", text)
         self.assertIn("### jbig2dec", text)
-
-
-class CommandTest(unittest.TestCase):
-    def setUp(self):
-        name = tempfile.TemporaryDirectory()
-        self.addCleanup(name.cleanup)
-        self.folder = pathlib.Path(name.name)
-        self.samples = written(self.folder)
-        write_manifest(self.folder, list(self.samples.values()))
-
-    def run_on(self, *words: str) -> subprocess.CompletedProcess:
-        return subprocess.run([RUN, "--suite", str(self.folder), *words], capture_output=True, text=True)
-
-    def test_manifest_is_read_as_it_was_written(self):
-        entries = read_manifest(self.folder / "manifest.tsv")
-        self.assertEqual(entries, [sample.entry for sample in self.samples.values()])
-
-    def test_a_decoder_that_always_draws_the_same(self):
-        text = f"open(__import__('sys').argv[2], 'wb').write({of_numbers(list(CROSS), 9).pbm!r})"
-        ended = self.run_on(sys.executable, "-c", text, "{in}", "{out}")
-        self.assertEqual(ended.stdout.splitlines()[-1], "6 pages, 5 as the manifest says, 1 not")
-        self.assertIn("second, page 1 [second]: nothing", ended.stdout)
-        self.assertEqual(ended.returncode, 1)
-        ended = self.run_on("--only", "random", sys.executable, "-c", text, "{in}", "{out}")
-        self.assertEqual(ended.stdout.splitlines()[-1], "1 pages, 1 as the manifest says, 0 not")
-        self.assertEqual(ended.returncode, 0)
-
-    def test_mistakes_of_the_call(self):
-        self.assertEqual(self.run_on("unheard-of").returncode, 2)
-        self.assertEqual(self.run_on("/no/such/program", "{in}").returncode, 2)
-        self.assertEqual(self.run_on().returncode, 2)
 
 
 if __name__ == "__main__":

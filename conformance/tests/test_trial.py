@@ -2,6 +2,7 @@
 import pathlib
 import sys
 import tempfile
+import time
 import unittest
 
 from conformance.runner.decoders import DECODERS, Decoder, decoder_of
@@ -46,10 +47,28 @@ class TrialTest(unittest.TestCase):
             "os.kill(os.getpid(), 11)": Verdict.CRASH,
             "bytearray(1 << 40)": Verdict.REFUSED,
             "exec('while True: pass')": Verdict.LATE,
+            "os.mkdir(out)": Verdict.NOTHING,
         }
         for text, verdict in texts.items():
             with self.subTest(text[:40]):
                 self.assertIs(self.verdict(script(text)), verdict)
+
+    def test_a_decoder_that_waits_for_a_process_of_its_own(self):
+        began = time.monotonic()
+        self.assertIs(self.verdict(script("os.system('sleep 60')")), Verdict.LATE)
+        self.assertLess(time.monotonic() - began, 30)
+
+    def test_an_output_without_end(self):
+        decoder = decoder_of(["sh", "-c", "exec yes", "{in}"])
+        self.assertIs(self.verdict(decoder), Verdict.LATE)
+
+    def test_streams_and_sizes_as_in_a_pdf_file(self):
+        text = "import sys; sys.exit(' '.join([str(len(open(n, 'rb').read())) for n in sys.argv[1:3]] + sys.argv[3:]))"
+        decoder = decoder_of([sys.executable, "-c", text, "{stream}", "{shared}", "{width}", "{height}"])
+        shared = self.samples["shared"].page
+        messages = [tried(decoder, self.samples[name], LIMITS).message for name in ("shared", "second")]
+        lengths = f"{len(shared.stream)} {len(shared.shared)}"
+        self.assertEqual(messages, [f"{lengths} 9 3", f"{len(self.samples['second'].page.stream)} 0 3 3"])
 
     def test_standard_output_and_the_page(self):
         text = f"import sys; sys.stdout.buffer.write({of_numbers(list(RING), 3).pbm!r} if sys.argv[2] == '1' else b'')"

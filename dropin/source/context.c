@@ -70,11 +70,21 @@ static void go_on(struct context *context) {
     context->is_complete = false;
 }
 
+/* Pages may be reading the bytes of a context that became globals. */
+static bool became_globals(struct context *context) {
+    if (context->made.made_of == NULL)
+        return false;
+    jbig2_error(context, SEVERITY_FATAL, NO_SEGMENT, "this context became globals: it takes no data and draws no page");
+    return true;
+}
+
 int jbig2_data_in(struct context *context, const unsigned char *data, size_t size) {
     if (context == NULL || (data == NULL && size > 0))
         return -1;
     if (size == 0)
         return 0;
+    if (became_globals(context))
+        return -1;
     if (context->is_complete)
         go_on(context);
     /* Not every caller looks at what this returns, so a context remembers a piece that it has not. */
@@ -120,6 +130,8 @@ int jbig2_complete_page(struct context *context) {
         return -1;
     if (context->is_complete)
         return context->answer == HAYRO_JBIG2_OK ? 0 : -1;
+    if (became_globals(context))
+        return -1;
     context->is_complete = true;
     context->answer = complete(context);
     tell_lacks(context);

@@ -23,9 +23,9 @@ struct open_file {
 /* What a page, globals or a file lacks, for the listener. */
 struct lacks {
     hayro_jbig2_passed_over passed; /* in a page */
-    hayro_jbig2_left_out left_out;  /* by salvage */
-    uint32_t why;                   /* strict reading refuses the list of segments */
-    uint32_t cut_at, ended_at;      /* the segments where strict reading stops and where the other readings do */
+    hayro_jbig2_left_out left_out;  /* of a list of segments, and pages of a file */
+    bool has_unknown;
+    uint32_t unknown; /* the first segment of an unknown type, which the decoder doesn't count */
 };
 
 struct context {
@@ -42,9 +42,6 @@ struct context {
     struct lacks lacks;
     struct globals made; /* what jbig2_make_global_ctx makes of the context */
 };
-
-/* Reasons for which the decoder has one number alone, HAYRO_JBIG2_OUT_OF_MEMORY. */
-enum { PAST_THE_LIMIT = 1000, NO_MEMORY_OR_PAST_THE_LIMIT };
 
 /* messages.c: the listener is called last, when nothing is half done */
 
@@ -73,9 +70,6 @@ uint32_t read_file(const hayro_jbig2_memory *memory, const struct bytes *bytes, 
 uint64_t least_work(void);
 /* Limits the work of the page that is drawn in the room next: by its pixels. */
 uint32_t limit_room(hayro_jbig2_context *room, const hayro_jbig2_page_info *info);
-/* The reason for an answer: of a page that was drawn in the room, and of globals or of what pages of a file share. */
-uint32_t reason_of_page(hayro_jbig2_context *room, uint32_t answer);
-uint32_t reason_of_shared(uint32_t answer);
 
 /* drawing.c */
 
@@ -86,17 +80,11 @@ uint32_t copy_out(struct context *context, hayro_jbig2_context *room, const hayr
                   struct page **page);
 uint32_t draw_embedded(struct context *context, struct page **page);
 
-/* headers.c */
-
-/* Whether reading a list of segments stops before its end, and at which: NO_SEGMENT where its number is cut off. Strictly,
- * a segment of an unknown type stops it too. */
-bool stops_early(const uint8_t *at, size_t length, bool is_strict, uint32_t *segment);
-
 /* left_out.c */
 
-/* Notes why strict reading refuses the list of segments that were gathered. The other readings leave out a segment that
-   is cut off or of an unknown type, and don't count it. */
-uint32_t look_for_left_out(struct context *context);
+/* Notes the first segment of an unknown type in the list that was gathered. Globals are a list without a file's header,
+   whatever their context is. The headers take memory. */
+uint32_t look_for_unknown(struct context *context, bool is_file);
 /* One warning of each kind, with the number of the first segment. They are given once. */
 void tell_lacks(struct context *context);
 

@@ -29,7 +29,7 @@ static uint32_t draw(struct context *context, hayro_jbig2_page *stream, struct p
     if (answer == HAYRO_JBIG2_OK)
         answer = limit_room(room, &info);
     if (answer == HAYRO_JBIG2_OK)
-        answer = reason_of_page(room, hayro_jbig2_page_draw(stream, room));
+        answer = hayro_jbig2_page_draw(stream, room);
     if (answer == HAYRO_JBIG2_OK)
         answer = copy_out(context, room, &info, page);
     hayro_jbig2_context_free(room);
@@ -38,10 +38,9 @@ static uint32_t draw(struct context *context, hayro_jbig2_page *stream, struct p
 
 uint32_t draw_embedded(struct context *context, struct page **page) {
     hayro_jbig2_page *stream = NULL;
-    uint32_t answer = look_for_left_out(context);
-    if (answer != HAYRO_JBIG2_OK)
-        return answer;
-    answer = new_stream(context, &stream);
+    uint32_t answer = look_for_unknown(context, false);
+    if (answer == HAYRO_JBIG2_OK)
+        answer = new_stream(context, &stream);
     if (answer == HAYRO_JBIG2_OK) {
         /* The decoder has a copy of them. */
         clear_bytes(context->allocator, &context->bytes);

@@ -3,7 +3,7 @@
 uint32_t open_file(struct context *context) {
     struct open_file *open = &context->open;
     const struct bytes *bytes = &context->bytes;
-    uint32_t answer = look_for_left_out(context);
+    uint32_t answer = look_for_unknown(context, true);
     if (answer == HAYRO_JBIG2_OK)
         answer = read_file(&context->memory, bytes, &open->file);
     if (answer == HAYRO_JBIG2_OK)
@@ -36,6 +36,6 @@ uint32_t draw_next(struct context *context, struct page **page) {
     if (answer == HAYRO_JBIG2_OK)
         answer = limit_room(open->room, &info);
     if (answer == HAYRO_JBIG2_OK)
-        answer = reason_of_page(open->room, hayro_jbig2_file_draw(open->file, index, open->room));
+        answer = hayro_jbig2_file_draw(open->file, index, open->room);
     return answer == HAYRO_JBIG2_OK ? copy_out(context, open->room, &info, page) : answer;
 }

@@ -26,15 +26,3 @@ uint32_t limit_room(hayro_jbig2_context *room, const hayro_jbig2_page_info *info
     uint64_t least = least_work(), work = for_a_pixel * info->width * info->height;
     return hayro_jbig2_context_set_work_limit(room, work < least ? least : work);
 }
-
-uint32_t reason_of_page(hayro_jbig2_context *room, uint32_t answer) {
-    uint64_t left = 1;
-    if (answer == HAYRO_JBIG2_OUT_OF_MEMORY)
-        hayro_jbig2_context_get_work_left(room, &left);
-    return left == 0 ? PAST_THE_LIMIT : answer;
-}
-
-uint32_t reason_of_shared(uint32_t answer) {
-    bool is_limited = least_work() != HAYRO_JBIG2_NO_WORK_LIMIT;
-    return is_limited && answer == HAYRO_JBIG2_OUT_OF_MEMORY ? NO_MEMORY_OR_PAST_THE_LIMIT : answer;
-}

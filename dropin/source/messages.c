@@ -21,20 +21,9 @@ void tell(struct context *context, enum severity severity, uint32_t segment, con
         context->listen(context->listener_data, text, severity, segment);
 }
 
-static const char *text_of(uint32_t answer) {
-    switch (answer) {
-    case PAST_THE_LIMIT:
-        return "the limit of work is reached";
-    case NO_MEMORY_OR_PAST_THE_LIMIT:
-        return "out of memory, or the limit of work is reached";
-    default:
-        return hayro_jbig2_error_text(answer);
-    }
-}
-
 void tell_answer(struct context *context, enum severity severity, uint32_t segment, const char *what, uint32_t answer) {
     char text[LONGEST];
-    snprintf(text, sizeof text, "%s: %s", what, text_of(answer));
+    snprintf(text, sizeof text, "%s: %s", what, hayro_jbig2_error_text(answer));
     tell(context, severity, segment, text);
 }
 

@@ -12,6 +12,11 @@
 #define REGION \
     "\0\0\0\2\x26\0\1\0\0\0\x1A\0\0\0\1\0\0\0\1\0\0\0\0\0\0\0\0\0\0\x03\xFF\xFD\xFF\x02\xFE\xFE\xFE"
 #define BAD_SYMBOLS(page) "\0\0\0\1\0\0" page "\0\0\0\x0F\0\x09\0\0\0\1\0\0\0\1\x5F\x80\x80\0\x40"
+/* Number 2, a dictionary of one black symbol, and number 3, a text region of one symbol. */
+#define GOOD_SYMBOLS "\0\0\0\2\0\0\1\0\0\0\x0F\0\1\0\0\0\1\0\0\0\1\x5F\x80\x80\0\x40"
+#define TEXT(references) \
+    "\0\0\0\3\6" references "\1\0\0\0\x2D\0\0\0\x08\0\0\0\1\0\0\0\0\0\0\0\0\0\0\x11\0\0\0\0\0\1\1" \
+    "\0\0\0\0\0\0\0\0\0\0\0\0\0\0\0\0\0\0\4"
 /* A header that refers to its own number. */
 #define JUNK "                "
 enum { SPACES = 0x20202020 };
@@ -24,6 +29,10 @@ enum { SPACES = 0x20202020 };
 #define UNKNOWN_ARITHMETIC UNKNOWN_LENGTH("\2") TEMPLATE "\xFF\xAC\0\0\0\1"
 #define UNKNOWN_MMR UNKNOWN_LENGTH("\3") "\1\x80\0\0\0\0\0\1"
 #define UNMARKED UNKNOWN_LENGTH("\5") TEMPLATE "\xFF\xAC\0\0\0"
+/* An extension of unknown length, which strict reading refuses, and a segment of an unknown type. */
+#define OPEN_EXTENSION \
+    "\0\0\0\3\x3E\0\1\xFF\xFF\xFF\xFF\0\0\0\1\0\0\0\1\0\0\0\0\0\0\0\0\0" TEMPLATE "\xFF\xAC\0\0\0\1"
+#define UNKNOWN_TYPE(number) "\0\0\0" number "\x3F\0\1\0\0\0\0"
 #define FILE_HEADER "\x97JB2\r\n\x1A\n"
 
 /* The bytes of a literal without its end. */
@@ -74,20 +83,76 @@ static const char miscounted[] = "the rest of the segments is left out: invalid 
 
 /* The number of a segment of another form is found after those of each form. */
 static void tells_which_segment_is_left_out(void) {
-    draws(false, BYTES(PAGE REGION "\0\0\0\7\x3F"), 0x80, 1, 7, unknown);
+    draws(false, BYTES(PAGE REGION "\0\0\0\7\x3F"), 0x80, 1, 7, cut);
     draws(false, BYTES(PAGE REGION "\0\0\0\7"), 0x80, 1, 7, cut);
     draws(false, BYTES(PAGE REGION "\0\0\0"), 0x80, 1, NO_SEGMENT, cut);
     draws(false, BYTES(PAGE REGION "\0\0\0\7\x26\0\1\0\0\0\1"), 0x80, 1, 7, cut);
     draws(true, BYTES(FILE_HEADER "\3" PAGE REGION "\0\0\0\7\x26\0\1\0\0\0\1"), 0x80, 1, 7, cut);
-    draws(true, BYTES(FILE_HEADER "\1\0\0\0\1" PAGE REGION "\0\0\0\7\x3F"), 0x80, 1, 7, unknown);
+    draws(true, BYTES(FILE_HEADER "\1\0\0\0\1" PAGE REGION "\0\0\0\7\x3F"), 0x80, 1, 7, cut);
     /* Page associations, references and counts of four bytes. */
-    draws(false, BYTES(PAGE REGION LONG_FORMS "\0\1\0\3\x3F"), 0x80, 1, 0x10003, unknown);
+    draws(false, BYTES(PAGE REGION LONG_FORMS "\0\1\0\3\x3F"), 0x80, 1, 0x10003, cut);
     draws(false, BYTES(PAGE REGION LONG_FORMS "\0\0\0\7\x30\xA0"), 0x80, 1, 7, miscounted);
     draws(false, BYTES(PAGE REGION LONG_FORMS "\0\0\0\7\x30\xFF\xFF\xFF\xFF"), 0x80, 1, 7, cut);
     /* Unknown lengths, with MMR data and without. */
-    draws(false, BYTES(PAGE UNKNOWN_ARITHMETIC "\0\0\0\7\x3F"), 0x80, 1, 7, unknown);
-    draws(false, BYTES(PAGE REGION UNKNOWN_MMR "\0\0\0\7\x3F"), 0x80, 1, 7, unknown);
+    draws(false, BYTES(PAGE UNKNOWN_ARITHMETIC "\0\0\0\7\x3F"), 0x80, 1, 7, cut);
+    draws(false, BYTES(PAGE REGION UNKNOWN_MMR "\0\0\0\7\x3F"), 0x80, 1, 7, cut);
     draws(false, BYTES(PAGE REGION UNMARKED), 0x80, 1, 5, unmarked);
+    draws(false, BYTES(PAGE REGION OPEN_EXTENSION), 0x80, 0, 0, "");
+    draws(false, BYTES(PAGE REGION OPEN_EXTENSION UNKNOWN_TYPE("\6") PAGE_OF("\2", "\0\0\0\1")), 0x80, 1, 6, unknown);
+    draws(true, BYTES(FILE_HEADER "\3" PAGE REGION UNKNOWN_TYPE("\6")), 0x80, 1, 6, unknown);
+    draws(false, BYTES(PAGE REGION OPEN_EXTENSION "\0\0\0\7\x26\0\1\0\0\0\1"), 0x80, 1, 7, cut);
+    /* One of an unknown type, and one that is cut off. */
+    draws(false, BYTES(PAGE REGION UNKNOWN_TYPE("\6") "\0\0\0\7\x26\0\1\0\0\0\1"), 0x80, 2, 7, cut);
+    /* A region that fails, and one that is cut off. */
+    draws(false, BYTES(PAGE BAD_SYMBOLS("\1") REGION "\0\0\0\7\x26\0\1\0\0\0\1"), 0x80, 2, 7, cut);
+}
+
+/* A page of four equal regions, cut off at a third, at a half and before its last byte. */
+static void tells_of_each_cut(void) {
+    static const uint8_t page[] = PAGE REGION REGION REGION REGION;
+    const size_t length = sizeof page - 1;
+    draws(false, page, length, 0x80, 0, 0, "");
+    draws(false, page, length / 3, 0x00, 1, 2, cut);
+    draws(false, page, length / 2, 0x80, 1, 2, cut);
+    draws(false, page, length - 1, 0x80, 1, 2, cut);
+    /* Ghostscript hands in the end of a line after a stream; three bytes are more than that. */
+    draws(false, BYTES(PAGE REGION "\n"), 0x80, 0, 0, "");
+    draws(false, BYTES(PAGE REGION "\r\n"), 0x80, 0, 0, "");
+    draws(false, BYTES(PAGE REGION "\r\r\n"), 0x80, 1, NO_SEGMENT, cut);
+    draws(false, BYTES(PAGE REGION "\0\n"), 0x80, 1, NO_SEGMENT, cut);
+}
+
+/* A text region whose symbol is in globals that are not handed in; and one that refers to number 1 besides. */
+static void tells_of_symbols_that_are_not_there(void) {
+    static const char failed[] = "a segment was passed over: invalid Huffman code";
+    static const char lacking[] = "a segment was passed over: segment refers to an invalid segment";
+    draws(false, BYTES(PAGE TEXT("\x20\1")), 0x00, 1, 3, failed);
+    draws(false, BYTES(PAGE GOOD_SYMBOLS TEXT("\x20\2")), 0x80, 0, 0, "");
+    draws(false, BYTES(PAGE GOOD_SYMBOLS TEXT("\x40\1\2")), 0x80, 1, 3, lacking);
+}
+
+/* The first page of a file is complete, since its end is there; the second one isn't. */
+static void tells_which_page_is_cut_off(void) {
+    static const uint8_t file[] = FILE_HEADER "\3" PAGE REGION "\0\0\0\3\x31\0\1\0\0\0\0" PAGE_OF("\2", "\0\0\0\1")
+        "\0\0\0\4\x26\0\2\0\0\0\x1A\0\0\0\1";
+    struct counted memory = counted_allocator();
+    struct heard heard = {0};
+    struct context *context = file_context(&memory.base, &heard);
+    CHECK(jbig2_data_in(context, file, sizeof file - 1) == 0 && jbig2_complete_page(context) == 0);
+    /* Of the file. */
+    CHECK(heard.count[SEVERITY_WARNING] == 1 && heard.segment == 4 && strcmp(heard.text, cut) == 0);
+    struct image *image = jbig2_page_out(context);
+    CHECK(image != NULL && image->rows[0] == 0x80 && heard.count[SEVERITY_WARNING] == 1);
+    jbig2_release_page(context, image);
+    image = jbig2_page_out(context);
+    CHECK(image != NULL && image->rows[0] == 0x00);
+    /* Of the page. */
+    CHECK(heard.count[SEVERITY_WARNING] == 2 && heard.segment == 4);
+    CHECK(strcmp(heard.text, "a segment was passed over: unexpected end of input") == 0);
+    jbig2_release_page(context, image);
+    CHECK(jbig2_page_out(context) == NULL && heard.count[SEVERITY_FATAL] == 0);
+    jbig2_ctx_free(context);
+    CHECK(memory.held == 0);
 }
 
 /* The same by lenient reading, which the environment asks for; another word asks for nothing. */
@@ -136,10 +201,12 @@ static void tells_of_bad_globals(void) {
     unsetenv("HAYRO_JBIG2_READING");
 }
 
-static void tells_of_cut_globals(void) {
+/* Globals are a list of segments, whatever their context was made for. */
+static void tells_of_cut_globals(bool of_file) {
     struct counted memory = counted_allocator();
     struct heard heard = {0};
-    struct context *context = embedded_context(&memory.base, NULL, &heard);
+    struct context *context =
+        of_file ? file_context(&memory.base, &heard) : embedded_context(&memory.base, NULL, &heard);
     CHECK(jbig2_data_in(context, shared.at, shared.length - 1) == 0);
     struct globals *globals = jbig2_make_global_ctx(context);
     CHECK(heard.count[SEVERITY_WARNING] == 1 && strstr(heard.text, "a segment is left out") != NULL);
@@ -150,7 +217,11 @@ static void tells_of_cut_globals(void) {
 void survives_damage(void) {
     draws_what_is_left();
     tells_which_segment_is_left_out();
+    tells_of_each_cut();
+    tells_of_symbols_that_are_not_there();
+    tells_which_page_is_cut_off();
     reads_leniently_where_it_is_asked_to();
     tells_of_bad_globals();
-    tells_of_cut_globals();
+    tells_of_cut_globals(false);
+    tells_of_cut_globals(true);
 }

@@ -67,6 +67,6 @@ void keeps_to_the_limit_of_work(void) {
     draws_within("0", true, "");
     draws_within("1000000", true, "");
     draws_within("18446744073709551615", true, "");
-    draws_within("1", false, "the page's globals are refused: out of memory, or the limit of work is reached");
+    draws_within("1", false, "the page's globals are refused: the limit of work is reached");
     tells_limits_from_memory();
 }

@@ -186,7 +186,8 @@ static void tells_what_was_passed_over(void) {
 }
 
 /* Whether a page or file is warned of whose last bytes are cut off, or that more bytes follow. */
-static void warns(bool is_file, const struct file *bytes, size_t cut_off, const char *more, const char *why) {
+static void warns(bool is_file, const struct file *bytes, size_t cut_off, const char *more, unsigned warnings,
+                  const char *why) {
     struct counted memory = counted_allocator();
     struct heard heard = {0};
     struct globals *globals = is_file ? NULL : made_globals(&memory.base, &heard);
@@ -198,8 +199,8 @@ static void warns(bool is_file, const struct file *bytes, size_t cut_off, const 
     struct image *image;
     while ((image = jbig2_page_out(context)) != NULL)
         jbig2_release_page(context, image);
-    CHECK(heard.count[SEVERITY_WARNING] == (why != NULL) && heard.count[SEVERITY_FATAL] == 0);
-    CHECK(why == NULL || strstr(heard.text, why) != NULL);
+    CHECK(heard.count[SEVERITY_WARNING] == warnings && heard.count[SEVERITY_FATAL] == 0);
+    CHECK(strstr(heard.text, why) != NULL);
     jbig2_ctx_free(context);
     jbig2_global_ctx_free(globals);
     CHECK(memory.held == 0);
@@ -209,18 +210,19 @@ static void warns(bool is_file, const struct file *bytes, size_t cut_off, const 
  * follows a file. */
 static void tells_what_is_left_out(void) {
     static const char cut[] = "a segment is left out: unexpected end of input";
-    static const char unknown[] = "a segment is left out: unknown or reserved segment type";
-    warns(false, &stream, 0, "", NULL);
-    warns(false, &stream, 0, "\n", NULL);
-    warns(false, &stream, 0, "\r\n", NULL);
-    warns(false, &stream, 0, "\n\r\n", cut);
-    warns(false, &stream, 0, "1234\x3F", unknown);
-    warns(false, &stream, 1, "", cut);
-    warns(false, &stream, 2, "\n", cut);
-    warns(true, &book, 0, "", NULL);
-    warns(true, &book, 0, "more", NULL);
-    warns(true, &book, 1, "", cut);
-    warns(true, &book, 11 + 11 + 1, "", cut);
+    static const char page_cut[] = "a segment was passed over: unexpected end of input";
+    warns(false, &stream, 0, "", 0, "");
+    warns(false, &stream, 0, "\n", 0, "");
+    warns(false, &stream, 0, "\r\n", 0, "");
+    warns(false, &stream, 0, "\n\r\n", 1, cut);
+    warns(false, &stream, 0, "1234\x3F", 1, cut);
+    warns(false, &stream, 1, "", 1, cut);
+    warns(false, &stream, 2, "\n", 1, cut);
+    warns(true, &book, 0, "", 0, "");
+    warns(true, &book, 0, "more", 0, "");
+    /* In the end of the file, and in the last segment of page 3 before its end. */
+    warns(true, &book, 1, "", 1, cut);
+    warns(true, &book, 11 + 11 + 1, "", 2, page_cut);
 }
 
 /* A segment of type 63, and after it one with a bad count of references, which ends the list. */
@@ -238,7 +240,7 @@ static void tells_what_is_left_out_before_the_rest(void) {
     take_in(context, more, sizeof more - 1, 4096);
     CHECK(jbig2_complete_page(context) == 0);
     CHECK(heard.count[SEVERITY_WARNING] == 2 * before + 1);
-    CHECK(heard.segment == 0x7B && strstr(heard.text, "unknown or reserved segment type") != NULL);
+    CHECK(heard.segment == 0x7C && strstr(heard.text, "invalid referred-to segment count") != NULL);
     jbig2_ctx_free(context);
     CHECK(memory.held == 0);
 }

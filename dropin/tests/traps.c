@@ -78,6 +78,27 @@ static void decodes_globals_once(void) {
     CHECK(memory.held == 0 && of_globals.held == 0);
 }
 
+/* What a context took, its globals keep: more data, or a page of its own, would change what pages share. */
+static void takes_no_data_after_it_became_globals(void) {
+    struct counted of_globals = counted_allocator(), memory = counted_allocator();
+    struct heard heard = {0};
+    struct context *gathering = embedded_context(&of_globals.base, NULL, &heard);
+    CHECK(jbig2_data_in(gathering, shared.at, shared.length) == 0);
+    struct globals *globals = jbig2_make_global_ctx(gathering);
+    CHECK(jbig2_data_in(gathering, stream.at, stream.length) == -1 && heard.count[SEVERITY_FATAL] == 1);
+    CHECK(jbig2_complete_page(gathering) == -1 && heard.count[SEVERITY_FATAL] == 2);
+    CHECK(strstr(heard.text, "became globals") != NULL && jbig2_page_out(gathering) == NULL);
+    CHECK(jbig2_make_global_ctx(gathering) == globals);
+    struct context *context = embedded_context(&memory.base, globals, &heard);
+    /* So it draws by the copy of their bytes. */
+    jbig2_global_ctx_free(globals);
+    struct image *image = drawn(context);
+    CHECK(image != NULL && is_meant(image));
+    jbig2_release_page(context, image);
+    jbig2_ctx_free(context);
+    CHECK(memory.held == 0 && of_globals.held == 0 && heard.count[SEVERITY_FATAL] == 2);
+}
+
 /* Ghostscript goes on after a refused piece: what is drawn of the rest would be another page. */
 static void refuses_a_stream_with_a_hole(bool is_in_globals) {
     struct counted memory = counted_allocator();
@@ -244,6 +265,7 @@ void meets_the_traps(void) {
     draws_after_its_globals_are_freed();
     draws_after_the_allocator_of_its_globals_is_gone();
     decodes_globals_once();
+    takes_no_data_after_it_became_globals();
     refuses_a_stream_with_a_hole(false);
     refuses_a_stream_with_a_hole(true);
     takes_blocks_at_multiples_of_8();

@@ -1,12 +1,14 @@
 """Builds the package by a C compiler and Python's own library alone (PEP 517), so that it installs without a network.
 
-CC names the compiler; else it is cc. With a cross compiler PROCESSOR names the processor that the wheel is for.
+CC names the compiler; else it is cc. With a cross compiler PROCESSOR names the processor that the wheel is for. The library is
+the proved text where that fits, else the C of portable/, which HAYRO_JBIG2_PORTABLE=1 takes in any case.
 """
 
 from __future__ import annotations
 
 import base64
 import hashlib
+import importlib.util
 import io
 import os
 import pathlib
@@ -15,6 +17,7 @@ import re
 import shlex
 import subprocess
 import sys
+import sysconfig
 import tarfile
 import tempfile
 import zipfile
@@ -28,7 +31,10 @@ COPIES = ROOT / "native"
 PROCESSORS = {62: "x86_64", 183: "aarch64"}
 TEXT = "dist/{}/libhayro_jbig2.s"
 WRITTEN_IN_C = ("c/memory.c", "c/handles.c", "c/texts.c")
-OTHERS = ("c/hayro_jbig2.h", "c/exports.map", "LICENSE-APACHE", "LICENSE-MIT")
+PORTABLE_NAMES = ("hayro_jbig2_module", "instance", "handles", "drawing", "bytes", "segments")
+PORTABLE = (*(f"portable/{name}.c" for name in PORTABLE_NAMES), "c/handles.c", "c/texts.c")
+PORTABLE_HEADERS = tuple(f"portable/{name}.h" for name in ("hayro_jbig2_module", "instance", "held", "calls", "wasm-rt"))
+OTHERS = ("c/hayro_jbig2.h", "c/exports.map", "dist/processor.h", "LICENSE-APACHE", "LICENSE-MIT")
 INFO = f"{NAME}-{VERSION}.dist-info"
 METADATA_FIELDS = f"""\
 Metadata-Version: 2.1
@@ -37,7 +43,6 @@ Version: {VERSION}
 Summary: A JBIG2 (ITU-T T.88) decoder that is proved
 License: Apache-2.0 OR MIT
 Keywords: jbig2,pdf,t88,verified
-Classifier: Operating System :: POSIX :: Linux
 Classifier: Programming Language :: Python :: 3
 Classifier: Topic :: Multimedia :: Graphics
 Classifier: Typing :: Typed
@@ -61,11 +66,14 @@ def get_requires_for_build_sdist(config_settings=None):
 
 def build_wheel(wheel_directory, config_settings=None, metadata_directory=None):
     """Writes the wheel and returns its name."""
-    library = shared_library()
+    portable = is_portable()
+    library = shared_library(portable)
     platforms = platforms_of(library)
     tags = "".join(f"Tag: py3-none-{name}\n" for name in platforms)
     files = {f"{NAME}/{path.name}": path.read_bytes() for path in sorted(PACKAGE.glob("*")) if is_source(path)}
     files[f"{NAME}/libhayro_jbig2.so"] = library
+    if portable:
+        files[f"{NAME}/_made.py"] = files[f"{NAME}/_made.py"].replace(b"PORTABLE = False", b"PORTABLE = True")
     files.update((f"{INFO}/{name}", content) for name, content in information().items())
     files[f"{INFO}/WHEEL"] = (WHEEL_FIELDS + tags).encode()
     files[f"{INFO}/RECORD"] = record(files).encode()
@@ -86,7 +94,7 @@ def build_sdist(sdist_directory, config_settings=None):
     with tarfile.open(os.path.join(sdist_directory, name), "w:gz") as archive:
         for path in ("pyproject.toml", "README.md", "backend", "src"):
             archive.add(ROOT / path, f"{top}/{path}", filter=without_made_files)
-        for path in (*map(TEXT.format, PROCESSORS.values()), *WRITTEN_IN_C, *OTHERS):
+        for path in (*map(TEXT.format, PROCESSORS.values()), *sorted({*WRITTEN_IN_C, *PORTABLE}), *PORTABLE_HEADERS, *OTHERS):
             archive.add(native(path), f"{top}/native/{path}")
         content = information()["METADATA"]
         entry = tarfile.TarInfo(f"{top}/PKG-INFO")
@@ -119,20 +127,39 @@ def information():
 
 def processor():
     """The processor's name, as the folders of dist/ have it."""
-    name = os.environ.get("PROCESSOR") or platform.machine()
-    if sys.platform != "linux" or sys.maxsize < 2**32 or name not in PROCESSORS.values():
-        raise RuntimeError(f"hayro_jbig2 is for Linux with 64 bits on {' or '.join(PROCESSORS.values())}, not {name}")
-    return name
+    return os.environ.get("PROCESSOR") or platform.machine()
+
+
+def is_portable():
+    """Whether no text fits the machine that the wheel is for."""
+    if os.environ.get("HAYRO_JBIG2_PORTABLE") == "1":
+        return True
+    fits = sys.platform == "linux" and sys.maxsize > 2**32 and processor() in PROCESSORS.values()
+    return not fits or ("PROCESSOR" not in os.environ and is_older_processor())
+
+
+def is_older_processor():
+    """Whether the processor here is below the level that the text for x86-64 needs."""
+    spec = importlib.util.spec_from_file_location("processor", PACKAGE / "_processor.py")
+    module = importlib.util.module_from_spec(spec)
+    spec.loader.exec_module(module)
+    return bool(module.missing_here())
 
 
 def platforms_of(library):
     """The platforms that the library runs on, as wheels name them.
 
-    manylinux (PEP 600) names the oldest glibc. The library may need no other library, and no newer symbols.
+    manylinux (PEP 600) names the oldest glibc. The library may need no other library, and no newer symbols. Elsewhere the
+    platform is that of this Python, or Linux on the processor that a cross compiler makes code for.
     """
-    name = PROCESSORS[int.from_bytes(library[18:20], "little")]
+    name = PROCESSORS.get(int.from_bytes(library[18:20], "little")) if library[:5] == b"\x7fELF\x02" else None
+    if name is None:
+        name = os.environ.get("PROCESSOR")
+        return [f"linux_{name}" if name else re.sub("[-.]", "_", sysconfig.get_platform())]
     libraries = set(re.findall(rb"(?<=\0)[\w.+-]+\.so[.\d]*(?=\0)", library))
     versions = {tuple(map(int, version)) for version in re.findall(rb"GLIBC_(\d+)\.(\d+)", library)}
+    # The loader has thread-local variables, and is part of glibc.
+    libraries = {library for library in libraries if not library.startswith(b"ld-linux")}
     if libraries != {b"libc.so.6"} or not versions:
         return [f"linux_{name}"]
     # 2.17 is the oldest that others still make. Older versions of pip know it as manylinux2014.
@@ -141,15 +168,22 @@ def platforms_of(library):
     return ["manylinux_{}_{}_{}".format(*max(versions), name)]
 
 
-def shared_library():
-    """The library's text and the C files around it, compiled."""
+def shared_library(portable):
+    """The library's text and the C files around it, or the portable C, compiled."""
     compiler = shlex.split(os.environ.get("CC", "cc"))
     words = ["-O2", "-shared", "-fPIC", "-I", str(native("c/hayro_jbig2.h").parent)]
-    words += ["-Wl,-Bsymbolic,-z,defs,-z,relro,-z,now", f"-Wl,--version-script={native('c/exports.map')}"]
-    words += [str(native(path)) for path in (TEXT.format(processor()), *WRITTEN_IN_C)]
+    if sys.platform == "linux":
+        words += ["-Wl,-Bsymbolic,-z,defs,-z,relro,-z,now", f"-Wl,--version-script={native('c/exports.map')}"]
+    if portable:
+        words += ["-I", str(native(PORTABLE[0]).parent), *(str(native(path)) for path in PORTABLE)]
+    else:
+        words += [str(native(path)) for path in (TEXT.format(processor()), *WRITTEN_IN_C)]
     with tempfile.TemporaryDirectory() as folder:
         made = os.path.join(folder, "libhayro_jbig2.so")
-        subprocess.run([*compiler, *words, "-o", made], check=True)
+        try:
+            subprocess.run([*compiler, *words, "-o", made], check=True)
+        except FileNotFoundError:
+            raise RuntimeError(f"there is no C compiler ({compiler[0]}): install one, or set CC to its name") from None
         return pathlib.Path(made).read_bytes()
 
 

@@ -94,17 +94,19 @@ class Command(unittest.TestCase):
         self.assertEqual((width, height, rows), (37, 8, bytes(page.rows)))
 
     def test_what_a_page_lacks_is_said(self):
-        said = "text: page 0: segment 2 is left out: invalid Huffman code\n"
+        said = "text: page 0 is incomplete: segment 2: invalid Huffman code\n"
         self.assertEqual(self.run_command("text", "text.pbm"), (0, "", said))
+        why = "segment 2: unexpected end of input\n"
         for data in TEXT[:-1], HEADER + TEXT[:-1]:
             for words in (), ("--salvage",):
-                said = (0, "", "-: the data ends too early\n")
+                said = (0, "", f"-: page 0 is incomplete: {why}-: the segments end early: {why}")
                 self.assertEqual(self.run_command("-", "text.pbm", *words, data=data), said)
         # The end of a line after a stream in a PDF file.
         self.assertEqual(self.run_command("-", "text.pbm", "--globals", "globals", data=TEXT + b"\r\n"), (0, "", ""))
         status, _, message = self.run_command("-", "text.pbm", "--salvage", data=TEXT + b" " * 16)
         self.assertEqual(status, 0)
-        self.assertIn("-: page 0: the rest is left out: segment refers to an invalid segment\n", message)
+        why = f"segment {0x20202020}: segment refers to an invalid segment\n"
+        self.assertIn(f"-: the segments end early: {why}", message)
         self.assertEqual(self.run_command("text", "other.pbm", "--strict")[0], 1)
         self.assertFalse((self.folder / "other.pbm").exists())
 

@@ -57,7 +57,7 @@ class Pages(unittest.TestCase):
             "00000000 30 00 01 00000013 00000008 00000001" + "00" * 11 + "00000001 26 00 01 0000001A"
             "00000001 00000001 0000000000000000 05 00 03FFFDFF02FEFEFE"
         )
-        passed = hayro_jbig2.decode(stream).passed_over
+        passed = hayro_jbig2.decode(stream, warn=False).passed_over
         self.assertEqual((passed.count, passed.first.segment_number), (1, 1))
         self.assertEqual(passed.first.error.variant, "InvalidCombinationOperator")
         with self.assertRaises(hayro_jbig2.RegionError):
@@ -72,11 +72,13 @@ class Pages(unittest.TestCase):
         data = PAGE.read_bytes()
         with self.assertRaises(hayro_jbig2.HuffmanError):
             hayro_jbig2.decode(data + bad + region)
-        page = hayro_jbig2.decode(data + bad + region + junk, salvage=True)
+        page = hayro_jbig2.decode(data + bad + region + junk, salvage=True, warn=False)
         self.assertEqual(page.rows, b"\x80")
-        self.assertEqual((page.passed_over.count, page.passed_over.first.segment_number), (1, 1))
+        # The one at which the list ends counts too.
+        self.assertEqual((page.passed_over.count, page.passed_over.first.segment_number), (2, 1))
         self.assertEqual(page.passed_over.first.error.variant, "InvalidSelection")
-        self.assertEqual(page.left_out.rest.variant, "InvalidReference")
+        cut_off = page.left_out.cut_off
+        self.assertEqual((cut_off.segment_number, cut_off.error.variant), (0x20202020, "InvalidReference"))
         page = hayro_jbig2.decode(data[:15] + b"\xff" * 4 + data[19:] + region, salvage=True)
         self.assertEqual((page.height, page.rows), (1, b"\x80"))
         with self.assertRaises(hayro_jbig2.FormatError):
@@ -86,10 +88,10 @@ class Pages(unittest.TestCase):
         with self.assertRaises(hayro_jbig2.SegmentError):
             hayro_jbig2.Globals(GLOBALS + b" " * 16)
         shared = hayro_jbig2.Globals(GLOBALS + b" " * 16, salvage=True)
-        self.assertEqual(shared.left_out.rest.variant, "InvalidReference")
+        self.assertEqual(shared.left_out.cut_off.error.variant, "InvalidReference")
         page = hayro_jbig2.decode(TEXT, globals=shared)
-        self.assertEqual((page.rows, page.left_out), (b"\x80", shared.left_out))
-        page = hayro_jbig2.decode(TEXT, globals=b" " * 16, salvage=True)
+        self.assertEqual((page.rows, page.left_out, page.is_complete), (b"\x80", shared.left_out, True))
+        page = hayro_jbig2.decode(TEXT, globals=b" " * 16, salvage=True, warn=False)
         self.assertEqual((page.rows, page.passed_over.count), (b"\0", 1))
 
     def test_salvage_leaves_out_pages_of_a_file(self):
@@ -204,7 +206,7 @@ class Corpus(unittest.TestCase):
         for index in range(len(sizes)):
             status, pbm, message = run_program(*words, "pbm", str(path), str(index))
             try:
-                drawn = hayro_jbig2.decode(data, page=index, strict=strict).to_pbm()
+                drawn = hayro_jbig2.decode(data, page=index, strict=strict, warn=False).to_pbm()
                 self.assertEqual((status, pbm), (0, drawn), path)
             except hayro_jbig2.DecodeError as error:
                 self.assertEqual((status, message), (1, f"error: {error}\n"), path)

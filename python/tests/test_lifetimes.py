@@ -72,7 +72,7 @@ class Values(unittest.TestCase):
         self.assertEqual((other.left_out, other.to_pbm(), other.rows.readonly), (page.left_out, page.to_pbm(), True))
 
     def test_errors_of_pages_are_copied(self):
-        page = hayro_jbig2.decode(lifetimes.TEXT, salvage=True)
+        page = hayro_jbig2.decode(lifetimes.TEXT, salvage=True, warn=False)
         other = pickle.loads(pickle.dumps(page))
         self.assertEqual(str(other.passed_over.first.error), str(page.passed_over.first.error))
         self.assertEqual(type(other.passed_over.first.error), type(page.passed_over.first.error))

@@ -49,7 +49,7 @@ class Files(unittest.TestCase):
                         image.seek(index)
                         self.assertEqual((image.tell(), image.info), (index, {}))
                         self.compare(image, drawn[index])
-                        self.assertEqual(image.info, {"passed_over": 0})
+                        self.assertEqual(image.info, {"passed_over": 0, "is_complete": True})
                     with self.assertRaises(EOFError):
                         image.seek(3)
                     self.compare(image, drawn[2])
@@ -82,8 +82,9 @@ class Files(unittest.TestCase):
 
     def test_what_is_left_out_is_known(self):
         image = Image.open(io.BytesIO(HEADER + TEXT))
-        image.load()
-        self.assertEqual(image.info, {"passed_over": 1})
+        with self.assertWarns(hayro_jbig2.IncompletePageWarning):
+            image.load()
+        self.assertEqual(image.info, {"passed_over": 1, "is_complete": False})
 
     def test_faults(self):
         for data, error in (

@@ -6,15 +6,32 @@ use crate::work::Limit;
 
 /// Room that decoding a page uses and the next page uses again. What an earlier page, or one that was refused, leaves
 /// in it changes nothing of the next page.
-#[derive(Debug, Default)]
+#[derive(Debug)]
 pub struct DecoderContext {
     pub(crate) inner: library::Context,
     pub(crate) limit: Limit,
+    /// Of the page that was decoded last.
+    pub(crate) is_shared_whole: bool,
+}
+
+impl Default for DecoderContext {
+    fn default() -> Self {
+        Self { inner: library::Context::default(), limit: Limit::default(), is_shared_whole: true }
+    }
 }
 
 impl DecoderContext {
-    /// What was passed over of the page that was decoded last; nothing in a new context. `hayro-jbig2` 0.4.0 has no
-    /// such call.
+    /// Whether nothing is known to be missing of the page that was decoded last: no segment of it failed or is cut off,
+    /// and each found what it refers to; nor of its globals, or of what the pages of its file share. `hayro-jbig2` 0.4.0
+    /// has no such call.
+    ///
+    /// Lenient reading forgives more without a count: rows of MMR data after a fault, gray values without a pattern, ids
+    /// without a symbol. Damage within arithmetic data can't be known: the format has no checksum.
+    pub fn is_complete(&self) -> bool {
+        self.passed_over().count == 0 && self.is_shared_whole
+    }
+
+    /// What the page that was decoded last lacks; nothing in a new context. `hayro-jbig2` 0.4.0 has no such call.
     pub fn passed_over(&self) -> PassedOver {
         self.inner.passed_over()
     }

@@ -60,7 +60,7 @@ impl<'a> File<'a> {
         Ok(Self { inner })
     }
 
-    /// What was left out of the file, if it was read by [`salvaged`](Self::salvaged).
+    /// What was left out of the file.
     pub fn left_out(&self) -> LeftOut {
         self.inner.left_out()
     }

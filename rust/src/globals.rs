@@ -53,7 +53,7 @@ impl Globals {
         Self::read(data, Reading::Salvage, Limit::of(work))
     }
 
-    /// What was left out, if they were read by [`salvaged`](Self::salvaged).
+    /// What was left out.
     pub fn left_out(&self) -> LeftOut {
         self.left_out
     }

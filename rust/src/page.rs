@@ -5,7 +5,7 @@ use crate::decoder::{Decoder, push_rows};
 use crate::error::Result;
 use crate::globals::Globals;
 use crate::library::{self, PageInfo, Reading};
-use crate::{DecodeSettings, LeftOut, image};
+use crate::{DecodeSettings, LeftOut, PassedSegment, image};
 
 /// Room for one row at least: a row has at most 65535 pixels.
 const BLOCK: usize = 8192;
@@ -16,6 +16,8 @@ pub struct Page<'a> {
     source: Source<'a>,
     info: PageInfo,
     left_out: LeftOut,
+    /// Whether nothing that it shares with other pages is known to lack something.
+    is_shared_whole: bool,
 }
 
 #[derive(Debug)]
@@ -48,17 +50,28 @@ impl<'a> Page<'a> {
     fn read(data: &[u8], globals: Option<&Globals>, reading: Reading) -> Result<Self> {
         let page = library::Page::new(data, globals.map(|globals| &globals.inner), reading)?;
         let (info, left_out) = (page.info()?, page.left_out()?);
-        Ok(Self { source: Source::Embedded(page), info, left_out })
+        let is_shared_whole = globals.is_none_or(|globals| globals.left_out().passed_over.count == 0);
+        Ok(Self { source: Source::Embedded(page), info, left_out, is_shared_whole })
     }
 
     pub(crate) fn of_file(file: &'a library::File<'a>, index: usize, info: PageInfo) -> Self {
-        Self { source: Source::File { file, index }, info, left_out: file.left_out() }
+        let left_out = file.left_out();
+        let is_shared_whole = left_out.passed_over.count == 0;
+        Self { source: Source::File { file, index }, info, left_out, is_shared_whole }
     }
 
-    /// What was left out of the list of the page's segments, if it was read in salvage; of a page of a file, what was left
-    /// out of the file. [`DecoderContext::passed_over`] has what decoding passes over.
+    /// What was left out of the list of the page's segments; of a page of a file, what was left out of the file.
+    /// [`DecoderContext::passed_over`] has all that the page lacks, once it is decoded. `hayro-jbig2` 0.4.0 has no such
+    /// call.
     pub fn left_out(&self) -> LeftOut {
         self.left_out
+    }
+
+    /// The segment at which the list of an embedded page's segments ends early, if it does. Lenient reading drops one that
+    /// is cut off, salvage any that is refused. Of a page of a file this is the file's, which the page may not need: ask
+    /// [`DecoderContext::is_complete`] after it is decoded. `hayro-jbig2` 0.4.0 has no such call.
+    pub fn cut_off(&self) -> Option<PassedSegment> {
+        self.left_out.cut_off
     }
 
     /// The number that the segments name the page by.
@@ -148,6 +161,7 @@ impl<'a> Page<'a> {
 
     fn draw(&self, ctx: &mut DecoderContext) -> Result<()> {
         let work = ctx.limit.of_page(self.width(), self.height());
+        ctx.is_shared_whole = self.is_shared_whole;
         match &self.source {
             Source::Embedded(page) => page.draw(&mut ctx.inner, work),
             Source::File { file, index } => file.draw(*index, &mut ctx.inner, work),

@@ -2,10 +2,11 @@
 
 use crate::error::DecodeError;
 
-/// What was passed over of a page or of what pages share. Pages lack what these segments draw.
+/// What a page, or what pages share, lacks: segments that failed or are cut off, and those that refer to a segment that
+/// isn't there, which are drawn or kept all the same.
 #[derive(Debug, Clone, Copy, Default, PartialEq, Eq)]
 pub struct PassedOver {
-    /// How many segments were passed over.
+    /// How many segments these are.
     pub count: usize,
     /// The first of them.
     pub first: Option<PassedSegment>,
@@ -14,24 +15,24 @@ pub struct PassedOver {
 /// A segment that was passed over.
 #[derive(Debug, Clone, Copy, PartialEq, Eq)]
 pub struct PassedSegment {
-    /// The segment's number.
-    pub segment_number: u32,
+    /// The segment's number. `None` where it isn't known, as where the bytes end within it.
+    pub segment_number: Option<u32>,
     /// The fault for which it was passed over.
     pub error: DecodeError,
 }
 
-/// What salvage left out of globals, a page or a file, besides [`DecoderContext::passed_over`]. Other readings leave out
-/// nothing of this.
+/// What reading left out of globals, a page or a file, besides [`DecoderContext::passed_over`]. Strict reading leaves out
+/// nothing.
 ///
 /// [`DecoderContext::passed_over`]: crate::DecoderContext::passed_over
 #[derive(Debug, Clone, Copy, Default, PartialEq, Eq)]
 pub struct LeftOut {
-    /// Of globals, or of the segments that the pages of a file share: those that were passed over.
+    /// Of globals, or of the segments that the pages of a file share: what these lack.
     pub passed_over: PassedOver,
-    /// How many pages of a file can't begin.
+    /// How many pages of a file can't begin, which salvage leaves out.
     pub pages: usize,
     /// Why the first of these can't.
     pub first_page: Option<DecodeError>,
-    /// The fault at which the list of segments ends early: the rest is left out.
-    pub rest: Option<DecodeError>,
+    /// The segment at which the list of segments ends early: the bytes end within it, or salvage leaves out the rest.
+    pub cut_off: Option<PassedSegment>,
 }

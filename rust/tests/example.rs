@@ -211,7 +211,7 @@ fn a_context_tells_what_was_passed_over() {
     let page = Page::new_embedded(&stream, None, &lenient).unwrap();
     page.decode_with(&mut Pixels::default(), &mut context).unwrap();
     let error = RegionError::InvalidCombinationOperator.into();
-    let first = Some(PassedSegment { segment_number: 1, error });
+    let first = Some(PassedSegment { segment_number: Some(1), error });
     assert_eq!(context.passed_over(), PassedOver { count: 1, first });
 
     let file = File::new(EXAMPLE, &lenient).unwrap();

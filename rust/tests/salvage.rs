@@ -24,6 +24,8 @@ const SYMBOLS: &str = "00000002 00 00 01 0000000F 0001 00000001 00000001 5F80800
 /// Number 3, a text region that refers to number 2.
 const TEXT: &str = "00000003 06 20 02 01 0000002D 00000008 00000001 0000000000000000 00 0011 0000 00000001 01
     0000000000000000000000000000000000 0004";
+/// The end of page 1.
+const END: &str = "00000004 31 00 01 00000000";
 /// A header that refers to its own number.
 const JUNK: &str = "20202020202020202020202020202020";
 /// Of a sequential file that doesn't count its pages.
@@ -35,12 +37,17 @@ fn of(pieces: &[&str]) -> Vec<u8> {
     digits.chunks(2).map(byte).collect()
 }
 
-fn one(segment_number: u32, error: DecodeError) -> PassedOver {
-    PassedOver { count: 1, first: Some(PassedSegment { segment_number, error }) }
+fn segment(number: u32, error: DecodeError) -> Option<PassedSegment> {
+    Some(PassedSegment { segment_number: Some(number), error })
 }
 
-fn ended(rest: DecodeError) -> LeftOut {
-    LeftOut { rest: Some(rest), ..LeftOut::default() }
+fn one(number: u32, error: DecodeError) -> PassedOver {
+    PassedOver { count: 1, first: segment(number, error) }
+}
+
+/// A list that ended at the header `JUNK`.
+fn ended() -> LeftOut {
+    LeftOut { cut_off: segment(0x2020_2020, REFERENCE), ..LeftOut::default() }
 }
 
 /// The first row of a page, and what was passed over.
@@ -68,7 +75,7 @@ fn drawn(page: &Page<'_>) -> (u8, PassedOver) {
 fn a_page_is_drawn_without_what_is_damaged() {
     let nothing = PassedOver::default();
     let cases = [
-        (of(&[PAGE, REGION, JUNK]), nothing, ended(REFERENCE)),
+        (of(&[PAGE, REGION, JUNK]), one(0x2020_2020, REFERENCE), ended()),
         (of(&[PAGE, BAD_SYMBOLS, REGION]), one(1, SELECTION), LeftOut::default()),
         (of(&[OPEN_PAGE, REGION]), nothing, LeftOut::default()),
     ];
@@ -87,9 +94,11 @@ fn a_page_is_drawn_without_what_is_damaged() {
 #[test]
 fn globals_keep_what_can_be_read() {
     let stream = of(&[PAGE, TEXT]);
-    let left_out = LeftOut { passed_over: one(1, SELECTION), ..ended(REFERENCE) };
+    // The number of the cut-off is not known then.
+    let cut_off = Some(PassedSegment { segment_number: None, error: REFERENCE });
+    let left_out = LeftOut { passed_over: one(1, SELECTION), cut_off, ..LeftOut::default() };
     for (bytes, left_out) in [
-        (of(&[SYMBOLS, JUNK]), ended(REFERENCE)),
+        (of(&[SYMBOLS, JUNK]), ended()),
         (of(&[BAD_SYMBOLS, SYMBOLS, JUNK]), left_out),
         (of(&[SYMBOLS]), LeftOut::default()),
     ] {
@@ -104,15 +113,17 @@ fn globals_keep_what_can_be_read() {
 #[test]
 fn a_file_is_read_without_what_is_damaged() {
     let pages = LeftOut { pages: 1, first_page: Some(FormatError::EmptyPage.into()), ..LeftOut::default() };
-    for (data, left_out) in
-        [(of(&[HEADER, PAGE, REGION, NO_PAGE]), pages), (of(&[HEADER, PAGE, REGION, JUNK]), ended(REFERENCE))]
-    {
+    for (data, left_out, passed_over) in [
+        (of(&[HEADER, PAGE, REGION, NO_PAGE]), pages, PassedOver::default()),
+        (of(&[HEADER, PAGE, REGION, JUNK]), ended(), one(0x2020_2020, REFERENCE)),
+        (of(&[HEADER, PAGE, REGION, END, JUNK]), ended(), PassedOver::default()),
+    ] {
         assert!(File::new(&data, &LENIENT).is_err());
         let file = File::salvaged(&data).unwrap();
         assert_eq!((file.page_count(), file.left_out()), (1, left_out));
         let page = file.page(0).unwrap();
         assert_eq!((page.number(), page.left_out()), (1, left_out));
-        assert_eq!(drawn(&page), (0x80, PassedOver::default()));
+        assert_eq!(drawn(&page), (0x80, passed_over));
     }
     assert_eq!(File::salvaged(b"no file at all").map(|file| file.page_count()), Err(FormatError::InvalidHeader.into()));
 }

@@ -86,6 +86,10 @@ function checkWrong() {
     check(isWhole(), `after page ${String(page)} the decoder is not as it was`);
   }
   check(outcome(() => decoder.decode(file, { page: -1 })).error === "NO_SUCH_PAGE", "page -1");
+  for (const globals of [null, new Uint8Array()]) {
+    const [first, second] = [0, 1].map((page) => outcome(() => decoder.decode(blankPage(8, 1), { page, globals })));
+    check(typeof first === "string" && second.error === "NO_SUCH_PAGE", `page 1 of an embedded page: ${second}`);
+  }
 }
 
 /** What is true in JavaScript is true for the module, whose bool may be 0 or 1 alone. */

@@ -38,7 +38,8 @@ def faults_of_looks(browser, folder):
     """What is wrong with the page, as texts."""
     whole = folder / CUT
     cut, text = folder / "ends early.jb2", folder / "no page.txt"
-    cut.write_bytes(whole.read_bytes()[:-1])
+    # Without the ends of the page and of the file, of 11 bytes each, and the last byte before them.
+    cut.write_bytes(whole.read_bytes()[:-23])
     text.write_text("This is neither a JBIG2 file nor a PDF file.\n")
     set_checked(browser, "salvage", True)
     faults = []
@@ -64,7 +65,7 @@ def captions(browser):
         faults.append(f"a page is marked wrongly: {figures}")
     if any(figure[2] != "FIGCAPTION" for figure in figures) or not figures[1][3].startswith("page 2 of 3"):
         faults.append(f"captions: {figures}")
-    if "Incomplete: the data ends early" not in figures[5][3] or "neither a JBIG2 file nor a PDF file" not in figures[6][3]:
+    if "Incomplete: 1 segment missing or damaged (segment " not in figures[5][3] or "neither a JBIG2 file nor a PDF file" not in figures[6][3]:
         faults.append(f"what a page lacks isn't said: {figures[5:]}")
     if links != "1 2 3 1 2 3! 1!":
         faults.append(f"links to pages: {links}")

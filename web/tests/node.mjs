@@ -97,7 +97,7 @@ const HEADER = "974A42320D0A1A0A 03";
 /** What salvage gives of a page: its height, its first pixel, and what was left out, as texts. */
 function salvaged(bytes, options = {}) {
   const { height, data, passedOver, leftOut } = decoder.decode(bytes, { ...options, salvage: true });
-  const texts = [leftOut.passedOver.error, leftOut.firstPage, leftOut.rest].map((error) => error?.error ?? "");
+  const texts = [leftOut.passedOver.error, leftOut.firstPage, leftOut.cutOff?.error].map((error) => error?.error ?? "");
   const fields = [passedOver.count, passedOver.error?.error ?? "", leftOut.passedOver.count, leftOut.pages, ...texts];
   return [height, data[0] === 0 ? "black" : "white", ...fields].join(" ").trim();
 }
@@ -107,7 +107,7 @@ function checkDamaged() {
   const reference = "SEGMENT_INVALID_REFERENCE";
   const selection = "HUFFMAN_INVALID_SELECTION";
   const damaged = [
-    [PAGE + REGION + JUNK, {}, `1 black 0  0 0   ${reference}`],
+    [PAGE + REGION + JUNK, {}, `1 black 1 ${reference} 0 0   ${reference}`],
     [PAGE + BAD_SYMBOLS + REGION, {}, `1 black 1 ${selection} 0 0`],
     [OPEN + REGION, {}, "1 black 0  0 0"],
     [PAGE + REGION, { globals: hex(JUNK) }, `1 black 0  0 0   ${reference}`],

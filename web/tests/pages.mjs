@@ -1,5 +1,5 @@
 /**
- * Pages in all their forms, the limit of work, and files that end early.
+ * Pages in all their forms, the limit of work, and the interface of pdf.js.
  *
  * usage: node web/tests/pages.mjs FOLDER
  */
@@ -106,7 +106,7 @@ function checkLimit() {
   check(decoder.decode(blank, { workLimit: Infinity }).width === 8, "a page without a limit");
   check(decoder.decode(blank, { workLimit: 1e4 }).width === 8, "a page below a small limit");
   for (const workLimit of [NaN, -1, 0.5, "1", 5n, {}, true]) {
-    for (const name of ["decode", "pageCount", "endsEarly"]) {
+    for (const name of ["decode", "pageCount"]) {
       const error = thrown(() => decoder[name](WIDE, { workLimit }));
       check(error instanceof TypeError, `${name}, workLimit: ${String(workLimit)} is not refused`);
     }
@@ -125,11 +125,6 @@ async function checkMemory() {
   const small = await Decoder.load(undefined, 2 ** 21);
   const error = thrown(() => small.decode(hex(page("0000FFFF", "0000FFFF"))));
   check(error?.error === "OUT_OF_MEMORY" && error.name === "Jbig2Error", `want of memory: ${error}`);
-}
-
-function checkEarlyEnds(name, bytes) {
-  check(decoder.endsEarly(bytes) === false, `${name} doesn't end early`);
-  check(decoder.endsEarly(bytes.subarray(0, bytes.length - 1)), `${name} ends early`);
 }
 
 /** pdf.js's interface, by its use there. */
@@ -167,8 +162,7 @@ const embedded = readdirSync(folder).find((name) => name.endsWith(".globals.jb2"
 checkLimit();
 checkSharedLimit("t88-h1.jb2", read("t88-h1.jb2"));
 await checkMemory();
-checkEarlyEnds("t88-h1.jb2", read("t88-h1.jb2"));
 await checkImage(read("t88-h1.jb2"), read(`${embedded}.page.jb2`), read(`${embedded}.globals.jb2`));
 const count = `${checks - failed} checks passed, ${failed} failed`;
-console.log(`pages: ${forms} in all forms, the limit of work, early ends, pdf.js's interface: ${count}`);
+console.log(`pages: ${forms} in all forms, the limit of work, pdf.js's interface: ${count}`);
 process.exit(failed ? 1 : 0);

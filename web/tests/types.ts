@@ -17,7 +17,7 @@ export async function pagesOf(bytes: ArrayBuffer): Promise<DecodedPage[]> {
 
 export async function shown(page: DecodedPage): Promise<[ImageData, Uint8Array, string | undefined]> {
   const data = new ImageData(page.data, page.width, page.height);
-  return [data, await pngOf(page), page.leftOut?.rest?.error ?? page.passedOver.error?.message];
+  return [data, await pngOf(page), page.isComplete ? undefined : page.leftOut.cutOff?.error.message ?? page.passedOver.error?.message];
 }
 
 export const described = (error: unknown): string => {

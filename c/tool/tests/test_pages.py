@@ -192,6 +192,62 @@ class Faults(Case):
         self.assert_ends(ended, INCOMPLETE, "segment 1 (immediate", "bytes are there")
 
 
+class Incomplete(Case):
+    """Pages that are cut off, or that refer to what isn't there: the library says which segment, by its own count."""
+
+    # Row R9.2 of crates/jbig2_rows/README.md: a text region, number 2, whose symbol is in globals.
+    SHARED = bytes.fromhex("00000001 00 00 01 0000000F 0001 00000001 00000001 5F80800040")
+    PAGE = bytes.fromhex("00000000 30 00 01 00000013 00000008 00000001" + "00" * 11)
+    DATA = bytes.fromhex("01 0000002D 00000008 00000001" + "00" * 9 + "0011 0000 00000001 01" + "00" * 17 + "0004")
+    TEXT = PAGE + bytes.fromhex("00000002 06 20 01") + DATA
+
+    def assert_lacks(self, data, text, *words):
+        for way in [], ["--salvage"]:
+            ended = run("-", "-f", "pbm", *way, *words, input=data)
+            self.assertEqual(ended.status, INCOMPLETE, ended.errors)
+            self.assertRegex(ended.errors, text)
+            self.assertNotIn("4294967295", ended.errors)
+        self.assertEqual(run("-", "-f", "pbm", "--strict", *words, input=data).status, NOT_DONE)
+        return ended
+
+    def test_a_stream_that_is_cut_off(self):
+        page = embedded_page(BOOK, 1)
+        stream = page.shared + page.stream
+        ends = ends_of_segments(stream)
+        for cut in len(stream) // 3, len(stream) // 2, len(stream) - 1:
+            while cut in ends:
+                cut += 1
+            last, _ = header_at(stream, max(end for end in ends if end < cut))
+            fault = rf"segment {last.number} .*: unexpected end of input: cut off"
+            self.assert_lacks(stream[:cut], f"page 1: incomplete: {fault}")
+
+    def test_a_cut_within_a_number(self):
+        text = r"page 1: incomplete: unexpected end of input: cut off in its header, of which 2 bytes are there"
+        shared = self.made(self.SHARED, "shared.jb2g")
+        ended = self.assert_lacks(self.TEXT + b"\0\0", text, "-g", shared)
+        self.assertEqual(pictures_of(ended.output)[0].rows, b"\x80")
+
+    def test_symbols_that_are_not_there(self):
+        self.assert_lacks(self.TEXT, r"page 1: incomplete: segment 2 \(immediate text region\): ")
+        # One dictionary of two: the region is drawn.
+        both = self.PAGE + bytes.fromhex("00000002 06 40 00 01") + self.DATA
+        text = r"page 1: incomplete: segment 2 \(immediate text region\): segment refers to an invalid segment$"
+        ended = self.assert_lacks(both, text, "-g", self.made(self.SHARED, "shared.jb2g"))
+        self.assertEqual(pictures_of(ended.output)[0].rows, b"\x80")
+
+    def test_the_second_page_of_a_file_is_cut_off(self):
+        """The first page is complete, since its end is there. The file has a message of its own."""
+        first = BOOK.index(bytes.fromhex("31 00 01 00000000")) + 7
+        second = BOOK.index(bytes.fromhex("31 00 02 00000000")) - 4
+        meant = decoded(EXAMPLE, 0)
+        for cut in first + (second - first) // 2, second - 1:
+            fault = r"segment \d+ .*: unexpected end of input: cut off"
+            ended = self.assert_lacks(BOOK[:cut], f"page 2: incomplete: {fault}")
+            self.assertNotIn("page 1:", ended.errors)
+            self.assertRegex(ended.errors, f"(?m)^standard input: {fault}")
+            self.assertEqual(pictures_of(ended.output)[0], meant)
+
+
 class Jobs(Case):
     def test_the_same_for_any_number(self):
         names = [SUITE / f"{name}.jb2" for name in FILES[::40]]

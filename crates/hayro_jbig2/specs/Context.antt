@@ -1,19 +1,32 @@
--- What a context keeps from one page to the next (our own rule): the drawing of the last page, how many units of work a
--- page may take, how many of them the last page left, and how many steps it counted.
-use Rattle.std.specs.Prelude.{◌≡◌, ◌-◌, ◌*◌, ◌^◌, ◌≤◌, ℕ, Option, Some, None, unwrap_or}
+-- What a context keeps from one page to the next (our own rule): the drawing of the last page, whether there is one, how
+-- many units of work a page may take, how many of them the last page left, and how many steps it counted. After an error
+-- a context holds no page.
+use Rattle.std.specs.Prelude.{◌≡◌, ◌+◌, ◌-◌, ◌*◌, ◌^◌, ◌≤◌, ℕ, Bool, true, false, Option, Some, None, option_map, unwrap_or}
+use Rattle.std.specs.Prelude.{Result, Ok, Err}
 use Rattle.jbig2_steps.specs.Work.{sum_of_counts}
 use Rattle.jbig2_steps.specs.declared.work.Work.{Work}
 use Rattle.jbig2_page.specs.Page.{Drawing, empty_drawing}
 
 pub record Context : Type 0 where
   pub drawing : Drawing
+  pub holds_page : Bool  -- whether the drawing is that of a page
   pub work_limit : Option ℕ
   pub work_left : Option ℕ
   pub steps : ℕ  -- how many the last page counted
 
-abbrev pub new_context : Context
-new_context = record { drawing = empty_drawing; work_limit = None; work_left = None; steps = 0 }
+abbrev pub context_of : Option ℕ → Context  -- no page, and this limit, of which nothing was taken
+context_of limit =
+    record { drawing = empty_drawing; holds_page = false; work_limit = limit; work_left = limit; steps = 0 }
 
+abbrev pub new_context : Context
+new_context = context_of None
+
+-- After a call that draws the context holds a page, and after an error none.
+abbrev pub HoldsPage : {E : Type 0} → Result (Unit {0}) E → Context → Type 0
+HoldsPage (Ok done) c = c.holds_page ≡ true
+HoldsPage (Err e) c = (c.holds_page ≡ false) × (c.drawing ≡ empty_drawing)
+
+-- ---- the limit of work
 abbrev pub units_of : Option ℕ → ℕ  -- without a limit there are as many units as a counter can hold
 units_of limit = unwrap_or limit (2 ^ 64 - 1)
 
@@ -21,13 +34,20 @@ units_of limit = unwrap_or limit (2 ^ 64 - 1)
 abbrev pub IsWithin : Option ℕ → ℕ → Type 0
 IsWithin limit steps = steps ≤ 32 * units_of limit
 
-abbrev pub after_page : {L : Type 0} → Work L → Context → Context  -- after a page with this counter
-after_page work c = record c { work_left = left c.work_limit; steps = sum_of_counts work.steps }
+-- A page took at least this many units of a limit besides those that pay for the steps that it counted, 32 for each
+-- unit. How many it left is known.
+abbrev pub LeavesOf : ℕ → Option ℕ → Context → Type 0
+LeavesOf units limit c = of limit c.work_left
   where
-    left : Option ℕ → Option ℕ
-    left None = None
-    left (Some units) = Some work.left
+    of : Option ℕ → Option ℕ → Type 0
+    of (Some most) (Some left) = c.steps + 32 * (left + units) ≤ 32 * most
+    of None None = Unit {0}
+    of _ _ = ⊥
+
+abbrev pub after_page : {L : Type 0} → Work L → Context → Context  -- after a page with this counter
+after_page work c =
+    record c { work_left = option_map (λ _. work.left) c.work_limit; steps = sum_of_counts work.steps }
 
 -- The context after a page, drawn or refused. Other clauses say which drawing it has.
 abbrev pub IsLeft : {L : Type 0} → Work L → Context → Context → Type 0
-IsLeft work old new = new ≡ record (after_page work old) { drawing = new.drawing }
+IsLeft work old new = new ≡ record (after_page work old) { drawing = new.drawing; holds_page = new.holds_page }

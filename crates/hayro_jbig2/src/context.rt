@@ -1,8 +1,8 @@
 //! `DecoderContext`: memory that each page's decoding reuses, the page that was drawn last, and the limit of work.
-ghost use Rattle.std.specs.Prelude.{◌≡◌};
+ghost use Rattle.std.specs.Prelude.{◌≡◌, ◌==◌, ◌&&◌};
 ghost use Rattle.jbig2_base.specs.Results.{Gives};
 ghost use Rattle.jbig2_base.specs.Counts.{no_steps};
-ghost use Rattle.hayro_jbig2.specs.Context.{after_page, new_context, units_of};
+ghost use Rattle.hayro_jbig2.specs.Context.{after_page, context_of, new_context, units_of};
 ghost use Rattle.jbig2_page.specs.Image.{packed_of};
 
 use crate::counted::StepCount;
@@ -17,9 +17,12 @@ use std::marker::Model;
 use std::sync::ledger::{Blank, Ledger};
 
 /// The memory that decoding a page uses, and that the next page uses again. A page's result does not depend on what was
-/// there before. The context holds the page that was drawn last, and the limit of the work that each page may take.
+/// there before. The context holds the page that was drawn last, and the limit of the work that each page may take. After
+/// an error it holds no page.
 pub struct DecoderContext<A: Allocator> {
     pub(crate) canvas: Canvas<A>,
+    /// Whether the canvas has a page. After an error it may have a part of one, or another one, which nobody may see.
+    pub(crate) holds_page: bool,
     /// The units of work that a page may take.
     work_limit: Option<u64>,
     /// How many of them the last page left.
@@ -32,6 +35,7 @@ impl<A: Allocator> Drop for DecoderContext<A> {
     fn drop(self) {
         let DecoderContext {
             canvas: _,
+            holds_page: _,
             work_limit: _,
             work_left: _,
             counted: _,
@@ -40,12 +44,15 @@ impl<A: Allocator> Drop for DecoderContext<A> {
 }
 
 impl<A: Allocator> Model for DecoderContext<A> {
+    ghost use Rattle.std.specs.Prelude.{if◌then◌else◌};
     ghost use Rattle.hayro_jbig2.specs.Context.{Context};
+    ghost use Rattle.jbig2_page.specs.Page.{empty_drawing};
 
     ghost Value = { Context };
 
     ghost view = { λ c. record {
-      drawing = c.canvas;
+      drawing = if c.holds_page then c.canvas else empty_drawing;
+      holds_page = c.holds_page;
       work_limit = c.work_limit;
       work_left = c.work_left;
       steps = c.counted;
@@ -64,12 +71,13 @@ pub(crate) fn work_within<L: Ledger>(limit: Option<u64>, blank: Blank) -> Work<L
 }
 
 impl<A: Allocator + Clone> DecoderContext<A> {
-    /// A context that holds a page of no pixels, without a limit of work. Its only error is `DecodeError::OutOfMemory`.
+    /// A context that holds no page, without a limit of work. Its only error is `DecodeError::OutOfMemory`.
     pub fn new(alloc: A) -> Result<DecoderContext<A>>
         ensures { Gives (λ context. context) result (Ok new_context) }
     {
         Ok(DecoderContext {
             canvas: Canvas::new(alloc)?,
+            holds_page: false,
             work_limit: None,
             work_left: None,
             counted: StepCount::nothing(),
@@ -78,21 +86,46 @@ impl<A: Allocator + Clone> DecoderContext<A> {
 }
 
 impl<A: Allocator> DecoderContext<A> {
-    /// What the reading passed over in the page that was drawn last. After a page that was refused, it is what was
-    /// passed over before the fault.
+    /// What the reading passed over in the page that was drawn last. After an error it is nothing.
     pub fn passed_over(&self) -> &PassedOver
         ensures { result.now ≡ self.now.drawing.passed_over }
     {
+        if !self.holds_page {
+            return &PassedOver {
+                count: 0,
+                first: None,
+            };
+        }
         self.canvas.passed_over()
     }
 
-    /// The page that was drawn last, as packed rows. After a page that was refused, it is what was drawn before the
-    /// fault. After memory ran out it may be any page.
+    /// Whether there is a page that was drawn last, and it is complete: no segment was passed over, none was cut off,
+    /// and each found what it refers to. Damage within coded data can't be known: the format has no checksum.
+    pub fn is_complete(&self) -> bool
+        ensures { result ≡ (self.now.holds_page && self.now.drawing.passed_over.count == 0) }
+    {
+        self.holds_page && self.passed_over().count == 0
+    }
+
+    /// The page that was drawn last, as packed rows. After an error it has no rows.
+    #[tactic(auto, using(crate::proofs::Held::no_rows))]
     pub fn drawn_page(&self) -> DrawnPage<'_, A>
         ensures { let page = self.now.drawing.grid in
             result ≡ packed_of page.width page.height page }
     {
+        if !self.holds_page {
+            return DrawnPage::of_no_rows();
+        }
         DrawnPage::of_rows(self.canvas.drawn_rows())
+    }
+
+    /// Forgets the page that was drawn last. The context keeps its memory and its limit, of which nothing was taken.
+    pub fn forget_page(&mut self)
+        ensures { self.new ≡ context_of self.old.work_limit }
+    {
+        self.holds_page = false;
+        self.work_left = self.work_limit;
+        self.counted = StepCount::nothing();
     }
 
     /// Sets how many units of work each page may take that is decoded in this context from now on; `None` means no

@@ -1,5 +1,5 @@
 //! `DrawnPage`: lends a page that was drawn as packed rows.
-ghost use Rattle.std.specs.Prelude.{◌≡◌, ◌+◌, ◌≤◌, drop, length, take};
+ghost use Rattle.std.specs.Prelude.{◌≡◌, ◌+◌, ◌≤◌, [], drop, length, take};
 
 use jbig2_base::bitmap::steps::Steps;
 use jbig2_page::drawing::drawn_rows::DrawnRows;
@@ -13,29 +13,40 @@ use std::sync::ledger::{Blank, Ledger};
 /// byte. It has `width.div_ceil(8)` bytes, and the bits after the width are 0, as in PBM, TIFF and PDF.
 #[derive(Drop)]
 pub struct DrawnPage<'c, A: Allocator> {
-    rows: DrawnRows<'c, A>,
+    /// None where there is no page.
+    rows: Option<DrawnRows<'c, A>>,
 }
 
 impl<'c, A: Allocator> Model for DrawnPage<'c, A> {
-    ghost use Rattle.std.specs.Prelude.{List, ℕ};
+    ghost use Rattle.std.specs.Prelude.{List, ℕ, [], unwrap_or};
 
     ghost Value = { List ℕ };
 
-    ghost view = { λ page. page.rows };
+    ghost view = { λ page. unwrap_or page.rows [] };
 }
 
 impl<'c, A: Allocator> DrawnPage<'c, A> {
     pub(crate) fn of_rows(rows: DrawnRows<'c, A>) -> DrawnPage<'c, A>
         ensures { result ≡ rows.entry }
     {
-        DrawnPage { rows }
+        DrawnPage { rows: Some(rows) }
+    }
+
+    /// No page.
+    pub(crate) fn of_no_rows() -> DrawnPage<'c, A>
+        ensures { result ≡ [] }
+    {
+        DrawnPage { rows: None }
     }
 
     /// The number of bytes of all rows together.
     pub fn size(&self) -> usize
         ensures { result ≡ length self.now }
     {
-        self.rows.size()
+        match &self.rows {
+            Some(rows) => rows.size(),
+            None => 0,
+        }
     }
 
     /// Fills `buf` with bytes of the rows, from byte `place` of all rows on.
@@ -53,7 +64,9 @@ impl<'c, A: Allocator> DrawnPage<'c, A> {
         requires enough { blank.parts ≡ 6 }
         ensures { buf.new ≡ take (length buf.old) (drop place self.now) }
     {
-        let mut steps = Steps::<L>::new(Permit::grant(), blank);
-        self.rows.read_at(place, buf, &mut steps);
+        if let Some(rows) = &self.rows {
+            let mut steps = Steps::<L>::new(Permit::grant(), blank);
+            rows.read_at(place, buf, &mut steps);
+        }
     }
 }

@@ -3,9 +3,9 @@ ghost use Rattle.std.specs.Prelude.{◌≡◌, ℕ, IfErr, IfOk, length, slice_g
 ghost use Rattle.std.specs.Map.Iter.{GivesInOrder};
 ghost use Rattle.jbig2_base.specs.Results.{Returns, Gives};
 ghost use Rattle.jbig2_page.specs.Files.{book_at, page_of, pages_of, PagesStandAlone};
-ghost use Rattle.jbig2_base.specs.File.{file_at};
-ghost use Rattle.jbig2_base.specs.Reading.{reading_of};
-ghost use Rattle.jbig2_base.specs.declared.reading.Reading.TheVariants.{Salvage};
+ghost use Rattle.jbig2_framing.specs.File.{file_at};
+ghost use Rattle.jbig2_framing.specs.Reading.{reading_of};
+ghost use Rattle.jbig2_framing.specs.declared.reading.Reading.TheVariants.{Salvage};
 ghost use Rattle.jbig2_page.specs.Names.{names_of};
 ghost use Rattle.jbig2_page.specs.inner.KeptViews.{found_value};
 ghost use Rattle.jbig2_page.specs.Page.{ReadPage};
@@ -23,7 +23,9 @@ use crate::page::Page;
 use crate::settings::DecodeSettings;
 use crate::work_limit::WorkLimit;
 use jbig2_base::error::{DecodeError, Result};
-use jbig2_base::reading::Reading;
+use jbig2_framing::cut_off::CutOff;
+use jbig2_framing::file::FileOrganization;
+use jbig2_framing::reading::Reading;
 use jbig2_page::file::{FileContent, FilePage};
 use jbig2_page::globals::GlobalsContent;
 use std::alloc::Allocator;
@@ -34,10 +36,11 @@ use std::sync::ledger::{Blank, Ledger};
 #[derive(Drop)]
 pub struct File<'a, A: Allocator> {
     reading: Reading,
+    organization: FileOrganization,
     pages: Vec<FilePage<'a, A>, A>,
     globals: Result<Globals<A>>,
     left_out: Vec<DecodeError, A>,
-    fault: Option<DecodeError>,
+    cut_off: Option<CutOff>,
 }
 
 impl<'a, A: Allocator> Model for File<'a, A> {
@@ -49,10 +52,11 @@ impl<'a, A: Allocator> Model for File<'a, A> {
 
     ghost view = { λ file. record {
       reading = file.reading;
+      organization = file.organization;
       pages = file.pages.items;
       globals = file.globals;
       left_out = file.left_out.items;
-      fault = file.fault;
+      cut_off = file.cut_off;
     } };
 
     ghost invariant = { λ file. IfErr file.globals IsFromInput };
@@ -163,15 +167,6 @@ fn shared_of<A: Allocator>(content: Result<GlobalsContent<A>>) -> Result<Globals
     }
 }
 
-fn duplicate_fault(fault: &Option<DecodeError>) -> Option<DecodeError>
-    ensures { result ≡ fault.now }
-{
-    match fault {
-        Some(error) => Some(error.duplicate()),
-        None => None,
-    }
-}
-
 impl<'a, A: Allocator> File<'a, A> {
     /// A file with this content.
     fn of_content(content: FileContent<'a, A>) -> File<'a, A>
@@ -179,17 +174,19 @@ impl<'a, A: Allocator> File<'a, A> {
     {
         let FileContent {
             reading,
+            organization,
             pages,
             globals,
             left_out,
-            fault,
+            cut_off,
         } = content;
         File {
             reading,
+            organization,
             pages,
             globals: shared_of(globals),
             left_out,
-            fault,
+            cut_off,
         }
     }
 
@@ -207,11 +204,12 @@ impl<'a, A: Allocator> File<'a, A> {
         &self.left_out
     }
 
-    /// In salvage, the error that ended the list of segments early: the error of lenient reading.
-    pub fn fault(&self) -> Option<&DecodeError>
-        ensures { found_value (λ e. e) result ≡ self.now.fault }
+    /// The segment at which the list of segments ended early, if it did. Lenient reading drops one that is cut off,
+    /// salvage any that is refused.
+    pub fn cut_off(&self) -> Option<&CutOff>
+        ensures { found_value (λ c. c) result ≡ self.now.cut_off }
     {
-        self.fault.as_ref()
+        self.cut_off.as_ref()
     }
 
     /// What the segments of no page keep, or their error.
@@ -241,8 +239,8 @@ impl<'a, A: Allocator> File<'a, A> {
     {
         match self.pages.get(index) {
             Some(page) => {
-                let fault = duplicate_fault(&self.fault);
-                let content = page.content(self.reading, self.globals(), fault);
+                let cut_off = page.cut_off(self.organization, &self.cut_off);
+                let content = page.content(self.reading, self.globals(), cut_off);
                 Some(Page::of_content(content))
             }
             None => None,

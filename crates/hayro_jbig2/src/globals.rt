@@ -1,10 +1,10 @@
 //! `Globals`: the segments that several pages share, as in PDF.
 ghost use Rattle.std.specs.Prelude.{◌≡◌, ◌*◌, IfErr, IfOk, length};
-ghost use Rattle.jbig2_base.specs.Sequential.{sorted_segments};
+ghost use Rattle.jbig2_framing.specs.Sequential.{sorted_segments};
 ghost use Rattle.jbig2_base.specs.Results.{Gives};
-ghost use Rattle.jbig2_base.specs.Reading.{reading_of};
+ghost use Rattle.jbig2_framing.specs.Reading.{reading_of};
 ghost use Rattle.jbig2_base.specs.declared.error.DecodeError.TheVariants.{OutOfMemory};
-ghost use Rattle.jbig2_base.specs.declared.reading.Reading.TheVariants.{Salvage};
+ghost use Rattle.jbig2_framing.specs.declared.reading.Reading.TheVariants.{Salvage};
 ghost use Rattle.hayro_jbig2.specs.WorkLimit.{Takes};
 ghost use Rattle.jbig2_page.specs.Names.{globals_at};
 ghost use Rattle.jbig2_page.specs.Returned.{IsReturned};
@@ -14,7 +14,8 @@ ghost use Rattle.jbig2_page.specs.inner.PageViews.{given_names};
 use crate::settings::DecodeSettings;
 use crate::work_limit::WorkLimit;
 use jbig2_base::error::{DecodeError, Result};
-use jbig2_base::reading::Reading;
+use jbig2_framing::cut_off::CutOff;
+use jbig2_framing::reading::Reading;
 use jbig2_page::drawing::passed_over::PassedOver;
 use jbig2_page::globals::GlobalsContent;
 use std::alloc::Allocator;
@@ -47,18 +48,19 @@ pub(crate) fn content_of<A: Allocator>(globals: Option<&Globals<A>>) -> Option<&
 }
 
 impl<A: Allocator> Globals<A> {
-    /// What salvage passed over of the globals' segments.
+    /// What salvage passed over of the globals' segments, and the dictionaries that refer to something that isn't
+    /// there.
     pub fn passed_over(&self) -> &PassedOver
         ensures { result.now ≡ self.now.passed_over }
     {
         self.content.passed_over()
     }
 
-    /// In salvage, the error of lenient reading that ended the list of their segments early.
-    pub fn fault(&self) -> Option<&DecodeError>
-        ensures { found_value (λ e. e) result ≡ self.now.fault }
+    /// The segment at which the list of their segments ended early, if it did.
+    pub fn cut_off(&self) -> Option<&CutOff>
+        ensures { found_value (λ c. c) result ≡ self.now.cut_off }
     {
-        self.content.fault()
+        self.content.cut_off()
     }
 }
 

@@ -2,8 +2,8 @@
 ghost use Rattle.std.specs.Prelude.{◌≡◌, IfErr};
 ghost use Rattle.jbig2_base.specs.Results.{Gives};
 ghost use Rattle.jbig2_page.specs.Page.{IsSide, page_from};
-ghost use Rattle.jbig2_base.specs.Reading.{reading_of};
-ghost use Rattle.jbig2_base.specs.declared.reading.Reading.TheVariants.{Salvage};
+ghost use Rattle.jbig2_framing.specs.Reading.{reading_of};
+ghost use Rattle.jbig2_framing.specs.declared.reading.Reading.TheVariants.{Salvage};
 ghost use Rattle.jbig2_page.specs.inner.KeptViews.{found_value};
 ghost use Rattle.jbig2_page.specs.Returned.{IsReturned};
 ghost use Rattle.jbig2_page.specs.inner.PageViews.{given_names};
@@ -12,8 +12,9 @@ mod output;
 
 use crate::globals::{Globals, content_of};
 use crate::settings::DecodeSettings;
-use jbig2_base::error::{DecodeError, Result};
-use jbig2_base::reading::Reading;
+use jbig2_base::error::Result;
+use jbig2_framing::cut_off::CutOff;
+use jbig2_framing::reading::Reading;
 use jbig2_page::page::PageContent;
 use std::alloc::Allocator;
 use std::marker::Model;
@@ -47,12 +48,13 @@ impl<'a, A: Allocator> Page<'a, A> {
         self.content.number()
     }
 
-    /// In salvage, the error that ended the list of the page's segments early, or that of its file: the error of
-    /// lenient reading.
-    pub fn fault(&self) -> Option<&DecodeError>
-        ensures { found_value (λ e. e) result ≡ self.now.fault }
+    /// The segment at which the list of the page's segments ended early, if it did. Lenient reading drops one that is
+    /// cut off, salvage any that is refused. Of a page in a file it is the file's, if the page may lack something of it.
+    /// After the page is drawn, the segment is among those that were passed over.
+    pub fn cut_off(&self) -> Option<&CutOff>
+        ensures { found_value (λ c. c) result ≡ self.now.cut_off }
     {
-        self.content.fault()
+        self.content.cut_off()
     }
 
     /// The width in pixels, 1 to 65535.

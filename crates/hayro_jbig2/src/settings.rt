@@ -1,8 +1,8 @@
 //! How strictly data is read.
 ghost use Rattle.std.specs.Prelude.{◌≡◌, false};
-ghost use Rattle.jbig2_base.specs.Reading.{reading_of};
+ghost use Rattle.jbig2_framing.specs.Reading.{reading_of};
 
-use jbig2_base::reading::Reading;
+use jbig2_framing::reading::Reading;
 
 /// How strictly data is read. The default is lenient.
 #[derive(Clone, Copy, Debug)]

@@ -6,14 +6,9 @@ pub mod Combination
 pub mod Counts
 pub mod ErrorTexts
 pub mod Fields
-pub mod File
 pub mod Grid
-pub mod PageInfo
-pub mod Reading
 pub mod Results
 pub mod Search
-pub mod Segment
-pub mod Sequential
 pub mod Table
 pub mod Writes
 pub mod inner

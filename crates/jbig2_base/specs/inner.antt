@@ -1,9 +1,7 @@
 pub mod BitLists
 pub mod Combines
 pub mod GridsBefore
-pub mod Fronts
 pub mod Layouts
 pub mod Packed
-pub mod SegmentViews
 pub mod Shapes
 pub mod WordBits

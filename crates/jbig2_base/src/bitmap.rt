@@ -109,7 +109,7 @@ impl<A: Allocator> Bitmap<A> {
 
     /// Changes the size and makes all pixels `default_pixel` (`true` is black). A side above 65535
     /// is refused (`OverflowError::BitmapDimension`). A refusal changes nothing.
-    #[tactic(auto, using(crate::proofs::DataCauses::blank_cause))]
+    #[tactic(auto, using(crate::proofs::BitmapCauses::blank_cause))]
     pub fn reinitialize(&mut self, width: u32, height: u32, default_pixel: bool) -> Result<()>
         ensures causes { HasCauseOrNoMemory result (BreaksSides width height) }
         ensures value { Gives (λ _. self.new) result

@@ -10,21 +10,21 @@ use Rattle.jbig2_base.specs.Results.{◌>>=◌, refuse_if}
 use Rattle.jbig2_base.specs.Bits.{nonzero}
 use Rattle.jbig2_base.specs.Fields.{bytes_at, number_at, end_of_bytes}
 use Rattle.jbig2_base.specs.Grid.{bit_number}
-use Rattle.jbig2_base.specs.PageInfo.{default_operator_of, flags_of, is_set, information_at}
-use Rattle.jbig2_base.specs.Reading.{is_strict}
-use Rattle.jbig2_base.specs.Segment.{Header, SegmentView, type_of, is_reserved, is_immediate_generic, long_count_at, count_at, number_width, numbers_in, referred_at, length_of, header_at, data_at, segment_data_at, segment_at}
-use Rattle.jbig2_base.specs.Sequential.{is_end_of_file, goes_on, segments_in}
+use Rattle.jbig2_framing.specs.PageInfo.{default_operator_of, flags_of, is_set, information_at}
+use Rattle.jbig2_framing.specs.Reading.{is_strict}
+use Rattle.jbig2_framing.specs.Segment.{Header, SegmentView, type_of, is_reserved, is_immediate_generic, long_count_at, count_at, number_width, numbers_in, referred_at, length_of, header_at, data_at, segment_data_at, segment_at}
+use Rattle.jbig2_framing.specs.Sequential.{is_end_of_file, goes_on, segments_in}
 use Rattle.jbig2_base.specs.declared.bitmap.operator.CombinationOperator.{CombinationOperator}
 use Rattle.jbig2_base.specs.declared.bitmap.operator.CombinationOperator.TheVariants.{Or, And, Xor, Xnor, Replace}
 use Rattle.jbig2_base.specs.declared.error.DecodeError.{DecodeError}
 use Rattle.jbig2_base.specs.declared.error.DecodeError.TheVariants.{Segment}
 use Rattle.jbig2_base.specs.declared.error.SegmentError.TheVariants.{UnknownType, InvalidReferredCount, InvalidReference, InvalidUnknownLength}
-use Rattle.jbig2_base.specs.declared.page_info.PageFlags.{PageFlags}
-use Rattle.jbig2_base.specs.declared.page_info.PageInformation.{PageInformation}
-use Rattle.jbig2_base.specs.declared.page_info.PageStriping.{PageStriping}
-use Rattle.jbig2_base.specs.declared.reading.Reading.{Reading}
-use Rattle.jbig2_base.specs.declared.segment.SegmentType.{SegmentType}
-use Rattle.jbig2_base.specs.declared.segment.SegmentType.TheVariants as types
+use Rattle.jbig2_framing.specs.declared.page_info.PageFlags.{PageFlags}
+use Rattle.jbig2_framing.specs.declared.page_info.PageInformation.{PageInformation}
+use Rattle.jbig2_framing.specs.declared.page_info.PageStriping.{PageStriping}
+use Rattle.jbig2_framing.specs.declared.reading.Reading.{Reading}
+use Rattle.jbig2_framing.specs.declared.segment.SegmentType.{SegmentType}
+use Rattle.jbig2_framing.specs.declared.segment.SegmentType.TheVariants as types
 use Rattle.jbig2_inverses.specs.GenericSegmentWriter.{operator_number}
 use Rattle.jbig2_inverses.specs.SegmentWriter.{type_number, header_flags, segment_bytes, IsSegment, AreSegments, SegmentsReadBack, number_or_0, page_flags, striping_number, information_bytes, IsResolution, PageInformationReadsBack}
 use Rattle.jbig2_inverses.proofs.GenericSegmentInverse.{Numbered, four-bytes, one-byte, bit-back, bit-small}

@@ -1,7 +1,7 @@
 -- Short segments, written by the definition.
 use Rattle.std.proofs.Common.{◌≡◌, true, false, [], ◌∷◌, Some, None, refl}
 use Rattle.jbig2_base.specs.declared.bitmap.operator.CombinationOperator.TheVariants.{Or}
-use Rattle.jbig2_base.specs.declared.segment.SegmentType.TheVariants.{EndOfPage}
+use Rattle.jbig2_framing.specs.declared.segment.SegmentType.TheVariants.{EndOfPage}
 use Rattle.jbig2_inverses.specs.SegmentWriter.{segment_bytes, information_bytes}
 
 -- an end of page: number 2, type 49, a page association of four bytes, no data

@@ -5,17 +5,17 @@ use Rattle.std.specs.Prelude.{Option, Some, None, Ok}
 use Rattle.std.specs.List.{flat_map}
 use Rattle.std.specs.Int.{w16, w32, to_be_bytes}
 use Rattle.jbig2_base.specs.Grid.{bit_number}
-use Rattle.jbig2_base.specs.PageInfo.{information_at}
-use Rattle.jbig2_base.specs.Reading.{is_strict}
-use Rattle.jbig2_base.specs.Segment.{Header, SegmentView, is_reserved}
-use Rattle.jbig2_base.specs.Sequential.{is_end_of_file, sequential}
+use Rattle.jbig2_framing.specs.PageInfo.{information_at}
+use Rattle.jbig2_framing.specs.Reading.{is_strict}
+use Rattle.jbig2_framing.specs.Segment.{Header, SegmentView, is_reserved}
+use Rattle.jbig2_framing.specs.Sequential.{is_end_of_file, sequential}
 use Rattle.jbig2_base.specs.declared.bitmap.operator.CombinationOperator.TheVariants.{Replace}
-use Rattle.jbig2_base.specs.declared.page_info.PageFlags.{PageFlags}
-use Rattle.jbig2_base.specs.declared.page_info.PageInformation.{PageInformation}
-use Rattle.jbig2_base.specs.declared.page_info.PageStriping.{PageStriping}
-use Rattle.jbig2_base.specs.declared.reading.Reading.{Reading}
-use Rattle.jbig2_base.specs.declared.segment.SegmentType.{SegmentType}
-use Rattle.jbig2_base.specs.declared.segment.SegmentType.TheVariants as types
+use Rattle.jbig2_framing.specs.declared.page_info.PageFlags.{PageFlags}
+use Rattle.jbig2_framing.specs.declared.page_info.PageInformation.{PageInformation}
+use Rattle.jbig2_framing.specs.declared.page_info.PageStriping.{PageStriping}
+use Rattle.jbig2_framing.specs.declared.reading.Reading.{Reading}
+use Rattle.jbig2_framing.specs.declared.segment.SegmentType.{SegmentType}
+use Rattle.jbig2_framing.specs.declared.segment.SegmentType.TheVariants as types
 use Rattle.jbig2_inverses.specs.GenericSegmentWriter.{operator_number}
 
 abbrev pub type_number : SegmentType → ℕ  -- 7.3; one of the numbers that have no meaning

@@ -1,25 +1,30 @@
 -- Where strict reading accepts, lenient reading gives the same, and where that accepts, salvage does: names, pages and files.
-use Rattle.std.proofs.Common.{◌≡◌, ℕ, eqb, Bool, true, false, cond, not, ◌&&◌, List, [], ◌∷◌, length, Option, Some, None, Result, Ok, Err, refl, sym, subst, ap}
+use Rattle.std.proofs.Common.{◌≡◌, ℕ, eqb, Bool, true, false, cond, not, ◌&&◌, List, [], ◌∷◌, length, Option, Some, None, Result, Ok, Err, refl, sym, subst, ap, ◌∙◌}
 use Rattle.std.specs.Int.{w32}
 use Rattle.std.specs.Option.{option_map_or}
-use Rattle.std.specs.Prelude.{is_none, nat_le, option_map, slice_get}
+use Rattle.std.specs.Prelude.{IfOk, is_none, nat_le, option_map, slice_get}
 use Rattle.jbig2_base.specs.Results.{◌>>=◌, refuse_if, some_or}
 use Rattle.jbig2_base.specs.Fields.{number_at}
-use Rattle.jbig2_base.specs.File.{file_at}
+use Rattle.jbig2_framing.specs.File.{file_at}
 use Rattle.jbig2_base.specs.Grid.{Grid}
-use Rattle.jbig2_base.specs.PageInfo.{first_information, height_of, information_at, initial_page_by, stripes_height}
-use Rattle.jbig2_base.specs.Reading.{fault_of, is_salvaged, is_strict}
-use Rattle.jbig2_base.specs.Segment.{Header, SegmentView}
-use Rattle.jbig2_base.specs.Sequential.{by_number, sequential, sorted_segments}
+use Rattle.jbig2_framing.specs.PageInfo.{first_information, height_of, information_at, initial_page_by, stripes_height}
+use Rattle.jbig2_framing.specs.CutOff.{file_cut_off, sequence_cut_off}
+use Rattle.jbig2_framing.specs.Reading.{is_salvaged, is_strict}
+use Rattle.jbig2_framing.specs.declared.cut_off.CutOff.{CutOff}
+use Rattle.jbig2_framing.specs.declared.file_header.FileOrganization.{FileOrganization}
+use Rattle.jbig2_framing.specs.declared.file_header.FileHeader.{FileHeader}
+use Rattle.jbig2_framing.proofs.AgreeingCutOffs.{file-cut-salvaged, file-cut-same, sequence-cut-same}
+use Rattle.jbig2_framing.specs.Segment.{Header, SegmentView}
+use Rattle.jbig2_framing.specs.Sequential.{by_number, sequential, sorted_segments}
 use Rattle.jbig2_base.specs.declared.error.DecodeError.{DecodeError}
 use Rattle.jbig2_base.specs.declared.error.DecodeError.TheVariants.{Format, Segment, Unsupported}
 use Rattle.jbig2_base.specs.declared.error.FormatError.TheVariants.{InvalidEndOfPage, MissingPageInfo, PageCountMismatch, UnknownPageHeight}
 use Rattle.jbig2_base.specs.declared.error.SegmentError.TheVariants.{InvalidReference, MissingPageAssociation, MissingPatternDictionary}
-use Rattle.jbig2_base.specs.declared.page_info.InitialPage.{InitialPage}
-use Rattle.jbig2_base.specs.declared.reading.Reading.{Reading}
-use Rattle.jbig2_base.specs.declared.reading.Reading.TheVariants.{Strict, Lenient, Salvage}
-use Rattle.jbig2_base.specs.declared.segment.SegmentType.{SegmentType}
-use Rattle.jbig2_base.specs.declared.segment.SegmentType.TheVariants as types
+use Rattle.jbig2_framing.specs.declared.page_info.InitialPage.{InitialPage}
+use Rattle.jbig2_framing.specs.declared.reading.Reading.{Reading}
+use Rattle.jbig2_framing.specs.declared.reading.Reading.TheVariants.{Strict, Lenient, Salvage}
+use Rattle.jbig2_framing.specs.declared.segment.SegmentType.{SegmentType}
+use Rattle.jbig2_framing.specs.declared.segment.SegmentType.TheVariants as types
 use Rattle.jbig2_coder.specs.PrefixCode.{Member}
 use Rattle.jbig2_halftone.specs.HalftoneHeader.{HalftoneHeader, halftone_header_at}
 use Rattle.jbig2_halftone.specs.PatternHeader.{PatternHeader, pattern_header_at}
@@ -28,17 +33,17 @@ use Rattle.jbig2_region.specs.RegionInfo.{PlacedRegion}
 use Rattle.jbig2_symbol.specs.SymbolHeader.{SymbolHeader, symbol_header_at}
 use Rattle.jbig2_symbol.specs.Symbols.{Symbols}
 use Rattle.jbig2_text.specs.TextHeader.{TextHeader, text_header_at}
-use Rattle.jbig2_page.specs.Files.{PageInFile, ReadFile, association_check, book_at, by_pages, ends_of, before_pages, pages_in_file, page_in_file, lacks_page, left_out_of, miscounts, of_page, page_in, page_of, shared_by}
+use Rattle.jbig2_page.specs.Files.{PageInFile, ReadFile, association_check, book_at, by_pages, ends_of, before_pages, pages_in_file, page_in_file, cut_off_of, lacks_page, left_out_of, miscounts, of_page, page_in, page_of, shared_by}
 use Rattle.jbig2_page.specs.Lenient.{LenientReadingAgrees, ReadingsAgree, SalvageAgrees}
-use Rattle.jbig2_page.specs.Names.{Names, ReferredValues, KeptGlobals, nothing_shared, or_shared_without, extension, first_kept, kept_by, kept_of, no_names, pattern_dictionary_at, referred_by, symbol_dictionary_at, with_code, with_dictionary, with_number, with_numbers, with_patterns, with_symbols, with_table, globals_at, shared_from}
-use Rattle.jbig2_page.specs.Page.{Drawing, ReadPage, beginning_of, drawing_of_page, page_from, ends_page, immediate, intermediate, with_names, or_left_out, or_passed_over, blank_page, region_at, regions_height, segment_by, segment_on, segments_drawn, with_drawn_region, known_height}
+use Rattle.jbig2_page.specs.Names.{Names, ReferredValues, KeptGlobals, nothing_shared, dictionary_lacks, or_shared_without, extension, first_kept, kept_by, kept_of, no_names, pattern_dictionary_at, referred_by, symbol_dictionary_at, with_code, with_dictionary, with_number, with_numbers, with_patterns, with_symbols, with_table, globals_at, shared_from}
+use Rattle.jbig2_page.specs.Page.{Drawing, ReadPage, beginning_of, drawing_of_page, page_from, ends_page, immediate, intermediate, lacks_referred, with_names, or_left_out, or_passed_over, or_told, blank_page, region_at, regions_height, segment_by, segment_on, segments_drawn, with_cut_off, with_drawn_region, known_height}
 use Rattle.jbig2_page.specs.Regions.{generic_at, halftone_at, patterns_for, referred_region, refinement_at, text_at}
 use Rattle.jbig2_page.specs.declared.kept.Kept.{Kept}
 use Rattle.jbig2_page.specs.declared.region.RegionKind.{RegionKind}
 use Rattle.jbig2_page.specs.declared.region.RegionKind.TheVariants as kinds
-use Rattle.jbig2_page.proofs.Agreeing.{Relates, Same, agrees-next, relates-last, relates-next, same-guard, same-if, same-itself, same-next, same-refusal, same-then}
+use Rattle.jbig2_framing.proofs.Agreeing.{Relates, Same, agrees-next, relates-last, relates-next, same-guard, same-if, same-itself, same-next, same-refusal, same-then}
 use Rattle.jbig2_page.proofs.AgreeingRegions.{generic-header-agrees, generic-same, halftone-header-agrees, halftone-same, lenient_generic, lenient_halftone, lenient_pattern, pattern-header-agrees, patterns-same}
-use Rattle.jbig2_page.proofs.AgreeingSegments.{file-salvaged, file-same, sequential-salvaged, sequential-same, sorted-same}
+use Rattle.jbig2_framing.proofs.AgreeingSegments.{file-salvaged, file-same, sequential-salvaged, sequential-same, sorted-salvaged}
 use Rattle.jbig2_page.proofs.AgreeingSymbols.{lenient_symbols, symbol-header-agrees, symbols-decoded-same}
 use Rattle.jbig2_page.proofs.AgreeingTexts.{lenient_text, text-header-agrees, text-same}
 use Rattle.jbig2_page.proofs.SegmentTypes.{of_type}
@@ -96,28 +101,30 @@ kept-same shared types.Tables h bytes own = same-itself (with_code (of_type type
 kept-same shared types.Extension h bytes own = same-next (extension true bytes) (extension false bytes) (λ known. Ok own) (λ known. Ok own) (extension-same bytes) (λ known. refl)
 kept-same shared _ h bytes own = refl
 
-without-same : (number : ℕ) (shared : KeptGlobals) (r s : Result Names DecodeError) → Same r s → Same (or_shared_without Strict number shared r) (or_shared_without Lenient number shared s)
-without-same number shared (Ok names) s same = ap (λ (t : Result Names DecodeError). or_shared_without Lenient number shared t) same
-without-same number shared (Err e) s same = tt
+without-same : (lacks : Bool) (number : ℕ) (shared : KeptGlobals) (r s : Result Names DecodeError) → Same r s → Same (or_shared_without Strict lacks number shared r) (or_shared_without Lenient lacks number shared s)
+without-same lacks number shared (Ok names) s same = ap (λ (t : Result Names DecodeError). or_shared_without Lenient lacks number shared t) same
+without-same lacks number shared (Err e) s same = tt
 
 named-same : (ps : List SegmentView) (shared : KeptGlobals) → Same (shared_from Strict ps shared) (shared_from Lenient ps shared)
 named-same [] shared = refl
 named-same (p ∷ ps) shared =
     let kept : Result Names DecodeError = kept_by true no_names p shared.names in
     let other : Result Names DecodeError = kept_by false no_names p shared.names in
-    same-next (or_shared_without Strict p.header.segment_number shared kept) (or_shared_without Lenient p.header.segment_number shared other) _ _
-    (without-same p.header.segment_number shared kept other (kept-same no_names p.header.segment_type p.header p.bytes shared.names)) (λ more. named-same ps more)
+    let lacks : Bool = dictionary_lacks shared.names no_names p in
+    same-next (or_shared_without Strict lacks p.header.segment_number shared kept) (or_shared_without Lenient lacks p.header.segment_number shared other) _ _
+    (without-same lacks p.header.segment_number shared kept other (kept-same no_names p.header.segment_type p.header p.bytes shared.names)) (λ more. named-same ps more)
 
 -- salvage names what lenient reading does
-without-salvaged : (number : ℕ) (shared : KeptGlobals) (r : Result Names DecodeError) → Same (or_shared_without Lenient number shared r) (or_shared_without Salvage number shared r)
-without-salvaged number shared (Ok names) = refl
-without-salvaged number shared (Err e) = tt
+without-salvaged : (lacks : Bool) (number : ℕ) (shared : KeptGlobals) (r : Result Names DecodeError) → Same (or_shared_without Lenient lacks number shared r) (or_shared_without Salvage lacks number shared r)
+without-salvaged lacks number shared (Ok names) = refl
+without-salvaged lacks number shared (Err e) = tt
 
 named-salvaged : (ps : List SegmentView) (shared : KeptGlobals) → Same (shared_from Lenient ps shared) (shared_from Salvage ps shared)
 named-salvaged [] shared = refl
 named-salvaged (p ∷ ps) shared =
     let kept : Result Names DecodeError = kept_by false no_names p shared.names in
-    same-next (or_shared_without Lenient p.header.segment_number shared kept) (or_shared_without Salvage p.header.segment_number shared kept) _ _ (without-salvaged p.header.segment_number shared kept) (λ more. named-salvaged ps more)
+    let lacks : Bool = dictionary_lacks shared.names no_names p in
+    same-next (or_shared_without Lenient lacks p.header.segment_number shared kept) (or_shared_without Salvage lacks p.header.segment_number shared kept) _ _ (without-salvaged lacks p.header.segment_number shared kept) (λ more. named-salvaged ps more)
 
 -- ---- regions
 text_at-same : (own shared : Names) (p : SegmentView) → Same (text_at true own shared p) (text_at false own shared p)
@@ -195,12 +202,17 @@ left-same : (number : ℕ) (d : Drawing) (r s : Result Drawing DecodeError) → 
 left-same number d (Ok e) s same = ap (λ (t : Result Drawing DecodeError). or_left_out Lenient number d t) same
 left-same number d (Err e) s same = tt
 
+told-same : (lacks : Bool) (number : ℕ) (d : Drawing) (r s : Result Drawing DecodeError) → Same r s → Same (or_told lacks number d r) (or_told lacks number d s)
+told-same lacks number d (Ok e) s same = ap (λ (t : Result Drawing DecodeError). or_told lacks number d t) same
+told-same lacks number d (Err e) s same = tt
+
 drawn-same : (globals : Names) (ps : List SegmentView) (d : Drawing) → Same (segments_drawn Strict globals ps d) (segments_drawn Lenient globals ps d)
 drawn-same globals [] d = refl
 drawn-same globals (p ∷ ps) d =
     same-if (ends_page p.header.segment_type) (Ok d) (Ok d) _ _ refl
     (same-next (segment_on Strict globals p d) (segment_on Lenient globals p d) _ _
-    (left-same p.header.segment_number d (segment_by true globals p d) (segment_by false globals p d) (typed-same globals p.header.segment_type p.header p.bytes d)) (λ e. drawn-same globals ps e))
+    (told-same (lacks_referred globals p d) p.header.segment_number d (or_left_out Strict p.header.segment_number d (segment_by true globals p d)) (or_left_out Lenient p.header.segment_number d (segment_by false globals p d))
+    (left-same p.header.segment_number d (segment_by true globals p d) (segment_by false globals p d) (typed-same globals p.header.segment_type p.header p.bytes d))) (λ e. drawn-same globals ps e))
 
 -- salvage draws what lenient reading does
 left-salvaged : (number : ℕ) (d : Drawing) (r : Result Drawing DecodeError) → Same (or_left_out Lenient number d r) (or_left_out Salvage number d r)
@@ -211,7 +223,8 @@ drawn-salvaged : (globals : Names) (ps : List SegmentView) (d : Drawing) → Sam
 drawn-salvaged globals [] d = refl
 drawn-salvaged globals (p ∷ ps) d =
     same-if (ends_page p.header.segment_type) (Ok d) (Ok d) _ _ refl
-    (same-next (segment_on Lenient globals p d) (segment_on Salvage globals p d) _ _ (left-salvaged p.header.segment_number d (segment_by false globals p d)) (λ e. drawn-salvaged globals ps e))
+    (same-next (segment_on Lenient globals p d) (segment_on Salvage globals p d) _ _
+    (told-same (lacks_referred globals p d) p.header.segment_number d (or_left_out Lenient p.header.segment_number d (segment_by false globals p d)) (or_left_out Salvage p.header.segment_number d (segment_by false globals p d)) (left-salvaged p.header.segment_number d (segment_by false globals p d))) (λ e. drawn-salvaged globals ps e))
 
 -- ---- what a page begins as
 beginning-same : (ps : List SegmentView) → Same (beginning_of Strict ps) (beginning_of Lenient ps)
@@ -241,6 +254,8 @@ associated-same (p ∷ ps) = same-guard (lacks_page true p.header) (Segment Miss
 record Milder (one other : Reading) : Type 0 where
   lists : (bytes : List ℕ) → Same (sequential one bytes) (sequential other bytes)
   files : (bytes : List ℕ) → Same (file_at one bytes) (file_at other bytes)
+  sequences : (bytes : List ℕ) → IfOk (sequential one bytes) (λ ps. sequence_cut_off one bytes ≡ sequence_cut_off other bytes)
+  cut_files : (bytes : List ℕ) → IfOk (file_at one bytes) (λ file. file_cut_off one bytes ≡ file_cut_off other bytes)
   kept_of : (ps : List SegmentView) (shared : KeptGlobals) → Same (shared_from one ps shared) (shared_from other ps shared)
   drawn : (globals : Names) (ps : List SegmentView) (d : Drawing) → Same (segments_drawn one globals ps d) (segments_drawn other globals ps d)
   begins : (ps : List SegmentView) → Same (beginning_of one ps) (beginning_of other ps)
@@ -260,21 +275,32 @@ record SamePage (one other : Reading) (page twin : ReadPage) : Type 0 where
   initial_page : twin.initial_page ≡ page.initial_page
   segments : twin.segments ≡ page.segments
   globals : Same page.globals twin.globals
+  cut_off : twin.cut_off ≡ page.cut_off
+
+-- what is known of a list that is read
+given : {X Y : Type 0} (R : X → Y → Type 0) (C : Type 0) (r : Result (List SegmentView) DecodeError) (next : List SegmentView → Result X DecodeError) (right : Result Y DecodeError) → IfOk r (λ ps. C)
+    → (C → Relates R ((r >>= λ ps. Ok (by_number ps)) >>= next) right) → Relates R ((r >>= λ ps. Ok (by_number ps)) >>= next) right
+given R C (Ok ps) next right is each = each is
+given R C (Err e) next right is each = tt
 
 page-relates : (one other : Reading) → Milder one other → (names : Names) (bytes : List ℕ) → Relates (SamePage one other) (page_from one names bytes) (page_from other names bytes)
 unfolding page_from
-page-relates one other m names bytes =
+page-relates one other m names bytes = given (SamePage one other) (sequence_cut_off one bytes ≡ sequence_cut_off other bytes) (sequential one bytes) _ _ (m.sequences bytes) (λ cut.
     relates-next (SamePage one other) (sorted_segments one bytes) (sorted_segments other bytes) _ _ (sorted-milder one other m bytes) (λ ps.
     relates-next (SamePage one other) (beginning_of one ps) (beginning_of other ps) _ _ (m.begins ps) (λ initial_page. (
-      record { reading = other; initial_page = initial_page; segments = ps; globals = Ok names; fault = fault_of other (sequential Lenient bytes) },
+      record { reading = other; initial_page = initial_page; segments = ps; globals = Ok names; cut_off = sequence_cut_off other bytes },
       refl,
-      record { first = refl; second = refl; initial_page = refl; segments = refl; globals = refl },
-    )))
+      record { first = refl; second = refl; initial_page = refl; segments = refl; globals = refl; cut_off = sym cut },
+    ))))
 
 page-same : (one other : Reading) → Milder one other → (page twin : ReadPage) → SamePage one other page twin → Same (drawing_of_page page) (drawing_of_page twin)
 page-same one other m page twin same =
-    rw (same.first, same.second, same.initial_page, same.segments)
-    (same-next page.globals twin.globals (λ names. segments_drawn one names page.segments (blank_page page.initial_page)) (λ names. segments_drawn other names page.segments (blank_page page.initial_page)) same.globals (λ names. m.drawn names page.segments (blank_page page.initial_page)))
+    rw (same.first, same.second, same.initial_page, same.segments, same.cut_off)
+    (same-next page.globals twin.globals (λ names. segments_drawn one names page.segments (blank_page page.initial_page) >>= λ d. told page.cut_off d) (λ names. segments_drawn other names page.segments (blank_page page.initial_page) >>= λ d. told page.cut_off d) same.globals (λ names.
+    same-next (segments_drawn one names page.segments (blank_page page.initial_page)) (segments_drawn other names page.segments (blank_page page.initial_page)) (λ d. told page.cut_off d) (λ d. told page.cut_off d) (m.drawn names page.segments (blank_page page.initial_page)) (λ d. refl)))
+  where
+    told : Option CutOff → Drawing → Result Drawing DecodeError
+    told c d = Ok (with_cut_off c d)
 
 -- ---- files
 filed-same : (one other : Reading) → Milder one other → (own : List SegmentView) → Same (page_in_file one own) (page_in_file other own)
@@ -300,20 +326,28 @@ shared-same one other m (page ∷ pages) shared = m.kept_of shared (nothing_shar
 record SameFile (one other : Reading) (book twin : ReadFile) : Type 0 where
   first : book.reading ≡ one
   second : twin.reading ≡ other
+  organization : twin.organization ≡ book.organization
   pages : twin.pages ≡ book.pages
   globals : Same book.globals twin.globals
+  cut_off : twin.cut_off ≡ book.cut_off
+
+-- what is known of a file that is read
+given-file : {X Y : Type 0} (R : X → Y → Type 0) (C : Type 0) (r : Result (FileHeader × List SegmentView) DecodeError) (next : FileHeader × List SegmentView → Result X DecodeError) (right : Result Y DecodeError) → IfOk r (λ file. C)
+    → (C → Relates R (r >>= next) right) → Relates R (r >>= next) right
+given-file R C (Ok file) next right is each = each is
+given-file R C (Err e) next right is each = tt
 
 book-relates : (one other : Reading) → Milder one other → (bytes : List ℕ) → Relates (SameFile one other) (book_at one bytes) (book_at other bytes)
 unfolding book_at
-book-relates one other m bytes =
+book-relates one other m bytes = given-file (SameFile one other) (file_cut_off one bytes ≡ file_cut_off other bytes) (file_at one bytes) _ _ (m.cut_files bytes) (λ cut.
     relates-next (SameFile one other) (file_at one bytes) (file_at other bytes) _ _ (m.files bytes) (λ file.
     relates-next (SameFile one other) (association_check (is_strict one) file.1) (association_check (is_strict other) file.1) _ _ (m.associations file.1) (λ known.
     relates-next (SameFile one other) (refuse_if (is_strict one && miscounts file.0.number_of_pages (length (by_pages file.1))) (Format PageCountMismatch)) (refuse_if (is_strict other && miscounts file.0.number_of_pages (length (by_pages file.1))) (Format PageCountMismatch)) _ _ (m.strictly (miscounts file.0.number_of_pages (length (by_pages file.1))) (Format PageCountMismatch)) (λ counted.
     relates-next (SameFile one other) (pages_in_file one (by_pages file.1)) (pages_in_file other (by_pages file.1)) _ _ (each-same one other m (by_pages file.1)) (λ pages. (
-      record { reading = other; pages = pages; globals = shared_by other pages (of_page 0 file.1); left_out = left_out_of other (by_pages file.1); fault = fault_of other (file_at Lenient bytes) },
+      record { reading = other; organization = file.0.organization; pages = pages; globals = shared_by other pages (of_page 0 file.1); left_out = left_out_of other (by_pages file.1); cut_off = file_cut_off other bytes },
       refl,
-      record { first = refl; second = refl; pages = refl; globals = shared-same one other m pages (of_page 0 file.1) },
-    )))))
+      record { first = refl; second = refl; organization = refl; pages = refl; globals = shared-same one other m pages (of_page 0 file.1); cut_off = sym cut },
+    ))))))
 
 file-page-same : (one other : Reading) → Milder one other → (book twin : ReadFile) → SameFile one other book twin → (page : Option PageInFile) → Same (some_or (Format MissingPageInfo) (option_map (page_in book) page) >>= λ p. drawing_of_page p) (some_or (Format MissingPageInfo) (option_map (page_in twin) page) >>= λ p. drawing_of_page p)
 file-page-same one other m book twin same (Some page) =
@@ -323,6 +357,7 @@ file-page-same one other m book twin same (Some page) =
       initial_page = refl;
       segments = refl;
       globals = same-next book.globals twin.globals _ _ same.globals (λ shared. refl);
+      cut_off = ap (λ (organization : FileOrganization). cut_off_of organization page twin.cut_off) same.organization ∙ ap (λ (c : Option CutOff). cut_off_of book.organization page c) same.cut_off;
     })
 file-page-same one other m book twin same None = tt
 
@@ -336,6 +371,8 @@ strict-lenient : Milder Strict Lenient
 strict-lenient = record {
   lists = sequential-same;
   files = file-same;
+  sequences = sequence-cut-same;
+  cut_files = file-cut-same;
   kept_of = named-same;
   drawn = drawn-same;
   begins = beginning-same;
@@ -344,10 +381,16 @@ strict-lenient = record {
   refusals = λ e. refl;
 }
 
+any-list : (r : Result (List SegmentView) DecodeError) (c : Option CutOff) → IfOk r (λ ps. c ≡ c)
+any-list (Ok ps) c = refl
+any-list (Err e) c = tt
+
 lenient-salvage : Milder Lenient Salvage
 lenient-salvage = record {
   lists = sequential-salvaged;
   files = file-salvaged;
+  sequences = λ bytes. any-list (sequential Lenient bytes) (sequence_cut_off Lenient bytes);
+  cut_files = file-cut-salvaged;
   kept_of = named-salvaged;
   drawn = drawn-salvaged;
   begins = beginning-salvaged;
@@ -358,16 +401,17 @@ lenient-salvage = record {
 
 globals-strictly : (bytes : List ℕ) → Same (globals_at Strict bytes) (globals_at Lenient bytes)
 unfolding globals_at
-globals-strictly bytes = same-next (sorted_segments Strict bytes) (sorted_segments Lenient bytes) _ _ (sorted-same bytes) (λ ps. named-same ps (nothing_shared None))
+globals-strictly bytes = by (sequential Strict bytes) (sequential Lenient bytes) (sequence_cut_off Strict bytes) (sequence_cut_off Lenient bytes) (sequential-same bytes) (sequence-cut-same bytes)
+  where
+    by : (r s : Result (List SegmentView) DecodeError) (c other : Option CutOff) → Same r s → IfOk r (λ ps. c ≡ other) → Same ((r >>= λ ps. Ok (by_number ps)) >>= λ ps. shared_from Strict ps (nothing_shared c)) ((s >>= λ ps. Ok (by_number ps)) >>= λ ps. shared_from Lenient ps (nothing_shared other))
+    by (Ok ps) s c other first cut =
+        subst (λ (t : Result (List SegmentView) DecodeError). Same (shared_from Strict (by_number ps) (nothing_shared c)) ((t >>= λ qs. Ok (by_number qs)) >>= λ qs. shared_from Lenient qs (nothing_shared other))) (sym first)
+        (subst (λ (o : Option CutOff). Same (shared_from Strict (by_number ps) (nothing_shared c)) (shared_from Lenient (by_number ps) (nothing_shared o))) cut (named-same (by_number ps) (nothing_shared c)))
+    by (Err e) s c other first cut = tt
 
 globals-salvaged : (bytes : List ℕ) → Same (globals_at Lenient bytes) (globals_at Salvage bytes)
 unfolding globals_at
-globals-salvaged bytes = by (sequential Lenient bytes) (sequential Salvage bytes) (sequential-salvaged bytes)
-  where
-    by : (r s : Result (List SegmentView) DecodeError) → Same r s → Same ((r >>= λ ps. Ok (by_number ps)) >>= λ ps. shared_from Lenient ps (nothing_shared None)) ((s >>= λ ps. Ok (by_number ps)) >>= λ ps. shared_from Salvage ps (nothing_shared (fault_of Salvage r)))
-    by (Ok ps) s first =
-        subst (λ (t : Result (List SegmentView) DecodeError). Same (shared_from Lenient (by_number ps) (nothing_shared None)) ((t >>= λ qs. Ok (by_number qs)) >>= λ qs. shared_from Salvage qs (nothing_shared None))) (sym first) (named-salvaged (by_number ps) (nothing_shared None))
-    by (Err e) s first = tt
+globals-salvaged bytes = same-next (sorted_segments Lenient bytes) (sorted_segments Salvage bytes) _ _ (sorted-salvaged bytes) (λ ps. named-salvaged ps (nothing_shared (sequence_cut_off Lenient bytes)))
 
 agree : (one other : Reading) → Milder one other → ((bytes : List ℕ) → Same (globals_at one bytes) (globals_at other bytes)) → ReadingsAgree one other
 agree one other m globals = record {

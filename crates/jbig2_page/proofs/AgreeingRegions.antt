@@ -19,7 +19,7 @@ use Rattle.jbig2_region.specs.GenericHeader.{GenericHeader, generic_header_at, r
 use Rattle.jbig2_region.specs.Raster.{Region, decoded_region, no_pixels, so_far}
 use Rattle.jbig2_region.specs.RegionInfo.{region_info_at}
 use Rattle.jbig2_region.specs.Templates.{adaptive_pixels_at, template_pixels, nominal_adaptive_pixels}
-use Rattle.jbig2_page.proofs.Agreeing.{Agrees, Same, agrees-then, same-if, same-next, same-then, same-unless}
+use Rattle.jbig2_framing.proofs.Agreeing.{Agrees, Same, agrees-then, same-if, same-next, same-then, same-unless}
 use Rattle.jbig2_page.proofs.PackedRows.{map-same}
 
 -- ---- MMR data

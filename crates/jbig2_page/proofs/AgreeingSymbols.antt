@@ -21,7 +21,7 @@ use Rattle.jbig2_symbol.specs.Symbols.{dictionary_by, dictionary_from, exported_
 use Rattle.jbig2_text.specs.Refining.{Refining}
 use Rattle.jbig2_text.specs.Text.{Readings, TextParams}
 use Rattle.jbig2_text.specs.TextCoding.{CodedState, PrefixedState, by_coder, by_prefix_codes, in_band, next_id}
-use Rattle.jbig2_page.proofs.Agreeing.{Agrees, Same, agrees-then, same-if, same-itself, same-next, same-of, same-option, same-then}
+use Rattle.jbig2_framing.proofs.Agreeing.{Agrees, Same, agrees-then, same-if, same-itself, same-next, same-of, same-option, same-then}
 use Rattle.jbig2_page.proofs.AgreeingRegions.{mmr-same}
 use Rattle.jbig2_page.proofs.AgreeingTexts.{lenient_params, text-region-same}
 

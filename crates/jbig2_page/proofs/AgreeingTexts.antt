@@ -14,7 +14,7 @@ use Rattle.jbig2_text.specs.Text.{TextState, Readings, TextParams, after_instanc
 use Rattle.jbig2_text.specs.TextCoding.{by_coder, by_prefix_codes}
 use Rattle.jbig2_text.specs.TextHeader.{NumberCoding, TextHeader, ArithmeticCoding, HuffmanCoding, coding_at, text_fields_at, text_header_at}
 use Rattle.jbig2_text.specs.TextRegion.{coder_of, prefix_codes_of, refining_of, region_by, region_from, text_result, text_decoded, text_params}
-use Rattle.jbig2_page.proofs.Agreeing.{Agrees, Same, agrees-then, same-if, same-itself, same-next, same-refusal, same-then, same-unless}
+use Rattle.jbig2_framing.proofs.Agreeing.{Agrees, Same, agrees-then, same-if, same-itself, same-next, same-refusal, same-then, same-unless}
 
 abbrev pub lenient_params : TextParams → TextParams
 lenient_params p = record p { strict = false }

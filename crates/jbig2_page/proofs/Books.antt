@@ -6,20 +6,23 @@ use Rattle.std.specs.Map.Iter.{TakesFirst}
 use Rattle.std.specs.Prelude.{slice_get, option_map}
 use Rattle.jbig2_base.proofs.Causes.{went}
 use Rattle.jbig2_base.specs.Results.{◌>>=◌, refuse_if}
-use Rattle.jbig2_base.specs.PageInfo.{initial_page_with, first_information, information_at, is_page_information, height_of}
-use Rattle.jbig2_base.specs.File.{file_at}
-use Rattle.jbig2_base.specs.Reading.{fault_of, is_salvaged, is_strict}
-use Rattle.jbig2_base.specs.Segment.{SegmentView}
+use Rattle.jbig2_framing.specs.PageInfo.{initial_page_with, first_information, information_at, is_page_information, height_of}
+use Rattle.jbig2_framing.specs.File.{file_at}
+use Rattle.jbig2_framing.specs.CutOff.{file_cut_off}
+use Rattle.jbig2_framing.specs.Reading.{is_salvaged, is_strict}
+use Rattle.jbig2_framing.specs.declared.cut_off.CutOff.{CutOff}
+use Rattle.jbig2_framing.specs.declared.file_header.FileOrganization.{FileOrganization}
+use Rattle.jbig2_framing.specs.Segment.{SegmentView}
 use Rattle.jbig2_base.specs.declared.error.DecodeError.{DecodeError}
 use Rattle.jbig2_base.specs.declared.error.DecodeError.TheVariants.{Format, Overflow}
 use Rattle.jbig2_base.specs.declared.error.FormatError.TheVariants.{EmptyPage, InvalidEndOfPage, PageCountMismatch}
 use Rattle.jbig2_base.specs.declared.error.OverflowError.TheVariants.{BitmapDimension}
-use Rattle.jbig2_base.specs.declared.file_header.FileHeader.{FileHeader}
-use Rattle.jbig2_base.specs.declared.page_info.PageInformation.{PageInformation}
-use Rattle.jbig2_base.specs.declared.page_info.InitialPage.{InitialPage}
-use Rattle.jbig2_base.specs.declared.reading.Reading.{Reading}
-use Rattle.jbig2_base.specs.declared.reading.Reading.TheVariants.{Lenient}
-use Rattle.jbig2_page.specs.Files.{PageInFile, ReadFile, of_page, by_pages, ends_of, error_of, before_pages, page_in_file, pages_in_file, left_out_of, numbers_after, miscounts, association_check, book_at, page_in, shared_by, PagesStandAlone}
+use Rattle.jbig2_framing.specs.declared.file_header.FileHeader.{FileHeader}
+use Rattle.jbig2_framing.specs.declared.page_info.PageInformation.{PageInformation}
+use Rattle.jbig2_framing.specs.declared.page_info.InitialPage.{InitialPage}
+use Rattle.jbig2_framing.specs.declared.reading.Reading.{Reading}
+use Rattle.jbig2_framing.specs.declared.reading.Reading.TheVariants.{Lenient}
+use Rattle.jbig2_page.specs.Files.{PageInFile, ReadFile, of_page, by_pages, ends_of, error_of, before_pages, cut_off_of, page_in_file, pages_in_file, left_out_of, numbers_after, miscounts, association_check, book_at, page_in, shared_by, PagesStandAlone}
 use Rattle.jbig2_page.specs.Names.{shared_from, names_of, nothing_shared}
 use Rattle.jbig2_page.specs.Page.{ReadPage, beginning_of, known_height}
 use Rattle.jbig2_page.specs.SharedWork.{shared_count}
@@ -134,49 +137,50 @@ own-at reading ps (p ∷ pages) zero page all h =
 own-at reading ps (p ∷ pages) (suc index) page all h = own-at reading ps pages index page all.1 h
 
 -- a file's book, from its header and its segments
-abbrev book_of : Reading → Option DecodeError → FileHeader × List SegmentView → List PageInFile → ReadFile
-book_of reading fault file pages = record { reading = reading; pages = pages; globals = shared_by reading pages (of_page 0 file.1); left_out = left_out_of reading (by_pages file.1); fault = fault }
+abbrev book_of : Reading → Option CutOff → FileHeader × List SegmentView → List PageInFile → ReadFile
+book_of reading cut_off file pages = record { reading = reading; organization = file.0.organization; pages = pages; globals = shared_by reading pages (of_page 0 file.1); left_out = left_out_of reading (by_pages file.1); cut_off = cut_off }
 
-abbrev pages_with : Reading → Option DecodeError → FileHeader × List SegmentView → Result ReadFile DecodeError
-pages_with reading fault file = pages_in_file reading (by_pages file.1) >>= λ pages. Ok (book_of reading fault file pages)
+abbrev pages_with : Reading → Option CutOff → FileHeader × List SegmentView → Result ReadFile DecodeError
+pages_with reading cut_off file = pages_in_file reading (by_pages file.1) >>= λ pages. Ok (book_of reading cut_off file pages)
 
-abbrev counted_with : Reading → Option DecodeError → FileHeader × List SegmentView → Result ReadFile DecodeError
-counted_with reading fault file = refuse_if (is_strict reading && miscounts file.0.number_of_pages (length (by_pages file.1))) (Format PageCountMismatch) >>= λ counted. pages_with reading fault file
+abbrev counted_with : Reading → Option CutOff → FileHeader × List SegmentView → Result ReadFile DecodeError
+counted_with reading cut_off file = refuse_if (is_strict reading && miscounts file.0.number_of_pages (length (by_pages file.1))) (Format PageCountMismatch) >>= λ counted. pages_with reading cut_off file
 
-abbrev book_with : Reading → Option DecodeError → FileHeader × List SegmentView → Result ReadFile DecodeError
-book_with reading fault file = association_check (is_strict reading) file.1 >>= λ known. counted_with reading fault file
+abbrev book_with : Reading → Option CutOff → FileHeader × List SegmentView → Result ReadFile DecodeError
+book_with reading cut_off file = association_check (is_strict reading) file.1 >>= λ known. counted_with reading cut_off file
 
-pub record Filled (reading : Reading) (fault : Option DecodeError) (ps : List SegmentView) (book : ReadFile) : Type 0 where
-  pub filed : pages_in_file reading (by_pages ps) ≡ Ok book.pages
-  pub own : AllOwn reading ps book.pages
+pub record Filled (reading : Reading) (cut_off : Option CutOff) (file : FileHeader × List SegmentView) (book : ReadFile) : Type 0 where
+  pub organized : book.organization ≡ file.0.organization
+  pub filed : pages_in_file reading (by_pages file.1) ≡ Ok book.pages
+  pub own : AllOwn reading file.1 book.pages
   pub mode : book.reading ≡ reading
-  pub shared : book.globals ≡ shared_by reading book.pages (of_page 0 ps)
-  pub ended : book.fault ≡ fault
+  pub shared : book.globals ≡ shared_by reading book.pages (of_page 0 file.1)
+  pub ended : book.cut_off ≡ cut_off
 
-filled : (reading : Reading) (fault : Option DecodeError) (file : FileHeader × List SegmentView) (book : ReadFile) → book_with reading fault file ≡ Ok book → Filled reading fault file.1 book
-filled reading fault file book h =
-    let known = went (association_check (is_strict reading) file.1) (λ known. counted_with reading fault file) book h in
-    let counted = went (refuse_if (is_strict reading && miscounts file.0.number_of_pages (length (by_pages file.1))) (Format PageCountMismatch)) (λ counted. pages_with reading fault file) book known.2 in
-    let pages = went (pages_in_file reading (by_pages file.1)) (λ pages. Ok (book_of reading fault file pages)) book counted.2 in
-    let made : ReadFile = book_of reading fault file pages.0 in
+filled : (reading : Reading) (cut_off : Option CutOff) (file : FileHeader × List SegmentView) (book : ReadFile) → book_with reading cut_off file ≡ Ok book → Filled reading cut_off file book
+filled reading cut_off file book h =
+    let known = went (association_check (is_strict reading) file.1) (λ known. counted_with reading cut_off file) book h in
+    let counted = went (refuse_if (is_strict reading && miscounts file.0.number_of_pages (length (by_pages file.1))) (Format PageCountMismatch)) (λ counted. pages_with reading cut_off file) book known.2 in
+    let pages = went (pages_in_file reading (by_pages file.1)) (λ pages. Ok (book_of reading cut_off file pages)) book counted.2 in
+    let made : ReadFile = book_of reading cut_off file pages.0 in
     let same : made ≡ book = let is = pages.2 in cc in
     let own : AllOwn reading file.1 pages.0 = own-each reading file.1 (numbers_after [] file.1) pages.0 pages.1 in
-    let is : Filled reading fault file.1 made = record { filed = pages.1; own = own; mode = refl; shared = refl; ended = refl } in
-    subst (λ (b : ReadFile). Filled reading fault file.1 b) same is
+    let is : Filled reading cut_off file made = record { organized = refl; filed = pages.1; own = own; mode = refl; shared = refl; ended = refl } in
+    subst (λ (b : ReadFile). Filled reading cut_off file b) same is
 
 -- a book of these bytes
-pub filled_from : (reading : Reading) (bytes : List ℕ) (file : FileHeader × List SegmentView) (book : ReadFile) → file_at reading bytes ≡ Ok file → book_at reading bytes ≡ Ok book → Filled reading (fault_of reading (file_at Lenient bytes)) file.1 book
+pub filled_from : (reading : Reading) (bytes : List ℕ) (file : FileHeader × List SegmentView) (book : ReadFile) → file_at reading bytes ≡ Ok file → book_at reading bytes ≡ Ok book → Filled reading (file_cut_off reading bytes) file book
 unfolding book_at
 filled_from reading bytes file book read h =
-    let fault : Option DecodeError = fault_of reading (file_at Lenient bytes) in
-    let with_file : book_with reading fault file ≡ Ok book = sym (ap (λ (r : Result (FileHeader × List SegmentView) DecodeError). r >>= book_with reading fault) read) ∙ h in
-    filled reading fault file book with_file
+    let cut_off : Option CutOff = file_cut_off reading bytes in
+    let with_file : book_with reading cut_off file ≡ Ok book = sym (ap (λ (r : Result (FileHeader × List SegmentView) DecodeError). r >>= book_with reading cut_off) read) ∙ h in
+    filled reading cut_off file book with_file
 
 -- a book was read from a file
 pub file-of_book : (reading : Reading) (bytes : List ℕ) (book : ReadFile) → book_at reading bytes ≡ Ok book → (file : FileHeader × List SegmentView) × (file_at reading bytes ≡ Ok file)
 unfolding book_at
 file-of_book reading bytes book h =
-    let file = went (file_at reading bytes) (book_with reading (fault_of reading (file_at Lenient bytes))) book h in
+    let file = went (file_at reading bytes) (book_with reading (file_cut_off reading bytes)) book h in
     (file.0, file.1)
 
 -- a file with a page shares its globals
@@ -211,22 +215,29 @@ pub mapped : {X Y : Type 0} (f : X → Y) (o : Option X) (y : Y) → option_map 
 mapped f None y h = absurd (cc)
 mapped f (Some x) y h = record { from = x; was = refl; is = cc }
 
-abbrev page_from : Reading → Option DecodeError → List SegmentView → List SegmentView → Result ReadPage DecodeError
-page_from reading fault own shared = beginning_of reading own >>= λ initial_page. Ok (record { reading = reading; initial_page = initial_page; segments = own; globals = names_of (shared_from reading shared (nothing_shared None)); fault = fault })
+abbrev page_from : Reading → FileOrganization → Option CutOff → List SegmentView → List SegmentView → Result ReadPage DecodeError
+page_from reading organization cut_off own shared =
+    beginning_of reading own >>= λ initial_page. Ok (record {
+      reading = reading;
+      initial_page = initial_page;
+      segments = own;
+      globals = names_of (shared_from reading shared (nothing_shared None));
+      cut_off = cut_off_of organization (record { initial_page = initial_page; segments = own }) cut_off;
+    })
 
-own-leaf : (reading : Reading) (fault : Option DecodeError) (ps : List SegmentView) (book : ReadFile) (page : PageInFile) → Filled reading fault ps book → book.globals ≡ shared_from reading (of_page 0 ps) (nothing_shared None) → IsOwn reading ps page
-    → page_from reading fault (of_page page.initial_page.number ps) (of_page 0 ps) ≡ Ok (page_in book page)
-own-leaf reading fault ps book page filled shared own = rw (own.initial_page, filled.mode, filled.ended, own.segments, shared) refl
+own-leaf : (reading : Reading) (cut_off : Option CutOff) (file : FileHeader × List SegmentView) (book : ReadFile) (page : PageInFile) → Filled reading cut_off file book → book.globals ≡ shared_from reading (of_page 0 file.1) (nothing_shared None) → IsOwn reading file.1 page
+    → page_from reading file.0.organization cut_off (of_page page.initial_page.number file.1) (of_page 0 file.1) ≡ Ok (page_in book page)
+own-leaf reading cut_off file book page filled shared own = rw (own.initial_page, filled.mode, filled.organized, filled.ended, own.segments, shared) refl
 
 pub pages_stand_alone : PagesStandAlone
 pages_stand_alone reading bytes file book index page read h at =
-    let fault : Option DecodeError = fault_of reading (file_at Lenient bytes) in
+    let cut_off : Option CutOff = file_cut_off reading bytes in
     let all = filled_from reading bytes file book read h in
     let leaf = mapped (page_in book) (slice_get book.pages index) page at in
     let own = own-at reading file.1 book.pages index leaf.from all.own leaf.was in
-    let Alone : ReadPage → Type 0 = λ l. page_from reading fault (of_page l.initial_page.number file.1) (of_page 0 file.1) ≡ Ok l in
+    let Alone : ReadPage → Type 0 = λ l. page_from reading file.0.organization cut_off (of_page l.initial_page.number file.1) (of_page 0 file.1) ≡ Ok l in
     let shared = all.shared ∙ shares-at reading book.pages (of_page 0 file.1) index leaf.from leaf.was in
-    subst Alone leaf.is (own-leaf reading fault file.1 book leaf.from all shared own)
+    subst Alone leaf.is (own-leaf reading cut_off file book leaf.from all shared own)
 
 -- the pages that are made, and those that follow them
 abbrev pub with_pages : List PageInFile → Result (List PageInFile) DecodeError → Result (List PageInFile) DecodeError

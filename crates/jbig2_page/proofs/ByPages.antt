@@ -11,9 +11,9 @@ use Rattle.std.specs.Map.{lookup}
 use Rattle.std.specs.Ordering.{nat_cmp, is_eq}
 use Rattle.std.specs.declared.cmp.Ordering.TheVariants.{Less, Equal, Greater}
 use Rattle.std.specs.declared.vec.Vec.{Vec}
-use Rattle.jbig2_base.specs.Segment.{SegmentView}
-use Rattle.jbig2_base.specs.inner.SegmentViews.{segment_view, segment_views}
-use Rattle.jbig2_base.specs.declared.segment.Segment.{Segment}
+use Rattle.jbig2_framing.specs.Segment.{SegmentView}
+use Rattle.jbig2_framing.specs.inner.SegmentViews.{segment_view, segment_views}
+use Rattle.jbig2_framing.specs.declared.segment.Segment.{Segment}
 use Rattle.jbig2_page.specs.inner.ByPages.{pages_view, first_place_of, HasSegments}
 use Rattle.jbig2_page.specs.declared.file.segments_by_page.SegmentsByPage.{SegmentsByPage}
 use Rattle.jbig2_page.specs.Files.{numbers_after, of_page, by_pages}

@@ -3,23 +3,24 @@ use Rattle.std.proofs.Common.{◌≡◌, ◌≢◌, ◌⊎◌, ℕ, suc, Bool, t
 use Rattle.std.proofs.lemmas.Bool.{and_parts, eq-eqb, eqb-true, false≢true, not-true}
 use Rattle.std.specs.Prelude.{Any, IfErr, IsTrue, option_map}
 use Rattle.jbig2_base.specs.Results.{refuse_if, some_or}
-use Rattle.jbig2_base.specs.File.{file_at}
-use Rattle.jbig2_base.specs.PageInfo.{initial_page_of}
-use Rattle.jbig2_base.specs.Reading.{is_salvaged, is_strict}
-use Rattle.jbig2_base.specs.Segment.{SegmentView}
-use Rattle.jbig2_base.specs.Causes.{BreaksInitialPage, HasCause, HasCauseOrNoMemory}
+use Rattle.jbig2_framing.specs.File.{file_at}
+use Rattle.jbig2_framing.specs.PageInfo.{initial_page_of}
+use Rattle.jbig2_framing.specs.Reading.{is_salvaged, is_strict}
+use Rattle.jbig2_framing.specs.Segment.{SegmentView}
+use Rattle.jbig2_base.specs.Causes.{HasCause, HasCauseOrNoMemory}
+use Rattle.jbig2_framing.specs.Causes.{BreaksInitialPage}
 use Rattle.jbig2_base.specs.declared.error.DecodeError.{DecodeError}
 use Rattle.jbig2_base.specs.declared.error.DecodeError.TheVariants as errors
 use Rattle.jbig2_base.specs.declared.error.FormatError.TheVariants as formats
 use Rattle.jbig2_base.specs.declared.error.ParseError.TheVariants.{UnexpectedEof}
 use Rattle.jbig2_base.specs.declared.error.SegmentError.TheVariants as segments
-use Rattle.jbig2_base.specs.declared.file_header.FileHeader.{FileHeader}
-use Rattle.jbig2_base.specs.declared.reading.Reading.{Reading}
-use Rattle.jbig2_base.specs.declared.reading.Reading.TheVariants as readings
+use Rattle.jbig2_framing.specs.declared.file_header.FileHeader.{FileHeader}
+use Rattle.jbig2_framing.specs.declared.reading.Reading.{Reading}
+use Rattle.jbig2_framing.specs.declared.reading.Reading.TheVariants as readings
 use Rattle.jbig2_base.proofs.FromInput.{IsFromInput}
 use Rattle.jbig2_base.proofs.CauseSteps.{call-cause, call-cause-or-memory}
 use Rattle.jbig2_base.proofs.Causes.{cause-next, cause-refused}
-use Rattle.jbig2_base.proofs.InitialCauses.{initial_page_causes}
+use Rattle.jbig2_framing.proofs.InitialCauses.{initial_page_causes}
 use Rattle.jbig2_region.proofs.ResultCauses.{cause-if, cause-more}
 use Rattle.jbig2_symbol.proofs.ReadingCauses.{in-steps}
 use Rattle.jbig2_page.specs.Causes.{BreaksBook, BreaksFirstPage, BreaksPages}

@@ -1,5 +1,5 @@
 -- A region over a whole page of one colour.
-use Rattle.std.proofs.Common.{◌≡◌, ℕ, List, ◌<◌, ◌≤◌, Bool, true, false, ◌&&◌, if◌then◌else◌, nat_lt, cond, ℤ, ◌⊎◌, inl, inr, subst, Result, Ok, Err, refl, sym, ◌∙◌, ap, arith}
+use Rattle.std.proofs.Common.{◌≡◌, ℕ, List, ◌<◌, ◌≤◌, Bool, true, false, ◌&&◌, if◌then◌else◌, nat_lt, cond, ℤ, ◌⊎◌, inl, inr, subst, Result, Ok, Err, refl, sym, ◌∙◌, ap, arith, Some}
 use Rattle.std.specs.Int.{w32, cast_signed}
 use Rattle.std.specs.Prelude.{IfErr, pos, ◌-ℤ◌}
 use Rattle.std.proofs.lemmas.Bool.{cond-true, and_from, le-ltb, lt-ltb}
@@ -7,7 +7,7 @@ use Rattle.std.proofs.lemmas.Int.{ints}
 use Rattle.jbig2_base.specs.Results.{Gives, ◌>>=◌}
 use Rattle.jbig2_base.specs.Combination.{combined_grid, drawn_pixel, is_below, combined_pixel}
 use Rattle.jbig2_base.specs.Grid.{Grid, pixel_at, pixel, blank}
-use Rattle.jbig2_base.specs.Segment.{SegmentView}
+use Rattle.jbig2_framing.specs.Segment.{SegmentView}
 use Rattle.jbig2_base.specs.Table.{IsTable}
 use Rattle.jbig2_base.specs.declared.bitmap.operator.CombinationOperator.{CombinationOperator}
 use Rattle.jbig2_base.specs.declared.bitmap.operator.CombinationOperator.TheVariants.{Or, And, Xor, Xnor, Replace}
@@ -191,4 +191,4 @@ passed strict number d d1 d' meant e result (inl memory) left refused gives = su
 passed strict number d d1 d' meant e result (inr failed) (inl memory) refused gives = subst (λ (a : Result (Unit {0}) DecodeError). Gives (λ _. d') a (or_passed_over strict number d meant)) (sym (refused memory)) (inl refl)
 passed strict number d d1 d' meant e result (inr failed) (inr same) refused gives =
     subst (λ (r : Result Drawing DecodeError). Gives (λ _. d') result (or_passed_over strict number d r)) (sym failed)
-    (subst (λ (b : Drawing). Gives (λ _. d') result (if strict then Err e else Ok (record b { untouched = false; passed_over = with_passed number e b.passed_over }))) same gives)
+    (subst (λ (b : Drawing). Gives (λ _. d') result (if strict then Err e else Ok (record b { untouched = false; passed_over = with_passed (Some number) e b.passed_over }))) same gives)

@@ -4,13 +4,13 @@ use Rattle.std.proofs.lemmas.Result.{IfErr-at_err}
 use Rattle.std.specs.Prelude.{IfErr, IfOk}
 use Rattle.jbig2_base.specs.Results.{Gives}
 use Rattle.jbig2_base.specs.Grid.{Grid}
-use Rattle.jbig2_base.specs.Segment.{SegmentView}
+use Rattle.jbig2_framing.specs.Segment.{SegmentView}
 use Rattle.jbig2_base.specs.declared.error.DecodeError.{DecodeError}
 use Rattle.jbig2_base.specs.declared.error.DecodeError.TheVariants as errors
 use Rattle.jbig2_base.specs.declared.error.HuffmanError.TheVariants.{ConflictingCodes}
 use Rattle.jbig2_base.specs.declared.error.OverflowError.TheVariants.{Index}
 use Rattle.jbig2_base.specs.declared.error.TemplateError.TheVariants.{Invalid}
-use Rattle.jbig2_base.specs.declared.reading.Reading.{Reading}
+use Rattle.jbig2_framing.specs.declared.reading.Reading.{Reading}
 use Rattle.jbig2_base.proofs.FromInput as base
 use Rattle.jbig2_page.specs.Causes.{ErrorsAreFromInput, IsFromInput}
 use Rattle.jbig2_page.specs.Calls.{Conduct, Decodes}
@@ -18,7 +18,7 @@ use Rattle.jbig2_page.specs.Files.{PageInFile, ReadFile, book_at, shared_by}
 use Rattle.jbig2_page.specs.Image.{image_of_page}
 use Rattle.jbig2_page.specs.Page.{Drawing, ReadPage, drawing_of_page, grid_of_page, blank_page}
 use Rattle.jbig2_page.specs.Returned.{IsReturned}
-use Rattle.jbig2_page.proofs.FromInput.{from_input-book, from_input-book_globals, from_input-drawn, from_input-embedded, from_input-globals, from_input-grid, from_input-shared}
+use Rattle.jbig2_page.proofs.FromInput.{from_input-book, from_input-book_globals, from_input-drawing, from_input-embedded, from_input-globals, from_input-grid, from_input-shared}
 
 same : (e : DecodeError) → base.IsFromInput e → IsFromInput e
 same errors.OutOfMemory never = never
@@ -47,7 +47,7 @@ of-book (Ok book) is = of-result book.globals is
 of-book (Err e) is = tt
 
 drawing_from_input : (page : ReadPage) → IfErr page.globals IsFromInput → base.FromInput (drawing_of_page page)
-drawing_from_input page is = base.from_input-next page.globals _ (to-result page.globals is) (λ names. from_input-drawn page.reading names page.segments (blank_page page.initial_page))
+drawing_from_input page is = from_input-drawing page (to-result page.globals is)
 
 pub errors_are_from_input : ErrorsAreFromInput
 errors_are_from_input = record {

@@ -1,7 +1,5 @@
-mod Agreeing
 pub mod AgreeingPages
 mod AgreeingRegions
-mod AgreeingSegments
 mod AgreeingSymbols
 mod AgreeingTexts
 pub mod FromInput
@@ -16,6 +14,7 @@ pub mod DrawnPages
 mod FileRows
 pub mod KeptLemmas
 mod LeftLemmas
+mod Lacking
 pub mod Order
 pub mod PackedBits
 mod PackedRows

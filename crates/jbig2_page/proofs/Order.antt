@@ -2,15 +2,16 @@
 use Rattle.std.proofs.Common.{◌≡◌, ◌≢◌, ℕ, ◌<◌, Bool, true, false, cond, nat_lt, List, [], ◌∷◌, ◌++◌, Option, Result, Ok, Err, refl, sym, ap, ◌∙◌, arith}
 use Rattle.std.proofs.lemmas.Bool.{cond-true, cond-false, cond_both, ltb-true, ltb-false, lt-ltb, le-ltb}
 use Rattle.jbig2_base.specs.Results.{◌>>=◌}
-use Rattle.jbig2_base.specs.Reading.{fault_of}
-use Rattle.jbig2_base.specs.Segment.{SegmentView}
-use Rattle.jbig2_base.specs.Sequential.{by_number, insert_by, sequential, sorted_segments}
+use Rattle.jbig2_framing.specs.CutOff.{sequence_cut_off}
+use Rattle.jbig2_framing.specs.declared.cut_off.CutOff.{CutOff}
+use Rattle.jbig2_framing.specs.Segment.{SegmentView}
+use Rattle.jbig2_framing.specs.Sequential.{by_number, insert_by, sequential, sorted_segments}
 use Rattle.jbig2_base.specs.declared.error.DecodeError.{DecodeError}
-use Rattle.jbig2_base.specs.declared.reading.Reading.{Reading}
-use Rattle.jbig2_base.specs.declared.reading.Reading.TheVariants.{Lenient}
+use Rattle.jbig2_framing.specs.declared.reading.Reading.{Reading}
+use Rattle.jbig2_framing.specs.declared.reading.Reading.TheVariants.{Lenient}
 use Rattle.jbig2_page.specs.Names.{Names, globals_at, shared_from, nothing_shared}
 use Rattle.jbig2_page.specs.Order.{EndOfPageEnds, IsReordered, OrderChangesNothing, Unchanged, After, Exchanged, Then}
-use Rattle.jbig2_page.specs.Page.{Drawing, ReadPage, beginning_of, page_from, ends_page, blank_page, segment_on, segments_drawn}
+use Rattle.jbig2_page.specs.Page.{Drawing, ReadPage, beginning_of, drawing_with, page_from, ends_page, blank_page, segment_on, segments_drawn, with_cut_off}
 
 -- ---- order
 abbrev number : SegmentView → ℕ
@@ -61,13 +62,13 @@ sorted-as reading bytes others ps qs one other moved =
 pub order_changes_nothing : OrderChangesNothing
 unfolding page_from globals_at
 order_changes_nothing = record {
-  page = λ reading globals bytes others ps qs one other moved fault.
-      ap (λ (r : Result (List SegmentView) DecodeError). r >>= λ segments. beginning_of reading segments >>= λ initial_page. let made : Result ReadPage DecodeError = Ok (record { reading = reading; initial_page = initial_page; segments = segments; globals = Ok globals; fault = fault_of reading (sequential Lenient bytes) }) in made)
+  page = λ reading globals bytes others ps qs one other moved cut.
+      ap (λ (r : Result (List SegmentView) DecodeError). r >>= λ segments. beginning_of reading segments >>= λ initial_page. let made : Result ReadPage DecodeError = Ok (record { reading = reading; initial_page = initial_page; segments = segments; globals = Ok globals; cut_off = sequence_cut_off reading bytes }) in made)
       (sorted-as reading bytes others ps qs one other moved)
-      ∙ ap (λ (f : Option DecodeError). sorted_segments reading others >>= λ segments. beginning_of reading segments >>= λ initial_page. let made : Result ReadPage DecodeError = Ok (record { reading = reading; initial_page = initial_page; segments = segments; globals = Ok globals; fault = f }) in made) fault;
-  globals = λ reading bytes others ps qs one other moved fault.
-      ap (λ (r : Result (List SegmentView) DecodeError). r >>= λ segments. shared_from reading segments (nothing_shared (fault_of reading (sequential Lenient bytes)))) (sorted-as reading bytes others ps qs one other moved)
-      ∙ ap (λ (f : Option DecodeError). sorted_segments reading others >>= λ segments. shared_from reading segments (nothing_shared f)) fault;
+      ∙ ap (λ (f : Option CutOff). sorted_segments reading others >>= λ segments. beginning_of reading segments >>= λ initial_page. let made : Result ReadPage DecodeError = Ok (record { reading = reading; initial_page = initial_page; segments = segments; globals = Ok globals; cut_off = f }) in made) cut;
+  globals = λ reading bytes others ps qs one other moved cut.
+      ap (λ (r : Result (List SegmentView) DecodeError). r >>= λ segments. shared_from reading segments (nothing_shared (sequence_cut_off reading bytes))) (sorted-as reading bytes others ps qs one other moved)
+      ∙ ap (λ (f : Option CutOff). sorted_segments reading others >>= λ segments. shared_from reading segments (nothing_shared f)) cut;
 }
 
 -- ---- after the end of a page
@@ -87,6 +88,7 @@ names-next (Err e) next other each = refl
 
 pub end_of_page_ends : EndOfPageEnds
 end_of_page_ends page ps others end are ends =
-    names-next page.globals (λ names. segments_drawn page.reading names page.segments (blank_page page.initial_page)) (λ names. segments_drawn page.reading names ps (blank_page page.initial_page)) (λ names.
-    ap (λ (segments : List SegmentView). segments_drawn page.reading names segments (blank_page page.initial_page)) are
-    ∙ drawn-to-end page.reading names ps others end (blank_page page.initial_page) ends)
+    names-next page.globals (λ names. drawing_with names page) (λ names. drawing_with names (record page { segments = ps })) (λ names.
+    ap (λ (drawn : Result Drawing DecodeError). drawn >>= λ d. let told : Result Drawing DecodeError = Ok (with_cut_off page.cut_off d) in told)
+    (ap (λ (segments : List SegmentView). segments_drawn page.reading names segments (blank_page page.initial_page)) are
+    ∙ drawn-to-end page.reading names ps others end (blank_page page.initial_page) ends))

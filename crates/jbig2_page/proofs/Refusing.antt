@@ -1,38 +1,46 @@
 -- What salvage refuses: the law that a contract names.
-use Rattle.std.proofs.Common.{◌≡◌, ℕ, ◌==◌, ◌≤◌, ◌||◌, Bool, true, false, cond, List, [], ◌∷◌, map, Some, Result, Ok, Err, refl, sym, ap, subst, ◌∙◌, arith}
+use Rattle.std.proofs.Common.{◌≡◌, ℕ, ◌==◌, ◌≤◌, ◌||◌, Bool, true, false, cond, List, [], ◌∷◌, map, Some, Result, Ok, Err, refl, sym, ap, subst, ◌∙◌, arith, Option}
 use Rattle.std.proofs.lemmas.Bool.{eqb-true, ne_eqb}
 use Rattle.std.specs.Prelude.{Any, slice_get}
 use Rattle.jbig2_base.proofs.Causes.{went}
 use Rattle.jbig2_base.specs.Results.{◌>>=◌}
-use Rattle.jbig2_base.specs.PageInfo.{first_information}
-use Rattle.jbig2_base.specs.Reading.{fault_of, is_salvaged}
-use Rattle.jbig2_base.specs.Segment.{SegmentView}
-use Rattle.jbig2_base.specs.Sequential.{sequential, sorted_segments}
+use Rattle.jbig2_framing.specs.PageInfo.{first_information}
+use Rattle.jbig2_framing.specs.CutOff.{sequence_cut_off}
+use Rattle.jbig2_framing.specs.Reading.{is_salvaged}
+use Rattle.jbig2_framing.specs.declared.cut_off.CutOff.{CutOff}
+use Rattle.jbig2_framing.specs.Segment.{SegmentView}
+use Rattle.jbig2_framing.specs.Sequential.{sorted_segments}
 use Rattle.jbig2_base.specs.declared.error.DecodeError.{DecodeError}
-use Rattle.jbig2_base.specs.declared.page_info.InitialPage.{InitialPage}
-use Rattle.jbig2_base.specs.declared.reading.Reading.{Reading}
-use Rattle.jbig2_base.specs.declared.reading.Reading.TheVariants.{Lenient, Salvage}
+use Rattle.jbig2_framing.specs.declared.page_info.InitialPage.{InitialPage}
+use Rattle.jbig2_framing.specs.declared.reading.Reading.{Reading}
+use Rattle.jbig2_framing.specs.declared.reading.Reading.TheVariants.{Lenient, Salvage}
 use Rattle.jbig2_page.specs.Files.{PageInFile, ReadFile, book_at, before_pages, pages_in_file, page_in_file, numbers_after, of_page, page_in, page_of}
 use Rattle.jbig2_page.specs.Lenient.{HasBeginning, SalvageRefusesLittle}
 use Rattle.jbig2_page.specs.Names.{Names, KeptGlobals}
-use Rattle.jbig2_page.specs.Page.{ReadPage, beginning_of, drawing_of_page, page_from, blank_page, segments_drawn}
+use Rattle.jbig2_page.specs.Page.{Drawing, ReadPage, beginning_of, drawing_of_page, page_from, blank_page, segments_drawn, with_cut_off}
 use Rattle.jbig2_page.proofs.Books.{file-of_book, filled_from, mapped, number-of_filed}
 use Rattle.jbig2_page.proofs.ByPages.{is_among, no_segments}
 use Rattle.jbig2_page.proofs.Causes.{at-first, at-later}
 use Rattle.jbig2_page.proofs.Salvaging.{IsFine, fine-beginning, fine-book, fine-drawn, fine-file, fine-globals, fine-next, fine-over, fine-shared}
 
 -- ---- pages
+abbrev told : Option CutOff → Drawing → Result Drawing DecodeError
+told c d = Ok (with_cut_off c d)
+
+fine-told : (names : Names) (ps : List SegmentView) (c : Option CutOff) (d : Drawing) → IsFine (segments_drawn Salvage names ps d >>= λ e. told c e)
+fine-told names ps c d = fine-next (segments_drawn Salvage names ps d) _ (fine-drawn names ps d) (λ e. refl)
+
 fine-drawing : (page : ReadPage) → page.reading ≡ Salvage → IsFine page.globals → IsFine (drawing_of_page page)
 fine-drawing page is globals =
-    subst (λ (reading : Reading). IsFine (page.globals >>= λ names. segments_drawn reading names page.segments (blank_page page.initial_page))) (sym is)
-    (fine-next page.globals _ globals (λ names. fine-drawn names page.segments (blank_page page.initial_page)))
+    subst (λ (reading : Reading). IsFine (page.globals >>= λ names. segments_drawn reading names page.segments (blank_page page.initial_page) >>= λ d. told page.cut_off d)) (sym is)
+    (fine-next page.globals _ globals (λ names. fine-told names page.segments page.cut_off (blank_page page.initial_page)))
 
 fine-page : (names : Names) (bytes : List ℕ) (ps : List SegmentView) → sorted_segments Salvage bytes ≡ Ok ps → HasBeginning ps → IsFine (page_from Salvage names bytes >>= λ page. drawing_of_page page)
 unfolding page_from
 fine-page names bytes ps read has =
-    let page : List SegmentView → InitialPage → ReadPage = λ own first. record { reading = Salvage; initial_page = first; segments = own; globals = Ok names; fault = fault_of Salvage (sequential Lenient bytes) } in
+    let page : List SegmentView → InitialPage → ReadPage = λ own first. record { reading = Salvage; initial_page = first; segments = own; globals = Ok names; cut_off = sequence_cut_off Salvage bytes } in
     subst (λ (r : Result (List SegmentView) DecodeError). IsFine ((r >>= λ own. beginning_of Salvage own >>= λ first. let s : Result ReadPage DecodeError = Ok (page own first) in s) >>= λ p. drawing_of_page p)) (sym read)
-    (fine-over (beginning_of Salvage ps) (page ps) (λ p. drawing_of_page p) (fine-beginning ps has) (λ first. fine-drawn names ps (blank_page first)))
+    (fine-over (beginning_of Salvage ps) (page ps) (λ p. drawing_of_page p) (fine-beginning ps has) (λ first. fine-told names ps (sequence_cut_off Salvage bytes) (blank_page first)))
 
 -- ---- the pages of a file
 fine-page_in_file : (own : List SegmentView) → HasBeginning own → IsFine (page_in_file Salvage own)

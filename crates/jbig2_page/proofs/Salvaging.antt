@@ -1,25 +1,27 @@
 -- Salvage refuses little: neither globals, nor lists of segments, nor what a page draws.
-use Rattle.std.proofs.Common.{◌≡◌, ℕ, zero, suc, eqb, true, false, List, [], ◌∷◌, length, None, Result, Ok, Err, refl, arith}
+use Rattle.std.proofs.Common.{◌≡◌, ℕ, zero, suc, eqb, Bool, true, false, List, [], ◌∷◌, length, None, Result, Ok, Err, refl, arith}
 use Rattle.std.proofs.lemmas.Bool.{cond_both, le-ltb, ne_eqb}
 use Rattle.std.specs.Prelude.{IsTrue}
 use Rattle.std.specs.Result.{is_ok}
 use Rattle.jbig2_base.specs.Results.{◌>>=◌}
-use Rattle.jbig2_base.specs.File.{file_at, file_header_at, with_data, gathered_before, header_goes_on, headers_in, segments_by}
-use Rattle.jbig2_base.specs.PageInfo.{initial_page_with}
-use Rattle.jbig2_base.specs.Reading.{fault_of, is_salvaged}
-use Rattle.jbig2_base.specs.Segment.{Header, SegmentView, header_at, segment_at, segment_data_at}
-use Rattle.jbig2_base.specs.Sequential.{by_number, goes_on, is_end_of_file, segments_in, sequential}
+use Rattle.jbig2_framing.specs.File.{file_at, file_header_at, with_data, gathered_before, header_goes_on, headers_in, segments_by}
+use Rattle.jbig2_framing.specs.PageInfo.{initial_page_with}
+use Rattle.jbig2_framing.specs.CutOff.{sequence_cut_off}
+use Rattle.jbig2_framing.specs.Reading.{is_salvaged}
+use Rattle.jbig2_framing.specs.Segment.{Header, SegmentView, header_at, segment_at, segment_data_at}
+use Rattle.jbig2_framing.specs.Sequential.{by_number, goes_on, is_end_of_file, segments_in, sequential}
 use Rattle.jbig2_base.specs.declared.error.DecodeError.{DecodeError}
 use Rattle.jbig2_base.specs.declared.error.DecodeError.TheVariants as errors
-use Rattle.jbig2_base.specs.declared.file_header.FileOrganization.{FileOrganization}
-use Rattle.jbig2_base.specs.declared.file_header.FileOrganization.TheVariants.{Sequential, RandomAccess}
-use Rattle.jbig2_base.specs.declared.page_info.PageInformation.{PageInformation}
-use Rattle.jbig2_base.specs.declared.reading.Reading.TheVariants.{Lenient, Salvage}
-use Rattle.jbig2_base.proofs.FromInput.{FromInput, IsFromInput, from_input-header, from_input-segment, from_input-segment_data}
+use Rattle.jbig2_framing.specs.declared.file_header.FileOrganization.{FileOrganization}
+use Rattle.jbig2_framing.specs.declared.file_header.FileOrganization.TheVariants.{Sequential, RandomAccess}
+use Rattle.jbig2_framing.specs.declared.page_info.PageInformation.{PageInformation}
+use Rattle.jbig2_framing.specs.declared.reading.Reading.TheVariants.{Lenient, Salvage}
+use Rattle.jbig2_base.proofs.FromInput.{FromInput, IsFromInput}
+use Rattle.jbig2_framing.proofs.FromInput.{from_input-header, from_input-segment, from_input-segment_data}
 use Rattle.jbig2_page.specs.Files.{PageInFile, association_check, book_at, by_pages, before_pages, pages_in_file, page_in_file, shared_by}
 use Rattle.jbig2_page.specs.Lenient.{HasBeginning}
-use Rattle.jbig2_page.specs.Names.{Names, KeptGlobals, globals_at, kept_by, shared_from, no_names, nothing_shared, or_shared_without}
-use Rattle.jbig2_page.specs.Page.{Drawing, IsSide, beginning_of, ends_page, or_left_out, segment_by, segment_on, segments_drawn}
+use Rattle.jbig2_page.specs.Names.{Names, KeptGlobals, dictionary_lacks, globals_at, kept_by, shared_from, no_names, nothing_shared, or_shared_without}
+use Rattle.jbig2_page.specs.Page.{Drawing, IsSide, beginning_of, ends_page, lacks_referred, or_left_out, or_told, segment_by, segment_on, segments_drawn}
 use Rattle.jbig2_page.proofs.FromInput.{from_input-filed, from_input-kept, from_input-segment_by}
 
 -- each error that bytes can bring about is left out
@@ -79,31 +81,36 @@ fine-by Sequential bytes = fine-sequential bytes
 fine-by RandomAccess bytes = fine-next (headers_in (length bytes) Salvage bytes) _ (fine-headers (length bytes) bytes) (λ hs. fine-gathered hs.0 hs.1)
 
 -- ---- globals
-fine-without : (number : ℕ) (shared : KeptGlobals) (r : Result Names DecodeError) → FromInput r → IsFine (or_shared_without Salvage number shared r)
-fine-without number shared (Ok names) is = refl
-fine-without number shared (Err e) is = rw (left-out e is) refl
+fine-without : (lacks : Bool) (number : ℕ) (shared : KeptGlobals) (r : Result Names DecodeError) → FromInput r → IsFine (or_shared_without Salvage lacks number shared r)
+fine-without lacks number shared (Ok names) is = refl
+fine-without lacks number shared (Err e) is = rw (left-out e is) refl
 
 pub fine-named : (ps : List SegmentView) (shared : KeptGlobals) → IsFine (shared_from Salvage ps shared)
 fine-named [] shared = refl
 fine-named (p ∷ ps) shared =
     let kept : Result Names DecodeError = kept_by false no_names p shared.names in
-    fine-next (or_shared_without Salvage p.header.segment_number shared kept) _ (fine-without p.header.segment_number shared kept (from_input-kept false no_names p shared.names)) (λ more. fine-named ps more)
+    let lacks : Bool = dictionary_lacks shared.names no_names p in
+    fine-next (or_shared_without Salvage lacks p.header.segment_number shared kept) _ (fine-without lacks p.header.segment_number shared kept (from_input-kept false no_names p shared.names)) (λ more. fine-named ps more)
 
 pub fine-globals : (bytes : List ℕ) → IsFine (globals_at Salvage bytes)
 unfolding globals_at
 fine-globals bytes =
-    fine-over (sequential Salvage bytes) _ _ (fine-sequential bytes) (λ ps. fine-named (by_number ps) (nothing_shared (fault_of Salvage (sequential Lenient bytes))))
+    fine-over (sequential Salvage bytes) _ _ (fine-sequential bytes) (λ ps. fine-named (by_number ps) (nothing_shared (sequence_cut_off Salvage bytes)))
 
 -- ---- pages
 fine-left : (number : ℕ) (d : Drawing) (r : Result Drawing DecodeError) → FromInput r → IsFine (or_left_out Salvage number d r)
 fine-left number d (Ok e) is = refl
 fine-left number d (Err e) is = rw (left-out e is) refl
 
+fine-told : (lacks : Bool) (number : ℕ) (d : Drawing) (r : Result Drawing DecodeError) → IsFine r → IsFine (or_told lacks number d r)
+fine-told lacks number d (Ok e) is = refl
+fine-told lacks number d (Err e) is = is
+
 pub fine-drawn : (globals : Names) (ps : List SegmentView) (d : Drawing) → IsFine (segments_drawn Salvage globals ps d)
 fine-drawn globals [] d = refl
 fine-drawn globals (p ∷ ps) d =
     cond_both (ends_page p.header.segment_type) (Ok d) (segment_on Salvage globals p d >>= λ e. segments_drawn Salvage globals ps e) (λ (r : Result Drawing DecodeError). IsFine r) (λ ends. refl)
-    (λ goes. fine-next (segment_on Salvage globals p d) _ (fine-left p.header.segment_number d (segment_by false globals p d) (from_input-segment_by false globals p d)) (λ e. fine-drawn globals ps e))
+    (λ goes. fine-next (segment_on Salvage globals p d) _ (fine-told (lacks_referred globals p d) p.header.segment_number d (or_left_out Salvage p.header.segment_number d (segment_by false globals p d)) (fine-left p.header.segment_number d (segment_by false globals p d) (from_input-segment_by false globals p d))) (λ e. fine-drawn globals ps e))
 
 -- ---- files
 fine-filed : (all : List (List SegmentView)) → IsFine (pages_in_file Salvage all)

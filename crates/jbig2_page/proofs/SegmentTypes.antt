@@ -1,9 +1,9 @@
 -- What a segment of a page gives, by its type.
 use Rattle.std.proofs.Common.{ℕ, Bool, List, Result}
-use Rattle.jbig2_base.specs.Segment.{Header, SegmentView}
+use Rattle.jbig2_framing.specs.Segment.{Header, SegmentView}
 use Rattle.jbig2_base.specs.declared.error.DecodeError.{DecodeError}
-use Rattle.jbig2_base.specs.declared.segment.SegmentType.{SegmentType}
-use Rattle.jbig2_base.specs.declared.segment.SegmentType.TheVariants as types
+use Rattle.jbig2_framing.specs.declared.segment.SegmentType.{SegmentType}
+use Rattle.jbig2_framing.specs.declared.segment.SegmentType.TheVariants as types
 use Rattle.jbig2_page.specs.Names.{Names, kept_by}
 use Rattle.jbig2_page.specs.Page.{Drawing, immediate, intermediate, with_names, segment_by}
 use Rattle.jbig2_page.specs.declared.region.RegionKind.{RegionKind}

@@ -5,18 +5,21 @@ use Rattle.std.specs.List.{AllByRecursion}
 use Rattle.std.proofs.lemmas.Bool.{cond_both}
 use Rattle.std.proofs.lemmas.Bool.Decides.{nat_tests}
 use Rattle.jbig2_base.specs.Results.{◌>>=◌, refuse_if, some_or}
-use Rattle.jbig2_base.specs.File.{file_at}
-use Rattle.jbig2_base.specs.PageInfo.{first_information, height_of, information_at, initial_page_with}
-use Rattle.jbig2_base.specs.Reading.{fault_of, is_salvaged, is_strict}
-use Rattle.jbig2_base.specs.Segment.{SegmentView}
+use Rattle.jbig2_framing.specs.File.{file_at}
+use Rattle.jbig2_framing.specs.PageInfo.{first_information, height_of, information_at, initial_page_with}
+use Rattle.jbig2_framing.specs.CutOff.{file_cut_off}
+use Rattle.jbig2_framing.specs.declared.cut_off.CutOff.{CutOff}
+use Rattle.jbig2_framing.specs.declared.file_header.FileOrganization.{FileOrganization}
+use Rattle.jbig2_framing.specs.Reading.{is_salvaged, is_strict}
+use Rattle.jbig2_framing.specs.Segment.{SegmentView}
 use Rattle.jbig2_base.specs.declared.error.DecodeError.{DecodeError}
 use Rattle.jbig2_base.specs.declared.error.DecodeError.TheVariants.{Format, Overflow}
 use Rattle.jbig2_base.specs.declared.error.FormatError.TheVariants.{EmptyPage, InvalidEndOfPage, MissingPageInfo, PageCountMismatch}
 use Rattle.jbig2_base.specs.declared.error.OverflowError.TheVariants.{BitmapDimension}
-use Rattle.jbig2_base.specs.declared.page_info.InitialPage.{InitialPage}
-use Rattle.jbig2_base.specs.declared.page_info.PageInformation.{PageInformation}
-use Rattle.jbig2_base.specs.declared.reading.Reading.{Reading}
-use Rattle.jbig2_base.specs.declared.reading.Reading.TheVariants.{Lenient}
+use Rattle.jbig2_framing.specs.declared.page_info.InitialPage.{InitialPage}
+use Rattle.jbig2_framing.specs.declared.page_info.PageInformation.{PageInformation}
+use Rattle.jbig2_framing.specs.declared.reading.Reading.{Reading}
+use Rattle.jbig2_framing.specs.declared.reading.Reading.TheVariants.{Lenient}
 use Rattle.jbig2_page.specs.Files.{PageInFile, ReadFile, association_check, book_at, by_pages, ends_of, before_pages, pages_in_file, page_in_file, left_out_of, miscounts, of_page, page_in, page_of, shared_by}
 use Rattle.jbig2_page.specs.Image.{first_page, first_size}
 use Rattle.jbig2_page.specs.Names.{KeptGlobals}
@@ -81,17 +84,17 @@ page-sides (p ∷ ps) (suc index) all = page-sides ps index all.1
 abbrev AllSides : ReadFile → Type 0
 AllSides book = AllByRecursion FileSides book.pages
 
-filed-all : (reading : Reading) (left_out : List DecodeError) (fault : Option DecodeError) (pages : Result (List PageInFile) DecodeError) (globals : List PageInFile → Result KeptGlobals DecodeError) → IfOk pages (AllByRecursion FileSides)
-    → IfOk (pages >>= λ ps. let made : Result ReadFile DecodeError = Ok (record { reading = reading; pages = ps; globals = globals ps; left_out = left_out; fault = fault }) in made) AllSides
-filed-all reading left_out fault (Ok ps) globals all = all
-filed-all reading left_out fault (Err e) globals all = tt
+filed-all : (reading : Reading) (organization : FileOrganization) (left_out : List DecodeError) (cut_off : Option CutOff) (pages : Result (List PageInFile) DecodeError) (globals : List PageInFile → Result KeptGlobals DecodeError) → IfOk pages (AllByRecursion FileSides)
+    → IfOk (pages >>= λ ps. let made : Result ReadFile DecodeError = Ok (record { reading = reading; organization = organization; pages = ps; globals = globals ps; left_out = left_out; cut_off = cut_off }) in made) AllSides
+filed-all reading organization left_out cut_off (Ok ps) globals all = all
+filed-all reading organization left_out cut_off (Err e) globals all = tt
 
 book-sides : (reading : Reading) (bytes : List ℕ) → IfOk (book_at reading bytes) AllSides
 unfolding book_at
 book-sides reading bytes =
     last-has AllSides (file_at reading bytes) _ (λ file. last-has AllSides (association_check (is_strict reading) file.1) _ (λ known.
     last-has AllSides (refuse_if (is_strict reading && miscounts file.0.number_of_pages (length (by_pages file.1))) (Format PageCountMismatch)) _ (λ counted.
-    filed-all reading (left_out_of reading (by_pages file.1)) (fault_of reading (file_at Lenient bytes)) (pages_in_file reading (by_pages file.1)) (λ pages. shared_by reading pages (of_page 0 file.1)) (each-sides reading (by_pages file.1)))))
+    filed-all reading file.0.organization (left_out_of reading (by_pages file.1)) (file_cut_off reading bytes) (pages_in_file reading (by_pages file.1)) (λ pages. shared_by reading pages (of_page 0 file.1)) (each-sides reading (by_pages file.1)))))
 
 abbrev PageSides : ReadPage → Type 0
 PageSides page = HasSides page.initial_page

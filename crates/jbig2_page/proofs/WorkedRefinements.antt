@@ -2,9 +2,10 @@
 use Rattle.std.proofs.Common.{◌≡◌, ℕ, true, false, List, [], ◌∷◌, ◌++◌, replicate, Ok, Err, refl}
 use Rattle.jbig2_base.specs.Combination.{drawn_pixel}
 use Rattle.jbig2_base.specs.Grid.{table, pixel_at}
-use Rattle.jbig2_base.specs.PageInfo.{information_at}
-use Rattle.jbig2_base.specs.Segment.{type_of, count_at, referred_at, header_at, segment_at}
-use Rattle.jbig2_base.specs.Sequential.{segments_in}
+use Rattle.jbig2_framing.specs.CutOff.{first_refused}
+use Rattle.jbig2_framing.specs.PageInfo.{information_at}
+use Rattle.jbig2_framing.specs.Segment.{type_of, count_at, referred_at, header_at, segment_at}
+use Rattle.jbig2_framing.specs.Sequential.{segments_in}
 use Rattle.jbig2_base.specs.declared.error.DecodeError.TheVariants.{Segment, Region, Overflow}
 use Rattle.jbig2_base.specs.declared.error.OverflowError.TheVariants.{ReferenceOffset}
 use Rattle.jbig2_base.specs.declared.error.RegionError.TheVariants.{InvalidDimension}
@@ -45,45 +46,45 @@ abbrev far : List ℕ
 far = 128 ∷ 0 ∷ 0 ∷ 0 ∷ []
 
 row_R6_1 : calls_at true (page 0 eight one 0 ++ alone 42 (refined_by eight origin 1)) ≡ Ok (Chunk true 1 ∷ Line ∷ [])
-unfolding calls_at page_from segments_in segment_at header_at referred_at count_at type_of beginning_of information_at grid_of_page table pixel_at calls_of row_of whole_calls region_info_at decoded_region first_pixels at_next after_pixel with_next after_ltp so_far choice decision byte_in byte_at byte_in_if_empty shift_left renormd initial_registers likely_next unlikely_next rows state_of drawn_pixel immediate intermediate refinement_at refinement_header_at refinement_pixels_at offset refined_grid refined_region refined_context common_colour
+unfolding calls_at page_from segments_in segment_at header_at referred_at count_at type_of beginning_of information_at grid_of_page table pixel_at calls_of row_of whole_calls region_info_at decoded_region first_pixels at_next after_pixel with_next after_ltp so_far choice decision byte_in byte_at byte_in_if_empty shift_left renormd initial_registers likely_next unlikely_next rows state_of drawn_pixel immediate intermediate refinement_at refinement_header_at refinement_pixels_at offset refined_grid refined_region refined_context common_colour first_refused
 row_R6_1 = refl
 
 row_R6_1-predicted : calls_at true (page 0 eight one 0 ++ alone 42 (refined_by eight origin 3)) ≡ Ok white
-unfolding calls_at page_from segments_in segment_at header_at referred_at count_at type_of beginning_of information_at grid_of_page table pixel_at calls_of row_of whole_calls region_info_at decoded_region first_pixels at_next after_pixel with_next after_ltp so_far choice decision byte_in byte_at byte_in_if_empty shift_left renormd initial_registers likely_next unlikely_next rows state_of drawn_pixel immediate intermediate refinement_at refinement_header_at refinement_pixels_at offset refined_grid refined_region refined_context common_colour
+unfolding calls_at page_from segments_in segment_at header_at referred_at count_at type_of beginning_of information_at grid_of_page table pixel_at calls_of row_of whole_calls region_info_at decoded_region first_pixels at_next after_pixel with_next after_ltp so_far choice decision byte_in byte_at byte_in_if_empty shift_left renormd initial_registers likely_next unlikely_next rows state_of drawn_pixel immediate intermediate refinement_at refinement_header_at refinement_pixels_at offset refined_grid refined_region refined_context common_colour first_refused
 row_R6_1-predicted = refl
 
 row_R6_2 : calls_at true (page 0 eight one 0 ++ region ++ referring (refined_by eight origin 1)) ≡ Ok (singles (replicate 7 true) ++ Pixel false ∷ Line ∷ [])
-unfolding calls_at page_from segments_in segment_at header_at referred_at count_at type_of beginning_of information_at grid_of_page table pixel_at calls_of row_of whole_calls region_info_at decoded_region first_pixels at_next after_pixel with_next after_ltp so_far choice decision byte_in byte_at byte_in_if_empty shift_left renormd initial_registers likely_next unlikely_next rows state_of drawn_pixel immediate intermediate refinement_at refinement_header_at refinement_pixels_at offset refined_grid refined_region refined_context common_colour generic_at generic_header_at adaptive_pixel_at rows_at generic_grid generic_region context_at
+unfolding calls_at page_from segments_in segment_at header_at referred_at count_at type_of beginning_of information_at grid_of_page table pixel_at calls_of row_of whole_calls region_info_at decoded_region first_pixels at_next after_pixel with_next after_ltp so_far choice decision byte_in byte_at byte_in_if_empty shift_left renormd initial_registers likely_next unlikely_next rows state_of drawn_pixel immediate intermediate refinement_at refinement_header_at refinement_pixels_at offset refined_grid refined_region refined_context common_colour generic_at generic_header_at adaptive_pixel_at rows_at generic_grid generic_region context_at first_refused
 row_R6_2 = refl
 
 row_R6_2-wider_strict : calls_at true (page 0 eight one 0 ++ region ++ referring (refined_by nine origin 1)) ≡ Err (Region InvalidDimension)
-unfolding calls_at page_from segments_in segment_at header_at referred_at count_at type_of beginning_of information_at grid_of_page table pixel_at calls_of row_of whole_calls region_info_at decoded_region first_pixels at_next after_pixel with_next after_ltp so_far choice decision byte_in byte_at byte_in_if_empty shift_left renormd initial_registers likely_next unlikely_next rows state_of drawn_pixel immediate intermediate refinement_at refinement_header_at refinement_pixels_at offset refined_grid refined_region refined_context common_colour generic_at generic_header_at adaptive_pixel_at rows_at generic_grid generic_region context_at
+unfolding calls_at page_from segments_in segment_at header_at referred_at count_at type_of beginning_of information_at grid_of_page table pixel_at calls_of row_of whole_calls region_info_at decoded_region first_pixels at_next after_pixel with_next after_ltp so_far choice decision byte_in byte_at byte_in_if_empty shift_left renormd initial_registers likely_next unlikely_next rows state_of drawn_pixel immediate intermediate refinement_at refinement_header_at refinement_pixels_at offset refined_grid refined_region refined_context common_colour generic_at generic_header_at adaptive_pixel_at rows_at generic_grid generic_region context_at first_refused
 row_R6_2-wider_strict = refl
 
 row_R6_2-wider_lenient : calls_at false (page 0 eight one 0 ++ region ++ referring (refined_by nine origin 1)) ≡ Ok white
-unfolding calls_at page_from segments_in segment_at header_at referred_at count_at type_of beginning_of information_at grid_of_page table pixel_at calls_of row_of whole_calls region_info_at decoded_region first_pixels at_next after_pixel with_next after_ltp so_far choice decision byte_in byte_at byte_in_if_empty shift_left renormd initial_registers likely_next unlikely_next rows state_of drawn_pixel immediate intermediate refinement_at refinement_header_at refinement_pixels_at offset refined_grid refined_region refined_context common_colour generic_at generic_header_at adaptive_pixel_at rows_at generic_grid generic_region context_at
+unfolding calls_at page_from segments_in segment_at header_at referred_at count_at type_of beginning_of information_at grid_of_page table pixel_at calls_of row_of whole_calls region_info_at decoded_region first_pixels at_next after_pixel with_next after_ltp so_far choice decision byte_in byte_at byte_in_if_empty shift_left renormd initial_registers likely_next unlikely_next rows state_of drawn_pixel immediate intermediate refinement_at refinement_header_at refinement_pixels_at offset refined_grid refined_region refined_context common_colour generic_at generic_header_at adaptive_pixel_at rows_at generic_grid generic_region context_at first_refused
 row_R6_2-wider_lenient = refl
 
 row_R6_2-unnamed_strict : calls_at true (page 0 eight one 0 ++ referring (refined_by eight origin 1)) ≡ Err (Segment InvalidReference)
-unfolding calls_at page_from segments_in segment_at header_at referred_at count_at type_of beginning_of information_at grid_of_page table pixel_at calls_of row_of whole_calls region_info_at decoded_region first_pixels at_next after_pixel with_next after_ltp so_far choice decision byte_in byte_at byte_in_if_empty shift_left renormd initial_registers likely_next unlikely_next rows state_of drawn_pixel immediate intermediate refinement_at refinement_header_at refinement_pixels_at offset refined_grid refined_region refined_context common_colour
+unfolding calls_at page_from segments_in segment_at header_at referred_at count_at type_of beginning_of information_at grid_of_page table pixel_at calls_of row_of whole_calls region_info_at decoded_region first_pixels at_next after_pixel with_next after_ltp so_far choice decision byte_in byte_at byte_in_if_empty shift_left renormd initial_registers likely_next unlikely_next rows state_of drawn_pixel immediate intermediate refinement_at refinement_header_at refinement_pixels_at offset refined_grid refined_region refined_context common_colour first_refused
 row_R6_2-unnamed_strict = refl
 
 row_R6_2-unnamed_lenient : calls_at false (page 0 eight one 0 ++ referring (refined_by eight origin 1)) ≡ Ok (Chunk true 1 ∷ Line ∷ [])
-unfolding calls_at page_from segments_in segment_at header_at referred_at count_at type_of beginning_of information_at grid_of_page table pixel_at calls_of row_of whole_calls region_info_at decoded_region first_pixels at_next after_pixel with_next after_ltp so_far choice decision byte_in byte_at byte_in_if_empty shift_left renormd initial_registers likely_next unlikely_next rows state_of drawn_pixel immediate intermediate refinement_at refinement_header_at refinement_pixels_at offset refined_grid refined_region refined_context common_colour
+unfolding calls_at page_from segments_in segment_at header_at referred_at count_at type_of beginning_of information_at grid_of_page table pixel_at calls_of row_of whole_calls region_info_at decoded_region first_pixels at_next after_pixel with_next after_ltp so_far choice decision byte_in byte_at byte_in_if_empty shift_left renormd initial_registers likely_next unlikely_next rows state_of drawn_pixel immediate intermediate refinement_at refinement_header_at refinement_pixels_at offset refined_grid refined_region refined_context common_colour first_refused
 row_R6_2-unnamed_lenient = refl
 
 row_R6_3-far_strict : calls_at true (page 0 eight one 0 ++ alone 42 (refined_by eight far 1)) ≡ Err (Overflow ReferenceOffset)
-unfolding calls_at page_from segments_in segment_at header_at referred_at count_at type_of beginning_of information_at grid_of_page table pixel_at calls_of row_of whole_calls region_info_at decoded_region first_pixels at_next after_pixel with_next after_ltp so_far choice decision byte_in byte_at byte_in_if_empty shift_left renormd initial_registers likely_next unlikely_next rows state_of drawn_pixel immediate intermediate refinement_at refinement_header_at refinement_pixels_at offset refined_grid refined_region refined_context common_colour
+unfolding calls_at page_from segments_in segment_at header_at referred_at count_at type_of beginning_of information_at grid_of_page table pixel_at calls_of row_of whole_calls region_info_at decoded_region first_pixels at_next after_pixel with_next after_ltp so_far choice decision byte_in byte_at byte_in_if_empty shift_left renormd initial_registers likely_next unlikely_next rows state_of drawn_pixel immediate intermediate refinement_at refinement_header_at refinement_pixels_at offset refined_grid refined_region refined_context common_colour first_refused
 row_R6_3-far_strict = refl
 
 row_R6_3-far_lenient : calls_at false (page 0 eight one 0 ++ alone 42 (refined_by eight far 1)) ≡ Ok white
-unfolding calls_at page_from segments_in segment_at header_at referred_at count_at type_of beginning_of information_at grid_of_page table pixel_at calls_of row_of whole_calls region_info_at decoded_region first_pixels at_next after_pixel with_next after_ltp so_far choice decision byte_in byte_at byte_in_if_empty shift_left renormd initial_registers likely_next unlikely_next rows state_of drawn_pixel immediate intermediate refinement_at refinement_header_at refinement_pixels_at offset refined_grid refined_region refined_context common_colour
+unfolding calls_at page_from segments_in segment_at header_at referred_at count_at type_of beginning_of information_at grid_of_page table pixel_at calls_of row_of whole_calls region_info_at decoded_region first_pixels at_next after_pixel with_next after_ltp so_far choice decision byte_in byte_at byte_in_if_empty shift_left renormd initial_registers likely_next unlikely_next rows state_of drawn_pixel immediate intermediate refinement_at refinement_header_at refinement_pixels_at offset refined_grid refined_region refined_context common_colour first_refused
 row_R6_3-far_lenient = refl
 
 row_R6_3-alone_strict : calls_at true (page 0 eight one 0 ++ alone 40 (refined_by eight origin 1)) ≡ Err (Segment InvalidReference)
-unfolding calls_at page_from segments_in segment_at header_at referred_at count_at type_of beginning_of information_at grid_of_page table pixel_at calls_of row_of whole_calls region_info_at decoded_region first_pixels at_next after_pixel with_next after_ltp so_far choice decision byte_in byte_at byte_in_if_empty shift_left renormd initial_registers likely_next unlikely_next rows state_of drawn_pixel immediate intermediate refinement_at refinement_header_at refinement_pixels_at offset refined_grid refined_region refined_context common_colour
+unfolding calls_at page_from segments_in segment_at header_at referred_at count_at type_of beginning_of information_at grid_of_page table pixel_at calls_of row_of whole_calls region_info_at decoded_region first_pixels at_next after_pixel with_next after_ltp so_far choice decision byte_in byte_at byte_in_if_empty shift_left renormd initial_registers likely_next unlikely_next rows state_of drawn_pixel immediate intermediate refinement_at refinement_header_at refinement_pixels_at offset refined_grid refined_region refined_context common_colour first_refused
 row_R6_3-alone_strict = refl
 
 row_R6_3-alone_lenient : calls_at false (page 0 eight one 0 ++ alone 40 (refined_by eight origin 1)) ≡ Ok white
-unfolding calls_at page_from segments_in segment_at header_at referred_at count_at type_of beginning_of information_at grid_of_page table pixel_at calls_of row_of whole_calls region_info_at decoded_region first_pixels at_next after_pixel with_next after_ltp so_far choice decision byte_in byte_at byte_in_if_empty shift_left renormd initial_registers likely_next unlikely_next rows state_of drawn_pixel immediate intermediate refinement_at refinement_header_at refinement_pixels_at offset refined_grid refined_region refined_context common_colour
+unfolding calls_at page_from segments_in segment_at header_at referred_at count_at type_of beginning_of information_at grid_of_page table pixel_at calls_of row_of whole_calls region_info_at decoded_region first_pixels at_next after_pixel with_next after_ltp so_far choice decision byte_in byte_at byte_in_if_empty shift_left renormd initial_registers likely_next unlikely_next rows state_of drawn_pixel immediate intermediate refinement_at refinement_header_at refinement_pixels_at offset refined_grid refined_region refined_context common_colour first_refused
 row_R6_3-alone_lenient = refl

@@ -5,11 +5,12 @@ use Rattle.std.specs.Prelude.{Some, option_and_then, unwrap_or, IfErr, IfOk}
 use Rattle.std.specs.List.{flat_map}
 use Rattle.std.specs.Int.{w32}
 use Rattle.std.specs.Option.{option_map_or}
-use Rattle.jbig2_base.specs.Causes.{BreaksInitialPage, InSteps, number_in}
-use Rattle.jbig2_base.specs.File.{file_at}
+use Rattle.jbig2_base.specs.Causes.{InSteps, number_in}
+use Rattle.jbig2_framing.specs.Causes.{BreaksInitialPage}
+use Rattle.jbig2_framing.specs.File.{file_at}
 use Rattle.jbig2_base.specs.Grid.{Grid}
-use Rattle.jbig2_base.specs.Reading.{is_salvaged, is_strict}
-use Rattle.jbig2_base.specs.Segment.{SegmentView}
+use Rattle.jbig2_framing.specs.Reading.{is_salvaged, is_strict}
+use Rattle.jbig2_framing.specs.Segment.{SegmentView}
 use Rattle.jbig2_base.specs.declared.error.DecodeError.{DecodeError}
 use Rattle.jbig2_base.specs.declared.error.DecodeError.TheVariants.{OutOfMemory, Parse, Format, Huffman, Segment}
 use Rattle.jbig2_base.specs.declared.error.DecodeError.TheVariants.{Overflow, Template, Unsupported}
@@ -21,8 +22,8 @@ use Rattle.jbig2_base.specs.declared.error.ParseError.TheVariants.{UnexpectedEof
 use Rattle.jbig2_base.specs.declared.error.SegmentError.TheVariants.{InvalidReference, MissingPatternDictionary}
 use Rattle.jbig2_base.specs.declared.error.SegmentError.TheVariants.{MissingPageAssociation}
 use Rattle.jbig2_base.specs.declared.error.TemplateError.TheVariants.{Invalid}
-use Rattle.jbig2_base.specs.declared.file_header.FileHeader.{FileHeader}
-use Rattle.jbig2_base.specs.declared.reading.Reading.{Reading}
+use Rattle.jbig2_framing.specs.declared.file_header.FileHeader.{FileHeader}
+use Rattle.jbig2_framing.specs.declared.reading.Reading.{Reading}
 use Rattle.jbig2_region.specs.Causes.{BreaksOffset, BreaksRefinementHeader}
 use Rattle.jbig2_region.specs.RegionInfo.{PlacedRegion}
 use Rattle.jbig2_region.specs.RefinementHeader.{refinement_header_at}

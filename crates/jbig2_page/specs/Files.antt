@@ -5,34 +5,39 @@ use Rattle.std.specs.Prelude.{filter, map, slice_get, option_map, is_some, Optio
 use Rattle.std.specs.Prelude.{if◌then◌else◌}
 use Rattle.std.specs.List.{flat_map, list_any}
 use Rattle.jbig2_base.specs.Results.{◌>>=◌, refuse_if}
-use Rattle.jbig2_base.specs.File.{file_at}
-use Rattle.jbig2_base.specs.Reading.{fault_of, is_salvaged, is_strict}
-use Rattle.jbig2_base.specs.Segment.{Header, SegmentView}
+use Rattle.jbig2_framing.specs.File.{file_at}
+use Rattle.jbig2_framing.specs.CutOff.{file_cut_off}
+use Rattle.jbig2_framing.specs.Reading.{is_salvaged, is_strict}
+use Rattle.jbig2_framing.specs.Segment.{Header, SegmentView}
 use Rattle.jbig2_base.specs.declared.error.DecodeError.{DecodeError}
 use Rattle.jbig2_base.specs.declared.error.DecodeError.TheVariants.{Format, Segment}
 use Rattle.jbig2_base.specs.declared.error.FormatError.TheVariants.{PageCountMismatch, InvalidEndOfPage}
 use Rattle.jbig2_base.specs.declared.error.SegmentError.TheVariants.{MissingPageAssociation}
-use Rattle.jbig2_base.specs.declared.file_header.FileHeader.{FileHeader}
-use Rattle.jbig2_base.specs.declared.page_info.InitialPage.{InitialPage}
-use Rattle.jbig2_base.specs.declared.reading.Reading.{Reading}
-use Rattle.jbig2_base.specs.declared.reading.Reading.TheVariants.{Lenient}
-use Rattle.jbig2_base.specs.declared.segment.SegmentType.{SegmentType}
+use Rattle.jbig2_framing.specs.declared.file_header.FileHeader.{FileHeader}
+use Rattle.jbig2_framing.specs.declared.page_info.InitialPage.{InitialPage}
+use Rattle.jbig2_framing.specs.declared.reading.Reading.{Reading}
+use Rattle.jbig2_framing.specs.declared.cut_off.CutOff.{CutOff}
+use Rattle.jbig2_framing.specs.declared.file_header.FileOrganization.{FileOrganization}
+use Rattle.jbig2_framing.specs.declared.file_header.FileOrganization.TheVariants.{Sequential, RandomAccess}
+use Rattle.jbig2_framing.specs.declared.segment.SegmentType.{SegmentType}
 use Rattle.jbig2_page.specs.Names.{shared_from, names_of, nothing_shared, KeptGlobals}
 use Rattle.jbig2_page.specs.Page.{ReadPage, beginning_of, region_type}
-use Rattle.jbig2_base.specs.declared.segment.SegmentType.TheVariants as types
+use Rattle.jbig2_framing.specs.declared.segment.SegmentType.TheVariants as types
 
 pub record PageInFile : Type 0 where
   pub initial_page : InitialPage
   pub segments : List SegmentView
 
--- A file: how strictly it is read, its pages, and what its globals keep or their error. In salvage also an error for
--- each page that was left out, and the error that ended the list of segments early, if one did.
+-- A file: how strictly it is read, its organization, its pages, and what its globals keep or their error. In salvage
+-- also an error for each page that was left out. At last the segment at which the list of segments ended early, if it
+-- did.
 pub record ReadFile : Type 0 where
   pub reading : Reading
+  pub organization : FileOrganization
   pub pages : List PageInFile
   pub globals : Result KeptGlobals DecodeError
   pub left_out : List DecodeError
-  pub fault : Option DecodeError
+  pub cut_off : Option CutOff
 
 -- What needs a page: regions, page information, and the ends of pages and stripes (7.3.2).
 abbrev pub needs_page : SegmentType → Bool
@@ -116,11 +121,27 @@ module _ (reading : Reading) where
     pages ← pages_in_file own
     Ok (record {
       reading = reading;
+      organization = header.organization;
       pages = pages;
       globals = shared_by pages (of_page 0 segments);
       left_out = left_out_of own;
-      fault = fault_of reading (file_at Lenient bytes);
+      cut_off = file_cut_off reading bytes;
     })
+
+-- A segment at which the list of segments ends early may belong to a page if its page is that one, none, or not known.
+abbrev pub may_belong : ℕ → Option ℕ → Bool
+may_belong number None = true
+may_belong number (Some n) = n == 0 || n == number
+
+-- The cut-off that a page has from its file (our own rule). A page whose end is there lacks nothing. In random access
+-- the data of all pages comes last, so each page may lack some.
+abbrev pub may_lack : FileOrganization → PageInFile → CutOff → Bool
+may_lack RandomAccess page c = true
+may_lack Sequential page c = ends_of page.segments == 0 && may_belong page.initial_page.number c.page_association
+
+abbrev pub cut_off_of : FileOrganization → PageInFile → Option CutOff → Option CutOff
+cut_off_of organization page None = None
+cut_off_of organization page (Some c) = if may_lack organization page c then Some c else None
 
 abbrev pub page_in : ReadFile → PageInFile → ReadPage
 page_in book page = record {
@@ -128,7 +149,7 @@ page_in book page = record {
   initial_page = page.initial_page;
   segments = page.segments;
   globals = names_of book.globals;
-  fault = book.fault;
+  cut_off = cut_off_of book.organization page book.cut_off;
 }
 
 abbrev pub page_of : ReadFile → ℕ → Option ReadPage
@@ -137,17 +158,19 @@ page_of book index = option_map (page_in book) (slice_get book.pages index)
 abbrev pub pages_of : ReadFile → List ReadPage
 pages_of book = map (page_in book) book.pages
 
--- Each page of a file depends only on the segments whose association is its number or 0, the reading and its fault.
+-- Each page of a file depends only on the segments whose association is its number or 0, the reading, and where the
+-- file's list of segments ends early.
 abbrev pub PagesStandAlone : Type 0
 PagesStandAlone = (reading : Reading) (bytes : List ℕ) (file : FileHeader × List SegmentView) (book : ReadFile)
     (index : ℕ) (page : ReadPage)
     → file_at reading bytes ≡ Ok file → book_at reading bytes ≡ Ok book → page_of book index ≡ Some page
     → let segments = file.1 in
     let own = of_page page.initial_page.number segments in
+    let cut_off = file_cut_off reading bytes in
     (beginning_of reading own >>= λ initial_page. Ok (record {
       reading = reading;
       initial_page = initial_page;
       segments = own;
       globals = names_of (shared_from reading (of_page 0 segments) (nothing_shared None));
-      fault = fault_of reading (file_at Lenient bytes);
+      cut_off = cut_off_of file.0.organization (record { initial_page = initial_page; segments = own }) cut_off;
     })) ≡ Ok page

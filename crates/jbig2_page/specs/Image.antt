@@ -9,7 +9,7 @@ use Rattle.jbig2_base.specs.Grid.{Grid, pixel_at}
 use Rattle.jbig2_base.specs.declared.error.DecodeError.{DecodeError}
 use Rattle.jbig2_base.specs.declared.error.DecodeError.TheVariants.{Format}
 use Rattle.jbig2_base.specs.declared.error.FormatError.TheVariants.{MissingPageInfo}
-use Rattle.jbig2_base.specs.declared.reading.Reading.TheVariants.{Lenient}
+use Rattle.jbig2_framing.specs.declared.reading.Reading.TheVariants.{Lenient}
 use Rattle.jbig2_coder.specs.Integers.{value_of_bits}
 use Rattle.jbig2_page.specs.Files.{book_at, page_of}
 use Rattle.jbig2_page.specs.Page.{ReadPage, grid_of_page}

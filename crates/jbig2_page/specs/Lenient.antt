@@ -1,22 +1,30 @@
 -- Laws (our own rule). Where strict reading accepts, lenient reading gives the same. Where lenient reading accepts,
 -- salvage gives the same. And salvage refuses little.
-use Rattle.std.specs.Prelude.{◌≡◌, ◌≤◌, ℕ, Any, IsTrue, List, Some, Result, Ok, IfOk}
+use Rattle.std.specs.Prelude.{◌≡◌, ◌≤◌, ℕ, Any, IsTrue, List, None, Some, Result, Ok, IfOk}
 use Rattle.std.specs.Result.{is_ok}
 use Rattle.jbig2_base.specs.Results.{◌>>=◌, some_or}
-use Rattle.jbig2_base.specs.File.{file_at, file_header_at}
-use Rattle.jbig2_base.specs.PageInfo.{first_information, height_of, information_at}
-use Rattle.jbig2_base.specs.Segment.{SegmentView}
-use Rattle.jbig2_base.specs.Sequential.{sorted_segments}
+use Rattle.jbig2_framing.specs.File.{file_at, file_header_at}
+use Rattle.jbig2_framing.specs.PageInfo.{first_information, height_of, information_at}
+use Rattle.jbig2_framing.specs.Segment.{SegmentView}
+use Rattle.jbig2_framing.specs.Reading.{is_strict}
+use Rattle.jbig2_framing.specs.Sequential.{sorted_segments}
 use Rattle.jbig2_base.specs.declared.error.DecodeError.{DecodeError}
 use Rattle.jbig2_base.specs.declared.error.DecodeError.TheVariants.{Format}
 use Rattle.jbig2_base.specs.declared.error.FormatError.TheVariants.{MissingPageInfo}
-use Rattle.jbig2_base.specs.declared.file_header.FileHeader.{FileHeader}
-use Rattle.jbig2_base.specs.declared.page_info.PageInformation.{PageInformation}
-use Rattle.jbig2_base.specs.declared.reading.Reading.{Reading}
-use Rattle.jbig2_base.specs.declared.reading.Reading.TheVariants.{Strict, Lenient, Salvage}
+use Rattle.jbig2_framing.specs.declared.file_header.FileHeader.{FileHeader}
+use Rattle.jbig2_framing.specs.declared.page_info.PageInformation.{PageInformation}
+use Rattle.jbig2_framing.specs.declared.reading.Reading.{Reading}
+use Rattle.jbig2_framing.specs.declared.reading.Reading.TheVariants.{Strict, Lenient, Salvage}
 use Rattle.jbig2_page.specs.Files.{ReadFile, book_at, of_page, page_of}
-use Rattle.jbig2_page.specs.Names.{Names, globals_at}
+use Rattle.jbig2_page.specs.Names.{Names, globals_at, nothing_passed}
 use Rattle.jbig2_page.specs.Page.{IsSide, ReadPage, drawing_of_page, page_from, known_height}
+
+-- Strict reading passes over nothing: its lists of segments never end early, and no segment of them is passed over.
+pub record StrictPassesNothing : Type 0 where
+  pub page : (names : Names) (bytes : List ℕ) → IfOk (page_from Strict names bytes) (λ page. page.cut_off ≡ None)
+  pub file : (bytes : List ℕ) → IfOk (book_at Strict bytes) (λ book. book.cut_off ≡ None)
+  pub drawing : (page : ReadPage) → IsTrue (is_strict page.reading) → page.cut_off ≡ None
+      → IfOk (drawing_of_page page) (λ d. d.passed_over ≡ nothing_passed)
 
 -- Where the one reading succeeds, the other gives the same value.
 abbrev pub IsSameUnder : {A : Type 0} → Reading → Reading → (Reading → Result A DecodeError) → Type 0

@@ -1,7 +1,7 @@
 -- Names (T.88, 7.3): what segments keep for later ones, each under its segment's number, and what later ones refer to.
 -- A number means the first value that is kept under it: one of the page's own, or else one of the globals. That the
 -- first of equal numbers counts is our own rule.
-use Rattle.std.specs.Prelude.{ℕ, ◌+◌, nat_le, nat_lt, ◌==◌, Bool, true, false, List, [], ◌∷◌, ◌++◌, length, Option}
+use Rattle.std.specs.Prelude.{ℕ, ◌+◌, nat_le, nat_lt, ◌==◌, ◌&&◌, ◌||◌, is_none, Bool, true, false, List, [], ◌∷◌, ◌++◌, length, Option}
 use Rattle.std.specs.Prelude.{Some, None, Result, Ok, Err, if◌then◌else◌}
 use Rattle.std.specs.Int.{w32}
 use Rattle.std.specs.Option.{option_map_or, option_or}
@@ -9,16 +9,17 @@ use Rattle.jbig2_base.specs.Results.{◌>>=◌, refuse_if}
 use Rattle.jbig2_base.specs.Bits.{start_of}
 use Rattle.jbig2_base.specs.Fields.{number_at}
 use Rattle.jbig2_base.specs.Grid.{Grid}
-use Rattle.jbig2_base.specs.Reading.{fault_of, is_salvaged, is_strict}
-use Rattle.jbig2_base.specs.Segment.{SegmentView}
+use Rattle.jbig2_framing.specs.CutOff.{sequence_cut_off}
+use Rattle.jbig2_framing.specs.Reading.{is_salvaged, is_strict}
+use Rattle.jbig2_framing.specs.Segment.{SegmentView}
 use Rattle.jbig2_base.specs.declared.error.DecodeError.{DecodeError}
 use Rattle.jbig2_base.specs.declared.error.DecodeError.TheVariants.{Overflow, Segment, Unsupported}
 use Rattle.jbig2_base.specs.declared.error.OverflowError.TheVariants.{SymbolCount}
 use Rattle.jbig2_base.specs.declared.error.SegmentError.TheVariants.{InvalidReference}
-use Rattle.jbig2_base.specs.declared.reading.Reading.{Reading}
-use Rattle.jbig2_base.specs.declared.reading.Reading.TheVariants.{Lenient}
-use Rattle.jbig2_base.specs.declared.segment.SegmentType.{SegmentType}
-use Rattle.jbig2_base.specs.Sequential.{sequential, sorted_segments}
+use Rattle.jbig2_framing.specs.declared.reading.Reading.{Reading}
+use Rattle.jbig2_framing.specs.declared.cut_off.CutOff.{CutOff}
+use Rattle.jbig2_framing.specs.declared.segment.SegmentType.{SegmentType}
+use Rattle.jbig2_framing.specs.Sequential.{sorted_segments}
 use Rattle.jbig2_coder.specs.CustomTable.{result_of, custom_table}
 use Rattle.jbig2_coder.specs.PrefixCode.{Member}
 use Rattle.jbig2_halftone.specs.PatternHeader.{pattern_header_at}
@@ -28,7 +29,7 @@ use Rattle.jbig2_symbol.specs.SymbolReading.{BitmapContexts}
 use Rattle.jbig2_symbol.specs.Symbols.{Symbols, symbols_decoded}
 use Rattle.jbig2_page.specs.declared.kept.Kept.{Kept}
 use Rattle.jbig2_page.specs.declared.drawing.passed_over.PassedOver.{PassedOver}
-use Rattle.jbig2_base.specs.declared.segment.SegmentType.TheVariants as types
+use Rattle.jbig2_framing.specs.declared.segment.SegmentType.TheVariants as types
 
 abbrev pub kept_under : {V : Type 0} → ℕ → V → List (Kept V) → List (Kept V)  -- at the end of what is kept already
 kept_under number value kept = kept ++ record { segment_number = number; value = value } ∷ []
@@ -131,31 +132,54 @@ kept_by strict shared p own = on p.header.segment_type
 abbrev pub nothing_passed : PassedOver
 nothing_passed = record { count = 0; first = None }
 
--- Counts one more segment that was passed over. Its number and its error are kept only if it is the first.
-abbrev pub with_passed : ℕ → DecodeError → PassedOver → PassedOver
+-- Counts one more segment that was passed over. Its number, if it is known, and its error are kept only if it is the
+-- first.
+abbrev pub with_passed : Option ℕ → DecodeError → PassedOver → PassedOver
 with_passed number e passed = record {
   count = passed.count + 1;
   first = option_or passed.first (Some (record { segment_number = number; error = e }));
 }
 
--- What globals keep, what salvage passed over of them, and which error ended the list of their segments early.
+-- A number names nothing where neither a symbol dictionary nor a custom table is kept under it.
+abbrev pub names_nothing : Names → Names → ℕ → Bool
+names_nothing own shared number =
+    is_none (kept_of number own.symbols shared.symbols) && is_none (kept_of number own.codes shared.codes)
+
+abbrev pub any_names_nothing : Names → Names → List ℕ → Bool
+any_names_nothing own shared [] = false
+any_names_nothing own shared (number ∷ numbers) =
+    names_nothing own shared number || any_names_nothing own shared numbers
+
+abbrev pub dictionary_lacks : Names → Names → SegmentView → Bool  -- a symbol dictionary with a number that names nothing
+dictionary_lacks own shared p = on p.header.segment_type
+  where
+    on : SegmentType → Bool
+    on types.SymbolDictionary = any_names_nothing own shared p.header.referred_to_segments
+    on _ = false
+
+-- What is kept or drawn without something that it refers to counts as passed over too (our own rule).
+abbrev pub with_lack : Bool → ℕ → PassedOver → PassedOver
+with_lack lacks number passed = if lacks then with_passed (Some number) (Segment InvalidReference) passed else passed
+
+-- What globals keep, what was passed over of them, and the segment at which their list ended early, if it did.
 pub record KeptGlobals : Type 0 where
   pub names : Names
   pub passed_over : PassedOver
-  pub fault : Option DecodeError
+  pub cut_off : Option CutOff
 
-abbrev pub nothing_shared : Option DecodeError → KeptGlobals
-nothing_shared fault = record { names = no_names; passed_over = nothing_passed; fault = fault }
+abbrev pub nothing_shared : Option CutOff → KeptGlobals
+nothing_shared cut_off = record { names = no_names; passed_over = nothing_passed; cut_off = cut_off }
 
 abbrev pub names_of : Result KeptGlobals DecodeError → Result Names DecodeError
 names_of shared = shared >>= λ s. Ok s.names
 
 module _ (reading : Reading) where
   -- Salvage passes over a segment that fails. Nothing is kept under its number then.
-  abbrev pub or_shared_without : ℕ → KeptGlobals → Result Names DecodeError → Result KeptGlobals DecodeError
-  or_shared_without number shared (Ok names) = Ok (record shared { names = names })
-  or_shared_without number shared (Err e) =
-      if is_salvaged reading e then Ok (record shared { passed_over = with_passed number e shared.passed_over })
+  abbrev pub or_shared_without : Bool → ℕ → KeptGlobals → Result Names DecodeError → Result KeptGlobals DecodeError
+  or_shared_without lacks number shared (Ok names) =
+      Ok (record shared { names = names; passed_over = with_lack lacks number shared.passed_over })
+  or_shared_without lacks number shared (Err e) =
+      if is_salvaged reading e then Ok (record shared { passed_over = with_passed (Some number) e shared.passed_over })
       else Err e
 
   -- Globals: segments that several pages share, kept separately from the pages, as in PDF. Each may refer to those
@@ -163,11 +187,12 @@ module _ (reading : Reading) where
   abbrev pub shared_from : List SegmentView → KeptGlobals → Result KeptGlobals DecodeError
   shared_from [] shared = Ok shared
   shared_from (p ∷ ps) shared = do
-    more ← or_shared_without p.header.segment_number shared (kept_by (is_strict reading) no_names p shared.names)
+    let lacks = dictionary_lacks shared.names no_names p
+    more ← or_shared_without lacks p.header.segment_number shared (kept_by (is_strict reading) no_names p shared.names)
     shared_from ps more
 
   -- The globals in these bytes: the segments lie one after the other, and are sorted before they are decoded.
   unfoldable pub globals_at : List ℕ → Result KeptGlobals DecodeError
   globals_at bytes = do
     segments ← sorted_segments reading bytes
-    shared_from segments (nothing_shared (fault_of reading (sequential Lenient bytes)))
+    shared_from segments (nothing_shared (sequence_cut_off reading bytes))

@@ -1,11 +1,10 @@
 -- Laws (our own rule): the order of segments with different numbers changes nothing, and segments after the end of a
 -- page change nothing.
 use Rattle.std.specs.Prelude.{◌≡◌, ◌≢◌, ℕ, IsTrue, List, ◌∷◌, ◌++◌, Ok}
-use Rattle.jbig2_base.specs.Segment.{SegmentView}
-use Rattle.jbig2_base.specs.Sequential.{sequential}
-use Rattle.jbig2_base.specs.Reading.{fault_of}
-use Rattle.jbig2_base.specs.declared.reading.Reading.{Reading}
-use Rattle.jbig2_base.specs.declared.reading.Reading.TheVariants.{Lenient}
+use Rattle.jbig2_framing.specs.Segment.{SegmentView}
+use Rattle.jbig2_framing.specs.Sequential.{sequential}
+use Rattle.jbig2_framing.specs.CutOff.{sequence_cut_off}
+use Rattle.jbig2_framing.specs.declared.reading.Reading.{Reading}
 use Rattle.jbig2_page.specs.Names.{Names, globals_at}
 use Rattle.jbig2_page.specs.Page.{ReadPage, drawing_of_page, page_from, ends_page}
 
@@ -17,20 +16,18 @@ pub data IsReordered : List SegmentView → List SegmentView → Type 0 where
       → p.header.segment_number ≢ q.header.segment_number → IsReordered (p ∷ q ∷ ps) (q ∷ p ∷ ps)
   Then : (ps qs rs : List SegmentView) → IsReordered ps qs → IsReordered qs rs → IsReordered ps rs
 
--- The lists of segments in these bytes are ended early by the same error, or by none. This is always so in strict and
--- in lenient reading.
-abbrev pub HaveOneFault : Reading → List ℕ → List ℕ → Type 0
-HaveOneFault reading bytes others =
-    fault_of reading (sequential Lenient bytes) ≡ fault_of reading (sequential Lenient others)
+-- The lists of segments in these bytes end early at the same segment, or not at all. In strict reading that is always so.
+abbrev pub HaveOneCutOff : Reading → List ℕ → List ℕ → Type 0
+HaveOneCutOff reading bytes others = sequence_cut_off reading bytes ≡ sequence_cut_off reading others
 
 -- Bytes with the same segments in another order give the same embedded page, and the same globals.
 pub record OrderChangesNothing : Type 0 where
   pub page : (reading : Reading) (globals : Names) (bytes others : List ℕ) (ps qs : List SegmentView)
       → sequential reading bytes ≡ Ok ps → sequential reading others ≡ Ok qs → IsReordered ps qs
-      → HaveOneFault reading bytes others → page_from reading globals bytes ≡ page_from reading globals others
+      → HaveOneCutOff reading bytes others → page_from reading globals bytes ≡ page_from reading globals others
   pub globals : (reading : Reading) (bytes others : List ℕ) (ps qs : List SegmentView)
       → sequential reading bytes ≡ Ok ps → sequential reading others ≡ Ok qs → IsReordered ps qs
-      → HaveOneFault reading bytes others → globals_at reading bytes ≡ globals_at reading others
+      → HaveOneCutOff reading bytes others → globals_at reading bytes ≡ globals_at reading others
 
 -- The drawing of a page depends only on its segments before the first end of page or end of file.
 abbrev pub EndOfPageEnds : Type 0

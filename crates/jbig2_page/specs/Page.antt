@@ -1,41 +1,44 @@
 -- What a page shows (T.88, 8). Its segments are taken in order. Each is drawn onto the page, kept for later ones, or
 -- changes nothing, as its type says (7.3).
-use Rattle.std.specs.Prelude.{◌≡◌, ◌≤◌, ℕ, ◌+◌, ◌-◌, ◌==◌, ◌||◌, nat_lt, max, min, Bool, true, false, not, List, []}
+use Rattle.std.specs.Prelude.{◌≡◌, ◌≤◌, ℕ, ◌+◌, ◌-◌, ◌==◌, ◌&&◌, ◌||◌, is_none, nat_lt, max, min, Bool, true, false, not, List, []}
 use Rattle.std.specs.Prelude.{◌∷◌, Option, Some, None, Result, Ok, Err, IfOk, IsTrue, if◌then◌else◌}
 use Rattle.std.specs.Int.{w32, cast_signed}
 use Rattle.jbig2_base.specs.Results.{◌>>=◌}
 use Rattle.jbig2_base.specs.Combination.{combined_grid}
 use Rattle.jbig2_base.specs.Grid.{Grid, blank, max_side}
-use Rattle.jbig2_base.specs.PageInfo.{initial_page_by, stripes_height}
-use Rattle.jbig2_base.specs.Reading.{fault_of, is_salvaged, is_strict}
-use Rattle.jbig2_base.specs.Segment.{SegmentView}
-use Rattle.jbig2_base.specs.Sequential.{sequential, sorted_segments}
+use Rattle.jbig2_framing.specs.PageInfo.{initial_page_by, stripes_height}
+use Rattle.jbig2_framing.specs.CutOff.{sequence_cut_off}
+use Rattle.jbig2_framing.specs.Reading.{is_salvaged, is_strict}
+use Rattle.jbig2_framing.specs.Segment.{SegmentView}
+use Rattle.jbig2_framing.specs.Sequential.{sorted_segments}
+use Rattle.jbig2_framing.specs.declared.cut_off.CutOff.{CutOff}
 use Rattle.jbig2_base.specs.declared.bitmap.operator.CombinationOperator.{CombinationOperator}
 use Rattle.jbig2_base.specs.declared.bitmap.operator.CombinationOperator.TheVariants.{Or, And, Xor, Xnor, Replace}
 use Rattle.jbig2_base.specs.declared.error.DecodeError.{DecodeError}
-use Rattle.jbig2_base.specs.declared.page_info.InitialPage.{InitialPage}
-use Rattle.jbig2_base.specs.declared.reading.Reading.{Reading}
-use Rattle.jbig2_base.specs.declared.reading.Reading.TheVariants.{Lenient, Salvage}
-use Rattle.jbig2_base.specs.declared.segment.SegmentType.{SegmentType}
+use Rattle.jbig2_framing.specs.declared.page_info.InitialPage.{InitialPage}
+use Rattle.jbig2_framing.specs.declared.reading.Reading.{Reading}
+use Rattle.jbig2_framing.specs.declared.reading.Reading.TheVariants.{Salvage}
+use Rattle.jbig2_framing.specs.declared.segment.SegmentType.{SegmentType}
 use Rattle.jbig2_region.specs.Refinement.{is_far}
 use Rattle.jbig2_region.specs.RegionInfo.{PlacedRegion, region_info_at}
 use Rattle.jbig2_region.specs.declared.region_info.RegionSegmentInfo.{RegionSegmentInfo}
-use Rattle.jbig2_page.specs.Names.{Names, no_names, nothing_passed, kept_by, kept_under, with_passed}
+use Rattle.jbig2_page.specs.Names.{Names, any_names_nothing, dictionary_lacks, first_kept, kept_by, kept_under, no_names}
+use Rattle.jbig2_page.specs.Names.{nothing_passed, with_lack, with_passed}
 use Rattle.jbig2_page.specs.Regions.{generic_at, halftone_at, refinement_at, text_at}
 use Rattle.jbig2_page.specs.declared.kept.Kept.{Kept}
 use Rattle.jbig2_page.specs.declared.drawing.passed_over.PassedOver.{PassedOver}
 use Rattle.jbig2_page.specs.declared.region.RegionKind.{RegionKind}
-use Rattle.jbig2_base.specs.declared.segment.SegmentType.TheVariants as types
+use Rattle.jbig2_framing.specs.declared.segment.SegmentType.TheVariants as types
 use Rattle.jbig2_page.specs.declared.region.RegionKind.TheVariants as kinds
 
--- A page that was read: how strictly, how it begins, its segments in order, its globals or their error, and in salvage
--- the error that ended the list of its segments early, if one did.
+-- A page that was read: how strictly, how it begins, its segments in order, its globals or their error, and the segment
+-- at which the list of its segments ended early, if it did.
 pub record ReadPage : Type 0 where
   pub reading : Reading
   pub initial_page : InitialPage
   pub segments : List SegmentView
   pub globals : Result Names DecodeError
-  pub fault : Option DecodeError
+  pub cut_off : Option CutOff
 
 abbrev pub IsSide : ℕ → Type 0  -- a side of a page, in pixels (our own rule)
 IsSide n = (1 ≤ n) × (n ≤ max_side)
@@ -90,7 +93,7 @@ with_drawn_region d region = do
 
 -- A segment that is passed over draws nothing, but it counts as a region that came before (our own rule).
 abbrev pub passing : ℕ → DecodeError → Drawing → Drawing
-passing number e d = record d { untouched = false; passed_over = with_passed number e d.passed_over }
+passing number e d = record d { untouched = false; passed_over = with_passed (Some number) e d.passed_over }
 
 -- Every reading but the strict one passes over an immediate region that fails (our own rule).
 abbrev pub or_passed_over : Bool → ℕ → Drawing → Result Drawing DecodeError → Result Drawing DecodeError
@@ -128,6 +131,27 @@ module _ (strict : Bool) (globals : Names) where
       on (Some (kind, false)) = immediate kind p d
       on None = with_names d (kept_by strict globals p d.names)
 
+-- A refinement whose first number names no region.
+abbrev pub lacks_region : List ℕ → List (Kept PlacedRegion) → Bool
+lacks_region [] regions = false
+lacks_region (number ∷ others) regions = is_none (first_kept number regions)
+
+-- Whether a segment refers to something that isn't there: strict reading refuses its number.
+abbrev pub lacks_referred : Names → SegmentView → Drawing → Bool
+lacks_referred globals p d = on (region_type p.header.segment_type)
+  where
+    on : Option (RegionKind × Bool) → Bool
+    on (Some (kinds.Text, is_intermediate)) = any_names_nothing d.names globals p.header.referred_to_segments
+    on (Some (kinds.GenericRefinement, is_intermediate)) = lacks_region p.header.referred_to_segments d.regions
+    on (Some _) = false
+    on None = dictionary_lacks d.names globals p
+
+-- Such a segment counts as passed over, once, though it is drawn or kept (our own rule).
+abbrev pub or_told : Bool → ℕ → Drawing → Result Drawing DecodeError → Result Drawing DecodeError
+or_told lacks number d (Ok e) =
+    Ok (record e { passed_over = with_lack (lacks && e.passed_over.count == d.passed_over.count) number e.passed_over })
+or_told lacks number d (Err e) = Err e
+
 -- Salvage passes over any segment that fails. Nothing is kept under its number then.
 abbrev pub or_left_out : Reading → ℕ → Drawing → Result Drawing DecodeError → Result Drawing DecodeError
 or_left_out reading number d (Ok e) = Ok e
@@ -136,7 +160,8 @@ or_left_out reading number d (Err e) = if is_salvaged reading e then Ok (passing
 module _ (reading : Reading) (globals : Names) where
   abbrev pub segment_on : SegmentView → Drawing → Result Drawing DecodeError
   segment_on p d =
-      or_left_out reading p.header.segment_number d (segment_by (is_strict reading) globals p d)
+      or_told (lacks_referred globals p d) p.header.segment_number d
+      (or_left_out reading p.header.segment_number d (segment_by (is_strict reading) globals p d))
 
   -- The segments in order, up to an end of page or an end of file.
   abbrev pub segments_drawn : List SegmentView → Drawing → Result Drawing DecodeError
@@ -162,10 +187,18 @@ blank_page initial_page = record {
   passed_over = nothing_passed;
 }
 
+-- The segment at which the list ended early counts as passed over, after all others (our own rule).
+abbrev pub with_cut_off : Option CutOff → Drawing → Drawing
+with_cut_off None d = d
+with_cut_off (Some c) d = record d { passed_over = with_passed c.segment_number c.error d.passed_over }
+
+abbrev pub drawing_with : Names → ReadPage → Result Drawing DecodeError
+drawing_with globals page =
+    segments_drawn page.reading globals page.segments (blank_page page.initial_page)
+    >>= λ d. Ok (with_cut_off page.cut_off d)
+
 abbrev pub drawing_of_page : ReadPage → Result Drawing DecodeError
-drawing_of_page page = do
-  globals ← page.globals
-  segments_drawn page.reading globals page.segments (blank_page page.initial_page)
+drawing_of_page page = page.globals >>= λ globals. drawing_with globals page
 
 unfoldable pub grid_of_page : ReadPage → Result Grid DecodeError
 grid_of_page page = drawing_of_page page >>= λ d. Ok d.grid
@@ -207,7 +240,7 @@ page_from reading globals bytes = do
     initial_page = initial_page;
     segments = segments;
     globals = Ok globals;
-    fault = fault_of reading (sequential Lenient bytes);
+    cut_off = sequence_cut_off reading bytes;
   })
 
 -- On a page that is all of this colour, the operator gives the region's own pixels.
@@ -229,8 +262,3 @@ UntouchedIsBlank = (reading : Reading) (globals : Names) (segments : List Segmen
 abbrev pub PagesKeepTheirSize : Type 0
 PagesKeepTheirSize = (page : ReadPage)
     → IfOk (grid_of_page page) (λ g. (g.width ≡ page.initial_page.width) × (g.height ≡ page.initial_page.height))
-
--- Strict reading passes over nothing.
-abbrev pub StrictPassesNothing : Type 0
-StrictPassesNothing = (page : ReadPage) → IsTrue (is_strict page.reading)
-    → IfOk (drawing_of_page page) (λ d. d.passed_over ≡ nothing_passed)

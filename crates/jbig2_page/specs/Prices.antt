@@ -1,8 +1,8 @@
 -- What a segment costs before it is looked at (our own rule; docs/FORMAT.md, 12.6). A price is a number of units of work.
 use Rattle.std.specs.Prelude.{ℕ, ◌+◌, ◌*◌, ◌^◌, ◌-◌, List, [], ◌∷◌, length, min, if◌then◌else◌}
-use Rattle.jbig2_base.specs.Segment.{SegmentView}
-use Rattle.jbig2_base.specs.declared.segment.SegmentType.{SegmentType}
-use Rattle.jbig2_base.specs.declared.segment.SegmentType.TheVariants as types
+use Rattle.jbig2_framing.specs.Segment.{SegmentView}
+use Rattle.jbig2_framing.specs.declared.segment.SegmentType.{SegmentType}
+use Rattle.jbig2_framing.specs.declared.segment.SegmentType.TheVariants as types
 use Rattle.jbig2_page.specs.Names.{Names}
 use Rattle.jbig2_page.specs.Page.{ends_page}
 

@@ -3,7 +3,7 @@
 use Rattle.std.specs.Prelude.{ℕ, Bool, ◌&&◌, not, is_none, List, [], ◌∷◌, length, Option, None, unwrap_or, Result, Ok}
 use Rattle.jbig2_base.specs.Results.{refuse_if, some_or, ◌>>=◌}
 use Rattle.jbig2_base.specs.Grid.{Grid, part_of}
-use Rattle.jbig2_base.specs.Segment.{SegmentView}
+use Rattle.jbig2_framing.specs.Segment.{SegmentView}
 use Rattle.jbig2_base.specs.declared.error.DecodeError.{DecodeError}
 use Rattle.jbig2_base.specs.declared.error.DecodeError.TheVariants.{Segment}
 use Rattle.jbig2_base.specs.declared.error.SegmentError.TheVariants.{InvalidReference, MissingPatternDictionary}

@@ -1,8 +1,8 @@
 -- The work that opening a file takes (our own rule).
 use Rattle.std.specs.Prelude.{ℕ, ◌+◌, ◌*◌, ◌≤◌, List, [], ◌∷◌, length, Result, IfOk}
-use Rattle.jbig2_base.specs.Segment.{SegmentView}
+use Rattle.jbig2_framing.specs.Segment.{SegmentView}
 use Rattle.jbig2_base.specs.declared.error.DecodeError.{DecodeError}
-use Rattle.jbig2_base.specs.declared.file_header.FileHeader.{FileHeader}
+use Rattle.jbig2_framing.specs.declared.file_header.FileHeader.{FileHeader}
 use Rattle.jbig2_steps.specs.Work.{budget}
 use Rattle.jbig2_steps.specs.declared.work.Work.{Work}
 use Rattle.jbig2_page.specs.Files.{PageInFile, ReadFile, of_page}

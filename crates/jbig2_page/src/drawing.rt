@@ -1,10 +1,10 @@
 //! Draws a page's segments onto the page (T.88, 8.2).
-ghost use Rattle.std.specs.Prelude.{◌≡◌, ◌+◌, ◌*◌, ◌<◌, ◌≤◌, ◌⊎◌, true, false, Err, IfErr, IfOk};
+ghost use Rattle.std.specs.Prelude.{◌≡◌, ◌+◌, ◌*◌, ◌<◌, ◌≤◌, ◌⊎◌, true, false, Err, IfErr, IfOk, OnOk, length};
 ghost use Rattle.jbig2_base.specs.Results.{Gives};
-ghost use Rattle.jbig2_base.specs.inner.SegmentViews.{segment_view, segment_views};
+ghost use Rattle.jbig2_framing.specs.inner.SegmentViews.{segment_view, segment_views};
 ghost use Rattle.jbig2_page.specs.Names.{nothing_passed, with_patterns, with_symbols};
-ghost use Rattle.jbig2_base.specs.Reading.{is_strict};
-ghost use Rattle.jbig2_page.specs.Page.{segments_drawn, ends_page, immediate, intermediate, with_names, or_left_out, or_passed_over, region_at, segment_by, segment_on, with_drawn_region};
+ghost use Rattle.jbig2_framing.specs.Reading.{is_strict};
+ghost use Rattle.jbig2_page.specs.Page.{segments_drawn, ends_page, immediate, intermediate, lacks_referred, with_names, or_left_out, or_passed_over, region_at, segment_by, segment_on, with_drawn_region};
 ghost use Rattle.jbig2_base.specs.declared.error.DecodeError.TheVariants.{OutOfMemory};
 ghost use Rattle.jbig2_region.specs.inner.RegionViews.{region_view};
 ghost use Rattle.jbig2_page.specs.inner.KeptViews.{kept_values};
@@ -24,12 +24,13 @@ use crate::drawing::dictionaries::{extension, keep_patterns, keep_symbols, keep_
 use crate::kept::Kept;
 use crate::kept::names::{KeptNames, Lookup};
 use crate::region::references::References;
+use crate::region::refinement::lacks_region;
 use crate::region::{RegionKind, parse_region};
 use jbig2_base::bitmap::Bitmap;
 use jbig2_base::bitmap::steps::Work;
 use jbig2_base::error::{DecodeError, Result};
-use jbig2_base::reading::Reading;
-use jbig2_base::segment::{Segment, SegmentType};
+use jbig2_framing::reading::Reading;
+use jbig2_framing::segment::{Segment, SegmentType};
 use jbig2_region::generic::DecodedRegion;
 use std::alloc::Allocator;
 use std::sync::ledger::Ledger;
@@ -133,6 +134,7 @@ impl<'a, A: Allocator + Clone> Drawer<'a, A> {
         ensures paid { Paid work.old work.new }
         ensures taken { let count = drawn_count (segment_views segments.now) in
             IfOk result (λ _. budget work.new + 32 * (1024 * count) ≤ budget work.old) }
+        ensures few { OnOk result (canvas.new.passed_over.count ≤ length segments.now) }
     {
         for segment in segments {
             if ends_page(segment.header.segment_type) {
@@ -148,7 +150,32 @@ impl<'a, A: Allocator + Clone> Drawer<'a, A> {
         Ok(())
     }
 
-    /// Draws one segment onto the page, or keeps what it holds. Salvage passes over one that fails.
+    /// Whether a segment refers to something that isn't there.
+    fn lacks_referred(&self, segment: &Segment<'_, A>, canvas: &Canvas<A>) -> bool
+        ensures { result ≡ lacks_referred self.now.globals.now (segment_view segment.now)
+            canvas.now }
+    {
+        let numbers = &segment.header.referred_to_segments;
+        let names = Lookup {
+            strict: self.reading.is_strict(),
+            own: &canvas.names,
+            globals: self.globals,
+        };
+        match segment.header.segment_type {
+            SegmentType::IntermediateTextRegion
+            | SegmentType::ImmediateTextRegion
+            | SegmentType::ImmediateLosslessTextRegion => names.any_names_nothing(numbers),
+            SegmentType::IntermediateGenericRefinementRegion
+            | SegmentType::ImmediateGenericRefinementRegion
+            | SegmentType::ImmediateLosslessGenericRefinementRegion => {
+                lacks_region(numbers, &canvas.regions)
+            }
+            _ => names.dictionary_lacks(segment),
+        }
+    }
+
+    /// Draws one segment onto the page, or keeps what it holds. One that refers to something that isn't there is
+    /// counted as passed over too.
     fn draw_segment<L: Ledger>(
         &self,
         segment: &Segment<'_, A>,
@@ -159,6 +186,27 @@ impl<'a, A: Allocator + Clone> Drawer<'a, A> {
         ensures value { Gives (λ _. canvas.new) result
             (segment_on self.now.reading self.now.globals.now (segment_view segment.now)
             canvas.old) }
+        ensures paid { Paid work.old work.new }
+    {
+        let lacks = self.lacks_referred(segment, canvas);
+        let before = canvas.passed_over.count;
+        self.take_segment(segment, canvas, work)?;
+        canvas.tell_lack(lacks, before, segment.header.segment_number);
+        Ok(())
+    }
+
+    /// Draws one segment onto the page, or keeps what it holds. Salvage passes over one that fails.
+    fn take_segment<L: Ledger>(
+        &self,
+        segment: &Segment<'_, A>,
+        canvas: &mut Canvas<A>,
+        work: &mut Work<L>,
+    ) -> Result<()>
+        requires { canvas.old.passed_over.count < usize.MAX }
+        ensures value { Gives (λ _. canvas.new) result
+            (or_left_out self.now.reading segment.now.header.segment_number canvas.old
+            (segment_by (is_strict self.now.reading) self.now.globals.now
+            (segment_view segment.now) canvas.old)) }
         ensures paid { Paid work.old work.new }
     {
         match self.try_segment(segment, canvas, work) {

@@ -1,10 +1,10 @@
 //! Reads a file of pages (T.88, Annex D), in the work that a caller's counter allows.
 ghost use Rattle.std.specs.Prelude.{◌≡◌, ◌+◌, ◌*◌, ◌≤◌, ◌++◌, Ok, OnOk, IfErr, IfOk};
 ghost use Rattle.jbig2_base.specs.Results.{Returns, Gives};
-ghost use Rattle.jbig2_base.specs.inner.SegmentViews.{header_view, segment_views};
+ghost use Rattle.jbig2_framing.specs.inner.SegmentViews.{header_view, segment_views};
 ghost use Rattle.jbig2_page.specs.inner.ByPages.{pages_view};
-ghost use Rattle.jbig2_page.specs.Files.{needs_page, lacks_page, association_check, is_end_of_page, ends_of, page_in_file, pages_in_file, left_out_of, miscounts, book_at, shared_by};
-ghost use Rattle.jbig2_base.specs.File.{file_at};
+ghost use Rattle.jbig2_page.specs.Files.{needs_page, lacks_page, association_check, cut_off_of, is_end_of_page, ends_of, may_belong, may_lack, page_in_file, pages_in_file, left_out_of, miscounts, book_at, shared_by};
+ghost use Rattle.jbig2_framing.specs.File.{file_at};
 ghost use Rattle.jbig2_page.specs.Returned.{IsReturned};
 ghost use Rattle.jbig2_page.specs.inner.PageViews.{kept_names};
 ghost use Rattle.jbig2_page.specs.Causes.{BreaksBook, IsFromInput};
@@ -20,10 +20,11 @@ use crate::page::PageContent;
 use crate::page::beginning::beginning_of;
 use jbig2_base::bitmap::steps::Work;
 use jbig2_base::error::{DecodeError, FormatError, Result, SegmentError};
-use jbig2_base::file::{file_fault, parse_file};
-use jbig2_base::page_info::InitialPage;
-use jbig2_base::reading::Reading;
-use jbig2_base::segment::{Segment, SegmentHeader, SegmentType};
+use jbig2_framing::cut_off::CutOff;
+use jbig2_framing::file::{FileOrganization, parse_file};
+use jbig2_framing::page_info::InitialPage;
+use jbig2_framing::reading::Reading;
+use jbig2_framing::segment::{Segment, SegmentHeader, SegmentType};
 use std::alloc::Allocator;
 use std::marker::Model;
 use std::sync::ledger::Ledger;
@@ -36,7 +37,7 @@ pub struct FilePage<'a, A: Allocator> {
 }
 
 impl<'a, A: Allocator> Model for FilePage<'a, A> {
-    ghost use Rattle.jbig2_base.specs.inner.SegmentViews.{segment_views};
+    ghost use Rattle.jbig2_framing.specs.inner.SegmentViews.{segment_views};
     ghost use Rattle.jbig2_page.specs.Files.{PageInFile};
     ghost use Rattle.jbig2_page.specs.Page.{HasSides};
 
@@ -54,13 +55,14 @@ impl<'a, A: Allocator> Model for FilePage<'a, A> {
 #[derive(Drop)]
 pub struct FileContent<'a, A: Allocator> {
     pub reading: Reading,
+    pub organization: FileOrganization,
     pub pages: Vec<FilePage<'a, A>, A>,
     /// What the segments of no page keep, or their error.
     pub globals: Result<GlobalsContent<A>>,
     /// Why pages were left out, in salvage: an error for each.
     pub left_out: Vec<DecodeError, A>,
-    /// In salvage, the error that ended the list of segments early.
-    pub fault: Option<DecodeError>,
+    /// The segment at which the list of segments ended early, if it did.
+    pub cut_off: Option<CutOff>,
 }
 
 impl<'a, A: Allocator> Model for FileContent<'a, A> {
@@ -72,22 +74,52 @@ impl<'a, A: Allocator> Model for FileContent<'a, A> {
 
     ghost view = { λ file. record {
       reading = file.reading;
+      organization = file.organization;
       pages = file.pages.items;
       globals = file.globals;
       left_out = file.left_out.items;
-      fault = file.fault;
+      cut_off = file.cut_off;
     } };
 
     ghost invariant = { λ file. IfErr file.globals IsFromInput };
 }
 
 impl<'a, A: Allocator> FilePage<'a, A> {
-    /// The page, with the result of decoding the globals of its file, and the file's fault.
+    /// Whether the page may lack something of the segment at which the file's list of segments ends early.
+    fn may_lack(&self, organization: FileOrganization, cut_off: &CutOff) -> bool
+        ensures { result ≡ may_lack organization self.now cut_off.now }
+    {
+        matches!(organization, FileOrganization::RandomAccess)
+            || count_ends(&self.segments) == 0
+                && may_belong(self.initial_page.number, cut_off.page_association)
+    }
+
+    /// The cut-off that the page has from its file.
+    pub fn cut_off(
+        &self,
+        organization: FileOrganization,
+        cut_off: &Option<CutOff>,
+    ) -> Option<CutOff>
+        ensures { result ≡ cut_off_of organization self.now cut_off.now }
+    {
+        match cut_off {
+            None => None,
+            Some(cut_off) => {
+                if self.may_lack(organization, cut_off) {
+                    Some(cut_off.duplicate())
+                } else {
+                    None
+                }
+            }
+        }
+    }
+
+    /// The page, with the result of decoding the globals of its file, and its cut-off.
     pub fn content<'p>(
         &'p self,
         reading: Reading,
         globals: Result<Option<&'p GlobalsContent<A>>>,
-        fault: Option<DecodeError>,
+        cut_off: Option<CutOff>,
     ) -> PageContent<'p, A>
         requires { IfErr (kept_names globals) IsFromInput }
         ensures { result ≡ record {
@@ -95,10 +127,20 @@ impl<'a, A: Allocator> FilePage<'a, A> {
           initial_page = self.now.initial_page;
           segments = self.now.segments;
           globals = kept_names globals.entry;
-          fault = fault;
+          cut_off = cut_off;
         } }
     {
-        PageContent::of_file(reading, self.initial_page, &self.segments, globals, fault)
+        PageContent::of_file(reading, self.initial_page, &self.segments, globals, cut_off)
+    }
+}
+
+/// Whether a segment of this association may belong to the page with this number.
+fn may_belong(number: u32, association: Option<u32>) -> bool
+    ensures { result ≡ may_belong number association }
+{
+    match association {
+        None => true,
+        Some(page) => page == 0 || page == number,
     }
 }
 
@@ -254,7 +296,6 @@ impl<'a, A: Allocator + Clone> FileContent<'a, A> {
             IfOk result (λ file. PaysShared read file work.old work.new) }
     {
         let strict = reading.is_strict();
-        let fault = file_fault(alloc.clone()?, bytes, reading)?;
         let file = parse_file(alloc.clone()?, bytes, reading)?;
         check_associations(strict, &file.segments)?;
         let segments = SegmentsByPage::new(alloc.clone()?, file.segments)?;
@@ -266,10 +307,11 @@ impl<'a, A: Allocator + Clone> FileContent<'a, A> {
         let globals = kept_globals(alloc, reading, &pages, &segments.shared, work)?;
         Ok(FileContent {
             reading,
+            organization: file.header.organization,
             pages,
             globals,
             left_out,
-            fault,
+            cut_off: file.cut_off,
         })
     }
 }

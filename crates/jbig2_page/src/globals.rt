@@ -1,11 +1,11 @@
 //! Decodes the segments that several pages share, as in PDF, in the work that a caller's counter allows.
 ghost use Rattle.std.specs.Prelude.{◌≡◌, ◌+◌, ◌*◌, ◌<◌, ◌≤◌, ◌⊎◌, Ok, IfErr, IfOk, length};
-ghost use Rattle.jbig2_base.specs.Sequential.{sorted_segments};
+ghost use Rattle.jbig2_framing.specs.Sequential.{sorted_segments};
 ghost use Rattle.jbig2_base.specs.Results.{Gives};
-ghost use Rattle.jbig2_base.specs.Reading.{is_strict};
+ghost use Rattle.jbig2_framing.specs.Reading.{is_strict};
 ghost use Rattle.jbig2_base.specs.declared.error.DecodeError.TheVariants.{OutOfMemory};
-ghost use Rattle.jbig2_base.specs.inner.SegmentViews.{segment_view, segment_views};
-ghost use Rattle.jbig2_page.specs.Names.{globals_at, shared_from, kept_by, no_names, nothing_shared, or_shared_without};
+ghost use Rattle.jbig2_framing.specs.inner.SegmentViews.{segment_view, segment_views};
+ghost use Rattle.jbig2_page.specs.Names.{dictionary_lacks, globals_at, shared_from, kept_by, no_names, nothing_shared, or_shared_without};
 ghost use Rattle.jbig2_page.specs.Returned.{IsReturned};
 ghost use Rattle.jbig2_page.specs.inner.KeptViews.{found_value};
 ghost use Rattle.jbig2_steps.specs.Work.{IsWithinLimit, Paid, budget};
@@ -13,14 +13,15 @@ ghost use Rattle.jbig2_steps.specs.Work.{IsWithinLimit, Paid, budget};
 use crate::drawing::dictionaries::{extension, keep_patterns, keep_symbols, keep_table};
 use crate::drawing::passed_over::PassedOver;
 use crate::drawing::pay_segment;
-use crate::kept::names::KeptNames;
+use crate::kept::names::{KeptNames, Lookup};
 use crate::workspace::Workspace;
 use jbig2_base::bitmap::steps::Work;
 use jbig2_base::error::{DecodeError, Result};
-use jbig2_base::file::{parse_segments_sequential, sequence_fault};
-use jbig2_base::reading::Reading;
-use jbig2_base::segment::{Segment, SegmentType};
-use jbig2_base::sort::sort_segments;
+use jbig2_framing::cut_off::CutOff;
+use jbig2_framing::file::parse_segments_sequential;
+use jbig2_framing::reading::Reading;
+use jbig2_framing::segment::{Segment, SegmentType};
+use jbig2_framing::sort::sort_segments;
 use std::alloc::Allocator;
 use std::marker::Model;
 use std::sync::ledger::Ledger;
@@ -30,7 +31,7 @@ use std::sync::ledger::Ledger;
 pub struct GlobalsContent<A: Allocator> {
     names: KeptNames<A>,
     passed_over: PassedOver,
-    fault: Option<DecodeError>,
+    cut_off: Option<CutOff>,
 }
 
 impl<A: Allocator> Drop for GlobalsContent<A> {
@@ -38,7 +39,7 @@ impl<A: Allocator> Drop for GlobalsContent<A> {
         let GlobalsContent {
             names: _,
             passed_over: _,
-            fault: _,
+            cut_off: _,
         } = self;
     }
 }
@@ -51,7 +52,7 @@ impl<A: Allocator> Model for GlobalsContent<A> {
     ghost view = { λ globals. record {
       names = globals.names;
       passed_over = globals.passed_over;
-      fault = globals.fault;
+      cut_off = globals.cut_off;
     } };
 }
 
@@ -69,23 +70,23 @@ impl<A: Allocator> GlobalsContent<A> {
         &self.passed_over
     }
 
-    /// In salvage, the error of lenient reading that ended the list of their segments early.
-    pub fn fault(&self) -> Option<&DecodeError>
-        ensures { found_value (λ e. e) result ≡ self.now.fault }
+    /// The segment at which the list of their segments ended early, if it did.
+    pub fn cut_off(&self) -> Option<&CutOff>
+        ensures { found_value (λ c. c) result ≡ self.now.cut_off }
     {
-        self.fault.as_ref()
+        self.cut_off.as_ref()
     }
 }
 
 impl<A: Allocator + Clone> GlobalsContent<A> {
-    /// Globals that keep nothing, from a list of segments that this error ended.
-    pub(crate) fn empty(alloc: A, fault: Option<DecodeError>) -> Result<GlobalsContent<A>>
-        ensures { Gives (λ globals. globals) result (Ok (nothing_shared fault)) }
+    /// Globals that keep nothing, from a list of segments that ended at this one.
+    pub(crate) fn empty(alloc: A, cut_off: Option<CutOff>) -> Result<GlobalsContent<A>>
+        ensures { Gives (λ globals. globals) result (Ok (nothing_shared cut_off)) }
     {
         Ok(GlobalsContent {
             names: KeptNames::new(alloc)?,
             passed_over: PassedOver::nothing(),
-            fault,
+            cut_off,
         })
     }
 
@@ -105,10 +106,9 @@ impl<A: Allocator + Clone> GlobalsContent<A> {
         ensures taken { IfOk (sorted_segments reading bytes.now) (λ segments. IfOk result
             (λ _. budget work.new + 32 * (1024 * length segments) ≤ budget work.old)) }
     {
-        let fault = sequence_fault(alloc.clone()?, bytes, reading)?;
-        let mut segments = parse_segments_sequential(alloc.clone()?, bytes, reading)?;
-        sort_segments(&mut segments)?;
-        GlobalsContent::of_segments(alloc, reading, &segments, fault, work)
+        let mut list = parse_segments_sequential(alloc.clone()?, bytes, reading)?;
+        sort_segments(&mut list.segments)?;
+        GlobalsContent::of_segments(alloc, reading, &list.segments, list.cut_off, work)
     }
 
     /// What these segments keep. Each may refer to those before it.
@@ -116,17 +116,17 @@ impl<A: Allocator + Clone> GlobalsContent<A> {
         alloc: A,
         reading: Reading,
         segments: &[Segment<'_, A>],
-        fault: Option<DecodeError>,
+        cut_off: Option<CutOff>,
         work: &mut Work<L>,
     ) -> Result<GlobalsContent<A>>
         ensures value { Gives (λ globals. globals) result
-            (shared_from reading (segment_views segments.now) (nothing_shared fault)) }
+            (shared_from reading (segment_views segments.now) (nothing_shared cut_off)) }
         ensures paid { Paid work.old work.new }
         ensures limit { IsWithinLimit work.old work.new }
         ensures taken { IfOk result
             (λ _. budget work.new + 32 * (1024 * length segments.now) ≤ budget work.old) }
     {
-        let mut globals = GlobalsContent::empty(alloc.clone()?, fault)?;
+        let mut globals = GlobalsContent::empty(alloc.clone()?, cut_off)?;
         let mut workspace = Workspace::new(alloc)?;
         for segment in segments {
             pay_segment(segment, globals.names.count(), work)?;
@@ -136,6 +136,19 @@ impl<A: Allocator + Clone> GlobalsContent<A> {
             }
         }
         Ok(globals)
+    }
+
+    /// Whether a segment is a symbol dictionary that refers to something that isn't there.
+    fn lacks(&self, none: &KeptNames<A>, segment: &Segment<'_, A>) -> bool
+        requires { none.now ≡ no_names }
+        ensures { result ≡ dictionary_lacks self.now.names no_names (segment_view segment.now) }
+    {
+        let lookup = Lookup {
+            strict: false,
+            own: &self.names,
+            globals: none,
+        };
+        lookup.dictionary_lacks(segment)
     }
 
     /// Keeps what one more segment holds. Salvage passes over one that fails.
@@ -148,31 +161,43 @@ impl<A: Allocator + Clone> GlobalsContent<A> {
     ) -> Result<()>
         requires { self.old.passed_over.count < usize.MAX }
         ensures value { Gives (λ _. self.new) result
-            (or_shared_without reading segment.now.header.segment_number self.old
+            (or_shared_without reading
+            (dictionary_lacks self.old.names no_names (segment_view segment.now))
+            segment.now.header.segment_number self.old
             (kept_by (is_strict reading) no_names (segment_view segment.now) self.old.names)) }
         ensures paid { Paid work.old work.new }
     {
+        let none = KeptNames::new(workspace.alloc.clone()?)?;
+        let lacks = self.lacks(&none, segment);
         let names = &mut self.names;
-        match keep_segment(names, reading.is_strict(), segment, workspace, work) {
-            Ok(()) => Ok(()),
+        match keep_segment(names, &none, reading.is_strict(), segment, workspace, work) {
+            Ok(()) => {
+                self.passed_over
+                    .tell_lack(lacks, segment.header.segment_number);
+                Ok(())
+            }
             Err(error) => {
                 if !reading.is_salvaged(&error) {
                     return Err(error);
                 }
-                self.passed_over.add(segment.header.segment_number, error);
+                self.passed_over
+                    .add(Some(segment.header.segment_number), error);
                 Ok(())
             }
         }
     }
 }
 
+/// Keeps what a segment of globals holds. `none` keeps nothing: globals have no globals of their own.
 fn keep_segment<A: Allocator + Clone, L: Ledger>(
     names: &mut KeptNames<A>,
+    none: &KeptNames<A>,
     strict: bool,
     segment: &Segment<'_, A>,
     workspace: &mut Workspace<A>,
     work: &mut Work<L>,
 ) -> Result<()>
+    requires { none.now ≡ no_names }
     ensures value { Gives (λ _. names.new) result
         (kept_by strict no_names (segment_view segment.now) names.old) }
     ensures unchanged { IfErr result (λ e. (e ≡ OutOfMemory) ⊎ (names.new ≡ names.old)) }
@@ -180,8 +205,7 @@ fn keep_segment<A: Allocator + Clone, L: Ledger>(
 {
     match segment.header.segment_type {
         SegmentType::SymbolDictionary => {
-            let none = KeptNames::new(workspace.alloc.clone()?)?;
-            keep_symbols(names, strict, &none, segment, workspace, work)
+            keep_symbols(names, strict, none, segment, workspace, work)
         }
         SegmentType::PatternDictionary => keep_patterns(names, strict, segment, workspace, work),
         SegmentType::Tables => keep_table(names, segment, workspace),

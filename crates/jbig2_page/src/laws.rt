@@ -8,9 +8,9 @@ ghost use Rattle.jbig2_base.specs.declared.bitmap.operator.CombinationOperator.{
 ghost use Rattle.jbig2_page.specs.Calls.{CallsAreFew, ChunksFit, DrawsGrid, calls_of};
 ghost use Rattle.jbig2_page.specs.Causes.{ErrorsAreFromInput};
 ghost use Rattle.jbig2_page.specs.Image.{PackedBitsAreBytes};
-ghost use Rattle.jbig2_page.specs.Lenient.{LenientReadingAgrees, SalvageAgrees, SalvageRefusesLittle};
+ghost use Rattle.jbig2_page.specs.Lenient.{LenientReadingAgrees, SalvageAgrees, SalvageRefusesLittle, StrictPassesNothing};
 ghost use Rattle.jbig2_page.specs.Order.{EndOfPageEnds, OrderChangesNothing};
-ghost use Rattle.jbig2_page.specs.Page.{PagesKeepTheirSize, StrictPassesNothing, UntouchedIsBlank, draws_over};
+ghost use Rattle.jbig2_page.specs.Page.{PagesKeepTheirSize, UntouchedIsBlank, draws_over};
 
 /// Where strict reading accepts, lenient reading gives the same: globals, the beginning of an embedded page and its
 /// drawing, the pages of a file and the drawing of each. Lenient reading passes over nothing then.
@@ -30,8 +30,8 @@ pub fn salvage_refuses_little()
     ensures { SalvageRefusesLittle }
 {}
 
-/// Segments with different numbers may have any order in the bytes of an embedded page, or of globals, if the same
-/// error ends both lists of segments early, or none does.
+/// Segments with different numbers may have any order in the bytes of an embedded page, or of globals, if both
+/// lists of segments end early at the same segment, or neither does.
 pub fn order_changes_nothing()
     ensures { OrderChangesNothing }
 {}

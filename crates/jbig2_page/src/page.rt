@@ -7,7 +7,7 @@ ghost use Rattle.jbig2_page.specs.Causes.{IsFromInput};
 ghost use Rattle.jbig2_page.specs.Returned.{IsReturned};
 ghost use Rattle.jbig2_page.specs.inner.PageViews.{given_names, kept_names};
 ghost use Rattle.jbig2_page.specs.inner.SegmentLists.{segment_list};
-ghost use Rattle.jbig2_base.specs.inner.SegmentViews.{segment_views};
+ghost use Rattle.jbig2_framing.specs.inner.SegmentViews.{segment_views};
 
 pub(crate) mod beginning;
 mod calls;
@@ -20,12 +20,13 @@ mod page_segments;
 use crate::globals::GlobalsContent;
 use crate::page::beginning::beginning_of;
 use crate::page::page_segments::PageSegments;
-use jbig2_base::error::{DecodeError, Result};
-use jbig2_base::file::{parse_segments_sequential, sequence_fault};
-use jbig2_base::page_info::InitialPage;
-use jbig2_base::reading::Reading;
-use jbig2_base::segment::Segment;
-use jbig2_base::sort::sort_segments;
+use jbig2_base::error::Result;
+use jbig2_framing::cut_off::CutOff;
+use jbig2_framing::file::parse_segments_sequential;
+use jbig2_framing::page_info::InitialPage;
+use jbig2_framing::reading::Reading;
+use jbig2_framing::segment::Segment;
+use jbig2_framing::sort::sort_segments;
 use std::alloc::Allocator;
 use std::marker::Model;
 
@@ -36,12 +37,12 @@ pub struct PageContent<'a, A: Allocator> {
     initial_page: InitialPage,
     segments: PageSegments<'a, A>,
     globals: Result<Option<&'a GlobalsContent<A>>>,
-    fault: Option<DecodeError>,
+    cut_off: Option<CutOff>,
 }
 
 impl<'a, A: Allocator> Model for PageContent<'a, A> {
     ghost use Rattle.std.specs.Prelude.{IfErr};
-    ghost use Rattle.jbig2_base.specs.inner.SegmentViews.{segment_views};
+    ghost use Rattle.jbig2_framing.specs.inner.SegmentViews.{segment_views};
     ghost use Rattle.jbig2_page.specs.Causes.{IsFromInput};
     ghost use Rattle.jbig2_page.specs.Page.{HasSides, ReadPage};
     ghost use Rattle.jbig2_page.specs.inner.PageViews.{kept_names};
@@ -54,7 +55,7 @@ impl<'a, A: Allocator> Model for PageContent<'a, A> {
       initial_page = page.initial_page;
       segments = segment_views (segment_list page.segments);
       globals = kept_names page.globals;
-      fault = page.fault;
+      cut_off = page.cut_off;
     } };
 
     ghost invariant = { λ page. HasSides page.initial_page
@@ -68,7 +69,7 @@ impl<'a, A: Allocator> PageContent<'a, A> {
         initial_page: InitialPage,
         segments: &'a Vec<Segment<'a, A>, A>,
         globals: Result<Option<&'a GlobalsContent<A>>>,
-        fault: Option<DecodeError>,
+        cut_off: Option<CutOff>,
     ) -> PageContent<'a, A>
         requires sides { HasSides initial_page }
         requires from_input { IfErr (kept_names globals) IsFromInput }
@@ -77,7 +78,7 @@ impl<'a, A: Allocator> PageContent<'a, A> {
           initial_page = initial_page;
           segments = segment_views segments.now.items;
           globals = kept_names globals.entry;
-          fault = fault;
+          cut_off = cut_off;
         } }
     {
         PageContent {
@@ -85,7 +86,7 @@ impl<'a, A: Allocator> PageContent<'a, A> {
             initial_page,
             segments: PageSegments::Borrowed(segments),
             globals,
-            fault,
+            cut_off,
         }
     }
 
@@ -101,12 +102,12 @@ impl<'a, A: Allocator> PageContent<'a, A> {
         self.initial_page.number
     }
 
-    /// In salvage, the error that ended the list of the page's segments early, or that of its file: the error of
-    /// lenient reading.
-    pub fn fault(&self) -> Option<&DecodeError>
-        ensures { found_value (λ e. e) result ≡ self.now.fault }
+    /// The segment at which the list of the page's segments ended early, if it did: lenient reading drops one that is
+    /// cut off, salvage any that is refused. Of a page in a file it is the file's, if the page may lack something of it.
+    pub fn cut_off(&self) -> Option<&CutOff>
+        ensures { found_value (λ c. c) result ≡ self.now.cut_off }
     {
-        self.fault.as_ref()
+        self.cut_off.as_ref()
     }
 
     /// The width in pixels, 1 to 65535.
@@ -148,16 +149,15 @@ impl<'a, A: Allocator + Clone> PageContent<'a, A> {
             (page_from reading (given_names globals.entry) bytes.now) }
         ensures errors { IfErr result IsReturned }
     {
-        let fault = sequence_fault(alloc.clone()?, bytes, reading)?;
-        let mut segments = parse_segments_sequential(alloc, bytes, reading)?;
-        sort_segments(&mut segments)?;
-        let initial_page = beginning_of(reading, &segments)?;
+        let mut list = parse_segments_sequential(alloc, bytes, reading)?;
+        sort_segments(&mut list.segments)?;
+        let initial_page = beginning_of(reading, &list.segments)?;
         Ok(PageContent {
             reading,
             initial_page,
-            segments: PageSegments::Owned(segments),
+            segments: PageSegments::Owned(list.segments),
             globals: Ok(globals),
-            fault,
+            cut_off: list.cut_off,
         })
     }
 }

@@ -1,7 +1,7 @@
 //! The regions of a page, by kind (T.88, 7.4.3 and 7.4.5 to 7.4.7). A region is first parsed, with what it refers to,
 //! and then decoded.
 ghost use Rattle.std.specs.Prelude.{IfOk};
-ghost use Rattle.jbig2_base.specs.inner.SegmentViews.{segment_view};
+ghost use Rattle.jbig2_framing.specs.inner.SegmentViews.{segment_view};
 ghost use Rattle.jbig2_page.specs.Page.{region_at};
 ghost use Rattle.jbig2_page.specs.inner.ParsedRegions.{IsDecodable, DecodesTo, drawing_of};
 ghost use Rattle.jbig2_steps.specs.Work.{Paid};
@@ -10,7 +10,7 @@ mod generic;
 mod halftone;
 pub(crate) mod parsed_region;
 pub(crate) mod references;
-mod refinement;
+pub(crate) mod refinement;
 mod text;
 mod whole_page;
 
@@ -23,7 +23,7 @@ use crate::region::text::parse_text;
 use crate::workspace::Workspace;
 use jbig2_base::bitmap::steps::Work;
 use jbig2_base::error::Result;
-use jbig2_base::segment::Segment;
+use jbig2_framing::segment::Segment;
 use std::alloc::Allocator;
 use std::sync::ledger::Ledger;
 

@@ -1,25 +1,26 @@
 -- Pages are read back.
-use Rattle.std.proofs.Common.{◌≤◌, ◌≡◌, ℕ, ◌+◌, ◌<◌, eqb, ltb, Bool, true, false, ◌&&◌, ◌||◌, List, [], ◌∷◌, length, pos, Result, Ok, refl, sym, ◌∙◌, ap, subst, arith, ne_eqb, lt-ltb, append-nil, ◌*◌, ⊎_elim, length-append}
+use Rattle.std.proofs.Common.{◌≤◌, ◌≡◌, ℕ, ◌+◌, ◌<◌, eqb, ltb, Bool, true, false, ◌&&◌, ◌||◌, List, [], ◌∷◌, length, pos, Option, None, Some, Result, Ok, Err, refl, sym, ◌∙◌, ap, subst, arith, ne_eqb, lt-ltb, append-nil, ◌*◌, ⊎_elim, length-append}
 use Rattle.std.specs.List.{flat_map}
 use Rattle.std.proofs.lemmas.Bool.{cond-true, cond-false, or_from, and_from, and_right, cases_Bool}
 use Rattle.std.proofs.lemmas.Nat.{mul-le}
 use Rattle.jbig2_base.specs.Results.{◌>>=◌, refuse_if}
 use Rattle.jbig2_base.specs.Combination.{combined_grid, combined_pixel, drawn_pixel}
 use Rattle.jbig2_base.specs.Grid.{Grid, grid_of, blank, pixel_at, check_sides, max_side}
-use Rattle.jbig2_base.specs.PageInfo.{height_of, information_at, initial_page_with}
-use Rattle.jbig2_base.specs.Reading.{fault_of, is_strict}
-use Rattle.jbig2_base.specs.Segment.{SegmentView}
-use Rattle.jbig2_base.specs.Sequential.{by_number, sequential}
+use Rattle.jbig2_framing.specs.CutOff.{sequence_cut_off}
+use Rattle.jbig2_framing.specs.PageInfo.{height_of, information_at, initial_page_with}
+use Rattle.jbig2_framing.specs.Reading.{is_strict}
+use Rattle.jbig2_framing.specs.Segment.{SegmentView}
+use Rattle.jbig2_framing.specs.Sequential.{by_number, sequential}
 use Rattle.jbig2_base.specs.declared.bitmap.operator.CombinationOperator.{CombinationOperator}
 use Rattle.jbig2_base.specs.declared.bitmap.operator.CombinationOperator.TheVariants.{Or, Replace}
 use Rattle.jbig2_base.specs.declared.error.DecodeError.{DecodeError}
 use Rattle.jbig2_base.specs.declared.error.DecodeError.TheVariants.{Format}
 use Rattle.jbig2_base.specs.declared.error.FormatError.TheVariants.{EmptyPage, UnknownPageHeight}
-use Rattle.jbig2_base.specs.declared.page_info.InitialPage.{InitialPage}
-use Rattle.jbig2_base.specs.declared.page_info.PageInformation.{PageInformation}
-use Rattle.jbig2_base.specs.declared.reading.Reading.{Reading}
-use Rattle.jbig2_base.specs.declared.reading.Reading.TheVariants.{Lenient}
-use Rattle.jbig2_base.specs.declared.segment.SegmentType.TheVariants as types
+use Rattle.jbig2_framing.specs.declared.cut_off.CutOff.{CutOff}
+use Rattle.jbig2_framing.specs.declared.page_info.InitialPage.{InitialPage}
+use Rattle.jbig2_framing.specs.declared.page_info.PageInformation.{PageInformation}
+use Rattle.jbig2_framing.specs.declared.reading.Reading.{Reading}
+use Rattle.jbig2_framing.specs.declared.segment.SegmentType.TheVariants as types
 use Rattle.jbig2_base.proofs.GridLemmas.{grid_of-ext, pixel_at-grid_of}
 use Rattle.jbig2_coder.specs.Encoder.{encoded_bytes}
 use Rattle.jbig2_region.specs.Generic.{generic_coding, generic_decoded, generic_result}
@@ -31,7 +32,7 @@ use Rattle.jbig2_region.specs.declared.template.AdaptiveTemplatePixel.{AdaptiveT
 use Rattle.jbig2_region.specs.RegionInfo.{PlacedRegion, at_location}
 use Rattle.jbig2_page.specs.Names.{Names}
 use Rattle.jbig2_page.specs.Regions.{generic_at}
-use Rattle.jbig2_page.specs.Page.{Drawing, IsSide, ReadPage, beginning_of, blank_page, known_height, page_from, grid_of_page, immediate, or_passed_over, or_left_out, with_drawn_region, segments_drawn}
+use Rattle.jbig2_page.specs.Page.{Drawing, IsSide, ReadPage, beginning_of, blank_page, known_height, page_from, grid_of_page, immediate, lacks_referred, or_passed_over, or_left_out, or_told, with_cut_off, with_drawn_region, segments_drawn}
 use Rattle.jbig2_inverses.specs.BitmapWriter.{mmr_bytes}
 use Rattle.jbig2_inverses.specs.GenericSegmentWriter.{adaptive_bytes, IsHeader, generic_bytes, info_bytes}
 use Rattle.jbig2_inverses.specs.RegionWriter.{is_typical, generic_entries}
@@ -43,6 +44,12 @@ use Rattle.jbig2_inverses.proofs.GenericInverse.{generic_regions_read_back}
 use Rattle.jbig2_inverses.proofs.GenericSegmentInverse.{generic_segments_read_back, sides-fit}
 use Rattle.jbig2_inverses.proofs.SegmentInverse.{page_information_reads_back, segments_read_back}
 use Rattle.jbig2_page_inverse.specs.PageWriter.{Choice, IsChoice, region_with, coded_bytes, region_bytes, information, segment, page_bytes, PagesReadBack}
+
+-- what is told of a cut changes no pixel
+grid-with-cut : (c : Option CutOff) (r : Result Drawing DecodeError) → ((r >>= λ d. Ok (with_cut_off c d)) >>= λ d. Ok d.grid) ≡ (r >>= λ d. Ok d.grid)
+grid-with-cut c (Err e) = refl
+grid-with-cut None (Ok d) = refl
+grid-with-cut (Some at) (Ok d) = refl
 
 -- a region of the page's size, on a white page
 pixel-drawn : (w h : ℕ) (pixels : ℕ → ℕ → Bool) (i j : ℕ) → i < w → j < h → drawn_pixel Or (blank w h false) (grid_of w h pixels) (pos 0) (pos 0) i j ≡ pixels i j
@@ -184,14 +191,14 @@ module _ (reading : Reading) (globals : Names) (c : Choice) (w h : ℕ) (pixels 
     initial_page = initial;
     segments = first ∷ second ∷ [];
     globals = Ok globals;
-    fault = fault_of reading (sequential Lenient (page_bytes c w h pixels));
+    cut_off = sequence_cut_off reading (page_bytes c w h pixels);
   }
 
   page-is : length (region_bytes c w h pixels) < 4294967295 → page_from reading globals (page_bytes c w h pixels) ≡ Ok page
   unfolding page_from
   page-is short =
-      let made : InitialPage → ReadPage = λ i. record { reading = reading; initial_page = i; segments = first ∷ second ∷ []; globals = Ok globals; fault = fault_of reading (sequential Lenient (page_bytes c w h pixels)) } in
-      ap (λ (r : Result (List SegmentView) DecodeError). (r >>= λ ps. Ok (by_number ps)) >>= λ ps. beginning_of reading ps >>= λ i. Ok (record { reading = reading; initial_page = i; segments = ps; globals = Ok globals; fault = fault_of reading (sequential Lenient (page_bytes c w h pixels)) })) (segments-are short)
+      let made : InitialPage → ReadPage = λ i. record { reading = reading; initial_page = i; segments = first ∷ second ∷ []; globals = Ok globals; cut_off = sequence_cut_off reading (page_bytes c w h pixels) } in
+      ap (λ (r : Result (List SegmentView) DecodeError). (r >>= λ ps. Ok (by_number ps)) >>= λ ps. beginning_of reading ps >>= λ i. Ok (record { reading = reading; initial_page = i; segments = ps; globals = Ok globals; cut_off = sequence_cut_off reading (page_bytes c w h pixels) })) (segments-are short)
       ∙ ap (λ (r : Result InitialPage DecodeError). r >>= λ i. Ok (made i)) beginning-is
 
   -- its drawing
@@ -202,8 +209,9 @@ module _ (reading : Reading) (globals : Names) (c : Choice) (w h : ℕ) (pixels 
   unfolding grid_of_page immediate
   grid-is =
       let d = blank_page initial in
-      let shown : Result Drawing DecodeError → Result Grid DecodeError = λ r. (or_left_out reading 1 d r >>= λ e. segments_drawn reading globals [] e) >>= λ e. Ok e.grid in
-      ap (λ (r : Result PlacedRegion DecodeError). shown (or_passed_over strict 1 d (with_drawn_region d r))) region-is
+      let shown : Result Drawing DecodeError → Result Grid DecodeError = λ r. (or_told (lacks_referred globals second d) 1 d (or_left_out reading 1 d r) >>= λ e. segments_drawn reading globals [] e) >>= λ e. Ok e.grid in
+      grid-with-cut page.cut_off (segments_drawn reading globals page.segments d)
+      ∙ ap (λ (r : Result PlacedRegion DecodeError). shown (or_passed_over strict 1 d (with_drawn_region d r))) region-is
       ∙ ap (λ (g : Grid). Ok g) (drawn w h pixels)
 
 -- ---- a segment can state the length

@@ -4,12 +4,12 @@ use Rattle.std.specs.Prelude.{◌≡◌, ℕ, ◌*◌, ◌≤◌, Bool, true, fa
 use Rattle.std.specs.Prelude.{Ok}
 use Rattle.std.specs.List.{flat_map}
 use Rattle.jbig2_base.specs.Grid.{grid_of}
-use Rattle.jbig2_base.specs.Segment.{SegmentView}
+use Rattle.jbig2_framing.specs.Segment.{SegmentView}
 use Rattle.jbig2_base.specs.declared.bitmap.operator.CombinationOperator.TheVariants.{Or}
-use Rattle.jbig2_base.specs.declared.page_info.PageInformation.{PageInformation}
-use Rattle.jbig2_base.specs.declared.reading.Reading.{Reading}
-use Rattle.jbig2_base.specs.declared.segment.SegmentType.{SegmentType}
-use Rattle.jbig2_base.specs.declared.segment.SegmentType.TheVariants as types
+use Rattle.jbig2_framing.specs.declared.page_info.PageInformation.{PageInformation}
+use Rattle.jbig2_framing.specs.declared.reading.Reading.{Reading}
+use Rattle.jbig2_framing.specs.declared.segment.SegmentType.{SegmentType}
+use Rattle.jbig2_framing.specs.declared.segment.SegmentType.TheVariants as types
 use Rattle.jbig2_coder.specs.Encoder.{encoded_bytes}
 use Rattle.jbig2_region.specs.GenericHeader.{GenericHeader}
 use Rattle.jbig2_region.specs.Templates.{FitsTemplate, adaptive_pixel_count, takes_extended}

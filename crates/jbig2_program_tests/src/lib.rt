@@ -11,6 +11,8 @@ mod callers;
 #[cfg(test)]
 mod commands;
 #[cfg(test)]
+mod dropped_limits;
+#[cfg(test)]
 mod errors;
 #[cfg(test)]
 mod large;
@@ -24,6 +26,8 @@ mod outputs;
 mod passed_over;
 #[cfg(test)]
 mod readers;
+#[cfg(test)]
+mod refused;
 #[cfg(test)]
 mod replaced;
 #[cfg(test)]

@@ -143,11 +143,14 @@ fn pages_are_drawn_within_what_they_take_and_no_less(rt: HostRuntime) {
     }
 }
 
-/// Whether salvaging damaged globals fails within all limits below some number, and succeeds from there on.
+/// Whether salvaging damaged globals fails within all limits below some number above 2048, and succeeds from there on.
 fn salvaged_globals_hold(alloc: Global) -> Result<bool> {
     let bytes = bytes_of(alloc, DAMAGED_GLOBALS)?;
     let mut are_decoded = false;
     for work in 0..16_000 {
+        if are_decoded && work <= 2_048 {
+            return Ok(false);
+        }
         match Globals::salvaged(alloc, &bytes, &mut WorkLimit::new(Some(work))) {
             Ok(globals) if globals.passed_over().count == 1 => are_decoded = true,
             Err(DecodeError::OutOfMemory) if !are_decoded => {}
@@ -157,11 +160,14 @@ fn salvaged_globals_hold(alloc: Global) -> Result<bool> {
     Ok(are_decoded)
 }
 
-/// Whether decoding globals fails within all limits below some number, and succeeds from there on.
+/// Whether decoding globals fails within all limits below some number above 1024, and succeeds from there on.
 fn globals_hold(alloc: Global) -> Result<bool> {
     let bytes = bytes_of(alloc, GLOBALS)?;
     let mut are_decoded = false;
     for work in 0..8_000 {
+        if are_decoded && work <= 1_024 {
+            return Ok(false);
+        }
         match Globals::new_within(alloc, &bytes, &LENIENT, &mut WorkLimit::new(Some(work))) {
             Ok(_) => are_decoded = true,
             Err(DecodeError::OutOfMemory) if !are_decoded => {}

@@ -1,8 +1,9 @@
-//! Tests what lenient reading passes over.
+//! Tests what lenient reading passes over: regions that fail, a segment that is cut off, and what refers to something
+//! that isn't there.
 use crate::bytes::bytes_of;
 use hayro_jbig2::{
-    DecodeError, DecodeSettings, DecoderContext, Page, PassedOver, PassedSegment, RegionError,
-    Result,
+    DecodeError, DecodeSettings, DecoderContext, Page, ParseError, PassedOver, PassedSegment,
+    RegionError, Result, SegmentError,
 };
 use std::alloc::Global;
 
@@ -20,8 +21,40 @@ const NOTHING: PassedOver = PassedOver {
 const TWO: PassedOver = PassedOver {
     count: 2,
     first: Some(PassedSegment {
-        segment_number: 5,
+        segment_number: Some(5),
         error: DecodeError::Region(RegionError::InvalidCombinationOperator),
+    }),
+};
+
+/// The same page, where the bytes end in the data of segment 9, and where they end in the number of a segment.
+const CUT_OFF: &str = "P G8 00000009 26 00 01 00000012 0000";
+
+const CUT_IN_NUMBER: &str = "P G8 0000";
+
+const CUT: PassedOver = PassedOver {
+    count: 1,
+    first: Some(PassedSegment {
+        segment_number: Some(9),
+        error: DecodeError::Parse(ParseError::UnexpectedEof),
+    }),
+};
+
+const CUT_EARLY: PassedOver = PassedOver {
+    count: 1,
+    first: Some(PassedSegment {
+        segment_number: None,
+        error: DecodeError::Parse(ParseError::UnexpectedEof),
+    }),
+};
+
+/// The same page with a text region whose dictionary isn't there, and which has no instance.
+const NO_DICTIONARY: &str = "P G8 X@3=03@36=00";
+
+const LACKS: PassedOver = PassedOver {
+    count: 1,
+    first: Some(PassedSegment {
+        segment_number: Some(3),
+        error: DecodeError::Segment(SegmentError::InvalidReference),
     }),
 };
 
@@ -29,6 +62,9 @@ const TWO: PassedOver = PassedOver {
 const PAGES: &[(&str, bool, PassedOver)] = &[
     (NO_FAULT, false, NOTHING),
     (TWO_FAULTS, false, TWO),
+    (CUT_OFF, false, CUT),
+    (CUT_IN_NUMBER, false, CUT_EARLY),
+    (NO_DICTIONARY, false, LACKS),
     (NO_FAULT, true, NOTHING),
 ];
 
@@ -55,7 +91,11 @@ fn holds_in(alloc: Global, context: &mut DecoderContext<Global>) -> Result<bool>
     let whole = draw_row(alloc, NO_FAULT, true, context)?;
     for (text, strict, passed_over) in PAGES {
         let row = draw_row(alloc, text, *strict, context)?;
-        if row != whole || context.passed_over() != passed_over {
+        let is_complete = passed_over.count == 0;
+        if row != whole
+            || context.passed_over() != passed_over
+            || context.is_complete() != is_complete
+        {
             return Ok(false);
         }
     }

@@ -152,7 +152,7 @@ fn pages_hold<A: Allocator + Clone>(
         Ok(file) => file,
         Err(error) => return refused_as(error, None),
     };
-    let whole = salvaged.fault().is_none() && salvaged.left_out().is_empty();
+    let whole = salvaged.cut_off().is_none() && salvaged.left_out().is_empty();
     Ok(
         whole
             && all_pages_hold(&file, expected, context)?

@@ -4,7 +4,7 @@ use crate::drawing::drawing_holds;
 use crate::file_case::{FilePage, all_pages_hold};
 use crate::spelling::bytes_of;
 use hayro_jbig2::{
-    DecodeError, DecoderContext, File, Globals, Page, PassedOver, Result, WorkLimit,
+    CutOff, DecodeError, DecoderContext, File, Globals, Page, PassedOver, Result, WorkLimit,
 };
 use std::alloc::Allocator;
 
@@ -32,17 +32,17 @@ pub enum SalvageCase {
 pub struct Report {
     /// How many segments were passed over.
     pub passed_over: usize,
-    /// The number and the error of the first.
-    pub first: Option<(u32, DecodeError)>,
-    /// The error that ended the list.
-    pub fault: Option<DecodeError>,
+    /// The number, if it is known, and the error of the first.
+    pub first: Option<(Option<u32>, DecodeError)>,
+    /// The same of the segment at which the list ended early.
+    pub cut_off: Option<(Option<u32>, DecodeError)>,
 }
 
 /// Nothing was left out.
 pub const NOTHING: Report = Report {
     passed_over: 0,
     first: None,
-    fault: None,
+    cut_off: None,
 };
 
 /// Whether a case holds. The only error is `DecodeError::OutOfMemory`.
@@ -72,7 +72,7 @@ pub fn salvage_holds<A: Allocator + Clone>(
                 Ok(globals) => globals,
                 Err(error) => return refused_as(error, None),
             };
-            let known = is_reported(globals_report, globals.passed_over(), globals.fault());
+            let known = is_reported(globals_report, globals.passed_over(), globals.cut_off());
             Ok(known && page_holds(alloc, &bytes, Some(&globals), answer, report, context)?)
         }
         SalvageCase::File {
@@ -89,7 +89,7 @@ pub fn salvage_holds<A: Allocator + Clone>(
     }
 }
 
-/// Whether an embedded page has this result in salvage, and nothing is left out.
+/// Whether an embedded page has this result in salvage.
 pub fn salvages<A: Allocator + Clone>(
     alloc: &A,
     bytes: &[u8],
@@ -100,10 +100,10 @@ pub fn salvages<A: Allocator + Clone>(
         Ok(page) => page,
         Err(error) => return refused_as(error, None),
     };
-    Ok(page.fault().is_none() && drawing_holds(&page, answer, context)?)
+    drawing_holds(&page, answer, context)
 }
 
-fn is_reported(report: &Report, passed_over: &PassedOver, fault: Option<&DecodeError>) -> bool {
+fn is_reported(report: &Report, passed_over: &PassedOver, cut_off: Option<&CutOff>) -> bool {
     let first = match (&report.first, &passed_over.first) {
         (Some((number, error)), Some(first)) => {
             *number == first.segment_number && *error == first.error
@@ -111,8 +111,10 @@ fn is_reported(report: &Report, passed_over: &PassedOver, fault: Option<&DecodeE
         (None, None) => true,
         _ => false,
     };
-    let known = match (&report.fault, fault) {
-        (Some(error), Some(fault)) => error == fault,
+    let known = match (&report.cut_off, cut_off) {
+        (Some((number, error)), Some(cut_off)) => {
+            *number == cut_off.segment_number && *error == cut_off.error
+        }
         (None, None) => true,
         _ => false,
     };
@@ -137,8 +139,20 @@ fn page_holds<A: Allocator + Clone>(
             },
         ),
     };
-    let drawn = drawing_holds(&page, answer, context)?;
-    Ok(drawn && is_reported(report, context.passed_over(), page.fault()))
+    if !drawing_holds(&page, answer, context)? {
+        return Ok(false);
+    }
+    // A Decoder's refusals have left no page in the context.
+    match page.draw_in(context) {
+        Ok(()) => Ok(is_reported(report, context.passed_over(), page.cut_off())),
+        Err(error) => refused_as(
+            error,
+            match answer {
+                Answer::Undrawn(expected) => Some(expected),
+                _ => None,
+            },
+        ),
+    }
 }
 
 fn file_holds<A: Allocator + Clone>(
@@ -154,7 +168,7 @@ fn file_holds<A: Allocator + Clone>(
         Err(error) => return refused_as(error, None),
     };
     let shared = match file.shared() {
-        Ok(globals) => is_reported(report, globals.passed_over(), file.fault()),
+        Ok(globals) => is_reported(report, globals.passed_over(), file.cut_off()),
         Err(_) => false,
     };
     let known = shared && file.left_out() == left_out;

@@ -6,10 +6,10 @@ use jbig2_base::error::{DecodeError, HuffmanError, ParseError};
 use jbig2_base::field::{
     bits_field, byte_field, bytes_field, i8_field, i32_field, u16_field, u32_field,
 };
-use jbig2_base::page_info::{PageInformation, parse_page_information};
 use jbig2_base::reader::Reader;
 use jbig2_base::search::code_length;
-use jbig2_base::segment::SegmentType;
+use jbig2_framing::page_info::{PageInformation, parse_page_information};
+use jbig2_framing::segment::SegmentType;
 
 /// The information of a black page of 8 by 1, 600 by 300 pixels a metre, in stripes of at most 3 rows.
 const PAGE: [u8; 19] = [

@@ -26,6 +26,7 @@ The exceptions, which are in `hayro_jbig2.errors`, and here too:
         OutOfMemory             a request for memory was refused; a MemoryError
             WorkLimitReached    more work than the limit allows
         NoSuchPage              the file has no page at this index; an IndexError
+    IncompletePageWarning       a warning: a page that is returned lacks something (`Page.is_complete`)
 
 The decoder is a library that is proved, and runs without the lock of the interpreter (the GIL), so that several
 threads decode at once. A small file can ask for much work and memory: there is a limit of work, and whoever decodes
@@ -38,6 +39,7 @@ from ._page import LeftOut, Page, PassedOver, PassedSegment
 from .errors import DecodeError as DecodeError
 from .errors import FormatError as FormatError
 from .errors import HuffmanError as HuffmanError
+from .errors import IncompletePageWarning as IncompletePageWarning
 from .errors import Jbig2Error as Jbig2Error
 from .errors import NoSuchPage as NoSuchPage
 from .errors import OutOfMemory as OutOfMemory

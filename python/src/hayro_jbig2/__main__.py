@@ -7,7 +7,7 @@ import pathlib
 import sys
 from typing import TYPE_CHECKING, Any
 
-from . import Jbig2Error, Page, ParseError, __version__, decode, pages, sizes
+from . import Jbig2Error, Page, __version__, decode, pages, sizes
 
 if TYPE_CHECKING:
     from collections.abc import Iterable
@@ -21,7 +21,8 @@ def _parser() -> argparse.ArgumentParser:
     parser = argparse.ArgumentParser(
         prog="python -m hayro_jbig2",
         description="Writes a page of a JBIG2 file, or of the data of a PDF image, as a picture, PNG or PBM.",
-        epilog="Status 0: written. 1: the input can't be decoded, or a file can't be read or written. 2: wrong usage.",
+        epilog="Status 0: written; messages say which pages are incomplete. 1: the input can't be decoded, or a file "
+        "can't be read or written. 2: wrong usage.",
     )
     parser.add_argument("input", metavar="IN", help="the file; - is standard input")
     parser.add_argument(
@@ -51,55 +52,28 @@ def _work_limit(word: str) -> WorkLimit:
     return int(word)
 
 
-def _warnings(page: Page) -> list[str]:
-    """What the page lacks."""
-    warnings = []
-    for passed in page.passed_over, page.left_out.passed_over:
-        if passed.first:
-            number = passed.first.segment_number
-            which = f"segment {number} is" if passed.count == 1 else f"{passed.count} segments, from {number} on, are"
-            warnings.append(f"{which} left out: {passed.first.error}")
-    if page.left_out.pages:
-        warnings.append(f"pages of the file are left out, {page.left_out.pages} of them: {page.left_out.first_page}")
-    if page.left_out.rest:
-        warnings.append(f"the rest is left out: {page.left_out.rest}")
-    return warnings
-
-
-def _is_cut_off(data: bytes, work_limit: WorkLimit) -> bool:
-    """Whether the data ends too early, which lenient reading and salvage pass over. The end of a line that follows a
-    stream in a PDF file is no segment that is cut off."""
-    for end in range(len(data), len(data) - 3, -1):
-        try:
-            sizes(data[:end], strict=True, work_limit=work_limit)
-        except ParseError:
-            if data[end - 1 : end] not in (b"\n", b"\r"):
-                return True
-        except Jbig2Error:
-            return False
-        else:
-            return False
-    return True
-
-
 def _chosen_pages(words: argparse.Namespace) -> Iterable[tuple[int, Page]]:
     """The pages to be written, with their indices."""
     data = sys.stdin.buffer.read() if words.input == "-" else pathlib.Path(words.input).read_bytes()
-    if _is_cut_off(data, words.work_limit):
-        print(f"{words.input}: the data ends too early", file=sys.stderr)
     how: dict[str, Any] = {"strict": words.strict, "salvage": words.salvage, "work_limit": words.work_limit}
     if "{}" in words.output:
-        return enumerate(pages(data, **how))
+        return enumerate(pages(data, **how, warn=False))
     if words.page is None and words.globals is None and len(sizes(data, **how)) > 1:
         print(f"{words.input}: only the first of several pages is written", file=sys.stderr)
     index = words.page or 0
-    return [(index, decode(data, globals=words.globals, page=index, **how))]
+    return [(index, decode(data, globals=words.globals, page=index, **how, warn=False))]
 
 
 def _write_pages(words: argparse.Namespace) -> None:
+    told: set[str] = set()
     for index, page in _chosen_pages(words):
-        for warning in _warnings(page):
-            print(f"{words.input}: page {index}: {warning}", file=sys.stderr)
+        for text in page.lacks:
+            print(f"{words.input}: page {index} is incomplete: {text}", file=sys.stderr)
+        # Of a file as a whole: once.
+        for text in page.left_out.texts:
+            if text not in told:
+                print(f"{words.input}: {text}", file=sys.stderr)
+        told.update(page.left_out.texts)
         output = pathlib.Path(words.output.replace("{}", str(index)))
         output.write_bytes(_WRITERS[output.suffix.lower()](page))
 

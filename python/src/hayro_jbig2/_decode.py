@@ -3,6 +3,7 @@
 from __future__ import annotations
 
 import operator
+import warnings
 from collections.abc import Iterator
 from typing import TYPE_CHECKING
 
@@ -10,6 +11,7 @@ from . import _library
 from ._data import bytes_of
 from ._library import Reading, Size
 from ._page import LeftOut, Page
+from .errors import IncompletePageWarning
 
 if TYPE_CHECKING:
     from ._data import Data
@@ -29,11 +31,11 @@ class Globals:
     def __init__(
         self, data: Data, *, strict: bool = False, salvage: bool = False, work_limit: WorkLimit = "default"
     ) -> None:
-        self._inner = _library.Globals(bytes_of(data), _reading(strict, salvage), work_limit)
+        self._inner = _library.globals_of(bytes_of(data), _reading(strict, salvage), work_limit)
 
     @property
     def left_out(self) -> LeftOut:
-        """What salvage left out of them."""
+        """What was left out of them."""
         return self._inner.left_out
 
 
@@ -45,6 +47,7 @@ def decode(
     strict: bool = False,
     salvage: bool = False,
     work_limit: WorkLimit = "default",
+    warn: bool = True,
 ) -> Page:
     """Decodes one page.
 
@@ -53,10 +56,13 @@ def decode(
     of its /JBIG2Globals stream, or `Globals` made of them. Data that begins as a file does, with the bytes 97 4A 42 32,
     is a file, unless there are globals.
 
-    A lenient decoder passes over a segment that is cut off, an immediate region that fails, and an extension that it
-    should understand; with `strict` the first fault is raised. With `salvage`, for viewers of damaged files, whatever a
-    lenient decoder refuses is left out, and `Page.left_out` and `Page.passed_over` tell what: only a page without a
-    size and a damaged file header are raised.
+    A lenient decoder passes over a segment that is cut off, an immediate region that fails, a number that names
+    nothing, and an extension that it should understand; with `strict` the first fault is raised. With `salvage`, for viewers of
+    damaged files, whatever a lenient decoder refuses is left out: only a page without a size and a damaged file header
+    are raised.
+
+    Where `Page.is_complete` is false, an `IncompletePageWarning` is given, unless `warn` is false or a filter of
+    `warnings` says otherwise. `Page.passed_over` and `Page.left_out` tell what the page lacks.
 
     `work_limit` is how many units of work the page may take, and as many again what it shares with other pages; None is
     no limit. A unit is about a pixel that is decoded, cleared or combined. The default is 100 for each pixel of the
@@ -68,25 +74,25 @@ def decode(
     content, reading, page = bytes_of(data), _reading(strict, salvage), operator.index(page)
     if globals is None and content.startswith(_BEGINNING):
         with _library.File(content, reading, work_limit) as file:
-            return _page_of(file, page, work_limit)
+            return _checked(_page_of(file, page, work_limit), warn)
     if page != 0:
         raise _library.no_such_page()
     if globals is not None and not isinstance(globals, Globals):
         globals = Globals(globals, strict=strict, salvage=salvage, work_limit=work_limit)
     inner = None if globals is None else globals._inner
-    with _library.EmbeddedPage(content, inner, reading) as embedded:
-        return embedded.draw(work_limit)
+    with _library.embedded_page(content, inner, reading) as embedded:
+        return _checked(embedded.draw(work_limit), warn)
 
 
 def pages(
-    data: Data, *, strict: bool = False, salvage: bool = False, work_limit: WorkLimit = "default"
+    data: Data, *, strict: bool = False, salvage: bool = False, work_limit: WorkLimit = "default", warn: bool = True
 ) -> Iterator[Page]:
     """All pages of a file in order, each decoded when it is asked for. The limit of work is that of each page.
 
-    Raises as `decode` does: the first fault of the file at once, that of a page when it is asked for.
+    Raises and warns as `decode` does: the first fault of the file at once, that of a page when it is asked for.
     """
     file = _library.File(bytes_of(data), _reading(strict, salvage), work_limit)
-    return _pages_of(file, work_limit)
+    return _pages_of(file, work_limit, warn)
 
 
 def sizes(
@@ -110,10 +116,18 @@ def _reading(strict: bool, salvage: bool) -> Reading:
     return Reading.SALVAGE if salvage else Reading.STRICT if strict else Reading.LENIENT
 
 
-def _pages_of(file: _library.File, work_limit: WorkLimit) -> Iterator[Page]:
+def _checked(page: Page, warn: bool) -> Page:
+    """The page, after a warning at the caller's caller where it is incomplete."""
+    if warn and not page.is_complete:
+        text = f"page {page.number} is incomplete: {'; '.join(page.lacks)}"
+        warnings.warn(text, IncompletePageWarning, stacklevel=3)
+    return page
+
+
+def _pages_of(file: _library.File, work_limit: WorkLimit, warn: bool) -> Iterator[Page]:
     with file:
         for index in range(len(file.sizes)):
-            yield _page_of(file, index, work_limit)
+            yield _checked(_page_of(file, index, work_limit), warn)
 
 
 def _page_of(file: _library.File, index: int, work_limit: WorkLimit) -> Page:

@@ -8,24 +8,29 @@ from __future__ import annotations
 
 import ctypes
 import enum
-import errno
 import operator
 import os
 from ctypes import POINTER, Structure, byref, c_bool, c_char_p, c_size_t, c_uint8, c_uint32, c_uint64, c_void_p
-from typing import TYPE_CHECKING, NamedTuple, TypeVar
+from typing import TYPE_CHECKING, NamedTuple, TypeVar, Union
 
+from ._made import PORTABLE
 from ._page import LeftOut, Page, PassedOver, PassedSegment
 from ._processor import check_processor
-from .errors import Jbig2Error, OutOfMemory, WorkLimitReached, error_of
+from .errors import Jbig2Error, WorkLimitReached, error_of
 
 if TYPE_CHECKING:
-    from typing import Literal, Union
+    from collections.abc import Callable
+    from typing import Literal
 
     WorkLimit = Union[int, None, Literal["default"]]
 
 _OUT_OF_MEMORY = 41
 _NO_SUCH_PAGE = 101
+_WORK_LIMIT = 103
 _NO_WORK_LIMIT = 2**64 - 1
+_UNEXPECTED_EOF = 1
+_NO_SEGMENT_NUMBER = 2**32 - 1
+_LONGEST_LINE_END = 2
 # The limit of work where none is set: more than what scanners write takes (docs/USING.md, "Files that take long").
 _UNITS_FOR_A_PIXEL = 100
 _UNITS_FOR_A_BYTE = 1000
@@ -71,10 +76,11 @@ class Size(NamedTuple):
 
 
 def _load() -> ctypes.CDLL:
-    check_processor()
+    if not PORTABLE:
+        check_processor()
     path = os.path.join(os.path.dirname(__file__), "libhayro_jbig2.so")
     try:
-        library = ctypes.CDLL(path, use_errno=True)
+        library = ctypes.CDLL(path)
     except OSError as error:
         raise ImportError(f"the library that pip compiles or installs does not load: {error}") from error
     # Keeps the GIL, so that one thread at a time uses the handle of globals.
@@ -92,7 +98,6 @@ def _load() -> ctypes.CDLL:
         "globals_free": (c_void_p,),
         "context_new": (c_void_p, handle),
         "context_set_work_limit": (c_void_p, c_uint64),
-        "context_get_work_left": (c_void_p, POINTER(c_uint64)),
         "context_rows": (c_void_p, c_size_t, POINTER(c_uint8), c_size_t),
         "context_get_passed_over": (c_void_p, POINTER(_PassedOver)),
         "context_free": (c_void_p,),
@@ -154,8 +159,12 @@ def _work_limit_reached(units: int) -> WorkLimitReached:
     return WorkLimitReached(text, _OUT_OF_MEMORY, WorkLimitReached.__name__)
 
 
+def _segment(number: int, error: int) -> PassedSegment:
+    return PassedSegment(None if number == _NO_SEGMENT_NUMBER else number, _error(error))
+
+
 def _passed_over(count: int, segment: int, error: int) -> PassedOver:
-    return PassedOver(count, PassedSegment(segment, _error(error)) if count else None)
+    return PassedOver(count, _segment(segment, error) if count else None)
 
 
 def _error_or_none(number: int) -> Jbig2Error | None:
@@ -206,11 +215,15 @@ class _Handle(c_void_p):
         return number
 
     def _left_out(self) -> LeftOut:
-        """What salvage left out of globals, a page or a file."""
+        """What was left out of globals, a page or a file."""
         raw = _LeftOut()
         _check(self._call("get_left_out", raw))
-        passed_over = _passed_over(raw.segments, raw.segment, raw.error)
-        return LeftOut(passed_over, raw.pages, _error_or_none(raw.page_error), _error_or_none(raw.list_error))
+        first_page = _error_or_none(raw.page_error)
+        # Where no segment was passed over, the one at which the list ends early stands in its place.
+        if raw.segments == 1 and raw.error == raw.list_error:
+            return LeftOut(PassedOver(0, None), raw.pages, first_page, _segment(raw.segment, raw.error))
+        cut_off = _segment(_NO_SEGMENT_NUMBER, raw.list_error) if raw.list_error else None
+        return LeftOut(_passed_over(raw.segments, raw.segment, raw.error), raw.pages, first_page, cut_off)
 
 
 class _ReadWithin(_Handle):
@@ -219,17 +232,15 @@ class _ReadWithin(_Handle):
     def __init__(self, kind: str, data: bytes, reading: Reading, limit: WorkLimit) -> None:
         units = _units(limit, _UNITS_FOR_A_BYTE * len(data))
         inputs = (units, data, len(data))
-        ctypes.set_errno(0)
         try:
             if reading is Reading.SALVAGE:
                 super().__init__(kind, *inputs, call="new_salvaged")
             else:
                 super().__init__(kind, reading is Reading.STRICT, *inputs, call="new_within")
-        except OutOfMemory:
-            # The library returns one number for both. Where memory is refused, malloc sets errno.
-            if limit is None or ctypes.get_errno() == errno.ENOMEM:
-                raise
-            raise _work_limit_reached(units) from None
+        except Jbig2Error as error:
+            if error.number == _WORK_LIMIT:
+                raise _work_limit_reached(units) from None
+            raise
         self.left_out = self._left_out()
 
 
@@ -258,7 +269,7 @@ class _Context(_Handle):
 
     def page(self, drawn: int, left_out: LeftOut) -> Page:
         """The page, of whose list of segments this was left out, where drawing it returned no error."""
-        if drawn == _OUT_OF_MEMORY and self._work_left() == 0:
+        if drawn == _WORK_LIMIT:
             raise _work_limit_reached(self._units)
         _check(drawn)
         try:
@@ -270,11 +281,6 @@ class _Context(_Handle):
         _check(self._call("get_passed_over", raw))
         passed_over = _passed_over(raw.count, raw.segment, raw.error)
         return Page(*self._size, memoryview(rows).toreadonly(), passed_over, left_out)
-
-    def _work_left(self) -> int:
-        left = c_uint64()
-        _check(self._call("get_work_left", left))
-        return left.value
 
 
 class EmbeddedPage(_Handle):
@@ -319,3 +325,29 @@ class File(_ReadWithin):
         """Decodes the page at an index."""
         with _Context(self.sizes[index], limit) as context:
             return context.page(self._call("draw", index, context), self.left_out)
+
+
+_Read = TypeVar("_Read", bound="Union[Globals, EmbeddedPage]")
+
+
+def _without_line_end(read: Callable[[bytes], _Read], data: bytes) -> _Read:
+    """What is read of a stream. PDF files may count in the end of a line after the last segment; the library takes it
+    for a segment that is cut off within its number."""
+    for end in range(len(data), len(data) - _LONGEST_LINE_END, -1):
+        made = read(data[:end])
+        cut_off = made.left_out.cut_off
+        is_in_number = cut_off and cut_off.segment_number is None and cut_off.error.number == _UNEXPECTED_EOF
+        if not is_in_number or data[end - 1 : end] not in (b"\n", b"\r"):
+            return made
+        made.close()
+    return read(data[:-_LONGEST_LINE_END])
+
+
+def globals_of(data: bytes, reading: Reading, limit: WorkLimit) -> Globals:
+    """The globals of a stream."""
+    return _without_line_end(lambda bytes: Globals(bytes, reading, limit), data)
+
+
+def embedded_page(stream: bytes, globals: Globals | None, reading: Reading) -> EmbeddedPage:
+    """The page of a stream."""
+    return _without_line_end(lambda bytes: EmbeddedPage(bytes, globals, reading), stream)

@@ -22,38 +22,56 @@ INVERTED = bytes(range(255, -1, -1))
 class PassedSegment:
     """A segment that was passed over."""
 
-    segment_number: int
-    """The segment's number."""
+    segment_number: int | None
+    """The segment's number; None where it isn't known, as where the data ends within it."""
     error: Jbig2Error
     """The fault for which it was passed over, which was not raised."""
 
 
 @dataclass(frozen=True)
 class PassedOver:
-    """What was passed over of a page, or of what pages share. Pages lack what these segments draw."""
+    """What a page, or what pages share, lacks: segments that failed or are cut off, and those that refer to a segment
+    that isn't there, which are drawn or kept all the same."""
 
     count: int
-    """How many segments were passed over."""
+    """How many segments these are."""
     first: PassedSegment | None
     """The first of them."""
+
+    def __str__(self) -> str:
+        if self.first is None:
+            return "nothing"
+        others = f", and {self.count - 1} more" if self.count > 1 else ""
+        return f"{_described(self.first)}{others}"
 
 
 @dataclass(frozen=True)
 class LeftOut:
-    """What salvage left out besides what it passed over of a page; nothing by other readings."""
+    """What reading left out besides what was passed over of a page; nothing by strict reading."""
 
     passed_over: PassedOver
-    """Of globals, or of the segments that the pages of a file share: those that were passed over."""
+    """Of globals, or of the segments that the pages of a file share: what these lack."""
     pages: int
-    """How many pages of a file can't begin."""
+    """How many pages of a file can't begin, which salvage leaves out."""
     first_page: Jbig2Error | None
     """Why the first of these can't."""
-    rest: Jbig2Error | None
-    """The fault at which the list of segments ends early: the rest is left out."""
+    cut_off: PassedSegment | None
+    """The segment at which the list of segments ends early: the data is cut off there, or salvage leaves out the rest.
+    Of a page of a file this is the file's; the page counts it in `Page.passed_over` where it may lack it."""
+
+    @property
+    def texts(self) -> list[str]:
+        """What a file, or a list of segments, lacks as a whole, as texts."""
+        texts = []
+        if self.pages:
+            texts.append(f"pages of the file are left out, {self.pages} of them: {self.first_page}")
+        if self.cut_off:
+            texts.append(f"the segments end early: {_described(self.cut_off)}")
+        return texts
 
     def joined(self, globals: LeftOut) -> LeftOut:
         """What was left out of a page and of its globals."""
-        return replace(self, passed_over=globals.passed_over, rest=self.rest or globals.rest)
+        return replace(self, passed_over=globals.passed_over, cut_off=self.cut_off or globals.cut_off)
 
 
 @dataclass(frozen=True)
@@ -75,9 +93,9 @@ class Page:
     rows: memoryview = field(repr=False)
     """The packed rows, `row_bytes * height` bytes that can only be read."""
     passed_over: PassedOver = field(repr=False, compare=False)
-    """What was passed over of the page."""
+    """What the page lacks."""
     left_out: LeftOut = field(repr=False, compare=False)
-    """What salvage left out of the page's list of segments and of its globals, or of its file."""
+    """What was left out of the page's list of segments and of its globals, or of its file."""
 
     def __hash__(self) -> int:
         return hash((self.number, self.width, self.height, bytes(self.rows)))
@@ -85,6 +103,23 @@ class Page:
     # A memoryview can't be pickled.
     def __reduce__(self) -> tuple[object, ...]:
         return _restored, (self.number, self.width, self.height, bytes(self.rows), self.passed_over, self.left_out)
+
+    @property
+    def is_complete(self) -> bool:
+        """Whether nothing is known to be missing: no segment of the page failed or is cut off, and each found what it
+        refers to; nor of its globals, or of what the pages of its file share.
+
+        Lenient reading forgives more without a count: rows of MMR data after a fault, gray values without a pattern,
+        ids without a symbol. Damage within arithmetic data can't be known: the format has no checksum.
+        """
+        return not self.lacks
+
+    @property
+    def lacks(self) -> list[str]:
+        """What the page is known to lack, as texts; empty for a complete page."""
+        lacks = [str(self.passed_over)] if self.passed_over.count else []
+        shared = self.left_out.passed_over
+        return [*lacks, f"what pages share: {shared}"] if shared.count else lacks
 
     @property
     def row_bytes(self) -> int:
@@ -120,6 +155,12 @@ class Page:
         from PIL import Image
 
         return Image.frombytes("1", (self.width, self.height), bytes(self.rows), "raw", "1;I")
+
+
+def _described(segment: PassedSegment) -> str:
+    """The segment and its fault, as messages have them."""
+    where = "" if segment.segment_number is None else f"segment {segment.segment_number}: "
+    return f"{where}{segment.error}"
 
 
 def _chunk(name: bytes, content: bytes) -> bytes:

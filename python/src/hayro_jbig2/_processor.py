@@ -9,18 +9,22 @@ _NEEDED = {"pni", "popcnt", "sse4_1", "sse4_2", "ssse3"}
 
 
 def check_processor() -> None:
-    """Raises ImportError where the library's code would end the process by an illegal instruction."""
+    """Raises ImportError where the text for x86-64 would end the process by an illegal instruction."""
+    missing = missing_here()
+    if missing:
+        raise ImportError(f"hayro_jbig2 needs a processor of the level x86-64-v2, and this one lacks {missing}")
+
+
+def missing_here() -> str:
+    """The features that this processor lacks."""
     if platform.machine() != "x86_64":
-        return
+        return ""
     try:
         # The first processor is there. To read on takes long on large machines.
         with open("/proc/cpuinfo", "rb", buffering=0) as file:
-            text = file.read(1 << 14).decode("ascii", "replace")
+            return missing_features(file.read(1 << 14).decode("ascii", "replace"))
     except OSError:
-        return
-    missing = missing_features(text)
-    if missing:
-        raise ImportError(f"hayro_jbig2 needs a processor of the level x86-64-v2, and this one lacks {missing}")
+        return ""
 
 
 def missing_features(text: str) -> str:

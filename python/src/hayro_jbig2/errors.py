@@ -19,6 +19,10 @@ class Jbig2Error(Exception):
         return str(self.args[0])
 
 
+class IncompletePageWarning(UserWarning):
+    """A page that is returned is known to lack something: see `Page.is_complete`."""
+
+
 class DecodeError(Jbig2Error):
     """A fault of the data."""
 

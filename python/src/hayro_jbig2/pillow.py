@@ -5,9 +5,9 @@
 
     image = Image.open("scan.jb2")
 
-The pages are frames of mode "1", which `seek` chooses. They are read leniently, within the default limit of work. Once
-a page is loaded, `info["passed_over"]` is how many of its segments were passed over: it lacks what these draw. A fault
-of the data is an OSError.
+The pages are frames of mode "1", which `seek` chooses. They are read leniently, within the default limit of work. One
+that is incomplete gives an `IncompletePageWarning` when it is loaded, and `info["is_complete"]` is false then;
+`info["passed_over"]` is how many segments it lacks. A fault of the data is an OSError.
 """
 
 from __future__ import annotations
@@ -71,7 +71,7 @@ class Jbig2ImageFile(ImageFile.ImageFile):
             except DecodeError as error:
                 raise OSError(str(error)) from error
             self.im = page.to_image().im
-            self.info["passed_over"] = page.passed_over.count
+            self.info.update(passed_over=page.passed_over.count, is_complete=page.is_complete)
             self._loaded = True
             # Its bytes are all there, and nothing else reads it.
             if self._exclusive_fp and self.fp:

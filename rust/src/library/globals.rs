@@ -2,7 +2,7 @@
 
 use core::ptr::{self, NonNull};
 
-use super::{MEMORY, Reading, ffi, left_out, made};
+use super::{MEMORY, Reading, ffi, left_out, made, without_line_end};
 use crate::error::Result;
 use crate::lock::Lock;
 use crate::passed_over::LeftOut;
@@ -21,6 +21,10 @@ unsafe impl Send for Handle {}
 
 impl Globals {
     pub(crate) fn new(bytes: &[u8], reading: Reading, work: u64) -> Result<Self> {
+        without_line_end(bytes, |bytes| Self::read(bytes, reading, work), Self::left_out)
+    }
+
+    fn read(bytes: &[u8], reading: Reading, work: u64) -> Result<Self> {
         let mut handle = ptr::null_mut();
         let (start, length) = (bytes.as_ptr(), bytes.len());
         // SAFETY: the rules of the header.

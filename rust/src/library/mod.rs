@@ -9,13 +9,14 @@ mod context;
 mod ffi;
 mod file;
 mod globals;
+#[cfg(not(hayro_jbig2_portable))]
 mod memory;
 mod numbers;
 mod page;
 
 use core::ptr::{self, NonNull};
 
-use crate::error::Result;
+use crate::error::{DecodeError, ParseError, Result};
 use crate::passed_over::{LeftOut, PassedOver, PassedSegment};
 pub(crate) use context::Context;
 pub(crate) use ffi::PageInfo;
@@ -23,9 +24,10 @@ pub(crate) use file::File;
 pub(crate) use globals::Globals;
 pub(crate) use page::Page;
 
+#[cfg(not(hayro_jbig2_portable))]
 core::arch::global_asm!(include_str!(concat!(env!("OUT_DIR"), "/libhayro_jbig2.s")), options(att_syntax, raw));
 
-/// What the calls are handed for memory: that of `memory.rs`.
+/// What the calls are handed for memory: that of `memory.rs`, or of C where the library is that of `portable/`.
 const MEMORY: *const ffi::Memory = ptr::null();
 
 /// How bytes are read.
@@ -43,22 +45,54 @@ impl Reading {
     }
 }
 
+/// The number of a segment that has none.
+const NO_SEGMENT_NUMBER: u32 = u32::MAX;
+
+/// A segment and its error, from the numbers of a call; none where the error is 0.
+fn segment(number: u32, error: u32) -> Option<PassedSegment> {
+    let segment_number = (number != NO_SEGMENT_NUMBER).then_some(number);
+    numbers::error_of(error).map(|error| PassedSegment { segment_number, error })
+}
+
 /// The segments that were passed over, from the numbers of a call.
-fn passed_over(count: usize, segment_number: u32, error: u32) -> PassedOver {
-    let first = numbers::error_of(error).map(|error| PassedSegment { segment_number, error });
-    PassedOver { count, first }
+fn passed_over(count: usize, number: u32, error: u32) -> PassedOver {
+    PassedOver { count, first: segment(number, error) }
 }
 
 /// What was left out, from the numbers that a call writes.
 fn left_out(call: impl FnOnce(*mut ffi::LeftOut) -> u32) -> Result<LeftOut> {
     let mut raw = ffi::LeftOut::default();
     result(call(&mut raw))?;
-    Ok(LeftOut {
-        passed_over: passed_over(raw.segments, raw.segment, raw.error),
-        pages: raw.pages,
-        first_page: numbers::error_of(raw.page_error),
-        rest: numbers::error_of(raw.list_error),
-    })
+    let (pages, first_page) = (raw.pages, numbers::error_of(raw.page_error));
+    // Where no segment was passed over, the one at which the list ends early stands in its place.
+    let is_end = raw.segments == 1 && raw.error == raw.list_error;
+    let number = if is_end { raw.segment } else { NO_SEGMENT_NUMBER };
+    let passed = if is_end { PassedOver::default() } else { passed_over(raw.segments, raw.segment, raw.error) };
+    Ok(LeftOut { passed_over: passed, pages, first_page, cut_off: segment(number, raw.list_error) })
+}
+
+/// What is read of a stream. PDF files may count in the end of a line after the last segment; the library takes it for a
+/// segment that is cut off within its number.
+fn without_line_end<T>(
+    bytes: &[u8],
+    read: impl Fn(&[u8]) -> Result<T>,
+    left_out: impl Fn(&T) -> Result<LeftOut>,
+) -> Result<T> {
+    const LONGEST: usize = 2;
+    const IN_NUMBER: PassedSegment =
+        PassedSegment { segment_number: None, error: DecodeError::Parse(ParseError::UnexpectedEof) };
+    let mut stream = bytes;
+    loop {
+        let made = read(stream)?;
+        match stream {
+            [others @ .., b'\n' | b'\r']
+                if bytes.len() - stream.len() < LONGEST && left_out(&made)?.cut_off == Some(IN_NUMBER) =>
+            {
+                stream = others;
+            }
+            _ => return Ok(made),
+        }
+    }
 }
 
 /// What a call says by its number.

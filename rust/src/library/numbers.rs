@@ -52,12 +52,18 @@ const ERRORS: [DecodeError; 41] = [
     OutOfMemory,
 ];
 
-/// The error that a number stands for; none for 0.
+/// No unit of the limit of work is left: `HAYRO_JBIG2_WORK_LIMIT`.
+const WORK_LIMIT: u32 = 103;
+
+/// The error that a number stands for; none for 0. Want of work is `OutOfMemory` here, and `work_left` tells them apart.
 ///
 /// # Panics
 ///
 /// For other numbers: they stand for faults of a caller, and this crate makes none.
 pub(super) fn error_of(number: u32) -> Option<DecodeError> {
+    if number == WORK_LIMIT {
+        return Some(OutOfMemory);
+    }
     let index = (number as usize).checked_sub(1)?;
     Some(*ERRORS.get(index).unwrap_or_else(|| panic!("the library refused a call of this crate: {number}")))
 }
@@ -66,7 +72,7 @@ pub(super) fn error_of(number: u32) -> Option<DecodeError> {
 mod tests {
     extern crate std;
 
-    use super::ERRORS;
+    use super::{ERRORS, WORK_LIMIT};
     use std::format;
     use std::string::String;
     use std::vec::Vec;
@@ -94,6 +100,12 @@ mod tests {
             let line = format!("{name} = {number}");
             assert!(lines.iter().any(|other| other.split(',').next() == Some(&line)), "{line}");
         }
+    }
+
+    #[test]
+    fn the_number_of_the_limit_is_that_of_the_header() {
+        let header = include_str!("../../../c/hayro_jbig2.h");
+        assert!(header.contains(&format!("    HAYRO_JBIG2_WORK_LIMIT = {WORK_LIMIT}\n")));
     }
 
     #[test]

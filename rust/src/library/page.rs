@@ -2,7 +2,7 @@
 
 use core::ptr::{self, NonNull};
 
-use super::{Context, Globals, MEMORY, PageInfo, Reading, ffi, left_out, made, result};
+use super::{Context, Globals, MEMORY, PageInfo, Reading, ffi, left_out, made, result, without_line_end};
 use crate::error::Result;
 use crate::lock::Lock;
 use crate::passed_over::LeftOut;
@@ -21,6 +21,10 @@ unsafe impl Send for Handle {}
 
 impl Page {
     pub(crate) fn new(stream: &[u8], globals: Option<&Globals>, reading: Reading) -> Result<Self> {
+        without_line_end(stream, |stream| Self::read(stream, globals, reading), Self::left_out)
+    }
+
+    fn read(stream: &[u8], globals: Option<&Globals>, reading: Reading) -> Result<Self> {
         let mut handle = ptr::null_mut();
         let number = match globals {
             Some(globals) => globals.with(|globals| read_with(stream, globals, reading, &mut handle)),

@@ -13,34 +13,48 @@ pub enum SalvageCase {
         bytes: &'static str,
         pages: &'static [FilePage],
         left_out: &'static [DecodeError],
-        /// What the segments of no page pass over, and what ended the file's list.
+        /// What the segments of no page lack, and where the file's list ended early.
         report: Report,
     },
 }
+
+/// A segment's number, if it is known, and its error.
+type Segment = (Option<u32>, DecodeError);
 
 /// What salvage reports about what it left out.
 pub struct Report {
     /// How many segments were passed over.
     pub passed_over: usize,
-    /// The number and the error of the first.
-    pub first: Option<(u32, DecodeError)>,
-    /// What ended the list.
-    pub fault: Option<DecodeError>,
+    /// The first of them.
+    pub first: Option<Segment>,
+    /// The segment at which the list ended early.
+    pub cut_off: Option<Segment>,
 }
 
 /// Nothing was left out.
-pub const NOTHING: Report = Report { passed_over: 0, first: None, fault: None };
+pub const NOTHING: Report = Report { passed_over: 0, first: None, cut_off: None };
+
+fn passed((segment_number, error): Segment) -> PassedSegment {
+    PassedSegment { segment_number, error }
+}
 
 impl Report {
     fn passed_over(&self) -> PassedOver {
-        let first = self.first.map(|(segment_number, error)| PassedSegment { segment_number, error });
-        PassedOver { count: self.passed_over, first }
+        PassedOver { count: self.passed_over, first: self.first.map(passed) }
     }
 
-    /// With the errors of the pages of a file that were left out.
+    /// Of a page, before it is decoded.
+    fn of_page(&self) -> LeftOut {
+        LeftOut { cut_off: self.cut_off.map(passed), ..LeftOut::default() }
+    }
+
+    /// Of globals or a file, with the errors of the pages that were left out. Where segments were passed over, the number
+    /// of the one that ended the list is not known.
     fn left_out(&self, pages: &[DecodeError]) -> LeftOut {
         let (passed_over, first_page) = (self.passed_over(), pages.first().copied());
-        LeftOut { passed_over, pages: pages.len(), first_page, rest: self.fault }
+        let known = |number| if self.passed_over == 0 { number } else { None };
+        let cut_off = self.cut_off.map(|(number, error)| passed((known(number), error)));
+        LeftOut { passed_over, pages: pages.len(), first_page, cut_off }
     }
 }
 
@@ -53,7 +67,7 @@ impl SalvageCase {
                 let bytes = spelled(bytes);
                 let page = Page::salvaged_embedded(&bytes, Some(&globals));
                 if let Ok(page) = &page {
-                    assert_eq!(page.left_out(), LeftOut { rest: report.fault, ..LeftOut::default() }, "row {name}");
+                    assert_eq!(page.left_out(), report.of_page(), "row {name}");
                 }
                 let is_read = page.is_ok();
                 answer.check(name, page, context);

@@ -1,8 +1,8 @@
 //! Decodes a page: to calls on a `Decoder`, to a byte or a bit for each pixel, or into a context that lends its rows.
-ghost use Rattle.std.specs.Prelude.{◌≡◌, ◌+◌, ◌*◌, ◌≤◌, IfErr, IfOk, OnErr, length};
-ghost use Rattle.jbig2_base.specs.Results.{Gives, Leaves};
+ghost use Rattle.std.specs.Prelude.{◌≡◌, ◌+◌, ◌*◌, ◌≤◌, Ok, IfErr, IfOk, OnErr, length};
+ghost use Rattle.jbig2_base.specs.Results.{Gives};
 ghost use Rattle.jbig2_page.specs.Calls.{Decodes, IsCountable};
-ghost use Rattle.hayro_jbig2.specs.Context.{IsLeft, IsWithin};
+ghost use Rattle.hayro_jbig2.specs.Context.{HoldsPage, IsLeft, IsWithin, LeavesOf};
 ghost use Rattle.jbig2_page.specs.Forms.{bytes_of_page, size_in};
 ghost use Rattle.jbig2_page.specs.Image.{image_of_page, packed_of_page, packed_size};
 ghost use Rattle.jbig2_page.specs.Page.{drawing_of_page, grid_of_page};
@@ -151,13 +151,18 @@ impl<'a, A: Allocator + Clone> Page<'a, A> {
     /// Draws the page in a context, which earlier pages may have used. The context then holds the page:
     /// `DecoderContext::drawn_page` lends its packed rows, and `DecoderContext::passed_over` says what was passed over.
     ///
-    /// Returns the first fault of a segment that lenient reading does not pass over.
+    /// Returns the first fault of a segment that lenient reading does not pass over. The context then holds no page.
     /// At most 32 steps are counted for each unit of the context's limit, after an error too.
     pub fn draw_in(&self, context: &mut DecoderContext<A>) -> Result<()>
         ensures value { Gives (λ _. context.new.drawing.grid) result (grid_of_page self.now) }
         ensures drawing { Gives (λ _. context.new.drawing) result (drawing_of_page self.now) }
+        ensures page { HoldsPage result context.new }
         ensures kept { context.new.work_limit ≡ context.old.work_limit }
         ensures limit { IsWithin context.old.work_limit context.new.steps }
+        ensures left { LeavesOf 0 context.old.work_limit context.new }
+        ensures taken { let page = self.now.initial_page in
+            let price = 2 * price_of_bitmap page.width page.height in
+            IfOk result (λ _. LeavesOf price context.old.work_limit context.new) }
         ensures errors { IfErr result IsReturned }
     {
         self.draw_counted::<Brand>(context, Blank::new(6))
@@ -168,9 +173,14 @@ impl<'a, A: Allocator + Clone> Page<'a, A> {
         requires parts { blank.parts ≡ L.parts }
         requires enough { blank.parts ≡ 6 }
         ensures drawing { Gives (λ _. context.new.drawing) result (drawing_of_page self.now) }
+        ensures page { HoldsPage result context.new }
         ensures errors { IfErr result IsReturned }
         ensures kept { context.new.work_limit ≡ context.old.work_limit }
         ensures limit { IsWithin context.old.work_limit context.new.steps }
+        ensures left { LeavesOf 0 context.old.work_limit context.new }
+        ensures taken { let page = self.now.initial_page in
+            let price = 2 * price_of_bitmap page.width page.height in
+            IfOk result (λ _. LeavesOf price context.old.work_limit context.new) }
     {
         let mut work = context.new_work::<L>(blank);
         self.draw_within(context, &mut work)
@@ -186,6 +196,7 @@ impl<'a, A: Allocator + Clone> Page<'a, A> {
         work: &mut Work<L>,
     ) -> Result<()>
         ensures drawing { Gives (λ _. context.new.drawing) result (drawing_of_page self.now) }
+        ensures page { HoldsPage result context.new }
         ensures left { IsLeft work.new context.old context.new }
         ensures errors { IfErr result IsReturned }
         ensures limit { IsWithinLimit work.old work.new }
@@ -195,6 +206,7 @@ impl<'a, A: Allocator + Clone> Page<'a, A> {
             IfOk result (λ _. budget work.new + 64 * price ≤ budget work.old) }
     {
         let drawn = self.content.draw_onto(&mut context.canvas, work);
+        context.holds_page = drawn.is_ok();
         context.end(work);
         drawn
     }
@@ -202,7 +214,8 @@ impl<'a, A: Allocator + Clone> Page<'a, A> {
     /// Makes the calls that draw the page, in a context that earlier pages may have used.
     ///
     /// Returns the first fault of a segment that lenient reading does not pass over, or the
-    /// Decoder's own refusal. It decodes all segments before it makes the first call.
+    /// Decoder's own refusal. It decodes all segments before it makes the first call. After an error the context holds
+    /// no page, also where the Decoder refused a call.
     /// At most 32 steps are counted for each unit of the context's limit, after an error too.
     pub fn decode_with<D: Decoder>(
         &self,
@@ -211,9 +224,11 @@ impl<'a, A: Allocator + Clone> Page<'a, A> {
     ) -> Result<()>
         requires { IsCountable D.conduct decoder.old }
         ensures calls { Decodes D.conduct (grid_of_page self.now) result decoder.old decoder.new }
-        ensures drawing { IfOk (drawing_of_page self.now) (Leaves result context.new.drawing) }
+        ensures drawing { IfOk result (λ _. drawing_of_page self.now ≡ Ok context.new.drawing) }
+        ensures page { HoldsPage result context.new }
         ensures kept { context.new.work_limit ≡ context.old.work_limit }
         ensures limit { IsWithin context.old.work_limit context.new.steps }
+        ensures left { LeavesOf 0 context.old.work_limit context.new }
         ensures errors { D.conduct.refusals decoder.new ≡ D.conduct.refusals decoder.old
             → IfErr result IsReturned }
     {
@@ -231,11 +246,13 @@ impl<'a, A: Allocator + Clone> Page<'a, A> {
         requires parts { blank.parts ≡ L.parts }
         requires enough { blank.parts ≡ 6 }
         ensures calls { Decodes D.conduct (grid_of_page self.now) result decoder.old decoder.new }
-        ensures drawing { IfOk (drawing_of_page self.now) (Leaves result context.new.drawing) }
+        ensures drawing { IfOk result (λ _. drawing_of_page self.now ≡ Ok context.new.drawing) }
+        ensures page { HoldsPage result context.new }
         ensures errors { D.conduct.refusals decoder.new ≡ D.conduct.refusals decoder.old
             → IfErr result IsReturned }
         ensures kept { context.new.work_limit ≡ context.old.work_limit }
         ensures limit { IsWithin context.old.work_limit context.new.steps }
+        ensures left { LeavesOf 0 context.old.work_limit context.new }
     {
         let mut work = context.new_work::<L>(blank);
         self.decode_within(decoder, context, &mut work)
@@ -245,6 +262,7 @@ impl<'a, A: Allocator + Clone> Page<'a, A> {
     ///
     /// At most 32 steps are counted for each unit of work that is left in `work`. Where more are needed, the error is
     /// `DecodeError::OutOfMemory`, and no call is made.
+    #[tactic(auto, using(crate::proofs::Held::decoded))]
     pub fn decode_within<D: Decoder, L: Ledger>(
         &self,
         decoder: &mut D,
@@ -253,7 +271,8 @@ impl<'a, A: Allocator + Clone> Page<'a, A> {
     ) -> Result<()>
         requires { IsCountable D.conduct decoder.old }
         ensures calls { Decodes D.conduct (grid_of_page self.now) result decoder.old decoder.new }
-        ensures drawing { IfOk (drawing_of_page self.now) (Leaves result context.new.drawing) }
+        ensures drawing { IfOk result (λ _. drawing_of_page self.now ≡ Ok context.new.drawing) }
+        ensures page { HoldsPage result context.new }
         ensures left { IsLeft work.new context.old context.new }
         ensures errors { D.conduct.refusals decoder.new ≡ D.conduct.refusals decoder.old
             → IfErr result IsReturned }
@@ -261,6 +280,7 @@ impl<'a, A: Allocator + Clone> Page<'a, A> {
         ensures paid { Paid work.old work.new }
     {
         let decoded = self.content.decode_onto(decoder, &mut context.canvas, work);
+        context.holds_page = decoded.is_ok();
         context.end(work);
         decoded
     }

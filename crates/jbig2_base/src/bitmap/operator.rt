@@ -32,7 +32,7 @@ impl Default for CombinationOperator {
 impl CombinationOperator {
     /// The operator whose number is in the low three bits of `value`. The numbers 5 to 7 return
     /// `RegionError::InvalidCombinationOperator`.
-    #[tactic(auto, using(crate::proofs::PageCauses::operator_cause))]
+    #[tactic(auto, using(crate::proofs::OperatorCauses::operator_cause))]
     pub fn from_value(value: u8) -> Result<CombinationOperator>
         ensures causes { HasCause result (BreaksOperator (value % 8)) }
         ensures value { Returns (λ operator. operator) result (operator_of (value % 8)) }

@@ -3,9 +3,9 @@ use Rattle.std.specs.Prelude.{◌≡◌, ℕ, suc, ◌==◌, List, [], ◌∷◌
 use Rattle.std.specs.BTreeMap.{get}
 use Rattle.std.specs.Ordering.{nat_cmp}
 use Rattle.std.specs.declared.vec.Vec.{Vec}
-use Rattle.jbig2_base.specs.Segment.{SegmentView}
-use Rattle.jbig2_base.specs.inner.SegmentViews.{segment_views}
-use Rattle.jbig2_base.specs.declared.segment.Segment.{Segment}
+use Rattle.jbig2_framing.specs.Segment.{SegmentView}
+use Rattle.jbig2_framing.specs.inner.SegmentViews.{segment_views}
+use Rattle.jbig2_framing.specs.declared.segment.Segment.{Segment}
 use Rattle.jbig2_page.specs.Files.{of_page, numbers_after, by_pages}
 use Rattle.jbig2_page.specs.declared.file.segments_by_page.SegmentsByPage.{SegmentsByPage}
 

@@ -1,6 +1,6 @@
 -- The segments of a page: its own, or those that its file holds.
 use Rattle.std.specs.Prelude.{List}
-use Rattle.jbig2_base.specs.declared.segment.Segment.{Segment}
+use Rattle.jbig2_framing.specs.declared.segment.Segment.{Segment}
 use Rattle.jbig2_page.specs.declared.page.page_segments.PageSegments.{PageSegments}
 use Rattle.jbig2_page.specs.declared.page.page_segments.PageSegments.TheVariants.{Owned, Borrowed}
 

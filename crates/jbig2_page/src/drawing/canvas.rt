@@ -1,10 +1,11 @@
 //! The page while its segments are drawn: its bitmap, the intermediate regions that are kept, and what was passed over.
-ghost use Rattle.std.specs.Prelude.{◌≡◌, ◌*◌, ◌<◌, ◌≤◌, [], true, false, Ok};
+ghost use Rattle.std.specs.Prelude.{◌≡◌, ◌==◌, ◌&&◌, ◌*◌, ◌<◌, ◌≤◌, [], true, false, Ok};
+ghost use Rattle.jbig2_page.specs.Names.{with_lack};
 ghost use Rattle.jbig2_base.specs.Grid.{max_side};
 ghost use Rattle.jbig2_base.specs.Results.{Gives};
 ghost use Rattle.jbig2_region.specs.inner.RegionViews.{region_view};
 ghost use Rattle.jbig2_page.specs.Image.{packed_of};
-ghost use Rattle.jbig2_page.specs.Page.{empty_drawing, blank_page, passing, with_drawn_region, with_region};
+ghost use Rattle.jbig2_page.specs.Page.{blank_page, empty_drawing, passing, with_cut_off, with_drawn_region, with_region};
 ghost use Rattle.jbig2_page.specs.inner.WholePages.{IsBlankPage};
 ghost use Rattle.jbig2_steps.specs.Work.{PaidBut, price_of_bitmap};
 
@@ -16,7 +17,8 @@ use crate::workspace::Workspace;
 use jbig2_base::bitmap::Bitmap;
 use jbig2_base::bitmap::steps::Work;
 use jbig2_base::error::{DecodeError, Result};
-use jbig2_base::page_info::InitialPage;
+use jbig2_framing::cut_off::CutOff;
+use jbig2_framing::page_info::InitialPage;
 use jbig2_region::generic::DecodedRegion;
 use std::alloc::Allocator;
 use std::marker::Model;
@@ -159,7 +161,31 @@ impl<A: Allocator> Canvas<A> {
         ensures { self.new ≡ passing segment_number error self.old }
     {
         self.untouched = false;
-        self.passed_over.add(segment_number, error);
+        self.passed_over.add(Some(segment_number), error);
+    }
+
+    /// Counts a segment that was drawn or kept without something that it refers to, unless it was counted since
+    /// `before` segments were.
+    pub(crate) fn tell_lack(&mut self, lacks: bool, before: usize, number: u32)
+        requires { before < usize.MAX }
+        ensures { let passed = self.old.passed_over in
+            self.new ≡ record self.old {
+              passed_over = with_lack (lacks && passed.count == before) number passed;
+            } }
+    {
+        let lacks = lacks && self.passed_over.count == before;
+        self.passed_over.tell_lack(lacks, number);
+    }
+
+    /// Counts the segment at which the list of segments ended early.
+    pub(crate) fn tell_cut_off(&mut self, cut_off: &Option<CutOff>)
+        requires { self.old.passed_over.count < usize.MAX }
+        ensures { self.new ≡ with_cut_off cut_off.now self.old }
+    {
+        if let Some(cut_off) = cut_off {
+            let error = cut_off.error.duplicate();
+            self.passed_over.add(cut_off.segment_number, error);
+        }
     }
 
     /// Keeps an intermediate region under its segment's number.

@@ -2,7 +2,7 @@
 //! a page or of its globals. Only salvage passes over one that fails.
 ghost use Rattle.std.specs.Prelude.{◌≡◌, ◌+◌, ◌*◌, ◌⊎◌, IfErr, IfOk};
 ghost use Rattle.jbig2_base.specs.Results.{Returns, Gives};
-ghost use Rattle.jbig2_base.specs.inner.SegmentViews.{segment_view};
+ghost use Rattle.jbig2_framing.specs.inner.SegmentViews.{segment_view};
 ghost use Rattle.jbig2_page.specs.Names.{symbol_dictionary_at, with_symbols, pattern_dictionary_at, with_patterns, with_code, extension, Names};
 ghost use Rattle.jbig2_page.specs.inner.KeptViews.{patterns_view, symbols_view};
 ghost use Rattle.jbig2_page.specs.Causes.{BreaksExtension};
@@ -18,8 +18,8 @@ use jbig2_base::bitmap::steps::Work;
 use jbig2_base::error::{DecodeError, Result};
 use jbig2_base::field::u32_field;
 use jbig2_base::reader::Reader;
-use jbig2_base::segment::Segment;
 use jbig2_coder::huffman_table::HuffmanTable;
+use jbig2_framing::segment::Segment;
 use jbig2_halftone::pattern::{self, PatternDictionary, PatternDictionaryHeader};
 use jbig2_symbol::SymbolDictionary;
 use std::alloc::Allocator;

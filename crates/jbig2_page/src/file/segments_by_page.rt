@@ -1,14 +1,14 @@
 //! The segments of a file by their pages (T.88, 7.2.6).
 ghost use Rattle.std.specs.Prelude.{◌≡◌, List, [], ◌∷◌, ◌++◌, Ok, MatchResult};
 ghost use Rattle.jbig2_base.specs.Results.{Gives};
-ghost use Rattle.jbig2_base.specs.Segment.{SegmentView};
-ghost use Rattle.jbig2_base.specs.inner.SegmentViews.{segment_view, segment_views};
+ghost use Rattle.jbig2_framing.specs.Segment.{SegmentView};
+ghost use Rattle.jbig2_framing.specs.inner.SegmentViews.{segment_view, segment_views};
 ghost use Rattle.jbig2_base.specs.declared.error.DecodeError.TheVariants.{OutOfMemory};
 ghost use Rattle.jbig2_page.specs.inner.ByPages.{HasSegments, by_page_view};
 ghost use Rattle.jbig2_page.specs.Files.{by_pages, of_page};
 
 use jbig2_base::error::Result;
-use jbig2_base::segment::Segment;
+use jbig2_framing::segment::Segment;
 use std::alloc::Allocator;
 use std::collections::BTreeMap;
 

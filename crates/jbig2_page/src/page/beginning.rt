@@ -2,15 +2,15 @@
 ghost use Rattle.std.specs.Prelude.{◌≡◌, ◌≤◌, IfOk, min};
 ghost use Rattle.jbig2_base.specs.Grid.{max_side};
 ghost use Rattle.jbig2_base.specs.Results.{Returns};
-ghost use Rattle.jbig2_base.specs.inner.SegmentViews.{segment_view, segment_views};
+ghost use Rattle.jbig2_framing.specs.inner.SegmentViews.{segment_view, segment_views};
 ghost use Rattle.jbig2_page.specs.Page.{beginning_of, end_of, is_immediate, region_height, region_type, regions_height, known_height};
 
 use jbig2_base::bitmap::MAX_DIMENSION;
 use jbig2_base::error::Result;
-use jbig2_base::page_info::{InitialPage, stripes_height};
 use jbig2_base::reader::Reader;
-use jbig2_base::reading::Reading;
-use jbig2_base::segment::{Segment, SegmentType};
+use jbig2_framing::page_info::{InitialPage, stripes_height};
+use jbig2_framing::reading::Reading;
+use jbig2_framing::segment::{Segment, SegmentType};
 use jbig2_region::region_info::{RegionSegmentInfo, parse_region_segment_info};
 use std::alloc::Allocator;
 

@@ -10,7 +10,7 @@ use crate::drawing::packed::next_place;
 use crate::page::calls::pixel_of;
 use jbig2_base::bitmap::Bitmap;
 use jbig2_base::bitmap::steps::Steps;
-use jbig2_base::page_info::InitialPage;
+use jbig2_framing::page_info::InitialPage;
 use std::alloc::Allocator;
 use std::sync::ledger::Ledger;
 

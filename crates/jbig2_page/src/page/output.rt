@@ -6,7 +6,7 @@ ghost use Rattle.jbig2_base.specs.Results.{Gives, Leaves};
 ghost use Rattle.jbig2_page.specs.Calls.{Decodes, IsCountable};
 ghost use Rattle.jbig2_page.specs.Forms.{bytes_of_page, size_in};
 ghost use Rattle.jbig2_page.specs.Image.{image_of_page, packed_of_page, packed_size};
-ghost use Rattle.jbig2_page.specs.Page.{segments_drawn, drawing_of_page, grid_of_page, blank_page};
+ghost use Rattle.jbig2_page.specs.Page.{drawing_of_page, drawing_with, grid_of_page};
 ghost use Rattle.jbig2_page.specs.Returned.{IsReturned};
 ghost use Rattle.jbig2_steps.specs.Work.{IsWithinLimit, Paid, price_of_bitmap, budget};
 
@@ -170,8 +170,7 @@ impl<'a, A: Allocator + Clone> PageContent<'a, A> {
         work: &mut Work<L>,
     ) -> Result<()>
         ensures value { Gives (λ _. canvas.new) result
-            (segments_drawn self.now.reading globals.now self.now.segments
-            (blank_page self.now.initial_page)) }
+            (drawing_with globals.now self.now) }
         ensures paid { Paid work.old work.new }
         ensures ahead { let page = self.now.initial_page in
             let price = price_of_bitmap page.width page.height in
@@ -185,6 +184,8 @@ impl<'a, A: Allocator + Clone> PageContent<'a, A> {
             reading: self.reading,
             globals,
         };
-        drawer.draw_segments(self.segments.as_vec(), canvas, work)
+        drawer.draw_segments(self.segments.as_vec(), canvas, work)?;
+        canvas.tell_cut_off(&self.cut_off);
+        Ok(())
     }
 }

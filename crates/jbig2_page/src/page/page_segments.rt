@@ -2,7 +2,7 @@
 ghost use Rattle.std.specs.Prelude.{◌≡◌};
 ghost use Rattle.jbig2_page.specs.inner.SegmentLists.{segment_list};
 
-use jbig2_base::segment::Segment;
+use jbig2_framing::segment::Segment;
 use std::alloc::Allocator;
 
 /// The segments of a page in order: its own, or those that its file holds.

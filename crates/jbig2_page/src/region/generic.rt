@@ -1,6 +1,6 @@
 //! Parses the generic regions of a page (T.88, 7.4.6).
 ghost use Rattle.std.specs.Prelude.{IfOk};
-ghost use Rattle.jbig2_base.specs.inner.SegmentViews.{segment_view};
+ghost use Rattle.jbig2_framing.specs.inner.SegmentViews.{segment_view};
 ghost use Rattle.jbig2_page.specs.Regions.{generic_at};
 ghost use Rattle.jbig2_page.specs.inner.ParsedRegions.{IsDecodable, DecodesTo};
 
@@ -8,7 +8,7 @@ use crate::region::parsed_region::ParsedRegion;
 use crate::region::references::References;
 use jbig2_base::error::Result;
 use jbig2_base::reader::Reader;
-use jbig2_base::segment::Segment;
+use jbig2_framing::segment::Segment;
 use jbig2_region::generic;
 use std::alloc::Allocator;
 

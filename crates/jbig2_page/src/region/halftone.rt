@@ -1,7 +1,7 @@
 //! Parses the halftone regions of a page, with their patterns (T.88, 7.4.5).
 ghost use Rattle.std.specs.Prelude.{◌≡◌, ◌+◌, ◌*◌, IfErr, IfOk};
 ghost use Rattle.jbig2_base.specs.Results.{Returns, some_or};
-ghost use Rattle.jbig2_base.specs.inner.SegmentViews.{segment_view};
+ghost use Rattle.jbig2_framing.specs.inner.SegmentViews.{segment_view};
 ghost use Rattle.jbig2_page.specs.Regions.{halftone_at, patterns_for};
 ghost use Rattle.jbig2_page.specs.inner.KeptViews.{patterns_view};
 ghost use Rattle.jbig2_page.specs.inner.ParsedRegions.{IsDecodable, DecodesTo};
@@ -19,7 +19,7 @@ use jbig2_base::bitmap::steps::Work;
 use jbig2_base::error::{DecodeError, Result, SegmentError};
 use jbig2_base::reader::Reader;
 use jbig2_base::search::code_length;
-use jbig2_base::segment::Segment;
+use jbig2_framing::segment::Segment;
 use jbig2_halftone::halftone::{self, HalftoneRegionHeader};
 use jbig2_halftone::pattern::PatternDictionary;
 use std::alloc::Allocator;

@@ -2,12 +2,13 @@
 ghost use Rattle.std.specs.Prelude.{◌≡◌, ◌≤◌, ◌*◌, IfOk};
 ghost use Rattle.jbig2_base.specs.Grid.{max_side};
 ghost use Rattle.jbig2_base.specs.Results.{Returns, Gives};
-ghost use Rattle.jbig2_base.specs.inner.SegmentViews.{segment_view};
+ghost use Rattle.jbig2_framing.specs.inner.SegmentViews.{segment_view};
 ghost use Rattle.jbig2_region.specs.inner.RegionViews.{region_view};
 ghost use Rattle.jbig2_region.specs.Refinement.{refined_decoded};
 ghost use Rattle.jbig2_region.specs.RefinementHeader.{IsRefinement};
 ghost use Rattle.jbig2_region.specs.inner.RefinedViews.{header_view};
 ghost use Rattle.jbig2_page.specs.Names.{first_kept};
+ghost use Rattle.jbig2_page.specs.Page.{lacks_region};
 ghost use Rattle.jbig2_page.specs.Regions.{page_area, referred_region, refinement_at};
 ghost use Rattle.jbig2_page.specs.inner.KeptViews.{found_value, kept_values};
 ghost use Rattle.jbig2_page.specs.inner.PageViews.{near_area};
@@ -26,7 +27,7 @@ use jbig2_base::bitmap::part::Area;
 use jbig2_base::bitmap::steps::Work;
 use jbig2_base::error::{OverflowError, Result, SegmentError};
 use jbig2_base::reader::Reader;
-use jbig2_base::segment::Segment;
+use jbig2_framing::segment::Segment;
 use jbig2_region::generic::DecodedRegion;
 use jbig2_region::generic_refinement::{self, GenericRefinementRegionHeader};
 use jbig2_region::region_info::RegionSegmentInfo;
@@ -42,6 +43,20 @@ fn region_named<'a, A: Allocator>(
         ≡ first_kept number (kept_values region_view regions.now) }
 {
     first_under(regions, number)
+}
+
+/// Whether a refinement's first number names no region.
+pub(crate) fn lacks_region<A: Allocator>(
+    numbers: &[u32],
+    regions: &[Kept<DecodedRegion<A>>],
+) -> bool
+    ensures { result ≡ lacks_region numbers.now (kept_values region_view regions.now) }
+{
+    let Some(number) = numbers.first() else {
+        return false;
+    };
+    let region = region_named(regions, *number);
+    region.is_none()
 }
 
 /// The region that a segment's first referred number names, if it has one. Strict reading refuses a

@@ -1,6 +1,6 @@
 //! Parses the text regions of a page, with the symbols that they draw (T.88, 7.4.3).
 ghost use Rattle.std.specs.Prelude.{IfOk};
-ghost use Rattle.jbig2_base.specs.inner.SegmentViews.{segment_view};
+ghost use Rattle.jbig2_framing.specs.inner.SegmentViews.{segment_view};
 ghost use Rattle.jbig2_page.specs.Regions.{text_at};
 ghost use Rattle.jbig2_page.specs.inner.ParsedRegions.{IsDecodable, DecodesTo};
 
@@ -10,7 +10,7 @@ use crate::region::references::References;
 use crate::workspace::Workspace;
 use jbig2_base::error::Result;
 use jbig2_base::reader::Reader;
-use jbig2_base::segment::Segment;
+use jbig2_framing::segment::Segment;
 use std::alloc::Allocator;
 
 /// Parses a text region, after what it refers to.

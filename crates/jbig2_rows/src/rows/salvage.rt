@@ -46,32 +46,48 @@ const ONE_PAGE: &[FilePage] = &[FilePage {
     answer: Calls(WHITE),
 }];
 
-/// A list that this error of a header ended.
+/// A header whose bytes are all 32.
+const BAD_HEADER: Option<(Option<u32>, DecodeError)> = Some((Some(0x2020_2020), INVALID_REFERENCE));
+
+/// The list of the segments of globals or of a file that ends at this header.
 const BAD_REFERENCE: Report = Report {
     passed_over: 0,
     first: None,
-    fault: Some(INVALID_REFERENCE),
+    cut_off: BAD_HEADER,
 };
 
-/// A list in random access whose bytes end too early.
+/// The same of a page, which counts the segment.
+const PAGE_BAD_REFERENCE: Report = Report {
+    passed_over: 1,
+    first: BAD_HEADER,
+    cut_off: BAD_HEADER,
+};
+
+/// A list in random access whose bytes end in the data of segment 1.
 const CUT_OFF: Report = Report {
     passed_over: 0,
     first: None,
-    fault: Some(TOO_EARLY),
+    cut_off: Some((Some(1), TOO_EARLY)),
 };
+
+/// Segment 2 has no end marker.
+const NO_MARKER: Option<(Option<u32>, DecodeError)> = Some((
+    Some(2),
+    DecodeError::Segment(SegmentError::MissingEndMarker),
+));
 
 /// The dictionary with number 1 was passed over. It asks for a table that it does not refer to.
 const ONE_PASSED: Report = Report {
     passed_over: 1,
-    first: Some((1, INVALID_SELECTION)),
-    fault: None,
+    first: Some((Some(1), INVALID_SELECTION)),
+    cut_off: None,
 };
 
 /// A region that needs this dictionary was passed over too.
 const TWO_PASSED: Report = Report {
     passed_over: 2,
-    first: Some((1, INVALID_SELECTION)),
-    fault: None,
+    first: Some((Some(1), INVALID_SELECTION)),
+    cut_off: None,
 };
 
 /// The rows R17.
@@ -84,7 +100,7 @@ const ROWS: &[Row] = &[
                 bytes: "P G 20*16",
                 answer: Calls(DOT),
                 globals_report: NOTHING,
-                report: BAD_REFERENCE,
+                report: PAGE_BAD_REFERENCE,
             }),
             Case::Salvage(SalvageCase::Page {
                 globals: "",
@@ -92,9 +108,9 @@ const ROWS: &[Row] = &[
                 answer: Calls(DOT),
                 globals_report: NOTHING,
                 report: Report {
-                    passed_over: 0,
-                    first: None,
-                    fault: Some(DecodeError::Segment(SegmentError::MissingEndMarker)),
+                    passed_over: 1,
+                    first: NO_MARKER,
+                    cut_off: NO_MARKER,
                 },
             }),
             Case::Salvage(SalvageCase::Page {
@@ -102,7 +118,11 @@ const ROWS: &[Row] = &[
                 bytes: "P G 00000002 26",
                 answer: Calls(DOT),
                 globals_report: NOTHING,
-                report: NOTHING,
+                report: Report {
+                    passed_over: 1,
+                    first: Some((Some(2), TOO_EARLY)),
+                    cut_off: Some((Some(2), TOO_EARLY)),
+                },
             }),
         ],
     },
@@ -137,8 +157,8 @@ const ROWS: &[Row] = &[
                 globals_report: NOTHING,
                 report: Report {
                     passed_over: 2,
-                    first: Some((1, TOO_EARLY)),
-                    fault: None,
+                    first: Some((Some(1), TOO_EARLY)),
+                    cut_off: None,
                 },
             }),
             Case::Salvage(SalvageCase::Page {
@@ -148,8 +168,8 @@ const ROWS: &[Row] = &[
                 globals_report: NOTHING,
                 report: Report {
                     passed_over: 1,
-                    first: Some((1, INVALID_CODE)),
-                    fault: None,
+                    first: Some((Some(1), INVALID_CODE)),
+                    cut_off: None,
                 },
             }),
             Case::Salvage(SalvageCase::Page {
@@ -157,10 +177,11 @@ const ROWS: &[Row] = &[
                 bytes: "P G8@4=24@27=05 00000002 2A 20 01 01 00000012 00000008 00000001 00*9 01",
                 answer: Calls(BLACK),
                 globals_report: NOTHING,
+                // The region is left out, and the refinement lacks it.
                 report: Report {
-                    passed_over: 1,
-                    first: Some((1, INVALID_OPERATOR)),
-                    fault: None,
+                    passed_over: 2,
+                    first: Some((Some(1), INVALID_OPERATOR)),
+                    cut_off: None,
                 },
             }),
         ],
@@ -208,8 +229,8 @@ const ROWS: &[Row] = &[
                 globals_report: NOTHING,
                 report: Report {
                     passed_over: 2,
-                    first: Some((3, TOO_LARGE)),
-                    fault: None,
+                    first: Some((Some(3), TOO_LARGE)),
+                    cut_off: None,
                 },
             }),
             Case::Salvage(SalvageCase::Page {
@@ -277,7 +298,10 @@ const ROWS: &[Row] = &[
                 report: Report {
                     passed_over: 0,
                     first: None,
-                    fault: Some(DecodeError::Segment(SegmentError::InvalidReferredCount)),
+                    cut_off: Some((
+                        Some(8),
+                        DecodeError::Segment(SegmentError::InvalidReferredCount),
+                    )),
                 },
             }),
         ],

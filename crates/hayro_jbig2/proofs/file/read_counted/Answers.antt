@@ -1,5 +1,5 @@
 use Rattle.std.proofs.Common.{arith}
-use Rattle.jbig2_base.specs.File.{file_at}
+use Rattle.jbig2_framing.specs.File.{file_at}
 use Rattle.hayro_jbig2.proofs.Limits.{limit-taken, limit-taken-shared}
 use Rattle.hayro_jbig2.proofs.file.read_counted.Goals as goal
 

@@ -1,6 +1,6 @@
 use Rattle.std.proofs.Common.{ℕ, ◌*◌, List, length, arith}
-use Rattle.jbig2_base.specs.Segment.{SegmentView}
-use Rattle.jbig2_base.specs.Sequential.{sorted_segments}
+use Rattle.jbig2_framing.specs.Segment.{SegmentView}
+use Rattle.jbig2_framing.specs.Sequential.{sorted_segments}
 use Rattle.hayro_jbig2.proofs.Limits.{limit-taken, limit-taken-each}
 use Rattle.hayro_jbig2.proofs.globals.read_counted.Goals as goal
 

@@ -5,7 +5,7 @@ use Rattle.std.specs.Option.{option_map}
 use Rattle.jbig2_base.specs.Grid.{Grid}
 use Rattle.jbig2_base.specs.declared.error.DecodeError.{DecodeError}
 use Rattle.jbig2_base.specs.declared.error.DecodeError.TheVariants.{OutOfMemory}
-use Rattle.jbig2_base.specs.declared.reading.Reading.TheVariants.{Lenient}
+use Rattle.jbig2_framing.specs.declared.reading.Reading.TheVariants.{Lenient}
 use Rattle.jbig2_page.specs.Names.{globals_at, KeptGlobals}
 use Rattle.jbig2_page.specs.Page.{page_from}
 use Rattle.jbig2_page.specs.Calls.{Conduct, Decodes}

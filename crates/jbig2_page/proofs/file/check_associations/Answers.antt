@@ -1,6 +1,6 @@
 use Rattle.std.proofs.Common.{◌∙◌, sym, arith}
 use Rattle.std.proofs.lemmas.Bool.{cond-false, cond-true}
-use Rattle.jbig2_base.specs.inner.SegmentViews.{header_view, segment_views}
+use Rattle.jbig2_framing.specs.inner.SegmentViews.{header_view, segment_views}
 use Rattle.jbig2_page.specs.Files.{association_check, lacks_page}
 use Rattle.jbig2_page.proofs.LeftLemmas.{left-first}
 use Rattle.jbig2_page.proofs.file.check_associations.Goals as goal

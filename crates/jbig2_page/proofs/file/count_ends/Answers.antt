@@ -1,6 +1,6 @@
 use Rattle.std.proofs.Common.{◌≡◌, ℕ, ◌+◌, ◌<◌, Bool, true, false, cond, List, length, drop, get_or, sym, ap, ◌∙◌, arith}
-use Rattle.jbig2_base.specs.inner.SegmentViews.{segment_views}
-use Rattle.jbig2_base.specs.declared.segment.Segment.{Segment}
+use Rattle.jbig2_framing.specs.inner.SegmentViews.{segment_views}
+use Rattle.jbig2_framing.specs.declared.segment.Segment.{Segment}
 use Rattle.jbig2_page.specs.Files.{ends_of, is_end_of_page}
 use Rattle.jbig2_page.proofs.LeftLemmas.{left-first}
 use Rattle.jbig2_page.proofs.file.count_ends.Goals as goal

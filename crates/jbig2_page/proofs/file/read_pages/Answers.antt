@@ -1,7 +1,7 @@
 use Rattle.std.proofs.Common.{◌≡◌, ◌++◌, true, false, List, ◌∙◌, ap, arith, inr, length, sym}
 use Rattle.std.specs.Vec.Iter.{into_iter_items}
-use Rattle.jbig2_base.specs.Reading.{is_salvaged}
-use Rattle.jbig2_base.specs.inner.SegmentViews.{segment_views}
+use Rattle.jbig2_framing.specs.Reading.{is_salvaged}
+use Rattle.jbig2_framing.specs.inner.SegmentViews.{segment_views}
 use Rattle.jbig2_page.proofs.Books.{left-made, left-more, page-left-out, page-made, page-refused, pages-begin, with_pages}
 use Rattle.jbig2_page.specs.inner.ByPages.{pages_view}
 use Rattle.jbig2_page.specs.Files.{PageInFile, pages_in_file, left_out_of}

@@ -2,12 +2,13 @@ use Rattle.std.proofs.Common.{◌≡◌, ℕ, ◌<◌, ◌≤◌, ◌∙◌, Lis
 use Rattle.std.proofs.lemmas.Option.{slice_get-get_or, slice_get_past}
 use Rattle.std.specs.Prelude.{IfErr, option_map, slice_get}
 use Rattle.std.proofs.lemmas.Bool.{ltb-false, ltb-true}
-use Rattle.jbig2_base.specs.inner.SegmentViews.{segment_views}
+use Rattle.jbig2_framing.specs.inner.SegmentViews.{segment_views}
 use Rattle.jbig2_base.specs.declared.error.DecodeError.{DecodeError}
 use Rattle.jbig2_page.proofs.Books.{pages_stand_alone}
 use Rattle.hayro_jbig2.proofs.file.File.page.Goals as goal
 use Rattle.jbig2_page.specs.Causes.{IsFromInput}
-use Rattle.jbig2_page.specs.Files.{ReadFile, PageInFile, page_in, page_of}
+use Rattle.jbig2_framing.specs.declared.cut_off.CutOff.{CutOff}
+use Rattle.jbig2_page.specs.Files.{ReadFile, PageInFile, cut_off_of, page_in, page_of}
 use Rattle.jbig2_page.specs.Names.{Names, KeptGlobals, names_of}
 use Rattle.jbig2_page.specs.Page.{ReadPage}
 use Rattle.jbig2_page.specs.inner.PageViews.{kept_names}
@@ -22,12 +23,12 @@ returns-in-Some-clause-value g c =
     let book : ReadFile = c.args.self.now in
     let page : PageInFile = c.in-Some.page.now in
     let there = c.in-Some.ensures.lookup in
-    let read : ReadFile → Result Names DecodeError → Option DecodeError → ReadPage = λ b globals fault. record { reading = b.reading; initial_page = page.initial_page; segments = page.segments; globals = globals; fault = fault } in
-    let fault : c.duplicate_fault-fault.result ≡ book.fault = c.duplicate_fault-fault.ensures ∙ ap (λ (b : ReadFile). b.fault) c.self.view_is in
+    let read : ReadFile → Result Names DecodeError → Option CutOff → ReadPage = λ b globals cut_off. record { reading = b.reading; initial_page = page.initial_page; segments = page.segments; globals = globals; cut_off = cut_off } in
+    let cut : c.cut_off-cut_off.result ≡ cut_off_of book.organization page book.cut_off = c.cut_off-cut_off.ensures ∙ ap (λ (b : ReadFile). cut_off_of b.organization page b.cut_off) c.self.view_is in
     let made : c.of_content.result ≡ page_in book page = c.of_content.ensures ∙ c.content-content.ensures
-    ∙ ap (λ (b : ReadFile). read b (kept_names c.globals.result) c.duplicate_fault-fault.result) c.self.view_is
-    ∙ ap (λ (globals : Result Names DecodeError). read book globals c.duplicate_fault-fault.result) c.globals.ensures
-    ∙ ap (λ (f : Option DecodeError). read book (names_of book.globals) f) fault in
+    ∙ ap (λ (b : ReadFile). read b (kept_names c.globals.result) c.cut_off-cut_off.result) c.self.view_is
+    ∙ ap (λ (globals : Result Names DecodeError). read book globals c.cut_off-cut_off.result) c.globals.ensures
+    ∙ ap (λ (cut_off : Option CutOff). read book (names_of book.globals) cut_off) cut in
     page-at book c.deref.result.now c.args.index page c.of_content.result (c.deref.ensures.value ∙ ap (λ (b : ReadFile). b.pages) c.self.view_is) (ltb-true _ _ (sym there.0)) there.1 made
 
 pub returns-in-Some-clause-alone : goal.returns-in-Some-clause-alone

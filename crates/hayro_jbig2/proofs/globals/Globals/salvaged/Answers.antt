@@ -3,12 +3,12 @@ use Rattle.std.proofs.lemmas.Bool.{false≢true}
 use Rattle.std.specs.Prelude.{IfErr, IsTrue}
 use Rattle.std.specs.Result.{is_ok}
 use Rattle.jbig2_base.specs.Results.{◌>>=◌, Gives}
-use Rattle.jbig2_base.specs.Reading.{fault_of}
-use Rattle.jbig2_base.specs.Segment.{SegmentView}
-use Rattle.jbig2_base.specs.Sequential.{by_number, sequential}
+use Rattle.jbig2_framing.specs.CutOff.{sequence_cut_off}
+use Rattle.jbig2_framing.specs.Segment.{SegmentView}
+use Rattle.jbig2_framing.specs.Sequential.{by_number, sequential}
 use Rattle.jbig2_base.specs.declared.error.DecodeError.{DecodeError}
 use Rattle.jbig2_base.specs.declared.error.DecodeError.TheVariants.{OutOfMemory}
-use Rattle.jbig2_base.specs.declared.reading.Reading.TheVariants.{Lenient, Salvage}
+use Rattle.jbig2_framing.specs.declared.reading.Reading.TheVariants.{Lenient, Salvage}
 use Rattle.jbig2_page.specs.Names.{KeptGlobals, globals_at, shared_from, nothing_shared}
 use Rattle.jbig2_page.proofs.Salvaging.{fine-named, fine-sequential}
 use Rattle.hayro_jbig2.proofs.globals.Globals.salvaged.Goals as goal
@@ -25,7 +25,7 @@ then-named (Err e) shared fine = fine
 
 fine-globals : (bytes : List ℕ) → IsTrue (is_ok (globals_at Salvage bytes))
 unfolding globals_at
-fine-globals bytes = then-named (sequential Salvage bytes) (nothing_shared (fault_of Salvage (sequential Lenient bytes))) (fine-sequential bytes)
+fine-globals bytes = then-named (sequential Salvage bytes) (nothing_shared (sequence_cut_off Salvage bytes)) (fine-sequential bytes)
 
 pub returns-clause-memory : goal.returns-clause-memory
 returns-clause-memory g c = memory-alone (λ globals. globals) c.read.result (globals_at Salvage c.args.bytes.now) (fine-globals c.args.bytes.now) c.read.ensures.value

@@ -1,5 +1,5 @@
 use Rattle.std.proofs.Common.{rules}
-use Rattle.jbig2_base.proofs.DataCauses.{wide_cause}
+use Rattle.jbig2_base.proofs.BitmapCauses.{wide_cause}
 use Rattle.jbig2_base.proofs.bitmap.Bitmap.new_wide.Goals as goal
 
 pub returns-then-from-gt-MAX_AREA-clause-causes : goal.returns-then-from-gt-MAX_AREA-clause-causes

@@ -1,6 +1,6 @@
 use Rattle.jbig2_base.specs.Causes.{BreaksSides}
 use Rattle.jbig2_base.specs.Grid.{blank}
-use Rattle.jbig2_base.proofs.DataCauses.{memory-alone}
+use Rattle.jbig2_base.proofs.BitmapCauses.{memory-alone}
 use Rattle.jbig2_base.proofs.bitmap.Bitmap.reinitialize.Goals as goal
 
 pub returns-clause-causes : goal.returns-clause-causes

@@ -1,6 +1,6 @@
 use Rattle.std.proofs.Common.{false, Result, ap, arith}
-use Rattle.jbig2_base.specs.Reading.{is_strict}
-use Rattle.jbig2_base.specs.inner.SegmentViews.{segment_view}
+use Rattle.jbig2_framing.specs.Reading.{is_strict}
+use Rattle.jbig2_framing.specs.inner.SegmentViews.{segment_view}
 use Rattle.jbig2_base.specs.declared.error.DecodeError.{DecodeError}
 use Rattle.jbig2_page.specs.Page.{Drawing, immediate, region_at, with_drawn_region}
 use Rattle.jbig2_page.specs.declared.drawing.passed_over.PassedOver.{PassedOver}

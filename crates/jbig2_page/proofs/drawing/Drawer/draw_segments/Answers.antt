@@ -2,11 +2,11 @@ use Rattle.std.proofs.Common.{◌≡◌, ℕ, ◌+◌, ◌<◌, ◌≤◌, true,
 use Rattle.std.specs.Prelude.{IfOk}
 use Rattle.std.proofs.lemmas.Bool.{cond-false, cond-true}
 use Rattle.jbig2_base.specs.Results.{◌>>=◌}
-use Rattle.jbig2_base.specs.inner.SegmentViews.{segment_view, segment_views}
+use Rattle.jbig2_framing.specs.inner.SegmentViews.{segment_view, segment_views}
 use Rattle.jbig2_base.specs.declared.error.DecodeError.{DecodeError}
 use Rattle.jbig2_base.specs.declared.error.DecodeError.TheVariants.{OutOfMemory}
-use Rattle.jbig2_base.specs.declared.reading.Reading.{Reading}
-use Rattle.jbig2_base.specs.declared.segment.Segment.{Segment}
+use Rattle.jbig2_framing.specs.declared.reading.Reading.{Reading}
+use Rattle.jbig2_framing.specs.declared.segment.Segment.{Segment}
 use Rattle.jbig2_page.specs.Names.{Names}
 use Rattle.jbig2_page.specs.Page.{Drawing, ends_page, segment_on, segments_drawn}
 use Rattle.jbig2_page.specs.Prices.{drawn_count}

@@ -1,5 +1,5 @@
 use Rattle.std.proofs.Common.{◌≡◌, ◌+◌, ◌*◌, ◌≤◌, drop}
-use Rattle.jbig2_base.specs.inner.SegmentViews.{segment_views}
+use Rattle.jbig2_framing.specs.inner.SegmentViews.{segment_views}
 use Rattle.jbig2_steps.specs.Work.{budget}
 use Rattle.jbig2_page.specs.Page.{segments_drawn}
 use Rattle.jbig2_page.specs.Prices.{drawn_count}

@@ -2,8 +2,8 @@ use Rattle.std.proofs.Common.{◌≡◌, false, Ok, Result, inr, refl, sym, ap, 
 use Rattle.std.proofs.lemmas.Result.{err_from_is_err_and}
 use Rattle.jbig2_base.specs.Results.{Gives}
 use Rattle.jbig2_base.specs.Grid.{Grid}
-use Rattle.jbig2_base.specs.Reading.{is_strict}
-use Rattle.jbig2_base.specs.inner.SegmentViews.{segment_view}
+use Rattle.jbig2_framing.specs.Reading.{is_strict}
+use Rattle.jbig2_framing.specs.inner.SegmentViews.{segment_view}
 use Rattle.jbig2_region.specs.RegionInfo.{PlacedRegion}
 use Rattle.jbig2_region.specs.inner.RegionViews.{region_view}
 use Rattle.jbig2_base.specs.declared.error.DecodeError.{DecodeError}

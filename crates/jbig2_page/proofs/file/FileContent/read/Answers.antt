@@ -2,21 +2,23 @@ use Rattle.std.proofs.Common.{rules, ◌≡◌, ◌⊎◌, ℕ, Bool, true, fals
 use Rattle.std.specs.Prelude.{IfErr}
 use Rattle.std.proofs.lemmas.List.{length-map}
 use Rattle.std.proofs.lemmas.Result.{err_from_is_err_and}
-use Rattle.jbig2_base.specs.File.{file_at}
-use Rattle.jbig2_base.specs.Reading.{fault_of, is_strict}
-use Rattle.jbig2_base.specs.Segment.{SegmentView}
-use Rattle.jbig2_base.specs.inner.SegmentViews.{file_view, segment_views}
+use Rattle.jbig2_framing.specs.File.{file_at}
+use Rattle.jbig2_framing.specs.CutOff.{file_cut_off}
+use Rattle.jbig2_framing.specs.Reading.{is_strict}
+use Rattle.jbig2_framing.specs.declared.cut_off.CutOff.{CutOff}
+use Rattle.jbig2_framing.specs.Segment.{SegmentView}
+use Rattle.jbig2_framing.specs.inner.SegmentViews.{file_view, segment_views}
 use Rattle.jbig2_base.specs.declared.error.DecodeError.{DecodeError}
 use Rattle.jbig2_base.specs.declared.error.DecodeError.TheVariants.{Format, OutOfMemory}
 use Rattle.jbig2_base.specs.declared.error.FormatError.TheVariants.{PageCountMismatch}
-use Rattle.jbig2_base.specs.declared.file_header.FileHeader.{FileHeader}
-use Rattle.jbig2_base.specs.declared.reading.Reading.{Reading}
-use Rattle.jbig2_base.specs.declared.reading.Reading.TheVariants.{Lenient}
+use Rattle.jbig2_framing.specs.declared.file_header.FileHeader.{FileHeader}
+use Rattle.jbig2_framing.specs.declared.reading.Reading.{Reading}
+use Rattle.jbig2_framing.specs.declared.reading.Reading.TheVariants.{Lenient}
 use Rattle.jbig2_page.specs.Causes.{IsFromInput}
 use Rattle.jbig2_page.specs.Files.{PageInFile, association_check, book_at, by_pages, pages_in_file, left_out_of, miscounts, of_page, shared_by}
 use Rattle.jbig2_page.specs.Names.{KeptGlobals}
 use Rattle.jbig2_page.specs.inner.ByPages.{by_page_view}
-use Rattle.jbig2_base.proofs.FromInput.{from_input-file}
+use Rattle.jbig2_framing.proofs.FromInput.{from_input-file}
 use Rattle.jbig2_base.proofs.CauseSteps.{err-gives}
 use Rattle.jbig2_page.proofs.FromInput.{from_input-associated, from_input-each}
 use Rattle.jbig2_page.proofs.DrawingFromInput.{returned_error, shared_from_input}
@@ -25,12 +27,12 @@ use Rattle.jbig2_page.proofs.file.FileContent.read.Goals as goal
 use Rattle.jbig2_page.proofs.file.FileContent.read.Goals.{else-strict-via-then-strict+else-miscounts, else-strict-via-else-strict}
 
 -- a file of which each step was taken
-book-made : (reading : Reading) (bytes : List ℕ) (file : FileHeader × List SegmentView) (parts : List SegmentView × List (List SegmentView)) (pages : List PageInFile) (globals : Result KeptGlobals DecodeError) (left_out : List DecodeError) (fault : Option DecodeError)
+book-made : (reading : Reading) (bytes : List ℕ) (file : FileHeader × List SegmentView) (parts : List SegmentView × List (List SegmentView)) (pages : List PageInFile) (globals : Result KeptGlobals DecodeError) (left_out : List DecodeError) (cut_off : Option CutOff)
     → file_at reading bytes ≡ Ok file → association_check (is_strict reading) file.1 ≡ Ok tt → of_page 0 file.1 ≡ parts.0 → by_pages file.1 ≡ parts.1
-    → (is_strict reading && miscounts file.0.number_of_pages (length parts.1)) ≡ false → pages_in_file reading parts.1 ≡ Ok pages → shared_by reading pages parts.0 ≡ globals → left_out_of reading parts.1 ≡ left_out → fault_of reading (file_at Lenient bytes) ≡ fault
-    → book_at reading bytes ≡ Ok (record { reading = reading; pages = pages; globals = globals; left_out = left_out; fault = fault })
+    → (is_strict reading && miscounts file.0.number_of_pages (length parts.1)) ≡ false → pages_in_file reading parts.1 ≡ Ok pages → shared_by reading pages parts.0 ≡ globals → left_out_of reading parts.1 ≡ left_out → file_cut_off reading bytes ≡ cut_off
+    → book_at reading bytes ≡ Ok (record { reading = reading; organization = file.0.organization; pages = pages; globals = globals; left_out = left_out; cut_off = cut_off })
 unfolding book_at
-book-made reading bytes file parts pages globals left_out fault read known shared own counted filed named left ended = rw (read, known, shared, own, counted, filed, named, left, ended)
+book-made reading bytes file parts pages globals left_out cut_off read known shared own counted filed named left ended = rw (read, known, shared, own, counted, filed, named, left, ended)
 
 -- a file whose pages are refused
 book-unfiled : (reading : Reading) (bytes : List ℕ) (file : FileHeader × List SegmentView) (parts : List SegmentView × List (List SegmentView)) (e : DecodeError)
@@ -80,7 +82,7 @@ returns-clause-value g c =
     ap (λ ps. shared_by reading ps (segment_views c.in_ok-segments.segments.shared.items)) (sym c.deref-2.ensures.value)
     ∙ ap (λ s. shared_by reading c.deref-2.result.now (segment_views s)) (sym c.deref-3.ensures.value) ∙ kept-is _ _ c.in_ok-globals.ensures.value in
     let left = sym (c.in_ok-pages.ensures.left_out ∙ ap (λ (es : List DecodeError). es ++ left_out_of reading parts.1) c.new-left_out.ensures.items) in
-    book-made reading c.args.bytes.now file parts c.in_ok-pages.pages.items c.in_ok-globals.globals c.read_pages.new.left_out.items c.in_ok-fault.fault c.in_ok-file.ensures.value known split.0 split.1 counted c.in_ok-pages.ensures.value named left (kept-is _ _ c.in_ok-fault.ensures)
+    book-made reading c.args.bytes.now file parts c.in_ok-pages.pages.items c.in_ok-globals.globals c.read_pages.new.left_out.items c.in_ok-file.file.cut_off c.in_ok-file.ensures.value known split.0 split.1 counted c.in_ok-pages.ensures.value named left (sym c.in_ok-file.ensures.cut_off)
 
 pub invariant_of-result : goal.invariant_of-result
 invariant_of-result g c =
@@ -111,11 +113,6 @@ pub returns-in_err-globals-clause-errors : goal.returns-in_err-globals-clause-er
 returns-in_err-globals-clause-errors g c =
     let e = err_from_is_err_and c.from_residual-in_err-globals.result c.from_residual-in_err-globals.ensures.1 in
     rw (e.1, e.2) (returned_error (Ok _) _ tt c.in_err-globals.ensures.value)
-
-pub returns-in_err-fault-clause-errors : goal.returns-in_err-fault-clause-errors
-returns-in_err-fault-clause-errors g c =
-    let e = err_from_is_err_and c.from_residual-in_err-fault.result c.from_residual-in_err-fault.ensures.1 in
-    rw (e.1, e.2) (returned_error (Ok _) _ tt c.in_err-fault.ensures)
 
 pub returns-in_err-pages-clause-value : goal.returns-in_err-pages-clause-value
 returns-in_err-pages-clause-value g c =
@@ -159,10 +156,6 @@ returns-clause-taken g c =
     let split = parts-are (of_page 0 file.1) (by_pages file.1) parts c.in_ok-segments.ensures in
     rw (c.in_ok-file.ensures.value, split.0, sym c.deref-2.ensures.value, sym c.deref-3.ensures.value) c.in_ok-globals.ensures.taken
 
-pub returns-in_err-fault-clause-causes : goal.returns-in_err-fault-clause-causes
-unfolding book_at
-returns-in_err-fault-clause-causes g c = file_cause c.args.reading c.args.bytes.now _ (search rules)
-
 pub returns-in_err-file-clause-causes : goal.returns-in_err-file-clause-causes
 unfolding book_at
 returns-in_err-file-clause-causes g c = file_cause c.args.reading c.args.bytes.now _ (search rules)
@@ -190,10 +183,9 @@ pub returns-in_err-clone-2-clause-causes : goal.returns-in_err-clone-2-clause-ca
 returns-in_err-clone-2-clause-causes g c = file_cause c.args.reading c.args.bytes.now _ (search rules)
 
 pub returns-in_err-clone-3-clause-causes : goal.returns-in_err-clone-3-clause-causes
-returns-in_err-clone-3-clause-causes g c = file_cause c.args.reading c.args.bytes.now _ (search rules)
+returns-in_err-clone-3-clause-causes g c =
+    let e = err_from_is_err_and c.from_residual-in_err-clone-3.result c.from_residual-in_err-clone-3.ensures.1 in
+    file_cause c.args.reading c.args.bytes.now _ (rw e.1 (inl e.2))
 
 pub returns-in_err-clone-4-clause-causes : goal.returns-in_err-clone-4-clause-causes
 returns-in_err-clone-4-clause-causes g c = file_cause c.args.reading c.args.bytes.now _ (search rules)
-
-pub returns-in_err-clone-5-clause-causes : goal.returns-in_err-clone-5-clause-causes
-returns-in_err-clone-5-clause-causes g c = file_cause c.args.reading c.args.bytes.now _ (search rules)

@@ -1,5 +1,5 @@
 use Rattle.std.proofs.Common.{◌≡◌, drop, max}
-use Rattle.jbig2_base.specs.inner.SegmentViews.{segment_views}
+use Rattle.jbig2_framing.specs.inner.SegmentViews.{segment_views}
 use Rattle.jbig2_page.specs.Page.{regions_height}
 use Rattle.jbig2_page.proofs.page.beginning.regions_height.Given as goal
 

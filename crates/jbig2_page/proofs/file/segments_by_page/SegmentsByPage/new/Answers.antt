@@ -1,8 +1,8 @@
 use Rattle.std.proofs.Common.{◌∙◌, List, Ok, ap, arith, inl, length, sym}
 use Rattle.std.proofs.lemmas.List.{length-map}
 use Rattle.std.specs.Vec.Iter.{into_iter_items}
-use Rattle.jbig2_base.specs.inner.SegmentViews.{segment_view, segment_views}
-use Rattle.jbig2_base.specs.Segment.{SegmentView}
+use Rattle.jbig2_framing.specs.inner.SegmentViews.{segment_view, segment_views}
+use Rattle.jbig2_framing.specs.Segment.{SegmentView}
 use Rattle.jbig2_page.specs.Files.{by_pages}
 use Rattle.jbig2_page.proofs.ByPages.{has-none, has-more, has-all}
 use Rattle.jbig2_page.proofs.file.segments_by_page.SegmentsByPage.new.Goals as goal

@@ -1,0 +1,21 @@
+# Fetches a source package of Debian's into a new folder. Sourced.
+
+# fetch_source PACKAGE FOLDER PATTERN ..: unpacks the files of the package's archive that match, below its first folder, and
+# writes the package's version to the file "version". ARCHIVE may name an archive PACKAGE_VERSION.orig.tar.xz that is here.
+fetch_source() {
+    local package=$1 folder=$2 archive=${ARCHIVE:-}
+    shift 2
+    rm -rf -- "$folder"
+    mkdir -p -- "$folder"
+    if [ -z "$archive" ]; then
+        echo "fetching the source package $package" >&2
+        (cd -- "$folder" && apt-get source --quiet --download-only --tar-only "$package" >&2) || {
+            echo "apt-get can't fetch it: a line deb-src of Debian has to be in /etc/apt/sources.list, and then apt-get update" >&2
+            return 1
+        }
+        archive=$(ls -- "$folder/$package"_*.orig.tar.*)
+    fi
+    nice tar -xf "$archive" -C "$folder" --strip-components=1 --wildcards "${@/#/*/}"
+    basename -- "$archive" | sed 's/^[^_]*_\(.*\)\.orig\.tar\..*$/\1/' >"$folder/version"
+    [ -n "${ARCHIVE:-}" ] || rm -f -- "$folder/$package"_*.orig*
+}

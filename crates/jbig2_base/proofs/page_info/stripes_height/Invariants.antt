@@ -1,7 +1,0 @@
-use Rattle.std.proofs.Common.{◌≡◌, drop, max}
-use Rattle.jbig2_base.specs.PageInfo.{stripes_height}
-use Rattle.jbig2_base.specs.inner.SegmentViews.{segment_views}
-use Rattle.jbig2_base.proofs.page_info.stripes_height.Given as goal
-
-abbrev pub invariant-loop-segment : goal.invariant-loop-segment
-invariant-loop-segment g l = max l.height (stripes_height (segment_views (drop l.segment-index l.segments))) ≡ stripes_height (segment_views l.segments)

@@ -1,0 +1,105 @@
+"""Pages that are cut off, or that refer to what isn't there: `Page.is_complete`, and a warning."""
+
+from __future__ import annotations
+
+import copy
+import pickle
+import unittest
+import warnings
+
+import hayro_jbig2
+from pages import EXAMPLE, GLOBALS, PAGE, TEXT
+
+BOOK = EXAMPLE.read_bytes()
+# Regions of one black pixel, numbers 2 to 5.
+REGION = "000000%02X 26 00 01 0000001A 00000001 00000001 000000000000000000 00 03FFFDFF02FEFEFE"
+REGIONS = b"".join(bytes.fromhex(REGION % number) for number in range(2, 6))
+# The text region of TEXT, which refers to number 0 besides: no dictionary.
+OTHER_TEXT = TEXT.replace(bytes.fromhex("06 20 01 01"), bytes.fromhex("06 40 00 01 01"))
+READINGS = {"lenient": {}, "salvage": {"salvage": True}}
+
+
+class Incomplete(unittest.TestCase):
+    def decoded(self, data, **how):
+        """The page of data that is incomplete, with its warning."""
+        with self.assertWarns(hayro_jbig2.IncompletePageWarning) as caught:
+            page = hayro_jbig2.decode(data, **how)
+        self.assertEqual(caught.filename, __file__)
+        self.assertFalse(page.is_complete)
+        self.assertEqual(str(caught.warning), f"page {page.number} is incomplete: {page.passed_over}")
+        self.assertNotIn("4294967295", str(caught.warning))
+        with warnings.catch_warnings():
+            warnings.simplefilter("error")
+            self.assertEqual(hayro_jbig2.decode(data, **how, warn=False), page)
+        with self.assertRaises(hayro_jbig2.DecodeError):
+            hayro_jbig2.decode(data, **{**how, "salvage": False}, strict=True)
+        return page
+
+    def setUp(self):
+        warnings.simplefilter("error")
+        self.addCleanup(warnings.resetwarnings)
+
+    def test_each_cut(self):
+        data = PAGE.read_bytes() + REGIONS
+        for name, how in READINGS.items():
+            self.assertTrue(hayro_jbig2.decode(data, **how).is_complete)
+            for cut, segment, row in (len(data) // 3, 2, b"\0"), (len(data) // 2, 3, b"\x80"), (-1, 5, b"\x80"):
+                with self.subTest(reading=name, cut=cut):
+                    page = self.decoded(data[:cut], **how)
+                    first = page.passed_over.first
+                    self.assertEqual((page.passed_over.count, first.segment_number), (1, segment))
+                    self.assertEqual((page.rows, first.error.variant), (row, "UnexpectedEof"))
+                    self.assertEqual(page.left_out.cut_off.segment_number, segment)
+
+    def test_a_cut_within_a_number(self):
+        for how in READINGS.values():
+            page = self.decoded(TEXT + b"\0\0\0", globals=GLOBALS, **how)
+            self.assertEqual((page.rows, page.passed_over.count), (b"\x80", 1))
+            self.assertIsNone(page.passed_over.first.segment_number)
+            self.assertEqual(page.lacks, ["unexpected end of input"])
+            for end in b"\n", b"\r\n":
+                page = hayro_jbig2.decode(TEXT + end, globals=GLOBALS + end, **how)
+                self.assertEqual((page.rows, page.left_out.cut_off), (b"\x80", None))
+                self.assertTrue(page.is_complete)
+
+    def test_symbols_that_are_not_there(self):
+        for how in READINGS.values():
+            page = self.decoded(TEXT, **how)
+            self.assertEqual((page.rows, page.passed_over.first.segment_number), (b"\0", 2))
+            page = self.decoded(OTHER_TEXT, globals=GLOBALS, **how)
+            self.assertEqual((page.rows, page.passed_over.count), (b"\x80", 1))
+            self.assertEqual(page.passed_over.first.error.variant, "InvalidReference")
+            for other in pickle.loads(pickle.dumps(page)), copy.deepcopy(page):
+                self.assertEqual((other, other.lacks), (page, page.lacks))
+
+    def test_globals_that_lack_something(self):
+        """A dictionary that refers to number 0, which isn't there: the page finds it, and its symbols may be others."""
+        lacking = GLOBALS.replace(bytes.fromhex("00000001 00 00"), bytes.fromhex("00000001 00 20 00"), 1)
+        for how in READINGS.values():
+            shared = hayro_jbig2.Globals(lacking, **how)
+            self.assertEqual(shared.left_out.passed_over.first.error.variant, "InvalidReference")
+            page = hayro_jbig2.decode(TEXT, globals=shared, **how, warn=False)
+            self.assertEqual((page.passed_over.count, page.is_complete), (0, False))
+            self.assertEqual(page.lacks, ["what pages share: segment 1: segment refers to an invalid segment"])
+
+    def test_a_file_whose_second_page_is_cut_off(self):
+        data = BOOK[: BOOK.index(bytes.fromhex("31 00 02 00000000")) - 5]
+        for how in READINGS.values():
+            first = hayro_jbig2.decode(data, **how)
+            self.assertEqual((first, first.is_complete), (hayro_jbig2.decode(BOOK), True))
+            second = self.decoded(data, page=1, **how)
+            self.assertEqual(second.passed_over.count, 1)
+            self.assertEqual(second.passed_over.first.segment_number, second.left_out.cut_off.segment_number)
+            drawn = hayro_jbig2.pages(data, **how)
+            self.assertEqual(next(drawn), first)
+            with self.assertWarns(hayro_jbig2.IncompletePageWarning) as caught:
+                next(drawn)
+            self.assertEqual(caught.filename, __file__)
+
+    def test_a_whole_file_has_no_warning(self):
+        for page in hayro_jbig2.pages(BOOK):
+            self.assertEqual((page.is_complete, page.lacks, page.left_out.texts), (True, [], []))
+
+
+if __name__ == "__main__":
+    unittest.main()

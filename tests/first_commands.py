@@ -1,0 +1,177 @@
+#!/usr/bin/env python3
+"""Runs the first commands of a small copy of the repository as on other computers: another processor or system, an older
+processor, another C library, no compiler, no toolchain. The compiler only notes what it is to compile: portable/test compiles
+it. Takes seconds.
+
+usage: tests/first_commands.py [-v] [NAME ..]
+"""
+import os
+import shutil
+import subprocess
+import tempfile
+import unittest
+
+from which_program import copy_repository
+
+TOOLS = (
+    "bash env readlink find cmp sha256sum sort xargs cut grep cat mkdir mktemp head rm mv cp chmod printf tr sed ar dirname "
+    "basename realpath"
+).split()
+# What it makes ends with status 77. It preprocesses words.c as glibc or another C library does.
+COMPILER = """#!/bin/bash
+echo "$@" >>{log}
+output=a.out
+while [ "$#" -gt 0 ]; do
+    case $1 in
+    -E) [ ! -e {room}/musl ] || echo "error: this program needs the GNU C library (glibc) 2.33" >&2; exit 0 ;;
+    -o) output=$2 ;;
+    esac
+    shift
+done
+printf '#!/bin/sh\\nexit 77\\n' >"$output"
+chmod +x "$output"
+"""
+NO_TEXT = "dist/ has no text of it for this computer ({})"
+COMPILED = "so the C of portable/ is compiled"
+FEATURES = "processor\t: 0\nflags\t\t: fpu sse sse2 pni ssse3 cx16 sse4_1 sse4_2 popcnt lahf_lm\n"
+
+
+class Case(unittest.TestCase):
+    """A test with a copy of the repository, and with a PATH of its own."""
+
+    def setUp(self):
+        room = tempfile.TemporaryDirectory()
+        self.addCleanup(room.cleanup)
+        self.room = room.name
+        self.top = os.path.join(room.name, "repository")
+        copy_repository(self.top)
+        self.bin = os.path.join(room.name, "bin")
+        os.mkdir(self.bin)
+        for name in TOOLS:
+            os.symlink(shutil.which(name), os.path.join(self.bin, name))
+        self.log = os.path.join(room.name, "log")
+        self.write("cc", COMPILER.format(log=self.log, room=room.name))
+        self.be("Linux", "x86_64")
+
+    def write(self, name, text):
+        path = os.path.join(self.bin, name)
+        with open(path, "w", encoding="utf-8") as file:
+            file.write(text)
+        os.chmod(path, 0o755)
+
+    def be(self, system, processor):
+        self.write("uname", f"#!/bin/sh\necho {system} {processor}\n")
+
+    def run_words(self, *words, **variables):
+        environment = {"PATH": self.bin, "HOME": self.room, **variables}
+        ended = subprocess.run(words, env=environment, cwd=self.top, capture_output=True, text=True)
+        return ended.returncode, ended.stderr
+
+    def compiled(self):
+        """What was handed to the compiler since this was asked last."""
+        if not os.path.exists(self.log):
+            return ""
+        with open(self.log, encoding="utf-8") as file:
+            text = file.read()
+        os.remove(self.log)
+        return text
+
+    def assert_compiles(self, reason, **variables):
+        status, said = self.run_words("./jbig2-decode", **variables)
+        self.assertEqual(status, 77, said)
+        self.assertIn(f"jbig2-decode: {reason}, {COMPILED}", said)
+        self.assertEqual(said.count("\n"), 1)
+        self.assertIn("portable/hayro_jbig2_module.c", self.compiled())
+        # The next run compiles nothing and says nothing.
+        self.assertEqual(self.run_words("./jbig2-decode", **variables), (77, ""))
+        self.assertNotIn("hayro_jbig2_module.c", self.compiled())
+
+
+class Program(Case):
+    def test_another_processor_or_system(self):
+        for system in ("Linux", "riscv64"), ("Darwin", "arm64"), ("FreeBSD", "amd64"), ("Linux", "aarch64"):
+            with self.subTest(system):
+                self.be(*system)
+                self.assert_compiles(NO_TEXT.format(" ".join(system)))
+                shutil.rmtree(os.path.join(self.top, "dist", "out"))
+
+    def test_the_text_comes_first(self):
+        with open("/proc/cpuinfo", encoding="utf-8") as file:
+            if " popcnt " not in file.read():
+                self.skipTest("this processor is older")
+        self.assertEqual(self.run_words("./jbig2-decode"), (77, ""))
+        compiled = self.compiled()
+        self.assertIn("dist/x86_64/jbig2-decode.s", compiled)
+        self.assertNotIn("hayro_jbig2_module.c", compiled)
+        # Another program follows at once where the reasons change.
+        self.assert_compiles("HAYRO_JBIG2_PORTABLE is 1", HAYRO_JBIG2_PORTABLE="1")
+
+    def test_another_c_library(self):
+        open(os.path.join(self.room, "musl"), "w", encoding="utf-8").close()
+        self.assert_compiles("its text in dist/ needs the GNU C library (glibc) 2.33 or later")
+
+    def test_no_compiler(self):
+        os.remove(os.path.join(self.bin, "cc"))
+        for system in ("Linux", "x86_64"), ("Linux", "riscv64"):
+            self.be(*system)
+            status, said = self.run_words("./jbig2-decode")
+            self.assertEqual(status, 1)
+            self.assertIn("there is no C compiler (cc gcc clang): install one, or set CC to its name", said)
+            self.assertNotIn("half an hour", said)
+
+    def test_no_folder_and_the_cache(self):
+        self.be("Linux", "riscv64")
+        # A file where a folder would be made, which stops the superuser too.
+        open(os.path.join(self.top, "dist", "out"), "w", encoding="utf-8").close()
+        self.assert_compiles(NO_TEXT.format("Linux riscv64"))
+        self.assertTrue(os.path.isdir(os.path.join(self.room, ".cache", "hayro_jbig2")))
+        status, said = self.run_words("./jbig2-decode", HOME="/dev/null")
+        self.assertEqual(status, 1)
+        self.assertIn("no folder for it can be written", said)
+
+    def test_changed_sources(self):
+        self.be("Linux", "riscv64")
+        with open(os.path.join(self.top, "crates/jbig2_mmr/src/lib.rt"), "a", encoding="utf-8") as file:
+            file.write("// Another.\n")
+        status, said = self.run_words("./jbig2-decode")
+        self.assertEqual(status, 1)
+        self.assertIn("its command rt is not on the PATH", said)
+
+
+class Library(Case):
+    def test_another_processor(self):
+        self.be("Linux", "riscv64")
+        status, said = self.run_words("c/build", "--text")
+        self.assertEqual(status, 0, said)
+        self.assertIn(f"c/build: {NO_TEXT.format('Linux riscv64')}, {COMPILED}", said)
+        self.assertIn("portable/hayro_jbig2_module.c", self.compiled())
+        for name in "libhayro_jbig2.a", "libhayro_jbig2.so.0":
+            self.assertTrue(os.path.exists(os.path.join(self.top, "c", "out", name)))
+
+    def test_no_compiler(self):
+        os.remove(os.path.join(self.bin, "cc"))
+        self.be("Linux", "riscv64")
+        status, said = self.run_words("c/build", "--text")
+        self.assertEqual(status, 1)
+        self.assertIn("there is no C compiler", said)
+
+
+class Level(Case):
+    """Whether a processor is of the level x86-64-v2, by what the kernel lists."""
+
+    def has_level(self, text):
+        path = os.path.join(self.room, "cpuinfo")
+        with open(path, "w", encoding="utf-8") as file:
+            file.write(text)
+        line = f"dist=$PWD/dist; . dist/assembling.sh; has_level {path}"
+        return self.run_words("bash", "-c", line)[0] == 0
+
+    def test_features(self):
+        self.assertTrue(self.has_level(FEATURES))
+        for name in "pni", "ssse3", "sse4_1", "sse4_2", "popcnt":
+            self.assertFalse(self.has_level(FEATURES.replace(f" {name} ", " ")), name)
+        self.assertTrue(self.has_level("processor : 0\n"), "where no features are listed, the program itself looks")
+
+
+if __name__ == "__main__":
+    unittest.main()
