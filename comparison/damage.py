@@ -21,7 +21,7 @@ from compare import our_picture, their_picture
 from corpus import given_corpus, own_corpus
 from limited import MOST_OUTPUT, Runner
 from root import ROOT
-from jbig2_encoder.framing import parts_of
+from conformance.runner.segments import parts_of
 from jbig2_encoder.pictures import pixels
 
 SIZE_OF_CORPUS = 400
