@@ -9,10 +9,12 @@ import subprocess
 import sys
 import tempfile
 
+from bindings import STRUCTURES, loaded
+
 HERE = os.path.dirname(os.path.abspath(__file__))
 CRATES = os.path.join(os.path.dirname(HERE), "crates")
 DATA = os.path.join(CRATES, "jbig2_decode", "data")
-BYTES = (ctypes.c_char_p, ctypes.c_size_t)
+PageInfo, PassedOver, LeftOut = (STRUCTURES[name] for name in ("page_info", "passed_over", "left_out"))
 failures = []
 checks = 0
 
@@ -40,57 +42,6 @@ def compare_texts(library):
     header = text_of(HERE, "hayro_jbig2.h")
     parts = re.findall(r"^#define HAYRO_JBIG2_VERSION_\w+ (\d+)$", header, re.M)
     check(library.hayro_jbig2_version().decode() == ".".join(parts), "the version is that of its parts")
-
-
-class PageInfo(ctypes.Structure):
-    _fields_ = [("number", ctypes.c_uint32), ("width", ctypes.c_uint32), ("height", ctypes.c_uint32)]
-
-
-class PassedOver(ctypes.Structure):
-    _fields_ = [("count", ctypes.c_size_t), ("segment", ctypes.c_uint32), ("error", ctypes.c_uint32)]
-
-
-class LeftOut(ctypes.Structure):
-    _fields_ = [
-        ("segments", ctypes.c_size_t),
-        ("segment", ctypes.c_uint32),
-        ("error", ctypes.c_uint32),
-        ("pages", ctypes.c_size_t),
-        ("page_error", ctypes.c_uint32),
-        ("list_error", ctypes.c_uint32),
-    ]
-
-
-def declare_handles(library):
-    """The calls on files and contexts; None as memory is malloc and free."""
-    handle, made = ctypes.c_void_p, ctypes.POINTER(ctypes.c_void_p)
-    library.hayro_jbig2_file_new.argtypes = [ctypes.c_void_p, ctypes.c_bool, *BYTES, made]
-    library.hayro_jbig2_file_new_salvaged.argtypes = [ctypes.c_void_p, ctypes.c_uint64, *BYTES, made]
-    library.hayro_jbig2_file_get_left_out.argtypes = [handle, ctypes.POINTER(LeftOut)]
-    library.hayro_jbig2_file_page_count.argtypes = [handle]
-    library.hayro_jbig2_file_page_count.restype = ctypes.c_size_t
-    library.hayro_jbig2_file_get_info.argtypes = [handle, ctypes.c_size_t, ctypes.POINTER(PageInfo)]
-    library.hayro_jbig2_file_draw.argtypes = [handle, ctypes.c_size_t, handle]
-    library.hayro_jbig2_context_new.argtypes = [ctypes.c_void_p, made]
-    library.hayro_jbig2_context_rows.argtypes = [handle, ctypes.c_size_t, *BYTES]
-    library.hayro_jbig2_context_get_passed_over.argtypes = [handle, ctypes.POINTER(PassedOver)]
-    for call in library.hayro_jbig2_file_free, library.hayro_jbig2_context_free:
-        call.argtypes = [handle]
-        call.restype = None
-
-
-def loaded(path):
-    library = ctypes.CDLL(path)
-    library.hayro_jbig2_page_count.argtypes = [ctypes.c_bool, *BYTES, ctypes.POINTER(ctypes.c_size_t)]
-    sizes = [ctypes.POINTER(ctypes.c_uint32)] * 2
-    library.hayro_jbig2_page_size.argtypes = [ctypes.c_bool, *BYTES, ctypes.c_size_t, *sizes]
-    for call in library.hayro_jbig2_page_image, library.hayro_jbig2_page_packed:
-        call.argtypes = [ctypes.c_bool, *BYTES, ctypes.c_size_t, *BYTES]
-    declare_handles(library)
-    library.hayro_jbig2_error_text.argtypes = [ctypes.c_uint32]
-    library.hayro_jbig2_error_text.restype = ctypes.c_char_p
-    library.hayro_jbig2_version.restype = ctypes.c_char_p
-    return library
 
 
 def unpacked(rows, width):
