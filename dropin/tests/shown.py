@@ -22,10 +22,11 @@ import random
 import sys
 import tempfile
 
-from hostile import SOME_PEERS, Stream, damaged
+from hostile import SOME_PEERS, Stream
 from pages import wrong_in_pdf
 from peers import OURS, PEERS, SYSTEM, Library, Peer, pictures_by
 
+from conformance.runner.damage import damaged
 from conformance.runner.embedding import embedded_page, image_of
 from conformance.runner.pdf import Image
 from conformance.runner.pictures import Picture, pictures_of
