@@ -33,7 +33,8 @@ def text_of(*path):
 
 
 def compare_texts(library):
-    """The library's own texts with those of the definitions, and its version with the header's. tests/errors compares the rest."""
+    """The library's own texts with those of the definitions, and its version with the header's. tests/errors compares the
+    other lists."""
     definitions = text_of(CRATES, "jbig2_base", "specs", "ErrorTexts.antt")
     texts = re.findall(r'^\w+_text \w+\.\w+ = codes "(.*)"$', definitions, re.M)
     check(texts, "the definitions have texts")

@@ -55,6 +55,7 @@ def pdf_of_images(images, packed):
         image = add_image(objects, words, streams.stream, streams.shared)
         drawing = objects.add(stream_of(b"", b"q %d 0 0 %d 0 0 cm /Image Do Q" % (width, height)))
         box = b"/MediaBox [0 0 %d %d] /Contents %s" % (width, height, drawing)
-        kids.append(objects.add(b"<< /Type /Page /Parent %s %s /Resources << /XObject << /Image %s >> >> >>" % (tree, box, image)))
+        page = b"<< /Type /Page /Parent %s %s /Resources << /XObject << /Image %s >> >> >>" % (tree, box, image)
+        kids.append(objects.add(page))
     objects.contents[0] = b"<< /Type /Pages /Kids [%s] /Count %d >>" % (b" ".join(kids), len(kids))
     return objects.file(objects.add(b"<< /Type /Catalog /Pages %s >>" % tree))
