@@ -60,9 +60,7 @@ static void *room(size_t size) {
     return block == NULL ? (fail("out of memory"), NULL) : block;
 }
 
-static size_t size_of(uint32_t width, uint32_t height) {
-    return ((size_t)width + 7) / 8 * height;
-}
+static size_t size_of(uint32_t width, uint32_t height) { return ((size_t)width + 7) / 8 * height; }
 
 /* Room for a page, which is made for the first one. */
 static uint8_t *rows_for(struct worker *worker, uint32_t width, uint32_t height) {
@@ -94,13 +92,9 @@ static void draw_by_bytes(struct worker *worker) {
     compare(worker, rows);
 }
 
-static void do_nothing(struct worker *worker) {
-    (void)worker;
-}
+static void do_nothing(struct worker *worker) { (void)worker; }
 
-static void share_nothing(struct worker *workers, unsigned count) {
-    (void)workers, (void)count;
-}
+static void share_nothing(struct worker *workers, unsigned count) { (void)workers, (void)count; }
 
 /* Handles: globals that all threads share, and a context for each. */
 
@@ -110,9 +104,7 @@ static void share_globals(struct worker *workers, unsigned count) {
         want(hayro_jbig2_globals_share(NULL, workers[0].shared, &workers[i].shared));
 }
 
-static void begin_handles(struct worker *worker) {
-    want(hayro_jbig2_context_new(NULL, &worker->context));
-}
+static void begin_handles(struct worker *worker) { want(hayro_jbig2_context_new(NULL, &worker->context)); }
 
 static void draw_by_handles(struct worker *worker) {
     hayro_jbig2_page *page = NULL;
@@ -183,9 +175,7 @@ static void draw_by_peer(struct worker *worker) {
     peer.ctx_free(context);
 }
 
-static void end_peer(struct worker *worker) {
-    peer.global_ctx_free(worker->of_peer);
-}
+static void end_peer(struct worker *worker) { peer.global_ctx_free(worker->of_peer); }
 
 static const struct way by_bytes = {share_nothing, do_nothing, draw_by_bytes, do_nothing};
 static const struct way by_handles = {share_globals, begin_handles, draw_by_handles, end_handles};

@@ -1,4 +1,4 @@
-"""Calls the library from Python, and compares its numbers and texts with the sources of the Rattle library.
+"""Calls the library from Python, and compares its texts with those of the Rattle library.
 
 usage: calls.py LIBRARY EXAMPLE, the shared library and the program of example.c
 """
@@ -9,10 +9,12 @@ import subprocess
 import sys
 import tempfile
 
+from bindings import STRUCTURES, loaded
+
 HERE = os.path.dirname(os.path.abspath(__file__))
 CRATES = os.path.join(os.path.dirname(HERE), "crates")
 DATA = os.path.join(CRATES, "jbig2_decode", "data")
-BYTES = (ctypes.c_char_p, ctypes.c_size_t)
+PageInfo, PassedOver, LeftOut = (STRUCTURES[name] for name in ("page_info", "passed_over", "left_out"))
 failures = []
 checks = 0
 
@@ -30,84 +32,17 @@ def text_of(*path):
         return file.read()
 
 
-def in_capitals(name):
-    return re.sub(r"(?<=[a-z])(?=[A-Z])", "_", name).upper()
-
-
-def library_errors():
-    """The errors and their texts as the definitions list them, each as (enum, variant, text)."""
+def compare_texts(library):
+    """The library's own texts with those of the definitions, and its version with the header's. tests/errors compares the
+    other lists."""
     definitions = text_of(CRATES, "jbig2_base", "specs", "ErrorTexts.antt")
-    return re.findall(r'^\w+_text (\w+)\.(\w+) = codes "(.*)"$', definitions, re.M)
-
-
-def compare_numbers(library):
-    """The header's, the definitions' and the library's own."""
-    header = text_of(HERE, "hayro_jbig2.h")
-    numbers = {name: int(number) for name, number in re.findall(r"^    HAYRO_JBIG2_(\w+) = (\d+)", header, re.M)}
-    defined = re.findall(r"^\w+_number (\w+)\.(\w+) = (\d+)$", text_of(HERE, "source/specs/Numbers.antt.txt"), re.M)
-    defined = {(enum, variant): int(number) for enum, variant, number in defined}
-    errors = library_errors()
-    check(len(errors) == 41 and len(defined) == 41 and len(numbers) == 46, "there are 41 errors")
-    for number, (enum, variant, text) in enumerate(errors, 1):
-        name = in_capitals(variant) if enum == "errors" else enum.upper() + "_" + in_capitals(variant)
-        check(numbers.get(name) == number, f"HAYRO_JBIG2_{name} is {number} in the header")
-        check(defined.get((enum, variant)) == number, f"{enum}.{variant} is {number} in the definitions")
+    texts = re.findall(r'^\w+_text \w+\.\w+ = codes "(.*)"$', definitions, re.M)
+    check(texts, "the definitions have texts")
+    for number, text in enumerate(texts, 1):
         check(library.hayro_jbig2_error_text(number) == text.encode(), f"the text of {number} is {text}")
-    for name, number in ("OK", 0), ("OTHER_SIZE", 100), ("NO_SUCH_PAGE", 101), ("OTHER_HANDLE", 102), ("WORK_LIMIT", 103):
-        check(numbers.get(name) == number, f"HAYRO_JBIG2_{name} is {number} in the header")
+    header = text_of(HERE, "hayro_jbig2.h")
     parts = re.findall(r"^#define HAYRO_JBIG2_VERSION_\w+ (\d+)$", header, re.M)
     check(library.hayro_jbig2_version().decode() == ".".join(parts), "the version is that of its parts")
-
-
-class PageInfo(ctypes.Structure):
-    _fields_ = [("number", ctypes.c_uint32), ("width", ctypes.c_uint32), ("height", ctypes.c_uint32)]
-
-
-class PassedOver(ctypes.Structure):
-    _fields_ = [("count", ctypes.c_size_t), ("segment", ctypes.c_uint32), ("error", ctypes.c_uint32)]
-
-
-class LeftOut(ctypes.Structure):
-    _fields_ = [
-        ("segments", ctypes.c_size_t),
-        ("segment", ctypes.c_uint32),
-        ("error", ctypes.c_uint32),
-        ("pages", ctypes.c_size_t),
-        ("page_error", ctypes.c_uint32),
-        ("list_error", ctypes.c_uint32),
-    ]
-
-
-def declare_handles(library):
-    """The calls on files and contexts; None as memory is malloc and free."""
-    handle, made = ctypes.c_void_p, ctypes.POINTER(ctypes.c_void_p)
-    library.hayro_jbig2_file_new.argtypes = [ctypes.c_void_p, ctypes.c_bool, *BYTES, made]
-    library.hayro_jbig2_file_new_salvaged.argtypes = [ctypes.c_void_p, ctypes.c_uint64, *BYTES, made]
-    library.hayro_jbig2_file_get_left_out.argtypes = [handle, ctypes.POINTER(LeftOut)]
-    library.hayro_jbig2_file_page_count.argtypes = [handle]
-    library.hayro_jbig2_file_page_count.restype = ctypes.c_size_t
-    library.hayro_jbig2_file_get_info.argtypes = [handle, ctypes.c_size_t, ctypes.POINTER(PageInfo)]
-    library.hayro_jbig2_file_draw.argtypes = [handle, ctypes.c_size_t, handle]
-    library.hayro_jbig2_context_new.argtypes = [ctypes.c_void_p, made]
-    library.hayro_jbig2_context_rows.argtypes = [handle, ctypes.c_size_t, *BYTES]
-    library.hayro_jbig2_context_get_passed_over.argtypes = [handle, ctypes.POINTER(PassedOver)]
-    for call in library.hayro_jbig2_file_free, library.hayro_jbig2_context_free:
-        call.argtypes = [handle]
-        call.restype = None
-
-
-def loaded(path):
-    library = ctypes.CDLL(path)
-    library.hayro_jbig2_page_count.argtypes = [ctypes.c_bool, *BYTES, ctypes.POINTER(ctypes.c_size_t)]
-    sizes = [ctypes.POINTER(ctypes.c_uint32)] * 2
-    library.hayro_jbig2_page_size.argtypes = [ctypes.c_bool, *BYTES, ctypes.c_size_t, *sizes]
-    for call in library.hayro_jbig2_page_image, library.hayro_jbig2_page_packed:
-        call.argtypes = [ctypes.c_bool, *BYTES, ctypes.c_size_t, *BYTES]
-    declare_handles(library)
-    library.hayro_jbig2_error_text.argtypes = [ctypes.c_uint32]
-    library.hayro_jbig2_error_text.restype = ctypes.c_char_p
-    library.hayro_jbig2_version.restype = ctypes.c_char_p
-    return library
 
 
 def unpacked(rows, width):
@@ -243,11 +178,11 @@ def try_limit(example):
 
 def main(path, example):
     library = loaded(path)
-    compare_numbers(library)
+    compare_texts(library)
     compare_pages(library, example)
     try_incomplete_pages(example)
     try_faults(example)
-    print(f"{checks} checks of calls from Python, and of numbers and texts, {len(failures)} failed")
+    print(f"{checks} checks of calls from Python, and of texts, {len(failures)} failed")
     return bool(failures)
 
 

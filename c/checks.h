@@ -58,8 +58,18 @@ static const uint64_t third_page[8] = {
 
 /* Row R9.2 of crates/jbig2_rows/README.md: a text region whose symbols lie in the globals. */
 static void page_with_globals(const struct bytes *page, struct bytes *globals, struct bytes *taken) {
-    append(globals, "\0\0\0\1\0\0\1\0\0\0\x0F" "\0\1\0\0\0\1\0\0\0\1\x5F\x80\x80\0\x40", 26);
+    append(globals,
+           "\0\0\0\1\0\0\1\0\0\0\x0F"
+           "\0\1\0\0\0\1\0\0\0\1\x5F\x80\x80\0\x40",
+           26);
     append(taken, page->at, page->length);
-    append(taken, "\0\0\0\2\6\x20\1\1\0\0\0\x2D" "\0\0\0\x08\0\0\0\1\0\0\0\0\0\0\0\0\0", 29);
-    append(taken, "\0\x11\0\0\0\0\0\1\1" "\0\0\0\0\0\0\0\0\0\0\0\0\0\0\0\0\0" "\0\4", 28);
+    append(taken,
+           "\0\0\0\2\6\x20\1\1\0\0\0\x2D"
+           "\0\0\0\x08\0\0\0\1\0\0\0\0\0\0\0\0\0",
+           29);
+    append(taken,
+           "\0\x11\0\0\0\0\0\1\1"
+           "\0\0\0\0\0\0\0\0\0\0\0\0\0\0\0\0\0"
+           "\0\4",
+           28);
 }

@@ -371,7 +371,10 @@ int main(int count, char **words) {
     page_with_globals(&page, &globals, &taken);
     /* Two immediate generic regions, segments 5 and 6, without their headers. */
     append(&faulty, page.at, page.length);
-    append(&faulty, "\0\0\0\5\x26\0\1\0\0\0\0" "\0\0\0\6\x26\0\1\0\0\0\0", 22);
+    append(&faulty,
+           "\0\0\0\5\x26\0\1\0\0\0\0"
+           "\0\0\0\6\x26\0\1\0\0\0\0",
+           22);
 
     struct counted counted = {0};
     const hayro_jbig2_memory memory = {take, give_back, &counted};

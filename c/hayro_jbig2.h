@@ -300,8 +300,8 @@ typedef struct hayro_jbig2_segment_info {
 
 #define HAYRO_JBIG2_UNKNOWN_LENGTH UINT64_MAX
 
-uint32_t hayro_jbig2_segment_get_info(const hayro_jbig2_memory *memory, bool strict, const uint8_t *bytes, size_t length,
-                                      hayro_jbig2_segment_info *info);
+uint32_t hayro_jbig2_segment_get_info(const hayro_jbig2_memory *memory, bool strict, const uint8_t *bytes,
+                                      size_t length, hayro_jbig2_segment_info *info);
 /* Writes the numbers of the segments that it refers to. `count` is `references` of the info, else the call returns
  * HAYRO_JBIG2_OTHER_SIZE. */
 uint32_t hayro_jbig2_segment_get_references(const hayro_jbig2_memory *memory, bool strict, const uint8_t *bytes,

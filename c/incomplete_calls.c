@@ -122,10 +122,9 @@ static void tells_which_page_is_cut_off(void) {
         hayro_jbig2_context *context = NULL;
         hayro_jbig2_left_out left_out = {9, 9, 9, 9, 9, 9};
         hayro_jbig2_passed_over found[2] = {{9, 9, 9}, {9, 9, 9}};
-        uint32_t answer =
-            reading == SALVAGE
-                ? hayro_jbig2_file_new_salvaged(NULL, HAYRO_JBIG2_NO_WORK_LIMIT, book.at, length, &file)
-                : hayro_jbig2_file_new(NULL, false, book.at, length, &file);
+        uint32_t answer = reading == SALVAGE
+                              ? hayro_jbig2_file_new_salvaged(NULL, HAYRO_JBIG2_NO_WORK_LIMIT, book.at, length, &file)
+                              : hayro_jbig2_file_new(NULL, false, book.at, length, &file);
         CHECK(answer == HAYRO_JBIG2_OK && hayro_jbig2_file_page_count(file) == 2);
         CHECK(hayro_jbig2_file_get_left_out(file, &left_out) == HAYRO_JBIG2_OK);
         CHECK(left_out.segments == 1 && left_out.error == CUT && left_out.list_error == CUT);

@@ -121,8 +121,7 @@ static void make_globals(void) {
     if (one_in(2))
         answer = hayro_jbig2_globals_new_salvaged(memory, any_limit(), input.bytes, input.length, &made->globals);
     else if (input.is_damaged || one_in(2))
-        answer =
-            hayro_jbig2_globals_new_within(memory, strict, any_limit(), input.bytes, input.length, &made->globals);
+        answer = hayro_jbig2_globals_new_within(memory, strict, any_limit(), input.bytes, input.length, &made->globals);
     else
         answer = hayro_jbig2_globals_new(memory, strict, input.bytes, input.length, &made->globals);
     expect_new(made, answer, true);

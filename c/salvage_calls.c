@@ -13,18 +13,20 @@
 /* The pieces of the rows, as digits. */
 #define PAGE_OF(number, width, height) "00000000 30 00 " number "00000013" width height "0000000000000000000000"
 #define PAGE PAGE_OF("01", "00000008", "00000001")
-#define REGION(number, y) \
-    "000000" number "26 00 01 0000001A 00000001 00000001 00000000" y "00 00 03FFFDFF02FEFEFE"
+#define REGION(number, y) "000000" number "26 00 01 0000001A 00000001 00000001 00000000" y "00 00 03FFFDFF02FEFEFE"
 #define SYMBOLS(number, page, flags) "000000" number "00 00" page "0000000F" flags "00000001 00000001 5F80800040"
 #define TEXT(number, refers) \
     "000000" number "06 20" refers "01 0000002D 00000008 00000001 00000000 00000000 00 0011 0000 00000001 01" \
     "0000000000000000000000000000000000 0004"
+/* A region of unknown length, number 2, that lacks the marker at its end. */
+#define WITHOUT_END "00000002 26 00 01 FFFFFFFF 00000008 00000001 00000000 00000000 00 00 03FFFDFF02FEFEFE"
 #define JUNK "20202020202020202020202020202020"
 #define FILE_HEADER "974A42320D0A1A0A"
 #define OPEN_HEIGHT "FFFFFFFF"
 /* The number of the segment that the junk begins, and what a list lacks that ends early at a segment. */
 enum { SPACES = 0x20202020 };
-#define ENDED(number, why) {.segments = 1, .segment = number, .error = why, .list_error = why}
+#define ENDED(number, why) \
+    { .segments = 1, .segment = number, .error = why, .list_error = why }
 
 static struct bytes of(const char *digits) {
     struct bytes bytes = {.length = 0};
@@ -95,9 +97,7 @@ static void ends_lists_early(void) {
     const uint32_t cut = HAYRO_JBIG2_PARSE_UNEXPECTED_EOF;
     draws(NULL, PAGE REGION("01", "00000000") JUNK,
           (struct drawn){DOT, .passed = {1, SPACES, reference}, .left_out = ENDED(SPACES, reference)});
-    draws(NULL,
-          PAGE REGION("01", "00000000")
-              "00000002 26 00 01 FFFFFFFF 00000008 00000001 00000000 00000000 00 00 03FFFDFF02FEFEFE",
+    draws(NULL, PAGE REGION("01", "00000000") WITHOUT_END,
           (struct drawn){DOT, .passed = {1, 2, marker}, .left_out = ENDED(2, marker)});
     draws(NULL, PAGE REGION("01", "00000000") "00000002 26",
           (struct drawn){DOT, .passed = {1, 2, cut}, .left_out = ENDED(2, cut)});

@@ -12,11 +12,11 @@ static const struct {
     size_t references;
     uint32_t numbers[2];
 } meant[] = {
-    {0, 0, 11, 24, 0, {0}},      {48, 1, 11, 19, 0, {0}},      {0, 1, 11, 28, 0, {0}},   {7, 1, 13, 49, 2, {0, 2}},
-    {39, 1, 11, 44, 0, {0}},     {16, 1, 11, 45, 0, {0}},      {23, 1, 12, 87, 1, {5}},  {49, 1, 11, 0, 0, {0}},
-    {48, 2, 11, 19, 0, {0}},     {0, 2, 11, 27, 0, {0}},       {7, 2, 13, 31, 2, {0, 9}}, {39, 2, 11, 35, 0, {0}},
-    {16, 2, 11, 28, 0, {0}},     {23, 2, 12, 62, 1, {12}},     {49, 2, 11, 0, 0, {0}},   {48, 3, 11, 19, 0, {0}},
-    {0, 0, 11, 22, 0, {0}},      {0, 3, 12, 32, 1, {16}},      {7, 3, 12, 37, 1, {17}},  {49, 3, 11, 0, 0, {0}},
+    {0, 0, 11, 24, 0, {0}},  {48, 1, 11, 19, 0, {0}},  {0, 1, 11, 28, 0, {0}},    {7, 1, 13, 49, 2, {0, 2}},
+    {39, 1, 11, 44, 0, {0}}, {16, 1, 11, 45, 0, {0}},  {23, 1, 12, 87, 1, {5}},   {49, 1, 11, 0, 0, {0}},
+    {48, 2, 11, 19, 0, {0}}, {0, 2, 11, 27, 0, {0}},   {7, 2, 13, 31, 2, {0, 9}}, {39, 2, 11, 35, 0, {0}},
+    {16, 2, 11, 28, 0, {0}}, {23, 2, 12, 62, 1, {12}}, {49, 2, 11, 0, 0, {0}},    {48, 3, 11, 19, 0, {0}},
+    {0, 0, 11, 22, 0, {0}},  {0, 3, 12, 32, 1, {16}},  {7, 3, 12, 37, 1, {17}},   {49, 3, 11, 0, 0, {0}},
     {51, 0, 11, 0, 0, {0}},
 };
 enum { SEGMENTS = sizeof meant / sizeof meant[0], FILE_HEADER = 13 };
@@ -82,12 +82,13 @@ static void reads_a_region(const struct bytes *file) {
 /* Bytes that end early, a type that isn't listed, and a length that is unknown. */
 static void refuses(void) {
     static const uint8_t unknown_type[] = {0, 0, 0, 1, 63, 0, 1, 0, 0, 0, 0};
-    static const uint8_t unknown_length[] = {0, 0, 0, 1, 38, 0, 1, 255, 255, 255, 255, 0, 0, 0, 8, 0, 0, 0, 1, 0, 0, 0, 0,
-                                             0, 0, 0, 0, 0, 6, 2, 255, 1, 255, 172, 0, 0, 0, 1};
+    static const uint8_t unknown_length[] = {0, 0, 0, 1, 38, 0, 1, 255, 255, 255, 255, 0,   0, 0,   8,   0, 0, 0, 1,
+                                             0, 0, 0, 0, 0,  0, 0, 0,   0,   6,   2,   255, 1, 255, 172, 0, 0, 0, 1};
     hayro_jbig2_segment_info info = {.number = 9};
     size_t taken = 9;
     for (size_t length = 0; length < sizeof unknown_type; length++)
-        CHECK(hayro_jbig2_segment_get_info(NULL, false, unknown_type, length, &info) == HAYRO_JBIG2_PARSE_UNEXPECTED_EOF);
+        CHECK(hayro_jbig2_segment_get_info(NULL, false, unknown_type, length, &info) ==
+              HAYRO_JBIG2_PARSE_UNEXPECTED_EOF);
     CHECK(info.number == 9);
     CHECK(hayro_jbig2_segment_get_info(NULL, true, unknown_type, sizeof unknown_type, &info) ==
           HAYRO_JBIG2_SEGMENT_UNKNOWN_TYPE);

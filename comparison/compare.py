@@ -130,6 +130,14 @@ def their_picture(name, picture_name):
         return file.read(), fault
 
 
+def kept(data, name):
+    """The path of a file of that name, which is written for a look at it."""
+    path = os.path.join(tempfile.gettempdir(), f"{name}.jb2")
+    with open(path, "wb") as file:
+        file.write(data)
+    return path
+
+
 def main():
     count = int(sys.argv[1]) if len(sys.argv) > 1 else 100
     seed = int(sys.argv[2]) if len(sys.argv) > 2 else 1
@@ -148,10 +156,7 @@ def main():
             theirs, their_fault = their_picture(name, theirs_name)
             if not ours or pixels(ours) != pixels(theirs):
                 differing += 1
-                kept = os.path.join(tempfile.gettempdir(), f"differs-{seed}-{turn}.jb2")
-                with open(kept, "wb") as file:
-                    file.write(data)
-                print(f"page {turn} differs ({kept}): {fault} / {their_fault}")
+                print(f"page {turn} differs ({kept(data, f'differs-{seed}-{turn}')}): {fault} / {their_fault}")
     print(f"{count} pages, {differing} differ")
     return 1 if differing else 0
 

@@ -6,9 +6,10 @@ import random
 from compare import random_file
 from root import ROOT
 from symbols import random_document
+from conformance.runner.segments import cut, in_random_access
 from jbig2_encoder.bitmap import Bitmap
 from jbig2_encoder.document import Document
-from jbig2_encoder.framing import GENERIC, cut, in_random_access
+from jbig2_encoder.framing import GENERIC
 from jbig2_encoder.generic import GenericForm, generic_data, row_count
 
 EXAMPLE = os.path.join(ROOT, "crates", "jbig2_decode", "data", "t88-h1.jb2")

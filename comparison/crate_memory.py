@@ -186,7 +186,8 @@ class Walk:
         return region, 0 if flags & 1 else CONTEXTS[template], 0
 
     def text(self, segment, is_sure):
-        """A text region; the codes of its symbols may be refused before its bitmap is made. It has one refined symbol at a time."""
+        """A text region; the codes of its symbols may be refused before its bitmap is made. It has one refined symbol at a
+        time."""
         referred, tables = self.names.referred(segment, self.strict)
         count = sum(len(dictionary.symbols) for dictionary in referred)
         reader = Reader(segment.data)

@@ -17,11 +17,11 @@ import sys
 import tempfile
 import time
 
-from compare import our_picture, their_picture
+from compare import kept, our_picture, their_picture
 from corpus import given_corpus, own_corpus
 from limited import MOST_OUTPUT, Runner
 from root import ROOT
-from jbig2_encoder.framing import parts_of
+from conformance.runner.segments import parts_of
 from jbig2_encoder.pictures import pixels
 
 SIZE_OF_CORPUS = 400
@@ -156,13 +156,6 @@ def undamaged(program, samples, folder):
                 differing += 1
                 print(f"{sample.name} differs ({kept(sample.bytes(), f'whole-{compared}')}): {fault}")
     return compared, differing
-
-
-def kept(data, name):
-    path = os.path.join(tempfile.gettempdir(), f"{name}.jb2")
-    with open(path, "wb") as file:
-        file.write(data)
-    return path
 
 
 class Tally:

@@ -4,6 +4,8 @@ import os
 import signal
 import subprocess
 
+import root  # noqa: F401
+from c.bindings import loaded
 from limited import Runner
 
 LONGEST = 60
@@ -40,13 +42,7 @@ class Library:
     call of more than LONGEST seconds, which ends this process."""
 
     def __init__(self, file, folder):
-        library = ctypes.CDLL(linked(file, folder) if file.endswith(".a") else file)
-        self.size, self.rows = library.hayro_jbig2_page_size, library.hayro_jbig2_page_packed
-        self.text = library.hayro_jbig2_error_text
-        bytes_of = [ctypes.c_bool, ctypes.c_char_p, ctypes.c_size_t, ctypes.c_size_t]
-        self.size.argtypes = bytes_of + [ctypes.POINTER(ctypes.c_uint32)] * 2
-        self.rows.argtypes = bytes_of + [ctypes.c_char_p, ctypes.c_size_t]
-        self.text.argtypes, self.text.restype = [ctypes.c_uint32], ctypes.c_char_p
+        self.library = loaded(linked(file, folder) if file.endswith(".a") else file)
         self.name = os.path.join(folder, "page.jb2")
 
     def answer(self, data, index, strict):
@@ -61,11 +57,11 @@ class Library:
 
     def drawn(self, data, index, strict):
         width, height = ctypes.c_uint32(), ctypes.c_uint32()
-        number = self.size(strict, data, len(data), index, width, height)
+        number = self.library.hayro_jbig2_page_size(strict, data, len(data), index, width, height)
         if not number:
             size = (width.value + 7) // 8 * height.value
             rows = ctypes.create_string_buffer(size)
-            number = self.rows(strict, data, len(data), index, rows, size)
+            number = self.library.hayro_jbig2_page_packed(strict, data, len(data), index, rows, size)
         if number:
-            return b"", self.text(number).decode()
+            return b"", self.library.hayro_jbig2_error_text(number).decode()
         return b"P4\n%d %d\n" % (width.value, height.value) + rows.raw, None

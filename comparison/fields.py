@@ -24,7 +24,8 @@ import tempfile
 import time
 
 from changes import RUNS_OF_DOCUMENT, Changes
-from damage import built_program, kept
+from compare import kept
+from damage import built_program
 from drawing import Library, Program
 from model.answers import Refused, TooMuch
 from model.page import page_of_file

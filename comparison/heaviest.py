@@ -7,7 +7,6 @@ Regions, grids and symbols are SIDE pixels wide and high (4096). The work of eac
 times a count that its line names. So the time at SIDE 65535, the most that is decoded, is printed beside it. PROGRAM may name a
 built jbig2-decode. Status 0 means that each run ended by itself.
 """
-import os
 import sys
 import tempfile
 

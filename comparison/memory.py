@@ -20,9 +20,10 @@ import subprocess
 import sys
 import tempfile
 
+from compare import kept
 from corpus import own_corpus
 from crate_memory import Walk, bitmap_bytes
-from damage import SIZE_OF_CORPUS, damaged, kept
+from damage import SIZE_OF_CORPUS, damaged
 from limited import Runner
 from model.answers import Refused, TooMuch, Work
 from model.bitmap import Bitmap

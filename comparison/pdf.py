@@ -4,8 +4,8 @@ those that jbig2dec draws of the files themselves. It reports where Poppler draw
 
     pdf.py FILE.jb2 ..
 
-Each FILE is sequential and has one page. Two PDF files are made of it: one by `pdf_of` below, with dictionaries and
-tables in /JBIG2Globals, and one by pdftocairo of Poppler from that, which takes the image's data over as they are.
+Each FILE is sequential and has one page. Two PDF files are made of it: one by `pdf_of`, with dictionaries and tables in
+/JBIG2Globals, and one by pdftocairo of Poppler from that, which takes the image's data over as they are.
 Needs make and libqpdf (Debian's libqpdf-dev), jbig2dec, and pdfimages and pdftocairo (Debian's poppler-utils).
 """
 import pathlib
@@ -14,19 +14,9 @@ import sys
 import tempfile
 
 from root import ROOT
-from conformance.runner.embedding import Embedded, size_in_pdf
-from conformance.runner.pdf import pdf_of_image
+from conformance.runner.embedding import embedded_page, image_of
+from conformance.runner.pdf import pdf_of
 from conformance.runner.pictures import pictures_of
-from conformance.runner.segments import END_OF_FILE, END_OF_PAGE, TABLES_AND_DICTIONARIES, segments_of_file
-
-
-def pdf_of(data):
-    """A PDF file of one page that is the image of the file's only page."""
-    segments = segments_of_file(data)
-    left_out = (*TABLES_AND_DICTIONARIES, END_OF_PAGE, END_OF_FILE)
-    shared = b"".join(segment.on_page(0) for segment in segments if segment.kind in TABLES_AND_DICTIONARIES)
-    own = b"".join(segment.on_page(segment.page) for segment in segments if segment.kind not in left_out)
-    return pdf_of_image(*size_in_pdf(Embedded(own)), own, shared, scale=1 / 4)
 
 
 def bitmap(path):
@@ -52,7 +42,7 @@ def main():
             room = pathlib.Path(folder)
             written, taken_over, meant = room / "written.pdf", room / "cairo.pdf", room / "meant.pbm"
             subprocess.run(["jbig2dec", "-o", meant, file], check=True, stderr=subprocess.DEVNULL)
-            written.write_bytes(pdf_of(file.read_bytes()))
+            written.write_bytes(pdf_of([image_of(embedded_page(file.read_bytes(), 0))], scale=1 / 4))
             subprocess.run(["pdftocairo", "-pdf", written, taken_over], check=True, stderr=subprocess.DEVNULL)
             for pdf in (written, taken_over):
                 if b"JBIG2Decode" not in pdf.read_bytes():

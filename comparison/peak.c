@@ -10,6 +10,8 @@
  */
 #include "hayro_jbig2.h"
 
+#include "read_file.h"
+
 #include <stdio.h>
 #include <stdlib.h>
 #include <string.h>
@@ -33,19 +35,6 @@ static void give_back(void *user, void *block, size_t size) {
     struct counted *counted = user;
     counted->alive -= size;
     free(block);
-}
-
-static uint8_t *read_file(const char *name, size_t *length) {
-    FILE *file = fopen(name, "rb");
-    if (file == NULL || fseek(file, 0, SEEK_END) != 0)
-        return NULL;
-    *length = (size_t)ftell(file);
-    rewind(file);
-    uint8_t *bytes = malloc(*length + 1);
-    if (bytes != NULL && fread(bytes, 1, *length, file) != *length)
-        bytes = NULL;
-    fclose(file);
-    return bytes;
 }
 
 /* What a page came to. */

@@ -13,7 +13,7 @@ import random
 import sys
 import tempfile
 
-from compare import our_picture, their_picture
+from compare import kept, our_picture, their_picture
 from made_up import Form, random_dictionary, random_text
 from root import ROOT
 from jbig2_encoder.document import Document
@@ -138,10 +138,8 @@ def main():
             faults = [f"{who}: {fault}" for who, (picture, fault) in pictures.items() if pixels(picture) != meant]
             if faults:
                 differing += 1
-                kept = os.path.join(tempfile.gettempdir(), f"differs-{seed}-{turn}.jb2")
-                with open(kept, "wb") as file:
-                    file.write(document.finished())
-                print(f"document {turn} ({kind}) differs ({kept}): {' / '.join(faults)}")
+                name_of_kept = kept(document.finished(), f"differs-{seed}-{turn}")
+                print(f"document {turn} ({kind}) differs ({name_of_kept}): {' / '.join(faults)}")
     print(f"{count} documents, {differing} differ")
     return 1 if differing else 0
 

@@ -11,6 +11,8 @@
  */
 #include "hayro_jbig2.h"
 
+#include "read_file.h"
+
 #include <stdio.h>
 #include <stdlib.h>
 #include <string.h>
@@ -23,19 +25,6 @@ struct drawing {
     hayro_jbig2_page *page;
     hayro_jbig2_context *context;
 };
-
-static uint8_t *read_file(const char *name, size_t *length) {
-    FILE *file = fopen(name, "rb");
-    if (file == NULL || fseek(file, 0, SEEK_END) != 0)
-        return NULL;
-    *length = (size_t)ftell(file);
-    rewind(file);
-    uint8_t *bytes = malloc(*length + 1);
-    if (bytes != NULL && fread(bytes, 1, *length, file) != *length)
-        bytes = NULL;
-    fclose(file);
-    return bytes;
-}
 
 static uint32_t print_rows(hayro_jbig2_context *context, const hayro_jbig2_page_info *info) {
     size_t size = ((size_t)info->width + 7) / 8 * info->height;

@@ -14,15 +14,15 @@ struct tried {
 
 static char nothing;
 
-static struct tried tried(void *block) {
-    return (struct tried){block != NULL, block != NULL ? block : &nothing};
-}
+static struct tried tried(void *block) { return (struct tried){block != NULL, block != NULL ? block : &nothing}; }
 
 struct tried rattle_alloc(size_t size, size_t alignment);
 struct tried rattle_realloc(void *block, size_t kept, size_t size, size_t alignment);
 void rattle_dealloc(void *block);
 
-struct tried rattle_alloc(size_t size, size_t alignment) { return tried(malloc(size > 0 ? size : alignment)); }
+struct tried rattle_alloc(size_t size, size_t alignment) {
+    return tried(malloc(size > 0 ? size : alignment));
+}
 
 struct tried rattle_realloc(void *block, size_t kept, size_t size, size_t alignment) {
     (void)kept;

@@ -21,8 +21,7 @@ struct plan {
 static struct plan unread;
 static struct plan *plan = &unread;
 
-__attribute__((constructor)) static void take_plan(void)
-{
+__attribute__((constructor)) static void take_plan(void) {
     const char *name = getenv("FAULT_PLAN");
     int file = name ? open(name, O_RDWR | O_CLOEXEC) : -1;
     if (file < 0)
@@ -37,10 +36,9 @@ __attribute__((constructor)) static void take_plan(void)
 #define OWN(name) \
     static __typeof__(name) *own; \
     if (!own) \
-        own = (__typeof__(name) *)dlsym(RTLD_NEXT, #name)
+    own = (__typeof__(name) *)dlsym(RTLD_NEXT, #name)
 
-static int is_refused(size_t size)
-{
+static int is_refused(size_t size) {
     plan->requests++;
     plan->bytes += size;
     if (plan->requests != plan->refused_request)
@@ -49,8 +47,7 @@ static int is_refused(size_t size)
     return 1;
 }
 
-static int is_failed(uint64_t *count, uint64_t failed)
-{
+static int is_failed(uint64_t *count, uint64_t failed) {
     ++*count;
     if (*count != failed)
         return 0;
@@ -58,32 +55,27 @@ static int is_failed(uint64_t *count, uint64_t failed)
     return 1;
 }
 
-void *malloc(size_t size)
-{
+void *malloc(size_t size) {
     OWN(malloc);
     return is_refused(size) ? NULL : own(size);
 }
 
-void *realloc(void *place, size_t size)
-{
+void *realloc(void *place, size_t size) {
     OWN(realloc);
     return is_refused(size) ? NULL : own(place, size);
 }
 
-void *aligned_alloc(size_t align, size_t size)
-{
+void *aligned_alloc(size_t align, size_t size) {
     OWN(aligned_alloc);
     return is_refused(size) ? NULL : own(align, size);
 }
 
-int posix_memalign(void **place, size_t align, size_t size)
-{
+int posix_memalign(void **place, size_t align, size_t size) {
     OWN(posix_memalign);
     return is_refused(size) ? ENOMEM : own(place, align, size);
 }
 
-ssize_t read(int file, void *bytes, size_t count)
-{
+ssize_t read(int file, void *bytes, size_t count) {
     OWN(read);
     if (is_failed(&plan->reads, plan->failed_read))
         return -1;
@@ -91,21 +83,16 @@ ssize_t read(int file, void *bytes, size_t count)
 }
 
 /* The runtime calls the C library by this name too. */
-ssize_t __write(int file, const void *bytes, size_t count)
-{
-    return write(file, bytes, count);
-}
+ssize_t __write(int file, const void *bytes, size_t count) { return write(file, bytes, count); }
 
-ssize_t write(int file, const void *bytes, size_t count)
-{
+ssize_t write(int file, const void *bytes, size_t count) {
     OWN(write);
     if (is_failed(&plan->writes, plan->failed_write))
         return -1;
     return own(file, bytes, plan->moves_one_byte && count ? 1 : count);
 }
 
-ssize_t writev(int file, const struct iovec *parts, int count)
-{
+ssize_t writev(int file, const struct iovec *parts, int count) {
     OWN(writev);
     if (plan->moves_one_byte)
         for (int place = 0; place < count; place++)

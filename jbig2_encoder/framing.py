@@ -1,7 +1,7 @@
 """The frame of a file: its header (D.4), segments (7.2), page information (7.4.8) and region information (7.4.1)."""
 from __future__ import annotations
 
-from collections.abc import Iterator, Sequence
+from collections.abc import Sequence
 
 from .fields import field
 
@@ -81,60 +81,3 @@ def region_information(width: int, height: int, x: int = 0, y: int = 0, operator
     names = ("region width", "region height", "region x", "region y")
     place = b"".join(map(field, names, (width, height, x, y)))
     return place + field("region flags", operator, 1)
-
-
-def length_of(header: bytes) -> tuple[int, int]:
-    """The length of the segment header that bytes start with, and that of the data after it (7.2)."""
-    at, flags, count = int.from_bytes(header[:4], "big"), header[4], header[5] >> 5
-    place = 6
-    if count == 7:
-        count = int.from_bytes(header[5:9], "big") & 0x1FFFFFFF
-        place = 9 + (count + 8) // 8
-    place += count * reference_size(at) + (4 if flags & 64 else 1)
-    return place + 4, int.from_bytes(header[place : place + 4], "big")
-
-
-def cut(data: bytes) -> tuple[bytes, list[bytes]]:
-    """The header of a file and its segments; one piece after the header where they don't follow each other."""
-    place = 9 if data[8:9] and data[8] & 2 else 13
-    header, rest, segments = data[:place], data[place:], []
-    if not header[8:9] or not header[8] & 1:
-        return header, [rest]
-    while rest:
-        try:
-            head, body = length_of(rest)
-        except IndexError:
-            return header, segments + [rest]
-        segments.append(rest[: head + body])
-        rest = rest[head + body :]
-    return header, segments
-
-
-def parts_of(data: bytes) -> Iterator[tuple[int, bytes]]:
-    """The type and the data of each segment of a file, as far as its headers can be read."""
-    place, waiting = (9 if data[8:9] and data[8] & 2 else 13), []
-    try:
-        while place < len(data):
-            head, body = length_of(data[place:])
-            kind = data[place + 4] & 63
-            place += head
-            if data[8] & 1:
-                yield kind, data[place : place + body]
-                place += body
-            else:
-                waiting.append((kind, body))
-                if kind == END_OF_FILE:
-                    break
-    except IndexError:
-        pass
-    for kind, body in waiting:
-        yield kind, data[place : place + body]
-        place += body
-
-
-def in_random_access(header: bytes, segments: Sequence[bytes]) -> tuple[bytes, list[bytes]]:
-    """The header and the parts of the same file with all segment headers first (D.2)."""
-    heads = [length_of(part)[0] for part in segments]
-    parts = [part[:head] for part, head in zip(segments, heads)]
-    parts += [part[head:] for part, head in zip(segments, heads)]
-    return header[:8] + bytes([header[8] & 0xFE]) + header[9:], parts

@@ -4,7 +4,6 @@ from __future__ import annotations
 from .bitmap import Bitmap
 
 
-
 def pbm(bitmap: Bitmap) -> bytes:
     """A bitmap as a PBM file, as `jbig2-decode pbm` writes it."""
     return b"P4\n%d %d\n" % (bitmap.width, bitmap.height) + bitmap.packed()

@@ -74,8 +74,7 @@ static uint32_t drawn(uint32_t answer, struct opened *opened, size_t index, bool
         answer = opened->file == NULL ? hayro_jbig2_page_draw(opened->page, context)
                                       : hayro_jbig2_file_draw(opened->file, index, context);
     if (answer == HAYRO_JBIG2_OK)
-        answer = as_image ? write_image(opened, context, buffer)
-                          : hayro_jbig2_context_rows(context, 0, buffer, length);
+        answer = as_image ? write_image(opened, context, buffer) : hayro_jbig2_context_rows(context, 0, buffer, length);
     hayro_jbig2_context_free(context);
     close_all(opened);
     return answer;

@@ -107,9 +107,7 @@ static uint32_t ask(const struct question *like) {
     return answer;
 }
 
-static size_t least(size_t a, size_t b) {
-    return a < b ? a : b;
-}
+static size_t least(size_t a, size_t b) { return a < b ? a : b; }
 
 /* Asks of the first bytes, and of all of them where these end too early. */
 static uint32_t ask_of_header(struct question *question) {
@@ -137,8 +135,8 @@ static struct question question_of(enum kind_of_question kind, const hayro_jbig2
     return question;
 }
 
-uint32_t hayro_jbig2_segment_get_info(const hayro_jbig2_memory *memory, bool strict, const uint8_t *bytes, size_t length,
-                                      hayro_jbig2_segment_info *info) {
+uint32_t hayro_jbig2_segment_get_info(const hayro_jbig2_memory *memory, bool strict, const uint8_t *bytes,
+                                      size_t length, hayro_jbig2_segment_info *info) {
     struct question question = question_of(ASKS_INFO, memory, strict, bytes, length, info, INFO_BYTES);
     return ask_of_header(&question);
 }

@@ -145,10 +145,11 @@ class Faults(Case):
         page = os.path.join(DATA, "page.jb2")
         example_file = os.path.join(DATA, "t88-h1.jb2")
         lines = [
-            [], [""], ["--strict"], ["--help"], ["pages"], ["embedded"], ["calls"], ["pbm"], ["draw", page], ["embedded", page, "0"],
-            ["pages", example_file, "0"], ["calls", example_file], ["pbm", example_file], ["pbm", example_file, ""],
-            ["pbm", example_file, "-1"], ["pbm", example_file, "+1"], ["pbm", example_file, "1a"], ["pbm", example_file, " 1"],
-            ["pbm", example_file, "0", "0"], ["PBM", example_file, "0"], ["pages", "--strict", example_file, "0"],
+            [], [""], ["--strict"], ["--help"], ["pages"], ["embedded"], ["calls"], ["pbm"], ["draw", page],
+            ["embedded", page, "0"], ["pages", example_file, "0"], ["calls", example_file], ["pbm", example_file],
+            ["pbm", example_file, ""], ["pbm", example_file, "-1"], ["pbm", example_file, "+1"],
+            ["pbm", example_file, "1a"], ["pbm", example_file, " 1"], ["pbm", example_file, "0", "0"],
+            ["PBM", example_file, "0"], ["pages", "--strict", example_file, "0"],
             ["--strict", "--strict", "pages", example_file], [b"pages", b"\xff\xfe"],
         ]
         for words in lines:

@@ -63,8 +63,7 @@ static uint32_t measure_copy(const struct segment_list *list, const struct segme
     uint8_t *copy = room_for(segment->header_size + most);
     memcpy(copy, list->bytes + segment->place, segment->header_size);
     memcpy(copy + segment->header_size, list->bytes + segment->data, most);
-    uint32_t error =
-        with_memory(hayro_jbig2_segment_get_length(NULL, false, copy, segment->header_size + most, taken));
+    uint32_t error = with_memory(hayro_jbig2_segment_get_length(NULL, false, copy, segment->header_size + most, taken));
     free(copy);
     return error;
 }

@@ -1,60 +1,26 @@
-"""The calls on handles of the shared library, as c/hayro_jbig2.h declares them, with limits of work."""
+"""The calls on handles of the shared library, with limits of work."""
 from __future__ import annotations
 
 import ctypes
 import dataclasses
-from ctypes import POINTER, byref, c_bool, c_char_p, c_size_t, c_uint32, c_uint64, c_void_p
+from collections.abc import Callable
+from ctypes import byref, c_uint64, c_void_p
+
+from c.bindings import STRUCTURES, loaded
 
 OK, NO_SUCH_PAGE, WORK_LIMIT = 0, 101, 103
 NO_LIMIT = 2**64 - 1
-
-
-class Info(ctypes.Structure):
-    """A page's number, and its size in pixels."""
-
-    _fields_ = [("number", c_uint32), ("width", c_uint32), ("height", c_uint32)]
-
-
-class PassedOver(ctypes.Structure):
-    """What lenient reading passed over in a page."""
-
-    _fields_ = [("count", c_size_t), ("segment", c_uint32), ("error", c_uint32)]
-
-
-MADE, DATA, HANDLE = (c_void_p, c_bool), (c_char_p, c_size_t), POINTER(c_void_p)
-ARGUMENTS = {
-    "globals_new_within": (*MADE, c_uint64, *DATA, HANDLE),
-    "globals_free": (c_void_p,),
-    "file_new_within": (*MADE, c_uint64, *DATA, HANDLE),
-    "file_page_count": (c_void_p,),
-    "file_get_info": (c_void_p, c_size_t, POINTER(Info)),
-    "file_draw": (c_void_p, c_size_t, c_void_p),
-    "file_free": (c_void_p,),
-    "page_new": (*MADE, c_void_p, *DATA, HANDLE),
-    "page_get_info": (c_void_p, POINTER(Info)),
-    "page_draw": (c_void_p, c_void_p),
-    "page_free": (c_void_p,),
-    "context_new": (c_void_p, HANDLE),
-    "context_rows": (c_void_p, c_size_t, c_char_p, c_size_t),
-    "context_get_passed_over": (c_void_p, POINTER(PassedOver)),
-    "context_set_work_limit": (c_void_p, c_uint64),
-    "context_get_work_left": (c_void_p, POINTER(c_uint64)),
-    "context_free": (c_void_p,),
-    "error_text": (c_uint32,),
-}
-RESULTS = {"file_page_count": c_size_t, "error_text": c_char_p}
+Info, PassedOver = STRUCTURES["page_info"], STRUCTURES["passed_over"]
 
 
 class Library:
     """The library's calls by their names without `hayro_jbig2_`."""
 
     def __init__(self, path: str) -> None:
-        loaded = ctypes.CDLL(path)
-        for name, types in ARGUMENTS.items():
-            call = getattr(loaded, f"hayro_jbig2_{name}")
-            call.argtypes = types
-            call.restype = RESULTS.get(name, None if name.endswith("_free") else c_uint32)
-            setattr(self, name, call)
+        self._library = loaded(path)
+
+    def __getattr__(self, name: str) -> Callable:
+        return getattr(self._library, f"hayro_jbig2_{name}")
 
     def made(self, kind: str, call: str, *arguments: object) -> Made:
         """What a call makes whose last argument is where the handle goes; `kind` names the call that frees it."""

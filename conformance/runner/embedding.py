@@ -3,12 +3,15 @@ from __future__ import annotations
 
 import dataclasses
 
-from .pdf import pdf_of_image
-from .segments import END_OF_FILE, END_OF_PAGE, IDENTIFICATION, PAGE_INFORMATION, Segment
+from . import pdf
+from .pdf import Image
+from .segments import END_OF_FILE, END_OF_PAGE, IDENTIFICATION, PAGE_INFORMATION, TABLES_AND_DICTIONARIES, Segment
 from .segments import pages_of, segments_of_file, sequential
 
 # What a page without a size gets in a PDF file, and the largest side of one there.
 SOME_SIDE, LARGEST_SIDE = 64, 65535
+# The stream of a page of 8 by 1 with nothing on it.
+SMALL = bytes.fromhex("00000000 30 00 01 00000013 00000008 00000001 00000000 00000000 00 0000")
 
 
 @dataclasses.dataclass(frozen=True)
@@ -65,4 +68,18 @@ def size_in_pdf(page: Embedded, height: int | None = None) -> tuple[int, int]:
 
 def pdf_of(page: Embedded, height: int | None = None) -> bytes:
     """A PDF file of one page, a point for each pixel of the image."""
-    return pdf_of_image(*size_in_pdf(page, height), page.stream, page.shared)
+    return pdf.pdf_of([Image(*size_in_pdf(page, height), page.stream, page.shared)])
+
+
+def image_of(page: Embedded, height: int | None = None) -> Image:
+    """A page with its dictionaries and tables in the globals; `height` is taken where the page doesn't say its own. A
+    stream that isn't made of whole segments stays as it is."""
+    width, height = size_in_pdf(page, height)
+    own, shared = b"", page.shared
+    for segment in sequential(page.stream):
+        if segment.kind in TABLES_AND_DICTIONARIES:
+            shared += segment.on_page(0)
+        else:
+            own += segment.on_page(segment.page)
+    is_whole = len(own) + len(shared) == len(page.stream) + len(page.shared)
+    return Image(width, height, own, shared) if is_whole else Image(width, height, page.stream, page.shared)

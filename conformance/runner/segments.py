@@ -2,7 +2,7 @@
 from __future__ import annotations
 
 import dataclasses
-from collections.abc import Iterable
+from collections.abc import Iterable, Iterator
 
 IDENTIFICATION = bytes.fromhex("974A42320D0A1A0A")
 UNKNOWN_LENGTH = 0xFFFFFFFF
@@ -106,11 +106,62 @@ def random_access(data: bytes) -> list[Segment]:
     return segments
 
 
+def header_length(data: bytes) -> int:
+    """How many bytes the header of a file has (D.4)."""
+    return 9 if data[8:9] and data[8] & 2 else 13
+
+
+def cut(data: bytes) -> tuple[bytes, list[bytes]]:
+    """The header of a file and the bytes of its segments. What can't be cut is one piece: data of unknown length with all
+    that follows them, and a list with all headers first."""
+    place, pieces = header_length(data), []
+    header = data[:place]
+    if not data[8:9] or not data[8] & 1:
+        return header, [data[place:]]
+    while place < len(data):
+        try:
+            segment, end = header_at(data, place)
+            end += int.from_bytes(segment.length, "big")
+        except CutOff:
+            end = len(data)
+        pieces.append(data[place:end])
+        place = end
+    return header, pieces
+
+
+def parts_of(data: bytes) -> Iterator[tuple[int, bytes]]:
+    """The type and the data of each segment of a file, as far as its headers can be read; data may be cut off."""
+    place, waiting = header_length(data), []
+    try:
+        while place < len(data):
+            segment, place = header_at(data, place)
+            length = int.from_bytes(segment.length, "big")
+            if data[8] & 1:
+                yield segment.kind, data[place : place + length]
+                place += length
+            else:
+                waiting.append((segment.kind, length))
+                if segment.kind == END_OF_FILE:
+                    break
+    except CutOff:
+        pass
+    for kind, length in waiting:
+        yield kind, data[place : place + length]
+        place += length
+
+
+def in_random_access(header: bytes, segments: Iterable[bytes]) -> tuple[bytes, list[bytes]]:
+    """The header and the parts of the same file with all segment headers first (D.2)."""
+    places = [(piece, header_at(piece, 0)[1]) for piece in segments]
+    parts = [piece[:place] for piece, place in places] + [piece[place:] for piece, place in places]
+    return header[:8] + bytes([header[8] & 0xFE]) + header[9:], parts
+
+
 def segments_of_file(data: bytes) -> list[Segment]:
     """The whole segments of a file with a header (D.4), in the order of their bytes."""
     if len(data) < 9 or not data.startswith(IDENTIFICATION):
         return []
-    place = 9 if data[8] & 2 else 13
+    place = header_length(data)
     return sequential(data[place:]) if data[8] & 1 else random_access(data[place:])
 
 

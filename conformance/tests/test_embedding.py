@@ -6,7 +6,7 @@ import unittest
 from conformance.runner.embedding import Embedded, embedded_page, file_of, pdf_of, size_in_pdf
 from conformance.runner.manifest import read_sample
 from conformance.runner.mistake import Mistake
-from conformance.runner.segments import segments_of_file, sequential, unknown_length
+from conformance.runner.segments import cut, in_random_access, parts_of, segments_of_file, sequential, unknown_length
 from conformance.tests.small_suite import CROSS, TABLE, written
 from jbig2_encoder.framing import HEADER, page_information, segment
 
@@ -60,6 +60,22 @@ class EmbeddingTest(unittest.TestCase):
             self.assertTrue(pdf[place:].startswith(b"%d 0 obj\n" % number))
         self.assertIn(TABLE, pdf)
         self.assertIn(f"/Width 9 /Height {len(CROSS)} ".encode(), pdf)
+
+    def test_files_are_cut_as_they_were_written(self):
+        parts = [segment(0, 48, page_information(8, 1)), segment(300, 38, b"abc", (1, 2))]
+        parts.append(segment(301, 51, b"", page=0))
+        data = HEADER + b"".join(parts)
+        self.assertEqual(cut(data), (HEADER, parts))
+        header, pieces = in_random_access(HEADER, parts)
+        self.assertEqual(list(parts_of(header + b"".join(pieces))), list(parts_of(data)))
+        self.assertEqual(cut(header + b"".join(pieces)), (header, [b"".join(pieces)]))
+
+    def test_what_is_cut_off_is_the_last_piece(self):
+        first, second = segment(0, 48, page_information(8, 1)), segment(1, 38, b"abc")
+        for end in 1, 9, 12:
+            self.assertEqual(cut(HEADER + first + second[:end]), (HEADER, [first, second[:end]]))
+        self.assertEqual(list(parts_of(HEADER + first + second[:12])), [(48, page_information(8, 1)), (38, b"a")])
+        self.assertEqual(list(parts_of(HEADER + first + second[:9])), [(48, page_information(8, 1))])
 
     def test_bytes_that_are_no_segments(self):
         self.assertEqual(segments_of_file(b"no file"), [])

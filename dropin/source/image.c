@@ -35,9 +35,7 @@ void jbig2_image_release(struct context *context, struct image *image) {
         give_back(page->allocator, page);
 }
 
-void jbig2_release_page(struct context *context, struct image *image) {
-    jbig2_image_release(context, image);
-}
+void jbig2_release_page(struct context *context, struct image *image) { jbig2_image_release(context, image); }
 
 int jbig2_image_write_pbm(const struct image *image, FILE *file) {
     if (image == NULL || file == NULL)

@@ -36,9 +36,7 @@ void give_back(struct allocator *allocator, void *block) {
         allocator->give_back(allocator, block);
 }
 
-static void *take_for_decoder(void *user, size_t size) {
-    return take(user, size);
-}
+static void *take_for_decoder(void *user, size_t size) { return take(user, size); }
 
 static void give_back_from_decoder(void *user, void *block, size_t size) {
     (void)size;
@@ -49,9 +47,7 @@ hayro_jbig2_memory memory_of(struct allocator *allocator) {
     return (hayro_jbig2_memory){take_for_decoder, give_back_from_decoder, allocator};
 }
 
-const uint8_t *start_of(const struct bytes *bytes) {
-    return bytes->length > 0 ? bytes->at : (const uint8_t *)"";
-}
+const uint8_t *start_of(const struct bytes *bytes) { return bytes->length > 0 ? bytes->at : (const uint8_t *)""; }
 
 /* The caller's resize is not called: taking, copying and giving back asks less of an allocator. */
 static bool make_room(struct allocator *allocator, struct bytes *bytes, size_t more) {

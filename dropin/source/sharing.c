@@ -32,9 +32,7 @@ static void leave_borrowers(struct share *share) {
         share->next->previous = share->previous;
 }
 
-static bool is_last_hold(struct globals *globals) {
-    return --globals->holders == 0;
-}
+static bool is_last_hold(struct globals *globals) { return --globals->holders == 0; }
 
 struct globals *leave_globals(struct share *share) {
     struct globals *unheld = NULL;

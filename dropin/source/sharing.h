@@ -30,7 +30,7 @@ struct share {
     struct globals *globals; /* null where there are none, or no longer */
     struct bytes copy;       /* of a borrower */
     bool is_borrower;
-    bool is_refused; /* the page that was completed last, for its globals */
+    bool is_refused;               /* the page that was completed last, for its globals */
     struct share *previous, *next; /* of the borrowers of the same globals */
     struct globals *used;          /* by the page that is being drawn, in this thread */
     pthread_t user;

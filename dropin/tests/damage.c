@@ -9,8 +9,7 @@
  * table which is not there. */
 #define PAGE_OF(number, height) "\0\0\0\0\x30\0" number "\0\0\0\x13\0\0\0\x08" height "\0\0\0\0\0\0\0\0\0\0\0"
 #define PAGE PAGE_OF("\1", "\0\0\0\1")
-#define REGION \
-    "\0\0\0\2\x26\0\1\0\0\0\x1A\0\0\0\1\0\0\0\1\0\0\0\0\0\0\0\0\0\0\x03\xFF\xFD\xFF\x02\xFE\xFE\xFE"
+#define REGION "\0\0\0\2\x26\0\1\0\0\0\x1A\0\0\0\1\0\0\0\1\0\0\0\0\0\0\0\0\0\0\x03\xFF\xFD\xFF\x02\xFE\xFE\xFE"
 #define BAD_SYMBOLS(page) "\0\0\0\1\0\0" page "\0\0\0\x0F\0\x09\0\0\0\1\0\0\0\1\x5F\x80\x80\0\x40"
 /* Number 2, a dictionary of one black symbol, and number 3, a text region of one symbol. */
 #define GOOD_SYMBOLS "\0\0\0\2\0\0\1\0\0\0\x0F\0\1\0\0\0\1\0\0\0\1\x5F\x80\x80\0\x40"
@@ -23,15 +22,13 @@ enum { SPACES = 0x20202020 };
 /* An extension whose page, and what it refers to, have four bytes; and regions of unknown length: in arithmetic coding, by
  * MMR, and without an end marker. */
 #define LONG_FORMS "\0\1\0\1\x7E\xE0\0\0\1\0\0\0\0\2\0\0\0\1\0\0\0\4\0\0\0\0"
-#define UNKNOWN_LENGTH(number) \
-    "\0\0\0" number "\x26\0\1\xFF\xFF\xFF\xFF\0\0\0\1\0\0\0\1\0\0\0\0\0\0\0\0\0"
+#define UNKNOWN_LENGTH(number) "\0\0\0" number "\x26\0\1\xFF\xFF\xFF\xFF\0\0\0\1\0\0\0\1\0\0\0\0\0\0\0\0\0"
 #define TEMPLATE "\0\x03\xFF\xFD\xFF\x02\xFE\xFE\xFE"
 #define UNKNOWN_ARITHMETIC UNKNOWN_LENGTH("\2") TEMPLATE "\xFF\xAC\0\0\0\1"
 #define UNKNOWN_MMR UNKNOWN_LENGTH("\3") "\1\x80\0\0\0\0\0\1"
 #define UNMARKED UNKNOWN_LENGTH("\5") TEMPLATE "\xFF\xAC\0\0\0"
 /* An extension of unknown length, which strict reading refuses, and a segment of an unknown type. */
-#define OPEN_EXTENSION \
-    "\0\0\0\3\x3E\0\1\xFF\xFF\xFF\xFF\0\0\0\1\0\0\0\1\0\0\0\0\0\0\0\0\0" TEMPLATE "\xFF\xAC\0\0\0\1"
+#define OPEN_EXTENSION "\0\0\0\3\x3E\0\1\xFF\xFF\xFF\xFF\0\0\0\1\0\0\0\1\0\0\0\0\0\0\0\0\0" TEMPLATE "\xFF\xAC\0\0\0\1"
 #define UNKNOWN_TYPE(number) "\0\0\0" number "\x3F\0\1\0\0\0\0"
 #define FILE_HEADER "\x97JB2\r\n\x1A\n"
 
@@ -72,8 +69,10 @@ static void draws_what_is_left(void) {
           "a page is left out: page has zero width or height");
     draws(true, BYTES(FILE_HEADER "\3" PAGE REGION PAGE_OF("\2", "\0\0\0\0") PAGE_OF("\3", "\0\1\0\0")), 0x80, 1,
           NO_SEGMENT, "2 pages are left out, the first as follows: page has zero width or height");
-    draws(true, BYTES(FILE_HEADER "\3" "\0\0\0\0\x30\0\2\0\0\0\1\0" PAGE REGION), 0x80, 1, NO_SEGMENT,
-          "a page is left out: unexpected end of input");
+    draws(true,
+          BYTES(FILE_HEADER "\3"
+                            "\0\0\0\0\x30\0\2\0\0\0\1\0" PAGE REGION),
+          0x80, 1, NO_SEGMENT, "a page is left out: unexpected end of input");
 }
 
 static const char cut[] = "a segment is left out: unexpected end of input";
@@ -133,8 +132,8 @@ static void tells_of_symbols_that_are_not_there(void) {
 
 /* The first page of a file is complete, since its end is there; the second one isn't. */
 static void tells_which_page_is_cut_off(void) {
-    static const uint8_t file[] = FILE_HEADER "\3" PAGE REGION "\0\0\0\3\x31\0\1\0\0\0\0" PAGE_OF("\2", "\0\0\0\1")
-        "\0\0\0\4\x26\0\2\0\0\0\x1A\0\0\0\1";
+    static const uint8_t file[] = FILE_HEADER
+        "\3" PAGE REGION "\0\0\0\3\x31\0\1\0\0\0\0" PAGE_OF("\2", "\0\0\0\1") "\0\0\0\4\x26\0\2\0\0\0\x1A\0\0\0\1";
     struct counted memory = counted_allocator();
     struct heard heard = {0};
     struct context *context = file_context(&memory.base, &heard);

@@ -18,18 +18,18 @@ import random
 import sys
 import tempfile
 
-from documents import Image
 from peers import LENIENT, LIMITS, OURS, PEERS, SYSTEM, UNLIMITED, Library, Peer, pictures_by
-from samples import image_of_sample, rich_sample, samples_of
 
+from conformance.runner.damage import damaged
 from conformance.runner.decoders import own_program
 from conformance.runner.limits import Ended, run
 from conformance.runner.manifest import Sample
+from conformance.runner.pdf import Image
 from conformance.runner.pictures import NoPicture, Picture, pictures_of
+from conformance.runner.samples import image_of_sample, rich_sample, samples_of
 
 SOME_PEERS = [peer for peer in PEERS if peer.name in ("mutool draw", "gs")]
 LIMITS_OF_MEMORY = [*range(0, 20000, 500), *range(20000, 200000, 20000), 1 << 30]
-EDGES = (0, 1, 0x7F, 0x80, 0xFF)
 
 
 @dataclasses.dataclass(frozen=True)
@@ -64,24 +64,6 @@ def made_by_hand(image: Image) -> list[Stream]:
         other = dataclasses.replace(image, width=max(1, image.width + change), height=max(1, image.height + change))
         streams.append(Stream(f"{name} in the PDF file", other))
     return streams
-
-
-def damaged(chance: random.Random, data: bytes) -> bytes:
-    """The bytes with one to three faults."""
-    for _ in range(chance.choice((1, 1, 1, 2, 3))):
-        if not data:
-            break
-        place = chance.randrange(len(data))
-        kind = chance.randrange(4)
-        if kind == 0:
-            data = data[:place] + bytes([chance.choice(EDGES)]) + data[place + 1 :]
-        elif kind == 1:
-            data = data[:place] + bytes([data[place] ^ 1 << chance.randrange(8)]) + data[place + 1 :]
-        elif kind == 2:
-            data = data[:place] + data[place + chance.randrange(1, 9) :]
-        else:
-            data = data[:place] + bytes(chance.randrange(256) for _ in range(4)) + data[place:]
-    return data
 
 
 def damaged_streams(chance: random.Random, samples: list[Sample], count: int) -> list[Stream]:

@@ -11,8 +11,10 @@ from __future__ import annotations
 import argparse
 import pathlib
 
-from documents import pdf_of
-from samples import image_of_sample, rich_sample, samples_of
+import root  # noqa: F401
+
+from conformance.runner.pdf import pdf_of
+from conformance.runner.samples import image_of_sample, rich_sample, samples_of
 
 
 def main() -> None:

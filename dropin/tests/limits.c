@@ -6,9 +6,10 @@
 #include <string.h>
 
 /* A page of 8 by 1, and an intermediate region of 32768 by 33000 without data: more than 2^30 units. */
-static const uint8_t large[] = "\0\0\0\0\x30\0\1\0\0\0\x13\0\0\0\x08\0\0\0\1\0\0\0\0\0\0\0\0\0\0\0"
-                               "\0\0\0\2\x24\0\1\0\0\0\x1A\0\0\x80\0\0\0\x80\xE8\0\0\0\0\0\0\0\0\0\0\x03\xFF\xFD\xFF\x02"
-                               "\xFE\xFE\xFE";
+static const uint8_t large[] =
+    "\0\0\0\0\x30\0\1\0\0\0\x13\0\0\0\x08\0\0\0\1\0\0\0\0\0\0\0\0\0\0\0"
+    "\0\0\0\2\x24\0\1\0\0\0\x1A\0\0\x80\0\0\0\x80\xE8\0\0\0\0\0\0\0\0\0\0\x03\xFF\xFD\xFF\x02"
+    "\xFE\xFE\xFE";
 static const char reached[] = "the page is refused: the limit of work is reached";
 
 static void refuses_what_passes_the_limit(const char *named) {

@@ -227,7 +227,8 @@ static void tells_what_is_left_out(void) {
 
 /* A segment of type 63, and after it one with a bad count of references, which ends the list. */
 static void tells_what_is_left_out_before_the_rest(void) {
-    static const uint8_t more[] = "\0\0\0\x7B\x3F\0\1\0\0\0\0" "\0\0\0\x7C\x26\xA0\1\0\0\0\0";
+    static const uint8_t more[] = "\0\0\0\x7B\x3F\0\1\0\0\0\0"
+                                  "\0\0\0\x7C\x26\xA0\1\0\0\0\0";
     struct counted memory = counted_allocator();
     struct heard heard = {0};
     struct context *context = embedded_context(&memory.base, NULL, &heard);

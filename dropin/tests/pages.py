@@ -16,10 +16,10 @@ import sys
 import tempfile
 
 from peers import OURS, PEERS, SYSTEM, Library, pictures_by, pictures_by_program, pictures_of_file
-from samples import image_of_sample, samples_of
 
 from conformance.runner.manifest import Entry, Sample
 from conformance.runner.pictures import Picture
+from conformance.runner.samples import image_of_sample, samples_of
 
 PAGES_IN_A_PDF = 100
 IN_FILES = "mutool draw, files of several pages"

@@ -6,9 +6,10 @@ import pathlib
 import shlex
 import shutil
 
-from documents import Image, pdf_of  # puts the root on the path
+from root import ROOT
 
 from conformance.runner.limits import Ended, Limits, run
+from conformance.runner.pdf import Image, pdf_of
 from conformance.runner.pictures import NoPicture, Picture, pictures_of
 
 # Four times as long may pass, on a machine that does other things too.
@@ -30,7 +31,7 @@ class Library:
         return run(head + words, limits)
 
 
-OURS = Library("this library", pathlib.Path(__file__).resolve().parents[1] / "out")
+OURS = Library("this library", ROOT / "dropin" / "out")
 LENIENT = Library("this library, reading leniently", OURS.folder, ("HAYRO_JBIG2_READING=lenient",))
 UNLIMITED = Library("that without a limit of work", OURS.folder, (*LENIENT.settings, "HAYRO_JBIG2_WORK_LIMIT=0"))
 SYSTEM = Library("libjbig2dec0")

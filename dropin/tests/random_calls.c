@@ -29,9 +29,7 @@ static uint32_t random_below(uint32_t bound) {
     return (uint32_t)((state * 2685821657736338717u >> 32) % bound);
 }
 
-static bool happens_in(uint32_t bound) {
-    return bound > 0 && random_below(bound) == 0;
-}
+static bool happens_in(uint32_t bound) { return bound > 0 && random_below(bound) == 0; }
 
 static void print_seed(void) {
     char text[64];
@@ -270,12 +268,25 @@ static void call_a_context(void) {
         return;
     open->uses++;
     switch (random_below(12)) {
-    case 0: jbig2_error(open->context, (enum severity)random_below(4), NO_SEGMENT, "%s", "a message"); break;
-    case 1: close_context(open); break;
-    case 2: make_globals(open); break;
-    case 3: case 4: jbig2_complete_page(open->context); break;
-    case 5: case 6: take_page(open); break;
-    default: hand_in(open);
+    case 0:
+        jbig2_error(open->context, (enum severity)random_below(4), NO_SEGMENT, "%s", "a message");
+        break;
+    case 1:
+        close_context(open);
+        break;
+    case 2:
+        make_globals(open);
+        break;
+    case 3:
+    case 4:
+        jbig2_complete_page(open->context);
+        break;
+    case 5:
+    case 6:
+        take_page(open);
+        break;
+    default:
+        hand_in(open);
     }
     open->uses--;
 }
@@ -283,10 +294,18 @@ static void call_a_context(void) {
 static void call(void) {
     calls++;
     switch (random_below(8)) {
-    case 0: case 1: open_a_context(); break;
-    case 2: free_some_globals(); break;
-    case 3: use_image(); break;
-    default: call_a_context();
+    case 0:
+    case 1:
+        open_a_context();
+        break;
+    case 2:
+        free_some_globals();
+        break;
+    case 3:
+        use_image();
+        break;
+    default:
+        call_a_context();
     }
 }
 
@@ -323,8 +342,8 @@ static void run(uint64_t number) {
     state = number * 6364136223846793005u + 1442695040888963407u;
     alarm(LONGEST_RUN);
     for (int i = 0; i < ALLOCATORS; i++)
-        allocators[i] = (struct erratic){{take, give_back, resize}, rare[random_below(4)], rare[random_below(4)],
-                                         8 * random_below(2), 0};
+        allocators[i] = (struct erratic){
+            {take, give_back, resize}, rare[random_below(4)], rare[random_below(4)], 8 * random_below(2), 0};
     setenv("HAYRO_JBIG2_READING", happens_in(4) ? "lenient" : "salvage", 1);
     setenv("HAYRO_JBIG2_WORK_LIMIT", happens_in(4) ? "20000" : "3000000", 1);
     for (int i = 0; i < STEPS; i++)

@@ -136,9 +136,7 @@ static void *take_or_leave(struct allocator *allocator, size_t size) {
     return block;
 }
 
-static void keep(struct allocator *allocator, void *block) {
-    (void)allocator, (void)block;
-}
+static void keep(struct allocator *allocator, void *block) { (void)allocator, (void)block; }
 
 static void *free_them(void *globals) {
     jbig2_global_ctx_free(globals);
@@ -238,8 +236,8 @@ static void a_listener_leaves_globals(void) {
 
 /* The page at hand comes with the next call. */
 static void a_listener_leaves_a_page_of_a_file(void) {
-    static const uint8_t file[] = HEADER PAGE("\1", "\1") END("\2", "\1") PAGE("\3", "\2") REGION("\4", "\2")
-        END("\5", "\2");
+    static const uint8_t file[] =
+        HEADER PAGE("\1", "\1") END("\2", "\1") PAGE("\3", "\2") REGION("\4", "\2") END("\5", "\2");
     static struct counted memory;
     memory = counted_allocator();
     struct context *context = jbig2_ctx_new_imp(&memory.base, 0, NULL, hear_and_leave, NULL, ABI_MAJOR, ABI_MINOR);

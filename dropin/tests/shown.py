@@ -22,14 +22,15 @@ import random
 import sys
 import tempfile
 
-from documents import Image, image_of
-from hostile import SOME_PEERS, Stream, damaged
+from hostile import SOME_PEERS, Stream
 from pages import wrong_in_pdf
 from peers import OURS, PEERS, SYSTEM, Library, Peer, pictures_by
-from samples import image_of_sample, samples_of
 
-from conformance.runner.embedding import embedded_page
+from conformance.runner.damage import damaged
+from conformance.runner.embedding import embedded_page, image_of
+from conformance.runner.pdf import Image
 from conformance.runner.pictures import Picture, pictures_of
+from conformance.runner.samples import image_of_sample, samples_of
 from conformance.runner.segments import END_OF_FILE, END_OF_PAGE, PAGE_INFORMATION, UNKNOWN_LENGTH, sequential
 
 SYMBOLS, TEXT, PATTERNS, HALFTONE = 0, 6, 16, 22

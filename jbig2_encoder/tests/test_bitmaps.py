@@ -1,11 +1,12 @@
 """Bitmaps, and what the regions make of them, beside plain readings of the standard."""
 import unittest
 
+from conformance.runner.segments import segments_of_file
 from jbig2_encoder import fields
 from jbig2_encoder.bitmap import AND, OR, REPLACE, XNOR, XOR, Bitmap, context_rows, side_by_side
 from jbig2_encoder.dictionary import HeightClass, NewSymbol, SymbolDictionary
 from jbig2_encoder.document import Document
-from jbig2_encoder.framing import EXTENSION, cut
+from jbig2_encoder.framing import EXTENSION
 from jbig2_encoder.generic import NOMINAL, TEMPLATES, TYPICAL
 from jbig2_encoder.halftone import Grid, planes_of
 from jbig2_encoder.prefix import even_lengths, runs_of
@@ -103,7 +104,7 @@ class DocumentTest(unittest.TestCase):
         first = page.put(EXTENSION, b"")
         page.put(EXTENSION, b"", [first])
         page.put(EXTENSION, b"", [first])
-        counts = [part[5] for part in cut(document.sequential())[1]]
+        counts = [part.beginning[5] for part in segments_of_file(document.sequential())]
         self.assertEqual(counts, [0x00, 0x01, 0x22, 0x20])
 
     def test_every_header_field_has_a_name(self):

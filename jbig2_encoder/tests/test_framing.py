@@ -1,9 +1,9 @@
-"""Headers of segments and files as bytes, and their reading."""
+"""Headers of segments and files as bytes, and pictures."""
 import unittest
 
 from jbig2_encoder import fields
 from jbig2_encoder.bitmap import Bitmap
-from jbig2_encoder.framing import HEADER, cut, in_random_access, page_information, parts_of, segment, segment_header
+from jbig2_encoder.framing import page_information, segment_header
 from jbig2_encoder.pictures import pbm, pixels
 
 
@@ -15,14 +15,6 @@ class FramingTest(unittest.TestCase):
         header = segment_header(564, 0, 32, (256, 2, 30, 5, 512, 513, 514, 515, 516), page=1025)
         numbers = "0100 0002 001E 0005 0200 0201 0202 0203 0204"
         self.assertEqual(header, bytes.fromhex("00000234 40 E0000009 0000" + numbers + "00000401 00000020"))
-
-    def test_files_are_read_as_they_were_written(self):
-        parts = [segment(0, 48, page_information(8, 1)), segment(300, 38, b"abc", (1, 2))]
-        parts.append(segment(301, 51, b"", page=0))
-        data = HEADER + b"".join(parts)
-        self.assertEqual(cut(data), (HEADER, parts))
-        header, pieces = in_random_access(HEADER, parts)
-        self.assertEqual(list(parts_of(header + b"".join(pieces))), list(parts_of(data)))
 
     def test_a_field_may_be_changed(self):
         seen = []

@@ -203,7 +203,8 @@ static uint32_t print_pages(hayro_jbig2_file *file) {
 }
 
 /* Draws the page that is asked for, whole before any of it is printed. */
-static uint32_t print_drawn(const struct request *request, const uint8_t *bytes, size_t length, hayro_jbig2_file *file) {
+static uint32_t print_drawn(const struct request *request, const uint8_t *bytes, size_t length,
+                            hayro_jbig2_file *file) {
     hayro_jbig2_context *context = NULL;
     struct page page = {{0, 0, 0}, 0, 0, NULL};
     uint32_t answer = hayro_jbig2_context_new(NULL, &context);

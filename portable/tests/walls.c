@@ -122,8 +122,8 @@ static void give_back(void *user, void *block, size_t size) {
 
 /* Draws a page of 2^22 pixels within a ceiling. */
 static uint32_t draws_within(struct bounded *bounded) {
-    static const uint8_t stream[] = {0, 0, 0, 0, 48, 0, 1, 0, 0, 0, 19, 0, 0, 8, 0, 0, 0, 8, 0,
-                                     0, 0, 0, 0, 0, 0, 0, 0, 0, 0,  0};
+    static const uint8_t stream[] = {0, 0, 0, 0, 48, 0, 1, 0, 0, 0, 19, 0, 0, 8, 0,
+                                     0, 0, 8, 0, 0,  0, 0, 0, 0, 0, 0,  0, 0, 0, 0};
     const hayro_jbig2_memory memory = {take, give_back, bounded};
     hayro_jbig2_page *page = NULL;
     hayro_jbig2_context *context = NULL;

@@ -15,8 +15,14 @@ import hayro_jbig2.pikepdf
 from pages import GLOBALS, HEADER, ROOT, TEXT
 from test_limits import WIDE
 
-sys.path.insert(0, str(ROOT / "comparison"))
-from pdf import pdf_of  # noqa: E402
+sys.path.insert(1, str(ROOT))
+from conformance.runner import pdf  # noqa: E402
+from conformance.runner.embedding import embedded_page, image_of  # noqa: E402
+
+
+def pdf_of(data):
+    """A PDF file of the first page of a file."""
+    return pdf.pdf_of([image_of(embedded_page(data, 0))])
 
 
 def images_of(data):

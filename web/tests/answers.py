@@ -17,7 +17,7 @@ import sys
 import tempfile
 
 ROOT = pathlib.Path(__file__).resolve().parents[2]
-sys.path[:0] = [str(ROOT), str(pathlib.Path(__file__).resolve().parent)]
+sys.path.insert(1, str(ROOT))
 
 from conformance.runner.embedding import Embedded, embedded_page, file_of  # noqa: E402
 from conformance.runner.segments import pages_of, segments_of_file  # noqa: E402

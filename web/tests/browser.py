@@ -50,7 +50,10 @@ DAMAGED = (
     + bytes.fromhex("00000002 26 00 01 0000001A 00000001 00000001 000000000000000000 00 03FFFDFF02FEFEFE")
     + b" " * 16
 )
-LACKS = "HUFFMAN_INVALID_SELECTION: invalid Huffman table selection", "SEGMENT_INVALID_REFERENCE: segment refers to an invalid segment"
+LACKS = (
+    "HUFFMAN_INVALID_SELECTION: invalid Huffman table selection",
+    "SEGMENT_INVALID_REFERENCE: segment refers to an invalid segment",
+)
 
 
 def shows_what_is_left(browser, folder):
@@ -89,7 +92,8 @@ def goes_on(browser, folder):
     def look(name, file, text):
         wait_until_shown(browser, [good])
         pages = shown(browser)
-        if [text in page for page in pages.get(file.name, []) if isinstance(page, str)] != [True] or len(pages.get(good.name, [])) != 3:
+        said = [text in page for page in pages.get(file.name, []) if isinstance(page, str)]
+        if said != [True] or len(pages.get(good.name, [])) != 3:
             faults.append(f"{name}: {pages}")
 
     set_seconds(browser, 1000)

@@ -52,7 +52,8 @@ def browsers():
     """The words that start each browser with a profile, or None where it isn't installed."""
     firefox = shutil.which("firefox") or shutil.which("firefox-esr")
     return {
-        "Chromium": chromium() and [chromium(), "--headless=new", "--no-sandbox", "--disable-gpu", "--no-first-run", "--user-data-dir="],
+        "Chromium": chromium()
+        and [chromium(), "--headless=new", "--no-sandbox", "--disable-gpu", "--no-first-run", "--user-data-dir="],
         "Firefox": firefox and [firefox, "--headless", "--no-remote", "--profile", ""],
     }
 

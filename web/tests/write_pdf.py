@@ -1,6 +1,8 @@
 """Writes PDF files of several JBIG2 images, in a plain form and in one that PDF allows too and few files have."""
 import zlib
 
+from conformance.runner.pdf import joined
+
 
 class Objects:
     """The objects of a file that is being written."""
@@ -13,15 +15,9 @@ class Objects:
         self.contents.append(content)
         return b"%d 0 R" % len(self.contents)
 
-    def file(self, root):
+    def file(self, catalog):
         """The file, with a table of where its objects stand."""
-        out, places = b"%PDF-1.5\n%\xe2\xe3\xcf\xd3\n", []
-        for number, content in enumerate(self.contents, 1):
-            places.append(len(out))
-            out += b"%d 0 obj\n%s\nendobj\n" % (number, content)
-        table = b"xref\n0 %d\n0000000000 65535 f \n" % (len(places) + 1)
-        table += b"".join(b"%010d 00000 n \n" % place for place in places)
-        return out + table + b"trailer\n<< /Size %d /Root %s >>\nstartxref\n%d\n%%%%EOF\n" % (len(places) + 1, root, len(out))
+        return joined(self.contents, catalog)
 
 
 def stream_of(words, data):
@@ -59,6 +55,7 @@ def pdf_of_images(images, packed):
         image = add_image(objects, words, streams.stream, streams.shared)
         drawing = objects.add(stream_of(b"", b"q %d 0 0 %d 0 0 cm /Image Do Q" % (width, height)))
         box = b"/MediaBox [0 0 %d %d] /Contents %s" % (width, height, drawing)
-        kids.append(objects.add(b"<< /Type /Page /Parent %s %s /Resources << /XObject << /Image %s >> >> >>" % (tree, box, image)))
+        page = b"<< /Type /Page /Parent %s %s /Resources << /XObject << /Image %s >> >> >>" % (tree, box, image)
+        kids.append(objects.add(page))
     objects.contents[0] = b"<< /Type /Pages /Kids [%s] /Count %d >>" % (b" ".join(kids), len(kids))
     return objects.file(objects.add(b"<< /Type /Catalog /Pages %s >>" % tree))

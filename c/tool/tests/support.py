@@ -12,7 +12,7 @@ import unittest
 import zlib
 
 ROOT = pathlib.Path(__file__).resolve().parents[3]
-sys.path[1:1] = [str(ROOT), str(ROOT / "dropin" / "tests")]
+sys.path.insert(1, str(ROOT))
 
 from conformance.runner.pictures import Picture, of_numbers, pictures_of  # noqa: E402
 

@@ -7,10 +7,10 @@ import unittest
 
 from support import BOOK, EXAMPLE, HAS_PDF, INCOMPLETE, NOT_DONE, SUITE, WHOLE, Case
 
-from conformance.runner.embedding import embedded_page
+from conformance.runner.embedding import embedded_page, image_of
 from conformance.runner.manifest import PICTURE, read_manifest
+from conformance.runner.pdf import pdf_of
 from conformance.runner.segments import segments_of_file
-from documents import image_of, pdf_of
 
 ENTRIES = read_manifest(SUITE / "manifest.tsv")
 

@@ -22,10 +22,10 @@ from support import (
     run,
 )
 
+from conformance.runner.damage import damaged
 from conformance.runner.embedding import file_of, embedded_page
 from conformance.runner.manifest import PICTURE, read_manifest, read_sample
 from conformance.runner.segments import header_at, with_data
-from hostile import damaged
 
 ENTRIES = read_manifest(SUITE / "manifest.tsv")
 FILES = sorted({entry.name for entry in ENTRIES if not entry.is_embedded})

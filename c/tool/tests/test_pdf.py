@@ -10,11 +10,10 @@ import zlib
 
 from support import BOOK, HAS_PDF, INCOMPLETE, NOT_DONE, SUITE, TOOL, WHOLE, Case, picture_of_png
 
+from conformance.runner.embedding import embedded_page, image_of
 from conformance.runner.manifest import read_manifest
-from conformance.runner.embedding import embedded_page
-from conformance.runner.pdf import stream_object
-from documents import Image, image_of, joined, pdf_of
-from samples import image_of_sample, samples_of
+from conformance.runner.pdf import Image, joined, pdf_of, stream_object
+from conformance.runner.samples import image_of_sample, samples_of
 
 
 def needs(program):

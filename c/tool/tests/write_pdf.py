@@ -6,10 +6,10 @@ import pathlib
 import sys
 
 ROOT = pathlib.Path(__file__).resolve().parents[3]
-sys.path[1:1] = [str(ROOT), str(ROOT / "dropin" / "tests")]
+sys.path.insert(1, str(ROOT))
 
-from conformance.runner.embedding import embedded_page  # noqa: E402
-from documents import image_of, pdf_of  # noqa: E402
+from conformance.runner.embedding import embedded_page, image_of  # noqa: E402
+from conformance.runner.pdf import pdf_of  # noqa: E402
 
 BOOK = (ROOT / "crates" / "jbig2_decode" / "data" / "t88-h1.jb2").read_bytes()
 images = [image_of(embedded_page(BOOK, index)) for index in (1, 1, 2, 0)]

@@ -3,9 +3,9 @@ from __future__ import annotations
 
 import pathlib
 
-from documents import Image, image_of  # puts the root on the path
-
-from conformance.runner.manifest import Sample, read_manifest, read_sample
+from .embedding import image_of
+from .manifest import Sample, read_manifest, read_sample
+from .pdf import Image
 
 
 def samples_of(suite: pathlib.Path) -> list[Sample]:
