@@ -2,7 +2,7 @@
 
 use core::ptr::{self, NonNull};
 
-use super::{MEMORY, Reading, ffi, left_out, made, without_line_end};
+use super::{Reading, allocator, ffi, left_out, made, without_line_end};
 use crate::error::Result;
 use crate::lock::Lock;
 use crate::passed_over::LeftOut;
@@ -30,10 +30,12 @@ impl Globals {
         // SAFETY: the rules of the header.
         let number = unsafe {
             match reading {
-                Reading::Salvage => ffi::hayro_jbig2_globals_new_salvaged(MEMORY, work, start, length, &mut handle),
+                Reading::Salvage => {
+                    ffi::hayro_jbig2_globals_new_salvaged(allocator(), work, start, length, &mut handle)
+                }
                 _ => {
                     let strict = reading.is_strict();
-                    ffi::hayro_jbig2_globals_new_within(MEMORY, strict, work, start, length, &mut handle)
+                    ffi::hayro_jbig2_globals_new_within(allocator(), strict, work, start, length, &mut handle)
                 }
             }
         };

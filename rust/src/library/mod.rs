@@ -13,6 +13,8 @@ mod globals;
 mod memory;
 mod numbers;
 mod page;
+#[cfg(not(hayro_jbig2_portable))]
+mod processor;
 
 use core::ptr::{self, NonNull};
 
@@ -27,8 +29,13 @@ pub(crate) use page::Page;
 #[cfg(not(hayro_jbig2_portable))]
 core::arch::global_asm!(include_str!(concat!(env!("OUT_DIR"), "/libhayro_jbig2.s")), options(att_syntax, raw));
 
-/// What the calls are handed for memory: that of `memory.rs`, or of C where the library is that of `portable/`.
-const MEMORY: *const ffi::Memory = ptr::null();
+/// What the calls that make a handle are handed for memory: that of `memory.rs`, or of C where the library is that of
+/// `portable/`. No other call comes before such a one, so the processor is checked here.
+fn allocator() -> *const ffi::Memory {
+    #[cfg(not(hayro_jbig2_portable))]
+    processor::check();
+    ptr::null()
+}
 
 /// How bytes are read.
 #[derive(Debug, Clone, Copy, PartialEq, Eq)]

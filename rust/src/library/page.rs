@@ -2,7 +2,7 @@
 
 use core::ptr::{self, NonNull};
 
-use super::{Context, Globals, MEMORY, PageInfo, Reading, ffi, left_out, made, result, without_line_end};
+use super::{Context, Globals, PageInfo, Reading, allocator, ffi, left_out, made, result, without_line_end};
 use crate::error::Result;
 use crate::lock::Lock;
 use crate::passed_over::LeftOut;
@@ -61,8 +61,8 @@ fn read_alone(stream: &[u8], reading: Reading, handle: &mut *mut ffi::Page) -> u
     // SAFETY: the rules of the header.
     unsafe {
         match reading {
-            Reading::Salvage => ffi::jbig2_c_salvaged_alone(MEMORY, bytes, length, handle),
-            _ => ffi::jbig2_c_page_alone(MEMORY, reading.is_strict(), bytes, length, handle),
+            Reading::Salvage => ffi::jbig2_c_salvaged_alone(allocator(), bytes, length, handle),
+            _ => ffi::jbig2_c_page_alone(allocator(), reading.is_strict(), bytes, length, handle),
         }
     }
 }
@@ -72,8 +72,8 @@ fn read_with(stream: &[u8], globals: *mut ffi::Globals, reading: Reading, handle
     // SAFETY: the rules of the header. `Globals::with` lends the globals to one call at a time.
     unsafe {
         match reading {
-            Reading::Salvage => ffi::jbig2_c_salvaged_with(MEMORY, globals, bytes, length, handle),
-            _ => ffi::jbig2_c_page_with(MEMORY, reading.is_strict(), globals, bytes, length, handle),
+            Reading::Salvage => ffi::jbig2_c_salvaged_with(allocator(), globals, bytes, length, handle),
+            _ => ffi::jbig2_c_page_with(allocator(), reading.is_strict(), globals, bytes, length, handle),
         }
     }
 }
