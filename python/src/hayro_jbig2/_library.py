@@ -156,7 +156,7 @@ def _units(limit: WorkLimit, usual: int) -> int:
 
 def _work_limit_reached(units: int) -> WorkLimitReached:
     text = f"the limit of {units} units of work is reached"
-    return WorkLimitReached(text, _OUT_OF_MEMORY, WorkLimitReached.__name__)
+    return WorkLimitReached(text, _WORK_LIMIT, WorkLimitReached.__name__)
 
 
 def _segment(number: int, error: int) -> PassedSegment:
