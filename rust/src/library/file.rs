@@ -3,10 +3,13 @@
 use alloc::vec::Vec;
 use core::ptr::{self, NonNull};
 
-use super::{Context, PageInfo, Reading, allocator, ffi, left_out, made, result};
+use super::{Context, PageInfo, Reading, allocator, ffi, left_out, made, result, whole_segments};
 use crate::error::{DecodeError, Result};
 use crate::lock::Lock;
-use crate::passed_over::LeftOut;
+use crate::passed_over::{LeftOut, PassedOver};
+
+/// Where the flags of a file's header are (T.88, D.4.2).
+const FLAGS: usize = 8;
 
 /// A file, read but not decoded. It borrows its bytes.
 #[derive(Debug)]
@@ -34,7 +37,7 @@ impl<'a> File<'a> {
         let mut file = Self { bytes, reading, work, infos: Vec::new(), left_out, idle: Lock::new(Vec::new()) };
         let mut handle = file.handle()?;
         file.infos = handle.infos()?;
-        file.left_out = handle.left_out()?;
+        file.left_out = handle.left_out(|| file.passed_before_the_end())?;
         file.put_back(handle);
         Ok(file)
     }
@@ -56,6 +59,21 @@ impl<'a> File<'a> {
         let drawn = handle.draw(index, context, work);
         self.put_back(handle);
         drawn
+    }
+
+    /// What was passed over of the segments that the pages share, before the list ends early. In random access the data
+    /// is after the whole list, so it isn't known.
+    fn passed_before_the_end(&self) -> Result<PassedOver> {
+        let is_sequential = self.bytes[FLAGS] & 1 != 0;
+        if self.reading != Reading::Salvage || !is_sequential {
+            return Ok(PassedOver::default());
+        }
+        let header = if self.bytes[FLAGS] & 2 != 0 { 9 } else { 13 };
+        let whole = header + whole_segments(&self.bytes[header..])?.len();
+        if whole == self.bytes.len() {
+            return Ok(PassedOver::default());
+        }
+        Ok(File::new(&self.bytes[..whole], self.reading, self.work)?.left_out.passed_over)
     }
 
     /// A handle that no one else has.
@@ -111,9 +129,9 @@ impl Handle {
         Ok(infos)
     }
 
-    fn left_out(&mut self) -> Result<LeftOut> {
+    fn left_out(&mut self, before_the_end: impl FnOnce() -> Result<PassedOver>) -> Result<LeftOut> {
         // SAFETY: the rules of the header.
-        left_out(|raw| unsafe { ffi::hayro_jbig2_file_get_left_out(self.0.as_ptr(), raw) })
+        left_out(|raw| unsafe { ffi::hayro_jbig2_file_get_left_out(self.0.as_ptr(), raw) }, before_the_end)
     }
 
     fn draw(&mut self, index: usize, context: &mut Context, work: u64) -> Result<()> {
