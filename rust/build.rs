@@ -15,8 +15,8 @@ const TEXTS: [&str; 2] = ["../dist/x86_64/libhayro_jbig2.s", "text/libhayro_jbig
 /// What the text calls of `src/library/memory.rs`.
 const CALLED: [&str; 2] = ["jbig2_c_take", "jbig2_c_give_back"];
 
-/// The folders of the C: in the repository, and in a packaged crate. Those of `c/` are beside them.
-const PORTABLE: [&str; 2] = ["../portable", "portable"];
+/// The largest file of the C: in the repository, and in a packaged crate. The others are beside it.
+const MODULES: [&str; 2] = ["../portable/hayro_jbig2_module.c", "portable/hayro_jbig2_module.c"];
 const PORTABLE_FILES: [&str; 8] = [
     "hayro_jbig2_module.c",
     "instance.c",
@@ -28,8 +28,12 @@ const PORTABLE_FILES: [&str; 8] = [
     "../c/texts.c",
 ];
 
+const PORTABLE_HEADERS: [&str; 6] =
+    ["hayro_jbig2_module.h", "instance.h", "held.h", "calls.h", "wasm-rt.h", "../c/hayro_jbig2.h"];
+
 /// A note of ELF: the program needs a processor of the level x86-64-v2. The loader of glibc 2.33 and later then refuses
-/// an older one, before the first instruction (`dist/processor.h`).
+/// an older one, before the first instruction (`dist/processor.h`), where GNU ld has linked the program. LLD drops the
+/// note, so `src/library/processor.rs` looks too.
 const LEVEL: &str = "\t.section .note.gnu.property,\"a\",@note\n\t.p2align 3\n\t.long 4, 16, 5\n\t.asciz \"GNU\"\n\
                      \t.long 0xc0008002, 4, 3, 0\n\t.text\n";
 
@@ -61,11 +65,20 @@ fn prepare_text(made: &Path) {
     fs::write(made.join("libhayro_jbig2.s"), prepared).expect("the text can be written into cargo's folder");
 }
 
-/// A program of C: that of the variables which name it for the target, or the usual one.
-fn program(name: &str, target: &str, usual: &str) -> String {
+/// A program of C and its first options: what the variables say that name it for the target, or the usual one. The path
+/// of a program may have spaces.
+fn program(name: &str, target: &str, usual: &str) -> Vec<String> {
     let variables = [format!("{name}_{}", target.replace('-', "_")), format!("TARGET_{name}"), name.to_owned()];
     variables.iter().for_each(|variable| println!("cargo::rerun-if-env-changed={variable}"));
-    variables.iter().find_map(|variable| env::var(variable).ok()).unwrap_or_else(|| usual.to_owned())
+    let named = variables.iter().filter_map(|variable| env::var(variable).ok()).find(|value| !value.trim().is_empty());
+    let words = named.unwrap_or_else(|| usual.to_owned());
+    if Path::new(&words).is_file() { vec![words] } else { words.split_whitespace().map(str::to_owned).collect() }
+}
+
+fn command(words: &[String]) -> Command {
+    let mut command = Command::new(&words[0]);
+    command.args(&words[1..]);
+    command
 }
 
 fn run(command: &mut Command, target: &str) {
@@ -81,29 +94,40 @@ fn compile_portable(target: &str, made: &Path) {
         !target.ends_with("-msvc"),
         "portable/ was not tried with MSVC: take a target that ends in -gnu, not {target}"
     );
-    let folder = Path::new(found(&PORTABLE));
+    let folder = Path::new(found(&MODULES)).parent().expect("a file is in a folder");
     let cross = env::var("HOST").is_ok_and(|host| host != target);
     let (compiler, archiver) = (program("CC", target, "cc"), program("AR", target, "ar"));
-    assert!(!cross || compiler != "cc", "{target} needs a cross compiler: set CC and AR to the names of its programs");
-    println!("cargo::rerun-if-changed={}", folder.display());
+    assert!(
+        !cross || compiler != ["cc"],
+        "{target} needs a cross compiler: set CC and AR to the names of its programs"
+    );
+    for file in PORTABLE_FILES.iter().chain(&PORTABLE_HEADERS) {
+        println!("cargo::rerun-if-changed={}", folder.join(file).display());
+    }
     let archive = made.join("libhayro_jbig2_portable.a");
     let mut objects = Vec::new();
     for (number, file) in PORTABLE_FILES.iter().enumerate() {
         let object = made.join(format!("{number}.o"));
-        let mut command = Command::new(compiler.split(' ').next().unwrap_or("cc"));
-        command.args(compiler.split(' ').skip(1)).args(["-O2", "-std=c99", "-fPIC", "-fvisibility=hidden", "-c", "-I"]);
+        let mut command = command(&compiler);
+        command.args(["-O2", "-std=c99", "-fPIC", "-fvisibility=hidden", "-c", "-I"]);
         command.arg(folder).arg("-I").arg(folder.join("../c")).arg(folder.join(file)).arg("-o").arg(&object);
         run(&mut command, target);
         objects.push(object);
     }
     let _ = fs::remove_file(&archive);
-    run(Command::new(archiver).arg("rcs").arg(&archive).args(&objects), target);
+    run(command(&archiver).arg("rcs").arg(&archive).args(&objects), target);
     println!("cargo::rustc-link-search=native={}", made.display());
     println!("cargo::rustc-link-lib=static=hayro_jbig2_portable");
 }
 
 fn found(names: &[&'static str; 2]) -> &'static str {
-    names.iter().find(|name| Path::new(name).exists()).unwrap_or_else(|| panic!("there is none of {names:?}"))
+    names.iter().find(|name| Path::new(name).exists()).unwrap_or_else(|| {
+        panic!(
+            "there is neither {} nor {}: `cargo vendor` leaves it out of the repository's crate, and rust/package writes \
+             a crate that has it",
+            names[0], names[1]
+        )
+    })
 }
 
 fn prepared(text: &str) -> String {

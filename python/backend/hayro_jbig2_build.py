@@ -105,8 +105,10 @@ def build_sdist(sdist_directory, config_settings=None):
 
 def native(path):
     """A file of the repository, or its copy."""
-    copy = COPIES / path
-    return copy if copy.exists() else ROOT.parent / path
+    for found in COPIES / path, ROOT.parent / path:
+        if found.exists():
+            return found
+    raise RuntimeError(f"there is no {path} beside {ROOT}: pip before 21.3 copies that folder alone, so take a later one")
 
 
 def is_source(path):
@@ -170,7 +172,7 @@ def platforms_of(library):
 
 def shared_library(portable):
     """The library's text and the C files around it, or the portable C, compiled."""
-    compiler = shlex.split(os.environ.get("CC", "cc"))
+    compiler = shlex.split(os.environ.get("CC", "")) or ["cc"]
     words = ["-O2", "-shared", "-fPIC", "-I", str(native("c/hayro_jbig2.h").parent)]
     if sys.platform == "linux":
         words += ["-Wl,-Bsymbolic,-z,defs,-z,relro,-z,now", f"-Wl,--version-script={native('c/exports.map')}"]

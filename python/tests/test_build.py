@@ -39,6 +39,17 @@ class Build(unittest.TestCase):
             os.environ.pop("PROCESSOR", None)
             self.assertEqual(build.platforms_of(b"\xcf\xfa\xed\xfe".ljust(64, b"\0")), ["macosx_11_0_arm64"])
 
+    def test_the_folder_alone(self):
+        with mock.patch.object(build, "ROOT", pathlib.Path("/nonexistent/python")), mock.patch.object(
+            build, "COPIES", pathlib.Path("/nonexistent/python/native")
+        ), self.assertRaisesRegex(RuntimeError, "pip before 21.3"):
+            build.shared_library(True)
+
+    def test_an_empty_name_is_no_compiler(self):
+        with mock.patch.dict(os.environ, {"CC": " "}), mock.patch("subprocess.run", side_effect=FileNotFoundError):
+            with self.assertRaisesRegex(RuntimeError, r"there is no C compiler \(cc\)"):
+                build.shared_library(True)
+
     def test_no_compiler(self):
         with mock.patch.dict(os.environ, {"CC": "/no/such/cc"}), self.assertRaisesRegex(RuntimeError, "there is no C compiler"):
             build.shared_library(True)

@@ -110,6 +110,30 @@ class Command(unittest.TestCase):
         self.assertEqual(self.run_command("text", "other.pbm", "--strict")[0], 1)
         self.assertFalse((self.folder / "other.pbm").exists())
 
+    def test_a_page_that_fails_stops_no_other(self):
+        pages = b"".join(
+            bytes.fromhex(text)
+            for text in (
+                "974A42320D0A1A0A 03",
+                "0000000A 30 00 01 00000013 00000008 00000001 0000000000000000000000 0000000C 31 00 01 00000000",
+                # A dictionary that wants a table which isn't there.
+                "00000014 30 00 02 00000013 00000008 00000001 0000000000000000000000",
+                "00000015 00 00 02 0000000F 0009 00000001 00000001 5F80800040 00000016 31 00 02 00000000",
+                "0000001E 30 00 03 00000013 00000008 00000001 0400000000000000000000 00000020 31 00 03 00000000",
+            )
+        )
+        message = "-: page 1: invalid Huffman table selection\n"
+        self.assertEqual(self.run_command("-", "page-{}.pbm", data=pages), (1, "", message))
+        written = {path.name: path.read_bytes()[-1:] for path in self.folder.glob("page-*")}
+        self.assertEqual(written, {"page-0.pbm": b"\0", "page-2.pbm": b"\0"})
+        self.assertEqual(self.run_command("-", "page-{}.pbm", "--salvage", data=pages)[0], 0)
+        self.assertTrue((self.folder / "page-1.pbm").exists())
+
+    def test_a_fault_of_the_globals_names_them(self):
+        (self.folder / "globals").write_bytes(GLOBALS + b" " * 16)
+        said = (1, "", "globals: segment refers to an invalid segment\n")
+        self.assertEqual(self.run_command("text", "text.pbm", "--globals", "globals"), said)
+
     def test_faults(self):
         self.assertEqual(
             self.run_command("wide", "page.png"), (1, "", "wide: the limit of 16777216 units of work is reached\n")

@@ -39,9 +39,30 @@ class Data(unittest.TestCase):
             self.assertEqual(hayro_jbig2.decode(TEXT, globals=path).rows, b"\x80")
             self.assertEqual(hayro_jbig2.decode(TEXT, globals=hayro_jbig2.Globals(str(path))).rows, b"\x80")
 
+    def test_what_files_and_paths_may_be(self):
+        class Reader:
+            def __init__(self, content):
+                self.content = content
+
+            def read(self):
+                return self.content
+
+        page = hayro_jbig2.decode(BOOK)
+        for content in bytearray(BOOK), memoryview(BOOK):
+            self.assertEqual(hayro_jbig2.decode(Reader(content)), page)
+        with self.assertRaisesRegex(TypeError, "not NoneType"):
+            hayro_jbig2.decode(Reader(None))
+        with tempfile.TemporaryDirectory() as folder:
+            # A name that is no UTF-8.
+            pathlib.Path(folder, "caf\udce9 {}\n.jb2").write_bytes(BOOK)
+            for place in folder, os.fsencode(folder):
+                with os.scandir(place) as [entry]:
+                    self.assertEqual(hayro_jbig2.decode(entry), page)
+
     def test_other_things_are_no_data(self):
-        with self.assertRaises(FileNotFoundError):
-            hayro_jbig2.decode("no such file")
+        for name in "no such file", "":
+            with self.assertRaises(FileNotFoundError):
+                hayro_jbig2.decode(name)
         for nothing in None, 7, [1, 2]:
             with self.assertRaisesRegex(TypeError, "a path or an open file"):
                 hayro_jbig2.decode(nothing)

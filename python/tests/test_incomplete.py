@@ -8,7 +8,7 @@ import unittest
 import warnings
 
 import hayro_jbig2
-from pages import EXAMPLE, GLOBALS, PAGE, TEXT
+from pages import EXAMPLE, GLOBALS, HEADER, PAGE, TEXT
 
 BOOK = EXAMPLE.read_bytes()
 # Regions of one black pixel, numbers 2 to 5.
@@ -81,6 +81,22 @@ class Incomplete(unittest.TestCase):
             page = hayro_jbig2.decode(TEXT, globals=shared, **how, warn=False)
             self.assertEqual((page.passed_over.count, page.is_complete), (0, False))
             self.assertEqual(page.lacks, ["what pages share: segment 1: segment refers to an invalid segment"])
+
+    def test_two_faults_of_one_kind_are_two(self):
+        """A dictionary that lacks something, and a list that ends with the same error, in salvage."""
+        lacking = GLOBALS.replace(bytes.fromhex("00000001 00 00 01"), bytes.fromhex("00000001 00 20 00 00"), 1)
+        end = bytes.fromhex("00000004 31 00 01 00000000")
+        segments = TEXT[:30] + lacking + TEXT[30:] + end + b" " * 16
+        shared = hayro_jbig2.Globals(lacking + b" " * 16, salvage=True)
+        for page in (
+            hayro_jbig2.decode(TEXT, globals=shared, salvage=True, warn=False),
+            hayro_jbig2.decode(HEADER + segments, salvage=True, warn=False),
+            hayro_jbig2.decode(HEADER[:8] + b"\3" + segments, salvage=True, warn=False),
+        ):
+            self.assertEqual((page.passed_over.count, page.rows, page.is_complete), (0, b"\x80", False))
+            self.assertEqual(page.lacks, ["what pages share: segment 1: segment refers to an invalid segment"])
+            cut_off = page.left_out.cut_off
+            self.assertEqual((cut_off.segment_number, cut_off.error.variant), (None, "InvalidReference"))
 
     def test_a_file_whose_second_page_is_cut_off(self):
         data = BOOK[: BOOK.index(bytes.fromhex("31 00 02 00000000")) - 5]

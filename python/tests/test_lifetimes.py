@@ -76,6 +76,11 @@ class Values(unittest.TestCase):
         other = pickle.loads(pickle.dumps(page))
         self.assertEqual(str(other.passed_over.first.error), str(page.passed_over.first.error))
         self.assertEqual(type(other.passed_over.first.error), type(page.passed_over.first.error))
+        for other in other, copy.deepcopy(page), hayro_jbig2.decode(lifetimes.TEXT, warn=False):
+            self.compare(other, page)
+            self.assertEqual(hash(other.passed_over), hash(page.passed_over))
+        lacking = hayro_jbig2.decode(lifetimes.TEXT[:-1], warn=False)
+        self.assertNotEqual(lacking.passed_over, page.passed_over)
 
     def test_other_processes_return_pages(self):
         with concurrent.futures.ProcessPoolExecutor(1) as processes:

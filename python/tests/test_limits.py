@@ -36,7 +36,8 @@ class Limits(unittest.TestCase):
         self.assertLess(time.monotonic() - before, 10)
         self.assertIsInstance(caught.exception, hayro_jbig2.OutOfMemory)
         self.assertEqual(str(caught.exception), "the limit of 16777216 units of work is reached")
-        self.assertEqual((caught.exception.number, caught.exception.variant), (41, "WorkLimitReached"))
+        # HAYRO_JBIG2_WORK_LIMIT
+        self.assertEqual((caught.exception.number, caught.exception.variant), (103, "WorkLimitReached"))
 
     def test_what_pages_share_has_a_limit(self):
         for call in (

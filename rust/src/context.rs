@@ -6,24 +6,18 @@ use crate::work::Limit;
 
 /// Room that decoding a page uses and the next page uses again. What an earlier page, or one that was refused, leaves
 /// in it changes nothing of the next page.
-#[derive(Debug)]
+#[derive(Debug, Default)]
 pub struct DecoderContext {
     pub(crate) inner: library::Context,
     pub(crate) limit: Limit,
-    /// Of the page that was decoded last.
+    /// Whether there is a page that was decoded last, and nothing that it shares with others is known to lack something.
     pub(crate) is_shared_whole: bool,
-}
-
-impl Default for DecoderContext {
-    fn default() -> Self {
-        Self { inner: library::Context::default(), limit: Limit::default(), is_shared_whole: true }
-    }
 }
 
 impl DecoderContext {
     /// Whether nothing is known to be missing of the page that was decoded last: no segment of it failed or is cut off,
-    /// and each found what it refers to; nor of its globals, or of what the pages of its file share. `hayro-jbig2` 0.4.0
-    /// has no such call.
+    /// and each found what it refers to; nor of its globals, or of what the pages of its file share. False after an
+    /// error, and in a new context. `hayro-jbig2` 0.4.0 has no such call.
     ///
     /// Lenient reading forgives more without a count: rows of MMR data after a fault, gray values without a pattern, ids
     /// without a symbol. Damage within arithmetic data can't be known: the format has no checksum.
@@ -31,7 +25,8 @@ impl DecoderContext {
         self.passed_over().count == 0 && self.is_shared_whole
     }
 
-    /// What the page that was decoded last lacks; nothing in a new context. `hayro-jbig2` 0.4.0 has no such call.
+    /// What the page that was decoded last lacks; nothing after an error, and in a new context. `hayro-jbig2` 0.4.0 has
+    /// no such call.
     pub fn passed_over(&self) -> PassedOver {
         self.inner.passed_over()
     }

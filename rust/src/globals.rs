@@ -9,7 +9,6 @@ use crate::{DecodeSettings, LeftOut};
 #[derive(Debug)]
 pub struct Globals {
     pub(crate) inner: library::Globals,
-    left_out: LeftOut,
 }
 
 impl Globals {
@@ -55,12 +54,10 @@ impl Globals {
 
     /// What was left out.
     pub fn left_out(&self) -> LeftOut {
-        self.left_out
+        self.inner.left_out()
     }
 
     fn read(data: &[u8], reading: Reading, limit: Limit) -> Result<Self> {
-        let inner = library::Globals::new(data, reading, limit.of_shared(data.len()))?;
-        let left_out = inner.left_out()?;
-        Ok(Self { inner, left_out })
+        Ok(Self { inner: library::Globals::new(data, reading, limit.of_shared(data.len()))? })
     }
 }

@@ -12,7 +12,7 @@ use crate::{DecodeSettings, File, Page};
 pub enum Jbig2Error {
     /// The reader failed.
     Io(io::Error),
-    /// The bytes are no page, or memory ran out.
+    /// The bytes are no page, or there was want of memory or of work.
     Decode(DecodeError),
 }
 
@@ -51,7 +51,7 @@ impl Jbig2Decoder {
     ///
     /// # Errors
     ///
-    /// The reader's error, or the first fault of the file. A file without pages is
+    /// The reader's error, or the first fault of the file, or want of memory or of work. A file without pages is
     /// [`FormatError::MissingPageInfo`].
     pub fn new<R: Read>(mut reader: R) -> Result<Self, Jbig2Error> {
         let mut bytes = Vec::new();
@@ -69,7 +69,7 @@ impl Jbig2Decoder {
     ///
     /// # Errors
     ///
-    /// The page's first fault, or want of memory; `image` is as it was then.
+    /// The page's first fault, or want of memory or of work; `image` is as it was then.
     ///
     /// # Panics
     ///

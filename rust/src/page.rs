@@ -161,10 +161,11 @@ impl<'a> Page<'a> {
 
     fn draw(&self, ctx: &mut DecoderContext) -> Result<()> {
         let work = ctx.limit.of_page(self.width(), self.height());
-        ctx.is_shared_whole = self.is_shared_whole;
-        match &self.source {
+        let drawn = match &self.source {
             Source::Embedded(page) => page.draw(&mut ctx.inner, work),
             Source::File { file, index } => file.draw(*index, &mut ctx.inner, work),
-        }
+        };
+        ctx.is_shared_whole = self.is_shared_whole && drawn.is_ok();
+        drawn
     }
 }

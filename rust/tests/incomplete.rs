@@ -56,7 +56,7 @@ fn drawn(page: &Page<'_>) -> (u8, bool, PassedOver) {
         fn next_line(&mut self) {}
     }
     let mut context = DecoderContext::default();
-    assert!(context.is_complete());
+    assert!(!context.is_complete());
     let mut row = Row(0, 0);
     page.decode_with(&mut row, &mut context).unwrap();
     (row.0, context.is_complete(), context.passed_over())
@@ -120,6 +120,28 @@ fn symbols_that_are_not_there() {
     both(&of(&[PAGE, TEXT, DATA]), Some(&globals), |page| {
         assert_eq!(drawn(page), (0x80, false, PassedOver::default()));
     });
+}
+
+#[test]
+fn a_context_holds_no_page_after_an_error() {
+    struct Nobody;
+    impl Decoder for Nobody {
+        fn push_pixel(&mut self, _black: bool) {}
+        fn push_pixel_chunk(&mut self, _black: bool, _chunk_count: u32) {}
+        fn next_line(&mut self) {}
+    }
+    let (file, lacking) = (File::new(BOOK, &STRICT).unwrap(), of(&[PAGE, TEXT, DATA]));
+    let (whole, refused) = (file.page(0).unwrap(), Page::new_embedded(&lacking, None, &STRICT).unwrap());
+    let mut context = DecoderContext::default();
+    for work in [None, Some(0)] {
+        context.set_work_limit(None);
+        whole.decode_with(&mut Nobody, &mut context).unwrap();
+        assert!(context.is_complete());
+        context.set_work_limit(work);
+        let page = if work.is_none() { &refused } else { &whole };
+        assert!(page.decode_with(&mut Nobody, &mut context).is_err());
+        assert_eq!((context.is_complete(), context.passed_over()), (false, PassedOver::default()));
+    }
 }
 
 #[test]

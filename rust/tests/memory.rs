@@ -101,3 +101,27 @@ fn an_embedded_page_lacks_memory() {
     });
     assert!(refusals > 10, "{refusals} requests");
 }
+
+/// A dictionary that refers to number 0, which isn't there, and a header that refers to its own number. Salvage looks at
+/// them twice.
+#[test]
+fn salvage_lacks_memory() {
+    let dictionary = b"\0\0\0\x01\x00\x20\0\0\0\0\0\x0F\0\x01\0\0\0\x01\0\0\0\x01\x5F\x80\x80\0\x40";
+    let shared = [dictionary, &[b' '; 16][..]].concat();
+    let stream = &EXAMPLE[13 + 35..];
+    let refusals = refuse_in_turn(|counter| {
+        let globals = Globals::salvaged(&shared)?;
+        assert_eq!(globals.left_out().passed_over.count, 1);
+        Page::salvaged_embedded(stream, Some(&globals))?.decode(counter)
+    });
+    assert!(refusals > 10, "{refusals} requests");
+    // A page of 8 by 1, in a file that doesn't count its pages.
+    let page = b"\0\0\0\0\x30\0\x01\0\0\0\x13\0\0\0\x08\0\0\0\x01\0\0\0\0\0\0\0\0\0\0\0";
+    let data = [b"\x97JB2\r\n\x1A\n\x03", &page[..], &shared].concat();
+    let refusals = refuse_in_turn(|counter| {
+        let file = File::salvaged(&data)?;
+        assert_eq!(file.left_out().passed_over.count, 1);
+        file.page(0).expect("a page").decode(counter)
+    });
+    assert!(refusals > 10, "{refusals} requests");
+}

@@ -19,6 +19,8 @@ const NO_PAGE: &str = "00000000 30 00 02 00000013 00000000 00000001 000000000000
 const REGION: &str = "00000002 26 00 01 0000001A 00000001 00000001 0000000000000000 00 00 03FFFDFF02FEFEFE";
 /// Number 1, a dictionary that wants a table which is not there.
 const BAD_SYMBOLS: &str = "00000001 00 00 01 0000000F 0009 00000001 00000001 5F80800040";
+/// Number 1, a dictionary that refers to number 0, which isn't there. It is kept all the same.
+const LACKING_SYMBOLS: &str = "00000001 00 20 00 00 0000000F 0001 00000001 00000001 5F80800040";
 /// Number 2, a dictionary of one black symbol.
 const SYMBOLS: &str = "00000002 00 00 01 0000000F 0001 00000001 00000001 5F80800040";
 /// Number 3, a text region that refers to number 2.
@@ -108,6 +110,36 @@ fn globals_keep_what_can_be_read() {
         let page = Page::salvaged_embedded(&stream, Some(&globals)).unwrap();
         assert_eq!(drawn(&page), (0x80, PassedOver::default()));
     }
+}
+
+/// A dictionary that lacks something, and a list that ends with the same error: both are told, and pages aren't complete.
+#[test]
+fn two_faults_of_one_kind_are_two() {
+    // It refers to number 1.
+    let text = TEXT.replace("20 02", "20 01");
+    let globals = of(&[LACKING_SYMBOLS, JUNK]);
+    let cut_off = Some(PassedSegment { segment_number: None, error: REFERENCE });
+    let both = LeftOut { passed_over: one(1, REFERENCE), cut_off, ..LeftOut::default() };
+    let (globals, stream) = (Globals::salvaged(&globals).unwrap(), of(&[PAGE, &text]));
+    assert_eq!(globals.left_out(), both);
+    let page = Page::salvaged_embedded(&stream, Some(&globals)).unwrap();
+    let data = of(&[HEADER, PAGE, LACKING_SYMBOLS, &text, END, JUNK]);
+    let counted = of(&["974A42320D0A1A0A 01 00000001", PAGE, LACKING_SYMBOLS, &text, END, JUNK]);
+    let (file, other) = (File::salvaged(&data).unwrap(), File::salvaged(&counted).unwrap());
+    assert_eq!((file.left_out(), other.left_out()), (both, both));
+    for page in [page, file.page(0).unwrap(), other.page(0).unwrap()] {
+        let mut context = DecoderContext::default();
+        page.decode_with(&mut Nobody, &mut context).unwrap();
+        assert_eq!((context.passed_over(), context.is_complete()), (PassedOver::default(), false));
+    }
+}
+
+struct Nobody;
+
+impl hayro_jbig2::Decoder for Nobody {
+    fn push_pixel(&mut self, _black: bool) {}
+    fn push_pixel_chunk(&mut self, _black: bool, _chunk_count: u32) {}
+    fn next_line(&mut self) {}
 }
 
 #[test]

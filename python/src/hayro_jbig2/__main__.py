@@ -7,7 +7,8 @@ import pathlib
 import sys
 from typing import TYPE_CHECKING, Any
 
-from . import Jbig2Error, Page, __version__, decode, pages, sizes
+from . import Globals, Jbig2Error, Page, __version__, decode, sizes
+from ._decode import pages_or_faults
 
 if TYPE_CHECKING:
     from collections.abc import Iterable
@@ -21,8 +22,8 @@ def _parser() -> argparse.ArgumentParser:
     parser = argparse.ArgumentParser(
         prog="python -m hayro_jbig2",
         description="Writes a page of a JBIG2 file, or of the data of a PDF image, as a picture, PNG or PBM.",
-        epilog="Status 0: written; messages say which pages are incomplete. 1: the input can't be decoded, or a file "
-        "can't be read or written. 2: wrong usage.",
+        epilog="Status 0: written; messages say which pages are incomplete. 1: the input, or a page of it, can't be "
+        "decoded (other pages are written), or a file can't be read or written. 2: wrong usage.",
     )
     parser.add_argument("input", metavar="IN", help="the file; - is standard input")
     parser.add_argument(
@@ -52,21 +53,38 @@ def _work_limit(word: str) -> WorkLimit:
     return int(word)
 
 
-def _chosen_pages(words: argparse.Namespace) -> Iterable[tuple[int, Page]]:
-    """The pages to be written, with their indices."""
+class _FaultOfGlobals(Exception):
+    """Why the globals can't be decoded."""
+
+
+def _globals_of(words: argparse.Namespace, how: dict[str, Any]) -> Globals | None:
+    try:
+        return None if words.globals is None else Globals(words.globals, **how)
+    except Jbig2Error as error:
+        raise _FaultOfGlobals(str(error)) from error
+
+
+def _chosen_pages(words: argparse.Namespace) -> Iterable[tuple[int, Page | Jbig2Error]]:
+    """The pages to be written, with their indices, or the faults of those that can't be decoded."""
     data = sys.stdin.buffer.read() if words.input == "-" else pathlib.Path(words.input).read_bytes()
     how: dict[str, Any] = {"strict": words.strict, "salvage": words.salvage, "work_limit": words.work_limit}
     if "{}" in words.output:
-        return enumerate(pages(data, **how, warn=False))
+        return enumerate(pages_or_faults(data, **how))
     if words.page is None and words.globals is None and len(sizes(data, **how)) > 1:
         print(f"{words.input}: only the first of several pages is written", file=sys.stderr)
     index = words.page or 0
-    return [(index, decode(data, globals=words.globals, page=index, **how, warn=False))]
+    return [(index, decode(data, globals=_globals_of(words, how), page=index, **how, warn=False))]
 
 
-def _write_pages(words: argparse.Namespace) -> None:
+def _write_pages(words: argparse.Namespace) -> int:
+    """Writes the pages that can be decoded, and returns the status."""
     told: set[str] = set()
+    status = 0
     for index, page in _chosen_pages(words):
+        if isinstance(page, Jbig2Error):
+            print(f"{words.input}: page {index}: {page}", file=sys.stderr)
+            status = 1
+            continue
         for text in page.lacks:
             print(f"{words.input}: page {index} is incomplete: {text}", file=sys.stderr)
         # Of a file as a whole: once.
@@ -76,6 +94,7 @@ def _write_pages(words: argparse.Namespace) -> None:
         told.update(page.left_out.texts)
         output = pathlib.Path(words.output.replace("{}", str(index)))
         output.write_bytes(_WRITERS[output.suffix.lower()](page))
+    return status
 
 
 def main() -> int:
@@ -87,13 +106,13 @@ def main() -> int:
     if "{}" in words.output and (words.page, words.globals) != (None, None):
         parser.error("--page and --globals are for one page, without {} in OUT")
     try:
-        _write_pages(words)
+        return _write_pages(words)
+    except _FaultOfGlobals as error:
+        print(f"{words.globals}: {error}", file=sys.stderr)
     except Jbig2Error as error:
         print(f"{words.input}: {error}", file=sys.stderr)
     except OSError as error:
         print(error, file=sys.stderr)
-    else:
-        return 0
     return 1
 
 

@@ -4,7 +4,6 @@ from __future__ import annotations
 
 import mmap
 import os
-import pathlib
 from typing import TYPE_CHECKING
 
 from .errors import FormatError
@@ -14,7 +13,7 @@ if TYPE_CHECKING:
 
     from _typeshed import ReadableBuffer, StrPath, SupportsRead
 
-    Data = Union[ReadableBuffer, StrPath, SupportsRead[bytes]]
+    Data = Union[ReadableBuffer, StrPath, os.PathLike[bytes], SupportsRead[ReadableBuffer]]
 
 # What a PDF file begins with. No segment does: 45, the minus sign, is no type of segments.
 _PDF = b"%PDF-"
@@ -31,14 +30,15 @@ def bytes_of(data: Data) -> bytes:
 
 def _read(data: Data) -> bytes:
     if isinstance(data, (str, os.PathLike)):
-        return pathlib.Path(data).read_bytes()
+        with open(data, "rb") as file:
+            return file.read()
     read = getattr(data, "read", None)
     # A file that is mapped into memory is both.
     if read is not None and not isinstance(data, mmap.mmap):
         data = read()
-        if not isinstance(data, bytes):
-            raise TypeError(f"a file must be open in binary mode, and this one gives {type(data).__name__}")
+        if isinstance(data, str):
+            raise TypeError("a file must be open in binary mode, and this one gives text")
     try:
-        return bytes(memoryview(data))  # type: ignore[arg-type]
+        return data if type(data) is bytes else bytes(memoryview(data))  # type: ignore[arg-type]
     except TypeError:
         raise TypeError(f"data is bytes, a path or an open file, not {type(data).__name__}") from None

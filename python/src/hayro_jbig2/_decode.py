@@ -11,7 +11,7 @@ from . import _library
 from ._data import bytes_of
 from ._library import Reading, Size
 from ._page import LeftOut, Page
-from .errors import IncompletePageWarning
+from .errors import IncompletePageWarning, Jbig2Error
 
 if TYPE_CHECKING:
     from ._data import Data
@@ -89,10 +89,21 @@ def pages(
 ) -> Iterator[Page]:
     """All pages of a file in order, each decoded when it is asked for. The limit of work is that of each page.
 
-    Raises and warns as `decode` does: the first fault of the file at once, that of a page when it is asked for.
+    Raises and warns as `decode` does: the first fault of the file at once, that of a page when it is asked for. That ends
+    the pages: `decode` has those after it.
     """
     file = _library.File(bytes_of(data), _reading(strict, salvage), work_limit)
     return _pages_of(file, work_limit, warn)
+
+
+def pages_or_faults(data: bytes, *, strict: bool, salvage: bool, work_limit: WorkLimit) -> Iterator[Page | Jbig2Error]:
+    """All pages of a file in order, and in the place of one that can't be decoded its fault. Gives no warning."""
+    with _library.File(bytes_of(data), _reading(strict, salvage), work_limit) as file:
+        for index in range(len(file.sizes)):
+            try:
+                yield file.draw(index, work_limit)
+            except Jbig2Error as error:
+                yield error
 
 
 def sizes(

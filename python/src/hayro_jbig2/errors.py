@@ -18,6 +18,13 @@ class Jbig2Error(Exception):
     def __str__(self) -> str:
         return str(self.args[0])
 
+    # Pages that are pickled or decoded twice have reports that are equal.
+    def __eq__(self, other: object) -> bool:
+        return type(other) is type(self) and isinstance(other, Jbig2Error) and other.args == self.args
+
+    def __hash__(self) -> int:
+        return hash((type(self), self.args))
+
 
 class IncompletePageWarning(UserWarning):
     """A page that is returned is known to lack something: see `Page.is_complete`."""
@@ -68,7 +75,7 @@ class OutOfMemory(Jbig2Error, MemoryError):
 
 
 class WorkLimitReached(OutOfMemory):
-    """More work than the limit of work allows. The library has the number of `OutOfMemory` for this."""
+    """More work than the limit of work allows."""
 
 
 class NoSuchPage(Jbig2Error, IndexError):

@@ -2,7 +2,7 @@
 
 use core::ptr::{self, NonNull};
 
-use super::{MEMORY, ffi, made, passed_over, result};
+use super::{allocator, ffi, made, passed_over, result};
 use crate::error::Result;
 use crate::passed_over::PassedOver;
 use crate::work::left_of;
@@ -21,9 +21,14 @@ unsafe impl Send for Context {}
 unsafe impl Sync for Context {}
 
 impl Context {
+    /// Nothing is known of a page then. What draws begins with it.
+    pub(super) fn forget_page(&mut self) {
+        (self.passed_over, self.work_left) = (PassedOver::default(), None);
+    }
+
     /// Draws a page within a limit of work, by a call that is handed the context.
     pub(super) fn draw(&mut self, work: u64, call: impl FnOnce(*mut ffi::Context) -> u32) -> Result<()> {
-        (self.passed_over, self.work_left) = (PassedOver::default(), None);
+        self.forget_page();
         let handle = self.handle()?;
         // SAFETY: the rules of the header.
         result(unsafe { ffi::hayro_jbig2_context_set_work_limit(handle, work) })?;
@@ -44,7 +49,7 @@ impl Context {
         }
         let mut handle = ptr::null_mut();
         // SAFETY: the rules of the header.
-        let number = unsafe { ffi::hayro_jbig2_context_new(MEMORY, &mut handle) };
+        let number = unsafe { ffi::hayro_jbig2_context_new(allocator(), &mut handle) };
         Ok(self.handle.insert(made(number, handle)?).as_ptr())
     }
 

@@ -146,6 +146,14 @@ unsafe extern "C" {
 
     pub(super) fn hayro_jbig2_file_draw(file: *mut File, index: usize, context: *mut Context) -> u32;
 
+    pub(super) fn hayro_jbig2_segment_get_length(
+        memory: *const Memory,
+        strict: bool,
+        bytes: *const u8,
+        length: usize,
+        taken: *mut usize,
+    ) -> u32;
+
     /// Gives back a handle of any kind.
     pub(super) fn jbig2_c_release(handle: *mut c_void);
 }

@@ -3,10 +3,13 @@
 use alloc::vec::Vec;
 use core::ptr::{self, NonNull};
 
-use super::{Context, MEMORY, PageInfo, Reading, ffi, left_out, made, result};
+use super::{Context, PageInfo, Reading, allocator, ffi, left_out, made, result, whole_segments};
 use crate::error::{DecodeError, Result};
 use crate::lock::Lock;
-use crate::passed_over::LeftOut;
+use crate::passed_over::{LeftOut, PassedOver};
+
+/// Where the flags of a file's header are (T.88, D.4.2).
+const FLAGS: usize = 8;
 
 /// A file, read but not decoded. It borrows its bytes.
 #[derive(Debug)]
@@ -17,8 +20,8 @@ pub(crate) struct File<'a> {
     work: u64,
     infos: Vec<PageInfo>,
     left_out: LeftOut,
-    /// The handle that no thread draws by. Threads that draw at the same time each get one of their own.
-    idle: Lock<Option<Handle>>,
+    /// The handles that no thread draws by. As many were made as threads have drawn at the same time.
+    idle: Lock<Vec<Handle>>,
 }
 
 /// Borrows bytes: of a `File`, which keeps it.
@@ -31,10 +34,10 @@ unsafe impl Send for Handle {}
 impl<'a> File<'a> {
     pub(crate) fn new(bytes: &'a [u8], reading: Reading, work: u64) -> Result<Self> {
         let left_out = LeftOut::default();
-        let mut file = Self { bytes, reading, work, infos: Vec::new(), left_out, idle: Lock::new(None) };
+        let mut file = Self { bytes, reading, work, infos: Vec::new(), left_out, idle: Lock::new(Vec::new()) };
         let mut handle = file.handle()?;
         file.infos = handle.infos()?;
-        file.left_out = handle.left_out()?;
+        file.left_out = handle.left_out(|| file.passed_before_the_end())?;
         file.put_back(handle);
         Ok(file)
     }
@@ -51,41 +54,63 @@ impl<'a> File<'a> {
 
     /// Draws a page within a limit of work.
     pub(crate) fn draw(&self, index: usize, context: &mut Context, work: u64) -> Result<()> {
+        context.forget_page();
         let mut handle = self.handle()?;
         let drawn = handle.draw(index, context, work);
         self.put_back(handle);
         drawn
     }
 
+    /// What was passed over of the segments that the pages share, before the list ends early. In random access the data
+    /// is after the whole list, so it isn't known.
+    fn passed_before_the_end(&self) -> Result<PassedOver> {
+        let is_sequential = self.bytes[FLAGS] & 1 != 0;
+        if self.reading != Reading::Salvage || !is_sequential {
+            return Ok(PassedOver::default());
+        }
+        let header = if self.bytes[FLAGS] & 2 != 0 { 9 } else { 13 };
+        let whole = header + whole_segments(&self.bytes[header..])?.len();
+        if whole == self.bytes.len() {
+            return Ok(PassedOver::default());
+        }
+        Ok(File::new(&self.bytes[..whole], self.reading, self.work)?.left_out.passed_over)
+    }
+
     /// A handle that no one else has.
     fn handle(&self) -> Result<Handle> {
-        if let Some(handle) = self.idle.with(Option::take) {
+        if let Some(handle) = self.idle.with(Vec::pop) {
             return Ok(handle);
         }
         let (start, length, mut file) = (self.bytes.as_ptr(), self.bytes.len(), ptr::null_mut());
         // SAFETY: the rules of the header. The bytes are borrowed as long as this file lives, which keeps its handles.
         let number = unsafe {
             match self.reading {
-                Reading::Salvage => ffi::hayro_jbig2_file_new_salvaged(MEMORY, self.work, start, length, &mut file),
+                Reading::Salvage => {
+                    ffi::hayro_jbig2_file_new_salvaged(allocator(), self.work, start, length, &mut file)
+                }
                 reading => {
                     let strict = reading.is_strict();
-                    ffi::hayro_jbig2_file_new_within(MEMORY, strict, self.work, start, length, &mut file)
+                    ffi::hayro_jbig2_file_new_within(allocator(), strict, self.work, start, length, &mut file)
                 }
             }
         };
         Ok(Handle(made(number, file)?))
     }
 
+    /// Keeps a handle for the next page. Where there is no memory for that, it is given back.
     fn put_back(&self, handle: Handle) {
-        let other = self.idle.with(|idle| idle.replace(handle));
-        drop(other);
+        self.idle.with(|idle| {
+            if idle.try_reserve(1).is_ok() {
+                idle.push(handle);
+            }
+        });
     }
 }
 
 impl Drop for File<'_> {
-    /// Gives the handle back while the bytes are borrowed.
+    /// Gives the handles back while the bytes are borrowed.
     fn drop(&mut self) {
-        drop(self.idle.with(Option::take));
+        self.idle.with(Vec::clear);
     }
 }
 
@@ -104,9 +129,9 @@ impl Handle {
         Ok(infos)
     }
 
-    fn left_out(&mut self) -> Result<LeftOut> {
+    fn left_out(&mut self, before_the_end: impl FnOnce() -> Result<PassedOver>) -> Result<LeftOut> {
         // SAFETY: the rules of the header.
-        left_out(|raw| unsafe { ffi::hayro_jbig2_file_get_left_out(self.0.as_ptr(), raw) })
+        left_out(|raw| unsafe { ffi::hayro_jbig2_file_get_left_out(self.0.as_ptr(), raw) }, before_the_end)
     }
 
     fn draw(&mut self, index: usize, context: &mut Context, work: u64) -> Result<()> {
@@ -120,5 +145,42 @@ impl Drop for Handle {
     fn drop(&mut self) {
         // SAFETY: the handle is used no more.
         unsafe { ffi::jbig2_c_release(self.0.as_ptr().cast()) }
+    }
+}
+
+#[cfg(test)]
+mod tests {
+    extern crate std;
+
+    use super::{Context, DecodeError, File, Reading};
+
+    const BOOK: &[u8] = include_bytes!("../../../crates/jbig2_decode/data/t88-h1.jb2");
+
+    /// Threads that draw at the same time read the file once each, and not for each page.
+    #[test]
+    fn handles_are_kept() {
+        let file = File::new(BOOK, Reading::Strict, u64::MAX).unwrap();
+        let places_of_three = || {
+            let handles = [0; 3].map(|_| file.handle().unwrap());
+            let mut places = [0, 1, 2].map(|index| handles[index].0);
+            handles.into_iter().for_each(|handle| file.put_back(handle));
+            places.sort();
+            places
+        };
+        assert_eq!(places_of_three(), places_of_three());
+    }
+
+    /// Where there is no handle to draw by, the context says nothing of the page before.
+    #[test]
+    fn a_refused_handle_leaves_no_page() {
+        let mut file = File::new(BOOK, Reading::Strict, u64::MAX).unwrap();
+        let mut context = Context::default();
+        file.draw(0, &mut context, 1 << 24).unwrap();
+        assert!(context.work_left().is_some());
+        file.work = 0;
+        let taken = file.handle();
+        assert_eq!(file.draw(0, &mut context, 1 << 24), Err(DecodeError::OutOfMemory));
+        assert_eq!(context.work_left(), None);
+        drop(taken);
     }
 }

@@ -2,15 +2,16 @@
 
 use core::ptr::{self, NonNull};
 
-use super::{MEMORY, Reading, ffi, left_out, made, without_line_end};
+use super::{Reading, allocator, ffi, left_out, made, whole_segments, without_line_end};
 use crate::error::Result;
 use crate::lock::Lock;
-use crate::passed_over::LeftOut;
+use crate::passed_over::{LeftOut, PassedOver};
 
 /// Globals of embedded pages, decoded.
 #[derive(Debug)]
 pub(crate) struct Globals {
     handle: Lock<Handle>,
+    left_out: LeftOut,
 }
 
 #[derive(Debug)]
@@ -21,7 +22,7 @@ unsafe impl Send for Handle {}
 
 impl Globals {
     pub(crate) fn new(bytes: &[u8], reading: Reading, work: u64) -> Result<Self> {
-        without_line_end(bytes, |bytes| Self::read(bytes, reading, work), Self::left_out)
+        without_line_end(bytes, |bytes| Self::read(bytes, reading, work), |globals| Ok(globals.left_out()))
     }
 
     fn read(bytes: &[u8], reading: Reading, work: u64) -> Result<Self> {
@@ -30,21 +31,32 @@ impl Globals {
         // SAFETY: the rules of the header.
         let number = unsafe {
             match reading {
-                Reading::Salvage => ffi::hayro_jbig2_globals_new_salvaged(MEMORY, work, start, length, &mut handle),
+                Reading::Salvage => {
+                    ffi::hayro_jbig2_globals_new_salvaged(allocator(), work, start, length, &mut handle)
+                }
                 _ => {
                     let strict = reading.is_strict();
-                    ffi::hayro_jbig2_globals_new_within(MEMORY, strict, work, start, length, &mut handle)
+                    ffi::hayro_jbig2_globals_new_within(allocator(), strict, work, start, length, &mut handle)
                 }
             }
         };
-        Ok(Self { handle: Lock::new(Handle(made(number, handle)?)) })
+        let handle = Handle(made(number, handle)?);
+        let before_the_end = || {
+            let whole = if reading == Reading::Salvage { whole_segments(bytes)? } else { bytes };
+            if whole.len() == bytes.len() {
+                return Ok(PassedOver::default());
+            }
+            Ok(Self::read(whole, reading, work)?.left_out.passed_over)
+        };
+        // SAFETY: the rules of the header.
+        let call = |raw| unsafe { ffi::hayro_jbig2_globals_get_left_out(handle.0.as_ptr(), raw) };
+        let left_out = left_out(call, before_the_end)?;
+        Ok(Self { handle: Lock::new(handle), left_out })
     }
 
     /// What was left out of them.
-    pub(crate) fn left_out(&self) -> Result<LeftOut> {
-        // SAFETY: the rules of the header.
-        let call = |globals, raw| unsafe { ffi::hayro_jbig2_globals_get_left_out(globals, raw) };
-        self.with(|globals| left_out(|raw| call(globals, raw)))
+    pub(crate) fn left_out(&self) -> LeftOut {
+        self.left_out
     }
 
     /// Makes a call that is handed the globals.

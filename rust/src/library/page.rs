@@ -2,10 +2,10 @@
 
 use core::ptr::{self, NonNull};
 
-use super::{Context, Globals, MEMORY, PageInfo, Reading, ffi, left_out, made, result, without_line_end};
+use super::{Context, Globals, PageInfo, Reading, allocator, ffi, left_out, made, result, without_line_end};
 use crate::error::Result;
 use crate::lock::Lock;
-use crate::passed_over::LeftOut;
+use crate::passed_over::{LeftOut, PassedOver};
 
 /// An embedded page, read but not decoded. The library keeps a copy of its bytes, and its globals as long as it needs.
 #[derive(Debug)]
@@ -37,7 +37,8 @@ impl Page {
     pub(crate) fn left_out(&self) -> Result<LeftOut> {
         // SAFETY: the rules of the header.
         let call = |page: &mut Handle, raw| unsafe { ffi::hayro_jbig2_page_get_left_out(page.0.as_ptr(), raw) };
-        self.handle.with(|page| left_out(|raw| call(page, raw)))
+        // No segment of a page was passed over before it is drawn.
+        self.handle.with(|page| left_out(|raw| call(page, raw), || Ok(PassedOver::default())))
     }
 
     pub(crate) fn info(&self) -> Result<PageInfo> {
@@ -61,8 +62,8 @@ fn read_alone(stream: &[u8], reading: Reading, handle: &mut *mut ffi::Page) -> u
     // SAFETY: the rules of the header.
     unsafe {
         match reading {
-            Reading::Salvage => ffi::jbig2_c_salvaged_alone(MEMORY, bytes, length, handle),
-            _ => ffi::jbig2_c_page_alone(MEMORY, reading.is_strict(), bytes, length, handle),
+            Reading::Salvage => ffi::jbig2_c_salvaged_alone(allocator(), bytes, length, handle),
+            _ => ffi::jbig2_c_page_alone(allocator(), reading.is_strict(), bytes, length, handle),
         }
     }
 }
@@ -72,8 +73,8 @@ fn read_with(stream: &[u8], globals: *mut ffi::Globals, reading: Reading, handle
     // SAFETY: the rules of the header. `Globals::with` lends the globals to one call at a time.
     unsafe {
         match reading {
-            Reading::Salvage => ffi::jbig2_c_salvaged_with(MEMORY, globals, bytes, length, handle),
-            _ => ffi::jbig2_c_page_with(MEMORY, reading.is_strict(), globals, bytes, length, handle),
+            Reading::Salvage => ffi::jbig2_c_salvaged_with(allocator(), globals, bytes, length, handle),
+            _ => ffi::jbig2_c_page_with(allocator(), reading.is_strict(), globals, bytes, length, handle),
         }
     }
 }
