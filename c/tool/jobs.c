@@ -3,6 +3,7 @@
 #include "jobs.h"
 
 #include "drawing.h"
+#include "globals.h"
 #include "output.h"
 #include "queue.h"
 
@@ -107,6 +108,7 @@ static void do_task(struct work *work, struct painter *painter, struct task *tas
     struct report report = {.status = ALL_WHOLE};
     struct drawn drawn;
     draw_page(painter, &task->use->document, task->index, &drawn);
+    leave_globals(task->use->document.images[task->index].globals);
     describe(work->words, task, &drawn, &report);
     bool has_page = drawn.status == ALL_WHOLE || drawn.status == INCOMPLETE;
     struct picture picture = picture_of(painter, &drawn);
@@ -145,7 +147,7 @@ static enum status finish_single(struct work *work, enum status status) {
     if (!work->is_open)
         return ALL_WHOLE;
     bool lacks_pages = status != ALL_WHOLE && status != INCOMPLETE;
-    if (lacks_pages && work->single_name != NULL && is_written) {
+    if (lacks_pages && work->single.temporary != NULL && is_written) {
         complain("%s is not written, since it would lack pages", work->single_name);
         is_written = false;
     }
