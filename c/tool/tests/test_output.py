@@ -10,7 +10,8 @@ import subprocess
 import time
 import unittest
 
-from support import BOOK, EXAMPLE, HAS_TIFF, NOT_DONE, TOOL, WHOLE, Case, decoded, picture_of_png, pictures_of
+from support import BOOK, EXAMPLE, HAS_TIFF, NOT_DONE, TOOL, WHOLE, Case
+from support import chunks_of, decoded, picture_of_png, pictures_of
 
 MEANT = [decoded(EXAMPLE, index) for index in range(3)]
 NOBODY = 65534
@@ -161,6 +162,25 @@ class Output(Case):
             self.assert_ends(ended, WHOLE)
             self.assertEqual(pictures_of(ended.output), [meant])
 
+    def test_the_resolution_goes_into_the_file(self):
+        """As the page states it, in pixels for a metre. PNG has no number above 2^31 - 1."""
+        place = BOOK.index(bytes.fromhex("00000013 00000040 00000038")) + 12
+        for x, y, is_kept in (11811, 7874, True), (0, 11811, False), (1 << 31, 11811, False):
+            self.made(BOOK[:place] + struct.pack(">II", x, y) + BOOK[place + 8 :])
+            chunks = chunks_of(self.run_here("scan.jb2", "-p", "1", "-o", "-").output)
+            self.assertEqual(chunks.get(b"pHYs"), struct.pack(">IIB", x, y, 1) if is_kept else None)
+        if HAS_TIFF:
+            self.made(BOOK[:place] + struct.pack(">II", 11811, 7874) + BOOK[place + 8 :])
+            data = self.run_here("scan.jb2", "-p", "1", "-f", "tiff", "-o", "-").output
+            order = "<" if data[:2] == b"II" else ">"
+            [place] = struct.unpack(order + "I", data[4:8])
+            [count] = struct.unpack(order + "H", data[place : place + 2])
+            entries = struct.iter_unpack(order + "HHII", data[place + 2 : place + 2 + 12 * count])
+            fields = {tag: value for tag, _, _, value in entries}
+            values = [struct.unpack(order + "II", data[fields[tag] : fields[tag] + 8]) for tag in (282, 283)]
+            self.assertEqual([round(above / below * 100) for above, below in values], [11811, 7874])
+            self.assertIn(fields[296], (3, 3 << 16))
+
     def test_a_full_disk(self):
         for form in "png", "pbm", *(["tiff"] if HAS_TIFF else []):
             with self.subTest(form=form), open("/dev/full", "wb") as full:
@@ -283,7 +303,7 @@ class Output(Case):
         shown = shown_on_terminal(words, self.room)
         self.assertRegex(shown, r"\d+ of \d+ pages")
         self.assertTrue(shown.endswith("\r\033[K"), shown[-20:])
-        self.assertEqual(shown_on_terminal([*words, "--quiet"], self.room), "")
+        self.assertEqual(shown_on_terminal([*words, "-q"], self.room), "")
 
     def test_the_stem_of_hidden_and_odd_names(self):
         for name, stem in {".jb2": ".jb2", "a.b.jb2": "a.b", "plain": "plain"}.items():
