@@ -7,8 +7,8 @@
 #include "output.h"
 #include "queue.h"
 
+#include <signal.h>
 #include <stdlib.h>
-#include <string.h>
 
 /* What the threads share. Only the thread whose turn it is uses the single output. */
 struct work {
@@ -121,14 +121,19 @@ static void do_task(struct work *work, struct painter *painter, struct task *tas
     finish_task(&work->queue, task, report);
 }
 
+/* A library may use up the stack, so the handler of that fault has another. */
 static void *run_thread(void *shared) {
+    char room[1 << 16];
+    stack_t before, others = {.ss_sp = room, .ss_size = sizeof room};
     struct work *work = shared;
     struct painter painter;
     struct task task;
+    sigaltstack(&others, &before);
     open_painter(&painter);
     while (take_task(&work->queue, &task))
         do_task(work, &painter, &task);
     close_painter(&painter);
+    sigaltstack(&before, NULL);
     return NULL;
 }
 
