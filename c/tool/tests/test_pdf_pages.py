@@ -2,10 +2,11 @@
 from __future__ import annotations
 
 import json
+import random
 import re
 import unittest
 
-from support import BOOK, COUNTED, HAS_PDF, INCOMPLETE, NOT_DONE, WHOLE, Case
+from support import BOOK, COUNTED, HAS_PDF, HAS_TIFF, INCOMPLETE, NOT_DONE, OVER_LIMIT, SANITIZED, WHOLE, Case
 
 from conformance.runner.embedding import embedded_page
 from conformance.runner.pdf import stream_object
@@ -128,6 +129,34 @@ class PdfPages(Case):
         ]), "scan.pdf")
         ended = self.run_here("scan.pdf", program=COUNTED)
         self.assert_ends(ended, NOT_DONE, "image 1: missing page information", "image 2: incomplete: segment 10")
+
+
+@unittest.skipUnless(HAS_PDF, "libqpdf is not here")
+class Damage(Case):
+    WORDS = [b"0 R", b"2 0 R", b"3 0 R", b"null", b"[", b"]", b"<<", b">>", b"/Kids", b"/Parent", b"/Filter", b"/Length"]
+    WORDS += [b"/FlateDecode", b"/DecodeParms", b"/JBIG2Globals", b"/Annots", b"stream", b"endstream", b"-1", b"9999999999"]
+
+    def damaged(self, chance: random.Random, data: bytes) -> bytes:
+        out = bytearray(data)
+        for _ in range(chance.randint(1, 12)):
+            place, word = chance.randrange(len(out)), chance.choice(self.WORDS)
+            size = chance.choice([0, len(word), chance.randint(1, 60)])
+            out[place : place + size] = chance.choice([b" " + word + b" ", b"", bytes([chance.randrange(256)])])
+        return bytes(out)
+
+    def test_damaged_files(self):
+        """By the build with sanitizers: each run ends with a status, and a message unless it is 0."""
+        chance, data = random.Random(11), pdf_of([PAGE, PAGE, image_of(embedded_page(BOOK, 2))])
+        ways = ["-q", "-f", "pbm"], ["-q", "--salvage", "-f", "tiff" if HAS_TIFF else "pbm"], ["info", "--json"]
+        for number in range(60):
+            words = ways[number % 3]
+            bad = self.damaged(chance, data)
+            ended = self.run_here(*words, "-", *([] if "info" in words else ["-o", "-"]), input=bad, program=SANITIZED)
+            self.assertIn(ended.status, (WHOLE, NOT_DONE, INCOMPLETE, OVER_LIMIT), (bad, ended.errors))
+            self.assertNotIn("Sanitizer", ended.errors)
+            self.assertNotIn("runtime error", ended.errors)
+            if "info" not in words:
+                self.assertEqual(ended.status == WHOLE, ended.errors == "", bad)
 
 
 @unittest.skipUnless(HAS_PDF, "libqpdf is not here")
