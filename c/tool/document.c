@@ -2,11 +2,11 @@
 
 #include "document.h"
 
+#include "globals.h"
 #include "jbig2_file.h"
 #include "pdf.h"
 
 #include <stdlib.h>
-#include <string.h>
 
 uint64_t work_for(const struct reading *reading, uint64_t pixels) {
     enum { LEAST = 1 << 24, FOR_A_PIXEL = 100 };
@@ -17,20 +17,34 @@ uint64_t work_for(const struct reading *reading, uint64_t pixels) {
     return pixels * FOR_A_PIXEL < LEAST ? LEAST : pixels * FOR_A_PIXEL;
 }
 
-static enum status open_embedded(struct document *document, const struct bytes *globals) {
+void add_globals(struct document *document, struct globals *globals) {
+    size_t count = document->globals_count;
+    /* The room doubles with each power of two. */
+    if ((count & (count - 1)) == 0)
+        document->globals = larger_room(document->globals, (2 * count + 1) * sizeof *document->globals);
+    document->globals[document->globals_count++] = globals;
+}
+
+/* Globals of several files are decoded once, so what they may take can't depend on the page that happens to be drawn
+ * first. It is what the first page may take, for each file. */
+static void note_pixels(const struct document *document, struct globals *globals) {
+    struct segment_list list;
+    if (globals->has_pixels)
+        return;
+    list_segments(&list, document->bytes.at, document->bytes.length, 0, false);
+    globals->pixels = stated_pixels(&list) * globals->files;
+    globals->has_pixels = true;
+    free_segments(&list);
+}
+
+static enum status open_embedded(struct document *document, struct globals *globals) {
     document->count = document->pages = 1;
     document->images = room_for(sizeof *document->images);
-    *document->images = (struct image){.page = 1, .all = 1, .globals = NO_GLOBALS};
-    if (globals->length > 0) {
-        struct bytes copy = {room_for(globals->length), globals->length};
-        memcpy(copy.at, globals->at, globals->length);
-        struct segment_list list;
-        list_segments(&list, document->bytes.at, document->bytes.length, 0, false);
-        document->globals_count = 1;
-        document->globals = room_for(sizeof *document->globals);
-        *document->globals = (struct globals){.bytes = copy, .pixels = stated_pixels(&list)};
-        document->images->globals = 0;
-        free_segments(&list);
+    *document->images = (struct image){.page = 1, .all = 1, .globals = globals};
+    if (globals != NULL) {
+        note_pixels(document, globals);
+        add_globals(document, globals);
+        globals->pages++;
     }
     return ALL_WHOLE;
 }
@@ -45,7 +59,7 @@ static enum status refuse(const struct document *document, struct text *messages
     return NOT_DONE;
 }
 
-enum status open_document(struct document *document, const char *name, struct bytes bytes, const struct bytes *globals,
+enum status open_document(struct document *document, const char *name, struct bytes bytes, struct globals *globals,
                           const char *password, struct text *messages) {
     struct reading reading = document->reading;
     *document = (struct document){.name = name, .kind = kind_of(&bytes), .reading = reading, .bytes = bytes};
@@ -65,15 +79,9 @@ enum status open_document(struct document *document, const char *name, struct by
 void close_document(struct document *document) {
     close_file(document);
     close_pdf(document);
-    for (size_t i = 0; i < document->globals_count; i++) {
-        struct globals *globals = &document->globals[i];
-        hayro_jbig2_globals_free(globals->handle);
-        if (globals->is_read)
-            close_budget(&globals->budget);
-        free_segments(&globals->list);
-        free_bytes(&globals->bytes);
-        free_text(&globals->reason);
-    }
+    for (size_t i = 0; i < document->globals_count; i++)
+        if (!document->globals[i]->is_of_several_files)
+            free_globals(document->globals[i]);
     free(document->globals);
     free(document->images);
     free_bytes(&document->bytes);

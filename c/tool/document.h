@@ -22,23 +22,26 @@ struct reading {
 /* The limit of work for some pixels (SECURITY.md). */
 uint64_t work_for(const struct reading *reading, uint64_t pixels);
 
-enum { NO_GLOBALS = -1 };
-
 /* A page of a file, an embedded page, or an image of a PDF file. */
 struct image {
     size_t page;     /* from 1 */
     size_t nth, all; /* which image of this page of a PDF file, and of how many */
     int object, generation;
-    int globals;            /* an index of the document's globals, or NO_GLOBALS */
-    uint32_t width, height; /* as a PDF file says */
+    struct globals *globals; /* or NULL */
+    uint32_t width, height;  /* as a PDF file says */
     bool is_inverted, is_mask;
 };
 
 /* Globals that are decoded once, when the first page needs them. */
 struct globals {
+    pthread_mutex_t lock; /* while they are decoded or shared */
     struct bytes bytes;
     int object, generation;
+    bool is_of_several_files; /* so they aren't the document's own */
+    size_t files;             /* that may share them */
+    bool has_pixels;
     uint64_t pixels; /* of the pages that share them */
+    size_t pages;    /* of a PDF file, that need them still */
     bool is_read;
     struct segment_list list;
     struct budget budget;
@@ -64,9 +67,9 @@ struct document {
     struct image *images;
     size_t count;
     size_t pages; /* the last page's number */
-    struct globals *globals;
+    struct globals **globals;
     size_t globals_count;
-    pthread_mutex_t lock; /* for readers, globals and the PDF file */
+    pthread_mutex_t lock; /* for readers and the PDF file */
     /* Of a file: */
     struct file_header header;
     struct segment_list list;
@@ -79,11 +82,12 @@ struct document {
     struct pdf *pdf;
 };
 
-/* Opens an input. It takes over the bytes. `globals` is what an embedded page needs besides, or has no bytes. Where it
- * can't be opened, a line of messages says why. */
-enum status open_document(struct document *document, const char *name, struct bytes bytes, const struct bytes *globals,
+/* Opens an input. It takes over the bytes. `globals` is what an embedded page needs besides, or NULL; it takes them over
+ * too unless they are of several files. Where it can't be opened, a line of messages says why. */
+enum status open_document(struct document *document, const char *name, struct bytes bytes, struct globals *globals,
                           const char *password, struct text *messages);
 void close_document(struct document *document);
+void add_globals(struct document *document, struct globals *globals);
 
 /* What messages call a page: "scan.jb2: page 2: ". */
 void add_place(struct text *text, const struct document *document, size_t index);

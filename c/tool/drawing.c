@@ -21,7 +21,6 @@ static uint32_t prepare(struct painter *painter, const struct reading *reading) 
         painter->context = NULL;
     }
     painter->budget.limit = reading->memory;
-    painter->budget.was_refused = false;
     return painter->context != NULL ? HAYRO_JBIG2_OK
                                     : hayro_jbig2_context_new(&painter->budget.memory, &painter->context);
 }
@@ -43,12 +42,8 @@ static uint32_t draw_of_file(const struct attempt *attempt, struct drawn *drawn)
     hayro_jbig2_page_info info;
     uint32_t answer;
     struct reader *reader = take_reader(document, attempt->is_strict, &answer);
-    if (reader == NULL) {
-        /* Limits have answers of their own by now: out of memory is the system's word. */
-        attempt->painter->budget.was_refused = true;
+    if (reader == NULL)
         return answer;
-    }
-    reader->budget.was_refused = false;
     answer = hayro_jbig2_file_get_info(reader->file, attempt->index, &info);
     if (answer == HAYRO_JBIG2_OK)
         answer = set_limit(attempt->painter, &document->reading, &info);
@@ -56,7 +51,6 @@ static uint32_t draw_of_file(const struct attempt *attempt, struct drawn *drawn)
         note_size(drawn, &info, attempt->list);
         answer = hayro_jbig2_file_draw(reader->file, attempt->index, attempt->painter->context);
     }
-    attempt->painter->budget.was_refused = attempt->painter->budget.was_refused || reader->budget.was_refused;
     give_back_reader(document, attempt->is_strict, reader);
     return answer;
 }

@@ -68,7 +68,9 @@ static int compare(const void *one, const void *other) { return strcmp(one, othe
 
 bool add_name(struct names *names, char *name) {
     char **found = tsearch(name, &names->tree, compare);
-    if (found != NULL && *found == name)
+    if (found == NULL)
+        end_without_memory();
+    if (*found == name)
         return true;
     free(name);
     return false;

@@ -2,9 +2,11 @@
 
 #include "info.h"
 
+#include "globals.h"
 #include "inputs.h"
 #include "listing.h"
 
+#include <stdio.h>
 #include <stdlib.h>
 #include <string.h>
 
@@ -48,6 +50,7 @@ static enum status list_page(const struct printer *printer, struct listing *list
     printer->page(listing, index, &drawn, document->kind == KIND_FILE ? NULL : &list);
     free_segments(&list);
     close_source(&source);
+    leave_globals(document->images[index].globals);
     return drawn.status;
 }
 
@@ -60,7 +63,8 @@ static enum status list_document(const struct printer *printer, struct document 
     note_faults(&listing, 0, &faults);
     printer->begin(&listing);
     open_painter(&painter);
-    for (size_t i = 0; i < document->count; i++)
+    /* Where the list can't be written, nobody waits for the rest. */
+    for (size_t i = 0; i < document->count && !ferror(stdout); i++)
         if (is_wanted(words, document->images[i].page))
             status = worse_of(status, list_page(printer, &listing, &painter, document, i));
     close_painter(&painter);
@@ -77,7 +81,8 @@ enum status print_info(const struct words *words) {
     bool is_open = open_inputs(&inputs, words, &messages);
     enum status all = is_open ? ALL_WHOLE : NOT_DONE, status;
     enum opened opened;
-    while (is_open && (opened = next_document(&inputs, &document, &messages, &status)) != NO_INPUT) {
+    while (is_open && !ferror(stdout) &&
+           (opened = next_document(&inputs, &document, &messages, &status)) != NO_INPUT) {
         all = worse_of(all, status);
         /* What is wrong with a file is in its list. */
         bool is_listed = opened == OPENED || (opened == REFUSED && document.kind == KIND_FILE);

@@ -34,8 +34,8 @@ static void print_string(const char *text) {
         int size = utf8_size(at);
         if (size == 0)
             fputs("\\ufffd", stdout);
-        else if (size == 1 && (*at < ' ' || *at == 127))
-            printf("\\u%04x", *at);
+        else if (is_control(text, (const char *)at + size - 1))
+            printf("\\u%04x", at[size - 1]);
         else
             printf("%s%.*s", *at == '"' || *at == '\\' ? "\\" : "", size, (const char *)at);
         at += size > 0 ? size : 1;
@@ -175,11 +175,11 @@ static void print_object(const char *key, int object, int generation) {
     printf("\"%d %d\"", object, generation);
 }
 
-static void print_image(const struct document *document, const struct image *image) {
+static void print_image(const struct image *image) {
     print_number("image", image->nth);
     print_object("object", image->object, image->generation);
-    if (image->globals != NO_GLOBALS)
-        print_object("globals", document->globals[image->globals].object, document->globals[image->globals].generation);
+    if (image->globals != NULL)
+        print_object("globals", image->globals->object, image->globals->generation);
     print_number("pdf_width", image->width);
     print_number("pdf_height", image->height);
     print_truth("inverted", image->is_inverted);
@@ -203,7 +203,7 @@ static void print_page(const struct listing *listing, size_t index, const struct
     if (drawn->has_information)
         print_information(&drawn->information);
     if (document->kind == KIND_PDF)
-        print_image(document, image);
+        print_image(image);
     fputs(", \"faults\": [", stdout);
     for (size_t i = 0; i < drawn->faults.count; i++) {
         fputs(i > 0 ? ", " : "", stdout);
@@ -223,7 +223,7 @@ static void end(const struct listing *listing) {
         print_segments(&document->list);
     fputs(",\n    \"globals\": [", stdout);
     for (size_t i = 0; i < document->globals_count; i++) {
-        const struct globals *globals = &document->globals[i];
+        const struct globals *globals = document->globals[i];
         if (!globals->is_read)
             continue;
         printf("%s{\"bytes\": %zu", is_first ? "" : ", ", globals->bytes.length);

@@ -66,12 +66,11 @@ static void print_information(const struct page_information *information) {
            name_of_operator(information->flags >> 3 & 3));
 }
 
-static void print_image(const struct document *document, const struct image *image) {
+static void print_image(const struct image *image) {
     printf("  object %d %d, %lu by %lu", image->object, image->generation, (unsigned long)image->width,
            (unsigned long)image->height);
-    if (image->globals != NO_GLOBALS)
-        printf(", globals in object %d %d", document->globals[image->globals].object,
-               document->globals[image->globals].generation);
+    if (image->globals != NULL)
+        printf(", globals in object %d %d", image->globals->object, image->globals->generation);
     printf("%s%s\n", image->is_inverted ? ", inverted (/Decode)" : "", image->is_mask ? ", a mask (/ImageMask)" : "");
 }
 
@@ -165,7 +164,7 @@ static void print_page(const struct listing *listing, size_t index, const struct
     for (size_t i = 0; i < drawn->faults.count; i++)
         print_fault("  FAULT: ", &drawn->faults.at[i]);
     if (document->kind == KIND_PDF)
-        print_image(document, image);
+        print_image(image);
     if (list != NULL)
         print_segments(listing, list, image->page);
 }
@@ -175,7 +174,7 @@ static void end(const struct listing *listing) {
     if (document->kind == KIND_FILE)
         print_segments(listing, &document->list, 0);
     for (size_t i = 0; i < document->globals_count; i++) {
-        const struct globals *globals = &document->globals[i];
+        const struct globals *globals = document->globals[i];
         if (!globals->is_read)
             continue;
         fputs("globals", stdout);

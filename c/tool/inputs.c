@@ -2,6 +2,8 @@
 
 #include "inputs.h"
 
+#include "globals.h"
+
 #include <errno.h>
 #include <string.h>
 
@@ -14,21 +16,31 @@ static bool read_or_say(const char *name, struct bytes *bytes, struct text *mess
     return is_read;
 }
 
+static void take_for_all(struct inputs *inputs, struct bytes bytes) {
+    inputs->globals = new_globals(bytes);
+    inputs->globals->is_of_several_files = true;
+    inputs->globals->files = inputs->words->input_count;
+}
+
 bool open_inputs(struct inputs *inputs, const struct words *words, struct text *messages) {
+    struct bytes bytes;
     *inputs = (struct inputs){.words = words};
     if (words->globals == NULL)
         return true;
-    if (!read_or_say(words->globals, &inputs->globals, messages))
+    if (!read_or_say(words->globals, &bytes, messages))
         return false;
-    enum kind kind = kind_of(&inputs->globals);
-    if (kind == KIND_GLOBALS || kind == KIND_UNKNOWN)
+    enum kind kind = kind_of(&bytes);
+    if (kind == KIND_GLOBALS || kind == KIND_UNKNOWN) {
+        take_for_all(inputs, bytes);
         return true;
-    add_text(messages, "%s: this is %s, not globals\n", words->globals, name_of_kind(kind, &inputs->globals));
+    }
+    add_text(messages, "%s: this is %s, not globals\n", words->globals, name_of_kind(kind, &bytes));
+    free_bytes(&bytes);
     return false;
 }
 
 void close_inputs(struct inputs *inputs) {
-    free_bytes(&inputs->globals);
+    free_globals(inputs->globals);
     free_bytes(&inputs->ahead);
 }
 
@@ -43,24 +55,32 @@ static bool read_next(struct inputs *inputs, struct bytes *bytes, const char **n
 }
 
 /* Globals that are named after an embedded page are its own. */
-static bool take_own_globals(struct inputs *inputs, struct bytes *globals) {
+static struct globals *take_own_globals(struct inputs *inputs) {
     const struct words *words = inputs->words;
     if (inputs->next == words->input_count)
-        return false;
+        return NULL;
     inputs->has_ahead = read_input(words->inputs[inputs->next], &inputs->ahead);
     if (!inputs->has_ahead || kind_of(&inputs->ahead) != KIND_GLOBALS)
-        return false;
-    *globals = inputs->ahead;
+        return NULL;
+    struct globals *globals = new_globals(inputs->ahead);
     inputs->has_ahead = false;
     inputs->ahead = (struct bytes){NULL, 0};
     inputs->next++;
-    return true;
+    return globals;
+}
+
+static struct globals *globals_of_next(struct inputs *inputs, const struct bytes *bytes) {
+    if (kind_of(bytes) != KIND_EMBEDDED)
+        return NULL;
+    struct globals *own = take_own_globals(inputs);
+    bool has_none = inputs->globals == NULL || inputs->globals->bytes.length == 0;
+    return own != NULL || has_none ? own : inputs->globals;
 }
 
 /* Globals that are named first are for all. */
 static bool are_for_all(struct inputs *inputs, const struct bytes *bytes) {
     bool is_first = inputs->next == 1 && inputs->words->input_count > 1;
-    return is_first && inputs->globals.at == NULL && kind_of(bytes) == KIND_GLOBALS;
+    return is_first && inputs->globals == NULL && kind_of(bytes) == KIND_GLOBALS;
 }
 
 enum opened next_document(struct inputs *inputs, struct document *document, struct text *messages,
@@ -73,15 +93,12 @@ enum opened next_document(struct inputs *inputs, struct document *document, stru
     if (!read_next(inputs, &bytes, &name, messages))
         return NOT_READ;
     if (are_for_all(inputs, &bytes)) {
-        inputs->globals = bytes;
+        take_for_all(inputs, bytes);
         return next_document(inputs, document, messages, status);
     }
-    struct bytes own = {NULL, 0};
-    bool has_own = kind_of(&bytes) == KIND_EMBEDDED && take_own_globals(inputs, &own);
+    struct globals *globals = globals_of_next(inputs, &bytes);
     document->reading = inputs->words->reading;
-    *status = open_document(document, shown_name(name), bytes, has_own ? &own : &inputs->globals,
-                            inputs->words->password, messages);
-    free_bytes(&own);
+    *status = open_document(document, shown_name(name), bytes, globals, inputs->words->password, messages);
     return *status == ALL_WHOLE || *status == INCOMPLETE ? OPENED : REFUSED;
 }
 

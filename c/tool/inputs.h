@@ -7,8 +7,8 @@
 struct inputs {
     const struct words *words;
     size_t next;
-    struct bytes globals; /* for embedded pages without globals of their own */
-    bool has_ahead;       /* the input at `next` was read to see what it is */
+    struct globals *globals; /* for embedded pages without globals of their own, or NULL */
+    bool has_ahead;          /* the input at `next` was read to see what it is */
     struct bytes ahead;
 };
 

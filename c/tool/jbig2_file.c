@@ -59,7 +59,7 @@ static void list_pages(struct document *document, struct reader *reader) {
     document->count = document->pages = hayro_jbig2_file_page_count(reader->file);
     document->images = room_for(document->count * sizeof *document->images);
     for (size_t i = 0; i < document->count; i++)
-        document->images[i] = (struct image){.page = i + 1, .all = 1, .globals = NO_GLOBALS};
+        document->images[i] = (struct image){.page = i + 1, .all = 1};
 }
 
 static enum status refuse_file(struct document *document, uint32_t answer, struct text *messages) {

@@ -3,11 +3,12 @@
 #include "jobs.h"
 
 #include "drawing.h"
+#include "globals.h"
 #include "output.h"
 #include "queue.h"
 
+#include <signal.h>
 #include <stdlib.h>
-#include <string.h>
 
 /* What the threads share. Only the thread whose turn it is uses the single output. */
 struct work {
@@ -107,6 +108,7 @@ static void do_task(struct work *work, struct painter *painter, struct task *tas
     struct report report = {.status = ALL_WHOLE};
     struct drawn drawn;
     draw_page(painter, &task->use->document, task->index, &drawn);
+    leave_globals(task->use->document.images[task->index].globals);
     describe(work->words, task, &drawn, &report);
     bool has_page = drawn.status == ALL_WHOLE || drawn.status == INCOMPLETE;
     struct picture picture = picture_of(painter, &drawn);
@@ -119,14 +121,19 @@ static void do_task(struct work *work, struct painter *painter, struct task *tas
     finish_task(&work->queue, task, report);
 }
 
+/* A library may use up the stack, so the handler of that fault has another. */
 static void *run_thread(void *shared) {
+    char room[1 << 16];
+    stack_t before, others = {.ss_sp = room, .ss_size = sizeof room};
     struct work *work = shared;
     struct painter painter;
     struct task task;
+    sigaltstack(&others, &before);
     open_painter(&painter);
     while (take_task(&work->queue, &task))
         do_task(work, &painter, &task);
     close_painter(&painter);
+    sigaltstack(&before, NULL);
     return NULL;
 }
 
@@ -145,7 +152,7 @@ static enum status finish_single(struct work *work, enum status status) {
     if (!work->is_open)
         return ALL_WHOLE;
     bool lacks_pages = status != ALL_WHOLE && status != INCOMPLETE;
-    if (lacks_pages && work->single_name != NULL && is_written) {
+    if (lacks_pages && work->single.temporary != NULL && is_written) {
         complain("%s is not written, since it would lack pages", work->single_name);
         is_written = false;
     }

@@ -74,7 +74,7 @@ static const struct segment *find_segment(struct search *search, const struct sl
     while (with - without > 1) {
         size_t middle = without + (with - without) / 2;
         uint32_t answer = error_of_page(search, slice, slice->ends[middle - 1]);
-        if (answer == HAYRO_JBIG2_OUT_OF_MEMORY)
+        if (answer == HAYRO_JBIG2_OUT_OF_MEMORY || answer == HAYRO_JBIG2_WORK_LIMIT)
             return NULL;
         if (answer == error)
             with = middle;

@@ -2,9 +2,10 @@
 
 #include "info.h"
 #include "jobs.h"
-#include "output.h"
+#include "temporary.h"
 
 #include <errno.h>
+#include <fcntl.h>
 #include <stdio.h>
 #include <string.h>
 
@@ -16,8 +17,21 @@ static enum status end_with(enum status status) {
     return worse_of(status, NOT_DONE);
 }
 
+/* A file that is opened would have the place of a standard stream that is closed, and messages could go into a picture.
+ * What has the place now fails as a closed one does. */
+static void hold_standard_streams(void) {
+    static const int modes[] = {O_WRONLY, O_RDONLY, O_RDONLY};
+    for (int i = 0; i < 3; i++)
+        if (fcntl(i, F_GETFD) == -1)
+            open("/dev/null", modes[i]);
+}
+
 int main(int count, char **all) {
+    static char room[1 << 12];
     struct words words;
+    hold_standard_streams();
+    /* Messages are written whole: each is flushed. */
+    setvbuf(stderr, room, _IOFBF, sizeof room);
     enum request request = read_words(&words, count, all);
     if (request == GO_ON) {
         watch_for_signals();

@@ -8,9 +8,7 @@ static void *take(void *user, size_t size) {
     struct budget *budget = user;
     pthread_mutex_lock(&budget->lock);
     void *block = size <= budget->limit - budget->taken ? malloc(size) : NULL;
-    if (block == NULL)
-        budget->was_refused = true;
-    else
+    if (block != NULL)
         budget->taken += size;
     pthread_mutex_unlock(&budget->lock);
     return block;

@@ -10,7 +10,6 @@ struct budget {
     hayro_jbig2_memory memory; /* what the decoder is handed */
     pthread_mutex_t lock;      /* globals are freed in any thread */
     size_t limit, taken;
-    bool was_refused; /* a block, since the limit or the system had none */
 };
 
 /* limit: SIZE_MAX for none. */

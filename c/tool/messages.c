@@ -2,6 +2,9 @@
 
 #include "messages.h"
 
+#include "temporary.h"
+
+#include <pthread.h>
 #include <stdarg.h>
 #include <stdio.h>
 #include <stdlib.h>
@@ -17,9 +20,14 @@ enum status worse_of(enum status one, enum status other) {
     return ALL_WHOLE;
 }
 
+/* Other threads go on until the end, so nothing of theirs is freed or flushed. Those that want memory too wait here. */
 void end_without_memory(void) {
-    complain("out of memory");
-    exit(NOT_DONE);
+    static pthread_mutex_t ending = PTHREAD_MUTEX_INITIALIZER;
+    static char text[] = PROGRAM ": out of memory\n";
+    pthread_mutex_lock(&ending);
+    remove_temporaries_at_end();
+    print_messages(&(struct text){text, sizeof text - 1, 0});
+    _exit(NOT_DONE);
 }
 
 void *larger_room(void *block, size_t size) {
@@ -88,12 +96,13 @@ void print_progress(size_t done, size_t all) {
 }
 
 void complain(const char *format, ...) {
-    char line[1000];
+    struct text line = {NULL, 0, 0};
     va_list arguments;
+    add_text(&line, PROGRAM ": ");
     va_start(arguments, format);
-    vsnprintf(line, sizeof line, format, arguments);
+    add_arguments(&line, format, arguments);
     va_end(arguments);
-    char whole[1100];
-    int length = snprintf(whole, sizeof whole, PROGRAM ": %s\n", line);
-    print_messages(&(struct text){whole, (size_t)length, 0});
+    add_text(&line, "\n");
+    print_messages(&line);
+    free_text(&line);
 }

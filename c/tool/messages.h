@@ -28,7 +28,7 @@ struct text {
 void add_text(struct text *text, const char *format, ...) LIKE_PRINTF(2, 3);
 void free_text(struct text *text);
 
-/* Memory for the program itself. It ends the program where there is none. */
+/* Memory for the program itself. Where there is none, the program ends with a message and NOT_DONE. */
 void *room_for(size_t size);
 void *larger_room(void *block, size_t size);
 void end_without_memory(void);

@@ -30,23 +30,40 @@ static bool is_special(const char *name) {
 
 bool is_overwritten(const char *name) {
     struct stat found;
-    return lstat(name, &found) == 0 && !is_special(name);
+    return lstat(name, &found) == 0 && (stat(name, &found) != 0 || S_ISREG(found.st_mode));
+}
+
+/* The name that a file gets, or NULL with errno. The file that a link leads to is overwritten, not the link: that may
+ * be /dev/stdout. */
+static char *target_of(const char *name) {
+    struct stat found;
+    if (lstat(name, &found) == 0 && S_ISLNK(found.st_mode))
+        return realpath(name, NULL);
+    size_t size = strlen(name) + 1;
+    return memcpy(room_for(size), name, size);
+}
+
+static FILE *open_file(struct output *output) {
+    const char *name = output->name;
+    struct stat found;
+    if (name == NULL)
+        return stdout;
+    if (is_special(name))
+        return fopen(name, "wb");
+    if (stat(name, &found) == 0 && S_ISDIR(found.st_mode)) {
+        errno = EISDIR;
+        return NULL;
+    }
+    output->target = target_of(name);
+    return output->target != NULL ? open_temporary(output->target, &output->temporary) : NULL;
 }
 
 bool open_output(struct output *output, const char *name, enum format format, bool is_forced, struct text *reason) {
     *output = (struct output){.name = name, .format = format, .is_forced = is_forced};
-    struct stat found;
-    errno = 0;
-    if (name == NULL)
-        output->file = stdout;
-    else if (is_special(name))
-        output->file = fopen(name, "wb");
-    else if (stat(name, &found) == 0 && S_ISDIR(found.st_mode))
-        errno = EISDIR;
-    else if (!is_forced && is_overwritten(name))
+    if (name != NULL && !is_forced && is_overwritten(name))
         return fail(output, reason, "is there already; --force overwrites it");
-    else
-        output->file = open_temporary(name, &output->temporary);
+    errno = 0;
+    output->file = open_file(output);
     if (output->file == NULL)
         return fail(output, reason, NULL);
     if (format != FORMAT_TIFF)
@@ -54,7 +71,7 @@ bool open_output(struct output *output, const char *name, enum format format, bo
     if (output->temporary == NULL && (output->tiff_bytes = tmpfile()) == NULL)
         return fail(output, reason, NULL);
     output->tiff = open_tiff(fileno(output->tiff_bytes != NULL ? output->tiff_bytes : output->file));
-    return true;
+    return output->tiff != NULL || fail(output, reason, NULL);
 }
 
 bool add_picture(struct output *output, const struct picture *picture, struct text *reason) {
@@ -71,7 +88,6 @@ bool add_picture(struct output *output, const struct picture *picture, struct te
         is_added = add_tiff_page(output->tiff, picture, reason);
         break;
     }
-    output->pages += is_added;
     return is_added || fail(output, reason, NULL);
 }
 
@@ -88,13 +104,17 @@ static bool copy_all(FILE *from, FILE *to) {
 
 /* The name must be free: link refuses one that was taken meanwhile. Where there are no links, rename has to do. */
 static bool give_name(const struct output *output) {
-    if (output->is_forced)
-        return rename(output->temporary, output->name) == 0;
-    if (link(output->temporary, output->name) == 0)
-        return unlink(output->temporary) == 0;
-    if (errno == EEXIST || is_overwritten(output->name))
-        return false;
-    return rename(output->temporary, output->name) == 0;
+    if (!output->is_forced) {
+        if (link(output->temporary, output->target) == 0)
+            return unlink(output->temporary) == 0;
+        if (errno == EEXIST)
+            return false;
+        if (is_overwritten(output->target)) {
+            errno = EEXIST;
+            return false;
+        }
+    }
+    return rename(output->temporary, output->target) == 0;
 }
 
 static void close_parts(struct output *output) {
@@ -135,5 +155,7 @@ void abandon_output(struct output *output) {
         fclose(output->file);
     if (output->temporary != NULL)
         remove_temporary(&output->temporary);
+    free(output->target);
+    output->target = NULL;
     output->tiff_bytes = output->file = NULL;
 }

@@ -9,13 +9,13 @@ struct output {
     enum format format;
     bool is_forced; /* another file may be replaced */
     FILE *file;
-    char *temporary; /* the name that it has while it is written, or NULL where it is written at once */
+    char *target;          /* the name that the file gets at the end */
+    const char *temporary; /* the name that it has meanwhile, or NULL where it is written at once */
     struct tiff_file *tiff;
     FILE *tiff_bytes; /* TIFF is written here first where the output has no places */
-    size_t pages;
 };
 
-/* Whether a file of this name is there and would be overwritten. What is no file, as a device, never is. */
+/* Whether a file of this name is there and would be overwritten. What is no file, as a device or a folder, never is. */
 bool is_overwritten(const char *name);
 
 /* Each returns false with a reason, "page.png: No space left on device", and then the output is to be abandoned. */
@@ -24,8 +24,5 @@ bool add_picture(struct output *output, const struct picture *picture, struct te
 /* Gives the file its name. The output is closed in any case. */
 bool finish_output(struct output *output, struct text *reason);
 void abandon_output(struct output *output);
-
-/* Takes the temporary files away at the end of the program, and where a signal ends it. */
-void watch_for_signals(void);
 
 #endif

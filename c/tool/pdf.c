@@ -12,6 +12,12 @@
 
 const char *pdf_library_version(void) { return qpdf_get_qpdf_version(); }
 
+/* Never empty, since an empty reason is none. */
+static const char *detail_of(qpdf_data qpdf, qpdf_error error) {
+    const char *detail = qpdf_get_error_message_detail(qpdf, error);
+    return detail != NULL && detail[0] != '\0' ? detail : "libqpdf doesn't say why";
+}
+
 static enum status refuse_pdf(const struct document *document, struct text *messages) {
     qpdf_data qpdf = document->pdf->qpdf;
     qpdf_error error = qpdf_has_error(qpdf) ? qpdf_get_error(qpdf) : NULL;
@@ -19,7 +25,7 @@ static enum status refuse_pdf(const struct document *document, struct text *mess
         add_text(messages, "%s: the PDF file is encrypted: give its password by --password\n", document->name);
     else
         add_text(messages, "%s: the PDF file can't be read: %s\n", document->name,
-                 error != NULL ? qpdf_get_error_message_detail(qpdf, error) : "it has no pages");
+                 error != NULL ? detail_of(qpdf, error) : "it has no pages");
     return NOT_DONE;
 }
 
@@ -34,8 +40,10 @@ static void count_images(struct document *document) {
     }
     for (size_t i = 0; i < document->count; i++) {
         struct image *image = &document->images[i];
-        if (image->globals != NO_GLOBALS)
-            document->globals[image->globals].pixels += (uint64_t)image->width * image->height;
+        if (image->globals == NULL)
+            continue;
+        image->globals->pixels += (uint64_t)image->width * image->height;
+        image->globals->pages++;
     }
 }
 
@@ -44,7 +52,7 @@ static void add_warning(qpdf_data qpdf, struct text *text) {
     for (bool is_first = true; qpdf_more_warnings(qpdf); is_first = false) {
         qpdf_error warning = qpdf_next_warning(qpdf);
         if (is_first)
-            add_text(text, "%s", qpdf_get_error_message_detail(qpdf, warning));
+            add_text(text, "%s", detail_of(qpdf, warning));
     }
 }
 
@@ -57,12 +65,9 @@ enum status open_pdf(struct document *document, const char *password, struct tex
         qpdf_read_memory(pdf->qpdf, document->name, (const char *)document->bytes.at, document->bytes.length, password);
     if (code & QPDF_ERRORS)
         return refuse_pdf(document, messages);
-    int pages = qpdf_get_num_pages(pdf->qpdf);
-    if (pages <= 0 || qpdf_push_inherited_attributes_to_page(pdf->qpdf) & QPDF_ERRORS)
+    find_pages(document);
+    if (document->pages == 0)
         return refuse_pdf(document, messages);
-    document->pages = (size_t)pages;
-    for (int page = 0; page < pages; page++)
-        find_images_of_page(document, (size_t)page);
     count_images(document);
     /* What qpdf mended may have lost pages. */
     struct text *damage = &document->damage;
@@ -79,7 +84,7 @@ void close_pdf(struct document *document) {
     if (document->pdf == NULL)
         return;
     qpdf_cleanup(&document->pdf->qpdf);
-    forget_seen(document->pdf);
+    forget_objects(document->pdf);
     free_text(&document->damage);
     free(document->pdf);
     document->pdf = NULL;
@@ -138,10 +143,11 @@ bool read_pdf_stream(struct document *document, int object, int generation, stru
         is_read = false;
     }
     add_warning(qpdf, reason);
+    /* libqpdf returns no bytes as NULL, which the decoder doesn't take. */
     if (is_read)
-        *bytes = (struct bytes){data, length};
+        *bytes = (struct bytes){data != NULL ? data : room_for(0), length};
     else if (reason->length == 0 && qpdf_has_error(qpdf))
-        add_text(reason, "%s", qpdf_get_error_message_detail(qpdf, qpdf_get_error(qpdf)));
+        add_text(reason, "%s", detail_of(qpdf, qpdf_get_error(qpdf)));
     else if (reason->length == 0)
         add_text(reason, "its filters can't be undone");
     qpdf_oh_release_all(qpdf);

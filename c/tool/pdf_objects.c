@@ -2,6 +2,7 @@
 
 #ifdef HAVE_QPDF
 
+#include "globals.h"
 #include "pdf_objects.h"
 
 #include <search.h>
@@ -27,8 +28,8 @@ static int compare_numbers(const void *one, const void *other) {
     return ((uintptr_t)one > (uintptr_t)other) - ((uintptr_t)one < (uintptr_t)other);
 }
 
-/* Whether an object of the file comes up for the first time. Numbers may be of any size, so they are kept in a tree. */
-static bool is_new(struct pdf *pdf, qpdf_oh object) {
+/* Numbers may be of any size, so they are kept in a tree. */
+bool is_new(struct pdf *pdf, qpdf_oh object) {
     int number = qpdf_oh_get_object_id(pdf->qpdf, object);
     void *key = (void *)(uintptr_t)number;
     if (number <= 0)
@@ -40,31 +41,44 @@ static bool is_new(struct pdf *pdf, qpdf_oh object) {
     return true;
 }
 
-void forget_seen(struct pdf *pdf) {
-    while (pdf->seen != NULL)
-        tdelete(*(void **)pdf->seen, &pdf->seen, compare_numbers);
+static int compare_globals(const void *one, const void *other) {
+    const struct globals *a = one, *b = other;
+    if (a->object != b->object)
+        return a->object < b->object ? -1 : 1;
+    return (a->generation > b->generation) - (a->generation < b->generation);
 }
 
-static int index_of_globals(struct document *document, qpdf_oh stream) {
-    qpdf_data qpdf = document->pdf->qpdf;
-    int object = qpdf_oh_get_object_id(qpdf, stream), generation = qpdf_oh_get_generation(qpdf, stream);
-    for (size_t i = document->globals_count; i-- > 0;)
-        if (document->globals[i].object == object && document->globals[i].generation == generation)
-            return (int)i;
-    size_t room = (document->globals_count + 1) * sizeof *document->globals;
-    document->globals = larger_room(document->globals, room);
-    document->globals[document->globals_count] = (struct globals){.object = object, .generation = generation};
-    return (int)document->globals_count++;
+void forget_objects(struct pdf *pdf) {
+    while (pdf->seen != NULL)
+        tdelete(*(void **)pdf->seen, &pdf->seen, compare_numbers);
+    while (pdf->globals != NULL)
+        tdelete(*(void **)pdf->globals, &pdf->globals, compare_globals);
+}
+
+static struct globals *globals_in(struct document *document, qpdf_oh stream) {
+    struct pdf *pdf = document->pdf;
+    struct globals wanted = {.object = qpdf_oh_get_object_id(pdf->qpdf, stream),
+                             .generation = qpdf_oh_get_generation(pdf->qpdf, stream)};
+    struct globals **found = tfind(&wanted, &pdf->globals, compare_globals);
+    if (found != NULL)
+        return *found;
+    struct globals *globals = new_globals((struct bytes){NULL, 0});
+    globals->object = wanted.object;
+    globals->generation = wanted.generation;
+    add_globals(document, globals);
+    if (tsearch(globals, &pdf->globals, compare_globals) == NULL)
+        end_without_memory();
+    return globals;
 }
 
 /* The globals of an image, by the parameters of its filter. */
-static int globals_of(struct document *document, qpdf_oh dictionary, int filter) {
+static struct globals *globals_of(struct document *document, qpdf_oh dictionary, int filter) {
     qpdf_data qpdf = document->pdf->qpdf;
     qpdf_oh parameters = qpdf_oh_get_key(qpdf, dictionary, "/DecodeParms");
     if (qpdf_oh_is_array(qpdf, parameters) && filter < qpdf_oh_get_array_n_items(qpdf, parameters))
         parameters = qpdf_oh_get_array_item(qpdf, parameters, filter);
     qpdf_oh globals = qpdf_oh_get_key_if_dict(qpdf, parameters, "/JBIG2Globals");
-    return qpdf_oh_is_stream(qpdf, globals) ? index_of_globals(document, globals) : NO_GLOBALS;
+    return qpdf_oh_is_stream(qpdf, globals) ? globals_in(document, globals) : NULL;
 }
 
 static uint32_t side_of(qpdf_data qpdf, qpdf_oh dictionary, const char *key) {
@@ -80,6 +94,7 @@ static bool is_inverted(qpdf_data qpdf, qpdf_oh dictionary) {
     return qpdf_oh_get_numeric_value(qpdf, qpdf_oh_get_array_item(qpdf, decode, 0)) > 0;
 }
 
+/* Pages are counted from 1. */
 static void add_image(struct document *document, qpdf_oh stream, size_t page) {
     qpdf_data qpdf = document->pdf->qpdf;
     qpdf_oh dictionary = qpdf_oh_get_dict(qpdf, stream);
@@ -88,9 +103,11 @@ static void add_image(struct document *document, qpdf_oh stream, size_t page) {
         return;
     QPDF_BOOL is_mask = QPDF_FALSE;
     qpdf_oh_get_value_as_bool(qpdf, qpdf_oh_get_key(qpdf, dictionary, "/ImageMask"), &is_mask);
-    document->images = larger_room(document->images, (document->count + 1) * sizeof *document->images);
+    /* The room doubles with each power of two. */
+    if ((document->count & (document->count - 1)) == 0)
+        document->images = larger_room(document->images, (2 * document->count + 1) * sizeof *document->images);
     document->images[document->count++] = (struct image){
-        .page = page + 1,
+        .page = page,
         .object = qpdf_oh_get_object_id(qpdf, stream),
         .generation = qpdf_oh_get_generation(qpdf, stream),
         .globals = globals_of(document, dictionary, filter),
@@ -118,38 +135,40 @@ static void walk_dictionary(struct document *document, qpdf_oh dictionary, size_
         memcpy(keys[count++], key, size);
     }
     for (size_t i = 0; i < count; i++) {
-        if (strcmp(keys[i], "/Parent") != 0 && strcmp(keys[i], "/P") != 0)
-            walk(document, qpdf_oh_get_key(qpdf, dictionary, keys[i]), page, depth + 1);
+        if (strcmp(keys[i], "/Parent") != 0 && strcmp(keys[i], "/P") != 0) {
+            qpdf_oh value = qpdf_oh_get_key(qpdf, dictionary, keys[i]);
+            walk(document, value, page, depth + 1);
+            qpdf_oh_release(qpdf, value);
+        }
         free(keys[i]);
     }
     free(keys);
 }
 
+static void walk_array(struct document *document, qpdf_oh array, size_t page, int depth) {
+    qpdf_data qpdf = document->pdf->qpdf;
+    for (int i = 0, count = qpdf_oh_get_array_n_items(qpdf, array); i < count; i++) {
+        qpdf_oh item = qpdf_oh_get_array_item(qpdf, array, i);
+        walk(document, item, page, depth + 1);
+        qpdf_oh_release(qpdf, item);
+    }
+}
+
 static void walk(struct document *document, qpdf_oh object, size_t page, int depth) {
     qpdf_data qpdf = document->pdf->qpdf;
     bool is_stream = qpdf_oh_is_stream(qpdf, object);
-    if (depth > DEEPEST || !is_new(document->pdf, object))
+    bool is_page = qpdf_oh_is_dictionary_of_type(qpdf, object, "/Page", "");
+    if (depth > DEEPEST || is_page || !is_new(document->pdf, object))
         return;
     if (is_stream)
         add_image(document, object, page);
     if (is_stream || qpdf_oh_is_dictionary(qpdf, object))
         walk_dictionary(document, is_stream ? qpdf_oh_get_dict(qpdf, object) : object, page, depth);
     else if (qpdf_oh_is_array(qpdf, object))
-        for (int i = 0; i < qpdf_oh_get_array_n_items(qpdf, object); i++)
-            walk(document, qpdf_oh_get_array_item(qpdf, object, i), page, depth + 1);
+        walk_array(document, object, page, depth);
 }
 
-void find_images_of_page(struct document *document, size_t page) {
-    qpdf_data qpdf = document->pdf->qpdf;
-    qpdf_oh dictionary = qpdf_get_page_n(qpdf, page);
-    walk(document, qpdf_oh_get_key_if_dict(qpdf, dictionary, "/Resources"), page, 0);
-    qpdf_oh annotations = qpdf_oh_get_key_if_dict(qpdf, dictionary, "/Annots");
-    for (int i = 0; qpdf_oh_is_array(qpdf, annotations) && i < qpdf_oh_get_array_n_items(qpdf, annotations); i++) {
-        qpdf_oh annotation = qpdf_oh_get_array_item(qpdf, annotations, i);
-        walk(document, qpdf_oh_get_key_if_dict(qpdf, annotation, "/AP"), page, 0);
-    }
-    qpdf_oh_release_all(qpdf);
-}
+void find_images(struct document *document, qpdf_oh object, size_t page) { walk(document, object, page, 0); }
 
 #else
 

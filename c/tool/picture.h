@@ -33,7 +33,7 @@ bool write_pbm(FILE *file, const struct picture *picture, struct text *reason);
 bool write_png(FILE *file, const struct picture *picture, struct text *reason);
 const char *png_library_version(void);
 
-/* A TIFF file gets a page after the other. The descriptor stays open. */
+/* A TIFF file gets a page after the other. The descriptor stays open. open_tiff returns NULL with errno. */
 struct tiff_file;
 struct tiff_file *open_tiff(int descriptor);
 bool add_tiff_page(struct tiff_file *file, const struct picture *picture, struct text *reason);

@@ -20,8 +20,10 @@ static void ignore_warning(png_structp png, png_const_charp message) { (void)png
 static void write_header(png_structp png, png_infop info, const struct picture *picture) {
     png_set_IHDR(png, info, picture->width, picture->height, 1, PNG_COLOR_TYPE_GRAY, PNG_INTERLACE_NONE,
                  PNG_COMPRESSION_TYPE_DEFAULT, PNG_FILTER_TYPE_DEFAULT);
-    if (picture->x_resolution > 0 && picture->y_resolution > 0)
-        png_set_pHYs(png, info, picture->x_resolution, picture->y_resolution, PNG_RESOLUTION_METER);
+    /* A PNG file has no number above 2^31 - 1. */
+    uint32_t x = picture->x_resolution, y = picture->y_resolution;
+    if (x > 0 && y > 0 && x <= PNG_UINT_31_MAX && y <= PNG_UINT_31_MAX)
+        png_set_pHYs(png, info, x, y, PNG_RESOLUTION_METER);
     png_write_info(png, info);
     png_set_invert_mono(png);
 }

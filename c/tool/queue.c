@@ -74,12 +74,22 @@ static enum status check_pages(struct queue *queue, const struct document *docum
     return worse_of(status, find_missing_pages(words, document, messages));
 }
 
+/* Reading an input may take long, as from a pipe. Pages that were taken before go on. */
+static enum opened open_unlocked(struct queue *queue, struct use *use, struct report *report) {
+    queue->is_opening = true;
+    pthread_mutex_unlock(&queue->lock);
+    enum opened opened = next_document(&queue->inputs, &use->document, &report->messages, &report->status);
+    pthread_mutex_lock(&queue->lock);
+    queue->is_opening = false;
+    return opened;
+}
+
 /* Opens the next input. What is wrong with it as a whole is a report of its own. */
 static bool open_next(struct queue *queue) {
     struct use *use = room_for(sizeof *use);
     struct report report = {.status = ALL_WHOLE};
     *use = (struct use){.next = 0};
-    enum opened opened = next_document(&queue->inputs, &use->document, &report.messages, &report.status);
+    enum opened opened = open_unlocked(queue, use, &report);
     if (opened == OPENED) {
         enum status status = check_pages(queue, &use->document, &report.messages);
         queue->pages += status == WRONG_WORDS ? 0 : count_wanted(queue->words, &use->document);
@@ -135,7 +145,9 @@ bool take_task(struct queue *queue, struct task *task) {
     bool is_taken = false;
     pthread_mutex_lock(&queue->lock);
     while (!is_taken && !queue->is_stopped && !queue->is_over) {
-        if (queue->use == NULL)
+        if (queue->is_opening)
+            pthread_cond_wait(&queue->changed, &queue->lock);
+        else if (queue->use == NULL)
             queue->is_over = !open_next(queue);
         else if (take_page(queue, task))
             is_taken = name_page(queue, task);
@@ -151,7 +163,7 @@ bool take_task(struct queue *queue, struct task *task) {
         close_if_done(queue, queue->use);
         queue->use = NULL;
     }
-    queue->is_over = queue->is_over || queue->is_stopped;
+    queue->is_over = queue->is_over || (queue->is_stopped && !queue->is_opening);
     pthread_cond_broadcast(&queue->changed);
     pthread_mutex_unlock(&queue->lock);
     return is_taken;

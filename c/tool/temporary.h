@@ -4,10 +4,16 @@
 
 #include <stdio.h>
 
-/* Makes a file beside `name`, or returns NULL with errno. It goes away at the end of the program, also by a signal. */
-FILE *open_temporary(const char *name, char **temporary);
+/* Makes a file beside `name`, or returns NULL with errno. Where it is made, `*temporary` is its name, which stays until
+ * one of the next two calls. */
+FILE *open_temporary(const char *name, const char **temporary);
 /* The file has its name. */
-void forget_temporary(char **temporary);
-void remove_temporary(char **temporary);
+void forget_temporary(const char **temporary);
+void remove_temporary(const char **temporary);
+
+/* Takes all of them away where a signal ends the program. To be called before there are threads. */
+void watch_for_signals(void);
+/* Takes all of them away before the program ends at once. None can be made or named any more: who tries, waits. */
+void remove_temporaries_at_end(void);
 
 #endif

@@ -4,6 +4,8 @@
 
 #ifdef HAVE_TIFF
 
+#include <errno.h>
+#include <pthread.h>
 #include <stdlib.h>
 #include <string.h>
 #include <tiffio.h>
@@ -23,15 +25,26 @@ const char *tiff_library_version(void) {
     return version;
 }
 
-struct tiff_file *open_tiff(int descriptor) {
-    struct tiff_file *file = room_for(sizeof *file);
-    int copy = dup(descriptor);
-    /* Calls return errors, and errno says why. */
+/* Calls return errors, and errno says why. */
+static void silence(void) {
     TIFFSetErrorHandler(NULL);
     TIFFSetWarningHandler(NULL);
-    file->tiff = copy >= 0 ? TIFFFdOpen(copy, "page.tiff", "w") : NULL;
-    if (file->tiff == NULL && copy >= 0)
-        close(copy);
+}
+
+struct tiff_file *open_tiff(int descriptor) {
+    static pthread_once_t once = PTHREAD_ONCE_INIT;
+    pthread_once(&once, silence);
+    int copy = dup(descriptor);
+    TIFF *tiff = copy >= 0 ? TIFFFdOpen(copy, "page.tiff", "w") : NULL;
+    if (tiff == NULL) {
+        int error = errno;
+        if (copy >= 0)
+            close(copy);
+        errno = error;
+        return NULL;
+    }
+    struct tiff_file *file = room_for(sizeof *file);
+    file->tiff = tiff;
     return file;
 }
 
@@ -53,9 +66,6 @@ static void set_fields(TIFF *tiff, const struct picture *picture) {
 }
 
 bool add_tiff_page(struct tiff_file *file, const struct picture *picture, struct text *reason) {
-    (void)reason;
-    if (file->tiff == NULL)
-        return false;
     set_fields(file->tiff, picture);
     uint32_t at_once = rows_at_once(picture);
     uint8_t *rows = room_for(at_once * row_size(picture));
@@ -67,12 +77,14 @@ bool add_tiff_page(struct tiff_file *file, const struct picture *picture, struct
             is_written = TIFFWriteScanline(file->tiff, rows + i * row_size(picture), y + i, 0) == 1;
     }
     free(rows);
-    return is_written && TIFFWriteDirectory(file->tiff) == 1;
+    is_written = is_written && TIFFWriteDirectory(file->tiff) == 1;
+    if (!is_written && errno == 0)
+        add_text(reason, "libtiff refuses it, perhaps since a TIFF file holds 4 GiB at most");
+    return is_written;
 }
 
 void close_tiff(struct tiff_file *file) {
-    if (file->tiff != NULL)
-        TIFFClose(file->tiff);
+    TIFFClose(file->tiff);
     free(file);
 }
 

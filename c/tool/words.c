@@ -49,7 +49,7 @@ static bool read_range(const char **at, struct range *range) {
         if (isdigit((unsigned char)**at) ? !read_number(at, &last) : (last = SIZE_MAX, false))
             return false;
     }
-    *range = (struct range){first, last > SIZE_MAX ? SIZE_MAX : last};
+    *range = (struct range){first > SIZE_MAX ? SIZE_MAX : first, last > SIZE_MAX ? SIZE_MAX : last};
     return first >= 1 && first <= last;
 }
 
@@ -72,7 +72,7 @@ static bool read_size(const char *at, size_t *size) {
     const char *unit = *at != '\0' ? strchr(units, toupper((unsigned char)*at)) : NULL;
     unsigned shift = unit != NULL ? 10 * (unsigned)(unit - units + 1) : 0;
     at += unit != NULL;
-    *size = number >> (63 - shift) != 0 ? SIZE_MAX - 1 : (size_t)(number << shift);
+    *size = number > (SIZE_MAX - 1) >> shift ? SIZE_MAX - 1 : (size_t)number << shift;
     return *at == '\0';
 }
 

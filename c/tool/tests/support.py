@@ -16,9 +16,10 @@ sys.path.insert(1, str(ROOT))
 
 from conformance.runner.pictures import Picture, of_numbers, pictures_of  # noqa: E402
 
-# The builds, by c/tool/test: the usual one, one with sanitizers, one without libraries.
+# The builds, by c/tool/test: the usual one, one with sanitizers, one that counts calls, one without libraries.
 TOOL = os.environ["TOOL"]
 SANITIZED = os.environ.get("SANITIZED") or TOOL
+COUNTED = os.environ["COUNTED"]
 BARE = os.environ["BARE"]
 DECODER = os.environ["PROGRAM"]
 SUITE = pathlib.Path(os.environ["SUITE"])

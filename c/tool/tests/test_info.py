@@ -153,6 +153,7 @@ class Info(Case):
         scan = self.made(BOOK, 'a"\\\33\x9b\udcff\xe9\u201b.jb2')
         [document] = self.listed(scan.name)
         self.assertEqual(document["file"], 'a"\\\33\x9b\ufffd\xe9\u201b.jb2')
+        self.assertNotIn("\x9b", self.run_here("info", "--json", scan.name).output.decode())
         listed, refused = self.run_here("info", scan.name), self.run_here(scan.name, "-p", "9")
         for shown in listed.output.decode(errors="replace"), refused.errors:
             self.assertIn("\xe9\u201b.jb2", shown)

@@ -10,7 +10,8 @@ import subprocess
 import time
 import unittest
 
-from support import BOOK, EXAMPLE, HAS_TIFF, NOT_DONE, TOOL, WHOLE, Case, decoded, picture_of_png, pictures_of
+from support import BOOK, EXAMPLE, HAS_TIFF, NOT_DONE, TOOL, WHOLE, Case
+from support import chunks_of, decoded, picture_of_png, pictures_of
 
 MEANT = [decoded(EXAMPLE, index) for index in range(3)]
 NOBODY = 65534
@@ -161,6 +162,25 @@ class Output(Case):
             self.assert_ends(ended, WHOLE)
             self.assertEqual(pictures_of(ended.output), [meant])
 
+    def test_the_resolution_goes_into_the_file(self):
+        """As the page states it, in pixels for a metre. PNG has no number above 2^31 - 1."""
+        place = BOOK.index(bytes.fromhex("00000013 00000040 00000038")) + 12
+        for x, y, is_kept in (11811, 7874, True), (0, 11811, False), (1 << 31, 11811, False):
+            self.made(BOOK[:place] + struct.pack(">II", x, y) + BOOK[place + 8 :])
+            chunks = chunks_of(self.run_here("scan.jb2", "-p", "1", "-o", "-").output)
+            self.assertEqual(chunks.get(b"pHYs"), struct.pack(">IIB", x, y, 1) if is_kept else None)
+        if HAS_TIFF:
+            self.made(BOOK[:place] + struct.pack(">II", 11811, 7874) + BOOK[place + 8 :])
+            data = self.run_here("scan.jb2", "-p", "1", "-f", "tiff", "-o", "-").output
+            order = "<" if data[:2] == b"II" else ">"
+            [place] = struct.unpack(order + "I", data[4:8])
+            [count] = struct.unpack(order + "H", data[place : place + 2])
+            entries = struct.iter_unpack(order + "HHII", data[place + 2 : place + 2 + 12 * count])
+            fields = {tag: value for tag, _, _, value in entries}
+            values = [struct.unpack(order + "II", data[fields[tag] : fields[tag] + 8]) for tag in (282, 283)]
+            self.assertEqual([round(above / below * 100) for above, below in values], [11811, 7874])
+            self.assertIn(fields[296], (3, 3 << 16))
+
     def test_a_full_disk(self):
         for form in "png", "pbm", *(["tiff"] if HAS_TIFF else []):
             with self.subTest(form=form), open("/dev/full", "wb") as full:
@@ -173,11 +193,58 @@ class Output(Case):
             self.assert_ends(self.run_here("info", EXAMPLE, stdout=full), NOT_DONE, "No space left on device")
 
     def test_a_limit_of_file_sizes(self):
-        self.made(slow_page(4096)[:30], "white.jb2e")
-        limited = ["sh", "-c", 'ulimit -f 1; exec "$@"', "sh", TOOL, "white.jb2e", "-o", "all.pbm"]
-        ended = subprocess.run(limited, cwd=self.room, capture_output=True, check=False)
-        self.assertEqual((ended.returncode, self.files()), (NOT_DONE, ["white.jb2e"]), ended.stderr)
-        self.assertIn(b"File too large", ended.stderr)
+        """Whatever the limit cuts off, there is no file then."""
+        self.made(slow_page(1200), "gray.jb2e")
+        for form in "png", "pbm", *(["tiff"] if HAS_TIFF else []):
+            self.assert_ends(self.run_here("gray.jb2e", "-o", f"whole.{form}"), WHOLE)
+            size = (self.room / f"whole.{form}").stat().st_size
+            (self.room / f"whole.{form}").unlink()
+            for blocks in 0, 1, size // 1024, (size - 1) // 512:
+                limited = ["sh", "-c", f'ulimit -f {blocks}; exec "$@"', "sh", TOOL, "gray.jb2e", "-o", f"cut.{form}"]
+                ended = subprocess.run(limited, cwd=self.room, capture_output=True, check=False)
+                self.assertEqual((ended.returncode, self.files()), (NOT_DONE, ["gray.jb2e"]), ended.stderr)
+                self.assertIn(b"File too large", ended.stderr)
+
+    def test_a_device_keeps_what_it_got(self):
+        """A pipe can't be taken back, so nobody says that it isn't written."""
+        words = [EXAMPLE, "gone.jb2", "-f", "pbm", "-o"]
+        for name in "-", "/dev/stdout":
+            ended = self.run_here(*words, name)
+            self.assertEqual(pictures_of(ended.output), MEANT)
+            self.assertEqual(ended.errors, "gone.jb2: can't be read: No such file or directory\n")
+            self.assertEqual(ended.status, NOT_DONE)
+
+    def test_a_link_is_kept(self):
+        """With --force the file that it leads to is overwritten, as /dev/stdout may be one."""
+        (self.room / "folder").mkdir()
+        (self.room / "folder" / "page.pbm").write_bytes(b"mine")
+        (self.room / "link.pbm").symlink_to("folder/page.pbm")
+        (self.room / "gone.pbm").symlink_to("nowhere/page.pbm")
+        words = [EXAMPLE, "-p", "1", "-o"]
+        self.assert_ends(self.run_here(*words, "link.pbm"), NOT_DONE, "link.pbm: is there already")
+        self.assert_ends(self.run_here(*words, "link.pbm", "--force"), WHOLE)
+        self.assertTrue((self.room / "link.pbm").is_symlink())
+        self.assertEqual(pictures_of((self.room / "folder" / "page.pbm").read_bytes()), [MEANT[0]])
+        ended = self.run_here(*words, "gone.pbm", "--force")
+        self.assert_ends(ended, NOT_DONE, "gone.pbm: No such file or directory")
+        self.assertEqual(self.files(), ["folder/page.pbm", "link.pbm"])
+
+    def test_long_names(self):
+        """As long as the file system takes them: the name that a file has meanwhile isn't longer."""
+        stem = "a" * 244
+        self.made(BOOK, f"{stem}.jb2")
+        self.assert_ends(self.run_here(f"{stem}.jb2", "-p", "1"), WHOLE)
+        self.assert_ends(self.run_here(EXAMPLE, "-p", "1", "-o", "b" * 251 + ".pbm"), WHOLE)
+        ended = self.run_here(EXAMPLE, "-p", "1", "-o", "b" * 252 + ".pbm")
+        self.assert_ends(ended, NOT_DONE, "bbb.pbm: File name too long")
+        self.assertEqual(len(self.files()), 3)
+
+    def test_a_folder_in_the_place_of_a_file(self):
+        (self.room / "scan-1.pbm").mkdir()
+        self.made(BOOK)
+        for words in [], ["--force"]:
+            ended = self.run_here("scan.jb2", "-p", "1", "-f", "pbm", *words)
+            self.assert_ends(ended, NOT_DONE, "scan-1.pbm: Is a directory")
 
     def test_a_closed_pipe(self):
         for words in ["-f", "pbm"], ["-f", "png", "-p", "1"]:
@@ -236,7 +303,7 @@ class Output(Case):
         shown = shown_on_terminal(words, self.room)
         self.assertRegex(shown, r"\d+ of \d+ pages")
         self.assertTrue(shown.endswith("\r\033[K"), shown[-20:])
-        self.assertEqual(shown_on_terminal([*words, "--quiet"], self.room), "")
+        self.assertEqual(shown_on_terminal([*words, "-q"], self.room), "")
 
     def test_the_stem_of_hidden_and_odd_names(self):
         for name, stem in {".jb2": ".jb2", "a.b.jb2": "a.b", "plain": "plain"}.items():

@@ -3,6 +3,7 @@ from __future__ import annotations
 
 import concurrent.futures
 import random
+import re
 import unittest
 
 from support import (
@@ -26,6 +27,7 @@ from conformance.runner.damage import damaged
 from conformance.runner.embedding import file_of, embedded_page
 from conformance.runner.manifest import PICTURE, read_manifest, read_sample
 from conformance.runner.segments import header_at, with_data
+from test_output import slow_page
 
 ENTRIES = read_manifest(SUITE / "manifest.tsv")
 FILES = sorted({entry.name for entry in ENTRIES if not entry.is_embedded})
@@ -279,6 +281,18 @@ class Limits(Case):
         self.assert_ends(self.run_here(EXAMPLE, "--work", "1", "-o", "a/"), OVER_LIMIT, "refused by the limit of work")
         self.assert_ends(self.run_here(EXAMPLE, "--work", "1000000", "-o", "a/"), WHOLE)
         self.assert_ends(self.run_here(EXAMPLE, "--work", "none", "-o", "b/"), WHOLE)
+
+    def test_no_other_segment_is_named_where_the_search_reaches_the_limit(self):
+        """The page is drawn again with fewer segments to find the first one that fails, within the limit of work."""
+        slow, bad = slow_page(500), "26 00 01 0000001A 00000008 00000008 000000000000000000 00 00000000 00000000"
+        good = bad.replace("00 00000000 00000000", "00 03FFFDFF 02FEFEFE")
+        regions = [f"{number:08x} {bad if number == 2 else good}" for number in range(2, 22)]
+        page = self.made(slow + bytes.fromhex(" ".join(regions)), "page.jb2e")
+        named = set()
+        for work in range(400000, 6000000, 400000):
+            ended = self.run_here(page, "--strict", "--work", work, "-f", "pbm", "-o", "-")
+            named |= set(re.findall(r"segment (\d+)", ended.errors))
+        self.assertEqual(named, {"2"})
 
     def test_memory(self):
         text = "refused by the limit of memory (--memory)"

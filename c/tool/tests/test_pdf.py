@@ -2,6 +2,7 @@
 from __future__ import annotations
 
 import dataclasses
+import json
 import re
 import shutil
 import subprocess
@@ -116,6 +117,8 @@ class Pdf(Case):
         for filters, reason in ("[/DCTDecode /JBIG2Decode]", ""), unknown:
             self.made(one_image("", image.stream, b"", f"/Filter {filters}"), "scan.pdf")
             self.assert_ends(self.run_here("scan.pdf"), NOT_DONE, f"scan.pdf: page 1: can't be read: {reason}")
+            listed = self.run_here("info", "--json", "scan.pdf")
+            self.assertEqual(json.loads(listed.output)[0]["pages"][0]["segments"], [])
 
     def test_notes(self):
         image = dataclasses.replace(self.images[1])
