@@ -11,9 +11,9 @@
  *
  * What is proved holds for callers that keep to these rules. Nothing checks them:
  *
- * - No pointer is null, not even beside a length of 0, and each points to as many bytes, or to the one number, that
- *   the call says. What a call does with a null pointer is undefined, even if it seems to work. An empty std::vector has
- *   a null data(): hand over the address of any byte in its place.
+ * - Each pointer points to as many bytes, or to the one number, that the call says, and none is null but where it says
+ *   so, or beside a length of 0: that is an empty input, as the data() of an empty std::vector. (The contracts ask for a
+ *   pointer there too. So null beside 0 is tested, by empty_calls.c, and not proved.)
  * - What a call writes overlaps nothing else that it is handed. While it runs, nobody else reads or writes that, and
  *   nobody writes what it reads.
  * - A bool is 0 or 1, as stdbool.h's are.
@@ -28,7 +28,7 @@
  *   way to read damaged files, salvage, has calls of its own, on handles (below).
  * - file: the bytes of a whole JBIG2 file. index: one of its pages, from 0. A file is read anew in each call.
  * - stream: a page as a PDF file keeps it, the bytes of a /JBIG2Decode stream. globals: those of its /JBIG2Globals, or
- *   any pointer but null and length 0 where it has none.
+ *   length 0 where it has none.
  * - image: a byte for each pixel, width * height of them, rows from the top: 0 is black and 255 white.
  * - rows: a bit for each pixel, 1 is black, the leftmost the highest of its byte; (width + 7) / 8 bytes a row, whose
  *   last bits are 0 past the width; rows from the top, (width + 7) / 8 * height bytes. That is the form of PBM.

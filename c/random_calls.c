@@ -297,7 +297,8 @@ static void call_on_bytes(void) {
         CHECK(answer != HAYRO_JBIG2_OK || other == size);
         expect(hayro_jbig2_page_packed(strict, input.bytes, input.length, index, image, other / 8), true);
         expect(hayro_jbig2_embedded_size(strict, input.bytes, input.length, &width, &height), true);
-        expect(hayro_jbig2_embedded_packed(strict, input.bytes, 0, input.bytes, input.length, image, other / 8), true);
+        const uint8_t *none = one_in(2) ? NULL : input.bytes;
+        expect(hayro_jbig2_embedded_packed(strict, none, 0, input.bytes, input.length, image, other / 8), true);
     }
     free(image);
     free(input.bytes);

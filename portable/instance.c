@@ -169,12 +169,17 @@ static uint8_t *at(struct instance *instance, uint64_t place, uint64_t length) {
     return instance->module.w2c_memory.data + place;
 }
 
+/* A caller's pointer to no bytes may be null, which memcpy doesn't take. */
 void jbig2_portable_copy_in(struct instance *instance, uint64_t place, const uint8_t *bytes, size_t length) {
-    memcpy(at(instance, place, length), bytes, length);
+    uint8_t *to = at(instance, place, length);
+    if (length > 0)
+        memcpy(to, bytes, length);
 }
 
 void jbig2_portable_copy_out(struct instance *instance, uint64_t place, uint8_t *bytes, size_t length) {
-    memcpy(bytes, at(instance, place, length), length);
+    const uint8_t *from = at(instance, place, length);
+    if (length > 0)
+        memcpy(bytes, from, length);
 }
 
 uint64_t jbig2_portable_number(struct instance *instance, uint64_t place, unsigned size) {

@@ -8,6 +8,7 @@ const MOST_SECONDS = 2_000_000;
 const element = (id) => document.querySelector(`#${id}`);
 const [files, note, progress, stop, stopAll] = ["files", "note", "progress", "stop", "stop-all"].map(element);
 
+element("unloaded").remove();
 let sections = [];
 // The page that is being decoded.
 let running = {};

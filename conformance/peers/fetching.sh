@@ -10,7 +10,8 @@ fetch_source() {
     if [ -z "$archive" ]; then
         echo "fetching the source package $package" >&2
         (cd -- "$folder" && apt-get source --quiet --download-only --tar-only "$package" >&2) || {
-            echo "apt-get can't fetch it: a line deb-src of Debian has to be in /etc/apt/sources.list, and then apt-get update" >&2
+            echo "apt-get can't fetch it. It needs the sources of Debian (a line deb-src, or \"Types: deb deb-src\") and apt-get" \
+                "update; or ARCHIVE names the archive of a version that is here" >&2
             return 1
         }
         archive=$(ls -- "$folder/$package"_*.orig.tar.*)

@@ -18,22 +18,24 @@ import subprocess
 from .mistake import Mistake
 
 ROOT = pathlib.Path(__file__).resolve().parents[2]
-# What the scripts of conformance/peers make.
+# What the scripts of conformance/peers make, and dropin/build.
 PEERS = ROOT / "conformance" / "out"
+DROPIN = ROOT / "dropin" / "out" / "libjbig2dec.so.0"
 PDFJS = ROOT / "conformance" / "peers" / "pdfjs.mjs"
 # The streams of a PDF file and its size, for decoders that take these.
 OF_PDF = "{stream} {shared} {width} {height} {out}"
 # The words of a command that stand for the data.
 INPUTS = ("{in}", "{pdf}", "{stream}")
 JBIG2DEC = "jbig2dec -t pbm -o {out}"
+OURS = f"env LD_LIBRARY_PATH={shlex.quote(str(DROPIN.parent))} {JBIG2DEC}"
 GS = "gs -q -dSAFER -dBATCH -dNOPAUSE -sDEVICE=pbmraw -r72"
 
 
 @dataclasses.dataclass(frozen=True)
 class Decoder:
     """A decoder: its command, the one for embedded pages if that is another, its word for strict reading if the
-    manifest has its answers by both readings, its Debian package, and the decoder whose library it calls. `peer` is the
-    script that makes it of a source package, whose version is then in the file `version` of its folder."""
+    manifest has its answers by both readings, its Debian package, and the decoder whose library it calls. `maker` is
+    the script that makes it, and `made` a file that is there then: of a source package the one with its version."""
 
     name: str
     command: str
@@ -41,7 +43,8 @@ class Decoder:
     strict: str = ""
     package: str = ""
     library: str = ""
-    peer: str = ""
+    maker: str = ""
+    made: pathlib.Path | None = None
 
     def takes_stream(self, has_globals: bool) -> bool:
         """Whether it has a command for an embedded page; one without {globals} is for pages that share nothing."""
@@ -49,25 +52,26 @@ class Decoder:
 
     def missing(self) -> str | None:
         """The program, where it isn't there."""
-        if self.peer and not self.version_file.exists():
-            return f"{self.name}, which conformance/peers/{self.peer} makes,"
+        if self.made and not self.made.exists():
+            return f"{self.name}, which {self.maker} makes,"
         program = shlex.split(self.command)[0].format(program=own_program())
         return None if shutil.which(program) else program
 
-    @property
-    def version_file(self) -> pathlib.Path:
-        """The file with the version of what its script has made."""
-        return PEERS / self.name / "version"
-
     def version(self) -> str:
         """The version of its Debian package."""
-        if self.peer:
-            return self.version_file.read_text(encoding="utf-8").strip()
+        if self.package and self.made:
+            return self.made.read_text(encoding="utf-8").strip()
         if not self.package:
             return "this tree"
         words = ["dpkg-query", "-W", "-f", "${Version}", self.package]
         asked = subprocess.run(words, capture_output=True, text=True) if shutil.which(words[0]) else None
         return asked.stdout if asked and asked.returncode == 0 else "of an unknown version"
+
+
+def peer(name: str, command: str, package: str, script: str) -> Decoder:
+    """A decoder that takes the streams of a PDF file and its size, made by a script of conformance/peers."""
+    words = f"{command} {OF_PDF}"
+    return Decoder(name, words, package=package, maker=f"conformance/peers/{script}", made=PEERS / name / "version")
 
 
 DECODERS = (
@@ -76,8 +80,9 @@ DECODERS = (
     Decoder("mutool", "mutool draw -q -F pbm -r 72 -o {out} {pdf} 1", package="mupdf-tools", library="jbig2dec"),
     Decoder("gs", f"{GS} -sOutputFile={{out}} {{pdf}}", package="ghostscript", library="jbig2dec"),
     Decoder("pdfimages", "pdfimages {pdf} {out}", package="poppler-utils"),
-    Decoder("pdfium", f"{shlex.quote(str(PEERS / 'pdfium-jbig2'))} {OF_PDF}", package="chromium", peer="pdfium"),
-    Decoder("pdf.js", f"node {shlex.quote(str(PDFJS))} {OF_PDF}", package="pdf.js", peer="pdfjs"),
+    Decoder("drop-in", f"{OURS} {{in}}", f"{OURS} -e {{globals}} {{in}}", maker="dropin/build", made=DROPIN),
+    peer("pdfium", shlex.quote(str(PEERS / "pdfium-jbig2")), "chromium", "pdfium"),
+    peer("pdf.js", f"node {shlex.quote(str(PDFJS))}", "pdf.js", "pdfjs"),
 )
 
 

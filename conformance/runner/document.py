@@ -4,10 +4,10 @@ from __future__ import annotations
 from .tables import Column, Reasons, feature_table, parted, reason_table, refusal_table
 
 INTRODUCTION = """
-`conformance/run --table all` makes this page. It shows which features of T.88 each decoder of
-Debian draws as expected. The files are made up and small, and each has one main feature. Many of
-these features are rare. So the numbers say how much of the standard a decoder knows. They do not
-measure what it does with the files of scanners.
+`conformance/run --table all` makes this page. It shows which features of T.88 each decoder draws as
+expected. The files are made up and small, and each has one main feature. Many of these features are
+rare. So the numbers say how much of the standard a decoder knows. They do not measure what it does
+with the files of scanners.
 
 `conformance/make FOLDER` writes the files, and `conformance/manifest.tsv` describes them. The
 expected picture is known from how a file was made. A page is right if all of its pixels are
@@ -15,12 +15,13 @@ the expected ones.
 """
 
 METHOD = """
-`jbig2-decode` and `jbig2dec` take the file itself. Of an embedded page `jbig2dec` takes both
-streams, and `jbig2-decode` a file that is made of them if something is shared. The others take a
-PDF file that the runner writes: the image's stream has the page's segments without ends of pages
-and of the file, /JBIG2Globals has the segments of no page, and a point is a pixel. A viewer may
-fail by its library: Debian's mutool and gs decode by libjbig2dec, pdfimages by Poppler's own
-decoder.
+`jbig2-decode` and `jbig2dec` take the file itself. `drop-in` is Debian's program jbig2dec with the
+library of `dropin/` in the place of its own. Of an embedded page these two take both streams, and
+`jbig2-decode` a file that is made of them if something is shared. The others take a PDF file that
+the runner writes: the image's stream has the page's segments without ends of pages and of the file,
+/JBIG2Globals has the segments of no page, and a point is a pixel. Of `pdfium` and `pdf.js` only the
+decoder was run, on the two streams and with the size of such a file. A viewer may fail by its
+library: Debian's mutool and gs decode by libjbig2dec, pdfimages by Poppler's own decoder.
 
 - *right*: the expected picture.
 - *wrong*: another picture.
@@ -50,8 +51,12 @@ def versions(columns: list[Column]) -> list[str]:
 
 
 def package(column: Column) -> str:
-    """The Debian package that a decoder comes in."""
-    return f" (Debian's `{column.decoder.package}`)" if column.decoder.package else ""
+    """The Debian package that a decoder comes in, and what makes it."""
+    decoder = column.decoder
+    if not decoder.package:
+        return f", by `{decoder.maker}`" if decoder.maker else ""
+    made = f", by `{decoder.maker}` of the sources" if decoder.maker else ""
+    return f" (Debian's `{decoder.package}`{made})"
 
 
 def counts(columns: list[Column]) -> str:

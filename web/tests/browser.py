@@ -1,22 +1,25 @@
 #!/usr/bin/env python3
-"""Opens ../index.html in headless Chromium, hands it files, and compares what it shows with the folder's answers.json.
+"""Opens ../index.html in each browser that is installed, headless, hands it files, and compares what it shows with the
+folder's answers.json.
 
-usage: web/tests/browser.py FOLDER
-       web/tests/browser.py --picture PICTURE.png WIDTH FILE ..
+usage: web/tests/browser.py [--only chromium|firefox] FOLDER
+       web/tests/browser.py [--only chromium|firefox] --picture PICTURE.png WIDTH FILE ..
 
 The second drops files onto the page, and saves a picture of it as a window of this width shows it. The page loads from this
 computer alone.
 """
-import base64
+import argparse
 import hashlib
 import json
 import pathlib
+import subprocess
 import sys
 import tempfile
 
-from chromium import Browser
+from chromium import Chromium, chromium
+from firefox import Firefox, firefox
 from looks import faults_of_looks
-from page import FILES, Server, choose, drop, hand_over, open_page, set_checked, shown, wait_until_shown
+from page import FILES, WEB, Server, choose, drop, open_page, set_checked, shown, wait_until_shown
 
 FILES_AT_ONCE = 100
 
@@ -86,7 +89,7 @@ def goes_on(browser, folder):
     slow.write_bytes(SLOW)
     good.write_bytes((folder / "t88-h1.jb2").read_bytes())
     unreadable = folder / "a folder"
-    unreadable.mkdir()
+    unreadable.mkdir(exist_ok=True)
     faults = []
 
     def look(name, file, text):
@@ -97,19 +100,20 @@ def goes_on(browser, folder):
             faults.append(f"{name}: {pages}")
 
     set_seconds(browser, 1000)
-    hand_over(browser, [unreadable, good])
-    look("a folder", unreadable, "can't be read")
-    hand_over(browser, [slow, good])
+    if browser.drops_folders:
+        browser.drop([unreadable, good])
+        look("a folder", unreadable, "can't be read")
+    browser.drop([slow, good])
     look("a file of too much work", slow, "WORK_LIMIT_REACHED: more work than the limit of 16777216 units")
     set_checked(browser, "limited", False)
     # A busy machine may take more than a second for the good file too.
     set_seconds(browser, 1)
-    hand_over(browser, [slow])
+    browser.drop([slow])
     set_seconds(browser, 1000)
-    hand_over(browser, [good])
+    browser.drop([good])
     browser.wait_for('document.querySelector("#note").textContent.startsWith("slow.jb2 is being decoded.")')
     look("a slow file", slow, "page 1 of 1: stopped, since a page took more than 1 seconds")
-    hand_over(browser, [slow, good])
+    browser.drop([slow, good])
     browser.wait_for('document.querySelector("#note").textContent.startsWith("slow.jb2 is being decoded.")')
     browser.evaluate('document.querySelector("#stop").click()')
     look("a file that is stopped", slow, "stopped")
@@ -122,13 +126,33 @@ def set_seconds(browser, seconds):
 
 def clears(browser, slow, good):
     """What is wrong where all is cleared away while a file runs and another waits: a later file has to be shown all the same."""
-    hand_over(browser, [slow, slow])
+    browser.drop([slow, slow])
     browser.wait_for('document.querySelector("#note").textContent.startsWith("slow.jb2 is being decoded.")')
     browser.evaluate('document.querySelector("#clear").click()')
     browser.wait_for('document.querySelector("#stop").disabled')
     drop(browser, [good])
     pages = shown(browser)
     return [] if list(pages) == [good.name] and len(pages[good.name]) == 3 else [f"all is cleared away: {pages}"]
+
+
+def faults_from_a_folder(browser, folder):
+    """What is wrong with the page of one file, which is opened without a server, and with the page that needs one."""
+    page, file = folder / "one file.html", folder / "t88-h1.jb2"
+    made = subprocess.run([sys.executable, WEB / "one_file.py"], check=True, stdout=subprocess.PIPE)
+    page.write_bytes(made.stdout)
+    faults = []
+    browser.open(page.as_uri())
+    browser.wait_for('location.protocol === "file:" && document.querySelector("#choose") && !document.querySelector("#unloaded")')
+    drop(browser, [file])
+    pages = shown(browser)
+    if pages != {file.name: meant_of(folder)[file.name]}:
+        faults.append(f"the page of one file shows {pages}")
+    browser.open((WEB / "index.html").as_uri())
+    # Where a browser loads no modules from a folder, the page says so.
+    if not browser.loads_from_folders:
+        hint = 'document.querySelector("#unloaded")'
+        browser.wait_for(f'{hint} && getComputedStyle({hint}).visibility === "visible"')
+    return faults
 
 
 def test(browser, folder):
@@ -155,29 +179,54 @@ def test(browser, folder):
     others = Server.asked - {f"GET {name}" for name in FILES}
     if others:
         print(f"the page has asked for more than its own files: {others}")
-    print(f"browser: {len(names) - len(wrong)} files are shown as they are meant, {len(wrong)} not")
-    return 1 if wrong or others or not names or not shows_damage or faults else 0
+    for fault in (without_server := faults_from_a_folder(browser, folder)):
+        print(fault)
+    print(f"{browser.name}: {len(names) - len(wrong)} files are shown as they are meant, {len(wrong)} not")
+    return 1 if wrong or others or not names or not shows_damage or faults or without_server else 0
 
 
 def take_picture(browser, picture, width, files):
-    browser.call("Emulation.setDeviceMetricsOverride", width=width, height=900, deviceScaleFactor=1, mobile=False)
+    browser.resize(width, 900)
     drop(browser, files)
     browser.evaluate('dispatchEvent(new Event("beforeprint"))')
-    data = browser.call("Page.captureScreenshot", captureBeyondViewport=True)["data"]
-    pathlib.Path(picture).write_bytes(base64.b64decode(data))
+    pathlib.Path(picture).write_bytes(browser.picture())
+
+
+def in_browser(kind, do):
+    """What `do` returns for a browser of this kind that shows the page."""
+    with tempfile.TemporaryDirectory(ignore_cleanup_errors=True) as profile:
+        browser = kind(profile)
+        try:
+            open_page(browser)
+            return do(browser)
+        finally:
+            browser.close()
+
+
+def installed(wanted):
+    """The browsers that are installed, or the one of them that is wanted."""
+    kinds = []
+    for program, kind in (chromium, Chromium), (firefox, Firefox):
+        if wanted in (None, kind.name.lower()):
+            if program():
+                kinds.append(kind)
+            else:
+                print(f"web/test: skipped: the page in {kind.name}, which is not installed")
+    return kinds
 
 
 def main():
-    with tempfile.TemporaryDirectory() as profile:
-        browser = Browser(profile)
-        try:
-            open_page(browser)
-            if sys.argv[1] == "--picture":
-                take_picture(browser, sys.argv[2], int(sys.argv[3]), [pathlib.Path(file) for file in sys.argv[4:]])
-                return 0
-            return test(browser, pathlib.Path(sys.argv[1]))
-        finally:
-            browser.close()
+    parser = argparse.ArgumentParser(usage=__doc__.split("usage: ")[1])
+    parser.add_argument("--only", choices=("chromium", "firefox"))
+    parser.add_argument("--picture", nargs=2)
+    parser.add_argument("paths", nargs="+", type=pathlib.Path)
+    options = parser.parse_args()
+    kinds = installed(options.only)
+    if options.picture:
+        picture, width = options.picture
+        in_browser(kinds[0], lambda browser: take_picture(browser, picture, int(width), options.paths))
+        return 0
+    return max([in_browser(kind, lambda browser: test(browser, *options.paths)) for kind in kinds], default=0)
 
 
 if __name__ == "__main__":

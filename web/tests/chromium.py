@@ -1,11 +1,12 @@
 """Headless Chromium, by its debugging protocol over a pipe."""
+import base64
 import json
 import os
 import select
 import shutil
 import subprocess
 
-SECONDS = 120
+from driven import SECONDS, Driven
 
 
 def chromium():
@@ -13,8 +14,12 @@ def chromium():
     return next(filter(None, map(shutil.which, ("chromium", "chromium-browser", "google-chrome"))), None)
 
 
-class Browser:
+class Chromium(Driven):
     """A browser with one empty page."""
+
+    name = "Chromium"
+    drops_folders = True
+    loads_from_folders = False
 
     def __init__(self, profile):
         to_child, self.into = os.pipe()
@@ -69,20 +74,47 @@ class Browser:
             raise RuntimeError(answer["exceptionDetails"])
         return answer["result"].get("value")
 
-    def wait_for(self, expression):
-        """Waits until an expression holds."""
-        text = json.dumps(f"the page never came to: {expression}")
-        self.evaluate(
-            f"""new Promise((resolve, reject) => {{
-              const end = performance.now() + {SECONDS * 900};
-              const look = () => {{
-                if ({expression}) resolve();
-                else if (performance.now() > end) reject(new Error({text} + "; it says " + document.body.innerText));
-                else setTimeout(look, 5);
-              }};
-              look();
-            }})"""
-        )
+    def open(self, url):
+        self.call("Page.navigate", url=url)
+
+    def choose(self, selector, files):
+        """Hands a field files as a user's choice."""
+        root = self.call("DOM.getDocument")["root"]["nodeId"]
+        node = self.call("DOM.querySelector", nodeId=root, selector=selector)["nodeId"]
+        self.call("DOM.setFileInputFiles", nodeId=node, files=[str(file.resolve()) for file in files])
+
+    def drop(self, files):
+        """Drops files onto the page."""
+        data = {"items": [], "files": [str(file.resolve()) for file in files], "dragOperationsMask": 1}
+        for kind in ("dragEnter", "dragOver", "drop"):
+            self.call("Input.dispatchDragEvent", type=kind, x=200, y=200, data=data)
+
+    def resize(self, width, height):
+        """Gives the page this size."""
+        self.call("Emulation.setDeviceMetricsOverride", width=width, height=height, deviceScaleFactor=1, mobile=False)
+
+    def set_scheme(self, scheme):
+        """Sets the colours that a user prefers, or none."""
+        features = [{"name": "prefers-color-scheme", "value": scheme}] if scheme else []
+        self.call("Emulation.setEmulatedMedia", features=features)
+
+    def save_to(self, folder):
+        """Where files are saved."""
+        self.call("Page.setDownloadBehavior", behavior="allow", downloadPath=str(folder))
+
+    def roles(self):
+        """The role and the name of what a screen reader reads."""
+        nodes = self.call("Accessibility.getFullAXTree")["nodes"]
+        return [(node["role"]["value"].lower(), node.get("name", {}).get("value", "")) for node in nodes if not node["ignored"]]
+
+    def printed(self):
+        """The page as a PDF file."""
+        return base64.b64decode(self.call("Page.printToPDF")["data"])
+
+    def picture(self):
+        """The whole page as a PNG file. The first picture may lack what is drawn just now."""
+        self.call("Page.captureScreenshot", captureBeyondViewport=True)
+        return base64.b64decode(self.call("Page.captureScreenshot", captureBeyondViewport=True)["data"])
 
     def close(self):
         """Ends the browser with its child processes, so that its profile can be removed."""

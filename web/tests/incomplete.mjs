@@ -5,8 +5,9 @@
  */
 import { readFileSync } from "node:fs";
 import { Decoder, Jbig2Error } from "../hayro_jbig2.js";
+import { module } from "./module.mjs";
 
-const decoder = await Decoder.load();
+const decoder = await Decoder.load(module);
 const book = readFileSync(process.argv[2]);
 let checks = 0;
 let failed = 0;

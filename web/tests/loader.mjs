@@ -6,12 +6,12 @@
  */
 import { readFileSync } from "node:fs";
 import { Decoder, Jbig2Error, isFile } from "../hayro_jbig2.js";
+import { module } from "./module.mjs";
 import { randomNumbers } from "./random.mjs";
 
 const CALLS = 20000;
 // A decoder that is spoiled fails at all that comes after.
 const SHOWN = 20;
-const module = readFileSync(new URL("../hayro_jbig2.wasm", import.meta.url));
 const file = new Uint8Array(readFileSync(new URL("../../crates/jbig2_decode/data/t88-h1.jb2", import.meta.url)));
 const decoder = await Decoder.load(module);
 let failed = 0;

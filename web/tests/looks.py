@@ -1,6 +1,7 @@
-"""What a user of the page sees, hears and saves: captions, links, names for screen readers, contrast, zoom, PNG files."""
+"""What a user of the page sees, hears, saves and prints: captions, links, names for screen readers, contrast, zoom, files."""
 import json
 import pathlib
+import re
 import struct
 import tempfile
 import time
@@ -10,6 +11,11 @@ from page import drop, set_checked, shown
 
 # The page of the suite's file is drawn by one segment; without its last bytes it is blank.
 CUT = "t88-h1.jb2"
+# A blank page of 2480 by 3508 pixels, as scanners write it.
+TALL = (
+    bytes.fromhex("974A42320D0A1A0A 01 00000001 00000000 30 00 01 00000013 000009B0 00000DB4" + "00" * 11)
+    + bytes.fromhex("00000001 31 00 01 00000000 00000002 33 00 00 00000000")
+)
 # The roles that a user acts on. Each has to have a name.
 ROLES = {"button", "link", "checkbox", "spinbutton", "combobox", "textbox", "progressbar", "img", "navigation", "region", "group"}
 # What is read, with the least contrast that WCAG 2.1 asks for (AA).
@@ -49,7 +55,7 @@ def faults_of_looks(browser, folder):
         faults += look(browser)
     faults += saved(browser, whole)
     shown(browser)
-    return faults
+    return faults + printed(browser, folder)
 
 
 def captions(browser):
@@ -80,8 +86,7 @@ def captions(browser):
 def names(browser):
     """What a screen reader reads has a name."""
     browser.evaluate('document.querySelector("details").open = true')
-    nodes = browser.call("Accessibility.getFullAXTree")["nodes"]
-    found = [(node["role"]["value"].lower(), node.get("name", {}).get("value", "")) for node in nodes if not node["ignored"]]
+    found = browser.roles()
     faults = [f"a {role} without a name" for role, name in found if role in ROLES and not name.strip()]
     wanted = {"button", "link", "checkbox", "combobox", "navigation", "region", "status", "banner", "main"}
     missing = wanted - {role for role, _ in found}
@@ -91,11 +96,11 @@ def names(browser):
 def contrast(browser):
     faults = []
     for scheme in "light", "dark":
-        browser.call("Emulation.setEmulatedMedia", features=[{"name": "prefers-color-scheme", "value": scheme}])
+        browser.set_scheme(scheme)
         ratios = browser.evaluate(f"{CONTRAST}({json.dumps(READ)})")
         weak = [(what, ratio) for what, ratio in zip(READ, ratios) if ratio < LEAST_CONTRAST]
         faults += [f"{what} has a contrast of {ratio:.1f} ({scheme})" for what, ratio in weak]
-    browser.call("Emulation.setEmulatedMedia", features=[])
+    browser.set_scheme("")
     return faults
 
 
@@ -104,8 +109,8 @@ def zoom(browser):
     faults = []
     for value, width in ("2", 128), ("0.5", 32), ("fit", 384):
         browser.evaluate(
-            f"""{{ const box = document.querySelector("#zoom"); box.value = "{value}";
-            box.dispatchEvent(new Event("change")); }}"""
+            f"""(() => {{ const box = document.querySelector("#zoom"); box.value = "{value}";
+            box.dispatchEvent(new Event("change")); }})()"""
         )
         seen = browser.evaluate('document.querySelector(".picture").getBoundingClientRect().width')
         if seen != width:
@@ -115,7 +120,7 @@ def zoom(browser):
 
 def pictures_out_of_sight(browser):
     """A picture that is out of sight takes no memory, and its place stays."""
-    browser.call("Emulation.setDeviceMetricsOverride", width=900, height=400, deviceScaleFactor=1, mobile=False)
+    browser.resize(900, 400)
     drawn = '[...document.querySelectorAll(".picture")].map((picture) => picture.childElementCount).join("")'
     try:
         browser.evaluate("scrollTo(0, document.body.scrollHeight)")
@@ -125,14 +130,31 @@ def pictures_out_of_sight(browser):
     except RuntimeError as error:
         return [f"pictures out of sight: {error}"]
     finally:
-        browser.call("Emulation.clearDeviceMetricsOverride")
+        browser.resize(900, 900)
     return []
+
+
+def printed(browser, folder):
+    """A scanned page is printed on one sheet with its caption."""
+    tall = folder / "tall.jb2"
+    tall.write_bytes(TALL)
+    drop(browser, [tall])
+    data = browser.printed()
+    shown(browser)
+    parts = [data]
+    for begin in re.finditer(rb"stream\r?\n", data):
+        try:
+            parts.append(zlib.decompressobj().decompress(data[begin.end() :]))
+        except zlib.error:
+            pass
+    sheets = sum(len(re.findall(rb"/Type\s*/Page\b", part)) for part in parts)
+    return [] if sheets == 1 else [f"a page is printed on {sheets} sheets"]
 
 
 def saved(browser, file):
     """The second page is saved as a PNG file with its pixels."""
     with tempfile.TemporaryDirectory() as folder:
-        browser.call("Page.setDownloadBehavior", behavior="allow", downloadPath=folder)
+        browser.save_to(folder)
         browser.evaluate('document.querySelectorAll("figcaption button")[1].click()')
         path = pathlib.Path(folder, f"{file.stem}-page-2.png")
         for _ in range(400):

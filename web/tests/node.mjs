@@ -8,10 +8,10 @@ import { existsSync, readFileSync } from "node:fs";
 import { join } from "node:path";
 import { Decoder, Jbig2Error, isFile } from "../hayro_jbig2.js";
 import { Pdf, isPdf } from "../pdf.js";
+import { module } from "./module.mjs";
 
 const folder = process.argv[2];
 const answers = JSON.parse(readFileSync(join(folder, "answers.json"), "utf8"));
-const module = readFileSync(new URL("../hayro_jbig2.wasm", import.meta.url));
 const decoder = await Decoder.load(module);
 // The program has no limit.
 const workLimit = Infinity;

@@ -16,13 +16,14 @@ FILES = {
 SHOWN = """(async () => {
   const sumOf = async (canvas) => {
     const { data } = canvas.getContext("2d").getImageData(0, 0, canvas.width, canvas.height);
+    const pixels = new Uint32Array(data.buffer);
+    const [white, black] = new Uint32Array(new Uint8Array([255, 255, 255, 255, 0, 0, 0, 255]).buffer);
     const stride = Math.ceil(canvas.width / 8);
     const rows = new Uint8Array(stride * canvas.height);
     for (let y = 0, at = 0; y < canvas.height; y++)
-      for (let x = 0; x < canvas.width; x++, at += 4) {
-        const [red, green, blue, opacity] = data.subarray(at, at + 4);
-        if (red !== green || red !== blue || opacity !== 255 || (red !== 0 && red !== 255)) return "neither black nor white";
-        if (red === 0) rows[y * stride + (x >> 3)] |= 128 >> (x & 7);
+      for (let x = 0; x < canvas.width; x++, at++) {
+        if (pixels[at] !== white && pixels[at] !== black) return "neither black nor white";
+        if (pixels[at] === black) rows[y * stride + (x >> 3)] |= 128 >> (x & 7);
       }
     const sum = new Uint8Array(await crypto.subtle.digest("SHA-256", rows));
     return [...sum].map((byte) => byte.toString(16).padStart(2, "0")).join("");
@@ -57,7 +58,7 @@ def serve():
 
 
 def open_page(browser):
-    browser.call("Page.navigate", url=serve())
+    browser.open(serve())
     browser.wait_for('document.readyState === "complete" && !!document.querySelector("#choose")')
 
 
@@ -68,22 +69,13 @@ def wait_until_shown(browser, files):
 
 def choose(browser, files):
     """Hands the page files as a user's choice."""
-    root = browser.call("DOM.getDocument")["root"]["nodeId"]
-    node = browser.call("DOM.querySelector", nodeId=root, selector="#choose")["nodeId"]
-    browser.call("DOM.setFileInputFiles", nodeId=node, files=[str(file.resolve()) for file in files])
+    browser.choose("#choose", files)
     wait_until_shown(browser, files)
-
-
-def hand_over(browser, files):
-    """Drops files onto the page."""
-    data = {"items": [], "files": [str(file.resolve()) for file in files], "dragOperationsMask": 1}
-    for kind in ("dragEnter", "dragOver", "drop"):
-        browser.call("Input.dispatchDragEvent", type=kind, x=200, y=200, data=data)
 
 
 def drop(browser, files):
     """Drops files onto the page, and waits for their pages."""
-    hand_over(browser, files)
+    browser.drop(files)
     wait_until_shown(browser, files)
 
 

@@ -9,10 +9,11 @@ import { inflateSync } from "node:zlib";
 import { Decoder, Jbig2Error, WorkLimitReached, isFile } from "../hayro_jbig2.js";
 import { Jbig2Image } from "../jbig2_image.js";
 import { pngOf } from "../png.js";
+import { module } from "./module.mjs";
 
 const SECONDS = 5;
 const MEASURED = 500;
-const decoder = await Decoder.load();
+const decoder = await Decoder.load(module);
 let checks = 0;
 let failed = 0;
 
@@ -122,7 +123,7 @@ function checkSharedLimit(name, bytes) {
 
 /** Where memory is wanting, the error is another one. */
 async function checkMemory() {
-  const small = await Decoder.load(undefined, 2 ** 21);
+  const small = await Decoder.load(module, 2 ** 21);
   const error = thrown(() => small.decode(hex(page("0000FFFF", "0000FFFF"))));
   check(error?.error === "OUT_OF_MEMORY" && error.name === "Jbig2Error", `want of memory: ${error}`);
 }
@@ -130,7 +131,7 @@ async function checkMemory() {
 /** pdf.js's interface, by its use there. */
 async function checkImage(file, stream, globals) {
   check(/load\(\)/.test(thrown(() => new Jbig2Image().parse(file))?.message), "Jbig2Image before it is loaded");
-  await Jbig2Image.load();
+  await Jbig2Image.load(module);
   const image = new Jbig2Image();
   const [first, embedded] = [decoder.decode(file), decoder.decode(stream, { globals })];
   check(isSame(image.parse(file), first.toGray()), "Jbig2Image.parse");

@@ -12,6 +12,7 @@ import { createRequire } from "node:module";
 import { tmpdir } from "node:os";
 import { join } from "node:path";
 import { Jbig2Image } from "../jbig2_image.js";
+import { module } from "./module.mjs";
 
 const FILES = /^(plain-.*|packed-0050)[.]pdf$/;
 const MOST_MILLISECONDS = 20_000;
@@ -21,7 +22,7 @@ const OWN_DECODER = "exports.Jbig2Image = Jbig2Image;";
 async function pdfJsWithOurs(build, room) {
   const worker = readFileSync(join(build, "pdf.worker.js"), "utf8");
   if (!worker.includes(OWN_DECODER)) throw new Error("pdf.js has its decoder elsewhere");
-  await Jbig2Image.load(undefined, { workLimit: Infinity });
+  await Jbig2Image.load(module, { workLimit: Infinity });
   globalThis.hayroJbig2Image = Jbig2Image;
   writeFileSync(join(room, "pdf.worker.js"), worker.replace(OWN_DECODER, "exports.Jbig2Image = globalThis.hayroJbig2Image;"));
   copyFileSync(join(build, "pdf.js"), join(room, "pdf.js"));

@@ -1,0 +1,23 @@
+"""What all browsers of the tests have in common."""
+import json
+
+SECONDS = 120
+
+
+class Driven:
+    """A browser with one page. Each kind has its own `evaluate`, which returns the value of an expression."""
+
+    def wait_for(self, expression):
+        """Waits until an expression holds."""
+        text = json.dumps(f"the page never came to: {expression}")
+        self.evaluate(
+            f"""new Promise((resolve, reject) => {{
+              const end = performance.now() + {SECONDS * 900};
+              const look = () => {{
+                if ({expression}) resolve();
+                else if (performance.now() > end) reject(new Error({text} + "; it says " + document.body.innerText));
+                else setTimeout(look, 5);
+              }};
+              look();
+            }})"""
+        )
