@@ -5,6 +5,9 @@
 
 enum { PAGE = 65536 };
 
+/* With its spare bytes a memory has less than 4 GiB, which processors of 32 bits can count. */
+typedef char most_memory_is_below_4_gib[HAYRO_JBIG2_MOST_MEMORY <= 0xFFFF0000u ? 1 : -1];
+
 /* The instance that runs in this thread. */
 #if defined(HAYRO_JBIG2_NO_THREADS)
 static struct instance *running;
@@ -49,15 +52,15 @@ uint32_t jbig2_portable_run(struct instance *instance, uint32_t (*work)(void *wo
 
 void wasm_rt_trap(wasm_rt_trap_t reason) { longjmp(*running->landing, (int)reason); }
 
-/* The memory that the module begins with. Where there is none for it, the module's first store traps. */
+/* The memory that the module begins with. The module takes for granted that it is there. */
 void wasm_rt_allocate_memory(wasm_rt_memory_t *memory, uint32_t pages, uint32_t most) {
     const uint64_t own = (uint64_t)pages * PAGE, more = running->room;
     (void)most;
     if (more > HAYRO_JBIG2_MOST_MEMORY || own + more > HAYRO_JBIG2_MOST_MEMORY)
-        return;
-    memory->data = (uint8_t *)jbig2_portable_take(running->memory, (size_t)(own + more) + SPARE_BYTES);
+        wasm_rt_trap(WASM_RT_TRAP_EXHAUSTION);
+    memory->data = (uint8_t *)jbig2_portable_take(running->memory, (size_t)(own + more) + WASM_RT_SPARE_BYTES);
     if (memory->data == NULL)
-        return;
+        wasm_rt_trap(WASM_RT_TRAP_EXHAUSTION);
     memory->size = (size_t)(own + more);
     /* The module's variables are zero at first. The stack, which lies before them, is like C's. */
     memset(memory->data + running->module.w2c_g0, 0, (size_t)(own - running->module.w2c_g0));
@@ -85,7 +88,7 @@ void jbig2_portable_begin(struct instance *instance, const hayro_jbig2_memory *m
 
 void jbig2_portable_free(struct instance *instance) {
     const wasm_rt_memory_t *memory = &instance->module.w2c_memory;
-    jbig2_portable_give_back(instance->memory, memory->data, memory->size + SPARE_BYTES);
+    jbig2_portable_give_back(instance->memory, memory->data, memory->size + WASM_RT_SPARE_BYTES);
 }
 
 /* Makes the memory larger by a half at least, so that it is seldom moved. */
@@ -99,12 +102,12 @@ static bool has_grown(struct instance *instance, uint64_t needed) {
     if (size < needed)
         return false;
     if (instance->memory == NULL) {
-        data = (uint8_t *)realloc(memory->data, (size_t)size + SPARE_BYTES);
+        data = (uint8_t *)realloc(memory->data, (size_t)size + WASM_RT_SPARE_BYTES);
     } else {
-        data = (uint8_t *)jbig2_portable_take(instance->memory, (size_t)size + SPARE_BYTES);
+        data = (uint8_t *)jbig2_portable_take(instance->memory, (size_t)size + WASM_RT_SPARE_BYTES);
         if (data != NULL) {
             memcpy(data, memory->data, memory->size);
-            jbig2_portable_give_back(instance->memory, memory->data, memory->size + SPARE_BYTES);
+            jbig2_portable_give_back(instance->memory, memory->data, memory->size + WASM_RT_SPARE_BYTES);
         }
     }
     if (data == NULL)

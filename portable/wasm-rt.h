@@ -25,9 +25,16 @@
 #define LIKELY(x) __builtin_expect(!!(x), 1)
 #define UNLIKELY(x) __builtin_expect(!!(x), 0)
 #define WASM_RT_NO_RETURN __attribute__((noreturn))
+#define wasm_rt_inline inline __attribute__((always_inline))
+#define wasm_rt_part __attribute__((noinline))
+/* What holds. The compiler leaves out comparisons that it decides. */
+#define wasm_rt_assume(condition) do { if (!(condition)) __builtin_unreachable(); } while (0)
 #else
 #define LIKELY(x) (x)
 #define UNLIKELY(x) (x)
+#define wasm_rt_inline inline
+#define wasm_rt_part
+#define wasm_rt_assume(condition) ((void)0)
 #if defined(_MSC_VER)
 #define WASM_RT_NO_RETURN __declspec(noreturn)
 #else
@@ -57,6 +64,17 @@ static inline void jbig2_portable_copy_number(void *to, const void *from, size_t
 #define wasm_rt_memcpy memcpy
 #endif
 
+/* A condition of which gcc doesn't know that it is used elsewhere too. Else it makes jumps, which the processor guesses
+ * wrongly, where the module chooses without one. */
+#if defined(__GNUC__) && !defined(__clang__)
+static wasm_rt_inline uint32_t wasm_rt_hidden(uint32_t condition) {
+    __asm__("" : "+r"(condition));
+    return condition;
+}
+#else
+#define wasm_rt_hidden(condition) (condition)
+#endif
+
 /* Why the module can't go on. */
 typedef enum {
     WASM_RT_TRAP_NONE,
@@ -72,9 +90,9 @@ typedef enum {
 #define wasm_rt_trap jbig2_portable_trap
 WASM_RT_NO_RETURN void wasm_rt_trap(wasm_rt_trap_t reason);
 
-/* After the `size` bytes there are SPARE_BYTES more in the same block. So a number that begins within the memory lies
- * in the block, and one comparison checks it. */
-enum { SPARE_BYTES = 8 };
+/* After the `size` bytes there are these more in the same block. So what is less far from a place of the memory lies in
+ * the block, and one comparison checks it. */
+#define WASM_RT_SPARE_BYTES 16384
 typedef struct {
     uint8_t *data;
     size_t size;
