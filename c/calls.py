@@ -1,4 +1,4 @@
-"""Calls the library from Python, and compares its texts with those of the Rattle library.
+"""Calls the library from Python, and compares its numbers and texts with the sources of the Rattle library.
 
 usage: calls.py LIBRARY EXAMPLE, the shared library and the program of example.c
 """
@@ -32,15 +32,22 @@ def text_of(*path):
         return file.read()
 
 
-def compare_texts(library):
-    """The library's own texts with those of the definitions, and its version with the header's. tests/errors compares the
-    other lists."""
-    definitions = text_of(CRATES, "jbig2_base", "specs", "ErrorTexts.antt")
-    texts = re.findall(r'^\w+_text \w+\.\w+ = codes "(.*)"$', definitions, re.M)
-    check(texts, "the definitions have texts")
-    for number, text in enumerate(texts, 1):
-        check(library.hayro_jbig2_error_text(number) == text.encode(), f"the text of {number} is {text}")
+def in_capitals(name):
+    return re.sub(r"(?<=[a-z])(?=[A-Z])", "_", name).upper()
+
+
+def compare_numbers(library):
+    """The text that the library has for each number of the header, with that of the definitions, by the error's name; and
+    the version. tests/errors compares the other lists."""
     header = text_of(HERE, "hayro_jbig2.h")
+    numbers = {name: int(number) for name, number in re.findall(r"^    HAYRO_JBIG2_(\w+) = (\d+)", header, re.M)}
+    definitions = text_of(CRATES, "jbig2_base", "specs", "ErrorTexts.antt")
+    texts = re.findall(r'^\w+_text (\w+)\.(\w+) = codes "(.*)"$', definitions, re.M)
+    check(len(texts) == len([number for number in numbers.values() if 0 < number < 100]), "the header has all errors")
+    for enum, variant, text in texts:
+        name = in_capitals(variant) if enum == "errors" else enum.upper() + "_" + in_capitals(variant)
+        said = library.hayro_jbig2_error_text(numbers.get(name, 99))
+        check(said == text.encode(), f"the text of HAYRO_JBIG2_{name} is {text}")
     parts = re.findall(r"^#define HAYRO_JBIG2_VERSION_\w+ (\d+)$", header, re.M)
     check(library.hayro_jbig2_version().decode() == ".".join(parts), "the version is that of its parts")
 
@@ -178,11 +185,11 @@ def try_limit(example):
 
 def main(path, example):
     library = loaded(path)
-    compare_texts(library)
+    compare_numbers(library)
     compare_pages(library, example)
     try_incomplete_pages(example)
     try_faults(example)
-    print(f"{checks} checks of calls from Python, and of texts, {len(failures)} failed")
+    print(f"{checks} checks of calls from Python, and of numbers and texts, {len(failures)} failed")
     return bool(failures)
 
 

@@ -138,11 +138,15 @@ def kept(data, name):
     return path
 
 
+def settings():
+    """The count and the seed, of the words, and the program."""
+    count, seed = (int(word) for word in (sys.argv[1:] + ["100", "1"][len(sys.argv) - 1 :])[:2])
+    return count, seed, os.environ.get("PROGRAM", os.path.join(ROOT, "jbig2-decode"))
+
+
 def main():
-    count = int(sys.argv[1]) if len(sys.argv) > 1 else 100
-    seed = int(sys.argv[2]) if len(sys.argv) > 2 else 1
+    count, seed, program = settings()
     kinds = os.environ.get("KINDS", "generic refinement halftone").split()
-    program = os.environ.get("PROGRAM", os.path.join(ROOT, "jbig2-decode"))
     chance = random.Random(seed)
     differing = 0
     with tempfile.TemporaryDirectory() as folder:

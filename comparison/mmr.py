@@ -12,8 +12,7 @@ import subprocess
 import sys
 import tempfile
 
-from compare import our_picture
-from root import ROOT
+from compare import our_picture, settings
 from jbig2_encoder.framing import HEADER, page_information, region_information, segment
 from jbig2_encoder.pictures import pixels
 
@@ -73,9 +72,7 @@ def coded(folder, rows, width, height):
 
 
 def main():
-    count = int(sys.argv[1]) if len(sys.argv) > 1 else 100
-    seed = int(sys.argv[2]) if len(sys.argv) > 2 else 1
-    program = os.environ.get("PROGRAM", os.path.join(ROOT, "jbig2-decode"))
+    count, seed, program = settings()
     chance = random.Random(seed)
     differing = 0
     with tempfile.TemporaryDirectory() as folder:

@@ -13,9 +13,8 @@ import random
 import sys
 import tempfile
 
-from compare import kept, our_picture, their_picture
+from compare import kept, our_picture, settings, their_picture
 from made_up import Form, random_dictionary, random_text
-from root import ROOT
 from jbig2_encoder.document import Document
 from jbig2_encoder.framing import SYMBOL_DICTIONARY, TABLE
 from jbig2_encoder.pictures import pixels
@@ -117,10 +116,8 @@ def random_document(chance, kind):
 
 
 def main():
-    count = int(sys.argv[1]) if len(sys.argv) > 1 else 100
-    seed = int(sys.argv[2]) if len(sys.argv) > 2 else 1
+    count, seed, program = settings()
     kinds = os.environ.get("KINDS", KINDS).split()
-    program = os.environ.get("PROGRAM", os.path.join(ROOT, "jbig2-decode"))
     chance = random.Random(seed)
     differing = 0
     with tempfile.TemporaryDirectory() as folder:

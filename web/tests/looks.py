@@ -24,8 +24,7 @@ LEAST_CONTRAST = 4.5
 CONTRAST = """((selectors) => {
   const numbers = (text) => text.match(/[\\d.]+/g).map(Number);
   const luminance = (colour) => {
-    const linear = (part) => part <= 0.04045 ? part / 12.92 : ((part + 0.055) / 1.055) ** 2.4;
-    const [red, green, blue] = numbers(colour).map((part) => linear(part / 255));
+    const [red, green, blue] = numbers(colour).map((part) => part / 255).map((part) => part <= 0.04045 ? part / 12.92 : ((part + 0.055) / 1.055) ** 2.4);
     return 0.2126 * red + 0.7152 * green + 0.0722 * blue;
   };
   const probe = document.body.appendChild(document.createElement("div"));
@@ -72,8 +71,7 @@ def captions(browser):
         faults.append(f"a page is marked wrongly: {figures}")
     if any(figure[2] != "FIGCAPTION" for figure in figures) or not figures[1][3].startswith("page 2 of 3"):
         faults.append(f"captions: {figures}")
-    incomplete, other = "Incomplete: 1 segment missing or damaged (segment ", "neither a JBIG2 file nor a PDF file"
-    if incomplete not in figures[5][3] or other not in figures[6][3]:
+    if "Incomplete: 1 segment missing or damaged (segment " not in figures[5][3] or "neither a JBIG2 file nor a PDF file" not in figures[6][3]:
         faults.append(f"what a page lacks isn't said: {figures[5:]}")
     if links != "1 2 3 1 2 3! 1!":
         faults.append(f"links to pages: {links}")
@@ -88,8 +86,7 @@ def names(browser):
     browser.evaluate('document.querySelector("details").open = true')
     found = browser.roles()
     faults = [f"a {role} without a name" for role, name in found if role in ROLES and not name.strip()]
-    wanted = {"button", "link", "checkbox", "combobox", "navigation", "region", "status", "banner", "main"}
-    missing = wanted - {role for role, _ in found}
+    missing = {"button", "link", "checkbox", "combobox", "navigation", "region", "status", "banner", "main"} - {role for role, _ in found}
     return faults + ([f"no {', '.join(sorted(missing))}"] if missing else [])
 
 
