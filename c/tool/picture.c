@@ -3,11 +3,31 @@
 #include "picture.h"
 
 #include <stdlib.h>
+#include <string.h>
 
 size_t row_size(const struct picture *picture) { return ((size_t)picture->width + 7) / 8; }
 
+void fetch_rows(struct picture *picture) {
+    enum { MOST = 1 << 24 };
+    size_t size = row_size(picture) * picture->height;
+    if (size > MOST)
+        return;
+    picture->rows = room_for(size);
+    if (hayro_jbig2_context_rows(picture->context, 0, picture->rows, size) != HAYRO_JBIG2_OK)
+        free_rows(picture);
+}
+
+void free_rows(struct picture *picture) {
+    free(picture->rows);
+    picture->rows = NULL;
+}
+
 bool read_rows(const struct picture *picture, uint32_t first, uint32_t count, uint8_t *rows) {
     size_t size = row_size(picture);
+    if (picture->rows != NULL) {
+        memcpy(rows, picture->rows + first * size, count * size);
+        return true;
+    }
     return hayro_jbig2_context_rows(picture->context, first * size, rows, count * size) == HAYRO_JBIG2_OK;
 }
 
@@ -39,10 +59,12 @@ void add_missing_package(struct text *text, enum format format) {
 }
 
 bool write_pbm(FILE *file, const struct picture *picture, struct text *reason) {
-    uint32_t at_once = rows_at_once(picture);
-    uint8_t *rows = room_for(at_once * row_size(picture));
     bool is_written = fprintf(file, "P4\n%lu %lu\n", (unsigned long)picture->width, (unsigned long)picture->height) > 0;
     (void)reason;
+    if (picture->rows != NULL)
+        return is_written && fwrite(picture->rows, row_size(picture), picture->height, file) == picture->height;
+    uint32_t at_once = rows_at_once(picture);
+    uint8_t *rows = room_for(at_once * row_size(picture));
     for (uint32_t y = 0; y < picture->height && is_written; y += at_once) {
         uint32_t count = picture->height - y < at_once ? picture->height - y : at_once;
         is_written = read_rows(picture, y, count, rows) && fwrite(rows, row_size(picture), count, file) == count;

@@ -11,9 +11,13 @@ struct picture {
     uint32_t width, height;
     uint32_t x_resolution, y_resolution; /* pixels for each metre; 0: unknown */
     hayro_jbig2_context *context;        /* which has its rows */
+    uint8_t *rows;                       /* all of them, or NULL */
 };
 
 size_t row_size(const struct picture *picture);
+/* Gets all rows, unless they are too many, so that a thread has less to do when its turn to write comes. */
+void fetch_rows(struct picture *picture);
+void free_rows(struct picture *picture);
 /* Rows from `first` on, a bit for each pixel, 1 is black. False where the context doesn't have them. */
 bool read_rows(const struct picture *picture, uint32_t first, uint32_t count, uint8_t *rows);
 /* How many rows a writer takes at once, about 64 KiB. */
