@@ -113,15 +113,15 @@ static void do_task(struct work *work, struct painter *painter, struct task *tas
     bool has_page = drawn.status == ALL_WHOLE || drawn.status == INCOMPLETE;
     struct picture picture = picture_of(painter, &drawn);
     bool is_single = work->queue.is_single;
-    if (is_single && has_page && work->words->jobs > 1)
-        fetch_rows(&picture);
+    if (is_single && has_page)
+        prepare_picture(&picture, work->words->format);
     if (is_single)
         wait_for_turn(&work->queue, task);
     if (is_single && has_page)
         append_to_single(work, &picture, &report);
     else if (has_page)
         write_own_file(work->words, task->name, &picture, &report);
-    free_rows(&picture);
+    free_prepared(&picture);
     finish_task(&work->queue, task, report);
 }
 

@@ -3,31 +3,11 @@
 #include "picture.h"
 
 #include <stdlib.h>
-#include <string.h>
 
 size_t row_size(const struct picture *picture) { return ((size_t)picture->width + 7) / 8; }
 
-void fetch_rows(struct picture *picture) {
-    enum { MOST = 1 << 24 };
-    size_t size = row_size(picture) * picture->height;
-    if (size > MOST)
-        return;
-    picture->rows = room_for(size);
-    if (hayro_jbig2_context_rows(picture->context, 0, picture->rows, size) != HAYRO_JBIG2_OK)
-        free_rows(picture);
-}
-
-void free_rows(struct picture *picture) {
-    free(picture->rows);
-    picture->rows = NULL;
-}
-
 bool read_rows(const struct picture *picture, uint32_t first, uint32_t count, uint8_t *rows) {
     size_t size = row_size(picture);
-    if (picture->rows != NULL) {
-        memcpy(rows, picture->rows + first * size, count * size);
-        return true;
-    }
     return hayro_jbig2_context_rows(picture->context, first * size, rows, count * size) == HAYRO_JBIG2_OK;
 }
 
@@ -58,11 +38,28 @@ void add_missing_package(struct text *text, enum format format) {
              is_png ? "PNG" : "TIFF", is_png ? "libpng" : "libtiff", is_png ? "libpng-dev" : "libtiff-dev");
 }
 
+/* Pages with many more rows than a scanner's are written piece by piece. */
+void prepare_picture(struct picture *picture, enum format format) {
+    enum { MOST = 1 << 24 };
+    size_t size = row_size(picture) * picture->height;
+    if (size > MOST || (format == FORMAT_TIFF && code_for_tiff(picture)) || format != FORMAT_PBM)
+        return;
+    picture->ready = room_for(size);
+    picture->ready_size = size;
+    if (!read_rows(picture, 0, picture->height, picture->ready))
+        free_prepared(picture);
+}
+
+void free_prepared(struct picture *picture) {
+    free(picture->ready);
+    picture->ready = NULL;
+}
+
 bool write_pbm(FILE *file, const struct picture *picture, struct text *reason) {
     bool is_written = fprintf(file, "P4\n%lu %lu\n", (unsigned long)picture->width, (unsigned long)picture->height) > 0;
     (void)reason;
-    if (picture->rows != NULL)
-        return is_written && fwrite(picture->rows, row_size(picture), picture->height, file) == picture->height;
+    if (picture->ready != NULL)
+        return is_written && fwrite(picture->ready, 1, picture->ready_size, file) == picture->ready_size;
     uint32_t at_once = rows_at_once(picture);
     uint8_t *rows = room_for(at_once * row_size(picture));
     for (uint32_t y = 0; y < picture->height && is_written; y += at_once) {
