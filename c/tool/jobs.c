@@ -112,12 +112,16 @@ static void do_task(struct work *work, struct painter *painter, struct task *tas
     describe(work->words, task, &drawn, &report);
     bool has_page = drawn.status == ALL_WHOLE || drawn.status == INCOMPLETE;
     struct picture picture = picture_of(painter, &drawn);
-    if (work->queue.is_single)
+    bool is_single = work->queue.is_single;
+    if (is_single && has_page)
+        prepare_picture(&picture, work->words->format);
+    if (is_single)
         wait_for_turn(&work->queue, task);
-    if (work->queue.is_single && has_page)
+    if (is_single && has_page)
         append_to_single(work, &picture, &report);
     else if (has_page)
         write_own_file(work->words, task->name, &picture, &report);
+    free_prepared(&picture);
     finish_task(&work->queue, task, report);
 }
 

@@ -38,11 +38,30 @@ void add_missing_package(struct text *text, enum format format) {
              is_png ? "PNG" : "TIFF", is_png ? "libpng" : "libtiff", is_png ? "libpng-dev" : "libtiff-dev");
 }
 
+/* Pages with many more rows than a scanner's are written piece by piece. */
+void prepare_picture(struct picture *picture, enum format format) {
+    enum { MOST = 1 << 24 };
+    size_t size = row_size(picture) * picture->height;
+    if (size > MOST || (format == FORMAT_TIFF && code_for_tiff(picture)) || format != FORMAT_PBM)
+        return;
+    picture->ready = room_for(size);
+    picture->ready_size = size;
+    if (!read_rows(picture, 0, picture->height, picture->ready))
+        free_prepared(picture);
+}
+
+void free_prepared(struct picture *picture) {
+    free(picture->ready);
+    picture->ready = NULL;
+}
+
 bool write_pbm(FILE *file, const struct picture *picture, struct text *reason) {
-    uint32_t at_once = rows_at_once(picture);
-    uint8_t *rows = room_for(at_once * row_size(picture));
     bool is_written = fprintf(file, "P4\n%lu %lu\n", (unsigned long)picture->width, (unsigned long)picture->height) > 0;
     (void)reason;
+    if (picture->ready != NULL)
+        return is_written && fwrite(picture->ready, 1, picture->ready_size, file) == picture->ready_size;
+    uint32_t at_once = rows_at_once(picture);
+    uint8_t *rows = room_for(at_once * row_size(picture));
     for (uint32_t y = 0; y < picture->height && is_written; y += at_once) {
         uint32_t count = picture->height - y < at_once ? picture->height - y : at_once;
         is_written = read_rows(picture, y, count, rows) && fwrite(rows, row_size(picture), count, file) == count;

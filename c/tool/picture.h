@@ -11,6 +11,8 @@ struct picture {
     uint32_t width, height;
     uint32_t x_resolution, y_resolution; /* pixels for each metre; 0: unknown */
     hayro_jbig2_context *context;        /* which has its rows */
+    uint8_t *ready;                      /* all rows for PBM, the coded ones for TIFF, or NULL */
+    size_t ready_size;
 };
 
 size_t row_size(const struct picture *picture);
@@ -27,6 +29,12 @@ const char *name_of_format(enum format format);
 const char *version_of_format(enum format format);
 /* "PNG needs libpng (Debian's libpng-dev), which this program was built without" */
 void add_missing_package(struct text *text, enum format format);
+
+/* Does what threads can do at once, before one has its turn to write: gets all rows, or codes them. */
+void prepare_picture(struct picture *picture, enum format format);
+void free_prepared(struct picture *picture);
+/* False where a picture is left as it is. */
+bool code_for_tiff(struct picture *picture);
 
 /* Write one picture. False with errno, or a reason. */
 bool write_pbm(FILE *file, const struct picture *picture, struct text *reason);

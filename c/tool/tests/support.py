@@ -4,6 +4,7 @@ from __future__ import annotations
 import dataclasses
 import os
 import pathlib
+import re
 import struct
 import subprocess
 import sys
@@ -81,6 +82,13 @@ def picture_of_png(data: bytes) -> Picture:
     rows = [lines[y * (stride + 1) + 1 : (y + 1) * (stride + 1)] for y in range(height)]
     full = (1 << 8 * stride) - 1
     return of_numbers([(int.from_bytes(row, "big") ^ full) >> (8 * stride - width) for row in rows], width)
+
+
+def counted(*words, **how) -> tuple[int, int]:
+    """How often globals were decoded, and embedded pages read."""
+    ended = run(*words, program=COUNTED, **how)
+    counts = re.search(r"decoded globals: (\d+), read pages: (\d+)\n$", ended.errors)
+    return int(counts[1]), int(counts[2])
 
 
 class Case(unittest.TestCase):

@@ -3,10 +3,9 @@ from __future__ import annotations
 
 import json
 import random
-import re
 import unittest
 
-from support import BOOK, COUNTED, HAS_PDF, HAS_TIFF, INCOMPLETE, NOT_DONE, OVER_LIMIT, SANITIZED, WHOLE, Case
+from support import BOOK, COUNTED, HAS_PDF, HAS_TIFF, INCOMPLETE, NOT_DONE, OVER_LIMIT, SANITIZED, WHOLE, Case, counted
 
 from conformance.runner.embedding import embedded_page
 from conformance.runner.pdf import stream_object
@@ -161,11 +160,6 @@ class Damage(Case):
 
 @unittest.skipUnless(HAS_PDF, "libqpdf is not here")
 class Globals(Case):
-    def count(self, *words) -> int:
-        ended = self.run_here(*words, program=COUNTED)
-        self.assertEqual(ended.status, WHOLE, ended.errors)
-        return int(re.fullmatch(r"globals were decoded (\d+) times\n", ended.errors)[1])
-
     def test_globals_are_decoded_once(self):
         """Of a PDF file by their object, and of embedded pages where all of them share them."""
         other = Image(PAGE.width, PAGE.height, PAGE.stream, PAGE.shared + bytes.fromhex("000000F0 34 00 00 00000000"))
@@ -173,9 +167,9 @@ class Globals(Case):
         pages = [self.made(PAGE.stream, f"page-{number:03}.jb2e") for number in range(200)]
         shared = self.made(PAGE.shared, "all.jb2g")
         for jobs in 1, 8:
-            self.assertEqual(self.count("scan.pdf", "-j", jobs, "-o", f"pdf-{jobs}/"), 2)
-            self.assertEqual(self.count(shared, *pages, "-j", jobs, "-o", f"first-{jobs}/"), 1)
-            self.assertEqual(self.count("-g", shared, *pages, "-j", jobs, "-o", f"word-{jobs}/"), 1)
+            self.assertEqual(counted("scan.pdf", "-j", jobs, "-o", f"pdf-{jobs}/", cwd=self.room), (2, 200))
+            self.assertEqual(counted(shared, *pages, "-j", jobs, "-o", f"first-{jobs}/", cwd=self.room), (1, 200))
+            self.assertEqual(counted("-g", shared, *pages, "-j", jobs, "-o", f"word-{jobs}/", cwd=self.room), (1, 200))
         written = {path.read_bytes() for path in self.room.rglob("*.png")}
         self.assertEqual((len(written), len(list(self.room.rglob("*.png")))), (1, 1200))
 
