@@ -7,13 +7,16 @@
 - `pointer + distance` is checked as `pointer`, so that one comparison does for all fields of a struct. After the memory are
   SPARE bytes that may be touched. `(pointer + distance) - distance` is written, which a compiler makes `pointer`. Whatever
   the distance is, the same byte is taken, and never one outside of the block.
-- A chosen value whose condition is used elsewhere too is marked: gcc would make one jump of all choices by a condition.
+- What gcc would make slow code of is marked: it makes one jump of all choices by a condition that is used more than once, and
+  additions of products by constants.
 """
 import re
 import sys
 
 SPARE = 16384
 FARTHEST = SPARE - 8
+# Products by smaller numbers are quick as additions.
+LEAST_FACTOR = 65536
 
 HEAD = re.compile(r"(?:\w+ )*[\w*]+ (\w+)\(Z_hayro_jbig2_instance_t\*")
 CALL = re.compile(r"\b(w2c_\w+|Z_heapZ_\w+)\)?\((?:instance|\(struct)")
@@ -22,6 +25,7 @@ ACCESS = re.compile(
 )
 LABEL = re.compile(r" *w2c_\w+:;? *")
 NUMBER = re.compile(r" *w2c_j(\d+) = (\d+)ull;")
+PRODUCT = re.compile(r" *w2c_j\d+ \*= (w2c_j(\d+));")
 SUM = re.compile(r" *w2c_j(\d+) \+= w2c_j(\d+);")
 PLACE = re.compile(r" *w2c_i(\d+) = \(u32\)\(w2c_j\1\);")
 KEPT = re.compile(r" *w2c_([lp]\d+) = w2c_j(\d+);")
@@ -111,6 +115,8 @@ def quick_function(body, grows, asking):
             body[number] = quick_access(match, distances)
         elif (match := CHOICE.fullmatch(line)) and COMPARED.sub(r"\1", body[number - 1]) != match[2]:
             body[number] = f"{match[1]}wasm_rt_hidden({match[2]}){match[3]}"
+        elif (match := PRODUCT.fullmatch(line)) and distances.numbers.get(match[2], 0) > LEAST_FACTOR:
+            body[number] = line.replace(match[1], f"wasm_rt_hidden_factor({match[1]})")
         elif has_accesses and any(name in asking for name in CALL.findall(line)):
             body[number] += " memory = instance->w2c_memory;"
         distances.read(line)

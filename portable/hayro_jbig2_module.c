@@ -70441,7 +70441,7 @@ static wasm_rt_part void w2c_f96(Z_hayro_jbig2_instance_t* RESTRICT instance, u6
       w2c_j2 <<= (w2c_j3 & 63);
       w2c_j1 |= w2c_j2;
       w2c_j2 = 549890064400ull;
-      w2c_j1 *= w2c_j2;
+      w2c_j1 *= wasm_rt_hidden_factor(w2c_j2);
       w2c_j2 = 51ull;
       w2c_j1 >>= (w2c_j2 & 63);
       w2c_i1 = (u32)(w2c_j1);
@@ -70509,7 +70509,7 @@ static wasm_rt_part void w2c_f96(Z_hayro_jbig2_instance_t* RESTRICT instance, u6
         w2c_j2 = 1008837103796121600ull;
         w2c_j1 &= w2c_j2;
         w2c_j2 = 549890064400ull;
-        w2c_j1 *= w2c_j2;
+        w2c_j1 *= wasm_rt_hidden_factor(w2c_j2);
         w2c_j2 = 51ull;
         w2c_j1 >>= (w2c_j2 & 63);
         w2c_i1 = (u32)(w2c_j1);
@@ -70555,7 +70555,7 @@ static wasm_rt_part void w2c_f96(Z_hayro_jbig2_instance_t* RESTRICT instance, u6
       w2c_j2 <<= (w2c_j3 & 63);
       w2c_j1 |= w2c_j2;
       w2c_j2 = 549822930946ull;
-      w2c_j1 *= w2c_j2;
+      w2c_j1 *= wasm_rt_hidden_factor(w2c_j2);
       w2c_j2 = 51ull;
       w2c_j1 >>= (w2c_j2 & 63);
       w2c_i1 = (u32)(w2c_j1);
@@ -70623,7 +70623,7 @@ static wasm_rt_part void w2c_f96(Z_hayro_jbig2_instance_t* RESTRICT instance, u6
         w2c_j2 = 1008815113563549696ull;
         w2c_j1 &= w2c_j2;
         w2c_j2 = 549822930946ull;
-        w2c_j1 *= w2c_j2;
+        w2c_j1 *= wasm_rt_hidden_factor(w2c_j2);
         w2c_j2 = 51ull;
         w2c_j1 >>= (w2c_j2 & 63);
         w2c_i1 = (u32)(w2c_j1);
@@ -70802,7 +70802,7 @@ static wasm_rt_part void w2c_f96(Z_hayro_jbig2_instance_t* RESTRICT instance, u6
       w2c_j2 <<= (w2c_j3 & 63);
       w2c_j1 |= w2c_j2;
       w2c_j2 = 549890064400ull;
-      w2c_j1 *= w2c_j2;
+      w2c_j1 *= wasm_rt_hidden_factor(w2c_j2);
       w2c_j2 = 51ull;
       w2c_j1 >>= (w2c_j2 & 63);
       w2c_i1 = (u32)(w2c_j1);
@@ -70872,7 +70872,7 @@ static wasm_rt_part void w2c_f96(Z_hayro_jbig2_instance_t* RESTRICT instance, u6
         w2c_j2 = 1008837103796121600ull;
         w2c_j1 &= w2c_j2;
         w2c_j2 = 549890064400ull;
-        w2c_j1 *= w2c_j2;
+        w2c_j1 *= wasm_rt_hidden_factor(w2c_j2);
         w2c_j2 = 51ull;
         w2c_j1 >>= (w2c_j2 & 63);
         w2c_i1 = (u32)(w2c_j1);
@@ -70917,7 +70917,7 @@ static wasm_rt_part void w2c_f96(Z_hayro_jbig2_instance_t* RESTRICT instance, u6
       w2c_j2 <<= (w2c_j3 & 63);
       w2c_j1 |= w2c_j2;
       w2c_j2 = 549822930946ull;
-      w2c_j1 *= w2c_j2;
+      w2c_j1 *= wasm_rt_hidden_factor(w2c_j2);
       w2c_j2 = 51ull;
       w2c_j1 >>= (w2c_j2 & 63);
       w2c_i1 = (u32)(w2c_j1);
@@ -70987,7 +70987,7 @@ static wasm_rt_part void w2c_f96(Z_hayro_jbig2_instance_t* RESTRICT instance, u6
         w2c_j2 = 1008815113563549696ull;
         w2c_j1 &= w2c_j2;
         w2c_j2 = 549822930946ull;
-        w2c_j1 *= w2c_j2;
+        w2c_j1 *= wasm_rt_hidden_factor(w2c_j2);
         w2c_j2 = 51ull;
         w2c_j1 >>= (w2c_j2 & 63);
         w2c_i1 = (u32)(w2c_j1);
@@ -72233,7 +72233,7 @@ static wasm_rt_part void w2c_f96(Z_hayro_jbig2_instance_t* RESTRICT instance, u6
         w2c_j2 <<= (w2c_j3 & 63);
         w2c_j1 |= w2c_j2;
         w2c_j2 = 549890064400ull;
-        w2c_j1 *= w2c_j2;
+        w2c_j1 *= wasm_rt_hidden_factor(w2c_j2);
         w2c_j2 = 51ull;
         w2c_j1 >>= (w2c_j2 & 63);
         w2c_i1 = (u32)(w2c_j1);
@@ -72301,7 +72301,7 @@ static wasm_rt_part void w2c_f96(Z_hayro_jbig2_instance_t* RESTRICT instance, u6
           w2c_j2 = 1008837103796121600ull;
           w2c_j1 &= w2c_j2;
           w2c_j2 = 549890064400ull;
-          w2c_j1 *= w2c_j2;
+          w2c_j1 *= wasm_rt_hidden_factor(w2c_j2);
           w2c_j2 = 51ull;
           w2c_j1 >>= (w2c_j2 & 63);
           w2c_i1 = (u32)(w2c_j1);
@@ -72347,7 +72347,7 @@ static wasm_rt_part void w2c_f96(Z_hayro_jbig2_instance_t* RESTRICT instance, u6
         w2c_j2 <<= (w2c_j3 & 63);
         w2c_j1 |= w2c_j2;
         w2c_j2 = 549822930946ull;
-        w2c_j1 *= w2c_j2;
+        w2c_j1 *= wasm_rt_hidden_factor(w2c_j2);
         w2c_j2 = 51ull;
         w2c_j1 >>= (w2c_j2 & 63);
         w2c_i1 = (u32)(w2c_j1);
@@ -72415,7 +72415,7 @@ static wasm_rt_part void w2c_f96(Z_hayro_jbig2_instance_t* RESTRICT instance, u6
           w2c_j2 = 1008815113563549696ull;
           w2c_j1 &= w2c_j2;
           w2c_j2 = 549822930946ull;
-          w2c_j1 *= w2c_j2;
+          w2c_j1 *= wasm_rt_hidden_factor(w2c_j2);
           w2c_j2 = 51ull;
           w2c_j1 >>= (w2c_j2 & 63);
           w2c_i1 = (u32)(w2c_j1);
@@ -72631,7 +72631,7 @@ static wasm_rt_part void w2c_f96(Z_hayro_jbig2_instance_t* RESTRICT instance, u6
         w2c_j2 <<= (w2c_j3 & 63);
         w2c_j1 |= w2c_j2;
         w2c_j2 = 549890064400ull;
-        w2c_j1 *= w2c_j2;
+        w2c_j1 *= wasm_rt_hidden_factor(w2c_j2);
         w2c_j2 = 51ull;
         w2c_j1 >>= (w2c_j2 & 63);
         w2c_i1 = (u32)(w2c_j1);
@@ -72697,7 +72697,7 @@ static wasm_rt_part void w2c_f96(Z_hayro_jbig2_instance_t* RESTRICT instance, u6
           w2c_j2 = 1008837103796121600ull;
           w2c_j1 &= w2c_j2;
           w2c_j2 = 549890064400ull;
-          w2c_j1 *= w2c_j2;
+          w2c_j1 *= wasm_rt_hidden_factor(w2c_j2);
           w2c_j2 = 51ull;
           w2c_j1 >>= (w2c_j2 & 63);
           w2c_i1 = (u32)(w2c_j1);
@@ -72776,7 +72776,7 @@ static wasm_rt_part void w2c_f96(Z_hayro_jbig2_instance_t* RESTRICT instance, u6
         w2c_j2 <<= (w2c_j3 & 63);
         w2c_j1 |= w2c_j2;
         w2c_j2 = 549822930946ull;
-        w2c_j1 *= w2c_j2;
+        w2c_j1 *= wasm_rt_hidden_factor(w2c_j2);
         w2c_j2 = 51ull;
         w2c_j1 >>= (w2c_j2 & 63);
         w2c_i1 = (u32)(w2c_j1);
@@ -72842,7 +72842,7 @@ static wasm_rt_part void w2c_f96(Z_hayro_jbig2_instance_t* RESTRICT instance, u6
           w2c_j2 = 1008815113563549696ull;
           w2c_j1 &= w2c_j2;
           w2c_j2 = 549822930946ull;
-          w2c_j1 *= w2c_j2;
+          w2c_j1 *= wasm_rt_hidden_factor(w2c_j2);
           w2c_j2 = 51ull;
           w2c_j1 >>= (w2c_j2 & 63);
           w2c_i1 = (u32)(w2c_j1);
@@ -78655,7 +78655,7 @@ static wasm_rt_part void w2c_f104(Z_hayro_jbig2_instance_t* RESTRICT instance, u
   w2c_j0 = w2c_p6;
   w2c_j1 = w2c_p5;
   w2c_j2 = 18446744073709551568ull;
-  w2c_j1 *= w2c_j2;
+  w2c_j1 *= wasm_rt_hidden_factor(w2c_j2);
   w2c_j0 += w2c_j1;
   w2c_l10 = w2c_j0;
   w2c_j0 = w2c_l8;
@@ -81682,7 +81682,7 @@ static wasm_rt_part void w2c_f109(Z_hayro_jbig2_instance_t* RESTRICT instance, u
       w2c_j5 &= w2c_j6;
       w2c_j4 |= w2c_j5;
       w2c_j5 = 536875008ull;
-      w2c_j4 *= w2c_j5;
+      w2c_j4 *= wasm_rt_hidden_factor(w2c_j5);
       w2c_j5 = 48ull;
       w2c_j4 >>= (w2c_j5 & 63);
       w2c_i4 = (u32)(w2c_j4);
@@ -81756,7 +81756,7 @@ static wasm_rt_part void w2c_f109(Z_hayro_jbig2_instance_t* RESTRICT instance, u
       w2c_j5 = 4362863204368384ull;
       w2c_j4 &= w2c_j5;
       w2c_j5 = 536875008ull;
-      w2c_j4 *= w2c_j5;
+      w2c_j4 *= wasm_rt_hidden_factor(w2c_j5);
       w2c_j5 = 48ull;
       w2c_j4 >>= (w2c_j5 & 63);
       w2c_i4 = (u32)(w2c_j4);
@@ -81832,7 +81832,7 @@ static wasm_rt_part void w2c_f109(Z_hayro_jbig2_instance_t* RESTRICT instance, u
       w2c_j5 = 4362863204368384ull;
       w2c_j4 &= w2c_j5;
       w2c_j5 = 536875008ull;
-      w2c_j4 *= w2c_j5;
+      w2c_j4 *= wasm_rt_hidden_factor(w2c_j5);
       w2c_j5 = 48ull;
       w2c_j4 >>= (w2c_j5 & 63);
       w2c_i4 = (u32)(w2c_j4);
@@ -81908,7 +81908,7 @@ static wasm_rt_part void w2c_f109(Z_hayro_jbig2_instance_t* RESTRICT instance, u
       w2c_j5 = 4362863204368384ull;
       w2c_j4 &= w2c_j5;
       w2c_j5 = 536875008ull;
-      w2c_j4 *= w2c_j5;
+      w2c_j4 *= wasm_rt_hidden_factor(w2c_j5);
       w2c_j5 = 48ull;
       w2c_j4 >>= (w2c_j5 & 63);
       w2c_i4 = (u32)(w2c_j4);
@@ -81984,7 +81984,7 @@ static wasm_rt_part void w2c_f109(Z_hayro_jbig2_instance_t* RESTRICT instance, u
       w2c_j5 = 4362863204368384ull;
       w2c_j4 &= w2c_j5;
       w2c_j5 = 536875008ull;
-      w2c_j4 *= w2c_j5;
+      w2c_j4 *= wasm_rt_hidden_factor(w2c_j5);
       w2c_j5 = 48ull;
       w2c_j4 >>= (w2c_j5 & 63);
       w2c_i4 = (u32)(w2c_j4);
@@ -82060,7 +82060,7 @@ static wasm_rt_part void w2c_f109(Z_hayro_jbig2_instance_t* RESTRICT instance, u
       w2c_j5 = 4362863204368384ull;
       w2c_j4 &= w2c_j5;
       w2c_j5 = 536875008ull;
-      w2c_j4 *= w2c_j5;
+      w2c_j4 *= wasm_rt_hidden_factor(w2c_j5);
       w2c_j5 = 48ull;
       w2c_j4 >>= (w2c_j5 & 63);
       w2c_i4 = (u32)(w2c_j4);
@@ -82136,7 +82136,7 @@ static wasm_rt_part void w2c_f109(Z_hayro_jbig2_instance_t* RESTRICT instance, u
       w2c_j5 = 4362863204368384ull;
       w2c_j4 &= w2c_j5;
       w2c_j5 = 536875008ull;
-      w2c_j4 *= w2c_j5;
+      w2c_j4 *= wasm_rt_hidden_factor(w2c_j5);
       w2c_j5 = 48ull;
       w2c_j4 >>= (w2c_j5 & 63);
       w2c_i4 = (u32)(w2c_j4);
@@ -82212,7 +82212,7 @@ static wasm_rt_part void w2c_f109(Z_hayro_jbig2_instance_t* RESTRICT instance, u
       w2c_j5 = 4362863204368384ull;
       w2c_j4 &= w2c_j5;
       w2c_j5 = 536875008ull;
-      w2c_j4 *= w2c_j5;
+      w2c_j4 *= wasm_rt_hidden_factor(w2c_j5);
       w2c_j5 = 48ull;
       w2c_j4 >>= (w2c_j5 & 63);
       w2c_i4 = (u32)(w2c_j4);
@@ -82319,7 +82319,7 @@ static wasm_rt_part void w2c_f109(Z_hayro_jbig2_instance_t* RESTRICT instance, u
     w2c_j2 &= w2c_j3;
     w2c_j1 |= w2c_j2;
     w2c_j2 = 536875008ull;
-    w2c_j1 *= w2c_j2;
+    w2c_j1 *= wasm_rt_hidden_factor(w2c_j2);
     w2c_j2 = 48ull;
     w2c_j1 >>= (w2c_j2 & 63);
     w2c_i1 = (u32)(w2c_j1);
@@ -82390,7 +82390,7 @@ static wasm_rt_part void w2c_f109(Z_hayro_jbig2_instance_t* RESTRICT instance, u
       w2c_j2 = 4362863204368384ull;
       w2c_j1 &= w2c_j2;
       w2c_j2 = 536875008ull;
-      w2c_j1 *= w2c_j2;
+      w2c_j1 *= wasm_rt_hidden_factor(w2c_j2);
       w2c_j2 = 48ull;
       w2c_j1 >>= (w2c_j2 & 63);
       w2c_i1 = (u32)(w2c_j1);
@@ -82713,7 +82713,7 @@ static wasm_rt_part void w2c_f110(Z_hayro_jbig2_instance_t* RESTRICT instance, u
       w2c_j5 &= w2c_j6;
       w2c_j4 |= w2c_j5;
       w2c_j5 = 268436480ull;
-      w2c_j4 *= w2c_j5;
+      w2c_j4 *= wasm_rt_hidden_factor(w2c_j5);
       w2c_j5 = 48ull;
       w2c_j4 >>= (w2c_j5 & 63);
       w2c_i4 = (u32)(w2c_j4);
@@ -82789,7 +82789,7 @@ static wasm_rt_part void w2c_f110(Z_hayro_jbig2_instance_t* RESTRICT instance, u
       w2c_j5 = 2111062853812224ull;
       w2c_j4 &= w2c_j5;
       w2c_j5 = 268436480ull;
-      w2c_j4 *= w2c_j5;
+      w2c_j4 *= wasm_rt_hidden_factor(w2c_j5);
       w2c_j5 = 48ull;
       w2c_j4 >>= (w2c_j5 & 63);
       w2c_i4 = (u32)(w2c_j4);
@@ -82865,7 +82865,7 @@ static wasm_rt_part void w2c_f110(Z_hayro_jbig2_instance_t* RESTRICT instance, u
       w2c_j5 = 2111062853812224ull;
       w2c_j4 &= w2c_j5;
       w2c_j5 = 268436480ull;
-      w2c_j4 *= w2c_j5;
+      w2c_j4 *= wasm_rt_hidden_factor(w2c_j5);
       w2c_j5 = 48ull;
       w2c_j4 >>= (w2c_j5 & 63);
       w2c_i4 = (u32)(w2c_j4);
@@ -82941,7 +82941,7 @@ static wasm_rt_part void w2c_f110(Z_hayro_jbig2_instance_t* RESTRICT instance, u
       w2c_j5 = 2111062853812224ull;
       w2c_j4 &= w2c_j5;
       w2c_j5 = 268436480ull;
-      w2c_j4 *= w2c_j5;
+      w2c_j4 *= wasm_rt_hidden_factor(w2c_j5);
       w2c_j5 = 48ull;
       w2c_j4 >>= (w2c_j5 & 63);
       w2c_i4 = (u32)(w2c_j4);
@@ -83017,7 +83017,7 @@ static wasm_rt_part void w2c_f110(Z_hayro_jbig2_instance_t* RESTRICT instance, u
       w2c_j5 = 2111062853812224ull;
       w2c_j4 &= w2c_j5;
       w2c_j5 = 268436480ull;
-      w2c_j4 *= w2c_j5;
+      w2c_j4 *= wasm_rt_hidden_factor(w2c_j5);
       w2c_j5 = 48ull;
       w2c_j4 >>= (w2c_j5 & 63);
       w2c_i4 = (u32)(w2c_j4);
@@ -83093,7 +83093,7 @@ static wasm_rt_part void w2c_f110(Z_hayro_jbig2_instance_t* RESTRICT instance, u
       w2c_j5 = 2111062853812224ull;
       w2c_j4 &= w2c_j5;
       w2c_j5 = 268436480ull;
-      w2c_j4 *= w2c_j5;
+      w2c_j4 *= wasm_rt_hidden_factor(w2c_j5);
       w2c_j5 = 48ull;
       w2c_j4 >>= (w2c_j5 & 63);
       w2c_i4 = (u32)(w2c_j4);
@@ -83169,7 +83169,7 @@ static wasm_rt_part void w2c_f110(Z_hayro_jbig2_instance_t* RESTRICT instance, u
       w2c_j5 = 2111062853812224ull;
       w2c_j4 &= w2c_j5;
       w2c_j5 = 268436480ull;
-      w2c_j4 *= w2c_j5;
+      w2c_j4 *= wasm_rt_hidden_factor(w2c_j5);
       w2c_j5 = 48ull;
       w2c_j4 >>= (w2c_j5 & 63);
       w2c_i4 = (u32)(w2c_j4);
@@ -83245,7 +83245,7 @@ static wasm_rt_part void w2c_f110(Z_hayro_jbig2_instance_t* RESTRICT instance, u
       w2c_j5 = 2111062853812224ull;
       w2c_j4 &= w2c_j5;
       w2c_j5 = 268436480ull;
-      w2c_j4 *= w2c_j5;
+      w2c_j4 *= wasm_rt_hidden_factor(w2c_j5);
       w2c_j5 = 48ull;
       w2c_j4 >>= (w2c_j5 & 63);
       w2c_i4 = (u32)(w2c_j4);
@@ -83355,7 +83355,7 @@ static wasm_rt_part void w2c_f110(Z_hayro_jbig2_instance_t* RESTRICT instance, u
     w2c_j2 &= w2c_j3;
     w2c_j1 |= w2c_j2;
     w2c_j2 = 268436480ull;
-    w2c_j1 *= w2c_j2;
+    w2c_j1 *= wasm_rt_hidden_factor(w2c_j2);
     w2c_j2 = 48ull;
     w2c_j1 >>= (w2c_j2 & 63);
     w2c_i1 = (u32)(w2c_j1);
@@ -83426,7 +83426,7 @@ static wasm_rt_part void w2c_f110(Z_hayro_jbig2_instance_t* RESTRICT instance, u
       w2c_j2 = 2111062853812224ull;
       w2c_j1 &= w2c_j2;
       w2c_j2 = 268436480ull;
-      w2c_j1 *= w2c_j2;
+      w2c_j1 *= wasm_rt_hidden_factor(w2c_j2);
       w2c_j2 = 48ull;
       w2c_j1 >>= (w2c_j2 & 63);
       w2c_i1 = (u32)(w2c_j1);
@@ -83749,7 +83749,7 @@ static wasm_rt_part void w2c_f111(Z_hayro_jbig2_instance_t* RESTRICT instance, u
       w2c_j5 &= w2c_j6;
       w2c_j4 |= w2c_j5;
       w2c_j5 = 134217984ull;
-      w2c_j4 *= w2c_j5;
+      w2c_j4 *= wasm_rt_hidden_factor(w2c_j5);
       w2c_j5 = 48ull;
       w2c_j4 >>= (w2c_j5 & 63);
       w2c_i4 = (u32)(w2c_j4);
@@ -83825,7 +83825,7 @@ static wasm_rt_part void w2c_f111(Z_hayro_jbig2_instance_t* RESTRICT instance, u
       w2c_j5 = 985162678534144ull;
       w2c_j4 &= w2c_j5;
       w2c_j5 = 134217984ull;
-      w2c_j4 *= w2c_j5;
+      w2c_j4 *= wasm_rt_hidden_factor(w2c_j5);
       w2c_j5 = 48ull;
       w2c_j4 >>= (w2c_j5 & 63);
       w2c_i4 = (u32)(w2c_j4);
@@ -83901,7 +83901,7 @@ static wasm_rt_part void w2c_f111(Z_hayro_jbig2_instance_t* RESTRICT instance, u
       w2c_j5 = 985162678534144ull;
       w2c_j4 &= w2c_j5;
       w2c_j5 = 134217984ull;
-      w2c_j4 *= w2c_j5;
+      w2c_j4 *= wasm_rt_hidden_factor(w2c_j5);
       w2c_j5 = 48ull;
       w2c_j4 >>= (w2c_j5 & 63);
       w2c_i4 = (u32)(w2c_j4);
@@ -83977,7 +83977,7 @@ static wasm_rt_part void w2c_f111(Z_hayro_jbig2_instance_t* RESTRICT instance, u
       w2c_j5 = 985162678534144ull;
       w2c_j4 &= w2c_j5;
       w2c_j5 = 134217984ull;
-      w2c_j4 *= w2c_j5;
+      w2c_j4 *= wasm_rt_hidden_factor(w2c_j5);
       w2c_j5 = 48ull;
       w2c_j4 >>= (w2c_j5 & 63);
       w2c_i4 = (u32)(w2c_j4);
@@ -84053,7 +84053,7 @@ static wasm_rt_part void w2c_f111(Z_hayro_jbig2_instance_t* RESTRICT instance, u
       w2c_j5 = 985162678534144ull;
       w2c_j4 &= w2c_j5;
       w2c_j5 = 134217984ull;
-      w2c_j4 *= w2c_j5;
+      w2c_j4 *= wasm_rt_hidden_factor(w2c_j5);
       w2c_j5 = 48ull;
       w2c_j4 >>= (w2c_j5 & 63);
       w2c_i4 = (u32)(w2c_j4);
@@ -84129,7 +84129,7 @@ static wasm_rt_part void w2c_f111(Z_hayro_jbig2_instance_t* RESTRICT instance, u
       w2c_j5 = 985162678534144ull;
       w2c_j4 &= w2c_j5;
       w2c_j5 = 134217984ull;
-      w2c_j4 *= w2c_j5;
+      w2c_j4 *= wasm_rt_hidden_factor(w2c_j5);
       w2c_j5 = 48ull;
       w2c_j4 >>= (w2c_j5 & 63);
       w2c_i4 = (u32)(w2c_j4);
@@ -84205,7 +84205,7 @@ static wasm_rt_part void w2c_f111(Z_hayro_jbig2_instance_t* RESTRICT instance, u
       w2c_j5 = 985162678534144ull;
       w2c_j4 &= w2c_j5;
       w2c_j5 = 134217984ull;
-      w2c_j4 *= w2c_j5;
+      w2c_j4 *= wasm_rt_hidden_factor(w2c_j5);
       w2c_j5 = 48ull;
       w2c_j4 >>= (w2c_j5 & 63);
       w2c_i4 = (u32)(w2c_j4);
@@ -84281,7 +84281,7 @@ static wasm_rt_part void w2c_f111(Z_hayro_jbig2_instance_t* RESTRICT instance, u
       w2c_j5 = 985162678534144ull;
       w2c_j4 &= w2c_j5;
       w2c_j5 = 134217984ull;
-      w2c_j4 *= w2c_j5;
+      w2c_j4 *= wasm_rt_hidden_factor(w2c_j5);
       w2c_j5 = 48ull;
       w2c_j4 >>= (w2c_j5 & 63);
       w2c_i4 = (u32)(w2c_j4);
@@ -84391,7 +84391,7 @@ static wasm_rt_part void w2c_f111(Z_hayro_jbig2_instance_t* RESTRICT instance, u
     w2c_j2 &= w2c_j3;
     w2c_j1 |= w2c_j2;
     w2c_j2 = 134217984ull;
-    w2c_j1 *= w2c_j2;
+    w2c_j1 *= wasm_rt_hidden_factor(w2c_j2);
     w2c_j2 = 48ull;
     w2c_j1 >>= (w2c_j2 & 63);
     w2c_i1 = (u32)(w2c_j1);
@@ -84462,7 +84462,7 @@ static wasm_rt_part void w2c_f111(Z_hayro_jbig2_instance_t* RESTRICT instance, u
       w2c_j2 = 985162678534144ull;
       w2c_j1 &= w2c_j2;
       w2c_j2 = 134217984ull;
-      w2c_j1 *= w2c_j2;
+      w2c_j1 *= wasm_rt_hidden_factor(w2c_j2);
       w2c_j2 = 48ull;
       w2c_j1 >>= (w2c_j2 & 63);
       w2c_i1 = (u32)(w2c_j1);
@@ -84750,7 +84750,7 @@ static wasm_rt_part void w2c_f112(Z_hayro_jbig2_instance_t* RESTRICT instance, u
       w2c_j5 = 528482304ull;
       w2c_j4 &= w2c_j5;
       w2c_j5 = 536872960ull;
-      w2c_j4 *= w2c_j5;
+      w2c_j4 *= wasm_rt_hidden_factor(w2c_j5);
       w2c_j5 = 48ull;
       w2c_j4 >>= (w2c_j5 & 63);
       w2c_i4 = (u32)(w2c_j4);
@@ -84824,7 +84824,7 @@ static wasm_rt_part void w2c_f112(Z_hayro_jbig2_instance_t* RESTRICT instance, u
       w2c_j5 = 528482304ull;
       w2c_j4 &= w2c_j5;
       w2c_j5 = 536872960ull;
-      w2c_j4 *= w2c_j5;
+      w2c_j4 *= wasm_rt_hidden_factor(w2c_j5);
       w2c_j5 = 48ull;
       w2c_j4 >>= (w2c_j5 & 63);
       w2c_i4 = (u32)(w2c_j4);
@@ -84900,7 +84900,7 @@ static wasm_rt_part void w2c_f112(Z_hayro_jbig2_instance_t* RESTRICT instance, u
       w2c_j5 = 528482304ull;
       w2c_j4 &= w2c_j5;
       w2c_j5 = 536872960ull;
-      w2c_j4 *= w2c_j5;
+      w2c_j4 *= wasm_rt_hidden_factor(w2c_j5);
       w2c_j5 = 48ull;
       w2c_j4 >>= (w2c_j5 & 63);
       w2c_i4 = (u32)(w2c_j4);
@@ -84976,7 +84976,7 @@ static wasm_rt_part void w2c_f112(Z_hayro_jbig2_instance_t* RESTRICT instance, u
       w2c_j5 = 528482304ull;
       w2c_j4 &= w2c_j5;
       w2c_j5 = 536872960ull;
-      w2c_j4 *= w2c_j5;
+      w2c_j4 *= wasm_rt_hidden_factor(w2c_j5);
       w2c_j5 = 48ull;
       w2c_j4 >>= (w2c_j5 & 63);
       w2c_i4 = (u32)(w2c_j4);
@@ -85052,7 +85052,7 @@ static wasm_rt_part void w2c_f112(Z_hayro_jbig2_instance_t* RESTRICT instance, u
       w2c_j5 = 528482304ull;
       w2c_j4 &= w2c_j5;
       w2c_j5 = 536872960ull;
-      w2c_j4 *= w2c_j5;
+      w2c_j4 *= wasm_rt_hidden_factor(w2c_j5);
       w2c_j5 = 48ull;
       w2c_j4 >>= (w2c_j5 & 63);
       w2c_i4 = (u32)(w2c_j4);
@@ -85128,7 +85128,7 @@ static wasm_rt_part void w2c_f112(Z_hayro_jbig2_instance_t* RESTRICT instance, u
       w2c_j5 = 528482304ull;
       w2c_j4 &= w2c_j5;
       w2c_j5 = 536872960ull;
-      w2c_j4 *= w2c_j5;
+      w2c_j4 *= wasm_rt_hidden_factor(w2c_j5);
       w2c_j5 = 48ull;
       w2c_j4 >>= (w2c_j5 & 63);
       w2c_i4 = (u32)(w2c_j4);
@@ -85204,7 +85204,7 @@ static wasm_rt_part void w2c_f112(Z_hayro_jbig2_instance_t* RESTRICT instance, u
       w2c_j5 = 528482304ull;
       w2c_j4 &= w2c_j5;
       w2c_j5 = 536872960ull;
-      w2c_j4 *= w2c_j5;
+      w2c_j4 *= wasm_rt_hidden_factor(w2c_j5);
       w2c_j5 = 48ull;
       w2c_j4 >>= (w2c_j5 & 63);
       w2c_i4 = (u32)(w2c_j4);
@@ -85280,7 +85280,7 @@ static wasm_rt_part void w2c_f112(Z_hayro_jbig2_instance_t* RESTRICT instance, u
       w2c_j5 = 528482304ull;
       w2c_j4 &= w2c_j5;
       w2c_j5 = 536872960ull;
-      w2c_j4 *= w2c_j5;
+      w2c_j4 *= wasm_rt_hidden_factor(w2c_j5);
       w2c_j5 = 48ull;
       w2c_j4 >>= (w2c_j5 & 63);
       w2c_i4 = (u32)(w2c_j4);
@@ -85372,7 +85372,7 @@ static wasm_rt_part void w2c_f112(Z_hayro_jbig2_instance_t* RESTRICT instance, u
     w2c_j2 = 528482304ull;
     w2c_j1 &= w2c_j2;
     w2c_j2 = 536872960ull;
-    w2c_j1 *= w2c_j2;
+    w2c_j1 *= wasm_rt_hidden_factor(w2c_j2);
     w2c_j2 = 48ull;
     w2c_j1 >>= (w2c_j2 & 63);
     w2c_i1 = (u32)(w2c_j1);
@@ -85443,7 +85443,7 @@ static wasm_rt_part void w2c_f112(Z_hayro_jbig2_instance_t* RESTRICT instance, u
       w2c_j2 = 528482304ull;
       w2c_j1 &= w2c_j2;
       w2c_j2 = 536872960ull;
-      w2c_j1 *= w2c_j2;
+      w2c_j1 *= wasm_rt_hidden_factor(w2c_j2);
       w2c_j2 = 48ull;
       w2c_j1 >>= (w2c_j2 & 63);
       w2c_i1 = (u32)(w2c_j1);
@@ -86065,7 +86065,7 @@ static wasm_rt_part void w2c_f113(Z_hayro_jbig2_instance_t* RESTRICT instance, u
       w2c_j5 &= w2c_j6;
       w2c_j4 |= w2c_j5;
       w2c_j5 = 536875008ull;
-      w2c_j4 *= w2c_j5;
+      w2c_j4 *= wasm_rt_hidden_factor(w2c_j5);
       w2c_j5 = 48ull;
       w2c_j4 >>= (w2c_j5 & 63);
       w2c_i4 = (u32)(w2c_j4);
@@ -86139,7 +86139,7 @@ static wasm_rt_part void w2c_f113(Z_hayro_jbig2_instance_t* RESTRICT instance, u
       w2c_j5 = 4362863204368384ull;
       w2c_j4 &= w2c_j5;
       w2c_j5 = 536875008ull;
-      w2c_j4 *= w2c_j5;
+      w2c_j4 *= wasm_rt_hidden_factor(w2c_j5);
       w2c_j5 = 48ull;
       w2c_j4 >>= (w2c_j5 & 63);
       w2c_i4 = (u32)(w2c_j4);
@@ -86215,7 +86215,7 @@ static wasm_rt_part void w2c_f113(Z_hayro_jbig2_instance_t* RESTRICT instance, u
       w2c_j5 = 4362863204368384ull;
       w2c_j4 &= w2c_j5;
       w2c_j5 = 536875008ull;
-      w2c_j4 *= w2c_j5;
+      w2c_j4 *= wasm_rt_hidden_factor(w2c_j5);
       w2c_j5 = 48ull;
       w2c_j4 >>= (w2c_j5 & 63);
       w2c_i4 = (u32)(w2c_j4);
@@ -86291,7 +86291,7 @@ static wasm_rt_part void w2c_f113(Z_hayro_jbig2_instance_t* RESTRICT instance, u
       w2c_j5 = 4362863204368384ull;
       w2c_j4 &= w2c_j5;
       w2c_j5 = 536875008ull;
-      w2c_j4 *= w2c_j5;
+      w2c_j4 *= wasm_rt_hidden_factor(w2c_j5);
       w2c_j5 = 48ull;
       w2c_j4 >>= (w2c_j5 & 63);
       w2c_i4 = (u32)(w2c_j4);
@@ -86367,7 +86367,7 @@ static wasm_rt_part void w2c_f113(Z_hayro_jbig2_instance_t* RESTRICT instance, u
       w2c_j5 = 4362863204368384ull;
       w2c_j4 &= w2c_j5;
       w2c_j5 = 536875008ull;
-      w2c_j4 *= w2c_j5;
+      w2c_j4 *= wasm_rt_hidden_factor(w2c_j5);
       w2c_j5 = 48ull;
       w2c_j4 >>= (w2c_j5 & 63);
       w2c_i4 = (u32)(w2c_j4);
@@ -86443,7 +86443,7 @@ static wasm_rt_part void w2c_f113(Z_hayro_jbig2_instance_t* RESTRICT instance, u
       w2c_j5 = 4362863204368384ull;
       w2c_j4 &= w2c_j5;
       w2c_j5 = 536875008ull;
-      w2c_j4 *= w2c_j5;
+      w2c_j4 *= wasm_rt_hidden_factor(w2c_j5);
       w2c_j5 = 48ull;
       w2c_j4 >>= (w2c_j5 & 63);
       w2c_i4 = (u32)(w2c_j4);
@@ -86519,7 +86519,7 @@ static wasm_rt_part void w2c_f113(Z_hayro_jbig2_instance_t* RESTRICT instance, u
       w2c_j5 = 4362863204368384ull;
       w2c_j4 &= w2c_j5;
       w2c_j5 = 536875008ull;
-      w2c_j4 *= w2c_j5;
+      w2c_j4 *= wasm_rt_hidden_factor(w2c_j5);
       w2c_j5 = 48ull;
       w2c_j4 >>= (w2c_j5 & 63);
       w2c_i4 = (u32)(w2c_j4);
@@ -86595,7 +86595,7 @@ static wasm_rt_part void w2c_f113(Z_hayro_jbig2_instance_t* RESTRICT instance, u
       w2c_j5 = 4362863204368384ull;
       w2c_j4 &= w2c_j5;
       w2c_j5 = 536875008ull;
-      w2c_j4 *= w2c_j5;
+      w2c_j4 *= wasm_rt_hidden_factor(w2c_j5);
       w2c_j5 = 48ull;
       w2c_j4 >>= (w2c_j5 & 63);
       w2c_i4 = (u32)(w2c_j4);
@@ -86877,7 +86877,7 @@ static wasm_rt_part void w2c_f113(Z_hayro_jbig2_instance_t* RESTRICT instance, u
   w2c_j2 &= w2c_j3;
   w2c_j1 |= w2c_j2;
   w2c_j2 = 536875008ull;
-  w2c_j1 *= w2c_j2;
+  w2c_j1 *= wasm_rt_hidden_factor(w2c_j2);
   w2c_j2 = 48ull;
   w2c_j1 >>= (w2c_j2 & 63);
   w2c_i1 = (u32)(w2c_j1);
@@ -86948,7 +86948,7 @@ static wasm_rt_part void w2c_f113(Z_hayro_jbig2_instance_t* RESTRICT instance, u
     w2c_j2 = 4362863204368384ull;
     w2c_j1 &= w2c_j2;
     w2c_j2 = 536875008ull;
-    w2c_j1 *= w2c_j2;
+    w2c_j1 *= wasm_rt_hidden_factor(w2c_j2);
     w2c_j2 = 48ull;
     w2c_j1 >>= (w2c_j2 & 63);
     w2c_i1 = (u32)(w2c_j1);
@@ -87583,7 +87583,7 @@ static wasm_rt_part void w2c_f114(Z_hayro_jbig2_instance_t* RESTRICT instance, u
       w2c_j5 &= w2c_j6;
       w2c_j4 |= w2c_j5;
       w2c_j5 = 268436480ull;
-      w2c_j4 *= w2c_j5;
+      w2c_j4 *= wasm_rt_hidden_factor(w2c_j5);
       w2c_j5 = 48ull;
       w2c_j4 >>= (w2c_j5 & 63);
       w2c_i4 = (u32)(w2c_j4);
@@ -87657,7 +87657,7 @@ static wasm_rt_part void w2c_f114(Z_hayro_jbig2_instance_t* RESTRICT instance, u
       w2c_j5 = 2111062853812224ull;
       w2c_j4 &= w2c_j5;
       w2c_j5 = 268436480ull;
-      w2c_j4 *= w2c_j5;
+      w2c_j4 *= wasm_rt_hidden_factor(w2c_j5);
       w2c_j5 = 48ull;
       w2c_j4 >>= (w2c_j5 & 63);
       w2c_i4 = (u32)(w2c_j4);
@@ -87733,7 +87733,7 @@ static wasm_rt_part void w2c_f114(Z_hayro_jbig2_instance_t* RESTRICT instance, u
       w2c_j5 = 2111062853812224ull;
       w2c_j4 &= w2c_j5;
       w2c_j5 = 268436480ull;
-      w2c_j4 *= w2c_j5;
+      w2c_j4 *= wasm_rt_hidden_factor(w2c_j5);
       w2c_j5 = 48ull;
       w2c_j4 >>= (w2c_j5 & 63);
       w2c_i4 = (u32)(w2c_j4);
@@ -87809,7 +87809,7 @@ static wasm_rt_part void w2c_f114(Z_hayro_jbig2_instance_t* RESTRICT instance, u
       w2c_j5 = 2111062853812224ull;
       w2c_j4 &= w2c_j5;
       w2c_j5 = 268436480ull;
-      w2c_j4 *= w2c_j5;
+      w2c_j4 *= wasm_rt_hidden_factor(w2c_j5);
       w2c_j5 = 48ull;
       w2c_j4 >>= (w2c_j5 & 63);
       w2c_i4 = (u32)(w2c_j4);
@@ -87885,7 +87885,7 @@ static wasm_rt_part void w2c_f114(Z_hayro_jbig2_instance_t* RESTRICT instance, u
       w2c_j5 = 2111062853812224ull;
       w2c_j4 &= w2c_j5;
       w2c_j5 = 268436480ull;
-      w2c_j4 *= w2c_j5;
+      w2c_j4 *= wasm_rt_hidden_factor(w2c_j5);
       w2c_j5 = 48ull;
       w2c_j4 >>= (w2c_j5 & 63);
       w2c_i4 = (u32)(w2c_j4);
@@ -87961,7 +87961,7 @@ static wasm_rt_part void w2c_f114(Z_hayro_jbig2_instance_t* RESTRICT instance, u
       w2c_j5 = 2111062853812224ull;
       w2c_j4 &= w2c_j5;
       w2c_j5 = 268436480ull;
-      w2c_j4 *= w2c_j5;
+      w2c_j4 *= wasm_rt_hidden_factor(w2c_j5);
       w2c_j5 = 48ull;
       w2c_j4 >>= (w2c_j5 & 63);
       w2c_i4 = (u32)(w2c_j4);
@@ -88037,7 +88037,7 @@ static wasm_rt_part void w2c_f114(Z_hayro_jbig2_instance_t* RESTRICT instance, u
       w2c_j5 = 2111062853812224ull;
       w2c_j4 &= w2c_j5;
       w2c_j5 = 268436480ull;
-      w2c_j4 *= w2c_j5;
+      w2c_j4 *= wasm_rt_hidden_factor(w2c_j5);
       w2c_j5 = 48ull;
       w2c_j4 >>= (w2c_j5 & 63);
       w2c_i4 = (u32)(w2c_j4);
@@ -88113,7 +88113,7 @@ static wasm_rt_part void w2c_f114(Z_hayro_jbig2_instance_t* RESTRICT instance, u
       w2c_j5 = 2111062853812224ull;
       w2c_j4 &= w2c_j5;
       w2c_j5 = 268436480ull;
-      w2c_j4 *= w2c_j5;
+      w2c_j4 *= wasm_rt_hidden_factor(w2c_j5);
       w2c_j5 = 48ull;
       w2c_j4 >>= (w2c_j5 & 63);
       w2c_i4 = (u32)(w2c_j4);
@@ -88397,7 +88397,7 @@ static wasm_rt_part void w2c_f114(Z_hayro_jbig2_instance_t* RESTRICT instance, u
   w2c_j2 &= w2c_j3;
   w2c_j1 |= w2c_j2;
   w2c_j2 = 268436480ull;
-  w2c_j1 *= w2c_j2;
+  w2c_j1 *= wasm_rt_hidden_factor(w2c_j2);
   w2c_j2 = 48ull;
   w2c_j1 >>= (w2c_j2 & 63);
   w2c_i1 = (u32)(w2c_j1);
@@ -88468,7 +88468,7 @@ static wasm_rt_part void w2c_f114(Z_hayro_jbig2_instance_t* RESTRICT instance, u
     w2c_j2 = 2111062853812224ull;
     w2c_j1 &= w2c_j2;
     w2c_j2 = 268436480ull;
-    w2c_j1 *= w2c_j2;
+    w2c_j1 *= wasm_rt_hidden_factor(w2c_j2);
     w2c_j2 = 48ull;
     w2c_j1 >>= (w2c_j2 & 63);
     w2c_i1 = (u32)(w2c_j1);
@@ -89103,7 +89103,7 @@ static wasm_rt_part void w2c_f115(Z_hayro_jbig2_instance_t* RESTRICT instance, u
       w2c_j5 &= w2c_j6;
       w2c_j4 |= w2c_j5;
       w2c_j5 = 134217984ull;
-      w2c_j4 *= w2c_j5;
+      w2c_j4 *= wasm_rt_hidden_factor(w2c_j5);
       w2c_j5 = 48ull;
       w2c_j4 >>= (w2c_j5 & 63);
       w2c_i4 = (u32)(w2c_j4);
@@ -89177,7 +89177,7 @@ static wasm_rt_part void w2c_f115(Z_hayro_jbig2_instance_t* RESTRICT instance, u
       w2c_j5 = 985162678534144ull;
       w2c_j4 &= w2c_j5;
       w2c_j5 = 134217984ull;
-      w2c_j4 *= w2c_j5;
+      w2c_j4 *= wasm_rt_hidden_factor(w2c_j5);
       w2c_j5 = 48ull;
       w2c_j4 >>= (w2c_j5 & 63);
       w2c_i4 = (u32)(w2c_j4);
@@ -89253,7 +89253,7 @@ static wasm_rt_part void w2c_f115(Z_hayro_jbig2_instance_t* RESTRICT instance, u
       w2c_j5 = 985162678534144ull;
       w2c_j4 &= w2c_j5;
       w2c_j5 = 134217984ull;
-      w2c_j4 *= w2c_j5;
+      w2c_j4 *= wasm_rt_hidden_factor(w2c_j5);
       w2c_j5 = 48ull;
       w2c_j4 >>= (w2c_j5 & 63);
       w2c_i4 = (u32)(w2c_j4);
@@ -89329,7 +89329,7 @@ static wasm_rt_part void w2c_f115(Z_hayro_jbig2_instance_t* RESTRICT instance, u
       w2c_j5 = 985162678534144ull;
       w2c_j4 &= w2c_j5;
       w2c_j5 = 134217984ull;
-      w2c_j4 *= w2c_j5;
+      w2c_j4 *= wasm_rt_hidden_factor(w2c_j5);
       w2c_j5 = 48ull;
       w2c_j4 >>= (w2c_j5 & 63);
       w2c_i4 = (u32)(w2c_j4);
@@ -89405,7 +89405,7 @@ static wasm_rt_part void w2c_f115(Z_hayro_jbig2_instance_t* RESTRICT instance, u
       w2c_j5 = 985162678534144ull;
       w2c_j4 &= w2c_j5;
       w2c_j5 = 134217984ull;
-      w2c_j4 *= w2c_j5;
+      w2c_j4 *= wasm_rt_hidden_factor(w2c_j5);
       w2c_j5 = 48ull;
       w2c_j4 >>= (w2c_j5 & 63);
       w2c_i4 = (u32)(w2c_j4);
@@ -89481,7 +89481,7 @@ static wasm_rt_part void w2c_f115(Z_hayro_jbig2_instance_t* RESTRICT instance, u
       w2c_j5 = 985162678534144ull;
       w2c_j4 &= w2c_j5;
       w2c_j5 = 134217984ull;
-      w2c_j4 *= w2c_j5;
+      w2c_j4 *= wasm_rt_hidden_factor(w2c_j5);
       w2c_j5 = 48ull;
       w2c_j4 >>= (w2c_j5 & 63);
       w2c_i4 = (u32)(w2c_j4);
@@ -89557,7 +89557,7 @@ static wasm_rt_part void w2c_f115(Z_hayro_jbig2_instance_t* RESTRICT instance, u
       w2c_j5 = 985162678534144ull;
       w2c_j4 &= w2c_j5;
       w2c_j5 = 134217984ull;
-      w2c_j4 *= w2c_j5;
+      w2c_j4 *= wasm_rt_hidden_factor(w2c_j5);
       w2c_j5 = 48ull;
       w2c_j4 >>= (w2c_j5 & 63);
       w2c_i4 = (u32)(w2c_j4);
@@ -89633,7 +89633,7 @@ static wasm_rt_part void w2c_f115(Z_hayro_jbig2_instance_t* RESTRICT instance, u
       w2c_j5 = 985162678534144ull;
       w2c_j4 &= w2c_j5;
       w2c_j5 = 134217984ull;
-      w2c_j4 *= w2c_j5;
+      w2c_j4 *= wasm_rt_hidden_factor(w2c_j5);
       w2c_j5 = 48ull;
       w2c_j4 >>= (w2c_j5 & 63);
       w2c_i4 = (u32)(w2c_j4);
@@ -89917,7 +89917,7 @@ static wasm_rt_part void w2c_f115(Z_hayro_jbig2_instance_t* RESTRICT instance, u
   w2c_j2 &= w2c_j3;
   w2c_j1 |= w2c_j2;
   w2c_j2 = 134217984ull;
-  w2c_j1 *= w2c_j2;
+  w2c_j1 *= wasm_rt_hidden_factor(w2c_j2);
   w2c_j2 = 48ull;
   w2c_j1 >>= (w2c_j2 & 63);
   w2c_i1 = (u32)(w2c_j1);
@@ -89988,7 +89988,7 @@ static wasm_rt_part void w2c_f115(Z_hayro_jbig2_instance_t* RESTRICT instance, u
     w2c_j2 = 985162678534144ull;
     w2c_j1 &= w2c_j2;
     w2c_j2 = 134217984ull;
-    w2c_j1 *= w2c_j2;
+    w2c_j1 *= wasm_rt_hidden_factor(w2c_j2);
     w2c_j2 = 48ull;
     w2c_j1 >>= (w2c_j2 & 63);
     w2c_i1 = (u32)(w2c_j1);
@@ -90454,7 +90454,7 @@ static wasm_rt_part void w2c_f116(Z_hayro_jbig2_instance_t* RESTRICT instance, u
       w2c_j5 = 528482304ull;
       w2c_j4 &= w2c_j5;
       w2c_j5 = 536872960ull;
-      w2c_j4 *= w2c_j5;
+      w2c_j4 *= wasm_rt_hidden_factor(w2c_j5);
       w2c_j5 = 48ull;
       w2c_j4 >>= (w2c_j5 & 63);
       w2c_i4 = (u32)(w2c_j4);
@@ -90528,7 +90528,7 @@ static wasm_rt_part void w2c_f116(Z_hayro_jbig2_instance_t* RESTRICT instance, u
       w2c_j5 = 528482304ull;
       w2c_j4 &= w2c_j5;
       w2c_j5 = 536872960ull;
-      w2c_j4 *= w2c_j5;
+      w2c_j4 *= wasm_rt_hidden_factor(w2c_j5);
       w2c_j5 = 48ull;
       w2c_j4 >>= (w2c_j5 & 63);
       w2c_i4 = (u32)(w2c_j4);
@@ -90604,7 +90604,7 @@ static wasm_rt_part void w2c_f116(Z_hayro_jbig2_instance_t* RESTRICT instance, u
       w2c_j5 = 528482304ull;
       w2c_j4 &= w2c_j5;
       w2c_j5 = 536872960ull;
-      w2c_j4 *= w2c_j5;
+      w2c_j4 *= wasm_rt_hidden_factor(w2c_j5);
       w2c_j5 = 48ull;
       w2c_j4 >>= (w2c_j5 & 63);
       w2c_i4 = (u32)(w2c_j4);
@@ -90680,7 +90680,7 @@ static wasm_rt_part void w2c_f116(Z_hayro_jbig2_instance_t* RESTRICT instance, u
       w2c_j5 = 528482304ull;
       w2c_j4 &= w2c_j5;
       w2c_j5 = 536872960ull;
-      w2c_j4 *= w2c_j5;
+      w2c_j4 *= wasm_rt_hidden_factor(w2c_j5);
       w2c_j5 = 48ull;
       w2c_j4 >>= (w2c_j5 & 63);
       w2c_i4 = (u32)(w2c_j4);
@@ -90756,7 +90756,7 @@ static wasm_rt_part void w2c_f116(Z_hayro_jbig2_instance_t* RESTRICT instance, u
       w2c_j5 = 528482304ull;
       w2c_j4 &= w2c_j5;
       w2c_j5 = 536872960ull;
-      w2c_j4 *= w2c_j5;
+      w2c_j4 *= wasm_rt_hidden_factor(w2c_j5);
       w2c_j5 = 48ull;
       w2c_j4 >>= (w2c_j5 & 63);
       w2c_i4 = (u32)(w2c_j4);
@@ -90832,7 +90832,7 @@ static wasm_rt_part void w2c_f116(Z_hayro_jbig2_instance_t* RESTRICT instance, u
       w2c_j5 = 528482304ull;
       w2c_j4 &= w2c_j5;
       w2c_j5 = 536872960ull;
-      w2c_j4 *= w2c_j5;
+      w2c_j4 *= wasm_rt_hidden_factor(w2c_j5);
       w2c_j5 = 48ull;
       w2c_j4 >>= (w2c_j5 & 63);
       w2c_i4 = (u32)(w2c_j4);
@@ -90908,7 +90908,7 @@ static wasm_rt_part void w2c_f116(Z_hayro_jbig2_instance_t* RESTRICT instance, u
       w2c_j5 = 528482304ull;
       w2c_j4 &= w2c_j5;
       w2c_j5 = 536872960ull;
-      w2c_j4 *= w2c_j5;
+      w2c_j4 *= wasm_rt_hidden_factor(w2c_j5);
       w2c_j5 = 48ull;
       w2c_j4 >>= (w2c_j5 & 63);
       w2c_i4 = (u32)(w2c_j4);
@@ -90984,7 +90984,7 @@ static wasm_rt_part void w2c_f116(Z_hayro_jbig2_instance_t* RESTRICT instance, u
       w2c_j5 = 528482304ull;
       w2c_j4 &= w2c_j5;
       w2c_j5 = 536872960ull;
-      w2c_j4 *= w2c_j5;
+      w2c_j4 *= wasm_rt_hidden_factor(w2c_j5);
       w2c_j5 = 48ull;
       w2c_j4 >>= (w2c_j5 & 63);
       w2c_i4 = (u32)(w2c_j4);
@@ -91226,7 +91226,7 @@ static wasm_rt_part void w2c_f116(Z_hayro_jbig2_instance_t* RESTRICT instance, u
   w2c_j2 = 528482304ull;
   w2c_j1 &= w2c_j2;
   w2c_j2 = 536872960ull;
-  w2c_j1 *= w2c_j2;
+  w2c_j1 *= wasm_rt_hidden_factor(w2c_j2);
   w2c_j2 = 48ull;
   w2c_j1 >>= (w2c_j2 & 63);
   w2c_i1 = (u32)(w2c_j1);
@@ -91297,7 +91297,7 @@ static wasm_rt_part void w2c_f116(Z_hayro_jbig2_instance_t* RESTRICT instance, u
     w2c_j2 = 528482304ull;
     w2c_j1 &= w2c_j2;
     w2c_j2 = 536872960ull;
-    w2c_j1 *= w2c_j2;
+    w2c_j1 *= wasm_rt_hidden_factor(w2c_j2);
     w2c_j2 = 48ull;
     w2c_j1 >>= (w2c_j2 & 63);
     w2c_i1 = (u32)(w2c_j1);

@@ -64,8 +64,8 @@ static inline void jbig2_portable_copy_number(void *to, const void *from, size_t
 #define wasm_rt_memcpy memcpy
 #endif
 
-/* A condition of which gcc doesn't know that it is used elsewhere too. Else it makes jumps, which the processor guesses
- * wrongly, where the module chooses without one. */
+/* What gcc isn't to know: that a condition is used more than once, and a constant that it would make additions of. Else the
+ * processor guesses wrongly at jumps where the module chooses without one. */
 #if defined(__GNUC__) && !defined(__clang__)
 static wasm_rt_inline uint32_t wasm_rt_hidden(uint32_t condition) {
     __asm__("" : "+r"(condition));
@@ -73,6 +73,14 @@ static wasm_rt_inline uint32_t wasm_rt_hidden(uint32_t condition) {
 }
 #else
 #define wasm_rt_hidden(condition) (condition)
+#endif
+#if defined(__GNUC__) && !defined(__clang__) && UINTPTR_MAX > 0xFFFFFFFF
+static wasm_rt_inline uint64_t wasm_rt_hidden_factor(uint64_t factor) {
+    __asm__("" : "+r"(factor));
+    return factor;
+}
+#else
+#define wasm_rt_hidden_factor(factor) (factor)
 #endif
 
 /* Why the module can't go on. */
