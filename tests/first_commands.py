@@ -11,10 +11,11 @@ import subprocess
 import tempfile
 import unittest
 
+from files import ROOT
 from which_program import copy_repository
 
 TOOLS = (
-    "bash env readlink find cmp sha256sum sort xargs cut grep cat mkdir mktemp head rm mv cp chmod printf tr sed ar dirname "
+    "bash env readlink find cmp sha256sum sort xargs cut grep cat mkdir mktemp head rm mv cp chmod printf tr sed dirname "
     "basename realpath"
 ).split()
 # What it makes ends with status 77. It preprocesses words.c as glibc or another C library does.
@@ -51,6 +52,7 @@ class Case(unittest.TestCase):
             os.symlink(shutil.which(name), os.path.join(self.bin, name))
         self.log = os.path.join(room.name, "log")
         self.write("cc", COMPILER.format(log=self.log, room=room.name))
+        self.write("ar", '#!/bin/sh\n: >"$2"\n')
         self.be("Linux", "x86_64")
 
     def write(self, name, text):
@@ -89,7 +91,7 @@ class Case(unittest.TestCase):
 
 class Program(Case):
     def test_another_processor_or_system(self):
-        for system in ("Linux", "riscv64"), ("Darwin", "arm64"), ("FreeBSD", "amd64"), ("Linux", "aarch64"):
+        for system in ("Linux", "riscv64"), ("Darwin", "arm64"), ("FreeBSD", "amd64"), ("Linux", "armv7l"):
             with self.subTest(system):
                 self.be(*system)
                 self.assert_compiles(NO_TEXT.format(" ".join(system)))
@@ -105,6 +107,19 @@ class Program(Case):
         self.assertNotIn("hayro_jbig2_module.c", compiled)
         # Another program follows at once where the reasons change.
         self.assert_compiles("HAYRO_JBIG2_PORTABLE is 1", HAYRO_JBIG2_PORTABLE="1")
+
+    def test_a_text_for_another_processor(self):
+        text = os.path.join(self.top, "dist", "aarch64", "jbig2-decode.s")
+        if os.path.exists(text):
+            os.remove(text)
+        self.be("Linux", "aarch64")
+        self.assert_compiles(NO_TEXT.format("Linux aarch64"))
+        with open(text, "w", encoding="utf-8") as file:
+            file.write("# A text.\n")
+        self.assertEqual(self.run_words("./jbig2-decode"), (77, ""))
+        compiled = self.compiled()
+        self.assertIn("dist/aarch64/jbig2-decode.s", compiled)
+        self.assertNotIn("hayro_jbig2_module.c", compiled)
 
     def test_another_c_library(self):
         open(os.path.join(self.room, "musl"), "w", encoding="utf-8").close()
@@ -136,6 +151,21 @@ class Program(Case):
         status, said = self.run_words("./jbig2-decode")
         self.assertEqual(status, 1)
         self.assertIn("its command rt is not on the PATH", said)
+
+
+class Test(Case):
+    """./test says what it lacks, and tries nothing."""
+
+    def assert_says(self, words):
+        shutil.copy(os.path.join(ROOT, "test"), self.top)
+        self.assertEqual(self.run_words("./test"), (1, words + "\n"))
+
+    def test_no_compiler(self):
+        os.remove(os.path.join(self.bin, "cc"))
+        self.assert_says("there is no C compiler (cc gcc clang): install one, or set CC to its name")
+
+    def test_no_python(self):
+        self.assert_says("./test needs Python 3: python3 is not on the PATH")
 
 
 class Library(Case):
