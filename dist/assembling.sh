@@ -1,8 +1,9 @@
-# Sourced after crates.sh by dist/program, c/build and the tests: what the C compiler makes of the texts.
+# Sourced by dist/program, c/build and the tests, where `dist` is this folder: what the C compiler makes of the texts.
 
 # The processor's name, as the folders of the texts have it. PROCESSOR may name another, for a cross compiler.
 read -r system processor < <(uname -sm)
 processor=${PROCESSOR:-$processor}
+. "$dist/level.sh"
 
 # Prints the C compiler: CC, or the first that there is.
 compiler() {
@@ -16,20 +17,6 @@ compiler() {
     done
     echo "there is no C compiler (${names[*]}): install one, or set CC to its name" >&2
     return 1
-}
-
-# Whether a processor of x86-64 has what the texts use, of the level x86-64-v2: has_level [FILE]. The file is /proc/cpuinfo or
-# one like it; where it lists no features, the program itself refuses (processor.h).
-has_level() {
-    local line name
-    [ -r "${1:-/proc/cpuinfo}" ] || return 0
-    while read -r line; do
-        [[ $line = flags* ]] || continue
-        for name in pni ssse3 sse4_1 sse4_2 popcnt; do
-            [[ " ${line#*:} " = *" $name "* ]] || return 1
-        done
-        return 0
-    done <"${1:-/proc/cpuinfo}"
 }
 
 # Whether there is a text of this name for this computer, and HAYRO_JBIG2_PORTABLE=1 doesn't pass it over. With a cross

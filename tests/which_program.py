@@ -206,6 +206,95 @@ class Updates(Case):
         self.assert_runs()
 
 
+class Notes(Case):
+    """What is noted, so that the next run sums up nothing, and what makes a run sum it all up again."""
+
+    def setUp(self):
+        super().setUp()
+        self.log = os.path.join(self.room, "log")
+        self.sum = os.path.join(self.room, "bin", "sha256sum")
+        os.mkdir(os.path.dirname(self.sum))
+        with open(self.sum, "w", encoding="utf-8") as file:
+            file.write(f'#!/bin/sh\necho called >>{self.log}\nexec {shutil.which("sha256sum")} "$@"\n')
+        os.chmod(self.sum, 0o755)
+
+    def sums_up(self):
+        """Whether a run, which goes well, sums anything up."""
+        self.assert_runs(PATH=f"{os.path.dirname(self.sum)}:{os.environ['PATH']}")
+        if not os.path.exists(self.log):
+            return False
+        os.remove(self.log)
+        return True
+
+    def assert_is_seen(self, name, change):
+        """A change is seen once."""
+        self.sums_up()
+        self.assertFalse(self.sums_up(), name)
+        change(self.path(*name.split("/")))
+        self.assertTrue(self.sums_up(), name)
+        self.assertFalse(self.sums_up(), name)
+
+    def test_a_change_of_any_file(self):
+        def change(path):
+            with open(path, "r+b") as file:
+                content = file.read()
+                file.seek(0)
+                file.write(content)
+            os.utime(path, (LONG_AGO, LONG_AGO))
+
+        names = "crates/jbig2_base/specs/Lib.antt crates/jbig2_decode/src/lib.rt crates.txt c/crate.txt dist/SOURCES dist/program"
+        tools = "dist/assembling.sh dist/crates.sh dist/level.sh dist/unchanged.c dist/words.c c/handles.c portable/handles.c"
+        for name in f"{names} {tools} dist/{PROCESSOR}/jbig2-decode.s".split():
+            self.assert_is_seen(name, change)
+
+    def test_a_file_that_came(self):
+        def come(path):
+            os.makedirs(os.path.dirname(path), exist_ok=True)
+            open(path, "wb").close()
+
+        self.assert_is_seen("portable/new.h", come)
+        self.assert_is_seen("crates/jbig2_base/out/note", come)
+        self.assert_is_seen(f"dist/{PROCESSOR}/other.s", come)
+        for name in "specs/inner/New.antt", "proofs/New.antt":
+            self.sums_up()
+            come(self.path("crates", "jbig2_mmr", *name.split("/")))
+            self.assert_says("those of jbig2_mmr were changed")
+            shutil.rmtree(self.path("crates", "jbig2_mmr", name.split("/")[0]))
+
+    def test_the_program_and_what_compares(self):
+        self.assert_is_seen("dist/out/jbig2-decode", lambda path: os.chmod(path, 0o644))
+        self.assert_is_seen("dist/out/jbig2-decode", os.remove)
+        self.assert_is_seen("dist/out/jbig2-decode.seen", os.remove)
+        self.assert_is_seen("dist/out/unchanged", os.remove)
+        self.assert_is_seen("dist/out/unchanged", lambda path: os.truncate(path, 1000))
+
+    def test_a_note_that_was_cut_off(self):
+        self.assert_runs()
+        note = self.path("dist", "out", "jbig2-decode.seen")
+        with open(note, "rb") as file:
+            lines = file.readlines()
+        self.assertFalse(self.sums_up())
+        for count in *range(0, len(lines), 9), len(lines) - 2, len(lines) - 1:
+            with open(note, "wb") as file:
+                file.write(b"".join(lines[:count]))
+            self.assertTrue(self.sums_up(), count)
+
+    def test_a_copy_and_another_place(self):
+        self.assert_runs()
+        first, copy, moved = self.top, f"{self.top}-copy", f"{self.top}-moved"
+        shutil.copytree(first, copy)
+        self.top = copy
+        self.update("crates/jbig2_mmr/src/lib.rt", lambda text: text + "// Another.\n")
+        self.assert_says("those of jbig2_mmr were changed")
+        # Another repository lies where the noted one was.
+        os.rename(first, moved)
+        os.rename(copy, first)
+        self.top = first
+        self.assert_says("those of jbig2_mmr were changed")
+        self.top = moved
+        self.assert_runs()
+
+
 class Messages(Case):
     def test_no_compiler(self):
         self.assert_says("there is no C compiler (/no/such/cc)", CC="/no/such/cc")
@@ -247,6 +336,14 @@ class Folders(Case):
             self.assert_runs(user=NOBODY, HOME=self.home, XDG_CACHE_HOME=None)
             self.assertTrue(os.access(os.path.join(folder, "jbig2-decode"), os.X_OK))
         self.assertFalse(os.path.exists(self.path("dist", "out")))
+
+    @unittest.skipUnless(os.geteuid() == 0, "only the superuser can be another user")
+    def test_it_is_built_where_the_noted_one_is_closed(self):
+        self.assert_runs()
+        os.chmod(self.program, 0o700)
+        self.close_folders()
+        self.assert_runs()
+        self.assert_runs(user=NOBODY, HOME=self.home, XDG_CACHE_HOME=None)
 
     def test_there_is_no_cache(self):
         self.close_folders()

@@ -1,0 +1,78 @@
+/*
+ * Says whether files are as they were, by their sizes and times: in a hundredth of the time that their sums take.
+ *
+ * usage: unchanged <NAMES      notes files whose names are listed, each with a null byte after it
+ *        unchanged NOTE FACTS  prints PROGRAM where NOTE has the lines FACTS and PROGRAM, then files as they are now, and
+ *                              then an empty line
+ *
+ * Status 1 where they are not so, or where a name has a line's end in it.
+ */
+#define _XOPEN_SOURCE 700
+#define _DARWIN_C_SOURCE
+#include <stdbool.h>
+#include <stdio.h>
+#include <string.h>
+#include <sys/stat.h>
+#include <unistd.h>
+
+#ifdef __APPLE__
+#define st_mtim st_mtimespec
+#define st_ctim st_ctimespec
+#endif
+
+enum { ROOM = 128 };
+
+struct line {
+    char *text;
+    size_t room;
+};
+
+/* Reads up to a byte, which is cut off. */
+static bool has_line(FILE *file, int end, struct line *line) {
+    ssize_t length = getdelim(&line->text, &line->room, end, file);
+    if (length <= 0 || line->text[length - 1] != (char)end)
+        return false;
+    line->text[length - 1] = 0;
+    return true;
+}
+
+/* The state of a file or folder. No archive sets its second time, that of the last change of any kind. */
+static void describe(const char *name, char *text) {
+    struct stat file;
+    if (stat(name, &file) == 0)
+        snprintf(text, ROOM, "%lld %lld.%09ld %lld.%09ld", (long long)file.st_size, (long long)file.st_mtim.tv_sec,
+                 (long)file.st_mtim.tv_nsec, (long long)file.st_ctim.tv_sec, (long)file.st_ctim.tv_nsec);
+    else
+        strcpy(text, "not there");
+}
+
+/* Writes two lines for each file: its name, and its state. */
+static bool write_note(void) {
+    struct line name = {NULL, 0};
+    char state[ROOM];
+    while (has_line(stdin, 0, &name)) {
+        if (strchr(name.text, '\n') != NULL)
+            return false;
+        describe(name.text, state);
+        printf("%s\n%s\n", name.text, state);
+    }
+    return feof(stdin) && fflush(stdout) == 0 && !ferror(stdout);
+}
+
+static bool is_unchanged(const char *note, const char *facts) {
+    struct line program = {NULL, 0}, name = {NULL, 0}, noted = {NULL, 0};
+    char state[ROOM];
+    FILE *file = fopen(note, "r");
+    if (file == NULL || !has_line(file, '\n', &name) || strcmp(name.text, facts) != 0 || !has_line(file, '\n', &program))
+        return false;
+    while (has_line(file, '\n', &name) && name.text[0] != 0) {
+        describe(name.text, state);
+        if (!has_line(file, '\n', &noted) || strcmp(noted.text, state) != 0)
+            return false;
+    }
+    return name.text[0] == 0 && access(program.text, X_OK) == 0 && puts(program.text) >= 0 && fflush(stdout) == 0;
+}
+
+int main(int count, char **words) {
+    return !(count == 3 ? is_unchanged(words[1], words[2]) : write_note());
+}
