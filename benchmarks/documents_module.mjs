@@ -1,5 +1,5 @@
 /**
- * As documents.c by calls on bytes, by the module of web/: after a page for which V8 compiles it, as many as are asked for.
+ * As documents.c by calls on bytes, by the module of web/: after ten pages, by which V8 has compiled it.
  *
  * usage: node documents_module.mjs 1 PAGES GLOBALS STREAM OUT
  */
@@ -8,10 +8,12 @@ import { Decoder } from "../web/hayro_jbig2.js";
 
 const [pages, ...files] = process.argv.slice(3);
 const [shared, stream] = files.slice(0, 2).map((name) => new Uint8Array(readFileSync(name)));
+const WARM = 10;
 const decoder = await Decoder.load();
 const draw = () => decoder.decode(stream, { globals: shared, workLimit: Infinity });
 
-const first = draw();
+let first;
+for (let page = 0; page < WARM; page++) first = draw();
 const [began, before] = [process.hrtime.bigint(), process.cpuUsage()];
 for (let page = 0; page < Number(pages); page++) {
   if (Buffer.compare(draw().rows, first.rows) !== 0) throw new Error("another page");

@@ -1,6 +1,8 @@
 """As documents.c, by the package of python/: globals that all threads of a pool share.
 
 usage: documents_pool.py THREADS PAGES GLOBALS STREAM OUT
+
+Each tenth page is compared: that holds the interpreter's lock, which decoding doesn't.
 """
 from __future__ import annotations
 
@@ -22,9 +24,10 @@ def main() -> None:
         first = hayro_jbig2.decode(stream, globals=common)
         rows = bytes(first.rows)
 
-        def is_first(_: int) -> bool:
+        def is_first(index: int) -> bool:
+            page = hayro_jbig2.decode(stream, globals=common)
             # Bytes are compared much faster than a memoryview.
-            return bytes(hayro_jbig2.decode(stream, globals=common).rows) == rows
+            return index % 10 != 0 or bytes(page.rows) == rows
 
         if not all(pool.map(is_first, range(1, pages))):
             sys.exit("another page")

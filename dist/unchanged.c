@@ -63,7 +63,8 @@ static bool is_unchanged(const char *note, const char *facts) {
     struct line program = {NULL, 0}, name = {NULL, 0}, noted = {NULL, 0};
     char state[ROOM];
     FILE *file = fopen(note, "r");
-    if (file == NULL || !has_line(file, '\n', &name) || strcmp(name.text, facts) != 0 || !has_line(file, '\n', &program))
+    if (file == NULL || !has_line(file, '\n', &name) || strcmp(name.text, facts) != 0 ||
+        !has_line(file, '\n', &program))
         return false;
     while (has_line(file, '\n', &name) && name.text[0] != 0) {
         describe(name.text, state);
@@ -73,6 +74,4 @@ static bool is_unchanged(const char *note, const char *facts) {
     return name.text[0] == 0 && access(program.text, X_OK) == 0 && puts(program.text) >= 0 && fflush(stdout) == 0;
 }
 
-int main(int count, char **words) {
-    return !(count == 3 ? is_unchanged(words[1], words[2]) : write_note());
-}
+int main(int count, char **words) { return !(count == 3 ? is_unchanged(words[1], words[2]) : write_note()); }

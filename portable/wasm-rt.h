@@ -28,7 +28,11 @@
 #define wasm_rt_inline inline __attribute__((always_inline))
 #define wasm_rt_part __attribute__((noinline))
 /* What holds. The compiler leaves out comparisons that it decides. */
-#define wasm_rt_assume(condition) do { if (!(condition)) __builtin_unreachable(); } while (0)
+#define wasm_rt_assume(condition) \
+    do { \
+        if (!(condition)) \
+            __builtin_unreachable(); \
+    } while (0)
 #else
 #define LIKELY(x) (x)
 #define UNLIKELY(x) (x)

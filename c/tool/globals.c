@@ -53,8 +53,7 @@ static bool fetch(struct document *document, struct globals *globals) {
     if (document->kind != KIND_PDF)
         return true;
     pthread_mutex_lock(&document->lock);
-    bool is_read =
-        read_pdf_stream(document, globals->object, globals->generation, &globals->bytes, &globals->reason);
+    bool is_read = read_pdf_stream(document, globals->object, globals->generation, &globals->bytes, &globals->reason);
     pthread_mutex_unlock(&document->lock);
     return is_read;
 }

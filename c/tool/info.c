@@ -81,8 +81,7 @@ enum status print_info(const struct words *words) {
     bool is_open = open_inputs(&inputs, words, &messages);
     enum status all = is_open ? ALL_WHOLE : NOT_DONE, status;
     enum opened opened;
-    while (is_open && !ferror(stdout) &&
-           (opened = next_document(&inputs, &document, &messages, &status)) != NO_INPUT) {
+    while (is_open && !ferror(stdout) && (opened = next_document(&inputs, &document, &messages, &status)) != NO_INPUT) {
         all = worse_of(all, status);
         /* What is wrong with a file is in its list. */
         bool is_listed = opened == OPENED || (opened == REFUSED && document.kind == KIND_FILE);

@@ -37,7 +37,7 @@ struct queue {
     size_t turn;        /* the first that isn't done */
     size_t printed;
     size_t pages, pages_done; /* that are known so far */
-    bool is_opening; /* a thread has the inputs to itself, and the queue isn't locked meanwhile */
+    bool is_opening;          /* a thread has the inputs to itself, and the queue isn't locked meanwhile */
     bool is_over, is_stopped, is_single;
     enum status status;
     pthread_mutex_t lock;
