@@ -134,7 +134,8 @@ def main():
         lines[start:end] = quick_function(lines[start:end], name in asking, asking)
     text = "\n".join(lines)
     pages = re.search(r"wasm_rt_allocate_memory\(&instance->w2c_memory, (\d+), ", text)[1]
-    sizes = f"#define LEAST_SIZE ({pages} * 65536)\n#if WASM_RT_SPARE_BYTES < {SPARE}\n#error the memory has too few bytes after it\n#endif\n"
+    sizes = f"#define LEAST_SIZE ({pages} * 65536)\n"
+    sizes += f"#if WASM_RT_SPARE_BYTES < {SPARE}\n#error the memory has too few bytes after it\n#endif\n"
     sys.stdout.write(text.replace("\n#define TRAP(x)", f"\n{sizes}\n#define TRAP(x)", 1))
 
 

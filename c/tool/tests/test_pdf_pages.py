@@ -7,9 +7,8 @@ import unittest
 
 from support import BOOK, COUNTED, HAS_PDF, HAS_TIFF, INCOMPLETE, NOT_DONE, OVER_LIMIT, SANITIZED, WHOLE, Case, counted
 
-from conformance.runner.embedding import embedded_page
-from conformance.runner.pdf import stream_object
-from documents import Image, image_of, joined, pdf_of
+from conformance.runner.embedding import embedded_page, image_of
+from conformance.runner.pdf import Image, joined, pdf_of, stream_object
 
 PAGE = image_of(embedded_page(BOOK, 1))
 SECONDS = 20
