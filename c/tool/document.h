@@ -82,8 +82,8 @@ struct document {
     struct pdf *pdf;
 };
 
-/* Opens an input. It takes over the bytes. `globals` is what an embedded page needs besides, or NULL; it takes them over
- * too unless they are of several files. Where it can't be opened, a line of messages says why. */
+/* Opens an input. It takes over the bytes. `globals` is what an embedded page needs besides, or NULL; it takes them
+ * over too unless they are of several files. Where it can't be opened, a line of messages says why. */
 enum status open_document(struct document *document, const char *name, struct bytes bytes, struct globals *globals,
                           const char *password, struct text *messages);
 void close_document(struct document *document);

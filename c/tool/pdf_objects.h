@@ -1,5 +1,5 @@
-/* The objects of a PDF file: its pages, and those that a page's images are among. Each is looked at once, however often the
- * file refers to it. */
+/* The objects of a PDF file: its pages, and those that a page's images are among. Each is looked at once, however often
+ * the file refers to it. */
 #ifndef HAYRO_TOOL_PDF_OBJECTS_H
 #define HAYRO_TOOL_PDF_OBJECTS_H
 

@@ -6,8 +6,8 @@
 
 #include <stdlib.h>
 
-/* libqpdf could list the pages too. It calls itself for each level of their tree, and copies a page that is there twice,
- * so a small file could ask for all of the stack or of the memory. */
+/* libqpdf could list the pages too. It calls itself for each level of their tree, and copies a page that is there
+ * twice, so a small file could ask for all of the stack or of the memory. */
 
 /* A node of the tree of pages on the way down. No handles are kept, since they are released after each step. */
 struct node {

@@ -1,6 +1,6 @@
 /* Linked in between the command and the library (-Wl,--wrap): counts how often globals are decoded and embedded pages
- * read, and says so at the end. It stops the program where a call gets a null pointer in place of bytes, which the library
- * doesn't take. */
+ * read, and says so at the end. It stops the program where a call gets a null pointer in place of bytes, which the
+ * library doesn't take. */
 #include "hayro_jbig2.h"
 
 #include <pthread.h>

@@ -131,8 +131,9 @@ class PdfPages(Case):
 
 @unittest.skipUnless(HAS_PDF, "libqpdf is not here")
 class Damage(Case):
-    WORDS = [b"0 R", b"2 0 R", b"3 0 R", b"null", b"[", b"]", b"<<", b">>", b"/Kids", b"/Parent", b"/Filter", b"/Length"]
-    WORDS += [b"/FlateDecode", b"/DecodeParms", b"/JBIG2Globals", b"/Annots", b"stream", b"endstream", b"-1", b"9999999999"]
+    WORDS = [b"0 R", b"2 0 R", b"3 0 R", b"null", b"[", b"]", b"<<", b">>", b"-1", b"9999999999", b"stream"]
+    WORDS += [b"/Kids", b"/Parent", b"/Annots", b"/Filter", b"/FlateDecode", b"/DecodeParms", b"/JBIG2Globals"]
+    WORDS += [b"/Length", b"endstream"]
 
     def damaged(self, chance: random.Random, data: bytes) -> bytes:
         out = bytearray(data)
