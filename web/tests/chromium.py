@@ -112,9 +112,10 @@ class Chromium(Driven):
         return base64.b64decode(self.call("Page.printToPDF")["data"])
 
     def picture(self):
-        """The whole page as a PNG file. The first picture may lack what is drawn just now."""
-        self.call("Page.captureScreenshot", captureBeyondViewport=True)
-        return base64.b64decode(self.call("Page.captureScreenshot", captureBeyondViewport=True)["data"])
+        """The whole page as a PNG file: the window is as high, since a part outside of it may be missing in a picture."""
+        self.resize(self.evaluate("innerWidth"), self.evaluate("document.documentElement.scrollHeight"))
+        self.evaluate("new Promise((resolve) => requestAnimationFrame(() => requestAnimationFrame(resolve)))")
+        return base64.b64decode(self.call("Page.captureScreenshot")["data"])
 
     def close(self):
         """Ends the browser with its child processes, so that its profile can be removed."""
