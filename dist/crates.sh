@@ -7,12 +7,6 @@ root=${dist%/*}
 programs=(jbig2_decode jbig2_bench)
 processors=(x86_64 aarch64)
 
-# The processors for which it has a program, the gate's own first: processors_of CRATE.
-processors_of() {
-    echo x86_64
-    [ "$1" != jbig2_decode ] || echo aarch64
-}
-
 # The libraries that each crate names, those of the toolchain too.
 declare -A named=()
 read_names() {

@@ -93,30 +93,6 @@ build_crate() {
     rattle build "${words[@]}"
 }
 
-# Checks and builds a program of which the current folder is the crate: build_program_for PROCESSOR CRATE OBJECT [OPTION ..].
-build_program_for() {
-    build_crate "$2" src/main.rt "$3" --target "$1-unknown-linux-gnu" --links "$2=" "${@:4}" -- ${named[$2]}
-}
-
-# The object of a program for a processor that rt ci makes none for, of these sources: it is proved and built once, which
-# takes a minute or two. prove_program_for PROCESSOR CRATE.
-prove_program_for() {
-    local out=$root/crates/$2/out made sums
-    made=$out/$1.o
-    list_crates "$2"
-    sums=$(sums_of_crates "${crates[@]}") || return 1
-    if [ ! -e "$made" ] || [ "$sums" != "$(cat -- "$made.of" 2>/dev/null)" ]; then
-        prove_libraries ${named[$2]} || return 1
-        mkdir -p -- "$out" && rm -f -- "$made.of" || return 1
-        (cd -- "$root/crates/$2" && build_program_for "$1" "$2" "$made") >"$made.log" 2>&1 &&
-            grep -Eq "^logic=proved .* target=$1-unknown-linux-gnu .*statements=trusted$" "$made.log" || {
-            cat -- "$made.log" >&2
-            return 1
-        }
-        echo "$sums" >"$made.of"
-    fi
-}
-
 # Builds the crate for C, which c/lay-out laid out in the current folder: build_library PROCESSOR OBJECT [OPTION ..]. With
 # --links it says whether the crate declares functions that are written in C.
 build_library() {

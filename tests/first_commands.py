@@ -91,7 +91,7 @@ class Case(unittest.TestCase):
 
 class Program(Case):
     def test_another_processor_or_system(self):
-        for system in ("Linux", "riscv64"), ("Darwin", "arm64"), ("FreeBSD", "amd64"), ("Linux", "armv7l"):
+        for system in ("Linux", "riscv64"), ("Darwin", "arm64"), ("FreeBSD", "amd64"), ("Linux", "aarch64"):
             with self.subTest(system):
                 self.be(*system)
                 self.assert_compiles(NO_TEXT.format(" ".join(system)))
@@ -107,19 +107,6 @@ class Program(Case):
         self.assertNotIn("hayro_jbig2_module.c", compiled)
         # Another program follows at once where the reasons change.
         self.assert_compiles("HAYRO_JBIG2_PORTABLE is 1", HAYRO_JBIG2_PORTABLE="1")
-
-    def test_a_text_for_another_processor(self):
-        text = os.path.join(self.top, "dist", "aarch64", "jbig2-decode.s")
-        if os.path.exists(text):
-            os.remove(text)
-        self.be("Linux", "aarch64")
-        self.assert_compiles(NO_TEXT.format("Linux aarch64"))
-        with open(text, "w", encoding="utf-8") as file:
-            file.write("# A text.\n")
-        self.assertEqual(self.run_words("./jbig2-decode"), (77, ""))
-        compiled = self.compiled()
-        self.assertIn("dist/aarch64/jbig2-decode.s", compiled)
-        self.assertNotIn("hayro_jbig2_module.c", compiled)
 
     def test_another_c_library(self):
         open(os.path.join(self.room, "musl"), "w", encoding="utf-8").close()
