@@ -8,6 +8,7 @@ ghost use Rattle.jbig2_page.specs.inner.KeptViews.{found_value};
 ghost use Rattle.jbig2_page.specs.Returned.{IsReturned};
 ghost use Rattle.jbig2_page.specs.inner.PageViews.{given_names};
 
+mod image;
 mod output;
 
 use crate::globals::{Globals, content_of};

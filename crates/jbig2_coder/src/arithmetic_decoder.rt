@@ -3,7 +3,7 @@
 ghost use Rattle.std.specs.Prelude.{◌≡◌, ℕ, ◌+◌, ◌-◌, ◌*◌, ◌/◌, ◌^◌, ◌<◌, ◌≤◌, not, true, false, max, if◌then◌else◌};
 ghost use Rattle.jbig2_base.specs.Grid.{bit_number};
 ghost use Rattle.jbig2_coder.specs.Table.{row_of};
-ghost use Rattle.jbig2_coder.specs.Coder.{fresh, byte_at, byte_in, renormd, initial_registers, choice, likely_next, unlikely_next, decision, all_quiet};
+ghost use Rattle.jbig2_coder.specs.Coder.{fresh, byte_at, byte_in, renormd, initial_registers, choice, is_within, likely_next, unlikely_next, decision, all_quiet};
 ghost use Rattle.jbig2_coder.specs.inner.States.{Does};
 
 use crate::arithmetic_decoder::qe_table::{State, state_at};
@@ -210,6 +210,14 @@ impl<'a> ArithmeticDecoder<'a> {
             },
             floor: floor_above((c >> 48) as u32),
         }
+    }
+
+    /// Whether the byte that was read last is one of the data. Bytes that are read ahead don't count.
+    pub fn is_within_data(&self) -> bool
+        ensures { result ≡ is_within self.now.bytes self.now.registers }
+    {
+        let code = self.registers.code;
+        code.place.saturating_sub((code.bits / 8) as usize) < self.bytes.len()
     }
 
     /// The next decision in `context`, 0 or 1 (DECODE, Figure G.2). It changes `context`.
