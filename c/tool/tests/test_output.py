@@ -1,6 +1,7 @@
 """Where pictures go: names, folders, standard output; files that are whole or not there."""
 from __future__ import annotations
 
+import functools
 import os
 import pathlib
 import pty
@@ -282,7 +283,9 @@ class Output(Case):
         self.made(slow_page(60000), "slow.jb2e")
         words = [TOOL, "quick.jb2e", "slow.jb2e", "-o", "both.pbm"]
         for number in signal.SIGTERM, signal.SIGQUIT, signal.SIGXCPU:
-            with subprocess.Popen(words, cwd=self.room, stderr=subprocess.DEVNULL) as process:
+            # A shell's job in the background is begun with some signals ignored, and the command leaves those so.
+            how = {"preexec_fn": functools.partial(signal.signal, number, signal.SIG_DFL)}
+            with subprocess.Popen(words, cwd=self.room, stderr=subprocess.DEVNULL, **how) as process:
                 self.wait_for_part()
                 process.send_signal(number)
                 self.assertEqual(process.wait(20), -number)
