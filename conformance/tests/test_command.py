@@ -56,7 +56,7 @@ class CommandTest(unittest.TestCase):
         return ended_of(("--suite", str(self.folder), *words))
 
     def refused(self, *words: str) -> str:
-        """What a mistake is told by: one line on standard error, and status 2."""
+        """The last line on standard error after a mistake. The status is 2, and nothing else is printed."""
         ended = ended_of(words)
         self.assertEqual((ended.returncode, ended.stdout), (2, ""), ended.stderr)
         return ended.stderr.splitlines()[-1]

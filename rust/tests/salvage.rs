@@ -112,7 +112,7 @@ fn globals_keep_what_can_be_read() {
     }
 }
 
-/// A dictionary that lacks something, and a list that ends with the same error: both are told, and pages aren't complete.
+/// A dictionary that lacks something, and a list that ends with the same error: both are reported, and pages aren't complete.
 #[test]
 fn two_faults_of_one_kind_are_two() {
     // It refers to number 1.

@@ -283,7 +283,7 @@ class Output(Case):
         self.made(slow_page(60000), "slow.jb2e")
         words = [TOOL, "quick.jb2e", "slow.jb2e", "-o", "both.pbm"]
         for number in signal.SIGTERM, signal.SIGQUIT, signal.SIGXCPU:
-            # A shell's job in the background is begun with some signals ignored, and the command leaves those so.
+            # A shell starts a background job with some signals ignored, and the command leaves them ignored.
             how = {"preexec_fn": functools.partial(signal.signal, number, signal.SIG_DFL)}
             with subprocess.Popen(words, cwd=self.room, stderr=subprocess.DEVNULL, **how) as process:
                 self.wait_for_part()
