@@ -2,8 +2,7 @@
 ghost use Rattle.std.specs.Prelude.{◌≡◌, ℕ, IfErr, IfOk, length, slice_get};
 ghost use Rattle.std.specs.Map.Iter.{GivesInOrder};
 ghost use Rattle.jbig2_base.specs.Results.{Returns, Gives};
-ghost use Rattle.jbig2_page.specs.Files.{book_at, page_of, pages_of, PagesStandAlone};
-ghost use Rattle.jbig2_framing.specs.File.{file_at};
+ghost use Rattle.jbig2_page.specs.Files.{book_at, page_of, pages_of, segments_at, PagesStandAlone};
 ghost use Rattle.jbig2_framing.specs.Reading.{reading_of};
 ghost use Rattle.jbig2_framing.specs.declared.reading.Reading.TheVariants.{Salvage};
 ghost use Rattle.jbig2_page.specs.Names.{names_of};
@@ -89,7 +88,7 @@ impl<'a, A: Allocator + Clone> File<'a, A> {
             (BreaksBook (reading_of settings.now.strict) bytes.now) }
         ensures errors { IfErr result IsReturned }
         ensures limit { Takes 0 work.old work.new }
-        ensures taken { let read = file_at (reading_of settings.now.strict) bytes.now in
+        ensures taken { let read = segments_at (reading_of settings.now.strict) bytes.now in
             IfOk result (λ file. TakesShared read file work.old work.new) }
     {
         File::read(alloc, bytes, settings.reading(), work)
@@ -106,7 +105,7 @@ impl<'a, A: Allocator + Clone> File<'a, A> {
         ensures causes { HasCauseOrNoMemory result (BreaksBook Salvage bytes.now) }
         ensures errors { IfErr result IsReturned }
         ensures limit { Takes 0 work.old work.new }
-        ensures taken { let read = file_at Salvage bytes.now in
+        ensures taken { let read = segments_at Salvage bytes.now in
             IfOk result (λ file. TakesShared read file work.old work.new) }
     {
         File::read(alloc, bytes, Reading::Salvage, work)
@@ -123,7 +122,7 @@ impl<'a, A: Allocator + Clone> File<'a, A> {
         ensures causes { HasCauseOrNoMemory result (BreaksBook reading bytes.now) }
         ensures errors { IfErr result IsReturned }
         ensures limit { Takes 0 work.old work.new }
-        ensures taken { let read = file_at reading bytes.now in
+        ensures taken { let read = segments_at reading bytes.now in
             IfOk result (λ file. TakesShared read file work.old work.new) }
     {
         match read_counted::<A, Brand>(alloc, bytes, reading, work, Blank::new(6)) {
@@ -148,7 +147,7 @@ fn read_counted<'a, A: Allocator + Clone, L: Ledger>(
     ensures causes { HasCauseOrNoMemory result (BreaksBook reading bytes.now) }
     ensures errors { IfErr result IsReturned }
     ensures limit { Takes 0 limit.old limit.new }
-    ensures taken { let read = file_at reading bytes.now in
+    ensures taken { let read = segments_at reading bytes.now in
         IfOk result (λ file. TakesShared read file limit.old limit.new) }
 {
     let mut work = limit.counter::<L>(blank);

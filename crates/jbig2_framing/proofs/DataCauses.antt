@@ -1,22 +1,19 @@
 -- Which rule the data of a segment breaks.
-use Rattle.std.proofs.Common.{◌≡◌, ℕ, ◌+◌, ◌-◌, ◌*◌, ◌%◌, ◌<◌, ◌≤◌, eqb, leb, ltb, Bool, true, false, cond, List, [], ◌∷◌, take, drop, length, Option, Some, None, Result, Ok, Err, sym, ◌∙◌, ap, arith, inl, inr, ⊎_elim, length-drop}
-use Rattle.std.specs.Prelude.{◌≢◌, ◌⊎◌, ◌&&◌, ◌||◌, slice_index, IfErr}
+use Rattle.std.proofs.Common.{◌≡◌, ℕ, ◌+◌, ◌-◌, ◌%◌, ◌<◌, ◌≤◌, eqb, leb, ltb, Bool, true, false, cond, List, [], ◌∷◌, take, drop, length, Option, Some, None, Result, Ok, Err, sym, ◌∙◌, ap, arith, length-drop}
+use Rattle.std.specs.Prelude.{◌≢◌, ◌&&◌, slice_index, IfErr}
 use Rattle.std.specs.Int.{w8}
-use Rattle.std.proofs.lemmas.Bool.{cond_both, and_from, and_parts, or_cases, eq-eqb, le-leb, leb-true, ltb-true, ltb-false, true≢false}
+use Rattle.std.proofs.lemmas.Bool.{cond_both, and_from, and_parts, eq-eqb, le-leb, leb-true, ltb-true, ltb-false, true≢false}
 use Rattle.std.proofs.lemmas.List.{drop-drop}
-use Rattle.jbig2_base.specs.Results.{◌>>=◌, Gives, refuse_if}
-use Rattle.jbig2_base.specs.Causes.{HasCause, HasCauseOrNoMemory, number_in, BreaksSides, BreaksArea}
+use Rattle.jbig2_base.specs.Causes.{HasCause, number_in}
 use Rattle.jbig2_framing.specs.Causes.{BreaksData}
 use Rattle.jbig2_base.specs.Fields.{bytes_at, end_of_bytes}
-use Rattle.jbig2_base.specs.Grid.{blank_or_overflow, wide_or_overflow}
 use Rattle.jbig2_base.specs.Search.{place_from}
 use Rattle.jbig2_framing.specs.Segment.{adaptive_bytes, data_at, first_end_marker, is_end_marker, unknown_length_of}
 use Rattle.jbig2_base.specs.declared.error.DecodeError.{DecodeError}
-use Rattle.jbig2_base.specs.declared.error.DecodeError.TheVariants.{OutOfMemory, Overflow, Segment}
-use Rattle.jbig2_base.specs.declared.error.OverflowError.TheVariants.{BitmapDimension}
+use Rattle.jbig2_base.specs.declared.error.DecodeError.TheVariants.{Segment}
 use Rattle.jbig2_base.specs.declared.error.SegmentError.TheVariants.{MissingEndMarker}
-use Rattle.jbig2_base.proofs.Causes.{cause-bytes, cause-next, cause-refused}
-use Rattle.jbig2_base.proofs.CauseSteps.{call-cause, call-cause-or-memory, IfResult, result-cause, result-next, next-bytes, next-number}
+use Rattle.jbig2_base.proofs.Causes.{cause-bytes}
+use Rattle.jbig2_base.proofs.CauseSteps.{call-cause, IfResult, result-cause, result-next, next-bytes, next-number}
 use Rattle.jbig2_base.proofs.SearchLemmas.{place-found, place-none}
 
 -- ---- the end marker

@@ -2,7 +2,7 @@
 use Rattle.std.proofs.Common.{◌≡◌, ℕ, Some, ◌+◌, ◌<◌, ◌≤◌, ◌/◌, ◌%◌, eqb, Bool, true, false, cond, not, List, take, drop, length, Result, Ok, Err, refl, sym, ◌∙◌, ap, arith, length-drop}
 use Rattle.std.specs.Prelude.{IfErr}
 use Rattle.std.specs.Str.{bytes_eq}
-use Rattle.std.specs.Int.{w8, w32, byte_len, from_be_bytes}
+use Rattle.std.specs.Int.{w8, w32, from_be_bytes}
 use Rattle.std.proofs.lemmas.Bool.Decides.{nat_tests}
 use Rattle.std.proofs.lemmas.Bool.{not-true, false≢true, true≢false}
 use Rattle.jbig2_base.specs.Results.{refuse_if}

@@ -1,7 +1,7 @@
 -- Where a list of segments ends early (our own rule). Lenient reading drops a segment that the end of the bytes cuts
 -- off, and salvage ends the list at any segment that is refused. A cut-off says which segment that is, and why.
 use Rattle.std.specs.Prelude.{ℕ, suc, zero, Bool, ◌==◌, List, [], ◌∷◌, length, Option, Some, None, Result, Ok, Err}
-use Rattle.std.specs.Prelude.{option_map, if◌then◌else◌}
+use Rattle.std.specs.Prelude.{is_none, option_map, if◌then◌else◌}
 use Rattle.std.specs.Int.{w32}
 use Rattle.std.specs.Option.{option_or}
 use Rattle.jbig2_base.specs.Fields.{number_at}
@@ -50,6 +50,25 @@ sequence_cut_off reading bytes =
     let ends = λ (p : SegmentView). is_end_of_file p.header.segment_type in
     with_place (is_strict reading) (first_refused (segment_at (is_strict reading)) ends (length bytes) bytes)
 
+-- What is there of the segment whose header begins at these bytes: all that comes after its header. None if the header
+-- is refused or leaves the data length open.
+abbrev pub partial_of : Result (Header × List ℕ) DecodeError → Option SegmentView
+partial_of (Ok (h, rest)) = if is_none h.data_length then None else Some (record { header = h; bytes = rest })
+partial_of (Err e) = None
+
+abbrev pub partial_at : Bool → List ℕ → Option SegmentView
+partial_at strict bytes = partial_of (header_at strict bytes)
+
+abbrev pub with_partial : Bool → Option (List ℕ × DecodeError) → Option SegmentView
+with_partial strict None = None
+with_partial strict (Some (bytes, e)) = partial_at strict bytes
+
+-- the same of the segment at which segments one after the other end early
+abbrev pub sequence_partial : Reading → List ℕ → Option SegmentView
+sequence_partial reading bytes =
+    let ends = λ (p : SegmentView). is_end_of_file p.header.segment_type in
+    with_partial (is_strict reading) (first_refused (segment_at (is_strict reading)) ends (length bytes) bytes)
+
 -- of the headers in random access (D.2)
 abbrev pub headers_cut_off : Reading → List ℕ → Option CutOff
 headers_cut_off reading bytes =
@@ -82,7 +101,19 @@ abbrev pub cut_off_by : FileOrganization → Reading → List ℕ → Option Cut
 cut_off_by Sequential reading bytes = sequence_cut_off reading bytes
 cut_off_by RandomAccess reading bytes = random_cut_off reading bytes
 
+-- in random access no part of a segment is known
+abbrev pub partial_by : FileOrganization → Reading → List ℕ → Option SegmentView
+partial_by Sequential reading bytes = sequence_partial reading bytes
+partial_by RandomAccess reading bytes = None
+
 -- of a file (Annex D)
+unfoldable pub file_partial : Reading → List ℕ → Option SegmentView
+file_partial reading bytes = on (file_header_at bytes)
+  where
+    on : Result (FileHeader × List ℕ) DecodeError → Option SegmentView
+    on (Ok (header, rest)) = partial_by header.organization reading rest
+    on (Err e) = None
+
 unfoldable pub file_cut_off : Reading → List ℕ → Option CutOff
 file_cut_off reading bytes = on (file_header_at bytes)
   where

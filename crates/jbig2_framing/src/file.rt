@@ -2,10 +2,10 @@
 ghost use Rattle.std.specs.Prelude.{◌≡◌, IfOk, List, length, map, None, Ok, Some};
 ghost use Rattle.jbig2_base.specs.Results.{Gives};
 ghost use Rattle.jbig2_framing.specs.File.{headers_in, with_data, segments_by, file_at, SpelledSegment, SpellsFile};
-ghost use Rattle.jbig2_framing.specs.CutOff.{cut_off_by, data_cut_off, file_cut_off, headers_cut_off, random_cut_off, sequence_cut_off};
+ghost use Rattle.jbig2_framing.specs.CutOff.{cut_off_by, data_cut_off, file_cut_off, file_partial, headers_cut_off, partial_by, random_cut_off, sequence_cut_off, sequence_partial};
 ghost use Rattle.jbig2_framing.specs.declared.file_header.FileHeader.{FileHeader};
 ghost use Rattle.jbig2_framing.specs.declared.reading.Reading.{Reading};
-ghost use Rattle.jbig2_framing.specs.inner.SegmentViews.{header_views, segment_views, file_view};
+ghost use Rattle.jbig2_framing.specs.inner.SegmentViews.{header_views, partial_view, segment_views, file_view};
 ghost use Rattle.jbig2_framing.specs.Sequential.{by_number, is_cut_off, is_end_of_file, sequential};
 ghost use Rattle.jbig2_framing.specs.declared.file_header.FileOrganization.TheVariants.{RandomAccess};
 
@@ -15,6 +15,7 @@ pub use crate::file_header::{FileHeader, FileOrganization};
 use crate::reading::Reading;
 use crate::segment::{
     Segment, SegmentHeader, SegmentType, parse_segment, parse_segment_data, parse_segment_header,
+    partial_segment,
 };
 use crate::sort::sort_segments;
 use jbig2_base::error::{DecodeError, Result};
@@ -44,6 +45,9 @@ pub struct SegmentList<'a, A: Allocator> {
     pub segments: Vec<Segment<'a, A>, A>,
     /// The segment at which the list ends early, if it does.
     pub cut_off: Option<CutOff>,
+    /// What is there of that segment, with all bytes after its header. None in random access, and where
+    /// its header is refused or leaves the data length open.
+    pub partial: Option<Segment<'a, A>>,
 }
 
 /// Segment headers in the order of the bytes, and where their list ends early.
@@ -66,6 +70,8 @@ pub fn parse_segments_sequential<'a, A: Allocator + Clone>(
     ensures value { Gives (λ list. segment_views list.segments.items) result
         (sequential reading bytes.now) }
     ensures cut_off { IfOk result (λ list. list.cut_off ≡ sequence_cut_off reading bytes.now) }
+    ensures partial { IfOk result
+        (λ list. partial_view list.partial ≡ sequence_partial reading bytes.now) }
 {
     let mut reader = Reader::new(bytes);
     let mut segments = Vec::new(alloc.clone()?);
@@ -79,15 +85,18 @@ pub fn parse_segments_sequential<'a, A: Allocator + Clone>(
                     return Ok(SegmentList {
                         segments,
                         cut_off: None,
+                        partial: None,
                     });
                 }
             }
             Err(error) => {
                 if is_cut_off(reading, &error) {
-                    let cut_off = CutOff::at(alloc, &reader, strict, error)?;
+                    let cut_off = CutOff::at(alloc.clone()?, &reader, strict, error)?;
+                    let partial = partial_segment(alloc, &reader, strict)?;
                     return Ok(SegmentList {
                         segments,
                         cut_off: Some(cut_off),
+                        partial,
                     });
                 }
                 return Err(error);
@@ -97,6 +106,7 @@ pub fn parse_segments_sequential<'a, A: Allocator + Clone>(
     Ok(SegmentList {
         segments,
         cut_off: None,
+        partial: None,
     })
 }
 
@@ -169,7 +179,11 @@ fn gather_segments<'a, A: Allocator>(
                         page_association: Some(page),
                         error,
                     });
-                    return Ok(SegmentList { segments, cut_off });
+                    return Ok(SegmentList {
+                        segments,
+                        cut_off,
+                        partial: None,
+                    });
                 }
                 return Err(error);
             }
@@ -178,6 +192,7 @@ fn gather_segments<'a, A: Allocator>(
     Ok(SegmentList {
         segments,
         cut_off: None,
+        partial: None,
     })
 }
 
@@ -192,6 +207,7 @@ fn parse_segments_random_access<'a, A: Allocator + Clone>(
     ensures value { Gives (λ list. segment_views list.segments.items) result
         (segments_by RandomAccess reading bytes.now) }
     ensures cut_off { IfOk result (λ list. list.cut_off ≡ random_cut_off reading bytes.now) }
+    ensures partial { IfOk result (λ list. partial_view list.partial ≡ None) }
 {
     let mut reader = Reader::new(bytes);
     let HeaderList { headers, cut_off } = parse_segment_headers(
@@ -203,6 +219,7 @@ fn parse_segments_random_access<'a, A: Allocator + Clone>(
     Ok(SegmentList {
         segments: list.segments,
         cut_off: cut_off.or(list.cut_off),
+        partial: None,
     })
 }
 
@@ -216,6 +233,8 @@ fn parse_segments<'a, A: Allocator + Clone>(
         (segments_by organization reading bytes.now) }
     ensures cut_off { IfOk result
         (λ list. list.cut_off ≡ cut_off_by organization reading bytes.now) }
+    ensures partial { IfOk result
+        (λ list. partial_view list.partial ≡ partial_by organization reading bytes.now) }
 {
     match organization {
         FileOrganization::Sequential => parse_segments_sequential(alloc, bytes, reading),
@@ -231,9 +250,11 @@ pub struct File<'a, A: Allocator> {
     pub segments: Vec<Segment<'a, A>, A>,
     /// The segment at which their list ends early, if it does.
     pub cut_off: Option<CutOff>,
+    /// What is there of that segment, as `SegmentList` has it.
+    pub partial: Option<Segment<'a, A>>,
 }
 
-#[tactic(auto, unfolding(crate::specs::File::file_at, crate::specs::CutOff::file_cut_off))]
+#[tactic(auto, unfolding(crate::specs::File::file_at, crate::specs::CutOff::file_cut_off, crate::specs::CutOff::file_partial))]
 fn read_file<'a, A: Allocator + Clone>(
     alloc: A,
     bytes: &'a [u8],
@@ -241,6 +262,8 @@ fn read_file<'a, A: Allocator + Clone>(
 ) -> Result<File<'a, A>>
     ensures value { Gives file_view result (file_at reading bytes.now) }
     ensures cut_off { IfOk result (λ file. file.cut_off ≡ file_cut_off reading bytes.now) }
+    ensures partial { IfOk result
+        (λ file. partial_view file.partial ≡ file_partial reading bytes.now) }
 {
     let mut reader = Reader::new(bytes);
     let header = parse_file_header(&mut reader)?;
@@ -250,6 +273,7 @@ fn read_file<'a, A: Allocator + Clone>(
         header,
         segments: list.segments,
         cut_off: list.cut_off,
+        partial: list.partial,
     })
 }
 
@@ -270,6 +294,8 @@ pub fn parse_file<'a, A: Allocator + Clone>(
         → SpellsFile reading bytes.now header ss
         → Gives file_view result (Ok (header, by_number (map (λ s. s.segment) ss))) }
     ensures cut_off { IfOk result (λ file. file.cut_off ≡ file_cut_off reading bytes.now) }
+    ensures partial { IfOk result
+        (λ file. partial_view file.partial ≡ file_partial reading bytes.now) }
 {
     read_file(alloc, bytes, reading)
 }

@@ -7,14 +7,15 @@ ghost use Rattle.std.specs.Bool.{OnTrue};
 ghost use Rattle.jbig2_base.specs.Results.{Returns, Gives};
 ghost use Rattle.jbig2_base.specs.Causes.{HasCause, HasCauseOrNoMemory};
 ghost use Rattle.jbig2_framing.specs.Causes.{BreaksHeader, BreaksData};
+ghost use Rattle.jbig2_framing.specs.CutOff.{partial_at};
 ghost use Rattle.jbig2_base.specs.Fields.{number_at, Parses, Takes};
 ghost use Rattle.jbig2_framing.specs.Segment.{Header, type_of, is_reserved, is_immediate_generic, long_count_at, count_at, number_width, numbers_in, referred_at, length_of, header_at, data_at, segment_data_at, segment_at};
-ghost use Rattle.jbig2_framing.specs.inner.SegmentViews.{header_view, segment_view};
+ghost use Rattle.jbig2_framing.specs.inner.SegmentViews.{header_view, partial_view, segment_view};
 
 mod end_marker;
 
 use end_marker::unknown_length;
-use jbig2_base::error::{Result, SegmentError};
+use jbig2_base::error::{DecodeError, Result, SegmentError};
 use jbig2_base::field::{byte_field, bytes_field, u32_field};
 use jbig2_base::reader::Reader;
 use std::alloc::Allocator;
@@ -332,4 +333,28 @@ pub fn parse_segment<'a, A: Allocator>(
     let segment = parse_segment_data(&mut ahead, header)?;
     *reader = ahead;
     Ok(segment)
+}
+
+/// What is there of the segment at the reader's place, whose data is cut off: its header, and all
+/// bytes after it. None if its header is refused or leaves the data length open.
+pub(crate) fn partial_segment<'a, A: Allocator>(
+    alloc: A,
+    reader: &Reader<'a>,
+    strict: bool,
+) -> Result<Option<Segment<'a, A>>>
+    ensures { Gives (λ segment. partial_view segment) result
+        (Ok (partial_at strict reader.now.bytes)) }
+{
+    let mut ahead = reader.duplicate();
+    match parse_segment_header(alloc, &mut ahead, strict) {
+        Ok(header) => {
+            if header.data_length.is_none() {
+                return Ok(None);
+            }
+            let bytes = ahead.tail();
+            Ok(Some(Segment { header, bytes }))
+        }
+        Err(DecodeError::OutOfMemory) => Err(DecodeError::OutOfMemory),
+        Err(_) => Ok(None),
+    }
 }

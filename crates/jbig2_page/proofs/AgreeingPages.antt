@@ -1,21 +1,22 @@
 -- Where strict reading accepts, lenient reading gives the same, and where that accepts, salvage does: names, pages and files.
-use Rattle.std.proofs.Common.{◌≡◌, ℕ, eqb, Bool, true, false, cond, not, ◌&&◌, List, [], ◌∷◌, length, Option, Some, None, Result, Ok, Err, refl, sym, subst, ap, ◌∙◌}
+use Rattle.std.proofs.Common.{◌≡◌, ℕ, eqb, Bool, true, false, cond, not, ◌&&◌, List, [], ◌∷◌, ◌++◌, length, Option, Some, None, Result, Ok, Err, refl, sym, subst, ap, ◌∙◌}
 use Rattle.std.specs.Int.{w32}
 use Rattle.std.specs.Option.{option_map_or}
 use Rattle.std.specs.Prelude.{IfOk, is_none, nat_le, option_map, slice_get}
 use Rattle.jbig2_base.specs.Results.{◌>>=◌, refuse_if, some_or}
 use Rattle.jbig2_base.specs.Fields.{number_at}
-use Rattle.jbig2_framing.specs.File.{file_at}
+use Rattle.jbig2_framing.specs.File.{file_at, file_header_at}
 use Rattle.jbig2_base.specs.Grid.{Grid}
 use Rattle.jbig2_framing.specs.PageInfo.{first_information, height_of, information_at, initial_page_by, stripes_height}
-use Rattle.jbig2_framing.specs.CutOff.{file_cut_off, sequence_cut_off}
+use Rattle.jbig2_framing.specs.CutOff.{cut_off_by, file_cut_off, file_partial, first_refused, partial_by, sequence_cut_off, sequence_partial, with_partial, with_place}
 use Rattle.jbig2_framing.specs.Reading.{is_salvaged, is_strict}
 use Rattle.jbig2_framing.specs.declared.cut_off.CutOff.{CutOff}
 use Rattle.jbig2_framing.specs.declared.file_header.FileOrganization.{FileOrganization}
+use Rattle.jbig2_framing.specs.declared.file_header.FileOrganization.TheVariants.{Sequential, RandomAccess}
 use Rattle.jbig2_framing.specs.declared.file_header.FileHeader.{FileHeader}
 use Rattle.jbig2_framing.proofs.AgreeingCutOffs.{file-cut-salvaged, file-cut-same, sequence-cut-same}
-use Rattle.jbig2_framing.specs.Segment.{Header, SegmentView}
-use Rattle.jbig2_framing.specs.Sequential.{by_number, sequential, sorted_segments}
+use Rattle.jbig2_framing.specs.Segment.{Header, SegmentView, segment_at}
+use Rattle.jbig2_framing.specs.Sequential.{by_number, is_end_of_file, sequential, sorted_segments}
 use Rattle.jbig2_base.specs.declared.error.DecodeError.{DecodeError}
 use Rattle.jbig2_base.specs.declared.error.DecodeError.TheVariants.{Format, Segment, Unsupported}
 use Rattle.jbig2_base.specs.declared.error.FormatError.TheVariants.{InvalidEndOfPage, MissingPageInfo, PageCountMismatch, UnknownPageHeight}
@@ -29,15 +30,17 @@ use Rattle.jbig2_coder.specs.PrefixCode.{Member}
 use Rattle.jbig2_halftone.specs.HalftoneHeader.{HalftoneHeader, halftone_header_at}
 use Rattle.jbig2_halftone.specs.PatternHeader.{PatternHeader, pattern_header_at}
 use Rattle.jbig2_region.specs.GenericHeader.{GenericHeader, generic_header_at}
+use Rattle.jbig2_region.specs.Generic.{generic_decoded}
 use Rattle.jbig2_region.specs.RegionInfo.{PlacedRegion}
 use Rattle.jbig2_symbol.specs.SymbolHeader.{SymbolHeader, symbol_header_at}
 use Rattle.jbig2_symbol.specs.Symbols.{Symbols}
 use Rattle.jbig2_text.specs.TextHeader.{TextHeader, text_header_at}
-use Rattle.jbig2_page.specs.Files.{PageInFile, ReadFile, association_check, book_at, by_pages, ends_of, before_pages, pages_in_file, page_in_file, cut_off_of, lacks_page, left_out_of, miscounts, of_page, page_in, page_of, shared_by}
+use Rattle.jbig2_text.specs.TextRegion.{text_decoded}
+use Rattle.jbig2_page.specs.Files.{PageInFile, ReadFile, association_check, book_at, by_pages, ends_of, before_pages, pages_in_file, page_in_file, cut_off_of, lacks_page, left_out_of, miscounts, of_page, page_in, page_of, part_of_file, segments_at, shared_by, with_part}
 use Rattle.jbig2_page.specs.Lenient.{LenientReadingAgrees, ReadingsAgree, SalvageAgrees}
 use Rattle.jbig2_page.specs.Names.{Names, ReferredValues, KeptGlobals, nothing_shared, dictionary_lacks, or_shared_without, extension, first_kept, kept_by, kept_of, no_names, pattern_dictionary_at, referred_by, symbol_dictionary_at, with_code, with_dictionary, with_number, with_numbers, with_patterns, with_symbols, with_table, globals_at, shared_from}
-use Rattle.jbig2_page.specs.Page.{Drawing, ReadPage, beginning_of, drawing_of_page, page_from, ends_page, immediate, intermediate, lacks_referred, with_names, or_left_out, or_passed_over, or_told, blank_page, region_at, regions_height, segment_by, segment_on, segments_drawn, with_cut_off, with_drawn_region, known_height}
-use Rattle.jbig2_page.specs.Regions.{generic_at, halftone_at, patterns_for, referred_region, refinement_at, text_at}
+use Rattle.jbig2_page.specs.Page.{Drawing, ReadPage, beginning_of, drawing_of_page, page_from, page_segments, part_of_list, ends_page, immediate, intermediate, lacks_referred, with_names, or_left_out, or_passed_over, or_told, blank_page, region_at, regions_height, segment_by, segment_on, segments_drawn, with_cut_off, with_drawn_region, known_height}
+use Rattle.jbig2_page.specs.Regions.{generic_at, halftone_at, is_partial, with_whole_instances, with_whole_rows, patterns_for, referred_region, refinement_at, text_at}
 use Rattle.jbig2_page.specs.declared.kept.Kept.{Kept}
 use Rattle.jbig2_page.specs.declared.region.RegionKind.{RegionKind}
 use Rattle.jbig2_page.specs.declared.region.RegionKind.TheVariants as kinds
@@ -127,12 +130,17 @@ named-salvaged (p ∷ ps) shared =
     same-next (or_shared_without Lenient lacks p.header.segment_number shared kept) (or_shared_without Salvage lacks p.header.segment_number shared kept) _ _ (without-salvaged lacks p.header.segment_number shared kept) (λ more. named-salvaged ps more)
 
 -- ---- regions
+-- whole instances don't depend on the reading
+text-decoded-same : (partial : Bool) (h : TextHeader) (symbols : List Grid) (codes : List (List Member)) → Same (text_decoded (with_whole_instances partial h symbols codes) symbols codes) (text_decoded (with_whole_instances partial (lenient_text h) symbols codes) symbols codes)
+text-decoded-same true h symbols codes = text-same (with_whole_instances true h symbols codes) symbols codes
+text-decoded-same false h symbols codes = text-same h symbols codes
+
 text_at-same : (own shared : Names) (p : SegmentView) → Same (text_at true own shared p) (text_at false own shared p)
 unfolding text_at
 text_at-same own shared p =
     let view : TextHeader × List ℕ → TextHeader × List ℕ = λ h. (lenient_text h.0, h.1) in
     same-next (referred_by true own shared p.header.referred_to_segments) (referred_by false own shared p.header.referred_to_segments) _ _ (referred-same own shared p.header.referred_to_segments) (λ referred.
-    agrees-next view (λ s. s) (text_header_at (length referred.symbols) true p.bytes) (text_header_at (length referred.symbols) false p.bytes) _ _ (text-header-agrees (length referred.symbols) p.bytes) (λ header. text-same header.0 referred.symbols referred.codes))
+    agrees-next view (λ s. s) (text_header_at (length referred.symbols) true p.bytes) (text_header_at (length referred.symbols) false p.bytes) _ _ (text-header-agrees (length referred.symbols) p.bytes) (λ header. text-decoded-same (is_partial p) header.0 referred.symbols referred.codes))
 
 halftone_at-same : (own shared : Names) (p : SegmentView) → Same (halftone_at true own shared p) (halftone_at false own shared p)
 unfolding halftone_at
@@ -141,12 +149,21 @@ halftone_at-same own shared p =
     same-then (some_or (Segment MissingPatternDictionary) (patterns_for own shared p.header.referred_to_segments)) _ _ (λ patterns.
     agrees-next view (λ s. s) (halftone_header_at true p.bytes) (halftone_header_at false p.bytes) _ _ (halftone-header-agrees p.bytes) (λ header. halftone-same header.0 patterns))
 
+-- whole rows don't depend on the reading
+whole-same : (partial : Bool) (h : GenericHeader) → with_whole_rows partial (lenient_generic h) ≡ lenient_generic (with_whole_rows partial h)
+whole-same true h = refl
+whole-same false h = refl
+
+decoded-same : (partial : Bool) (h : GenericHeader) → Same (generic_decoded (with_whole_rows partial h)) (generic_decoded (with_whole_rows partial (lenient_generic h)))
+decoded-same partial h =
+    subst (λ (other : GenericHeader). Same (generic_decoded (with_whole_rows partial h)) (generic_decoded other)) (sym (whole-same partial h)) (generic-same (with_whole_rows partial h))
+
 generic_at-same : (is_intermediate : Bool) (p : SegmentView) → Same (generic_at true is_intermediate p) (generic_at false is_intermediate p)
 unfolding generic_at
 generic_at-same is_intermediate p =
     let view : GenericHeader × List ℕ → GenericHeader × List ℕ = λ h. (lenient_generic h.0, h.1) in
     let unknown : Bool = not is_intermediate && is_none p.header.data_length in
-    agrees-next view (λ s. s) (generic_header_at unknown true p.bytes) (generic_header_at unknown false p.bytes) _ _ (generic-header-agrees unknown p.bytes) (λ header. generic-same header.0)
+    agrees-next view (λ s. s) (generic_header_at unknown true p.bytes) (generic_header_at unknown false p.bytes) _ _ (generic-header-agrees unknown p.bytes) (λ header. decoded-same (is_partial p) header.0)
 
 referred_region-same : (numbers : List ℕ) (regions : List (Kept PlacedRegion)) → Same (referred_region true numbers regions) (referred_region false numbers regions)
 referred_region-same [] regions = refl
@@ -278,15 +295,24 @@ record SamePage (one other : Reading) (page twin : ReadPage) : Type 0 where
   cut_off : twin.cut_off ≡ page.cut_off
 
 -- what is known of a list that is read
-given : {X Y : Type 0} (R : X → Y → Type 0) (C : Type 0) (r : Result (List SegmentView) DecodeError) (next : List SegmentView → Result X DecodeError) (right : Result Y DecodeError) → IfOk r (λ ps. C)
-    → (C → Relates R ((r >>= λ ps. Ok (by_number ps)) >>= next) right) → Relates R ((r >>= λ ps. Ok (by_number ps)) >>= next) right
-given R C (Ok ps) next right is each = each is
-given R C (Err e) next right is each = tt
+given : {X Y : Type 0} (R : X → Y → Type 0) (C : Type 0) (r : Result (List SegmentView) DecodeError) (more : List SegmentView) (next : List SegmentView → Result X DecodeError) (right : Result Y DecodeError) → IfOk r (λ ps. C)
+    → (C → Relates R ((r >>= λ ps. Ok (by_number (ps ++ more))) >>= next) right) → Relates R ((r >>= λ ps. Ok (by_number (ps ++ more))) >>= next) right
+given R C (Ok ps) more next right is each = each is
+given R C (Err e) more next right is each = tt
 
-page-relates : (one other : Reading) → Milder one other → (names : Names) (bytes : List ℕ) → Relates (SamePage one other) (page_from one names bytes) (page_from other names bytes)
+-- the part of a segment that is taken as the last one
+abbrev part_of : Reading → List ℕ → List SegmentView
+part_of reading bytes = part_of_list reading (sequence_partial reading bytes)
+
+page-milder : (one other : Reading) → Milder one other → (bytes : List ℕ) → part_of one bytes ≡ part_of other bytes → Same (page_segments one bytes) (page_segments other bytes)
+page-milder one other m bytes part =
+    same-next (sequential one bytes) (sequential other bytes) _ _ (m.lists bytes) (λ ps.
+    ap (λ (more : List SegmentView). let r : Result (List SegmentView) DecodeError = Ok (by_number (ps ++ more)) in r) (sym part))
+
+page-relates : (one other : Reading) → Milder one other → (names : Names) (bytes : List ℕ) → part_of one bytes ≡ part_of other bytes → Relates (SamePage one other) (page_from one names bytes) (page_from other names bytes)
 unfolding page_from
-page-relates one other m names bytes = given (SamePage one other) (sequence_cut_off one bytes ≡ sequence_cut_off other bytes) (sequential one bytes) _ _ (m.sequences bytes) (λ cut.
-    relates-next (SamePage one other) (sorted_segments one bytes) (sorted_segments other bytes) _ _ (sorted-milder one other m bytes) (λ ps.
+page-relates one other m names bytes part = given (SamePage one other) (sequence_cut_off one bytes ≡ sequence_cut_off other bytes) (sequential one bytes) (part_of one bytes) _ _ (m.sequences bytes) (λ cut.
+    relates-next (SamePage one other) (page_segments one bytes) (page_segments other bytes) _ _ (page-milder one other m bytes part) (λ ps.
     relates-next (SamePage one other) (beginning_of one ps) (beginning_of other ps) _ _ (m.begins ps) (λ initial_page. (
       record { reading = other; initial_page = initial_page; segments = ps; globals = Ok names; cut_off = sequence_cut_off other bytes },
       refl,
@@ -332,15 +358,21 @@ record SameFile (one other : Reading) (book twin : ReadFile) : Type 0 where
   cut_off : twin.cut_off ≡ book.cut_off
 
 -- what is known of a file that is read
-given-file : {X Y : Type 0} (R : X → Y → Type 0) (C : Type 0) (r : Result (FileHeader × List SegmentView) DecodeError) (next : FileHeader × List SegmentView → Result X DecodeError) (right : Result Y DecodeError) → IfOk r (λ file. C)
-    → (C → Relates R (r >>= next) right) → Relates R (r >>= next) right
-given-file R C (Ok file) next right is each = each is
-given-file R C (Err e) next right is each = tt
+given-file : {X Y : Type 0} (R : X → Y → Type 0) (C : Type 0) (r : Result (FileHeader × List SegmentView) DecodeError) (more : List SegmentView) (next : FileHeader × List SegmentView → Result X DecodeError) (right : Result Y DecodeError) → IfOk r (λ file. C)
+    → (C → Relates R ((r >>= λ file. Ok (file.0, with_part more file.1)) >>= next) right) → Relates R ((r >>= λ file. Ok (file.0, with_part more file.1)) >>= next) right
+given-file R C (Ok file) more next right is each = each is
+given-file R C (Err e) more next right is each = tt
 
-book-relates : (one other : Reading) → Milder one other → (bytes : List ℕ) → Relates (SameFile one other) (book_at one bytes) (book_at other bytes)
-unfolding book_at
-book-relates one other m bytes = given-file (SameFile one other) (file_cut_off one bytes ≡ file_cut_off other bytes) (file_at one bytes) _ _ (m.cut_files bytes) (λ cut.
-    relates-next (SameFile one other) (file_at one bytes) (file_at other bytes) _ _ (m.files bytes) (λ file.
+file-milder : (one other : Reading) → Milder one other → (bytes : List ℕ) → part_of_file one bytes ≡ part_of_file other bytes → Same (segments_at one bytes) (segments_at other bytes)
+unfolding segments_at
+file-milder one other m bytes part =
+    same-next (file_at one bytes) (file_at other bytes) _ _ (m.files bytes) (λ file.
+    ap (λ (more : List SegmentView). let r : Result (FileHeader × List SegmentView) DecodeError = Ok (file.0, with_part more file.1) in r) (sym part))
+
+book-relates : (one other : Reading) → Milder one other → (bytes : List ℕ) → part_of_file one bytes ≡ part_of_file other bytes → Relates (SameFile one other) (book_at one bytes) (book_at other bytes)
+unfolding book_at segments_at
+book-relates one other m bytes part = given-file (SameFile one other) (file_cut_off one bytes ≡ file_cut_off other bytes) (file_at one bytes) (part_of_file one bytes) _ _ (m.cut_files bytes) (λ cut.
+    relates-next (SameFile one other) (segments_at one bytes) (segments_at other bytes) _ _ (file-milder one other m bytes part) (λ file.
     relates-next (SameFile one other) (association_check (is_strict one) file.1) (association_check (is_strict other) file.1) _ _ (m.associations file.1) (λ known.
     relates-next (SameFile one other) (refuse_if (is_strict one && miscounts file.0.number_of_pages (length (by_pages file.1))) (Format PageCountMismatch)) (refuse_if (is_strict other && miscounts file.0.number_of_pages (length (by_pages file.1))) (Format PageCountMismatch)) _ _ (m.strictly (miscounts file.0.number_of_pages (length (by_pages file.1))) (Format PageCountMismatch)) (λ counted.
     relates-next (SameFile one other) (pages_in_file one (by_pages file.1)) (pages_in_file other (by_pages file.1)) _ _ (each-same one other m (by_pages file.1)) (λ pages. (
@@ -413,19 +445,53 @@ globals-salvaged : (bytes : List ℕ) → Same (globals_at Lenient bytes) (globa
 unfolding globals_at
 globals-salvaged bytes = same-next (sorted_segments Lenient bytes) (sorted_segments Salvage bytes) _ _ (sorted-salvaged bytes) (λ ps. named-salvaged ps (nothing_shared (sequence_cut_off Lenient bytes)))
 
-agree : (one other : Reading) → Milder one other → ((bytes : List ℕ) → Same (globals_at one bytes) (globals_at other bytes)) → ReadingsAgree one other
-agree one other m globals = record {
+-- a list that doesn't end early has no part of a segment
+pub no-part : (bytes : List ℕ) → sequence_cut_off Salvage bytes ≡ None → sequence_partial Salvage bytes ≡ None
+no-part bytes whole = by (first_refused (segment_at false) ends (length bytes) bytes) whole
+  where
+    ends : SegmentView → Bool
+    ends p = is_end_of_file p.header.segment_type
+
+    by : (place : Option (List ℕ × DecodeError)) → with_place false place ≡ None → with_partial false place ≡ None
+    by None is = refl
+    by (Some place) is = absurd (cc)
+
+-- the same of a file
+abbrev cut_in : Result (FileHeader × List ℕ) DecodeError → Option CutOff
+cut_in (Ok header) = cut_off_by header.0.organization Lenient header.1
+cut_in (Err e) = None
+
+abbrev part_in : Result (FileHeader × List ℕ) DecodeError → Option SegmentView
+part_in (Ok header) = partial_by header.0.organization Salvage header.1
+part_in (Err e) = None
+
+no-file-part : (bytes : List ℕ) → file_cut_off Lenient bytes ≡ None → file_partial Salvage bytes ≡ None
+unfolding file_cut_off file_partial
+no-file-part bytes whole = by (file_header_at bytes) whole
+  where
+    organized : (organization : FileOrganization) (rest : List ℕ) → cut_off_by organization Lenient rest ≡ None → partial_by organization Salvage rest ≡ None
+    organized Sequential rest none = no-part rest none
+    organized RandomAccess rest none = refl
+
+    by : (header : Result (FileHeader × List ℕ) DecodeError) → cut_in header ≡ None → part_in header ≡ None
+    by (Ok header) none = organized header.0.organization header.1 none
+    by (Err e) none = refl
+
+agree : (one other : Reading) (IsPage IsFile : List ℕ → Type 0) → Milder one other → ((bytes : List ℕ) → IsPage bytes → part_of one bytes ≡ part_of other bytes) → ((bytes : List ℕ) → IsFile bytes → part_of_file one bytes ≡ part_of_file other bytes) → ((bytes : List ℕ) → Same (globals_at one bytes) (globals_at other bytes)) → ReadingsAgree one other IsPage IsFile
+agree one other IsPage IsFile m part file_part globals = record {
   globals = globals;
-  page = λ names bytes. relates-last (SamePage one other) (page_from one names bytes) (page_from other names bytes) _ _ (page-relates one other m names bytes) (λ page twin same.
+  page = λ names bytes of. relates-last (SamePage one other) (page_from one names bytes) (page_from other names bytes) _ _ (page-relates one other m names bytes (part bytes of)) (λ page twin same.
       ap (λ (initial_page : InitialPage). let r : Result InitialPage DecodeError = Ok initial_page in r) same.initial_page);
-  drawing = λ names bytes. relates-last (SamePage one other) (page_from one names bytes) (page_from other names bytes) _ _ (page-relates one other m names bytes) (λ page twin same. page-same one other m page twin same);
-  pages = λ bytes. relates-last (SameFile one other) (book_at one bytes) (book_at other bytes) _ _ (book-relates one other m bytes) (λ book twin same.
+  drawing = λ names bytes of. relates-last (SamePage one other) (page_from one names bytes) (page_from other names bytes) _ _ (page-relates one other m names bytes (part bytes of)) (λ page twin same. page-same one other m page twin same);
+  pages = λ bytes of. relates-last (SameFile one other) (book_at one bytes) (book_at other bytes) _ _ (book-relates one other m bytes (file_part bytes of)) (λ book twin same.
       ap (λ (pages : List PageInFile). let r : Result (List PageInFile) DecodeError = Ok pages in r) same.pages);
-  drawings = λ bytes index. relates-last (SameFile one other) (book_at one bytes) (book_at other bytes) _ _ (book-relates one other m bytes) (λ book twin same. file-drawn one other m book twin index same);
+  drawings = λ bytes index of. relates-last (SameFile one other) (book_at one bytes) (book_at other bytes) _ _ (book-relates one other m bytes (file_part bytes of)) (λ book twin same. file-drawn one other m book twin index same);
 }
 
 pub lenient_reading_agrees : LenientReadingAgrees
-lenient_reading_agrees = agree Strict Lenient strict-lenient globals-strictly
+lenient_reading_agrees = agree Strict Lenient _ _ strict-lenient (λ bytes _. refl) (λ bytes _. refl) globals-strictly
 
 pub salvage_agrees : SalvageAgrees
-salvage_agrees = agree Lenient Salvage lenient-salvage globals-salvaged
+salvage_agrees =
+    agree Lenient Salvage _ _ lenient-salvage (λ bytes whole. sym (ap (λ (o : Option SegmentView). part_of_list Salvage o) (no-part bytes whole)))
+    (λ bytes whole. sym (ap (λ (o : Option SegmentView). part_of_list Salvage o) (no-file-part bytes whole))) globals-salvaged

@@ -1,5 +1,5 @@
 -- Where strict reading accepts, lenient reading gives the same: text regions.
-use Rattle.std.proofs.Common.{ℕ, zero, suc, ◌-◌, ◌*◌, eqb, Bool, true, false, ◌||◌, nat_lt, cond, ℤ, pos, ◌-ℤ◌, ◌+ℤ◌, List, [], Option, Some, None, Result, Ok, Err, refl}
+use Rattle.std.proofs.Common.{ℕ, zero, suc, ◌-◌, ◌*◌, eqb, Bool, true, false, ◌||◌, nat_lt, cond, ℤ, pos, ◌-ℤ◌, ◌+ℤ◌, List, Option, Some, None, Result, Ok, Err, refl}
 use Rattle.std.specs.Option.{is_some}
 use Rattle.jbig2_base.specs.Results.{◌>>=◌, refuse_if}
 use Rattle.jbig2_base.specs.Grid.{Grid, blank}

@@ -7,7 +7,6 @@ use Rattle.std.specs.Prelude.{slice_get, option_map}
 use Rattle.jbig2_base.proofs.Causes.{went}
 use Rattle.jbig2_base.specs.Results.{◌>>=◌, refuse_if}
 use Rattle.jbig2_framing.specs.PageInfo.{initial_page_with, first_information, information_at, is_page_information, height_of}
-use Rattle.jbig2_framing.specs.File.{file_at}
 use Rattle.jbig2_framing.specs.CutOff.{file_cut_off}
 use Rattle.jbig2_framing.specs.Reading.{is_salvaged, is_strict}
 use Rattle.jbig2_framing.specs.declared.cut_off.CutOff.{CutOff}
@@ -21,8 +20,7 @@ use Rattle.jbig2_framing.specs.declared.file_header.FileHeader.{FileHeader}
 use Rattle.jbig2_framing.specs.declared.page_info.PageInformation.{PageInformation}
 use Rattle.jbig2_framing.specs.declared.page_info.InitialPage.{InitialPage}
 use Rattle.jbig2_framing.specs.declared.reading.Reading.{Reading}
-use Rattle.jbig2_framing.specs.declared.reading.Reading.TheVariants.{Lenient}
-use Rattle.jbig2_page.specs.Files.{PageInFile, ReadFile, of_page, by_pages, ends_of, error_of, before_pages, cut_off_of, page_in_file, pages_in_file, left_out_of, numbers_after, miscounts, association_check, book_at, page_in, shared_by, PagesStandAlone}
+use Rattle.jbig2_page.specs.Files.{PageInFile, ReadFile, of_page, by_pages, ends_of, error_of, before_pages, cut_off_of, page_in_file, pages_in_file, left_out_of, numbers_after, miscounts, association_check, book_at, page_in, segments_at, shared_by, PagesStandAlone}
 use Rattle.jbig2_page.specs.Names.{shared_from, names_of, nothing_shared}
 use Rattle.jbig2_page.specs.Page.{ReadPage, beginning_of, known_height}
 use Rattle.jbig2_page.specs.SharedWork.{shared_count}
@@ -169,7 +167,7 @@ filled reading cut_off file book h =
     subst (λ (b : ReadFile). Filled reading cut_off file b) same is
 
 -- a book of these bytes
-pub filled_from : (reading : Reading) (bytes : List ℕ) (file : FileHeader × List SegmentView) (book : ReadFile) → file_at reading bytes ≡ Ok file → book_at reading bytes ≡ Ok book → Filled reading (file_cut_off reading bytes) file book
+pub filled_from : (reading : Reading) (bytes : List ℕ) (file : FileHeader × List SegmentView) (book : ReadFile) → segments_at reading bytes ≡ Ok file → book_at reading bytes ≡ Ok book → Filled reading (file_cut_off reading bytes) file book
 unfolding book_at
 filled_from reading bytes file book read h =
     let cut_off : Option CutOff = file_cut_off reading bytes in
@@ -177,10 +175,10 @@ filled_from reading bytes file book read h =
     filled reading cut_off file book with_file
 
 -- a book was read from a file
-pub file-of_book : (reading : Reading) (bytes : List ℕ) (book : ReadFile) → book_at reading bytes ≡ Ok book → (file : FileHeader × List SegmentView) × (file_at reading bytes ≡ Ok file)
+pub file-of_book : (reading : Reading) (bytes : List ℕ) (book : ReadFile) → book_at reading bytes ≡ Ok book → (file : FileHeader × List SegmentView) × (segments_at reading bytes ≡ Ok file)
 unfolding book_at
 file-of_book reading bytes book h =
-    let file = went (file_at reading bytes) (book_with reading (file_cut_off reading bytes)) book h in
+    let file = went (segments_at reading bytes) (book_with reading (file_cut_off reading bytes)) book h in
     (file.0, file.1)
 
 -- a file with a page shares its globals

@@ -3,7 +3,6 @@ use Rattle.std.proofs.Common.{◌≡◌, ◌≢◌, ◌⊎◌, ℕ, suc, Bool, t
 use Rattle.std.proofs.lemmas.Bool.{and_parts, eq-eqb, eqb-true, false≢true, not-true}
 use Rattle.std.specs.Prelude.{Any, IfErr, IsTrue, option_map}
 use Rattle.jbig2_base.specs.Results.{refuse_if, some_or}
-use Rattle.jbig2_framing.specs.File.{file_at}
 use Rattle.jbig2_framing.specs.PageInfo.{initial_page_of}
 use Rattle.jbig2_framing.specs.Reading.{is_salvaged, is_strict}
 use Rattle.jbig2_framing.specs.Segment.{SegmentView}
@@ -24,7 +23,7 @@ use Rattle.jbig2_framing.proofs.InitialCauses.{initial_page_causes}
 use Rattle.jbig2_region.proofs.ResultCauses.{cause-if, cause-more}
 use Rattle.jbig2_symbol.proofs.ReadingCauses.{in-steps}
 use Rattle.jbig2_page.specs.Causes.{BreaksBook, BreaksFirstPage, BreaksPages}
-use Rattle.jbig2_page.specs.Files.{PageInFile, ReadFile, association_check, book_at, by_pages, ends_of, before_pages, pages_in_file, page_in_file, lacks_page, miscounts, needs_page, page_in, page_of}
+use Rattle.jbig2_page.specs.Files.{PageInFile, ReadFile, association_check, book_at, by_pages, ends_of, before_pages, pages_in_file, page_in_file, lacks_page, miscounts, needs_page, page_in, page_of, segments_at}
 use Rattle.jbig2_page.specs.Page.{ReadPage, beginning_of}
 use Rattle.jbig2_page.proofs.FromInput.{from_input-beginning}
 use Rattle.jbig2_page.proofs.Salvaging.{left-out}
@@ -131,7 +130,7 @@ any-cause (Err e) = tt
 file_causes : (reading : Reading) (bytes : List ℕ) → IfErr (book_at reading bytes) (BreaksBook reading bytes)
 unfolding book_at
 file_causes reading bytes =
-    in-steps (file_at reading bytes) _ (λ e. Unit {0}) (λ file. BreaksPages reading file.0 file.1) (any-cause (file_at reading bytes)) (λ file file_is.
+    in-steps (segments_at reading bytes) _ (λ e. Unit {0}) (λ file. BreaksPages reading file.0 file.1) (any-cause (segments_at reading bytes)) (λ file file_is.
     let P : DecodeError → Type 0 = BreaksPages reading file.0 file.1 in
     let wrong : Bool = miscounts file.0.number_of_pages (length (by_pages file.1)) in
     cause-next P (association_check (is_strict reading) file.1) _ (associated-cause P (is_strict reading) file.1 (λ is some. (is, some))) (λ known known_is.

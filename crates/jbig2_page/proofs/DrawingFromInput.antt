@@ -16,7 +16,7 @@ use Rattle.jbig2_page.specs.Causes.{ErrorsAreFromInput, IsFromInput}
 use Rattle.jbig2_page.specs.Calls.{Conduct, Decodes}
 use Rattle.jbig2_page.specs.Files.{PageInFile, ReadFile, book_at, shared_by}
 use Rattle.jbig2_page.specs.Image.{image_of_page}
-use Rattle.jbig2_page.specs.Page.{Drawing, ReadPage, drawing_of_page, grid_of_page, blank_page}
+use Rattle.jbig2_page.specs.Page.{Drawing, ReadPage, drawing_of_page, grid_of_page}
 use Rattle.jbig2_page.specs.Returned.{IsReturned}
 use Rattle.jbig2_page.proofs.FromInput.{from_input-book, from_input-book_globals, from_input-drawing, from_input-embedded, from_input-globals, from_input-grid, from_input-shared}
 

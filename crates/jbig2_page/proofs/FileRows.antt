@@ -1,7 +1,7 @@
 -- Worked rows of files, computed from the definitions alone: from bytes to pages, calls and images, or an error.
 use Rattle.std.proofs.Common.{◌≡◌, ℕ, Bool, true, false, List, [], ◌∷◌, ◌++◌, map, replicate, Result, Ok, Err, refl}
 use Rattle.jbig2_base.specs.Results.{◌>>=◌}
-use Rattle.jbig2_framing.specs.CutOff.{file_cut_off, first_refused}
+use Rattle.jbig2_framing.specs.CutOff.{file_cut_off, file_partial, first_refused}
 use Rattle.jbig2_framing.specs.File.{file_at, headers_in, identification, file_header_at}
 use Rattle.jbig2_base.specs.Grid.{table, pixel_at}
 use Rattle.jbig2_framing.specs.PageInfo.{information_at}
@@ -16,7 +16,7 @@ use Rattle.jbig2_framing.specs.Reading.{reading_of}
 use Rattle.jbig2_framing.specs.declared.reading.Reading.{Reading}
 use Rattle.jbig2_framing.specs.declared.reading.Reading.TheVariants.{Strict, Lenient}
 use Rattle.jbig2_page.specs.Calls.{Call, Chunk, Line, whole_calls, row_of, calls_of}
-use Rattle.jbig2_page.specs.Files.{page_in_file, book_at, pages_of}
+use Rattle.jbig2_page.specs.Files.{page_in_file, book_at, pages_of, segments_at}
 use Rattle.jbig2_page.specs.Image.{first_page, first_size, first_image, image_of}
 use Rattle.jbig2_page.specs.Names.{globals_at}
 use Rattle.jbig2_page.specs.Page.{beginning_of, grid_of_page}
@@ -47,31 +47,31 @@ abbrev headed : ℕ → List ℕ → List ℕ
 headed flags bytes = identification ++ (flags ∷ 0 ∷ 0 ∷ 0 ∷ 1 ∷ bytes)
 
 row_1-empty : (reading : Reading) → book_at reading [] ≡ Err (Parse UnexpectedEof)
-unfolding book_at file_at file_header_at file_cut_off
+unfolding book_at file_at segments_at file_header_at file_cut_off file_partial
 row_1-empty reading = refl
 
 row_1-header : (reading : Reading) → book_at reading (replicate 8 0) ≡ Err (Format InvalidHeader)
-unfolding book_at file_at file_header_at file_cut_off
+unfolding book_at file_at segments_at file_header_at file_cut_off file_partial
 row_1-header reading = refl
 
 row_1-reserved : (reading : Reading) → book_at reading (identification ++ 17 ∷ []) ≡ Err (Format ReservedBits)
-unfolding book_at file_at file_header_at file_cut_off
+unfolding book_at file_at segments_at file_header_at file_cut_off file_partial
 row_1-reserved reading = refl
 
 row_1-strict : calls_in true (identification ++ 3 ∷ []) ≡ Ok []
-unfolding calls_in book_at file_at file_header_at segments_in file_cut_off first_refused
+unfolding calls_in book_at file_at segments_at file_header_at segments_in file_cut_off file_partial first_refused
 row_1-strict = refl
 
 row_1-lenient : calls_in false (identification ++ 3 ∷ []) ≡ Ok []
-unfolding calls_in book_at file_at file_header_at segments_in file_cut_off first_refused
+unfolding calls_in book_at file_at segments_at file_header_at segments_in file_cut_off file_partial first_refused
 row_1-lenient = refl
 
 row_2-strict : book_at Strict (headed 1 []) ≡ Err (Format PageCountMismatch)
-unfolding book_at file_at file_header_at segments_in file_cut_off first_refused
+unfolding book_at file_at segments_at file_header_at segments_in file_cut_off file_partial first_refused
 row_2-strict = refl
 
 row_2-lenient : calls_in false (headed 1 []) ≡ Ok []
-unfolding calls_in book_at file_at file_header_at segments_in file_cut_off first_refused
+unfolding calls_in book_at file_at segments_at file_header_at segments_in file_cut_off file_partial first_refused
 row_2-lenient = refl
 
 row_3-count : globals_at Strict (0 ∷ 0 ∷ 0 ∷ 1 ∷ 48 ∷ 160 ∷ []) ≡ Err (Segment InvalidReferredCount)
@@ -83,34 +83,34 @@ unfolding globals_at segments_in segment_at header_at referred_at count_at type_
 row_3-reference = refl
 
 row_16 : calls_in true (headed 1 (page_header ++ (page_data ++ end_of_page))) ≡ Ok one_white
-unfolding calls_in book_at file_at file_header_at segments_in segment_at header_at referred_at count_at type_of page_in_file beginning_of information_at grid_of_page table pixel_at calls_of row_of whole_calls file_cut_off first_refused
+unfolding calls_in book_at file_at segments_at file_header_at segments_in segment_at header_at referred_at count_at type_of page_in_file beginning_of information_at grid_of_page table pixel_at calls_of row_of whole_calls file_cut_off file_partial first_refused
 row_16 = refl
 
 row_16-unended : book_at Strict (headed 1 (page_header ++ page_data)) ≡ Err (Format InvalidEndOfPage)
-unfolding book_at file_at file_header_at segments_in segment_at header_at referred_at count_at type_of page_in_file file_cut_off first_refused
+unfolding book_at file_at segments_at file_header_at segments_in segment_at header_at referred_at count_at type_of page_in_file file_cut_off file_partial first_refused
 row_16-unended = refl
 
 row_16-headers_first : calls_in true (headed 0 (page_header ++ (end_of_page ++ (end_of_file ++ page_data)))) ≡ Ok one_white
-unfolding calls_in book_at file_at file_header_at headers_in header_at referred_at count_at type_of page_in_file beginning_of information_at grid_of_page table pixel_at calls_of row_of whole_calls file_cut_off first_refused
+unfolding calls_in book_at file_at segments_at file_header_at headers_in header_at referred_at count_at type_of page_in_file beginning_of information_at grid_of_page table pixel_at calls_of row_of whole_calls file_cut_off file_partial first_refused
 row_16-headers_first = refl
 
 row_R9_3-size : first_size (headed 1 (page_header ++ (page_data ++ end_of_page))) ≡ Ok (8, 1)
-unfolding first_page book_at file_at file_header_at segments_in segment_at header_at referred_at count_at type_of page_in_file beginning_of information_at file_cut_off first_refused
+unfolding first_page book_at file_at segments_at file_header_at segments_in segment_at header_at referred_at count_at type_of page_in_file beginning_of information_at file_cut_off file_partial first_refused
 row_R9_3-size = refl
 
 row_R9_3-image : first_image (headed 1 (page_header ++ (page_data ++ end_of_page))) ≡ Ok (replicate 8 255)
-unfolding first_page book_at file_at file_header_at segments_in segment_at header_at referred_at count_at type_of page_in_file beginning_of information_at grid_of_page table pixel_at image_of file_cut_off first_refused
+unfolding first_page book_at file_at segments_at file_header_at segments_in segment_at header_at referred_at count_at type_of page_in_file beginning_of information_at grid_of_page table pixel_at image_of file_cut_off file_partial first_refused
 row_R9_3-image = refl
 
 row_R9_4 : first_image (identification ++ 3 ∷ []) ≡ Err (Format MissingPageInfo)
-unfolding first_page book_at file_at file_header_at segments_in file_cut_off first_refused
+unfolding first_page book_at file_at segments_at file_header_at segments_in file_cut_off file_partial first_refused
 row_R9_4 = refl
 
 -- cut after its header
 row_R13_5-strict : book_at Strict (headed 0 []) ≡ Err (Format PageCountMismatch)
-unfolding book_at file_at file_header_at headers_in file_cut_off first_refused
+unfolding book_at file_at segments_at file_header_at headers_in file_cut_off file_partial first_refused
 row_R13_5-strict = refl
 
 row_R13_5-lenient : calls_in false (headed 0 []) ≡ Ok []
-unfolding calls_in book_at file_at file_header_at headers_in file_cut_off first_refused
+unfolding calls_in book_at file_at segments_at file_header_at headers_in file_cut_off file_partial first_refused
 row_R13_5-lenient = refl

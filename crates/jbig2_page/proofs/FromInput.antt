@@ -15,7 +15,7 @@ use Rattle.jbig2_framing.specs.declared.reading.Reading.{Reading}
 use Rattle.jbig2_framing.specs.declared.segment.SegmentType.{SegmentType}
 use Rattle.jbig2_framing.specs.declared.segment.SegmentType.TheVariants as types
 use Rattle.jbig2_base.proofs.FromInput.{FromInput, from_input-if, from_input-next, from_input-number, from_input-refusal}
-use Rattle.jbig2_framing.proofs.FromInput.{from_input-file, from_input-initial_page_by, from_input-sorted}
+use Rattle.jbig2_framing.proofs.FromInput.{from_input-file, from_input-initial_page_by, from_input-sequential, from_input-sorted}
 use Rattle.jbig2_coder.specs.PrefixCode.{Member}
 use Rattle.jbig2_coder.proofs.FromInput.{from_input-custom}
 use Rattle.jbig2_halftone.specs.Patterns.{Patterns}
@@ -26,7 +26,7 @@ use Rattle.jbig2_symbol.specs.Symbols.{Symbols}
 use Rattle.jbig2_symbol.proofs.FromInput.{from_input-symbol_header, from_input-symbols_decoded}
 use Rattle.jbig2_text.proofs.RegionsFromInput.{from_input-text, from_input-text_header}
 use Rattle.jbig2_page.specs.Names.{Names, ReferredValues, KeptGlobals, dictionary_lacks, extension, nothing_shared, or_shared_without, kept_by, no_names, pattern_dictionary_at, symbol_dictionary_at, with_code, with_dictionary, with_number, with_numbers, with_patterns, with_symbols, with_table, globals_at, shared_from}
-use Rattle.jbig2_page.specs.Files.{PageInFile, ReadFile, association_check, book_at, by_pages, before_pages, pages_in_file, page_in_file, miscounts, of_page, shared_by}
+use Rattle.jbig2_page.specs.Files.{PageInFile, ReadFile, association_check, book_at, by_pages, before_pages, pages_in_file, page_in_file, miscounts, of_page, shared_by, segments_at}
 use Rattle.jbig2_page.specs.Image.{first_page}
 use Rattle.jbig2_page.specs.Page.{Drawing, ReadPage, beginning_of, page_from, grid_of_page, immediate, intermediate, lacks_referred, with_names, or_left_out, or_passed_over, or_told, blank_page, drawing_of_page, region_at, segment_by, segment_on, segments_drawn, with_drawn_region, known_height}
 use Rattle.jbig2_page.specs.Regions.{generic_at, halftone_at, referred_region, refinement_at, text_at}
@@ -187,7 +187,7 @@ from_input-beginning reading ps = from_input-initial_page_by (known_height readi
 
 pub from_input-embedded : (reading : Reading) (globals : Names) (bytes : List ℕ) → FromInput (page_from reading globals bytes)
 unfolding page_from
-from_input-embedded reading globals bytes = search (from_input-next, from_input-sorted, from_input-beginning)
+from_input-embedded reading globals bytes = search (from_input-next, from_input-sequential, from_input-beginning)
 
 pub from_input-associated : (strict : Bool) (ps : List SegmentView) → FromInput (association_check strict ps)
 from_input-associated strict [] = tt
@@ -209,8 +209,12 @@ pub from_input-shared : (reading : Reading) (pages : List PageInFile) (shared : 
 from_input-shared reading [] shared = tt
 from_input-shared reading (page ∷ pages) shared = from_input-named reading shared (nothing_shared None)
 
+pub from_input-segments_at : (reading : Reading) (bytes : List ℕ) → FromInput (segments_at reading bytes)
+unfolding segments_at
+from_input-segments_at reading bytes = from_input-next (file_at reading bytes) _ (from_input-file reading bytes) (λ file. tt)
+
 pub from_input-book : (reading : Reading) (bytes : List ℕ) → FromInput (book_at reading bytes)
-unfolding book_at
+unfolding book_at segments_at
 from_input-book reading bytes = search (from_input-next, from_input-file, from_input-associated, from_input-refusal, from_input-each) depth 8
 
 -- what holds of the last step's value holds of the whole
@@ -223,7 +227,7 @@ pub from_input-book_globals : (reading : Reading) (bytes : List ℕ) → IfOk (b
 unfolding book_at
 from_input-book_globals reading bytes =
     let P : ReadFile → Type 0 = λ book. FromInput book.globals in
-    from_input-last P (file_at reading bytes) _ (λ file.
+    from_input-last P (segments_at reading bytes) _ (λ file.
     from_input-last P (association_check (is_strict reading) file.1) _ (λ known.
     from_input-last P (refuse_if (is_strict reading && miscounts file.0.number_of_pages (length (by_pages file.1))) _) _ (λ counted.
     from_input-last P (pages_in_file reading (by_pages file.1)) _ (λ pages. from_input-shared reading pages (of_page 0 file.1)))))

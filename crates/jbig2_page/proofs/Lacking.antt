@@ -3,7 +3,7 @@ use Rattle.std.proofs.Common.{◌≡◌, ℕ, ◌&&◌, ◌||◌, Bool, true, fa
 use Rattle.std.specs.Option.{option_map_or}
 use Rattle.std.specs.Prelude.{is_none}
 use Rattle.jbig2_base.proofs.Causes.{went}
-use Rattle.jbig2_base.specs.Results.{◌>>=◌, refuse_if}
+use Rattle.jbig2_base.specs.Results.{refuse_if}
 use Rattle.jbig2_base.specs.Grid.{Grid}
 use Rattle.jbig2_base.specs.declared.error.DecodeError.{DecodeError}
 use Rattle.jbig2_base.specs.declared.error.DecodeError.TheVariants.{Segment}
@@ -15,7 +15,7 @@ use Rattle.jbig2_coder.specs.PrefixCode.{Member}
 use Rattle.jbig2_region.specs.RegionInfo.{PlacedRegion}
 use Rattle.jbig2_symbol.specs.Symbols.{Symbols}
 use Rattle.jbig2_page.specs.Names.{Names, ReferredValues, any_names_nothing, first_kept, kept_of, names_nothing, referred_by, symbol_dictionary_at, with_dictionary, with_number, with_numbers, with_symbols, with_table}
-use Rattle.jbig2_page.specs.Page.{Drawing, immediate, intermediate, lacks_referred, lacks_region, or_passed_over, region_at, segment_by, with_drawn_region, with_names, with_region}
+use Rattle.jbig2_page.specs.Page.{Drawing, immediate, intermediate, lacks_referred, lacks_region, or_passed_over, region_at, segment_by, with_drawn_region, with_region}
 use Rattle.jbig2_page.specs.Regions.{referred_region, refinement_at, text_at}
 use Rattle.jbig2_page.specs.declared.kept.Kept.{Kept}
 use Rattle.jbig2_page.specs.declared.region.RegionKind.{RegionKind}

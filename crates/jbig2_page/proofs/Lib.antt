@@ -34,6 +34,8 @@ mod Shades
 pub mod Sides
 pub mod Spelling
 pub mod Untouched
+mod WorkedParts
 mod WorkedRefinements
 mod WorkedRows
+mod WholeRows
 mod WorkedTexts

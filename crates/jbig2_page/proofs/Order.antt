@@ -2,16 +2,15 @@
 use Rattle.std.proofs.Common.{◌≡◌, ◌≢◌, ℕ, ◌<◌, Bool, true, false, cond, nat_lt, List, [], ◌∷◌, ◌++◌, Option, Result, Ok, Err, refl, sym, ap, ◌∙◌, arith}
 use Rattle.std.proofs.lemmas.Bool.{cond-true, cond-false, cond_both, ltb-true, ltb-false, lt-ltb, le-ltb}
 use Rattle.jbig2_base.specs.Results.{◌>>=◌}
-use Rattle.jbig2_framing.specs.CutOff.{sequence_cut_off}
+use Rattle.jbig2_framing.specs.CutOff.{sequence_cut_off, sequence_partial}
 use Rattle.jbig2_framing.specs.declared.cut_off.CutOff.{CutOff}
 use Rattle.jbig2_framing.specs.Segment.{SegmentView}
 use Rattle.jbig2_framing.specs.Sequential.{by_number, insert_by, sequential, sorted_segments}
 use Rattle.jbig2_base.specs.declared.error.DecodeError.{DecodeError}
 use Rattle.jbig2_framing.specs.declared.reading.Reading.{Reading}
-use Rattle.jbig2_framing.specs.declared.reading.Reading.TheVariants.{Lenient}
 use Rattle.jbig2_page.specs.Names.{Names, globals_at, shared_from, nothing_shared}
 use Rattle.jbig2_page.specs.Order.{EndOfPageEnds, IsReordered, OrderChangesNothing, Unchanged, After, Exchanged, Then}
-use Rattle.jbig2_page.specs.Page.{Drawing, ReadPage, beginning_of, drawing_with, page_from, ends_page, blank_page, segment_on, segments_drawn, with_cut_off}
+use Rattle.jbig2_page.specs.Page.{Drawing, ReadPage, beginning_of, drawing_with, page_from, page_segments, part_of_list, ends_page, blank_page, segment_on, segments_drawn, with_cut_off}
 
 -- ---- order
 abbrev number : SegmentView → ℕ
@@ -59,13 +58,29 @@ sorted-as reading bytes others ps qs one other moved =
     let sorted : Result (List SegmentView) DecodeError → Result (List SegmentView) DecodeError = λ r. r >>= λ xs. Ok (by_number xs) in
     ap sorted one ∙ ap (λ (xs : List SegmentView). let r : Result (List SegmentView) DecodeError = Ok xs in r) (reordered-sorted ps qs moved) ∙ sym (ap sorted other)
 
+-- the same before others
+with-others : (ps qs others : List SegmentView) → IsReordered ps qs → IsReordered (ps ++ others) (qs ++ others)
+with-others ps qs others (Unchanged rs) = Unchanged (rs ++ others)
+with-others ps qs others (After p before after more) = After p (before ++ others) (after ++ others) (with-others before after others more)
+with-others ps qs others (Exchanged p q rs differ) = Exchanged p q (rs ++ others) differ
+with-others ps qs others (Then before middle after one other) = Then (before ++ others) (middle ++ others) (after ++ others) (with-others before middle others one) (with-others middle after others other)
+
+page-sorted-as : (reading : Reading) (bytes others : List ℕ) (ps qs : List SegmentView) → sequential reading bytes ≡ Ok ps → sequential reading others ≡ Ok qs → IsReordered ps qs → sequence_partial reading bytes ≡ sequence_partial reading others → page_segments reading bytes ≡ page_segments reading others
+page-sorted-as reading bytes others ps qs one other moved part =
+    let more : List SegmentView = part_of_list reading (sequence_partial reading bytes) in
+    let sorted : Result (List SegmentView) DecodeError → Result (List SegmentView) DecodeError = λ r. r >>= λ xs. Ok (by_number (xs ++ more)) in
+    ap sorted one
+    ∙ ap (λ (xs : List SegmentView). let r : Result (List SegmentView) DecodeError = Ok xs in r) (reordered-sorted (ps ++ more) (qs ++ more) (with-others ps qs more moved))
+    ∙ sym (ap sorted other)
+    ∙ ap (λ (o : Option SegmentView). sequential reading others >>= λ xs. let r : Result (List SegmentView) DecodeError = Ok (by_number (xs ++ part_of_list reading o)) in r) part
+
 pub order_changes_nothing : OrderChangesNothing
 unfolding page_from globals_at
 order_changes_nothing = record {
-  page = λ reading globals bytes others ps qs one other moved cut.
+  page = λ reading globals bytes others ps qs one other moved cut part.
       ap (λ (r : Result (List SegmentView) DecodeError). r >>= λ segments. beginning_of reading segments >>= λ initial_page. let made : Result ReadPage DecodeError = Ok (record { reading = reading; initial_page = initial_page; segments = segments; globals = Ok globals; cut_off = sequence_cut_off reading bytes }) in made)
-      (sorted-as reading bytes others ps qs one other moved)
-      ∙ ap (λ (f : Option CutOff). sorted_segments reading others >>= λ segments. beginning_of reading segments >>= λ initial_page. let made : Result ReadPage DecodeError = Ok (record { reading = reading; initial_page = initial_page; segments = segments; globals = Ok globals; cut_off = f }) in made) cut;
+      (page-sorted-as reading bytes others ps qs one other moved part)
+      ∙ ap (λ (f : Option CutOff). page_segments reading others >>= λ segments. beginning_of reading segments >>= λ initial_page. let made : Result ReadPage DecodeError = Ok (record { reading = reading; initial_page = initial_page; segments = segments; globals = Ok globals; cut_off = f }) in made) cut;
   globals = λ reading bytes others ps qs one other moved cut.
       ap (λ (r : Result (List SegmentView) DecodeError). r >>= λ segments. shared_from reading segments (nothing_shared (sequence_cut_off reading bytes))) (sorted-as reading bytes others ps qs one other moved)
       ∙ ap (λ (f : Option CutOff). sorted_segments reading others >>= λ segments. shared_from reading segments (nothing_shared f)) cut;

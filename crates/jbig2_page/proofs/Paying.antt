@@ -11,7 +11,7 @@ use Rattle.jbig2_base.specs.declared.error.DecodeError.TheVariants.{OutOfMemory}
 use Rattle.jbig2_steps.proofs.WorkLemmas.{counts-worth, price-least, row-paid}
 use Rattle.jbig2_steps.specs.declared.work.Work.{Work}
 use Rattle.jbig2_steps.specs.Counts.{Counts}
-use Rattle.jbig2_steps.specs.Work.{CountsWithin, sum_of_counts, Paid, PaidBut, price_of_bitmap, words_of_row, budget}
+use Rattle.jbig2_steps.specs.Work.{CountsWithin, Paid, PaidBut, price_of_bitmap, words_of_row, budget}
 use Rattle.jbig2_page.specs.Image.{packed_size}
 use Rattle.jbig2_page.specs.Page.{Drawing, ReadPage, drawing_of_page}
 use Rattle.jbig2_page.specs.declared.region.parsed_region.ParsedRegion.{ParsedRegion}

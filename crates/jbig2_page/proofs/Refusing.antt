@@ -9,19 +9,18 @@ use Rattle.jbig2_framing.specs.CutOff.{sequence_cut_off}
 use Rattle.jbig2_framing.specs.Reading.{is_salvaged}
 use Rattle.jbig2_framing.specs.declared.cut_off.CutOff.{CutOff}
 use Rattle.jbig2_framing.specs.Segment.{SegmentView}
-use Rattle.jbig2_framing.specs.Sequential.{sorted_segments}
 use Rattle.jbig2_base.specs.declared.error.DecodeError.{DecodeError}
 use Rattle.jbig2_framing.specs.declared.page_info.InitialPage.{InitialPage}
 use Rattle.jbig2_framing.specs.declared.reading.Reading.{Reading}
-use Rattle.jbig2_framing.specs.declared.reading.Reading.TheVariants.{Lenient, Salvage}
+use Rattle.jbig2_framing.specs.declared.reading.Reading.TheVariants.{Salvage}
 use Rattle.jbig2_page.specs.Files.{PageInFile, ReadFile, book_at, before_pages, pages_in_file, page_in_file, numbers_after, of_page, page_in, page_of}
 use Rattle.jbig2_page.specs.Lenient.{HasBeginning, SalvageRefusesLittle}
 use Rattle.jbig2_page.specs.Names.{Names, KeptGlobals}
-use Rattle.jbig2_page.specs.Page.{Drawing, ReadPage, beginning_of, drawing_of_page, page_from, blank_page, segments_drawn, with_cut_off}
+use Rattle.jbig2_page.specs.Page.{Drawing, ReadPage, beginning_of, drawing_of_page, page_from, page_segments, blank_page, segments_drawn, with_cut_off}
 use Rattle.jbig2_page.proofs.Books.{file-of_book, filled_from, mapped, number-of_filed}
 use Rattle.jbig2_page.proofs.ByPages.{is_among, no_segments}
 use Rattle.jbig2_page.proofs.Causes.{at-first, at-later}
-use Rattle.jbig2_page.proofs.Salvaging.{IsFine, fine-beginning, fine-book, fine-drawn, fine-file, fine-globals, fine-next, fine-over, fine-shared}
+use Rattle.jbig2_page.proofs.Salvaging.{IsFine, fine-beginning, fine-book, fine-drawn, fine-file, fine-globals, fine-next, fine-over, fine-segments_at, fine-shared}
 
 -- ---- pages
 abbrev told : Option CutOff → Drawing → Result Drawing DecodeError
@@ -35,7 +34,7 @@ fine-drawing page is globals =
     subst (λ (reading : Reading). IsFine (page.globals >>= λ names. segments_drawn reading names page.segments (blank_page page.initial_page) >>= λ d. told page.cut_off d)) (sym is)
     (fine-next page.globals _ globals (λ names. fine-told names page.segments page.cut_off (blank_page page.initial_page)))
 
-fine-page : (names : Names) (bytes : List ℕ) (ps : List SegmentView) → sorted_segments Salvage bytes ≡ Ok ps → HasBeginning ps → IsFine (page_from Salvage names bytes >>= λ page. drawing_of_page page)
+fine-page : (names : Names) (bytes : List ℕ) (ps : List SegmentView) → page_segments Salvage bytes ≡ Ok ps → HasBeginning ps → IsFine (page_from Salvage names bytes >>= λ page. drawing_of_page page)
 unfolding page_from
 fine-page names bytes ps read has =
     let page : List SegmentView → InitialPage → ReadPage = λ own first. record { reading = Salvage; initial_page = first; segments = own; globals = Ok names; cut_off = sequence_cut_off Salvage bytes } in
@@ -96,7 +95,7 @@ salvage_refuses_little = record {
   globals = fine-globals;
   drawing = fine-drawing;
   page = fine-page;
-  file = λ bytes read. fine-book bytes (fine-file bytes read);
+  file = λ bytes read. fine-book bytes (fine-segments_at bytes (fine-file bytes read));
   pages = λ bytes file book n read h above has. filed-among file.1 n (numbers_after [] file.1) book.pages (fine-page_in_file (of_page n file.1) has) (has-number n file.1 above has) (filled_from Salvage bytes file book read h).filed;
   drawings = fine-leaf;
 }

@@ -15,10 +15,10 @@ use Rattle.jbig2_base.specs.declared.error.DecodeError.TheVariants as errors
 use Rattle.jbig2_framing.specs.declared.file_header.FileOrganization.{FileOrganization}
 use Rattle.jbig2_framing.specs.declared.file_header.FileOrganization.TheVariants.{Sequential, RandomAccess}
 use Rattle.jbig2_framing.specs.declared.page_info.PageInformation.{PageInformation}
-use Rattle.jbig2_framing.specs.declared.reading.Reading.TheVariants.{Lenient, Salvage}
+use Rattle.jbig2_framing.specs.declared.reading.Reading.TheVariants.{Salvage}
 use Rattle.jbig2_base.proofs.FromInput.{FromInput, IsFromInput}
 use Rattle.jbig2_framing.proofs.FromInput.{from_input-header, from_input-segment, from_input-segment_data}
-use Rattle.jbig2_page.specs.Files.{PageInFile, association_check, book_at, by_pages, before_pages, pages_in_file, page_in_file, shared_by}
+use Rattle.jbig2_page.specs.Files.{PageInFile, association_check, book_at, by_pages, before_pages, pages_in_file, page_in_file, segments_at, shared_by}
 use Rattle.jbig2_page.specs.Lenient.{HasBeginning}
 use Rattle.jbig2_page.specs.Names.{Names, KeptGlobals, dictionary_lacks, globals_at, kept_by, shared_from, no_names, nothing_shared, or_shared_without}
 use Rattle.jbig2_page.specs.Page.{Drawing, IsSide, beginning_of, ends_page, lacks_referred, or_left_out, or_told, segment_by, segment_on, segments_drawn}
@@ -125,14 +125,18 @@ associated-fine : (ps : List SegmentView) → IsFine (association_check false ps
 associated-fine [] = refl
 associated-fine (p ∷ ps) = associated-fine ps
 
-pub fine-book : (bytes : List ℕ) → IsFine (file_at Salvage bytes) → IsFine (book_at Salvage bytes)
+pub fine-book : (bytes : List ℕ) → IsFine (segments_at Salvage bytes) → IsFine (book_at Salvage bytes)
 unfolding book_at
 fine-book bytes read =
-    fine-next (file_at Salvage bytes) _ read (λ file. fine-next (association_check false file.1) _ (associated-fine file.1) (λ known. fine-next (pages_in_file Salvage (by_pages file.1)) _ (fine-filed (by_pages file.1)) (λ pages. refl)))
+    fine-next (segments_at Salvage bytes) _ read (λ file. fine-next (association_check false file.1) _ (associated-fine file.1) (λ known. fine-next (pages_in_file Salvage (by_pages file.1)) _ (fine-filed (by_pages file.1)) (λ pages. refl)))
 
 pub fine-file : (bytes : List ℕ) → IsFine (file_header_at bytes) → IsFine (file_at Salvage bytes)
 unfolding file_at
 fine-file bytes read = fine-next (file_header_at bytes) _ read (λ header. fine-next (segments_by header.0.organization Salvage header.1) _ (fine-by header.0.organization header.1) (λ ps. refl))
+
+pub fine-segments_at : (bytes : List ℕ) → IsFine (file_at Salvage bytes) → IsFine (segments_at Salvage bytes)
+unfolding segments_at
+fine-segments_at bytes read = fine-next (file_at Salvage bytes) _ read (λ file. refl)
 
 -- globals of a file that was read in salvage
 pub fine-shared : (pages : List PageInFile) (shared : List SegmentView) → IsFine (shared_by Salvage pages shared)

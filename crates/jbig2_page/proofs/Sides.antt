@@ -5,7 +5,6 @@ use Rattle.std.specs.List.{AllByRecursion}
 use Rattle.std.proofs.lemmas.Bool.{cond_both}
 use Rattle.std.proofs.lemmas.Bool.Decides.{nat_tests}
 use Rattle.jbig2_base.specs.Results.{◌>>=◌, refuse_if, some_or}
-use Rattle.jbig2_framing.specs.File.{file_at}
 use Rattle.jbig2_framing.specs.PageInfo.{first_information, height_of, information_at, initial_page_with}
 use Rattle.jbig2_framing.specs.CutOff.{file_cut_off}
 use Rattle.jbig2_framing.specs.declared.cut_off.CutOff.{CutOff}
@@ -20,7 +19,7 @@ use Rattle.jbig2_framing.specs.declared.page_info.InitialPage.{InitialPage}
 use Rattle.jbig2_framing.specs.declared.page_info.PageInformation.{PageInformation}
 use Rattle.jbig2_framing.specs.declared.reading.Reading.{Reading}
 use Rattle.jbig2_framing.specs.declared.reading.Reading.TheVariants.{Lenient}
-use Rattle.jbig2_page.specs.Files.{PageInFile, ReadFile, association_check, book_at, by_pages, ends_of, before_pages, pages_in_file, page_in_file, left_out_of, miscounts, of_page, page_in, page_of, shared_by}
+use Rattle.jbig2_page.specs.Files.{PageInFile, ReadFile, association_check, book_at, by_pages, ends_of, before_pages, pages_in_file, page_in_file, left_out_of, miscounts, of_page, page_in, page_of, shared_by, segments_at}
 use Rattle.jbig2_page.specs.Image.{first_page, first_size}
 use Rattle.jbig2_page.specs.Names.{KeptGlobals}
 use Rattle.jbig2_page.specs.Page.{HasSides, IsSide, ReadPage, beginning_of, known_height}
@@ -92,7 +91,7 @@ filed-all reading organization left_out cut_off (Err e) globals all = tt
 book-sides : (reading : Reading) (bytes : List ℕ) → IfOk (book_at reading bytes) AllSides
 unfolding book_at
 book-sides reading bytes =
-    last-has AllSides (file_at reading bytes) _ (λ file. last-has AllSides (association_check (is_strict reading) file.1) _ (λ known.
+    last-has AllSides (segments_at reading bytes) _ (λ file. last-has AllSides (association_check (is_strict reading) file.1) _ (λ known.
     last-has AllSides (refuse_if (is_strict reading && miscounts file.0.number_of_pages (length (by_pages file.1))) (Format PageCountMismatch)) _ (λ counted.
     filed-all reading file.0.organization (left_out_of reading (by_pages file.1)) (file_cut_off reading bytes) (pages_in_file reading (by_pages file.1)) (λ pages. shared_by reading pages (of_page 0 file.1)) (each-sides reading (by_pages file.1)))))
 

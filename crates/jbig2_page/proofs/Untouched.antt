@@ -1,24 +1,25 @@
 -- A page on which no region was drawn is as it began; one that is drawn keeps its size; strict reading passes over nothing.
 use Rattle.std.proofs.Common.{◌≡◌, ℕ, Bool, true, false, List, length, Option, None, Some, Result, Ok, Err, refl, sym, subst}
-use Rattle.std.specs.Prelude.{◌&&◌, IfOk, IsTrue}
+use Rattle.std.specs.Prelude.{◌&&◌, ◌++◌, IfOk, IsTrue}
 use Rattle.jbig2_base.specs.Results.{◌>>=◌, refuse_if}
 use Rattle.jbig2_base.specs.Grid.{Grid}
 use Rattle.jbig2_base.specs.declared.error.DecodeError.TheVariants.{Format}
 use Rattle.jbig2_base.specs.declared.error.FormatError.TheVariants.{PageCountMismatch}
-use Rattle.jbig2_framing.specs.CutOff.{file_cut_off, sequence_cut_off}
+use Rattle.jbig2_framing.specs.CutOff.{file_cut_off, sequence_cut_off, sequence_partial}
 use Rattle.jbig2_framing.specs.File.{file_at}
 use Rattle.jbig2_framing.specs.Reading.{is_strict}
 use Rattle.jbig2_framing.specs.Segment.{SegmentView}
-use Rattle.jbig2_framing.specs.Sequential.{by_number, sequential, sorted_segments}
+use Rattle.jbig2_framing.specs.Sequential.{by_number, sequential}
 use Rattle.jbig2_framing.specs.declared.cut_off.CutOff.{CutOff}
+use Rattle.jbig2_framing.specs.declared.file_header.FileHeader.{FileHeader}
 use Rattle.jbig2_framing.specs.declared.reading.Reading.TheVariants.{Strict}
 use Rattle.jbig2_framing.proofs.AgreeingCutOffs.{file-never-cut, sequence-never-cut}
 use Rattle.jbig2_base.specs.declared.error.DecodeError.{DecodeError}
 use Rattle.jbig2_framing.specs.declared.page_info.InitialPage.{InitialPage}
-use Rattle.jbig2_page.specs.Files.{association_check, book_at, by_pages, miscounts, pages_in_file}
+use Rattle.jbig2_page.specs.Files.{association_check, book_at, by_pages, miscounts, pages_in_file, part_of_file, segments_at, with_part}
 use Rattle.jbig2_page.specs.Lenient.{StrictPassesNothing}
 use Rattle.jbig2_page.specs.Names.{Names, nothing_passed}
-use Rattle.jbig2_page.specs.Page.{PagesKeepTheirSize, UntouchedIsBlank, Drawing, ReadPage, drawing_of_page, drawing_with, grid_of_page, beginning_of, blank_page, page_from, segments_drawn, with_cut_off}
+use Rattle.jbig2_page.specs.Page.{PagesKeepTheirSize, UntouchedIsBlank, Drawing, ReadPage, drawing_of_page, drawing_with, grid_of_page, beginning_of, blank_page, page_from, page_segments, part_of_list, segments_drawn, with_cut_off}
 use Rattle.jbig2_page.proofs.DrawingSteps.{StepsBy, drawn-keeps}
 
 -- ---- untouched
@@ -112,20 +113,28 @@ any-result (Err e) = tt
 strict-page : (names : Names) (bytes : List ℕ) → IfOk (page_from Strict names bytes) (λ page. page.cut_off ≡ None)
 unfolding page_from
 strict-page names bytes =
-    of-read (λ page. page.cut_off ≡ None) (sequence_cut_off Strict bytes ≡ None) (sorted_segments Strict bytes) _ (sorted (sequential Strict bytes) (sequence-never-cut bytes)) (λ whole ps.
+    of-read (λ page. page.cut_off ≡ None) (sequence_cut_off Strict bytes ≡ None) (page_segments Strict bytes) _ (sorted (sequential Strict bytes) (part_of_list Strict (sequence_partial Strict bytes)) (sequence-never-cut bytes)) (λ whole ps.
     of-read (λ page. page.cut_off ≡ None) (Unit {0}) (beginning_of Strict ps) _ (any-result (beginning_of Strict ps)) (λ _ initial_page. whole))
   where
-    sorted : (r : Result (List SegmentView) DecodeError) → IfOk r (λ ps. sequence_cut_off Strict bytes ≡ None) → IfOk (r >>= λ ps. Ok (by_number ps)) (λ ps. sequence_cut_off Strict bytes ≡ None)
-    sorted (Ok ps) whole = whole
-    sorted (Err e) whole = tt
+    sorted : (r : Result (List SegmentView) DecodeError) (more : List SegmentView) → IfOk r (λ ps. sequence_cut_off Strict bytes ≡ None) → IfOk (r >>= λ ps. Ok (by_number (ps ++ more))) (λ ps. sequence_cut_off Strict bytes ≡ None)
+    sorted (Ok ps) more whole = whole
+    sorted (Err e) more whole = tt
+
+-- a file's segments with one more
+abbrev parted : List SegmentView → FileHeader × List SegmentView → Result (FileHeader × List SegmentView) DecodeError
+parted more file = Ok (file.0, with_part more file.1)
 
 strict-file : (bytes : List ℕ) → IfOk (book_at Strict bytes) (λ book. book.cut_off ≡ None)
-unfolding book_at
+unfolding book_at segments_at
 strict-file bytes =
-    of-read (λ book. book.cut_off ≡ None) (file_cut_off Strict bytes ≡ None) (file_at Strict bytes) _ (file-never-cut bytes) (λ whole file.
+    of-read (λ book. book.cut_off ≡ None) (file_cut_off Strict bytes ≡ None) (segments_at Strict bytes) _ (read (file_at Strict bytes) (part_of_file Strict bytes) (file-never-cut bytes)) (λ whole file.
     of-read (λ book. book.cut_off ≡ None) (Unit {0}) (association_check true file.1) _ (any-result (association_check true file.1)) (λ _ known.
     of-read (λ book. book.cut_off ≡ None) (Unit {0}) (refuse_if (true && miscounts file.0.number_of_pages (length (by_pages file.1))) (Format PageCountMismatch)) _ (any-result (refuse_if (true && miscounts file.0.number_of_pages (length (by_pages file.1))) (Format PageCountMismatch))) (λ _ counted.
     of-read (λ book. book.cut_off ≡ None) (Unit {0}) (pages_in_file Strict (by_pages file.1)) _ (any-result (pages_in_file Strict (by_pages file.1))) (λ _ pages. whole))))
+  where
+    read : (r : Result (FileHeader × List SegmentView) DecodeError) (more : List SegmentView) → IfOk r (λ file. file_cut_off Strict bytes ≡ None) → IfOk (r >>= parted more) (λ file. file_cut_off Strict bytes ≡ None)
+    read (Ok file) more whole = whole
+    read (Err e) more whole = tt
 
 pub strict_passes_nothing : StrictPassesNothing
 strict_passes_nothing = record { drawing = strict-drawing; page = strict-page; file = strict-file }

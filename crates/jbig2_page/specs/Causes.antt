@@ -7,7 +7,6 @@ use Rattle.std.specs.Int.{w32}
 use Rattle.std.specs.Option.{option_map_or}
 use Rattle.jbig2_base.specs.Causes.{InSteps, number_in}
 use Rattle.jbig2_framing.specs.Causes.{BreaksInitialPage}
-use Rattle.jbig2_framing.specs.File.{file_at}
 use Rattle.jbig2_base.specs.Grid.{Grid}
 use Rattle.jbig2_framing.specs.Reading.{is_salvaged, is_strict}
 use Rattle.jbig2_framing.specs.Segment.{SegmentView}
@@ -29,7 +28,7 @@ use Rattle.jbig2_region.specs.RegionInfo.{PlacedRegion}
 use Rattle.jbig2_region.specs.RefinementHeader.{refinement_header_at}
 use Rattle.jbig2_text.specs.Causes.{After}
 use Rattle.jbig2_symbol.specs.SymbolHeader.{max_new_symbols}
-use Rattle.jbig2_page.specs.Files.{ReadFile, book_at, by_pages, ends_of, needs_page}
+use Rattle.jbig2_page.specs.Files.{ReadFile, book_at, by_pages, ends_of, needs_page, segments_at}
 use Rattle.jbig2_page.specs.Names.{globals_at, Names, first_kept, kept_of}
 use Rattle.jbig2_page.specs.Page.{ReadPage, drawing_of_page, page_from}
 use Rattle.jbig2_page.specs.Regions.{page_area, patterns_for}
@@ -52,7 +51,7 @@ BreaksPages reading h ps e = IsFalse (is_salvaged reading e) × Any (λ own. Bre
 -- A file whose bytes hold a header and segments. Where they don't, the calls that read those say why.
 abbrev pub BreaksBook : Reading → List ℕ → DecodeError → Type 0
 BreaksBook reading bytes e =
-    InSteps (file_at reading bytes) (Unit {0}) (λ (header, segments). BreaksPages reading header segments e)
+    InSteps (segments_at reading bytes) (Unit {0}) (λ (header, segments). BreaksPages reading header segments e)
 
 abbrev pub BreaksFirstPage : ReadFile → DecodeError → Type 0  -- the first page of a file that has none
 BreaksFirstPage book (Format MissingPageInfo) = book.pages ≡ []

@@ -6,9 +6,10 @@ use Rattle.std.specs.Prelude.{if◌then◌else◌}
 use Rattle.std.specs.List.{flat_map, list_any}
 use Rattle.jbig2_base.specs.Results.{◌>>=◌, refuse_if}
 use Rattle.jbig2_framing.specs.File.{file_at}
-use Rattle.jbig2_framing.specs.CutOff.{file_cut_off}
+use Rattle.jbig2_framing.specs.CutOff.{file_cut_off, file_partial}
 use Rattle.jbig2_framing.specs.Reading.{is_salvaged, is_strict}
 use Rattle.jbig2_framing.specs.Segment.{Header, SegmentView}
+use Rattle.jbig2_framing.specs.Sequential.{by_number}
 use Rattle.jbig2_base.specs.declared.error.DecodeError.{DecodeError}
 use Rattle.jbig2_base.specs.declared.error.DecodeError.TheVariants.{Format, Segment}
 use Rattle.jbig2_base.specs.declared.error.FormatError.TheVariants.{PageCountMismatch, InvalidEndOfPage}
@@ -21,7 +22,7 @@ use Rattle.jbig2_framing.specs.declared.file_header.FileOrganization.{FileOrgani
 use Rattle.jbig2_framing.specs.declared.file_header.FileOrganization.TheVariants.{Sequential, RandomAccess}
 use Rattle.jbig2_framing.specs.declared.segment.SegmentType.{SegmentType}
 use Rattle.jbig2_page.specs.Names.{shared_from, names_of, nothing_shared, KeptGlobals}
-use Rattle.jbig2_page.specs.Page.{ReadPage, beginning_of, region_type}
+use Rattle.jbig2_page.specs.Page.{ReadPage, beginning_of, part_of_list, region_type}
 use Rattle.jbig2_framing.specs.declared.segment.SegmentType.TheVariants as types
 
 pub record PageInFile : Type 0 where
@@ -84,6 +85,11 @@ abbrev pub miscounts : Option ℕ → ℕ → Bool  -- the file's header gives a
 miscounts None n = false
 miscounts (Some count) n = not (count == n)
 
+-- sorted segments with one more, at its place
+abbrev pub with_part : List SegmentView → List SegmentView → List SegmentView
+with_part [] segments = segments
+with_part part segments = by_number (segments ++ part)
+
 module _ (reading : Reading) where
   -- The page that these segments make up. Strict reading requires exactly one end of page (7.4.9).
   unfoldable pub page_in_file : List SegmentView → Result PageInFile DecodeError
@@ -111,10 +117,20 @@ module _ (reading : Reading) where
   shared_by [] shared = Ok (nothing_shared None)
   shared_by (page ∷ pages) shared = shared_from reading shared (nothing_shared None)
 
+  abbrev pub part_of_file : List ℕ → List SegmentView
+  part_of_file bytes = part_of_list reading (file_partial reading bytes)
+
+  -- The header of a file, and its segments in the order of their numbers. In salvage what is there of the segment at
+  -- which their list ends early is among them, if it is drawn.
+  unfoldable pub segments_at : List ℕ → Result (FileHeader × List SegmentView) DecodeError
+  segments_at bytes = do
+    (header, segments) ← file_at reading bytes
+    Ok (header, with_part (part_of_file bytes) segments)
+
   -- A file's pages, and what they share.
   unfoldable pub book_at : List ℕ → Result ReadFile DecodeError
   book_at bytes = do
-    (header, segments) ← file_at reading bytes
+    (header, segments) ← segments_at bytes
     known ← association_check (is_strict reading) segments
     let own = by_pages segments
     counted ← refuse_if (is_strict reading && miscounts header.number_of_pages (length own)) (Format PageCountMismatch)
@@ -163,7 +179,7 @@ pages_of book = map (page_in book) book.pages
 abbrev pub PagesStandAlone : Type 0
 PagesStandAlone = (reading : Reading) (bytes : List ℕ) (file : FileHeader × List SegmentView) (book : ReadFile)
     (index : ℕ) (page : ReadPage)
-    → file_at reading bytes ≡ Ok file → book_at reading bytes ≡ Ok book → page_of book index ≡ Some page
+    → segments_at reading bytes ≡ Ok file → book_at reading bytes ≡ Ok book → page_of book index ≡ Some page
     → let segments = file.1 in
     let own = of_page page.initial_page.number segments in
     let cut_off = file_cut_off reading bytes in

@@ -3,11 +3,11 @@
 use Rattle.std.specs.Prelude.{◌≡◌, ◌≤◌, ℕ, Any, IsTrue, List, None, Some, Result, Ok, IfOk}
 use Rattle.std.specs.Result.{is_ok}
 use Rattle.jbig2_base.specs.Results.{◌>>=◌, some_or}
-use Rattle.jbig2_framing.specs.File.{file_at, file_header_at}
+use Rattle.jbig2_framing.specs.CutOff.{file_cut_off, sequence_cut_off}
+use Rattle.jbig2_framing.specs.File.{file_header_at}
 use Rattle.jbig2_framing.specs.PageInfo.{first_information, height_of, information_at}
 use Rattle.jbig2_framing.specs.Segment.{SegmentView}
 use Rattle.jbig2_framing.specs.Reading.{is_strict}
-use Rattle.jbig2_framing.specs.Sequential.{sorted_segments}
 use Rattle.jbig2_base.specs.declared.error.DecodeError.{DecodeError}
 use Rattle.jbig2_base.specs.declared.error.DecodeError.TheVariants.{Format}
 use Rattle.jbig2_base.specs.declared.error.FormatError.TheVariants.{MissingPageInfo}
@@ -15,9 +15,9 @@ use Rattle.jbig2_framing.specs.declared.file_header.FileHeader.{FileHeader}
 use Rattle.jbig2_framing.specs.declared.page_info.PageInformation.{PageInformation}
 use Rattle.jbig2_framing.specs.declared.reading.Reading.{Reading}
 use Rattle.jbig2_framing.specs.declared.reading.Reading.TheVariants.{Strict, Lenient, Salvage}
-use Rattle.jbig2_page.specs.Files.{ReadFile, book_at, of_page, page_of}
+use Rattle.jbig2_page.specs.Files.{ReadFile, book_at, of_page, page_of, segments_at}
 use Rattle.jbig2_page.specs.Names.{Names, globals_at, nothing_passed}
-use Rattle.jbig2_page.specs.Page.{IsSide, ReadPage, drawing_of_page, page_from, known_height}
+use Rattle.jbig2_page.specs.Page.{IsSide, ReadPage, drawing_of_page, page_from, page_segments, known_height}
 
 -- Strict reading passes over nothing: its lists of segments never end early, and no segment of them is passed over.
 pub record StrictPassesNothing : Type 0 where
@@ -30,24 +30,28 @@ pub record StrictPassesNothing : Type 0 where
 abbrev pub IsSameUnder : {A : Type 0} → Reading → Reading → (Reading → Result A DecodeError) → Type 0
 IsSameUnder {A = A} one other read = IfOk (read one) (λ (x : A). read other ≡ Ok x)
 
--- The laws hold for globals; for the beginning of an embedded page, and for its drawing; for the pages of a file, and
--- for the drawing of each. Drawings are equal as a whole: their grids, and what was passed over.
-pub record ReadingsAgree (one other : Reading) : Type 0 where
+-- The laws hold for globals; for the beginning of an embedded page in bytes of which `IsPage` holds, and for its drawing;
+-- for the pages of a file in bytes of which `IsFile` holds, and for the drawing of each. Drawings are equal as a whole:
+-- their grids, and what was passed over.
+pub record ReadingsAgree (one other : Reading) (IsPage IsFile : List ℕ → Type 0) : Type 0 where
   pub globals : (bytes : List ℕ) → IsSameUnder one other (λ reading. globals_at reading bytes)
-  pub page : (names : Names) (bytes : List ℕ) → IsSameUnder one other (λ reading.
+  pub page : (names : Names) (bytes : List ℕ) → IsPage bytes → IsSameUnder one other (λ reading.
       page_from reading names bytes >>= λ page. Ok page.initial_page)
-  pub drawing : (names : Names) (bytes : List ℕ) → IsSameUnder one other (λ reading.
+  pub drawing : (names : Names) (bytes : List ℕ) → IsPage bytes → IsSameUnder one other (λ reading.
       page_from reading names bytes >>= λ page. drawing_of_page page)
-  pub pages : (bytes : List ℕ) → IsSameUnder one other (λ reading. book_at reading bytes >>= λ book. Ok book.pages)
-  pub drawings : (bytes : List ℕ) (index : ℕ) → IsSameUnder one other (λ reading.
+  pub pages : (bytes : List ℕ) → IsFile bytes → IsSameUnder one other (λ reading.
+      book_at reading bytes >>= λ book. Ok book.pages)
+  pub drawings : (bytes : List ℕ) (index : ℕ) → IsFile bytes → IsSameUnder one other (λ reading.
       book_at reading bytes >>= λ book.
       some_or (Format MissingPageInfo) (page_of book index) >>= λ page. drawing_of_page page)
 
 abbrev pub LenientReadingAgrees : Type 0
-LenientReadingAgrees = ReadingsAgree Strict Lenient
+LenientReadingAgrees = ReadingsAgree Strict Lenient (λ bytes. Unit {0}) (λ bytes. Unit {0})
 
+-- Salvage also draws a part of a segment that lenient reading drops, if the list of segments ends early.
 abbrev pub SalvageAgrees : Type 0
-SalvageAgrees = ReadingsAgree Lenient Salvage
+SalvageAgrees =
+    ReadingsAgree Lenient Salvage (λ bytes. sequence_cut_off Lenient bytes ≡ None) (λ bytes. file_cut_off Lenient bytes ≡ None)
 
 -- The first page information of a page can be read, and its width and height are those of a page (`IsSide`). Where it
 -- leaves the height open, the stripes or else the regions give it.
@@ -68,11 +72,11 @@ pub record SalvageRefusesLittle : Type 0 where
   pub drawing : (page : ReadPage)
       → page.reading ≡ Salvage → IsTrue (is_ok page.globals) → IsTrue (is_ok (drawing_of_page page))
   pub page : (names : Names) (bytes : List ℕ) (ps : List SegmentView)
-      → sorted_segments Salvage bytes ≡ Ok ps → HasBeginning ps
+      → page_segments Salvage bytes ≡ Ok ps → HasBeginning ps
       → IsTrue (is_ok (page_from Salvage names bytes >>= λ page. drawing_of_page page))
   pub file : (bytes : List ℕ) → IsTrue (is_ok (file_header_at bytes)) → IsTrue (is_ok (book_at Salvage bytes))
   pub pages : (bytes : List ℕ) (file : FileHeader × List SegmentView) (book : ReadFile) (n : ℕ)
-      → file_at Salvage bytes ≡ Ok file → book_at Salvage bytes ≡ Ok book → 1 ≤ n → HasBeginning (of_page n file.1)
+      → segments_at Salvage bytes ≡ Ok file → book_at Salvage bytes ≡ Ok book → 1 ≤ n → HasBeginning (of_page n file.1)
       → Any (λ page. page.initial_page.number ≡ n) book.pages
   pub drawings : (bytes : List ℕ) (book : ReadFile) (index : ℕ) (page : ReadPage)
       → book_at Salvage bytes ≡ Ok book → page_of book index ≡ Some page → IsTrue (is_ok (drawing_of_page page))

@@ -3,7 +3,7 @@
 use Rattle.std.specs.Prelude.{◌≡◌, ◌≢◌, ℕ, IsTrue, List, ◌∷◌, ◌++◌, Ok}
 use Rattle.jbig2_framing.specs.Segment.{SegmentView}
 use Rattle.jbig2_framing.specs.Sequential.{sequential}
-use Rattle.jbig2_framing.specs.CutOff.{sequence_cut_off}
+use Rattle.jbig2_framing.specs.CutOff.{sequence_cut_off, sequence_partial}
 use Rattle.jbig2_framing.specs.declared.reading.Reading.{Reading}
 use Rattle.jbig2_page.specs.Names.{Names, globals_at}
 use Rattle.jbig2_page.specs.Page.{ReadPage, drawing_of_page, page_from, ends_page}
@@ -20,11 +20,16 @@ pub data IsReordered : List SegmentView → List SegmentView → Type 0 where
 abbrev pub HaveOneCutOff : Reading → List ℕ → List ℕ → Type 0
 HaveOneCutOff reading bytes others = sequence_cut_off reading bytes ≡ sequence_cut_off reading others
 
+-- What is there of the segment at which they end early is the same.
+abbrev pub HaveOnePart : Reading → List ℕ → List ℕ → Type 0
+HaveOnePart reading bytes others = sequence_partial reading bytes ≡ sequence_partial reading others
+
 -- Bytes with the same segments in another order give the same embedded page, and the same globals.
 pub record OrderChangesNothing : Type 0 where
   pub page : (reading : Reading) (globals : Names) (bytes others : List ℕ) (ps qs : List SegmentView)
       → sequential reading bytes ≡ Ok ps → sequential reading others ≡ Ok qs → IsReordered ps qs
-      → HaveOneCutOff reading bytes others → page_from reading globals bytes ≡ page_from reading globals others
+      → HaveOneCutOff reading bytes others → HaveOnePart reading bytes others
+      → page_from reading globals bytes ≡ page_from reading globals others
   pub globals : (reading : Reading) (bytes others : List ℕ) (ps qs : List SegmentView)
       → sequential reading bytes ≡ Ok ps → sequential reading others ≡ Ok qs → IsReordered ps qs
       → HaveOneCutOff reading bytes others → globals_at reading bytes ≡ globals_at reading others

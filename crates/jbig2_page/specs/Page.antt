@@ -1,16 +1,17 @@
 -- What a page shows (T.88, 8). Its segments are taken in order. Each is drawn onto the page, kept for later ones, or
 -- changes nothing, as its type says (7.3).
 use Rattle.std.specs.Prelude.{◌≡◌, ◌≤◌, ℕ, ◌+◌, ◌-◌, ◌==◌, ◌&&◌, ◌||◌, is_none, nat_lt, max, min, Bool, true, false, not, List, []}
-use Rattle.std.specs.Prelude.{◌∷◌, Option, Some, None, Result, Ok, Err, IfOk, IsTrue, if◌then◌else◌}
+use Rattle.std.specs.Prelude.{◌∷◌, ◌++◌, Option, Some, None, Result, Ok, Err, IfOk, IsTrue, if◌then◌else◌}
 use Rattle.std.specs.Int.{w32, cast_signed}
+use Rattle.std.specs.Result.{is_ok}
 use Rattle.jbig2_base.specs.Results.{◌>>=◌}
 use Rattle.jbig2_base.specs.Combination.{combined_grid}
 use Rattle.jbig2_base.specs.Grid.{Grid, blank, max_side}
 use Rattle.jbig2_framing.specs.PageInfo.{initial_page_by, stripes_height}
-use Rattle.jbig2_framing.specs.CutOff.{sequence_cut_off}
+use Rattle.jbig2_framing.specs.CutOff.{sequence_cut_off, sequence_partial}
 use Rattle.jbig2_framing.specs.Reading.{is_salvaged, is_strict}
 use Rattle.jbig2_framing.specs.Segment.{SegmentView}
-use Rattle.jbig2_framing.specs.Sequential.{sorted_segments}
+use Rattle.jbig2_framing.specs.Sequential.{by_number, sequential}
 use Rattle.jbig2_framing.specs.declared.cut_off.CutOff.{CutOff}
 use Rattle.jbig2_base.specs.declared.bitmap.operator.CombinationOperator.{CombinationOperator}
 use Rattle.jbig2_base.specs.declared.bitmap.operator.CombinationOperator.TheVariants.{Or, And, Xor, Xnor, Replace}
@@ -19,6 +20,7 @@ use Rattle.jbig2_framing.specs.declared.page_info.InitialPage.{InitialPage}
 use Rattle.jbig2_framing.specs.declared.reading.Reading.{Reading}
 use Rattle.jbig2_framing.specs.declared.reading.Reading.TheVariants.{Salvage}
 use Rattle.jbig2_framing.specs.declared.segment.SegmentType.{SegmentType}
+use Rattle.jbig2_region.specs.GenericHeader.{generic_header_at}
 use Rattle.jbig2_region.specs.Refinement.{is_far}
 use Rattle.jbig2_region.specs.RegionInfo.{PlacedRegion, region_info_at}
 use Rattle.jbig2_region.specs.declared.region_info.RegionSegmentInfo.{RegionSegmentInfo}
@@ -208,13 +210,22 @@ abbrev pub end_of : RegionSegmentInfo → ℕ
 end_of info =
     if is_far info.y_location then info.height - (4294967296 - info.y_location) else info.y_location + info.height
 
+-- The information of a region (7.4.1). A generic region of unknown length has the number of its rows after its data.
+abbrev pub info_at : SegmentView → Result RegionSegmentInfo DecodeError
+info_at p = on (region_type p.header.segment_type) p.header.data_length
+  where
+    on : Option (RegionKind × Bool) → Option ℕ → Result RegionSegmentInfo DecodeError
+    on (Some (kinds.Generic, false)) None =
+        generic_header_at true false p.bytes >>= λ (header, rest). Ok header.region_info
+    on _ _ = region_info_at p.bytes >>= λ (info, rest). Ok info
+
 -- How high a page is that ends with this region: an immediate one whose information can be read, and that isn't too
 -- large to be drawn. It is at most 65535, and 0 for any other segment.
 abbrev pub region_height : SegmentView → ℕ
-region_height p = if is_immediate (region_type p.header.segment_type) then on (region_info_at p.bytes) else 0
+region_height p = if is_immediate (region_type p.header.segment_type) then on (info_at p) else 0
   where
-    on : Result (RegionSegmentInfo × List ℕ) DecodeError → ℕ
-    on (Ok (info, rest)) = if nat_lt max_side info.width || nat_lt max_side info.height then 0 else min max_side (end_of info)
+    on : Result RegionSegmentInfo DecodeError → ℕ
+    on (Ok info) = if nat_lt max_side info.width || nat_lt max_side info.height then 0 else min max_side (end_of info)
     on (Err e) = 0
 
 abbrev pub regions_height : List SegmentView → ℕ
@@ -230,10 +241,37 @@ known_height _ ps = stripes_height ps
 unfoldable pub beginning_of : Reading → List SegmentView → Result InitialPage DecodeError
 beginning_of reading ps = initial_page_by (known_height reading ps) ps
 
+-- Whether the part that is there of a segment whose data is cut off can be drawn: that of an immediate text region, or
+-- of an immediate generic region with a header (our own rule).
+abbrev pub is_drawn_in_part : SegmentView → Bool
+is_drawn_in_part p = on (region_type p.header.segment_type)
+  where
+    on : Option (RegionKind × Bool) → Bool
+    on (Some (kinds.Generic, false)) = is_ok (generic_header_at false false p.bytes)
+    on (Some (kinds.Text, false)) = true
+    on _ = false
+
+-- Salvage draws that part.
+abbrev pub drawn_part : Reading → Option SegmentView → Option SegmentView
+drawn_part Salvage (Some p) = if is_drawn_in_part p then Some p else None
+drawn_part _ _ = None
+
+abbrev pub list_of : Option SegmentView → List SegmentView
+list_of None = []
+list_of (Some p) = p ∷ []
+
+abbrev pub part_of_list : Reading → Option SegmentView → List SegmentView
+part_of_list reading partial = list_of (drawn_part reading partial)
+
+-- The segments of an embedded page in the order of their numbers.
+abbrev pub page_segments : Reading → List ℕ → Result (List SegmentView) DecodeError
+page_segments reading bytes =
+    sequential reading bytes >>= λ ps. Ok (by_number (ps ++ part_of_list reading (sequence_partial reading bytes)))
+
 -- An embedded page (D.3), as in PDF: its segments are read one after the other and sorted.
 unfoldable pub page_from : Reading → Names → List ℕ → Result ReadPage DecodeError
 page_from reading globals bytes = do
-  segments ← sorted_segments reading bytes
+  segments ← page_segments reading bytes
   initial_page ← beginning_of reading segments
   Ok (record {
     reading = reading;

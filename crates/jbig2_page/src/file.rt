@@ -1,10 +1,10 @@
 //! Reads a file of pages (T.88, Annex D), in the work that a caller's counter allows.
 ghost use Rattle.std.specs.Prelude.{◌≡◌, ◌+◌, ◌*◌, ◌≤◌, ◌++◌, Ok, OnOk, IfErr, IfOk};
 ghost use Rattle.jbig2_base.specs.Results.{Returns, Gives};
-ghost use Rattle.jbig2_framing.specs.inner.SegmentViews.{header_view, segment_views};
+ghost use Rattle.jbig2_framing.specs.CutOff.{file_cut_off};
+ghost use Rattle.jbig2_framing.specs.inner.SegmentViews.{file_view, header_view, segment_views};
 ghost use Rattle.jbig2_page.specs.inner.ByPages.{pages_view};
-ghost use Rattle.jbig2_page.specs.Files.{needs_page, lacks_page, association_check, cut_off_of, is_end_of_page, ends_of, may_belong, may_lack, page_in_file, pages_in_file, left_out_of, miscounts, book_at, shared_by};
-ghost use Rattle.jbig2_framing.specs.File.{file_at};
+ghost use Rattle.jbig2_page.specs.Files.{needs_page, lacks_page, association_check, cut_off_of, is_end_of_page, ends_of, may_belong, may_lack, page_in_file, pages_in_file, left_out_of, miscounts, book_at, segments_at, shared_by};
 ghost use Rattle.jbig2_page.specs.Returned.{IsReturned};
 ghost use Rattle.jbig2_page.specs.inner.PageViews.{kept_names};
 ghost use Rattle.jbig2_page.specs.Causes.{BreaksBook, IsFromInput};
@@ -18,10 +18,11 @@ use crate::file::segments_by_page::SegmentsByPage;
 use crate::globals::GlobalsContent;
 use crate::page::PageContent;
 use crate::page::beginning::beginning_of;
+use crate::page::part::insert_part;
 use jbig2_base::bitmap::steps::Work;
 use jbig2_base::error::{DecodeError, FormatError, Result, SegmentError};
 use jbig2_framing::cut_off::CutOff;
-use jbig2_framing::file::{FileOrganization, parse_file};
+use jbig2_framing::file::{File, FileOrganization, parse_file};
 use jbig2_framing::page_info::InitialPage;
 use jbig2_framing::reading::Reading;
 use jbig2_framing::segment::{Segment, SegmentHeader, SegmentType};
@@ -196,6 +197,28 @@ fn count_ends<A: Allocator>(segments: &[Segment<'_, A>]) -> usize
     count
 }
 
+/// The header of a file, and its segments in the order of their numbers. In salvage what is there of the segment at
+/// which their list ends early is among them, if it is drawn.
+#[tactic(auto, unfolding(crate::specs::Files::segments_at))]
+fn read_segments<'a, A: Allocator + Clone>(
+    alloc: A,
+    bytes: &'a [u8],
+    reading: Reading,
+) -> Result<File<'a, A>>
+    ensures value { Gives file_view result (segments_at reading bytes.now) }
+    ensures cut_off { IfOk result (λ file. file.cut_off ≡ file_cut_off reading bytes.now) }
+{
+    let file = parse_file(alloc, bytes, reading)?;
+    let mut segments = file.segments;
+    insert_part(&mut segments, file.partial, reading)?;
+    Ok(File {
+        header: file.header,
+        segments,
+        cut_off: file.cut_off,
+        partial: None,
+    })
+}
+
 #[tactic(auto, unfolding(crate::specs::Files::page_in_file))]
 fn read_page<'a, A: Allocator>(
     reading: Reading,
@@ -292,11 +315,11 @@ impl<'a, A: Allocator + Clone> FileContent<'a, A> {
         ensures causes { HasCauseOrNoMemory result (BreaksBook reading bytes.now) }
         ensures errors { IfErr result IsReturned }
         ensures paid { Paid work.old work.new }
-        ensures taken { let read = file_at reading bytes.now in
+        ensures taken { let read = segments_at reading bytes.now in
             IfOk result (λ file. PaysShared read file work.old work.new) }
     {
         let strict = reading.is_strict();
-        let file = parse_file(alloc.clone()?, bytes, reading)?;
+        let file = read_segments(alloc.clone()?, bytes, reading)?;
         check_associations(strict, &file.segments)?;
         let segments = SegmentsByPage::new(alloc.clone()?, file.segments)?;
         if strict && miscounts(file.header.number_of_pages, segments.pages.len()) {

@@ -16,10 +16,12 @@ pub mod form;
 mod image;
 mod output;
 mod page_segments;
+pub(crate) mod part;
 
 use crate::globals::GlobalsContent;
 use crate::page::beginning::beginning_of;
 use crate::page::page_segments::PageSegments;
+use crate::page::part::add_part;
 use jbig2_base::error::Result;
 use jbig2_framing::cut_off::CutOff;
 use jbig2_framing::file::parse_segments_sequential;
@@ -150,6 +152,8 @@ impl<'a, A: Allocator + Clone> PageContent<'a, A> {
         ensures errors { IfErr result IsReturned }
     {
         let mut list = parse_segments_sequential(alloc, bytes, reading)?;
+        let partial = list.partial;
+        add_part(&mut list.segments, partial, reading)?;
         sort_segments(&mut list.segments)?;
         let initial_page = beginning_of(reading, &list.segments)?;
         Ok(PageContent {

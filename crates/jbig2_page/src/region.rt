@@ -9,6 +9,7 @@ ghost use Rattle.jbig2_steps.specs.Work.{Paid};
 mod generic;
 mod halftone;
 pub(crate) mod parsed_region;
+mod part;
 pub(crate) mod references;
 pub(crate) mod refinement;
 mod text;
@@ -52,9 +53,11 @@ pub(crate) fn parse_region<'a, 'n, 'r, A: Allocator + Clone, L: Ledger>(
     ensures paid { Paid work.old work.new }
 {
     match kind {
-        RegionKind::Text => parse_text(references, segment, workspace),
+        RegionKind::Text => parse_text(references, segment, workspace, work),
         RegionKind::Halftone => parse_halftone(references, segment),
-        RegionKind::Generic => parse_generic(references, is_intermediate, segment),
+        RegionKind::Generic => {
+            parse_generic(references, is_intermediate, segment, workspace, work)
+        }
         RegionKind::GenericRefinement => {
             parse_refinement(references, is_intermediate, segment, workspace, work)
         }

@@ -1,12 +1,13 @@
 -- Pages are read back.
-use Rattle.std.proofs.Common.{◌≤◌, ◌≡◌, ℕ, ◌+◌, ◌<◌, eqb, ltb, Bool, true, false, ◌&&◌, ◌||◌, List, [], ◌∷◌, length, pos, Option, None, Some, Result, Ok, Err, refl, sym, ◌∙◌, ap, subst, arith, ne_eqb, lt-ltb, append-nil, ◌*◌, ⊎_elim, length-append}
+use Rattle.std.proofs.Common.{◌≤◌, ◌≡◌, ℕ, ◌+◌, ◌<◌, eqb, ltb, Bool, true, false, ◌&&◌, ◌||◌, List, [], ◌∷◌, length, pos, Option, None, Some, Result, Ok, Err, refl, sym, ◌∙◌, ap, subst, arith, ne_eqb, lt-ltb, le-ltb, append-nil, ◌++◌, ◌*◌, ⊎_elim, length-append}
 use Rattle.std.specs.List.{flat_map}
 use Rattle.std.proofs.lemmas.Bool.{cond-true, cond-false, or_from, and_from, and_right, cases_Bool}
 use Rattle.std.proofs.lemmas.Nat.{mul-le}
 use Rattle.jbig2_base.specs.Results.{◌>>=◌, refuse_if}
 use Rattle.jbig2_base.specs.Combination.{combined_grid, combined_pixel, drawn_pixel}
 use Rattle.jbig2_base.specs.Grid.{Grid, grid_of, blank, pixel_at, check_sides, max_side}
-use Rattle.jbig2_framing.specs.CutOff.{sequence_cut_off}
+use Rattle.std.specs.Prelude.{IfOk}
+use Rattle.jbig2_framing.specs.CutOff.{sequence_cut_off, sequence_partial}
 use Rattle.jbig2_framing.specs.PageInfo.{height_of, information_at, initial_page_with}
 use Rattle.jbig2_framing.specs.Reading.{is_strict}
 use Rattle.jbig2_framing.specs.Segment.{SegmentView}
@@ -20,7 +21,9 @@ use Rattle.jbig2_framing.specs.declared.cut_off.CutOff.{CutOff}
 use Rattle.jbig2_framing.specs.declared.page_info.InitialPage.{InitialPage}
 use Rattle.jbig2_framing.specs.declared.page_info.PageInformation.{PageInformation}
 use Rattle.jbig2_framing.specs.declared.reading.Reading.{Reading}
+use Rattle.jbig2_framing.specs.declared.reading.Reading.TheVariants.{Strict, Lenient, Salvage}
 use Rattle.jbig2_framing.specs.declared.segment.SegmentType.TheVariants as types
+use Rattle.jbig2_framing.proofs.AgreeingCutOffs.{sequence-cut-same, sequence-never-cut}
 use Rattle.jbig2_base.proofs.GridLemmas.{grid_of-ext, pixel_at-grid_of}
 use Rattle.jbig2_coder.specs.Encoder.{encoded_bytes}
 use Rattle.jbig2_region.specs.Generic.{generic_coding, generic_decoded, generic_result}
@@ -31,8 +34,9 @@ use Rattle.jbig2_region.specs.declared.template.Template.TheVariants.{Template0,
 use Rattle.jbig2_region.specs.declared.template.AdaptiveTemplatePixel.{AdaptiveTemplatePixel}
 use Rattle.jbig2_region.specs.RegionInfo.{PlacedRegion, at_location}
 use Rattle.jbig2_page.specs.Names.{Names}
-use Rattle.jbig2_page.specs.Regions.{generic_at}
-use Rattle.jbig2_page.specs.Page.{Drawing, IsSide, ReadPage, beginning_of, blank_page, known_height, page_from, grid_of_page, immediate, lacks_referred, or_passed_over, or_left_out, or_told, with_cut_off, with_drawn_region, segments_drawn}
+use Rattle.jbig2_page.proofs.AgreeingPages.{no-part}
+use Rattle.jbig2_page.specs.Regions.{generic_at, is_partial, with_whole_rows}
+use Rattle.jbig2_page.specs.Page.{Drawing, IsSide, ReadPage, beginning_of, blank_page, known_height, page_from, part_of_list, grid_of_page, immediate, lacks_referred, or_passed_over, or_left_out, or_told, with_cut_off, with_drawn_region, segments_drawn}
 use Rattle.jbig2_inverses.specs.BitmapWriter.{mmr_bytes}
 use Rattle.jbig2_inverses.specs.GenericSegmentWriter.{adaptive_bytes, IsHeader, generic_bytes, info_bytes}
 use Rattle.jbig2_inverses.specs.RegionWriter.{is_typical, generic_entries}
@@ -50,6 +54,19 @@ grid-with-cut : (c : Option CutOff) (r : Result Drawing DecodeError) → ((r >>=
 grid-with-cut c (Err e) = refl
 grid-with-cut None (Ok d) = refl
 grid-with-cut (Some at) (Ok d) = refl
+
+-- bytes whose list of segments doesn't end early have no part of one
+no-part-of : (reading : Reading) (bytes : List ℕ) → sequence_cut_off Lenient bytes ≡ None → part_of_list reading (sequence_partial reading bytes) ≡ []
+no-part-of Strict bytes whole = refl
+no-part-of Lenient bytes whole = refl
+no-part-of Salvage bytes whole = ap (λ (o : Option SegmentView). part_of_list Salvage o) (no-part bytes whole)
+
+never-cut : (bytes : List ℕ) (ps : List SegmentView) → sequential Strict bytes ≡ Ok ps → sequence_cut_off Lenient bytes ≡ None
+never-cut bytes ps read = by (sequential Strict bytes) read (sequence-never-cut bytes) (sequence-cut-same bytes)
+  where
+    by : (r : Result (List SegmentView) DecodeError) → r ≡ Ok ps → IfOk r (λ qs. sequence_cut_off Strict bytes ≡ None) → IfOk r (λ qs. sequence_cut_off Strict bytes ≡ sequence_cut_off Lenient bytes) → sequence_cut_off Lenient bytes ≡ None
+    by (Ok qs) e never same = sym same ∙ never
+    by (Err error) e never same = absurd (cc)
 
 -- a region of the page's size, on a white page
 pixel-drawn : (w h : ℕ) (pixels : ℕ → ℕ → Bool) (i j : ℕ) → i < w → j < h → drawn_pixel Or (blank w h false) (grid_of w h pixels) (pos 0) (pos 0) i j ≡ pixels i j
@@ -127,7 +144,9 @@ module _ (reading : Reading) (globals : Names) (c : Choice) (w h : ℕ) (pixels 
   unfolding generic_at
   region-is =
       let placed : Result Grid DecodeError → Result PlacedRegion DecodeError = λ r. r >>= λ g. Ok (at_location header.region_info g) in
-      ap (λ (b : List ℕ). generic_header_at false strict b >>= λ x. generic_decoded x.0) (sym (bytes-same c w h pixels strict coded))
+      let whole : is_partial second ≡ false = le-ltb (length second.bytes) (length second.bytes) (omega arith) in
+      ap (λ (b : Bool). generic_header_at false strict second.bytes >>= λ x. generic_decoded (with_whole_rows b x.0)) whole
+      ∙ ap (λ (b : List ℕ). generic_header_at false strict b >>= λ x. generic_decoded x.0) (sym (bytes-same c w h pixels strict coded))
       ∙ ap (λ (r : Result (GenericHeader × List ℕ) DecodeError). r >>= λ x. generic_decoded x.0) (generic_segments_read_back header header-is)
       ∙ ap placed result-is
 
@@ -194,11 +213,13 @@ module _ (reading : Reading) (globals : Names) (c : Choice) (w h : ℕ) (pixels 
     cut_off = sequence_cut_off reading (page_bytes c w h pixels);
   }
 
-  page-is : length (region_bytes c w h pixels) < 4294967295 → page_from reading globals (page_bytes c w h pixels) ≡ Ok page
+  page-is : length (region_bytes c w h pixels) < 4294967295 → sequence_cut_off Lenient (page_bytes c w h pixels) ≡ None → page_from reading globals (page_bytes c w h pixels) ≡ Ok page
   unfolding page_from
-  page-is short =
+  page-is short whole =
       let made : InitialPage → ReadPage = λ i. record { reading = reading; initial_page = i; segments = first ∷ second ∷ []; globals = Ok globals; cut_off = sequence_cut_off reading (page_bytes c w h pixels) } in
-      ap (λ (r : Result (List SegmentView) DecodeError). (r >>= λ ps. Ok (by_number ps)) >>= λ ps. beginning_of reading ps >>= λ i. Ok (record { reading = reading; initial_page = i; segments = ps; globals = Ok globals; cut_off = sequence_cut_off reading (page_bytes c w h pixels) })) (segments-are short)
+      let next : List SegmentView → Result ReadPage DecodeError = λ ps. beginning_of reading ps >>= λ i. Ok (record { reading = reading; initial_page = i; segments = ps; globals = Ok globals; cut_off = sequence_cut_off reading (page_bytes c w h pixels) }) in
+      ap (λ (more : List SegmentView). (sequential reading (page_bytes c w h pixels) >>= λ ps. Ok (by_number (ps ++ more))) >>= next) (no-part-of reading (page_bytes c w h pixels) whole)
+      ∙ ap (λ (r : Result (List SegmentView) DecodeError). (r >>= λ ps. Ok (by_number (ps ++ []))) >>= next) (segments-are short)
       ∙ ap (λ (r : Result InitialPage DecodeError). r >>= λ i. Ok (made i)) beginning-is
 
   -- its drawing
@@ -271,4 +292,4 @@ data-short c w h pixels is columns rows given =
 pub pages_read_back : PagesReadBack
 pages_read_back reading globals c w h pixels is columns rows given =
     let short = data-short c w h pixels is columns.1 rows.1 given in
-    (page reading globals c w h pixels is columns rows, page-is reading globals c w h pixels is columns rows short, grid-is reading globals c w h pixels is columns rows)
+    (page reading globals c w h pixels is columns rows, page-is reading globals c w h pixels is columns rows short (never-cut (page_bytes c w h pixels) _ (segments-are Strict globals c w h pixels is columns rows short)), grid-is reading globals c w h pixels is columns rows)

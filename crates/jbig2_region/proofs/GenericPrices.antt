@@ -9,6 +9,7 @@ use Rattle.jbig2_region.specs.GenericSteps.{CountsCoded, read_pixels}
 use Rattle.jbig2_region.specs.Raster.{Coding, Region, row_decisions, source}
 use Rattle.jbig2_region.specs.Steps.{CountsRegion, coded_pixels, row_loads, row_tests, row_words}
 use Rattle.jbig2_region.specs.Templates.{adaptive_pixel_count, context_bits, is_nominal}
+use Rattle.jbig2_region.specs.WholeRows.{CountsWholeRows}
 use Rattle.jbig2_region.specs.declared.template.AdaptiveTemplatePixel.{AdaptiveTemplatePixel}
 use Rattle.jbig2_region.specs.declared.template.Template.{Template}
 use Rattle.jbig2_region.specs.declared.template.Template.TheVariants.{Template0, Template1, Template2, Template3}
@@ -84,3 +85,21 @@ all-read w bits most =
 pub coded-paid : (extended : Bool) (template : Template) (a : List AdaptiveTemplatePixel) (coding : Coding) (w h : ℕ) (bytes : List ℕ) (start : Region) (before after : Counts) → CountsCoded extended template a coding (source w h bytes start) before after → sum_of_counts after ≤ sum_of_counts before + 32 * price_of_bitmap w h
 coded-paid true template a coding w h bytes start before after counts = decided-paid coding (w * (context_bits template + 1)) w h bytes start before after (all-read w (context_bits template) (bits-most template)) counts
 coded-paid false template a coding w h bytes start before after counts = region-paid _ (is_nominal template a) (read_pixels template a) coding w h bytes start before after (read_pixels-few template a) counts
+
+-- ---- whole rows
+rows-most : (w h m bits decisions words loads : ℕ) → w ≤ 64 * m → 1 ≤ m → bits ≤ 16 → decisions ≤ h * (w + 1) → words ≤ h * w → loads ≤ h * (w * (bits + 1)) → decisions + words + loads ≤ 2048 * (m * h)
+rows-most w h m bits decisions words loads wide some most decided written read =
+    let each : w * (bits + 1) ≤ w * 17 = mul-le-mul_left w (omega arith) in
+    let all : h * (w * (bits + 1)) ≤ h * (1088 * m) = mul-le-mul_left h (omega (arith, each, wide)) in
+    let across : h * w ≤ h * (64 * m) = mul-le-mul_left h wide in
+    let high : h * 1 ≤ h * m = mul-le-mul_left h some in
+    omega (arith, decided, written, read, all, across, high)
+
+pub whole-rows-paid : (template : Template) (w h : ℕ) (bytes : List ℕ) (start : Region) (before after : Counts) → CountsWholeRows (w * (context_bits template + 1)) (source w h bytes start) before after → sum_of_counts after ≤ sum_of_counts before + 32 * price_of_bitmap w h
+whole-rows-paid template w h bytes start before after counts =
+    let all = rows-most w h (words_of_row w) (context_bits template) (h * (w + 1)) (h * w) (h * (w * (context_bits template + 1))) (row-wide w) (row-some w) (bits-most template) (same (h * (w + 1))) (same (h * w)) (same (h * (w * (context_bits template + 1)))) in
+    let paid = row-paid w h _ all in
+    omega (arith, paid, counts.decisions, counts.run_tests, counts.words, counts.loads, counts.lanes.groups, counts.lanes.pixels)
+  where
+    same : (n : ℕ) → n ≤ n
+    same n = omega arith

@@ -37,4 +37,5 @@ pub mod StretchLemmas
 pub mod UniformLemmas
 pub mod UnlikeLemmas
 pub mod UsedPixels
+pub mod WholeRowLemmas
 pub mod WindowLemmas

@@ -1,13 +1,12 @@
 -- The data of a generic region segment up to its coded bytes (T.88, 7.4.6): region information, flags and adaptive
 -- pixels. The bytes give the header, and the coded bytes come after it.
-use Rattle.std.specs.Prelude.{ℕ, ◌-◌, ◌/◌, ◌%◌, ◌≤◌, ◌==◌, nat_lt, Bool, true, false, ◌||◌, List, length, take, drop}
+use Rattle.std.specs.Prelude.{ℕ, ◌-◌, ◌/◌, ◌%◌, ◌≤◌, ◌==◌, nat_lt, Bool, true, false, List, length, take, drop}
 use Rattle.std.specs.Prelude.{Result, Ok}
 use Rattle.std.specs.Int.{w8, w32}
 use Rattle.jbig2_base.specs.Grid.{max_side, check_sides}
 use Rattle.jbig2_base.specs.Results.{refuse_if, ◌>>=◌}
 use Rattle.jbig2_base.specs.Fields.{number_at}
 use Rattle.jbig2_base.specs.declared.error.DecodeError.{DecodeError}
-use Rattle.jbig2_base.specs.declared.error.OverflowError.TheVariants.{BitmapDimension}
 use Rattle.jbig2_base.specs.declared.error.RegionError.TheVariants.{InvalidDimension}
 use Rattle.jbig2_region.specs.RegionInfo.{region_info_at}
 use Rattle.jbig2_region.specs.Templates.{adaptive_pixel_count, takes_extended, template_of, FitsTemplate}

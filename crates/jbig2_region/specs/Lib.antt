@@ -9,4 +9,5 @@ pub mod RefinementTemplates
 pub mod RegionInfo
 pub mod Steps
 pub mod Templates
+pub mod WholeRows
 pub mod inner

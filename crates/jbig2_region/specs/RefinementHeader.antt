@@ -1,18 +1,16 @@
 -- The data of a refinement region segment up to its coded bytes (T.88, 7.4.7): region information, flags and adaptive
 -- pixels. The bytes give the header, and the coded bytes come after it.
-use Rattle.std.specs.Prelude.{ℕ, ◌/◌, ◌%◌, ◌≤◌, ◌==◌, nat_lt, Bool, ◌||◌, List, Result, Ok}
+use Rattle.std.specs.Prelude.{ℕ, ◌/◌, ◌%◌, ◌≤◌, ◌==◌, Bool, List, Result, Ok}
 use Rattle.std.specs.Int.{w8}
 use Rattle.jbig2_base.specs.Grid.{max_side, check_sides}
-use Rattle.jbig2_base.specs.Results.{refuse_if, ◌>>=◌}
+use Rattle.jbig2_base.specs.Results.{◌>>=◌}
 use Rattle.jbig2_base.specs.Fields.{number_at}
 use Rattle.jbig2_base.specs.declared.error.DecodeError.{DecodeError}
-use Rattle.jbig2_base.specs.declared.error.OverflowError.TheVariants.{BitmapDimension}
 use Rattle.jbig2_region.specs.RegionInfo.{region_info_at}
 use Rattle.jbig2_region.specs.declared.region_info.RegionSegmentInfo.{RegionSegmentInfo}
 use Rattle.jbig2_region.specs.declared.template.AdaptiveTemplatePixel.{AdaptiveTemplatePixel}
 use Rattle.jbig2_region.specs.declared.template.RefinementTemplate.{RefinementTemplate}
 use Rattle.jbig2_region.specs.RefinementTemplates.{refinement_pixels_at, refinement_template_of}
-use Rattle.jbig2_base.specs.declared.error.DecodeError.TheVariants as errors
 
 pub record RefinementHeader : Type 0 where
   pub region_info : RegionSegmentInfo

@@ -1,7 +1,7 @@
 -- The templates of generic regions (T.88, 6.2.5.3, Figures 3 to 6, and the extended one). `template_pixels` takes a
 -- template and its adaptive pixels, and gives the pixels of a context. Then come the context of the decision that
 -- begins a row, and how a segment holds the adaptive pixels (7.4.6.3).
-use Rattle.std.specs.Prelude.{ℕ, ◌+◌, ◌==◌, ◌≡◌, Bool, true, false, not, ◌&&◌, ◌||◌, ℤ, pos, negsuc, ◌-ℤ◌, int_lt}
+use Rattle.std.specs.Prelude.{ℕ, ◌+◌, ◌==◌, ◌≡◌, Bool, true, false, not, ◌&&◌, ◌||◌, ℤ, pos, ◌-ℤ◌, int_lt}
 use Rattle.std.specs.Prelude.{List, [], ◌∷◌, zero, suc, slice_index_or, if◌then◌else◌, Result, Ok, int_le}
 use Rattle.std.specs.Int.{w8}
 use Rattle.std.specs.Ordering.{int_eq}

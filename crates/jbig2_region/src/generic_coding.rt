@@ -9,11 +9,13 @@ ghost use Rattle.jbig2_region.specs.GenericSteps.{CountsCoded, read_pixels};
 ghost use Rattle.jbig2_region.specs.Steps.{CountsRegion};
 ghost use Rattle.jbig2_region.specs.Templates.{FitsTemplate, context_bits, is_nominal, template_pixels};
 ghost use Rattle.jbig2_region.specs.inner.PixelArrays.{is_extended, pixels_view};
+ghost use Rattle.jbig2_region.specs.WholeRows.{CountsWholeRows, whole_rows};
 
 use crate::generic_kernel::decode_layout;
-use crate::raster::{PixelCoding, Row, decode_region, pixel_at};
+use crate::raster::{PixelCoding, Row, count_whole_rows, decode_region, pixel_at};
 use crate::template::generic::{extended_template_0, typical_context};
 use crate::template::layouts::layout_of;
+use crate::template::pixels::TemplatePixels;
 use crate::template::{AdaptiveTemplatePixel, GenericTemplatePixels, Template};
 use jbig2_base::bitmap::Bitmap;
 use jbig2_base::bitmap::steps::Steps;
@@ -195,6 +197,49 @@ pub fn decode_coded<A: Allocator, L: Ledger>(
             let layout = layout_of(template, a);
             let row_context = typical_context(template, typical);
             decode_layout(&layout, row_context, bitmap, decoder, contexts, steps);
+        }
+    }
+}
+
+/// Counts the whole rows of a region, as `count_whole_rows` does.
+pub(crate) fn count_coded_rows<A: Allocator, L: Ledger>(
+    template: Template,
+    typical: bool,
+    adaptive: &GenericTemplatePixels,
+    bitmap: &mut Bitmap<A>,
+    decoder: &mut ArithmeticDecoder<'_>,
+    contexts: &mut [ArithmeticDecoderContext],
+    steps: &mut Steps<L>,
+) -> u32
+    requires fits { FitsTemplate (is_extended adaptive.now) template }
+    requires ready { IsReady (context_bits template) bitmap.old contexts.old }
+    requires some { 1 ≤ bitmap.old.width }
+    ensures rows { let extended = is_extended adaptive.now in
+        let pixels = template_pixels extended template (pixels_view false template adaptive.now) in
+        result ≡ whole_rows (coding_of typical template pixels)
+        (source_of (region_state bitmap.old decoder.old contexts.old)) bitmap.old.height }
+    ensures steps { CountsWholeRows (bitmap.old.width * (context_bits template + 1))
+        (source_of (region_state bitmap.old decoder.old contexts.old)) steps.old steps.new }
+{
+    match adaptive {
+        GenericTemplatePixels::Extended(a) => {
+            let coding = GenericCoding {
+                template,
+                typical,
+                pixels: &extended_template_0(a),
+                skip: None::<&Bitmap<A>>,
+            };
+            count_whole_rows(&coding, bitmap, decoder, contexts, steps)
+        }
+        GenericTemplatePixels::Regular(a) => {
+            let pixels = TemplatePixels::regular(template, a);
+            let coding = GenericCoding {
+                template,
+                typical,
+                pixels: pixels.as_slice(),
+                skip: None::<&Bitmap<A>>,
+            };
+            count_whole_rows(&coding, bitmap, decoder, contexts, steps)
         }
     }
 }

@@ -7,6 +7,7 @@ ghost use Rattle.jbig2_region.specs.Steps.{CountsDecided};
 ghost use Rattle.jbig2_region.specs.Raster.{Coding, fresh_contexts};
 ghost use Rattle.jbig2_region.specs.inner.RegionStates.{DecodesRegion, IsReady, counted_region, region_state, source_of};
 ghost use Rattle.jbig2_region.specs.inner.Stretches.{DecodesPixels};
+ghost use Rattle.jbig2_region.specs.WholeRows.{CountsWholeRows, whole_rows};
 
 use crate::row_decision::begin_row;
 use jbig2_base::bitmap::Bitmap;
@@ -191,6 +192,42 @@ pub fn decode_region<C: PixelCoding, A: Allocator, L: Ledger>(
             steps,
         );
     }
+}
+
+/// Decodes a region into a white bitmap of its size, up to the first row that is not whole, and
+/// returns how many rows are whole: when such a row ended, the coder had not read beyond the last
+/// byte.
+pub fn count_whole_rows<C: PixelCoding, A: Allocator, L: Ledger>(
+    coding: &C,
+    bitmap: &mut Bitmap<A>,
+    decoder: &mut ArithmeticDecoder<'_>,
+    contexts: &mut [ArithmeticDecoderContext],
+    steps: &mut Steps<L>,
+) -> u32
+    requires ready { IsReady (C.bits coding.now) bitmap.old contexts.old }
+    requires some { 1 ≤ bitmap.old.width }
+    ensures rows { result ≡ whole_rows (C.coding coding.now)
+        (source_of (region_state bitmap.old decoder.old contexts.old)) bitmap.old.height }
+    ensures steps { CountsWholeRows
+        (bitmap.old.width * (C.bits coding.now + C.known_loads coding.now))
+        (source_of (region_state bitmap.old decoder.old contexts.old)) steps.old steps.new }
+{
+    let mut predicted = false;
+    for y in 0..bitmap.height() {
+        predicted = begin_row(coding.row_context(), predicted, decoder, contexts, steps);
+        decode_row(
+            coding,
+            Row { y, predicted },
+            bitmap,
+            decoder,
+            contexts,
+            steps,
+        );
+        if !decoder.is_within_data() {
+            return y;
+        }
+    }
+    bitmap.height()
 }
 
 /// Makes `contexts` 2 to the power of `bits` fresh contexts.

@@ -10,5 +10,6 @@ pub mod PayingLemmas
 pub mod RefiningLemmas
 pub mod RegionLemmas
 pub mod SymbolLemmas
+pub mod WholeInstanceLemmas
 mod WorkedCodedTexts
 mod WorkedTexts

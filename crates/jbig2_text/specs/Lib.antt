@@ -6,4 +6,5 @@ pub mod Text
 pub mod TextCoding
 pub mod TextHeader
 pub mod TextRegion
+pub mod WholeInstances
 pub mod inner

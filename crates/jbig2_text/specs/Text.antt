@@ -1,6 +1,6 @@
 -- Text regions (T.88, 6.4): instances of symbols, one after the other. The numbers of an instance are read, and then
 -- its symbol is drawn. A coordinate that isn't a signed number of 32 bits is refused (our own rule).
-use Rattle.std.specs.Prelude.{ℕ, zero, suc, ◌-◌, ◌*◌, ◌^◌, nat_le, nat_lt, ◌==◌, Bool, true, false, ◌||◌, if◌then◌else◌}
+use Rattle.std.specs.Prelude.{ℕ, zero, suc, ◌-◌, ◌*◌, ◌^◌, nat_le, nat_lt, ◌==◌, Bool, true, false, if◌then◌else◌}
 use Rattle.std.specs.Prelude.{ℤ, pos, negsuc, ◌+ℤ◌, ◌-ℤ◌, ◌*ℤ◌, List, slice_get, Option, Some, None}
 use Rattle.std.specs.Prelude.{Result, Ok, Err}
 use Rattle.std.specs.Int.{int_shr}
@@ -39,6 +39,7 @@ pub record Instance : Type 0 where  -- a symbol, and the column and the row of i
 -- How the numbers are coded (6.4.6 to 6.4.11). Each reading takes a state of the coder, and gives a value and the state
 -- after it. A delta S takes its bits even where it is refused; its None ends a strip. `t_bits` also takes the log of
 -- the strip size; `refined` takes the reference, the width, the height and the contexts, and returns these as learned.
+-- `is_within` says whether what was read so far lies within the data (our own rule).
 pub record Readings (S : Type 0) : Type 0 where
   pub delta_t : S → Result (ℤ × S) DecodeError
   pub first_s : S → Result (ℤ × S) DecodeError
@@ -52,6 +53,7 @@ pub record Readings (S : Type 0) : Type 0 where
   pub x_delta : S → Result (ℤ × S) DecodeError
   pub y_delta : S → Result (ℤ × S) DecodeError
   pub refined : Reference → ℕ → ℕ → Refining → S → Result (Grid × Refining × S) DecodeError
+  pub is_within : S → Bool
 
 -- the region so far (SBREG), the place of the next instance, the contexts and the coder
 pub record TextState (S : Type 0) : Type 0 where

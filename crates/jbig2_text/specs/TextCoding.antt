@@ -1,6 +1,6 @@
 -- The two ways in which the numbers of a text region are coded (T.88, 6.4.6 to 6.4.11): by the arithmetic coder with
 -- its integer procedures, and by prefix codes. Symbol dictionaries read with the same states.
-use Rattle.std.specs.Prelude.{ℕ, ◌%◌, ◌^◌, ◌==◌, not, ℤ, pos, negsuc, nat_abs, List, Option, Result, Ok, Err, replicate}
+use Rattle.std.specs.Prelude.{ℕ, ◌%◌, ◌^◌, ◌==◌, true, not, ℤ, pos, negsuc, nat_abs, List, Option, Result, Ok, Err, replicate}
 use Rattle.jbig2_base.specs.Results.{◌>>=◌, some_or}
 use Rattle.jbig2_base.specs.Bits.{Place, byte_boundary, bits_left, bits_on, start_of}
 use Rattle.jbig2_base.specs.Fields.{bits_at, bytes_at, end_of_bytes}
@@ -8,7 +8,7 @@ use Rattle.jbig2_base.specs.Grid.{Grid}
 use Rattle.jbig2_base.specs.declared.error.DecodeError.{DecodeError}
 use Rattle.jbig2_base.specs.declared.error.DecodeError.TheVariants.{Symbol}
 use Rattle.jbig2_base.specs.declared.error.SymbolError.TheVariants.{UnexpectedOob}
-use Rattle.jbig2_coder.specs.Coder.{Coder, fresh, initial_registers}
+use Rattle.jbig2_coder.specs.Coder.{Coder, fresh, initial_registers, is_within}
 use Rattle.jbig2_coder.specs.Integers.{Ids, id, value_of_bits, Procedures, integer_by, fresh_procedures}
 use Rattle.jbig2_coder.specs.PrefixCode.{Member, decoded_value}
 use Rattle.jbig2_coder.specs.declared.integer_procedures.IntegerProcedure.{IntegerProcedure}
@@ -68,6 +68,7 @@ by_coder = record {
   y_delta = number_by_coder Iardy;
   refined = λ from width height f s.
       let r = refined_with f from width height s.coder in Ok (r.grid, r.refining, record s { coder = r.coder });
+  is_within = λ s. is_within s.coder.bytes s.coder.registers;
 }
 
 -- ---- by prefix codes
@@ -106,6 +107,7 @@ prefixed_refined from width height f s = do
   let r = refined_with f from width height (record { bytes = coded; registers = initial_registers coded })
   Ok (r.grid, r.refining, record s { place = rest })
 
+-- Bits that end are an error here, so what was read is always within the data (our own rule).
 abbrev pub by_prefix_codes : Readings PrefixedState
 by_prefix_codes = record {
   delta_t = λ s. prefixed_value s.tables.delta_t s;
@@ -121,4 +123,5 @@ by_prefix_codes = record {
   x_delta = λ s. prefixed_value s.tables.refinement_x s;
   y_delta = λ s. prefixed_value s.tables.refinement_y s;
   refined = prefixed_refined;
+  is_within = λ _. true;
 }

@@ -1,13 +1,12 @@
 -- A text region segment (T.88, 7.4.3). `text_decoded` takes the header with the coded bytes, and the symbols and the
 -- custom tables that the segment refers to. It gives the region's grid at its place, decoded from fresh states.
-use Rattle.std.specs.Prelude.{ℕ, nat_lt, ◌==◌, ◌||◌, if◌then◌else◌, List, length, Result, Ok, Err}
-use Rattle.jbig2_base.specs.Results.{◌>>=◌, refuse_if}
+use Rattle.std.specs.Prelude.{ℕ, ◌==◌, if◌then◌else◌, List, length, Result, Ok, Err}
+use Rattle.jbig2_base.specs.Results.{◌>>=◌}
 use Rattle.jbig2_base.specs.Bits.{start_of}
 use Rattle.jbig2_base.specs.Grid.{Grid, blank, check_sides}
 use Rattle.jbig2_base.specs.declared.error.DecodeError.{DecodeError}
-use Rattle.jbig2_base.specs.declared.error.DecodeError.TheVariants.{Huffman, Overflow}
+use Rattle.jbig2_base.specs.declared.error.DecodeError.TheVariants.{Huffman}
 use Rattle.jbig2_base.specs.declared.error.HuffmanError.TheVariants.{InvalidSelection}
-use Rattle.jbig2_base.specs.declared.error.OverflowError.TheVariants.{BitmapDimension}
 use Rattle.jbig2_base.specs.Search.{code_length}
 use Rattle.jbig2_coder.specs.PrefixCode.{Member, prefix_code}
 use Rattle.jbig2_coder.specs.Tables.{next_custom, standard, lines_a, lines_f, lines_g, lines_h, lines_i, lines_j}

@@ -157,4 +157,8 @@ impl<A: Allocator> ReadInstances for CodedReadings<'_, A> {
         refining.refine(reference, bitmap, &mut self.decoder, work);
         Ok(())
     }
+
+    fn is_within_data(&self) -> bool {
+        self.decoder.is_within_data()
+    }
 }

@@ -23,10 +23,10 @@ use std::alloc::Allocator;
 use std::sync::ledger::Ledger;
 
 /// The work of an instance, without the pixels of its symbol.
-const INSTANCE: u64 = 256;
+pub(crate) const INSTANCE: u64 = 256;
 
 /// How many instances there may be for each byte of a segment.
-const INSTANCES_PER_BYTE: usize = 32;
+pub(crate) const INSTANCES_PER_BYTE: usize = 32;
 
 /// Draws a symbol at CURS and at T, and returns the place after it. Without a symbol nothing
 /// changes.
@@ -57,7 +57,7 @@ fn draw_symbol<A: Allocator, L: Ledger>(
 
 /// Reads and draws the instance at the cursor. Returns the cursor after it.
 #[tactic(auto, unfolding(crate::specs::Text::with_instance))]
-fn draw_instance<R: ReadInstances, A: Allocator + Clone, L: Ledger>(
+pub(crate) fn draw_instance<R: ReadInstances, A: Allocator + Clone, L: Ledger>(
     readings: &mut R,
     refining: &mut Refining<A>,
     params: &TextParams<'_, A>,
@@ -197,7 +197,7 @@ fn draw_strips<R: ReadInstances, A: Allocator + Clone, L: Ledger>(
 }
 
 /// Whether there are more instances than the segment's bytes allow.
-fn is_too_many(count: u32, data_len: usize) -> bool
+pub(crate) fn is_too_many(count: u32, data_len: usize) -> bool
     ensures { result ≡ nat_lt (32 * data_len) count }
 {
     data_len.saturating_mul(INSTANCES_PER_BYTE) < count as usize

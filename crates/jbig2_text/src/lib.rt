@@ -30,6 +30,7 @@ mod symbol_codes;
 pub(crate) mod symbol_list;
 pub(crate) mod symbols;
 pub(crate) mod tables;
+mod whole;
 
 pub use crate::coded::CodedReadings;
 use crate::header::{TextRegionCoding, TextRegionFlags, TextRegionHeader, TextRegionHuffmanFlags};
@@ -42,6 +43,7 @@ pub use crate::symbol_list::SymbolList;
 pub use crate::symbols::TextParams;
 pub use crate::tables::TextRegionHuffmanTables;
 use crate::tables::select_tables;
+pub use crate::whole::whole_instances;
 pub use header::parse;
 use jbig2_base::bitmap::Bitmap;
 use jbig2_base::bitmap::steps::Work;

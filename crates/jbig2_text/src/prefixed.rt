@@ -105,4 +105,8 @@ impl<A: Allocator> ReadInstances for PrefixedReadings<'_, '_, A> {
         refining.refine(reference, bitmap, &mut decoder, work);
         Ok(())
     }
+
+    fn is_within_data(&self) -> bool {
+        true
+    }
 }

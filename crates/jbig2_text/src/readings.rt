@@ -102,4 +102,8 @@ pub trait ReadInstances {
             Returns (λ _. (bitmap.new, refining.new, state self.new)) result meant }
         ensures paid { PaidBut (32 * price_of_bitmap bitmap.old.width bitmap.old.height)
             work.old work.new };
+
+    /// Whether what was read so far lies within the data.
+    fn is_within_data(&self) -> bool
+        ensures { result ≡ readings.is_within (state self.now) };
 }

@@ -1,5 +1,5 @@
 -- Segments of the code, as segments of the definitions.
-use Rattle.std.specs.Prelude.{List, map}
+use Rattle.std.specs.Prelude.{List, map, Option, option_map}
 use Rattle.jbig2_framing.specs.Segment.{Header, SegmentView}
 use Rattle.jbig2_framing.specs.declared.file.File.{File}
 use Rattle.jbig2_framing.specs.declared.file_header.FileHeader.{FileHeader}
@@ -18,6 +18,9 @@ header_view h = record {
 
 abbrev pub segment_view : {A : Type 0} → Segment A → SegmentView
 segment_view s = record { header = header_view s.header; bytes = s.bytes.now }
+
+abbrev pub partial_view : {A : Type 0} → Option (Segment A) → Option SegmentView
+partial_view segment = option_map (λ s. segment_view s) segment
 
 abbrev pub segment_views : {A : Type 0} → List (Segment A) → List SegmentView
 segment_views segments = map (λ s. segment_view s) segments

@@ -1,10 +1,9 @@
 -- How a region is decoded, once its header is read and what it refers to is found (T.88, 7.4.3 and 7.4.5 to 7.4.7).
-use Rattle.std.specs.Prelude.{◌≡◌, ◌≤◌, Bool, false, ◌||◌, nat_lt, Result, Ok, Err, ◌⊎◌}
-use Rattle.jbig2_base.specs.Results.{◌>>=◌, refuse_if}
+use Rattle.std.specs.Prelude.{◌≡◌, ◌≤◌, Bool, false, Result, Ok, Err, ◌⊎◌}
+use Rattle.jbig2_base.specs.Results.{◌>>=◌}
 use Rattle.jbig2_base.specs.Grid.{Grid, max_side, check_sides}
 use Rattle.jbig2_base.specs.declared.error.DecodeError.{DecodeError}
-use Rattle.jbig2_base.specs.declared.error.DecodeError.TheVariants.{OutOfMemory, Overflow}
-use Rattle.jbig2_base.specs.declared.error.OverflowError.TheVariants.{BitmapDimension}
+use Rattle.jbig2_base.specs.declared.error.DecodeError.TheVariants.{OutOfMemory}
 use Rattle.jbig2_region.specs.RegionInfo.{PlacedRegion, at_location}
 use Rattle.jbig2_region.specs.Generic.{generic_result}
 use Rattle.jbig2_region.specs.inner.RegionViews.{region_view}

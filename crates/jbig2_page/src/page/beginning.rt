@@ -3,7 +3,7 @@ ghost use Rattle.std.specs.Prelude.{◌≡◌, ◌≤◌, IfOk, min};
 ghost use Rattle.jbig2_base.specs.Grid.{max_side};
 ghost use Rattle.jbig2_base.specs.Results.{Returns};
 ghost use Rattle.jbig2_framing.specs.inner.SegmentViews.{segment_view, segment_views};
-ghost use Rattle.jbig2_page.specs.Page.{beginning_of, end_of, is_immediate, region_height, region_type, regions_height, known_height};
+ghost use Rattle.jbig2_page.specs.Page.{beginning_of, end_of, is_immediate, info_at, region_height, region_type, regions_height, known_height};
 
 use jbig2_base::bitmap::MAX_DIMENSION;
 use jbig2_base::error::Result;
@@ -11,6 +11,7 @@ use jbig2_base::reader::Reader;
 use jbig2_framing::page_info::{InitialPage, stripes_height};
 use jbig2_framing::reading::Reading;
 use jbig2_framing::segment::{Segment, SegmentType};
+use jbig2_region::generic;
 use jbig2_region::region_info::{RegionSegmentInfo, parse_region_segment_info};
 use std::alloc::Allocator;
 
@@ -43,6 +44,23 @@ fn end_of(info: &RegionSegmentInfo) -> u32
         .min(MAX_DIMENSION)
 }
 
+/// The information of a region (T.88, 7.4.1). A generic region of unknown length has the number of its rows after its
+/// data (7.4.6.4).
+fn info_at<A: Allocator>(segment: &Segment<'_, A>) -> Result<RegionSegmentInfo>
+    ensures { Returns (λ info. info) result (info_at (segment_view segment.now)) }
+{
+    let mut reader = Reader::new(segment.bytes);
+    let is_generic = matches!(
+        segment.header.segment_type,
+        SegmentType::ImmediateGenericRegion | SegmentType::ImmediateLosslessGenericRegion
+    );
+    if is_generic && segment.header.data_length.is_none() {
+        let header = generic::parse(&mut reader, true, false)?;
+        return Ok(header.region_info);
+    }
+    parse_region_segment_info(&mut reader)
+}
+
 /// How high a page is that ends with this region. It is 0 for all but an immediate region that can be read and drawn.
 fn region_height<A: Allocator>(segment: &Segment<'_, A>) -> u32
     ensures { result ≡ region_height (segment_view segment.now) }
@@ -50,8 +68,7 @@ fn region_height<A: Allocator>(segment: &Segment<'_, A>) -> u32
     if !is_immediate_region(segment.header.segment_type) {
         return 0;
     }
-    let mut reader = Reader::new(segment.bytes);
-    let Ok(info) = parse_region_segment_info(&mut reader) else {
+    let Ok(info) = info_at(segment) else {
         return 0;
     };
     if info.width > MAX_DIMENSION || info.height > MAX_DIMENSION {

@@ -40,6 +40,25 @@ const DOT_WHITE: &[Call] = &[
     LINE,
 ];
 
+/// A row of some black pixels, and three white rows.
+const FIRST_OF_FOUR: &[Call] = &[
+    INK,
+    PAPER,
+    INK,
+    PAPER,
+    PAPER,
+    INK,
+    PAPER,
+    INK,
+    LINE,
+    Call::Chunk(false, 1),
+    LINE,
+    Call::Chunk(false, 1),
+    LINE,
+    Call::Chunk(false, 1),
+    LINE,
+];
+
 const ONE_PAGE: &[FilePage] = &[FilePage {
     number: 1,
     dimensions: (8, 1),
@@ -69,6 +88,9 @@ const CUT_OFF: Report = Report {
     first: None,
     cut_off: Some((Some(1), TOO_EARLY)),
 };
+
+/// The same of a file in sequence.
+const PART: Option<(Option<u32>, DecodeError)> = Some((Some(1), TOO_EARLY));
 
 /// Segment 2 has no end marker.
 const NO_MARKER: Option<(Option<u32>, DecodeError)> = Some((
@@ -122,6 +144,19 @@ const ROWS: &[Row] = &[
                     passed_over: 1,
                     first: Some((Some(2), TOO_EARLY)),
                     cut_off: Some((Some(2), TOO_EARLY)),
+                },
+            }),
+            // Only the first row of the region is whole.
+            Case::Salvage(SalvageCase::Page {
+                globals: "",
+                bytes: "P@15=00000004 00000001 26 00 01 00000020 00000008 00000004 00*9 00 03FFFDFF02FEFEFE \
+                    BE3C87",
+                answer: Calls(FIRST_OF_FOUR),
+                globals_report: NOTHING,
+                report: Report {
+                    passed_over: 1,
+                    first: PART,
+                    cut_off: PART,
                 },
             }),
         ],
@@ -240,6 +275,14 @@ const ROWS: &[Row] = &[
                 globals_report: NOTHING,
                 report: NOTHING,
             }),
+            // The region has the number of its rows after its data.
+            Case::Salvage(SalvageCase::Page {
+                globals: "",
+                bytes: "P@15=FFFFFFFF G8@7=FFFFFFFF@15=FFFFFFFF FFAC 00000001",
+                answer: Calls(BLACK),
+                globals_report: NOTHING,
+                report: NOTHING,
+            }),
             Case::Salvage(SalvageCase::Page {
                 globals: "",
                 bytes: "P@15=FFFFFFFF G@23=FFFFFFFF",
@@ -276,6 +319,18 @@ const ROWS: &[Row] = &[
                 pages: ONE_PAGE,
                 left_out: &[],
                 report: BAD_REFERENCE,
+            }),
+            // Only the first row of the region is whole.
+            Case::Salvage(SalvageCase::File {
+                bytes: "H 01 00000001 P@15=00000004 00000001 26 00 01 00000020 00000008 00000004 00*9 00 \
+                    03FFFDFF02FEFEFE BE3C87",
+                pages: &[FilePage {
+                    number: 1,
+                    dimensions: (8, 4),
+                    answer: Calls(FIRST_OF_FOUR),
+                }],
+                left_out: &[],
+                report: CUT_OFF,
             }),
         ],
     },

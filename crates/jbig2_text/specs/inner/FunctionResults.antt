@@ -1,12 +1,12 @@
 -- Parts of the definitions that have a name here, because private functions give them.
-use Rattle.std.specs.Prelude.{◌≡◌, ℕ, ◌-◌, ◌/◌, ◌%◌, ◌==◌, Bool, false, if◌then◌else◌, ℤ, pos, ◌-ℤ◌, List, [], Option}
-use Rattle.std.specs.Prelude.{Result, Ok}
+use Rattle.std.specs.Prelude.{◌≡◌, ◌≢◌, ℕ, ◌-◌, ◌/◌, ◌%◌, ◌==◌, Bool, false, if◌then◌else◌, ℤ, pos, ◌-ℤ◌, List, [], Option}
+use Rattle.std.specs.Prelude.{Result, Ok, Err}
 use Rattle.std.specs.Option.{is_some}
 use Rattle.jbig2_base.specs.Results.{◌>>=◌, refuse_if}
 use Rattle.jbig2_base.specs.Grid.{Grid}
 use Rattle.jbig2_base.specs.declared.bitmap.operator.CombinationOperator.{CombinationOperator}
 use Rattle.jbig2_base.specs.declared.error.DecodeError.{DecodeError}
-use Rattle.jbig2_base.specs.declared.error.DecodeError.TheVariants.{Symbol}
+use Rattle.jbig2_base.specs.declared.error.DecodeError.TheVariants.{OutOfMemory, Symbol}
 use Rattle.jbig2_base.specs.declared.error.SymbolError.TheVariants.{TooManyInstances}
 use Rattle.jbig2_coder.specs.Coder.{Context}
 use Rattle.jbig2_coder.specs.PrefixCode.{Member, prefix_code}
@@ -77,6 +77,11 @@ reaching region c f s = record { region = region; cursor = c; refining = f; stat
 -- whether a strip may end with this IDS
 abbrev pub end_of_strip : Bool → Result (Option ℤ) DecodeError → Result (Unit {0}) DecodeError
 end_of_strip strict ids = if strict then (ids >>= λ o. refuse_if (is_some o) (Symbol TooManyInstances)) else Ok tt
+
+-- At an error this many are counted. Without memory there is no count.
+abbrev pub CountsAt : DecodeError → ℕ → Result ℕ DecodeError → Type 0
+CountsAt e n (Ok counted) = (counted ≡ n) × (e ≢ OutOfMemory)
+CountsAt e n (Err fault) = fault ≡ OutOfMemory
 
 module _ {S : Type 0} (r : Readings S) (p : TextParams) where
   -- one more instance, and the place of the one after it

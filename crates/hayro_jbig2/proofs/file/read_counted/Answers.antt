@@ -1,5 +1,5 @@
 use Rattle.std.proofs.Common.{arith}
-use Rattle.jbig2_framing.specs.File.{file_at}
+use Rattle.jbig2_page.specs.Files.{segments_at}
 use Rattle.hayro_jbig2.proofs.Limits.{limit-taken, limit-taken-shared}
 use Rattle.hayro_jbig2.proofs.file.read_counted.Goals as goal
 
@@ -10,5 +10,5 @@ returns-clause-limit g c =
 
 pub returns-clause-taken : goal.returns-clause-taken
 returns-clause-taken g c =
-    limit-taken-shared (file_at c.args.reading c.args.bytes.now) c.read-read.result c.args.limit.now c.end.new.self c.counter-work.result c.read-read.new.work c.end.ensures c.counter-work.ensures.steps c.counter-work.ensures.left
+    limit-taken-shared (segments_at c.args.reading c.args.bytes.now) c.read-read.result c.args.limit.now c.end.new.self c.counter-work.result c.read-read.new.work c.end.ensures c.counter-work.ensures.steps c.counter-work.ensures.left
     c.read-read.ensures.taken

@@ -2,10 +2,10 @@ use Rattle.std.proofs.Common.{◌≡◌, ℕ, ◌<◌, subst, List, ◌++◌, �
 use Rattle.std.proofs.lemmas.Bool.{eqb-false, eqb-true, false≢true}
 use Rattle.std.proofs.lemmas.List.{map_push}
 use Rattle.jbig2_base.specs.Bits.{Place}
-use Rattle.jbig2_framing.specs.CutOff.{first_refused, sequence_cut_off, with_place}
+use Rattle.jbig2_framing.specs.CutOff.{first_refused, partial_at, sequence_cut_off, sequence_partial, with_partial, with_place}
 use Rattle.jbig2_framing.specs.Reading.{is_strict}
 use Rattle.jbig2_framing.specs.Segment.{SegmentView, segment_at}
-use Rattle.jbig2_framing.specs.inner.SegmentViews.{segment_views, segment_view}
+use Rattle.jbig2_framing.specs.inner.SegmentViews.{partial_view, segment_views, segment_view}
 use Rattle.jbig2_framing.specs.Sequential.{sequential, is_cut_off, is_end_of_file}
 use Rattle.jbig2_base.specs.declared.error.DecodeError.{DecodeError}
 use Rattle.jbig2_base.specs.declared.error.DecodeError.TheVariants.{OutOfMemory}
@@ -24,6 +24,16 @@ ends p = is_end_of_file p.header.segment_type
 -- the cut-off at the place that is refused
 placed : (reading : Reading) (bytes : List ℕ) (place : Option (List ℕ × DecodeError)) → place ≡ first_refused (read_by reading) ends (length bytes) bytes → with_place (is_strict reading) place ≡ sequence_cut_off reading bytes
 placed reading bytes place is = ap (λ (p : Option (List ℕ × DecodeError)). with_place (is_strict reading) p) is
+
+-- what is there of the segment at the place that is refused
+partly : (reading : Reading) (bytes : List ℕ) (place : Option (List ℕ × DecodeError)) → place ≡ first_refused (read_by reading) ends (length bytes) bytes → with_partial (is_strict reading) place ≡ sequence_partial reading bytes
+partly reading bytes place is = ap (λ (p : Option (List ℕ × DecodeError)). with_partial (is_strict reading) p) is
+
+partial_place : (strict test : Bool) (left bytes : List ℕ) (found : Option SegmentView) → strict ≡ test → left ≡ bytes → ◌≡◌ {A = Result (Option SegmentView) DecodeError} (Ok (partial_at strict left)) (Ok found) → found ≡ partial_at test bytes
+partial_place strict test left bytes found e f is = rw (sym e, sym f) (same found (partial_at strict left) is)
+  where
+    same : (x y : Option SegmentView) → ◌≡◌ {A = Result (Option SegmentView) DecodeError} (Ok y) (Ok x) → x ≡ y
+    same x y e = cc
 
 pub loop-reader-init : goal.loop-reader-init
 loop-reader-init g c =
@@ -45,6 +55,14 @@ returns-then-last-clause-cut_off g c =
     let some : 0 < length bytes = omega (arith, c.in-Ok.ensures.taken) in
     let read = read-as c.is_strict-strict.result c.args.reading bytes (Ok (segment_view c.in-Ok.segment, c.parse_segment.new.reader.bytes)) c.is_strict-strict.ensures c.in-Ok.ensures.parses.value in
     placed c.args.reading c.args.bytes.now None
+    (refuses-last (read_by c.args.reading) ends bytes c.parse_segment.new.reader.bytes (first_refused (read_by c.args.reading) ends (length c.args.bytes.now) c.args.bytes.now) (segment_view c.in-Ok.segment) c.loop-reader.invariant.refuses read some (sym c.if-last.ensures))
+
+pub returns-then-last-clause-partial : goal.returns-then-last-clause-partial
+returns-then-last-clause-partial g c =
+    let bytes = c.loop-reader.reader.bytes in
+    let some : 0 < length bytes = omega (arith, c.in-Ok.ensures.taken) in
+    let read = read-as c.is_strict-strict.result c.args.reading bytes (Ok (segment_view c.in-Ok.segment, c.parse_segment.new.reader.bytes)) c.is_strict-strict.ensures c.in-Ok.ensures.parses.value in
+    partly c.args.reading c.args.bytes.now None
     (refuses-last (read_by c.args.reading) ends bytes c.parse_segment.new.reader.bytes (first_refused (read_by c.args.reading) ends (length c.args.bytes.now) c.args.bytes.now) (segment_view c.in-Ok.segment) c.loop-reader.invariant.refuses read some (sym c.if-last.ensures))
 
 pub returns-then-last-clause-value : goal.returns-then-last-clause-value
@@ -88,6 +106,16 @@ returns-then-is_cut_off-clause-cut_off g c =
     ∙ placed c.args.reading c.args.bytes.now (Some (bytes, c.in-Err.error))
     (refuses-here (read_by c.args.reading) ends bytes (first_refused (read_by c.args.reading) ends (length c.args.bytes.now) c.args.bytes.now) c.in-Err.error c.loop-reader.invariant.refuses refused some)
 
+pub returns-then-is_cut_off-clause-partial : goal.returns-then-is_cut_off-clause-partial
+returns-then-is_cut_off-clause-partial g c =
+    let bytes = c.loop-reader.reader.bytes in
+    let some : 0 < length bytes = omega (arith, eqb-false (length bytes) 0 (sym c.loop-reader-test.ensures)) in
+    let refused = read-as c.is_strict-strict.result c.args.reading bytes (Err c.in-Err.error) c.is_strict-strict.ensures
+    (given c.args.reading c.in-Err.error (segment_at c.is_strict-strict.result bytes) c.in-Err.ensures.parses.value (sym c.if-is_cut_off.ensures)) in
+    partial_place c.is_strict-strict.result (is_strict c.args.reading) c.parse_segment.new.reader.bytes bytes (partial_view c.in_ok-partial-in-Err.partial) c.is_strict-strict.ensures (ap (λ (p : Place). p.bytes) c.in-Err.ensures.parses.stays) c.in_ok-partial-in-Err.ensures
+    ∙ partly c.args.reading c.args.bytes.now (Some (bytes, c.in-Err.error))
+    (refuses-here (read_by c.args.reading) ends bytes (first_refused (read_by c.args.reading) ends (length c.args.bytes.now) c.args.bytes.now) c.in-Err.error c.loop-reader.invariant.refuses refused some)
+
 pub returns-then-is_cut_off-clause-value : goal.returns-then-is_cut_off-clause-value
 returns-then-is_cut_off-clause-value g c =
     let some : 0 < length c.loop-reader.reader.bytes = omega (arith, eqb-false (length c.loop-reader.reader.bytes) 0 (sym c.loop-reader-test.ensures)) in
@@ -105,6 +133,11 @@ returns-in-Err-clause-value g c =
 pub returns-clause-cut_off : goal.returns-clause-cut_off
 returns-clause-cut_off g c =
     placed c.args.reading c.args.bytes.now None
+    (refuses-none (read_by c.args.reading) ends c.loop-reader.reader.bytes (first_refused (read_by c.args.reading) ends (length c.args.bytes.now) c.args.bytes.now) c.loop-reader.invariant.refuses (eqb-true (length c.loop-reader.reader.bytes) 0 (sym c.loop-reader-test.ensures)))
+
+pub returns-clause-partial : goal.returns-clause-partial
+returns-clause-partial g c =
+    partly c.args.reading c.args.bytes.now None
     (refuses-none (read_by c.args.reading) ends c.loop-reader.reader.bytes (first_refused (read_by c.args.reading) ends (length c.args.bytes.now) c.args.bytes.now) c.loop-reader.invariant.refuses (eqb-true (length c.loop-reader.reader.bytes) 0 (sym c.loop-reader-test.ensures)))
 
 pub returns-clause-value : goal.returns-clause-value

@@ -2,7 +2,6 @@ use Rattle.std.proofs.Common.{rules, ◌≡◌, ◌⊎◌, ℕ, Bool, true, fals
 use Rattle.std.specs.Prelude.{IfErr}
 use Rattle.std.proofs.lemmas.List.{length-map}
 use Rattle.std.proofs.lemmas.Result.{err_from_is_err_and}
-use Rattle.jbig2_framing.specs.File.{file_at}
 use Rattle.jbig2_framing.specs.CutOff.{file_cut_off}
 use Rattle.jbig2_framing.specs.Reading.{is_strict}
 use Rattle.jbig2_framing.specs.declared.cut_off.CutOff.{CutOff}
@@ -13,14 +12,12 @@ use Rattle.jbig2_base.specs.declared.error.DecodeError.TheVariants.{Format, OutO
 use Rattle.jbig2_base.specs.declared.error.FormatError.TheVariants.{PageCountMismatch}
 use Rattle.jbig2_framing.specs.declared.file_header.FileHeader.{FileHeader}
 use Rattle.jbig2_framing.specs.declared.reading.Reading.{Reading}
-use Rattle.jbig2_framing.specs.declared.reading.Reading.TheVariants.{Lenient}
 use Rattle.jbig2_page.specs.Causes.{IsFromInput}
-use Rattle.jbig2_page.specs.Files.{PageInFile, association_check, book_at, by_pages, pages_in_file, left_out_of, miscounts, of_page, shared_by}
+use Rattle.jbig2_page.specs.Files.{PageInFile, association_check, book_at, by_pages, pages_in_file, left_out_of, miscounts, of_page, segments_at, shared_by}
 use Rattle.jbig2_page.specs.Names.{KeptGlobals}
 use Rattle.jbig2_page.specs.inner.ByPages.{by_page_view}
-use Rattle.jbig2_framing.proofs.FromInput.{from_input-file}
 use Rattle.jbig2_base.proofs.CauseSteps.{err-gives}
-use Rattle.jbig2_page.proofs.FromInput.{from_input-associated, from_input-each}
+use Rattle.jbig2_page.proofs.FromInput.{from_input-associated, from_input-each, from_input-segments_at}
 use Rattle.jbig2_page.proofs.DrawingFromInput.{returned_error, shared_from_input}
 use Rattle.jbig2_page.proofs.Causes.{file_cause}
 use Rattle.jbig2_page.proofs.file.FileContent.read.Goals as goal
@@ -28,7 +25,7 @@ use Rattle.jbig2_page.proofs.file.FileContent.read.Goals.{else-strict-via-then-s
 
 -- a file of which each step was taken
 book-made : (reading : Reading) (bytes : List ℕ) (file : FileHeader × List SegmentView) (parts : List SegmentView × List (List SegmentView)) (pages : List PageInFile) (globals : Result KeptGlobals DecodeError) (left_out : List DecodeError) (cut_off : Option CutOff)
-    → file_at reading bytes ≡ Ok file → association_check (is_strict reading) file.1 ≡ Ok tt → of_page 0 file.1 ≡ parts.0 → by_pages file.1 ≡ parts.1
+    → segments_at reading bytes ≡ Ok file → association_check (is_strict reading) file.1 ≡ Ok tt → of_page 0 file.1 ≡ parts.0 → by_pages file.1 ≡ parts.1
     → (is_strict reading && miscounts file.0.number_of_pages (length parts.1)) ≡ false → pages_in_file reading parts.1 ≡ Ok pages → shared_by reading pages parts.0 ≡ globals → left_out_of reading parts.1 ≡ left_out → file_cut_off reading bytes ≡ cut_off
     → book_at reading bytes ≡ Ok (record { reading = reading; organization = file.0.organization; pages = pages; globals = globals; left_out = left_out; cut_off = cut_off })
 unfolding book_at
@@ -36,7 +33,7 @@ book-made reading bytes file parts pages globals left_out cut_off read known sha
 
 -- a file whose pages are refused
 book-unfiled : (reading : Reading) (bytes : List ℕ) (file : FileHeader × List SegmentView) (parts : List SegmentView × List (List SegmentView)) (e : DecodeError)
-    → file_at reading bytes ≡ Ok file → association_check (is_strict reading) file.1 ≡ Ok tt → by_pages file.1 ≡ parts.1
+    → segments_at reading bytes ≡ Ok file → association_check (is_strict reading) file.1 ≡ Ok tt → by_pages file.1 ≡ parts.1
     → (is_strict reading && miscounts file.0.number_of_pages (length parts.1)) ≡ false → (e ≡ OutOfMemory) ⊎ (pages_in_file reading parts.1 ≡ Err e) → (e ≡ OutOfMemory) ⊎ (book_at reading bytes ≡ Err e)
 unfolding book_at
 book-unfiled reading bytes file parts e read known own counted (inl memory) = inl memory
@@ -44,7 +41,7 @@ book-unfiled reading bytes file parts e read known own counted (inr unfiled) = i
 
 -- a file that has not as many pages as its header states
 book-miscounted : (reading : Reading) (bytes : List ℕ) (file : FileHeader × List SegmentView) (parts : List SegmentView × List (List SegmentView))
-    → file_at reading bytes ≡ Ok file → association_check (is_strict reading) file.1 ≡ Ok tt → by_pages file.1 ≡ parts.1
+    → segments_at reading bytes ≡ Ok file → association_check (is_strict reading) file.1 ≡ Ok tt → by_pages file.1 ≡ parts.1
     → (is_strict reading && miscounts file.0.number_of_pages (length parts.1)) ≡ true → book_at reading bytes ≡ Err (Format PageCountMismatch)
 unfolding book_at
 book-miscounted reading bytes file parts read known own counted = rw (read, known, own, counted)
@@ -92,7 +89,7 @@ invariant_of-result g c =
 pub returns-in_err-file-clause-errors : goal.returns-in_err-file-clause-errors
 returns-in_err-file-clause-errors g c =
     let e = err_from_is_err_and c.from_residual-in_err-file.result c.from_residual-in_err-file.ensures.1 in
-    rw (e.1, e.2) (returned_error _ _ (from_input-file _ _) c.in_err-file.ensures.value)
+    rw (e.1, e.2) (returned_error _ _ (from_input-segments_at _ _) c.in_err-file.ensures.value)
 
 pub returns-in_err-check_associations-clause-errors : goal.returns-in_err-check_associations-clause-errors
 returns-in_err-check_associations-clause-errors g c =
