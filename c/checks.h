@@ -22,7 +22,7 @@ struct bytes {
     size_t length;
 };
 
-static void read_file(const char *name, struct bytes *bytes) {
+static inline void read_file(const char *name, struct bytes *bytes) {
     FILE *file = fopen(name, "rb");
     if (file == NULL) {
         perror(name);
@@ -57,7 +57,7 @@ static const uint64_t third_page[8] = {
 };
 
 /* Row R9.2 of crates/jbig2_rows/README.md: a text region whose symbols lie in the globals. */
-static void page_with_globals(const struct bytes *page, struct bytes *globals, struct bytes *taken) {
+static inline void page_with_globals(const struct bytes *page, struct bytes *globals, struct bytes *taken) {
     append(globals,
            "\0\0\0\1\0\0\1\0\0\0\x0F"
            "\0\1\0\0\0\1\0\0\0\1\x5F\x80\x80\0\x40",

@@ -70,7 +70,7 @@ static void call_for_handle(int call, bool strict, const uint8_t *at, struct out
     hayro_jbig2_globals *globals = NULL;
     hayro_jbig2_page *read = NULL;
     hayro_jbig2_file *file = NULL;
-    hayro_jbig2_left_out lacks = {0, 0, 0, 0, 0, 0};
+    hayro_jbig2_left_out lacks = {0, 0, 0, 0, 0, 0, 0};
     switch (call) {
     case 0:
         out->answer = hayro_jbig2_globals_new(NULL, strict, at, 0, &globals);
@@ -99,7 +99,8 @@ static void call_for_handle(int call, bool strict, const uint8_t *at, struct out
     CHECK((out->answer == HAYRO_JBIG2_OK) == (call < 3) && (globals != NULL) == (call < 3));
     CHECK(read == NULL && file == NULL);
     if (globals != NULL)
-        CHECK(hayro_jbig2_globals_get_left_out(globals, &lacks) == HAYRO_JBIG2_OK && lacks.segments == 0);
+        CHECK(hayro_jbig2_globals_get_left_out(globals, &lacks) == HAYRO_JBIG2_OK && lacks.segments == 0 &&
+              lacks.list_error == 0);
     hayro_jbig2_globals_free(globals);
 }
 

@@ -258,7 +258,8 @@ uint32_t hayro_jbig2_file_new_within(const hayro_jbig2_memory *memory, bool stri
 /* Salvage, for viewers of damaged files. It reads as lenient reading does, and leaves out what that refuses
  * (docs/FORMAT.md, 12.7): a list of segments ends at a bad header, a dictionary that fails is passed over, globals keep
  * what can be read of them, an open height is taken from the regions, and a page of a file that can't begin doesn't stop
- * the others. What lenient reading reads, this reads in the same way. Pages are drawn by the calls above.
+ * the others. Of a generic region that is cut off the whole rows are drawn, and of a text region the whole instances.
+ * What else lenient reading reads, this reads in the same way. Pages are drawn by the calls above.
  * HAYRO_JBIG2_NO_WORK_LIMIT is no limit for `work`. */
 uint32_t hayro_jbig2_globals_new_salvaged(const hayro_jbig2_memory *memory, uint64_t work, const uint8_t *bytes,
                                           size_t length, hayro_jbig2_globals **globals);
@@ -271,15 +272,18 @@ uint32_t hayro_jbig2_file_new_salvaged(const hayro_jbig2_memory *memory, uint64_
 /* What lenient reading or salvage left out of globals, a page or a file. What was passed over in a page that was drawn
  * comes from hayro_jbig2_context_get_passed_over. All 0 where nothing was left out, and after strict reading.
  *
- * - Of a page, before it is drawn: the segment at which the list of its segments ends early.
- * - Of globals and of a file: the segments passed over of those that pages share, or if none was, the segment at which
- *   the list ends early. Each page of the file that may lack that segment counts it when it is drawn. */
+ * - Of globals and of a file: the segments passed over of those that pages share. Of a page 0: its own are passed over
+ *   when it is drawn.
+ * - Of a file: the pages that can't begin.
+ * - Of all three: the segment at which the list of segments ends early, which is not among `segments`. A page counts it
+ *   when it is drawn, and so does each page of the file that may lack it. Its number is HAYRO_JBIG2_NO_SEGMENT_NUMBER
+ *   where the bytes end within it. */
 typedef struct hayro_jbig2_left_out {
-    size_t segments;         /* how many segments, as above */
-    uint32_t segment, error; /* the number and the error of the first */
-    size_t pages;            /* pages of a file that can't begin, which salvage leaves out */
-    uint32_t page_error;     /* the error of the first */
-    uint32_t list_error;     /* the error that ended the list of segments early */
+    size_t segments;                   /* how many segments that pages share were passed over */
+    uint32_t segment, error;           /* the number and the error of the first */
+    size_t pages;                      /* pages of a file that can't begin, which salvage leaves out */
+    uint32_t page_error;               /* the error of the first */
+    uint32_t list_segment, list_error; /* the number and the error of the segment at which the list ends early */
 } hayro_jbig2_left_out;
 
 uint32_t hayro_jbig2_globals_get_left_out(hayro_jbig2_globals *globals, hayro_jbig2_left_out *left_out);

@@ -25,12 +25,13 @@ static bool is_same(hayro_jbig2_passed_over found, hayro_jbig2_passed_over meant
 
 /* What a page says before it is drawn: the last segment that it counts, if its list ends early. */
 static void check_left_out(hayro_jbig2_page *read, hayro_jbig2_passed_over meant) {
-    hayro_jbig2_left_out found = {9, 9, 9, 9, 9, 9};
+    hayro_jbig2_left_out found = {9, 9, 9, 9, 9, 9, 9};
     bool is_cut = meant.error == CUT;
     CHECK(hayro_jbig2_page_get_left_out(read, &found) == HAYRO_JBIG2_OK);
-    CHECK(found.segments == is_cut && found.segment == (is_cut ? meant.segment : 0));
-    CHECK(found.error == (is_cut ? CUT : HAYRO_JBIG2_OK));
-    CHECK(found.list_error == found.error && found.pages == 0 && found.page_error == 0);
+    CHECK(found.list_segment == (is_cut ? meant.segment : 0));
+    CHECK(found.list_error == (is_cut ? CUT : HAYRO_JBIG2_OK));
+    CHECK(found.segments == 0 && found.segment == 0 && found.error == 0);
+    CHECK(found.pages == 0 && found.page_error == 0);
 }
 
 /* Draws the first bytes of a page of one row with globals or NULL. Strict reading refuses what is incomplete. */
@@ -88,19 +89,33 @@ static void tells_of_what_is_not_there(void) {
     draws(&shared, &other, other.length, 0x80, (hayro_jbig2_passed_over){1, 2, LACK});
 }
 
-/* A dictionary of globals that refers to number 0, which isn't there, and one that is cut off. */
+/* A dictionary of globals that refers to number 0, which isn't there; it is cut off; another one is cut off after it. */
 static void tells_of_globals(void) {
+    static const struct {
+        bool has_first;
+        size_t rest; /* bytes of the second one */
+        hayro_jbig2_left_out meant;
+    } cases[] = {
+        {true, 0, {.segments = 1, .segment = 1, .error = LACK}},
+        {false, 0, {.list_segment = 1, .list_error = CUT}},
+        {true, 3, {1, 1, LACK, 0, 0, HAYRO_JBIG2_NO_SEGMENT_NUMBER, CUT}},
+        {true, 4, {1, 1, LACK, 0, 0, 2, CUT}},
+    };
     struct bytes bytes = {.length = 0};
     append(&bytes, "\0\0\0\1\0\x20\0", 7);
     append(&bytes, shared.at + 6, shared.length - 6);
-    for (int is_cut = 0; is_cut < 2; is_cut++) {
+    const size_t first = bytes.length;
+    append(&bytes, "\0\0\0\2", 4);
+    for (size_t i = 0; i < sizeof cases / sizeof *cases; i++) {
+        const hayro_jbig2_left_out meant = cases[i].meant;
         hayro_jbig2_globals *made = NULL;
-        hayro_jbig2_left_out found = {9, 9, 9, 9, 9, 9};
-        const uint32_t error = is_cut ? CUT : LACK;
-        CHECK(hayro_jbig2_globals_new(NULL, false, bytes.at, bytes.length - is_cut, &made) == HAYRO_JBIG2_OK);
+        hayro_jbig2_left_out found = {9, 9, 9, 9, 9, 9, 9};
+        const size_t length = cases[i].has_first ? first + cases[i].rest : first - 1;
+        CHECK(hayro_jbig2_globals_new(NULL, false, bytes.at, length, &made) == HAYRO_JBIG2_OK);
         CHECK(hayro_jbig2_globals_get_left_out(made, &found) == HAYRO_JBIG2_OK);
-        CHECK(found.segments == 1 && found.segment == 1 && found.error == error);
-        CHECK(found.list_error == (is_cut ? CUT : HAYRO_JBIG2_OK) && found.pages == 0);
+        CHECK(found.segments == meant.segments && found.segment == meant.segment && found.error == meant.error);
+        CHECK(found.list_segment == meant.list_segment && found.list_error == meant.list_error);
+        CHECK(found.pages == 0 && found.page_error == 0);
         hayro_jbig2_globals_free(made);
     }
 }
@@ -120,21 +135,21 @@ static void tells_which_page_is_cut_off(void) {
     for (int reading = LENIENT; reading < READINGS; reading++) {
         hayro_jbig2_file *file = NULL;
         hayro_jbig2_context *context = NULL;
-        hayro_jbig2_left_out left_out = {9, 9, 9, 9, 9, 9};
+        hayro_jbig2_left_out left_out = {9, 9, 9, 9, 9, 9, 9};
         hayro_jbig2_passed_over found[2] = {{9, 9, 9}, {9, 9, 9}};
         uint32_t answer = reading == SALVAGE
                               ? hayro_jbig2_file_new_salvaged(NULL, HAYRO_JBIG2_NO_WORK_LIMIT, book.at, length, &file)
                               : hayro_jbig2_file_new(NULL, false, book.at, length, &file);
         CHECK(answer == HAYRO_JBIG2_OK && hayro_jbig2_file_page_count(file) == 2);
         CHECK(hayro_jbig2_file_get_left_out(file, &left_out) == HAYRO_JBIG2_OK);
-        CHECK(left_out.segments == 1 && left_out.error == CUT && left_out.list_error == CUT);
+        CHECK(left_out.segments == 0 && left_out.segment == 0 && left_out.error == 0 && left_out.list_error == CUT);
         CHECK(hayro_jbig2_context_new(NULL, &context) == HAYRO_JBIG2_OK);
         for (size_t i = 0; i < 2; i++) {
             CHECK(hayro_jbig2_file_draw(file, i, context) == HAYRO_JBIG2_OK);
             CHECK(hayro_jbig2_context_get_passed_over(context, &found[i]) == HAYRO_JBIG2_OK);
         }
         CHECK(is_same(found[0], complete));
-        CHECK(is_same(found[1], (hayro_jbig2_passed_over){1, left_out.segment, CUT}));
+        CHECK(is_same(found[1], (hayro_jbig2_passed_over){1, left_out.list_segment, CUT}));
         hayro_jbig2_context_free(context);
         hayro_jbig2_file_free(file);
     }

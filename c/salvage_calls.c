@@ -2,8 +2,7 @@
  * t88-h1.jb2 of crates/jbig2_decode/data. The pages are those of the rows R17 of crates/jbig2_rows/README.md. */
 #include "checks.h"
 #include "counted.h"
-
-#include <ctype.h>
+#include "digits.h"
 
 /* As in handle_calls.c. */
 #ifndef FEWEST_REFUSALS
@@ -15,6 +14,8 @@
 #define PAGE PAGE_OF("01", "00000008", "00000001")
 #define REGION(number, y) "000000" number "26 00 01 0000001A 00000001 00000001 00000000" y "00 00 03FFFDFF02FEFEFE"
 #define SYMBOLS(number, page, flags) "000000" number "00 00" page "0000000F" flags "00000001 00000001 5F80800040"
+/* Number 1, which refers to number 0, of no type. */
+#define LACKING_SYMBOLS "00000001 00 20 00 00 0000000F 0001 00000001 00000001 5F80800040"
 #define TEXT(number, refers) \
     "000000" number "06 20" refers "01 0000002D 00000008 00000001 00000000 00000000 00 0011 0000 00000001 01" \
     "0000000000000000000000000000000000 0004"
@@ -26,26 +27,12 @@
 /* The number of the segment that the junk begins, and what a list lacks that ends early at a segment. */
 enum { SPACES = 0x20202020 };
 #define ENDED(number, why) \
-    { .segments = 1, .segment = number, .error = why, .list_error = why }
-
-static struct bytes of(const char *digits) {
-    struct bytes bytes = {.length = 0};
-    for (unsigned half = 0; *digits != 0; digits++) {
-        if (*digits == ' ')
-            continue;
-        unsigned digit = isdigit((unsigned char)*digits) ? *digits - '0' : *digits - 'A' + 10;
-        if (half++ % 2 == 0)
-            bytes.at[bytes.length] = (uint8_t)(digit << 4);
-        else
-            bytes.at[bytes.length++] |= (uint8_t)digit;
-    }
-    return bytes;
-}
+    { .list_segment = number, .list_error = why }
 
 static bool is_same(const hayro_jbig2_left_out *found, const hayro_jbig2_left_out *meant) {
     return found->segments == meant->segments && found->segment == meant->segment && found->error == meant->error &&
            found->pages == meant->pages && found->page_error == meant->page_error &&
-           found->list_error == meant->list_error;
+           found->list_segment == meant->list_segment && found->list_error == meant->list_error;
 }
 
 static const hayro_jbig2_left_out nothing;
@@ -69,7 +56,7 @@ static void draws(hayro_jbig2_globals *globals, const char *digits, struct drawn
     hayro_jbig2_context *context = NULL;
     hayro_jbig2_page_info info = {9, 9, 9};
     hayro_jbig2_passed_over passed = {9, 9, 9};
-    hayro_jbig2_left_out left_out = {9, 9, 9, 9, 9, 9};
+    hayro_jbig2_left_out left_out = {9, 9, 9, 9, 9, 9, 9};
     uint8_t rows[2] = {0, 0};
     CHECK(hayro_jbig2_page_new_salvaged(NULL, globals, stream.at, stream.length, &page) == HAYRO_JBIG2_OK);
     CHECK(hayro_jbig2_context_new(NULL, &context) == HAYRO_JBIG2_OK);
@@ -129,7 +116,7 @@ static void keeps_of_globals_what_it_can(const char *digits, uint32_t refused, h
                                          const char *stream) {
     const struct bytes bytes = of(digits);
     hayro_jbig2_globals *globals = NULL, *other = NULL;
-    hayro_jbig2_left_out left_out = {9, 9, 9, 9, 9, 9};
+    hayro_jbig2_left_out left_out = {9, 9, 9, 9, 9, 9, 9};
     CHECK(hayro_jbig2_globals_new(NULL, false, bytes.at, bytes.length, &globals) == refused && globals == NULL);
     CHECK(hayro_jbig2_globals_new_salvaged(NULL, HAYRO_JBIG2_NO_WORK_LIMIT, bytes.at, bytes.length, &globals) ==
           HAYRO_JBIG2_OK);
@@ -148,11 +135,18 @@ static void keeps_of_globals(void) {
                                  (hayro_jbig2_left_out){.segments = 1, .segment = 1, .error = selection},
                                  PAGE TEXT("03", "02"));
     keeps_of_globals_what_it_can(SYMBOLS("01", "01", "0009") SYMBOLS("02", "01", "0001") JUNK, reference,
-                                 (hayro_jbig2_left_out){1, 1, selection, 0, 0, reference}, PAGE TEXT("03", "02"));
+                                 (hayro_jbig2_left_out){1, 1, selection, 0, 0, SPACES, reference},
+                                 PAGE TEXT("03", "02"));
     keeps_of_globals_what_it_can(SYMBOLS("01", "01", "0001") JUNK, reference,
                                  (hayro_jbig2_left_out)ENDED(SPACES, reference), PAGE TEXT("02", "01"));
     keeps_of_globals_what_it_can(JUNK, reference, (hayro_jbig2_left_out)ENDED(SPACES, reference),
                                  PAGE REGION("01", "00000000"));
+    /* A dictionary that lacks something, and a list that ends with the same error, at its number too. */
+    keeps_of_globals_what_it_can(LACKING_SYMBOLS JUNK, reference,
+                                 (hayro_jbig2_left_out){1, 1, reference, 0, 0, SPACES, reference},
+                                 PAGE TEXT("02", "01"));
+    keeps_of_globals_what_it_can(LACKING_SYMBOLS "00000001 00 20 01 00 00000000", reference,
+                                 (hayro_jbig2_left_out){1, 1, reference, 0, 0, 1, reference}, PAGE TEXT("02", "01"));
 }
 
 /* Files of white pages of 8 by 1. */
@@ -160,7 +154,7 @@ static void reads_file(const char *digits, size_t pages, hayro_jbig2_left_out me
     const struct bytes bytes = of(digits);
     hayro_jbig2_file *file = NULL;
     hayro_jbig2_context *context = NULL;
-    hayro_jbig2_left_out left_out = {9, 9, 9, 9, 9, 9};
+    hayro_jbig2_left_out left_out = {9, 9, 9, 9, 9, 9, 9};
     uint8_t row = 9;
     CHECK(hayro_jbig2_file_new_salvaged(NULL, HAYRO_JBIG2_NO_WORK_LIMIT, bytes.at, bytes.length, &file) ==
           HAYRO_JBIG2_OK);
@@ -173,6 +167,19 @@ static void reads_file(const char *digits, size_t pages, hayro_jbig2_left_out me
     }
     hayro_jbig2_context_free(context);
     hayro_jbig2_file_free(file);
+}
+
+/* Files of a page whose shared dictionary lacks something, or is too short, and whose list ends with the same error. The
+ * first says how many pages it has, and the last has random access. */
+static void tells_two_faults_of_one_kind(void) {
+    const uint32_t reference = HAYRO_JBIG2_SEGMENT_INVALID_REFERENCE, cut = HAYRO_JBIG2_PARSE_UNEXPECTED_EOF;
+    const hayro_jbig2_left_out meant = {1, 1, reference, 0, 0, SPACES, reference};
+    reads_file(FILE_HEADER "01 00000001" PAGE LACKING_SYMBOLS "00000002 31 00 01 00000000" JUNK, 1, meant);
+    reads_file(FILE_HEADER "03" PAGE LACKING_SYMBOLS "00000002 31 00 01 00000000" JUNK, 1, meant);
+    reads_file(FILE_HEADER "02 00000000 30 00 01 00000013 00000001 00 00 00 00000002 00000002 31 00 01 00000000"
+                           "00000003 26 00 02 0000001A 00000004 33 00 00 00000000"
+                           "00000008 00000001 0000000000000000000000 0001 0000",
+               1, (hayro_jbig2_left_out){1, 1, cut, 0, 0, 3, cut});
 }
 
 static void reads_files(void) {
@@ -200,7 +207,7 @@ static void reads_a_whole_page(void) {
     hayro_jbig2_globals *globals = NULL;
     hayro_jbig2_page *read = NULL;
     hayro_jbig2_context *context = NULL;
-    hayro_jbig2_left_out left_out = {9, 9, 9, 9, 9, 9};
+    hayro_jbig2_left_out left_out = {9, 9, 9, 9, 9, 9, 9};
     uint8_t row = 9;
     page_with_globals(&page, &bytes, &stream);
     CHECK(hayro_jbig2_globals_new_salvaged(NULL, HAYRO_JBIG2_NO_WORK_LIMIT, bytes.at, bytes.length, &globals) ==
@@ -219,7 +226,7 @@ static void reads_whole_files(void) {
     static const uint64_t *const pictures[] = {both_pages, both_pages, third_page};
     hayro_jbig2_file *file = NULL;
     hayro_jbig2_context *context = NULL;
-    hayro_jbig2_left_out left_out = {9, 9, 9, 9, 9, 9};
+    hayro_jbig2_left_out left_out = {9, 9, 9, 9, 9, 9, 9};
     hayro_jbig2_passed_over passed = {9, 9, 9};
     CHECK(hayro_jbig2_file_new_salvaged(NULL, HAYRO_JBIG2_NO_WORK_LIMIT, book.at, book.length, &file) ==
           HAYRO_JBIG2_OK);
@@ -248,7 +255,7 @@ static void tells_of_its_own_handles(void) {
     hayro_jbig2_globals *globals = NULL;
     hayro_jbig2_page *read = NULL, *none = NULL;
     hayro_jbig2_file *file = NULL;
-    hayro_jbig2_left_out left_out = {9, 9, 9, 9, 9, 9}, before = left_out;
+    hayro_jbig2_left_out left_out = {9, 9, 9, 9, 9, 9, 9}, before = left_out;
     CHECK(hayro_jbig2_globals_new(NULL, false, page.at, 0, &globals) == HAYRO_JBIG2_OK);
     CHECK(hayro_jbig2_page_new(NULL, false, NULL, page.at, page.length, &read) == HAYRO_JBIG2_OK);
     CHECK(hayro_jbig2_file_new(NULL, true, book.at, book.length, &file) == HAYRO_JBIG2_OK);
@@ -330,6 +337,7 @@ int main(int count, char **words) {
     takes_heights_from_regions();
     keeps_of_globals();
     reads_files();
+    tells_two_faults_of_one_kind();
     reads_a_whole_page();
     reads_whole_files();
     tells_of_its_own_handles();

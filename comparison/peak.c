@@ -70,7 +70,9 @@ static long find_faults(const uint8_t *bytes, size_t length, struct page *pages,
     }
     hayro_jbig2_context_free(context);
     hayro_jbig2_file_free(file);
-    return left_out.segments > 0 ? (long)left_out.segment : -1;
+    if (left_out.segments > 0)
+        return (long)left_out.segment;
+    return left_out.list_error != HAYRO_JBIG2_OK ? (long)left_out.list_segment : -1;
 }
 
 static int report(bool strict, const uint8_t *bytes, size_t length) {

@@ -13,7 +13,7 @@ struct reading {
     uint64_t work;
 };
 
-enum { NUMBERS = 32 };
+enum { NUMBERS = 40 };
 
 void *jbig2_portable_new_handle(const hayro_jbig2_memory *memory, enum kind kind, size_t size) {
     struct handle *head = (struct handle *)jbig2_portable_take(memory, size);
@@ -293,7 +293,8 @@ static uint32_t get_left_out(struct held *held, hayro_jbig2_left_out *left_out) 
         left_out->error = (uint32_t)jbig2_portable_written(held, 12, 4);
         left_out->pages = (size_t)jbig2_portable_written(held, 16, 8);
         left_out->page_error = (uint32_t)jbig2_portable_written(held, 24, 4);
-        left_out->list_error = (uint32_t)jbig2_portable_written(held, 28, 4);
+        left_out->list_segment = (uint32_t)jbig2_portable_written(held, 28, 4);
+        left_out->list_error = (uint32_t)jbig2_portable_written(held, 32, 4);
     }
     return answer;
 }

@@ -16,6 +16,8 @@ const UNEXPECTED_END = 1;
 const NO_SUCH_PAGE = 101;
 const NO_SEGMENT_NUMBER = 2 ** 32 - 1;
 const ENDS_OF_LINE = [0x0a, 0x0d];
+// The most bytes that a call writes numbers into: those of what was left out.
+const NUMBERS = 40;
 // In place of the memory of a caller in C, the heap here; and no limit of work.
 const MEMORY = 0n;
 const NO_WORK_LIMIT = 2n ** 64n - 1n;
@@ -211,15 +213,13 @@ export class Decoder {
 
   /** What was left out of what a handle holds. */
   #leftOut(kind, handle) {
-    const counts = this.#numbers([8, 4, 4, 8, 4, 4], `hayro_jbig2_${kind}_get_left_out`, handle);
-    const [segments, segment, error, pages, firstPage, ended] = counts;
-    // Where no segment was passed over, the one at which the list ends early stands in its place.
-    const isEnd = segments === 1 && error === ended;
+    const counts = this.#numbers([8, 4, 4, 8, 4, 4, 4], `hayro_jbig2_${kind}_get_left_out`, handle);
+    const [, , , pages, firstPage, last, ended] = counts;
     return {
-      passedOver: passedOver(isEnd ? [0, 0, 0] : counts),
+      passedOver: passedOver(counts),
       pages,
       firstPage: errorOf(firstPage),
-      cutOff: ended ? { segment: isEnd ? numberOf(segment) : null, error: errorOf(ended) } : null,
+      cutOff: ended ? { segment: numberOf(last), error: errorOf(ended) } : null,
     };
   }
 
@@ -254,7 +254,7 @@ export class Decoder {
 
   /** Makes a call that writes numbers of these sizes, one after the other, and returns them. */
   #numbers(sizes, name, ...words) {
-    return this.#with([], 32, (_, place) => {
+    return this.#with([], NUMBERS, (_, place) => {
       this.#call(Infinity, name, ...words, place);
       const view = this.#view();
       let at = Number(place);

@@ -109,6 +109,14 @@ struct fault fault_of_list(const struct segment_list *list, uint32_t error) {
     return (struct fault){.error = error};
 }
 
+struct fault fault_left_out(const struct segment_list *list, const hayro_jbig2_left_out *left_out, uint32_t error) {
+    bool is_passed = left_out->segments > 0 && left_out->error == error;
+    bool is_end = left_out->list_error == error && error != HAYRO_JBIG2_OK;
+    if (is_end && !(is_passed && error == HAYRO_JBIG2_PARSE_UNEXPECTED_EOF))
+        return fault_of_number(list, left_out->list_segment, error);
+    return is_passed ? fault_of_number(list, left_out->segment, error) : fault_of_list(list, error);
+}
+
 void add_segments(struct faults *faults, const struct segment_list *list, size_t count, uint32_t first,
                   uint32_t error) {
     if (count == 0)
@@ -119,18 +127,14 @@ void add_segments(struct faults *faults, const struct segment_list *list, size_t
 }
 
 void add_left_out(struct faults *faults, const struct segment_list *list, const hayro_jbig2_left_out *left_out) {
-    /* Where no segment was passed over, the one at which the list ends early stands in its place. */
-    bool is_end = left_out->segments == 1 && left_out->error == left_out->list_error;
-    if (!is_end)
-        add_segments(faults, list, left_out->segments, left_out->segment, left_out->error);
+    add_segments(faults, list, left_out->segments, left_out->segment, left_out->error);
     if (left_out->pages > 0) {
         struct fault fault = {.error = left_out->page_error};
         snprintf(fault.note, sizeof fault.note, "%zu pages can't begin and are left out", left_out->pages);
         add_fault(faults, fault);
     }
     if (left_out->list_error != HAYRO_JBIG2_OK) {
-        struct fault fault = is_end ? fault_of_number(list, left_out->segment, left_out->list_error)
-                                    : fault_of_list(list, left_out->list_error);
+        struct fault fault = fault_of_number(list, left_out->list_segment, left_out->list_error);
         if (fault.note[0] == '\0')
             snprintf(fault.note, sizeof fault.note, "what follows is left out");
         add_fault(faults, fault);

@@ -79,9 +79,7 @@ static void read_globals(struct document *document, struct globals *globals) {
 }
 
 static struct fault fault_of_globals(const struct globals *globals, uint32_t answer) {
-    bool is_at_segment = globals->left_out.segments > 0 && globals->left_out.error == answer;
-    struct fault fault = is_at_segment ? fault_of_number(&globals->list, globals->left_out.segment, answer)
-                                       : fault_of_list(&globals->list, answer);
+    struct fault fault = fault_left_out(&globals->list, &globals->left_out, answer);
     if (globals->answer == CANT_BE_READ)
         fault = fault_of_pdf(CANT_BE_READ, &globals->reason);
     fault.is_of_globals = true;

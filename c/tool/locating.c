@@ -120,8 +120,8 @@ static struct fault search_for_fault(struct search *search, const struct drawn *
     make_globals(search);
     if (!is_embedded && search->globals != NULL)
         hayro_jbig2_globals_get_left_out(search->globals, &left_out);
-    if (left_out.segments > 0 && left_out.error == error) {
-        fault = fault_of_number(attempt->list, left_out.segment, error);
+    if ((left_out.segments > 0 && left_out.error == error) || left_out.list_error == error) {
+        fault = fault_left_out(attempt->list, &left_out, error);
         fault.is_of_globals = true;
         return fault;
     }

@@ -56,41 +56,36 @@ static void tell_passed_over(struct context *context, size_t count, uint32_t seg
                     error);
 }
 
-/* Where the decoder left out one segment with the error that ended the list, that segment did. */
-static bool is_the_end(const hayro_jbig2_left_out *left_out, size_t count, uint32_t segment, uint32_t error) {
-    return count == 1 && left_out->list_error != HAYRO_JBIG2_OK && segment == left_out->segment &&
-           error == left_out->list_error;
-}
-
-/* The segment at which the list ends early has a warning of its own. A page counts it too, after all others. */
+/* The segment at which the list ends early has a warning of its own. A page counts it too, after all others. A page of a
+ * file counts it only where it may lack it: then that is told apart by the number and the error, if it is the first. */
 static size_t passed_before_the_end(const struct context *context, const struct lacks *lacks) {
     const hayro_jbig2_passed_over *passed = &lacks->passed;
-    bool is_ended = context->is_embedded && lacks->left_out.list_error != HAYRO_JBIG2_OK;
-    if (is_the_end(&lacks->left_out, passed->count, passed->segment, passed->error))
-        return 0;
-    return is_ended && passed->count > 0 ? passed->count - 1 : passed->count;
+    const hayro_jbig2_left_out *left_out = &lacks->left_out;
+    if (left_out->list_error == HAYRO_JBIG2_OK || passed->count == 0)
+        return passed->count;
+    bool is_end =
+        passed->count == 1 && passed->segment == left_out->list_segment && passed->error == left_out->list_error;
+    return context->is_embedded || is_end ? passed->count - 1 : passed->count;
 }
 
 /* NO_SEGMENT and the decoder's number for none are the same. */
-static void tell_end(struct context *context, const hayro_jbig2_left_out *left_out, bool has_segment) {
+static void tell_end(struct context *context, const hayro_jbig2_left_out *left_out) {
     bool is_cut = left_out->list_error == HAYRO_JBIG2_PARSE_UNEXPECTED_EOF;
     if (left_out->list_error != HAYRO_JBIG2_OK)
-        tell_answer(context, SEVERITY_WARNING, has_segment ? left_out->segment : NO_SEGMENT,
+        tell_answer(context, SEVERITY_WARNING, left_out->list_segment,
                     is_cut ? "a segment is left out" : "the rest of the segments is left out", left_out->list_error);
 }
 
 void tell_lacks(struct context *context) {
     const struct lacks lacks = context->lacks;
     const hayro_jbig2_left_out *left_out = &lacks.left_out;
-    bool is_end = is_the_end(left_out, left_out->segments, left_out->segment, left_out->error);
     context->lacks = (struct lacks){0};
     tell_passed_over(context, passed_before_the_end(context, &lacks), lacks.passed.segment, lacks.passed.error);
-    if (!is_end)
-        tell_passed_over(context, left_out->segments, left_out->segment, left_out->error);
+    tell_passed_over(context, left_out->segments, left_out->segment, left_out->error);
     warn_of_several(context, NO_SEGMENT, left_out->pages, "a page is left out",
                     "pages are left out, the first as follows", left_out->page_error);
     if (lacks.has_unknown)
         tell_answer(context, SEVERITY_WARNING, lacks.unknown, "a segment is left out",
                     HAYRO_JBIG2_SEGMENT_UNKNOWN_TYPE);
-    tell_end(context, left_out, is_end);
+    tell_end(context, left_out);
 }

@@ -15,8 +15,8 @@ static bool salvages(void) {
 enum { LONGEST_LINE_END = 2 };
 
 static bool ends_a_line(const hayro_jbig2_left_out *left_out, const uint8_t *at, size_t length) {
-    bool is_cut_in_number = left_out->list_error == HAYRO_JBIG2_PARSE_UNEXPECTED_EOF && left_out->segments == 1 &&
-                            left_out->segment == HAYRO_JBIG2_NO_SEGMENT_NUMBER;
+    bool is_cut_in_number = left_out->list_error == HAYRO_JBIG2_PARSE_UNEXPECTED_EOF &&
+                            left_out->list_segment == HAYRO_JBIG2_NO_SEGMENT_NUMBER;
     return is_cut_in_number && length > 0 && (at[length - 1] == '\n' || at[length - 1] == '\r');
 }
 

@@ -11,6 +11,9 @@
 #define PAGE PAGE_OF("\1", "\0\0\0\1")
 #define REGION "\0\0\0\2\x26\0\1\0\0\0\x1A\0\0\0\1\0\0\0\1\0\0\0\0\0\0\0\0\0\0\x03\xFF\xFD\xFF\x02\xFE\xFE\xFE"
 #define BAD_SYMBOLS(page) "\0\0\0\1\0\0" page "\0\0\0\x0F\0\x09\0\0\0\1\0\0\0\1\x5F\x80\x80\0\x40"
+/* Number 1, a dictionary of one black symbol that refers to number 0, which is none. It belongs to no page. */
+#define LACKING_SYMBOLS "\0\0\0\1\0\x20\0\0\0\0\0\x0F\0\1\0\0\0\1\0\0\0\1\x5F\x80\x80\0\x40"
+#define END_OF_PAGE "\0\0\0\3\x31\0\1\0\0\0\0"
 /* Number 2, a dictionary of one black symbol, and number 3, a text region of one symbol. */
 #define GOOD_SYMBOLS "\0\0\0\2\0\0\1\0\0\0\x0F\0\1\0\0\0\1\0\0\0\1\x5F\x80\x80\0\x40"
 #define TEXT(references) \
@@ -168,6 +171,22 @@ static void reads_leniently_where_it_is_asked_to(void) {
     unsetenv("HAYRO_JBIG2_READING");
 }
 
+/* What pages share lacks something, and the list ends with the same error: there is a warning of each. */
+static void tells_two_faults_of_one_kind(void) {
+    draws(true, BYTES(FILE_HEADER "\3" PAGE LACKING_SYMBOLS REGION END_OF_PAGE JUNK), 0x80, 2, SPACES, ended);
+    draws(true, BYTES(FILE_HEADER "\3" PAGE LACKING_SYMBOLS REGION JUNK), 0x80, 2, SPACES, ended);
+    draws(true, BYTES(FILE_HEADER "\1\0\0\0\1" PAGE LACKING_SYMBOLS REGION END_OF_PAGE "\0\0\0\1\0\x20\1"), 0x80, 2, 1,
+          ended);
+    struct counted memory = counted_allocator();
+    struct heard heard = {0};
+    struct context *context = embedded_context(&memory.base, NULL, &heard);
+    CHECK(jbig2_data_in(context, BYTES(LACKING_SYMBOLS JUNK)) == 0);
+    struct globals *globals = jbig2_make_global_ctx(context);
+    CHECK(heard.count[SEVERITY_WARNING] == 2 && heard.segment == SPACES && strcmp(heard.text, ended) == 0);
+    jbig2_global_ctx_free(globals);
+    CHECK(memory.held == 0);
+}
+
 /* The page of the tests with these globals in place of its own: it is drawn without what is missing, or refused. */
 static void draws_with_bad_globals(const uint8_t *bytes, size_t length, const char *why, bool is_refused) {
     struct counted memory = counted_allocator();
@@ -220,6 +239,7 @@ void survives_damage(void) {
     tells_of_symbols_that_are_not_there();
     tells_which_page_is_cut_off();
     reads_leniently_where_it_is_asked_to();
+    tells_two_faults_of_one_kind();
     tells_of_bad_globals();
     tells_of_cut_globals(false);
     tells_of_cut_globals(true);

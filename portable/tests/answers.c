@@ -59,6 +59,7 @@ static void say_left_out(const hayro_jbig2_left_out *left_out) {
     say(left_out->error);
     say(left_out->pages);
     say(left_out->page_error);
+    say(left_out->list_segment);
     say(left_out->list_error);
 }
 

@@ -96,7 +96,7 @@ class Incomplete(unittest.TestCase):
             self.assertEqual((page.passed_over.count, page.rows, page.is_complete), (0, b"\x80", False))
             self.assertEqual(page.lacks, ["what pages share: segment 1: segment refers to an invalid segment"])
             cut_off = page.left_out.cut_off
-            self.assertEqual((cut_off.segment_number, cut_off.error.variant), (None, "InvalidReference"))
+            self.assertEqual((cut_off.segment_number, cut_off.error.variant), (0x20202020, "InvalidReference"))
 
     def test_a_file_whose_second_page_is_cut_off(self):
         data = BOOK[: BOOK.index(bytes.fromhex("31 00 02 00000000")) - 5]

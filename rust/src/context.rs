@@ -37,7 +37,7 @@ impl DecoderContext {
     /// 0.4.0 has no such call, and no limit.
     ///
     /// Work that would pass the limit is refused before it starts, with
-    /// [`DecodeError::OutOfMemory`](crate::DecodeError::OutOfMemory), and no call is made on a
+    /// [`DecodeError::WorkLimit`](crate::DecodeError::WorkLimit), and no call is made on a
     /// [`Decoder`](crate::Decoder). [`work_left`](Self::work_left) is then `Some(0)`.
     pub fn set_work_limit(&mut self, work: Option<u64>) {
         self.limit = Limit::of(work);

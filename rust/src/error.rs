@@ -29,10 +29,13 @@ pub enum DecodeError {
     Overflow(OverflowError),
     /// A feature that this decoder does not have: colours, or an extension that must be understood.
     Unsupported,
-    /// A request for memory was refused, or work that would pass the limit; where a page is decoded
-    /// [`DecoderContext::work_left`](crate::DecoderContext::work_left) says which. No mode passes over it.
-    /// `hayro-jbig2` 0.4.0 has no such error: there the process ends, or goes on.
+    /// A request for memory was refused. No mode passes over it. `hayro-jbig2` 0.4.0 has no such error: there the process
+    /// ends.
     OutOfMemory,
+    /// The work would pass its limit, and was refused before it started: see
+    /// [`DecoderContext::set_work_limit`](crate::DecoderContext::set_work_limit). No mode passes over it. `hayro-jbig2`
+    /// 0.4.0 has no such error: there decoding goes on.
+    WorkLimit,
 }
 
 /// Why bytes could not be read.
@@ -240,6 +243,7 @@ macro_rules! inner_errors {
                     $(Self::$variant(inner) => fmt::Display::fmt(inner, f),)*
                     Self::Unsupported => f.write_str("unsupported feature"),
                     Self::OutOfMemory => f.write_str("out of memory"),
+                    Self::WorkLimit => f.write_str("the limit of work is reached"),
                 }
             }
         }

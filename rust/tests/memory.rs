@@ -102,8 +102,7 @@ fn an_embedded_page_lacks_memory() {
     assert!(refusals > 10, "{refusals} requests");
 }
 
-/// A dictionary that refers to number 0, which isn't there, and a header that refers to its own number. Salvage looks at
-/// them twice.
+/// A dictionary that refers to number 0, which isn't there, and a header that refers to its own number.
 #[test]
 fn salvage_lacks_memory() {
     let dictionary = b"\0\0\0\x01\x00\x20\0\0\0\0\0\x0F\0\x01\0\0\0\x01\0\0\0\x01\x5F\x80\x80\0\x40";

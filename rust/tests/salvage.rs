@@ -96,9 +96,7 @@ fn a_page_is_drawn_without_what_is_damaged() {
 #[test]
 fn globals_keep_what_can_be_read() {
     let stream = of(&[PAGE, TEXT]);
-    // The number of the cut-off is not known then.
-    let cut_off = Some(PassedSegment { segment_number: None, error: REFERENCE });
-    let left_out = LeftOut { passed_over: one(1, SELECTION), cut_off, ..LeftOut::default() };
+    let left_out = LeftOut { passed_over: one(1, SELECTION), ..ended() };
     for (bytes, left_out) in [
         (of(&[SYMBOLS, JUNK]), ended()),
         (of(&[BAD_SYMBOLS, SYMBOLS, JUNK]), left_out),
@@ -118,8 +116,7 @@ fn two_faults_of_one_kind_are_two() {
     // It refers to number 1.
     let text = TEXT.replace("20 02", "20 01");
     let globals = of(&[LACKING_SYMBOLS, JUNK]);
-    let cut_off = Some(PassedSegment { segment_number: None, error: REFERENCE });
-    let both = LeftOut { passed_over: one(1, REFERENCE), cut_off, ..LeftOut::default() };
+    let both = LeftOut { passed_over: one(1, REFERENCE), ..ended() };
     let (globals, stream) = (Globals::salvaged(&globals).unwrap(), of(&[PAGE, &text]));
     assert_eq!(globals.left_out(), both);
     let page = Page::salvaged_embedded(&stream, Some(&globals)).unwrap();

@@ -65,21 +65,21 @@ fn a_small_file_is_refused_at_once() {
         assert_eq!(page.dimensions(), (1, 65535));
         let mut context = DecoderContext::default();
         let mut counter = Counter::default();
-        assert_eq!(page.decode(&mut counter), Err(DecodeError::OutOfMemory));
-        assert_eq!(page.decode_with(&mut counter, &mut context), Err(DecodeError::OutOfMemory));
+        assert_eq!(page.decode(&mut counter), Err(DecodeError::WorkLimit));
+        assert_eq!(page.decode_with(&mut counter, &mut context), Err(DecodeError::WorkLimit));
         assert_eq!((counter.0, context.work_left()), (0, Some(0)));
-        assert_eq!(page.read_packed(&mut vec![0; 65535]), Err(DecodeError::OutOfMemory));
-        assert_eq!(page.read_image(&mut vec![0; 65535]), Err(DecodeError::OutOfMemory));
+        assert_eq!(page.read_packed(&mut vec![0; 65535]), Err(DecodeError::WorkLimit));
+        assert_eq!(page.read_image(&mut vec![0; 65535]), Err(DecodeError::WorkLimit));
         // The context serves the next page.
         File::new(EXAMPLE, &settings).unwrap().page(2).unwrap().decode_with(&mut counter, &mut context).unwrap();
         assert!(counter.0 > 0 && context.work_left() > Some(LEAST - 100_000));
     }
     let salvaged = File::salvaged(&data).unwrap();
-    assert_eq!(salvaged.page(0).unwrap().decode(&mut Counter::default()), Err(DecodeError::OutOfMemory));
+    assert_eq!(salvaged.page(0).unwrap().decode(&mut Counter::default()), Err(DecodeError::WorkLimit));
     let page = Page::new_embedded(&data[13..], None, &LENIENT).unwrap();
-    assert_eq!(page.decode(&mut Counter::default()), Err(DecodeError::OutOfMemory));
+    assert_eq!(page.decode(&mut Counter::default()), Err(DecodeError::WorkLimit));
     let refused = Jbig2Decoder::new(&data[..]).unwrap().read_image(&mut [0; 65535]);
-    assert!(matches!(refused, Err(Jbig2Error::Decode(DecodeError::OutOfMemory))));
+    assert!(matches!(refused, Err(Jbig2Error::Decode(DecodeError::WorkLimit))));
     assert!(began.elapsed() < Duration::from_secs(10), "{:?}", began.elapsed());
 }
 
@@ -88,16 +88,16 @@ fn small_globals_are_refused_at_once() {
     let began = Instant::now();
     let data = wide_patterns();
     for settings in [LENIENT, STRICT] {
-        assert_eq!(Globals::new(&data, &settings).err(), Some(DecodeError::OutOfMemory));
+        assert_eq!(Globals::new(&data, &settings).err(), Some(DecodeError::WorkLimit));
     }
-    assert_eq!(Globals::salvaged(&data).err(), Some(DecodeError::OutOfMemory));
+    assert_eq!(Globals::salvaged(&data).err(), Some(DecodeError::WorkLimit));
     let mut file = hex("974A42320D0A1A0A 03");
     file.extend(&data);
     file.extend(hex("00000002 30 00 01 00000013 00000008 00000001 0000000000000000000000 00000003 31 00 01 00000000"));
     for settings in [LENIENT, STRICT] {
-        assert_eq!(File::new(&file, &settings).err(), Some(DecodeError::OutOfMemory));
+        assert_eq!(File::new(&file, &settings).err(), Some(DecodeError::WorkLimit));
     }
-    assert_eq!(File::salvaged(&file).err(), Some(DecodeError::OutOfMemory));
+    assert_eq!(File::salvaged(&file).err(), Some(DecodeError::WorkLimit));
     assert!(began.elapsed() < Duration::from_secs(10), "{:?}", began.elapsed());
 }
 
@@ -117,7 +117,7 @@ fn limits_are_set_and_lifted() {
     for work in [0, 1, taken / 2, taken - 1] {
         context.set_work_limit(Some(work));
         let mut counter = Counter::default();
-        assert_eq!(page.decode_with(&mut counter, &mut context), Err(DecodeError::OutOfMemory));
+        assert_eq!(page.decode_with(&mut counter, &mut context), Err(DecodeError::WorkLimit));
         assert_eq!((counter.0, context.work_left()), (0, Some(0)));
     }
     context.set_work_limit(None);
@@ -148,7 +148,7 @@ fn what_pages_share_has_limits_of_its_own() {
     file.extend(symbol());
     file.extend(hex("00000002 30 00 01 00000013 00000008 00000001 0000000000000000000000 00000003 31 00 01 00000000"));
     for (work, is_enough) in [(Some(0), false), (Some(1000), false), (Some(1 << 16), true), (None, true)] {
-        let expected = if is_enough { None } else { Some(DecodeError::OutOfMemory) };
+        let expected = if is_enough { None } else { Some(DecodeError::WorkLimit) };
         assert_eq!(Globals::new_within(&symbol(), &LENIENT, work).err(), expected);
         assert_eq!(Globals::salvaged_within(&symbol(), work).err(), expected);
         assert_eq!(File::new_within(&file, &STRICT, work).err(), expected);

@@ -301,7 +301,7 @@ class Output(Case):
         os.close(follower)
 
     def test_progress_on_a_terminal_alone(self):
-        many = [self.made(slow_page(2000), f"page-{number}.jb2e") for number in range(12)]
+        many = [self.made(slow_page(4000), f"page-{number}.jb2e") for number in range(12)]
         words = [TOOL, *map(str, many), "-j", "1", "-f", "pbm", "-o", "/dev/null"]
         shown = shown_on_terminal(words, self.room)
         self.assertRegex(shown, r"\d+ of \d+ pages")

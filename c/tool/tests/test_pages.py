@@ -229,6 +229,22 @@ class Incomplete(Case):
         ended = self.assert_lacks(self.TEXT + b"\0\0", text, "-g", shared)
         self.assertEqual(pictures_of(ended.output)[0].rows, b"\x80")
 
+    def test_two_faults_of_one_kind(self):
+        """A dictionary that pages share lacks something, and their list ends with the same error, in salvage."""
+        lacking = bytes.fromhex("00000001 00 20 00 00") + self.SHARED[7:]
+        junk, text = b" " * 16, "segment refers to an invalid segment"
+        faults = f"segment 1 (symbol dictionary): {text}", f"segment {0x20202020} (unknown type): {text}: what follows"
+        shared = self.made(lacking + junk, "shared.jb2g")
+        ended = run("-", "-f", "pbm", "--salvage", "-g", shared, input=self.TEXT)
+        self.assert_ends(ended, INCOMPLETE, *(f"page 1: incomplete: globals: {fault}" for fault in faults))
+        self.assertEqual(pictures_of(ended.output)[0].rows, b"\x80")
+        ended = run("-", "-f", "pbm", "-g", shared, input=self.TEXT)
+        self.assert_ends(ended, NOT_DONE, f"page 1: globals: segment {0x20202020} (unknown type): {text}")
+        segments = self.PAGE + lacking + self.TEXT[len(self.PAGE) :] + bytes.fromhex("00000004 31 00 01 00000000")
+        header = bytes.fromhex("974A42320D0A1A0A 03")
+        ended = run("-", "-f", "pbm", "--salvage", input=header + segments + junk)
+        self.assert_ends(ended, INCOMPLETE, *faults)
+
     def test_symbols_that_are_not_there(self):
         self.assert_lacks(self.TEXT, r"page 1: incomplete: segment 2 \(immediate text region\): ")
         # One dictionary of two: the region is drawn.

@@ -11,7 +11,6 @@ import enum
 import operator
 import os
 from ctypes import POINTER, Structure, byref, c_bool, c_char_p, c_size_t, c_uint8, c_uint32, c_uint64, c_void_p
-from dataclasses import replace
 from typing import TYPE_CHECKING, NamedTuple, TypeVar, Union
 
 from ._made import PORTABLE
@@ -53,6 +52,7 @@ class _LeftOut(Structure):
         ("error", c_uint32),
         ("pages", c_size_t),
         ("page_error", c_uint32),
+        ("list_segment", c_uint32),
         ("list_error", c_uint32),
     ]
 
@@ -115,7 +115,6 @@ def _load() -> ctypes.CDLL:
         "file_get_info": (c_void_p, c_size_t, POINTER(_Info)),
         "file_draw": (c_void_p, c_size_t, c_void_p),
         "file_free": (c_void_p,),
-        "segment_get_length": (c_void_p, c_bool, c_void_p, c_size_t, POINTER(c_size_t)),
         "error_text": (c_uint32,),
     }
     for name, types in arguments.items():
@@ -169,24 +168,6 @@ def _passed_over(count: int, segment: int, error: int) -> PassedOver:
     return PassedOver(count, _segment(segment, error) if count else None)
 
 
-def _length_of_whole_segments(data: bytes, place: int) -> int:
-    """Where the list of segments from a place on ends early in salvage; the length of the data where it doesn't."""
-    start = ctypes.cast(c_char_p(data), c_void_p).value or 0
-    taken = c_size_t()
-    while place < len(data):
-        number = _LIBRARY.hayro_jbig2_segment_get_length(None, False, start + place, len(data) - place, byref(taken))
-        if number == _OUT_OF_MEMORY:
-            raise _error(number)
-        if number != 0:
-            break
-        place += taken.value
-    return place
-
-
-def _error_or_none(number: int) -> Jbig2Error | None:
-    return _error(number) if number else None
-
-
 _AnyHandle = TypeVar("_AnyHandle", bound="_Handle")
 
 
@@ -234,13 +215,10 @@ class _Handle(c_void_p):
         """What was left out of globals, a page or a file."""
         raw = _LeftOut()
         _check(self._call("get_left_out", raw))
-        first_page = _error_or_none(raw.page_error)
-        # Where no segment was passed over, the one at which the list ends early stands in its place. If both have one
-        # error, `_ReadWithin` looks once more.
-        if raw.segments == 1 and raw.error == raw.list_error:
-            return LeftOut(PassedOver(0, None), raw.pages, first_page, _segment(raw.segment, raw.error))
-        cut_off = _segment(_NO_SEGMENT_NUMBER, raw.list_error) if raw.list_error else None
-        return LeftOut(_passed_over(raw.segments, raw.segment, raw.error), raw.pages, first_page, cut_off)
+        passed_over = _passed_over(raw.segments, raw.segment, raw.error)
+        first_page = _error(raw.page_error) if raw.page_error else None
+        cut_off = _segment(raw.list_segment, raw.list_error) if raw.list_error else None
+        return LeftOut(passed_over, raw.pages, first_page, cut_off)
 
 
 class _ReadWithin(_Handle):
@@ -259,26 +237,6 @@ class _ReadWithin(_Handle):
                 raise _work_limit_reached(units) from None
             raise
         self.left_out = self._left_out()
-        place = self._first_segment(data)
-        if reading is Reading.SALVAGE and place is not None:
-            self._look_once_more(data, place, units)
-
-    def _first_segment(self, data: bytes) -> int | None:
-        """Where the list of segments begins, if the data of each is in it."""
-        return 0
-
-    def _look_once_more(self, data: bytes, place: int, units: int) -> None:
-        """Tells a segment that was passed over from the one at which the list from this place on ends early."""
-        cut_off = self.left_out.cut_off
-        if cut_off is None or self.left_out.passed_over.count:
-            return
-        start = data[: _length_of_whole_segments(data, place)]
-        if len(start) < len(data):
-            with _ReadWithin(self._kind, start, Reading.SALVAGE, units) as whole:
-                passed_over = whole.left_out.passed_over
-            if passed_over.count:
-                cut_off = PassedSegment(None, cut_off.error)
-                self.left_out = replace(self.left_out, passed_over=passed_over, cut_off=cut_off)
 
 
 class Globals(_ReadWithin):
@@ -352,11 +310,6 @@ class File(_ReadWithin):
         super().__init__("file", data, reading, limit)
         count = self._call("page_count")
         self.sizes = [self._size(index) for index in range(count)]
-
-    def _first_segment(self, data: bytes) -> int | None:
-        # The flags of the header (T.88, D.4.2). In random access the data is after the whole list.
-        flags = data[8]
-        return (9 if flags & 2 else 13) if flags & 1 else None
 
     def _size(self, index: int) -> Size:
         info = _Info()

@@ -50,6 +50,7 @@ pub(super) struct LeftOut {
     pub(super) error: u32,
     pub(super) pages: usize,
     pub(super) page_error: u32,
+    pub(super) list_segment: u32,
     pub(super) list_error: u32,
 }
 
@@ -145,14 +146,6 @@ unsafe extern "C" {
     pub(super) fn hayro_jbig2_file_get_info(file: *mut File, index: usize, info: *mut PageInfo) -> u32;
 
     pub(super) fn hayro_jbig2_file_draw(file: *mut File, index: usize, context: *mut Context) -> u32;
-
-    pub(super) fn hayro_jbig2_segment_get_length(
-        memory: *const Memory,
-        strict: bool,
-        bytes: *const u8,
-        length: usize,
-        taken: *mut usize,
-    ) -> u32;
 
     /// Gives back a handle of any kind.
     pub(super) fn jbig2_c_release(handle: *mut c_void);

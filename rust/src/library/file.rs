@@ -3,13 +3,10 @@
 use alloc::vec::Vec;
 use core::ptr::{self, NonNull};
 
-use super::{Context, PageInfo, Reading, allocator, ffi, left_out, made, result, whole_segments};
+use super::{Context, PageInfo, Reading, allocator, ffi, left_out, made, result};
 use crate::error::{DecodeError, Result};
 use crate::lock::Lock;
-use crate::passed_over::{LeftOut, PassedOver};
-
-/// Where the flags of a file's header are (T.88, D.4.2).
-const FLAGS: usize = 8;
+use crate::passed_over::LeftOut;
 
 /// A file, read but not decoded. It borrows its bytes.
 #[derive(Debug)]
@@ -37,7 +34,7 @@ impl<'a> File<'a> {
         let mut file = Self { bytes, reading, work, infos: Vec::new(), left_out, idle: Lock::new(Vec::new()) };
         let mut handle = file.handle()?;
         file.infos = handle.infos()?;
-        file.left_out = handle.left_out(|| file.passed_before_the_end())?;
+        file.left_out = handle.left_out()?;
         file.put_back(handle);
         Ok(file)
     }
@@ -59,21 +56,6 @@ impl<'a> File<'a> {
         let drawn = handle.draw(index, context, work);
         self.put_back(handle);
         drawn
-    }
-
-    /// What was passed over of the segments that the pages share, before the list ends early. In random access the data
-    /// is after the whole list, so it isn't known.
-    fn passed_before_the_end(&self) -> Result<PassedOver> {
-        let is_sequential = self.bytes[FLAGS] & 1 != 0;
-        if self.reading != Reading::Salvage || !is_sequential {
-            return Ok(PassedOver::default());
-        }
-        let header = if self.bytes[FLAGS] & 2 != 0 { 9 } else { 13 };
-        let whole = header + whole_segments(&self.bytes[header..])?.len();
-        if whole == self.bytes.len() {
-            return Ok(PassedOver::default());
-        }
-        Ok(File::new(&self.bytes[..whole], self.reading, self.work)?.left_out.passed_over)
     }
 
     /// A handle that no one else has.
@@ -129,9 +111,9 @@ impl Handle {
         Ok(infos)
     }
 
-    fn left_out(&mut self, before_the_end: impl FnOnce() -> Result<PassedOver>) -> Result<LeftOut> {
+    fn left_out(&mut self) -> Result<LeftOut> {
         // SAFETY: the rules of the header.
-        left_out(|raw| unsafe { ffi::hayro_jbig2_file_get_left_out(self.0.as_ptr(), raw) }, before_the_end)
+        left_out(|raw| unsafe { ffi::hayro_jbig2_file_get_left_out(self.0.as_ptr(), raw) })
     }
 
     fn draw(&mut self, index: usize, context: &mut Context, work: u64) -> Result<()> {
@@ -179,7 +161,7 @@ mod tests {
         assert!(context.work_left().is_some());
         file.work = 0;
         let taken = file.handle();
-        assert_eq!(file.draw(0, &mut context, 1 << 24), Err(DecodeError::OutOfMemory));
+        assert_eq!(file.draw(0, &mut context, 1 << 24), Err(DecodeError::WorkLimit));
         assert_eq!(context.work_left(), None);
         drop(taken);
     }

@@ -2,10 +2,10 @@
 
 use core::ptr::{self, NonNull};
 
-use super::{Reading, allocator, ffi, left_out, made, whole_segments, without_line_end};
+use super::{Reading, allocator, ffi, left_out, made, without_line_end};
 use crate::error::Result;
 use crate::lock::Lock;
-use crate::passed_over::{LeftOut, PassedOver};
+use crate::passed_over::LeftOut;
 
 /// Globals of embedded pages, decoded.
 #[derive(Debug)]
@@ -41,16 +41,8 @@ impl Globals {
             }
         };
         let handle = Handle(made(number, handle)?);
-        let before_the_end = || {
-            let whole = if reading == Reading::Salvage { whole_segments(bytes)? } else { bytes };
-            if whole.len() == bytes.len() {
-                return Ok(PassedOver::default());
-            }
-            Ok(Self::read(whole, reading, work)?.left_out.passed_over)
-        };
         // SAFETY: the rules of the header.
-        let call = |raw| unsafe { ffi::hayro_jbig2_globals_get_left_out(handle.0.as_ptr(), raw) };
-        let left_out = left_out(call, before_the_end)?;
+        let left_out = left_out(|raw| unsafe { ffi::hayro_jbig2_globals_get_left_out(handle.0.as_ptr(), raw) })?;
         Ok(Self { handle: Lock::new(handle), left_out })
     }
 

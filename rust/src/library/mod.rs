@@ -66,39 +66,16 @@ fn passed_over(count: usize, number: u32, error: u32) -> PassedOver {
     PassedOver { count, first: segment(number, error) }
 }
 
-/// What was left out, from the numbers that a call writes. Where no segment was passed over, they have the one at which
-/// the list ends early in its place. If both have one error, `before_the_end` says what was passed over.
-fn left_out(
-    call: impl FnOnce(*mut ffi::LeftOut) -> u32,
-    before_the_end: impl FnOnce() -> Result<PassedOver>,
-) -> Result<LeftOut> {
+/// What was left out, from the numbers that a call writes.
+fn left_out(call: impl FnOnce(*mut ffi::LeftOut) -> u32) -> Result<LeftOut> {
     let mut raw = ffi::LeftOut::default();
     result(call(&mut raw))?;
-    let (pages, first_page) = (raw.pages, numbers::error_of(raw.page_error));
-    let told = passed_over(raw.segments, raw.segment, raw.error);
-    let may_be_end = raw.segments == 1 && raw.error == raw.list_error;
-    let passed_over = if may_be_end { before_the_end()? } else { told };
-    let number = if may_be_end && passed_over.count == 0 { raw.segment } else { NO_SEGMENT_NUMBER };
-    Ok(LeftOut { passed_over, pages, first_page, cut_off: segment(number, raw.list_error) })
-}
-
-/// The segments of these bytes, but for the one at which their list ends early in salvage and what follows. All of the
-/// bytes where it doesn't.
-fn whole_segments(bytes: &[u8]) -> Result<&[u8]> {
-    let mut rest = bytes;
-    while !rest.is_empty() {
-        let mut taken = 0;
-        let (start, length) = (rest.as_ptr(), rest.len());
-        // SAFETY: the rules of the header.
-        match unsafe { ffi::hayro_jbig2_segment_get_length(allocator(), false, start, length, &mut taken) } {
-            0 => rest = &rest[taken..],
-            number if numbers::error_of(number) == Some(DecodeError::OutOfMemory) => {
-                return Err(DecodeError::OutOfMemory);
-            }
-            _ => break,
-        }
-    }
-    Ok(&bytes[..bytes.len() - rest.len()])
+    Ok(LeftOut {
+        passed_over: passed_over(raw.segments, raw.segment, raw.error),
+        pages: raw.pages,
+        first_page: numbers::error_of(raw.page_error),
+        cut_off: segment(raw.list_segment, raw.list_error),
+    })
 }
 
 /// What is read of a stream. PDF files may count in the end of a line after the last segment; the library takes it for a

@@ -1,7 +1,7 @@
 //! The numbers that the library returns.
 
 use crate::error::DecodeError::{
-    self, Format, Huffman, OutOfMemory, Overflow, Parse, Region, Segment, Symbol, Template, Unsupported,
+    self, Format, Huffman, OutOfMemory, Overflow, Parse, Region, Segment, Symbol, Template, Unsupported, WorkLimit,
 };
 use crate::error::{
     FormatError, HuffmanError, OverflowError, ParseError, RegionError, SegmentError, SymbolError, TemplateError,
@@ -52,17 +52,17 @@ const ERRORS: [DecodeError; 41] = [
     OutOfMemory,
 ];
 
-/// No unit of the limit of work is left: `HAYRO_JBIG2_WORK_LIMIT`.
+/// The number of `WorkLimit`, which is none of the definitions' errors: `HAYRO_JBIG2_WORK_LIMIT`.
 const WORK_LIMIT: u32 = 103;
 
-/// The error that a number stands for; none for 0. Want of work is `OutOfMemory` here, and `work_left` tells them apart.
+/// The error that a number stands for; none for 0.
 ///
 /// # Panics
 ///
 /// For other numbers: they stand for faults of a caller, and this crate makes none.
 pub(super) fn error_of(number: u32) -> Option<DecodeError> {
     if number == WORK_LIMIT {
-        return Some(OutOfMemory);
+        return Some(WorkLimit);
     }
     let index = (number as usize).checked_sub(1)?;
     Some(*ERRORS.get(index).unwrap_or_else(|| panic!("the library refused a call of this crate: {number}")))
@@ -72,7 +72,7 @@ pub(super) fn error_of(number: u32) -> Option<DecodeError> {
 mod tests {
     extern crate std;
 
-    use super::{ERRORS, WORK_LIMIT};
+    use super::{ERRORS, WORK_LIMIT, WorkLimit, error_of};
     use std::format;
     use std::string::String;
     use std::vec::Vec;
@@ -105,7 +105,8 @@ mod tests {
     #[test]
     fn the_number_of_the_limit_is_that_of_the_header() {
         let header = include_str!("../../../c/hayro_jbig2.h");
-        assert!(header.contains(&format!("    HAYRO_JBIG2_WORK_LIMIT = {WORK_LIMIT}\n")));
+        assert!(header.contains(&format!("    {} = {WORK_LIMIT}\n", name_in_c(&format!("{WorkLimit:?}")))));
+        assert_eq!(error_of(WORK_LIMIT), Some(WorkLimit));
     }
 
     #[test]
@@ -115,5 +116,7 @@ mod tests {
             let line = format!("[{}] = \"{error}\",", name_in_c(&format!("{error:?}")));
             assert!(texts.contains(&line), "{line}");
         }
+        let of_limit = format!("case {}:\n        return \"{WorkLimit}\";", name_in_c(&format!("{WorkLimit:?}")));
+        assert!(texts.contains(&of_limit), "{of_limit}");
     }
 }

@@ -5,7 +5,7 @@ use core::ptr::{self, NonNull};
 use super::{Context, Globals, PageInfo, Reading, allocator, ffi, left_out, made, result, without_line_end};
 use crate::error::Result;
 use crate::lock::Lock;
-use crate::passed_over::{LeftOut, PassedOver};
+use crate::passed_over::LeftOut;
 
 /// An embedded page, read but not decoded. The library keeps a copy of its bytes, and its globals as long as it needs.
 #[derive(Debug)]
@@ -37,8 +37,7 @@ impl Page {
     pub(crate) fn left_out(&self) -> Result<LeftOut> {
         // SAFETY: the rules of the header.
         let call = |page: &mut Handle, raw| unsafe { ffi::hayro_jbig2_page_get_left_out(page.0.as_ptr(), raw) };
-        // No segment of a page was passed over before it is drawn.
-        self.handle.with(|page| left_out(|raw| call(page, raw), || Ok(PassedOver::default())))
+        self.handle.with(|page| left_out(|raw| call(page, raw)))
     }
 
     pub(crate) fn info(&self) -> Result<PageInfo> {

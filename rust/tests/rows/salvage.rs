@@ -48,13 +48,10 @@ impl Report {
         LeftOut { cut_off: self.cut_off.map(passed), ..LeftOut::default() }
     }
 
-    /// Of globals or a file, with the errors of the pages that were left out. Where segments were passed over, the number
-    /// of the one that ended the list is not known.
+    /// Of globals or a file, with the errors of the pages that were left out.
     fn left_out(&self, pages: &[DecodeError]) -> LeftOut {
         let (passed_over, first_page) = (self.passed_over(), pages.first().copied());
-        let known = |number| if self.passed_over == 0 { number } else { None };
-        let cut_off = self.cut_off.map(|(number, error)| passed((known(number), error)));
-        LeftOut { passed_over, pages: pages.len(), first_page, cut_off }
+        LeftOut { passed_over, pages: pages.len(), first_page, cut_off: self.cut_off.map(passed) }
     }
 }
 
