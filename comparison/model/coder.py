@@ -29,6 +29,11 @@ class Coder:
         self.code <<= 7
         self.shifts -= 7
 
+    @property
+    def is_past_end(self):
+        """Whether the byte read last, which is at `place`, is beyond the data."""
+        return self.place >= len(self.data)
+
     def byte(self, place):
         return self.data[place] if place < len(self.data) else 0xFF
 

@@ -38,8 +38,8 @@ class Generic:
         self.typical = typical
         self.skipped = skipped
 
-    def decode(self, work, coder, contexts, width, height):
-        """The bitmap, by a coder and its contexts."""
+    def decode(self, work, coder, contexts, width, height, is_cut=False):
+        """The bitmap, by a coder and its contexts; of data that is cut off the rows that are whole."""
         bitmap = Bitmap(work, width, height)
         if not width:
             return bitmap
@@ -53,6 +53,8 @@ class Generic:
             rows.append(bytearray(rows[-1] if rows and same else blank))
             if not same:
                 self.decode_row(work, coder, contexts, rows, y)
+            if is_cut and coder.is_past_end:
+                return bitmap.part(work, 0, 0, width, y)
             bitmap.rows[y] = rows[y][MARGIN : MARGIN + width]
         return bitmap
 

@@ -21,7 +21,7 @@ KEPT = (SYMBOLS, PATTERNS, TABLES, EXTENSION)
 
 @dataclasses.dataclass
 class Segment:
-    """A segment; `length` is None where it is unknown."""
+    """A segment; `length` is None where it is unknown. One that is cut off has the data that is there."""
 
     number: int
     kind: int
@@ -29,6 +29,7 @@ class Segment:
     page: int
     length: object
     data: bytes = b""
+    is_cut: bool = False
 
 
 def segment_header(reader, strict):
@@ -89,7 +90,7 @@ def random_access(data, strict):
     return sorted([with_data(reader, header) for header in headers], key=lambda segment: segment.number)
 
 
-def page_size(segments):
+def page_size(segments, height_without_stripes=lambda segments: 0):
     """Width, height and default pixel of a page (7.4.8)."""
     first = next((segment for segment in segments if segment.kind == PAGE), None)
     refuse_if(first is None, Fault.MISSING_PAGE_INFO)
@@ -101,8 +102,8 @@ def page_size(segments):
     if height == UNKNOWN:
         stripes = [segment.data for segment in segments if segment.kind == END_OF_STRIPE and len(segment.data) == 4]
         rows = [int.from_bytes(data, "big") for data in stripes if data != b"\xff" * 4]
-        refuse_if(not rows, Fault.UNKNOWN_PAGE_HEIGHT)
-        height = max(rows) + 1
+        height = max(rows) + 1 if rows else height_without_stripes(segments)
+        refuse_if(height == 0, Fault.UNKNOWN_PAGE_HEIGHT)
     refuse_if(width == 0 or height == 0, Fault.EMPTY_PAGE)
     refuse_large(width, height)
     return width, height, flags >> 2 & 1
@@ -138,13 +139,15 @@ class Names:
 
 
 class Drawing:
-    """Goes through segments: keeps what they name, and draws on a page; the page is None for globals."""
+    """Goes through segments: keeps what they name, and draws on a page; the page is None for globals. `passed_over` has the
+    regions that fail in lenient reading: their numbers and faults."""
 
     def __init__(self, work, strict, names, page=None):
         self.work = work
         self.strict = strict
         self.names = names
         self.page = page
+        self.passed_over = []
 
     def keep(self, segment):
         """A dictionary, a table or an extension."""
@@ -166,13 +169,13 @@ class Drawing:
         if segment.kind in TEXT:
             dictionaries, tables = self.names.referred(segment, strict)
             symbols = [symbol for dictionary in dictionaries for symbol in dictionary.symbols]
-            return regions.text_region(self.work, data, symbols, tables, strict)
+            return regions.text_region(self.work, data, symbols, tables, strict, segment.is_cut)
         if segment.kind in HALFTONE:
             found = None if first is None else self.names.find(PATTERNS, first)
             refuse_if(found is None, Fault.MISSING_PATTERN_DICTIONARY)
             return regions.Halftone(self.work, data, found, strict).decode()
         if segment.kind in GENERIC:
-            return regions.generic_region(self.work, data, segment.kind, segment.length is None, strict)
+            return regions.generic_region(self.work, data, segment.kind, segment.length is None, strict, segment.is_cut)
         reference = None if first is None else self.names.own.get(("region", first))
         refuse_if(strict and reference is None and (first is not None or segment.kind == 40), Fault.INVALID_REFERENCE)
         return regions.refinement_region(self.work, data, reference, self.page)
@@ -186,9 +189,10 @@ class Drawing:
         elif segment.kind in REGIONS:
             try:
                 region = self.region(segment)
-            except Refused:
+            except Refused as refused:
                 if self.strict:
                     raise
+                self.passed_over.append((segment.number, refused.fault))
                 return
             place = regions.signed(region.x), regions.signed(region.y)
             self.page.combine(self.work, region.bitmap, *place, region.operator)
@@ -215,25 +219,35 @@ def drawn(work, segments, shared, strict):
     return page
 
 
+def file_header(reader):
+    """The flags of a file, and how many pages it states or None (D.4)."""
+    refuse_if(reader.take(8) != IDENTIFICATION, Fault.INVALID_HEADER)
+    flags = reader.number(1)
+    refuse_if(flags & 0xF0, Fault.RESERVED_BITS)
+    return flags, None if flags & 2 else reader.number(4)
+
+
+def segments_of_pages(segments):
+    """The segments of no page, and those of each page by its number."""
+    pages = {}
+    for segment in segments:
+        if segment.page:
+            pages.setdefault(segment.page, []).append(segment)
+    return [segment for segment in segments if segment.page == 0], pages
+
+
 class File:
     """A file (D.4): the pages' segments in order, and those of no page."""
 
     def __init__(self, data, strict):
         self.strict = strict
         reader = Reader(data)
-        refuse_if(reader.take(8) != IDENTIFICATION, Fault.INVALID_HEADER)
-        flags = reader.number(1)
-        refuse_if(flags & 0xF0, Fault.RESERVED_BITS)
-        count = None if flags & 2 else reader.number(4)
+        flags, count = file_header(reader)
         segments = (sequential if flags & 1 else random_access)(reader.rest(), strict)
-        self.shared = [segment for segment in segments if segment.page == 0]
+        self.shared, self.pages = segments_of_pages(segments)
         of_pages = (*REGIONS, PAGE, END_OF_PAGE, END_OF_STRIPE)
         if strict:
             refuse_if(any(segment.kind in of_pages for segment in self.shared), Fault.MISSING_PAGE_ASSOCIATION)
-        self.pages = {}
-        for segment in segments:
-            if segment.page:
-                self.pages.setdefault(segment.page, []).append(segment)
         refuse_if(strict and count is not None and count != len(self.pages), Fault.PAGE_COUNT_MISMATCH)
         for own in self.pages.values():
             ends = sum(segment.kind == END_OF_PAGE for segment in own)

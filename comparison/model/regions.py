@@ -61,24 +61,47 @@ def refinement_pixels(reader):
     return pair(reader), pair(reader)
 
 
-def generic_region(work, data, kind, has_unknown_length, strict):
-    reader = Reader(data)
+def generic_header(reader):
+    """The region, whether it is coded by MMR, and otherwise how it is coded (7.4.6)."""
     region = region_information(reader)
     flags = reader.number(1)
-    is_mmr, template = flags & 1, flags >> 1 & 3
+    if flags & 1:
+        return region, True, None
+    template = flags >> 1 & 3
     extended = bool(flags & 16) and template == 0
-    pixels = [] if is_mmr else adaptive_pixels(reader, template, extended)
+    return region, False, Generic(template, adaptive_pixels(reader, template, extended), bool(flags & 8), extended)
+
+
+def with_row_count(region, rest):
+    """The region with the rows that are counted after its data, and the data (7.4.6.4)."""
+    refuse_if(len(rest) < 4, Fault.UNEXPECTED_EOF)
+    rows = int.from_bytes(rest[-4:], "big")
+    refuse_if(rows > region.height, Fault.INVALID_DIMENSION)
+    return dataclasses.replace(region, height=rows), rest[:-4]
+
+
+def information_of(data, kind, has_unknown_length):
+    """The information of an immediate region of any kind that is not too large."""
+    reader = Reader(data)
+    if has_unknown_length and kind in (38, 39):
+        region, _ = with_row_count(generic_header(reader)[0], reader.rest())
+    else:
+        region = region_information(reader)
+    refuse_large(region.width, region.height)
+    return region
+
+
+def generic_region(work, data, kind, has_unknown_length, strict, is_cut=False):
+    """A generic region (7.4.6); of one whose data is cut off and that is not by MMR, the rows that are whole."""
+    reader = Reader(data)
+    region, is_mmr, coded = generic_header(reader)
     rest = reader.rest()
     if has_unknown_length and kind in (38, 39):
-        refuse_if(len(rest) < 4, Fault.UNEXPECTED_EOF)
-        rows = int.from_bytes(rest[-4:], "big")
-        refuse_if(rows > region.height, Fault.INVALID_DIMENSION)
-        region.height, rest = rows, rest[:-4]
+        region, rest = with_row_count(region, rest)
     refuse_large(region.width, region.height)
     if is_mmr:
         return region.with_bitmap(t6.decode(work, rest, region.width, region.height, strict)[0])
-    coded = Generic(template, pixels, bool(flags & 8), extended)
-    return region.with_bitmap(coded.decode(work, Coder(rest), bytearray(1 << 16), region.width, region.height))
+    return region.with_bitmap(coded.decode(work, Coder(rest), bytearray(1 << 16), region.width, region.height, is_cut))
 
 
 def refinement_region(work, data, reference, page):
@@ -192,8 +215,8 @@ class Halftone:
         return self.region.with_bitmap(bitmap)
 
 
-def text_region(work, data, symbols, customs, strict):
-    """A text region (7.4.3)."""
+def text_region(work, data, symbols, customs, strict, is_cut=False):
+    """A text region (7.4.3), or the part of one whose data is cut off."""
     reader = Reader(data)
     region = region_information(reader)
     flags = reader.number(2)
@@ -214,7 +237,8 @@ def text_region(work, data, symbols, customs, strict):
     else:
         length = max(0, len(symbols) - 1).bit_length()
         source = CoderSource(work, Integers(Coder(reader.rest()), work), length, refining)
-    return region.with_bitmap(TextReader(work, settings, source, symbols, strict).decode(region.width, region.height))
+    text = TextReader(work, settings, source, symbols, strict)
+    return region.with_bitmap((text.decode_part if is_cut else text.decode)(region.width, region.height))
 
 
 def text_tables(choices, customs):

@@ -54,6 +54,9 @@ class CoderSource:
     def is_refined(self):
         return self.needed("IARI") & 255 != 0
 
+    def is_past_end(self):
+        return self.integers.coder.is_past_end
+
     def refined(self, refinement, size, reference, shift):
         return refinement.decode(self.work, self.integers.coder, self.refining, size, reference, shift)
 
@@ -88,6 +91,10 @@ class PrefixSource:
     def is_refined(self):
         return self.reader.bits(1, Fault.UNEXPECTED_EOF) == 1
 
+    def is_past_end(self):
+        """Prefix codes are not read beyond the data: that is an error."""
+        return False
+
     def refined(self, refinement, size, reference, shift):
         count = self.needed("size")
         self.reader.align()
@@ -97,7 +104,7 @@ class PrefixSource:
 
 
 class TextReader:
-    """Draws instance after instance on a bitmap."""
+    """Reads instance after instance, and draws them on a bitmap."""
 
     def __init__(self, work, settings, source, symbols, strict):
         self.work = work
@@ -105,16 +112,40 @@ class TextReader:
         self.source = source
         self.symbols = symbols
         self.strict = strict
-        self.bitmap = None
 
     def strip_delta(self):
         product = self.source.needed("IADT") << self.settings.strip_log
         return in_signed(product, Fault.INVALID_STRIP_DELTA)
 
     def decode(self, width, height):
-        settings, source = self.settings, self.source
+        settings = self.settings
         refuse_if(settings.count > settings.most, Fault.TOO_MANY_INSTANCES)
-        self.bitmap = Bitmap(self.work, width, height, settings.colour)
+        bitmap = Bitmap(self.work, width, height, settings.colour)
+        for placed in self.instances():
+            self.draw(bitmap, placed)
+        return bitmap
+
+    def decode_part(self, width, height):
+        """Of data that is cut off the instances that are whole: those before the first one that has an error, or at whose
+        end the coder is past the data."""
+        settings = self.settings
+        bitmap = Bitmap(self.work, width, height, settings.colour)
+        try:
+            for _, placed in zip(range(settings.most), self.instances()):
+                if self.source.is_past_end():
+                    break
+                self.draw(bitmap, placed)
+        except Refused:
+            pass
+        return bitmap
+
+    def draw(self, bitmap, placed):
+        if placed is not None:
+            bitmap.combine(self.work, *placed, self.settings.operator)
+
+    def instances(self):
+        """Each instance when it is read: its symbol with left and top, or None where nothing is drawn."""
+        settings, source = self.settings, self.source
         strip = in_signed(-self.strip_delta(), Fault.PLACEMENT_COORDINATE)
         left, first = settings.count, 0
         while left:
@@ -122,13 +153,13 @@ class TextReader:
             first = in_signed(first + source.needed("IAFS"), Fault.PLACEMENT_COORDINATE)
             s = first
             while s is not None:
-                s = self.instance(s, strip)
+                s, placed = self.instance(s, strip)
+                yield placed
                 left -= 1
                 if not left:
                     self.read_end()
                     break
                 s = self.next_s(s)
-        return self.bitmap
 
     def next_s(self, s):
         delta = self.source.number("IADS")
@@ -146,13 +177,13 @@ class TextReader:
                 raise
 
     def instance(self, s, strip):
-        """Draws an instance, and returns S after it."""
+        """S after an instance, and the instance."""
         t = in_signed(strip + self.source.place_in_strip(self.settings.strip_log), Fault.PLACEMENT_COORDINATE)
         at = self.source.symbol_id()
         is_refined = self.settings.refined and self.source.is_refined()
         if at >= len(self.symbols):
             refuse_if(is_refined or self.strict, Fault.SYMBOL_OUT_OF_RANGE)
-            return s
+            return s, None
         symbol = self.symbols[at]
         return self.placed(self.refined(symbol) if is_refined else symbol, s, t)
 
@@ -175,5 +206,4 @@ class TextReader:
         x, y = (t, s) if settings.transposed else (s, t)
         left = in_signed(x - (symbol.width - 1), fault) if settings.corner in RIGHT else x
         top = in_signed(y - (symbol.height - 1), fault) if settings.corner in BOTTOM else y
-        self.bitmap.combine(self.work, symbol, left, top, settings.operator)
-        return s if grows_before else in_signed(s + growth, fault)
+        return s if grows_before else in_signed(s + growth, fault), (symbol, left, top)

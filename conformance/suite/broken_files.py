@@ -9,7 +9,7 @@ from jbig2_encoder.fields import Change, changed_by, number
 from jbig2_encoder.framing import END_OF_STRIPE, EXTENSION, GENERIC, PATTERN_DICTIONARY, UNKNOWN
 from jbig2_encoder.generic import GenericForm, generic_data, row_count
 from jbig2_encoder.halftone import pattern_data
-from jbig2_encoder.text import Settings
+from jbig2_encoder.text import Settings, TextForm
 
 from . import breaking as errors
 from .breaking import Edit, Fault, blank, broken, broken_page, meant, setting
@@ -85,6 +85,35 @@ def cut_files() -> Iterator[Case]:
         rule = "the file ends in a segment"
         name = f"random-access-of-{place}-bytes"
         yield file_case(name, rule, errors.ENDS, errors.ENDS, lambda data: data[:place], kind=RANDOM)
+
+
+def draw_mmr(page: Page) -> None:
+    page.draw(GENERIC, page_picture(), generic_data(page_picture(), GenericForm(mmr=True)))
+
+
+def draw_text(page: Page, prefix: bool) -> None:
+    alphabet = Alphabet()
+    referred = [put_dictionary(page, alphabet.dictionary())]
+    text = set_words([alphabet.ids(word) for word in WORDS], alphabet.symbols, Settings(), prefix=prefix)
+    put_text(page, text, Settings(), alphabet.symbols, referred, TextForm(prefix))
+
+
+def cut_regions() -> Iterator[Case]:
+    """Files that end early in the data of a region of another kind, which lenient reading drops."""
+    drawings = {
+        "mmr": draw_mmr, "text-coder": lambda page: draw_text(page, False),
+        "text-prefix": lambda page: draw_text(page, True),
+    }
+    for kind, draw in drawings.items():
+        document = page_document(draw)
+        region, *ends = document.segments[-3:]
+        after = sum(map(len, document.headers()[-len(ends):]))
+        for name, missing in (("data", len(region.data) // 2), ("last-byte", 1)):
+            rule = "the file ends in a segment"
+            yield file_case(
+                f"cut-in-{kind}-{name}", rule, errors.ENDS, PICTURE, lambda data: data[: -after - missing],
+                Bitmap(64, 40), document
+            )
 
 
 def segment_headers() -> Iterator[Case]:
@@ -238,6 +267,6 @@ def extensions() -> Iterator[Case]:
 
 def cases() -> Iterator[Case]:
     for make in (
-        file_headers, cut_files, segment_headers, unknown_lengths, references, pages, regions, extensions
+        file_headers, cut_files, cut_regions, segment_headers, unknown_lengths, references, pages, regions, extensions
     ):
         yield from make()

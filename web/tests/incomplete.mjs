@@ -96,6 +96,24 @@ function checkGlobals() {
   }
 }
 
+/** A dictionary that pages share lacks something, and their list ends with the same error, in salvage. */
+function checkTwoFaults() {
+  const lacking = joined("00000001 00 20 00 00", SYMBOLS.subarray(7));
+  const end = joined("00000004 31 00 01 00000000", "20".repeat(16));
+  const segments = joined(PAGE, lacking, TEXT.subarray(PAGE.length), end);
+  const known = [
+    decoder.decode(TEXT, { globals: joined(lacking, "20".repeat(16)), salvage: true }),
+    decoder.decode(joined("974A42320D0A1A0A 01 00000001", segments), { salvage: true }),
+    decoder.decode(joined("974A42320D0A1A0A 03", segments), { salvage: true }),
+  ];
+  for (const { rows, isComplete, passedOver, leftOut } of known) {
+    check(rows[0] === 128 && !isComplete && passedOver.count === 0, "a page whose shared segments lack something");
+    const { passedOver: shared, cutOff } = leftOut;
+    check(shared.count === 1 && shared.segment === 1 && shared.error.error === REFERENCE, "what pages share lacks");
+    check(cutOff.segment === 0x20202020 && cutOff.error.error === REFERENCE, "where the list ends with the same error");
+  }
+}
+
 /** The first page of a file is complete, since its end is there; the second one isn't. */
 function checkFile() {
   const end = book.indexOf(hex("31 00 02 00000000"));
@@ -112,6 +130,7 @@ function checkFile() {
 checkStreams();
 checkCutOff();
 checkGlobals();
+checkTwoFaults();
 checkFile();
 console.log(`incomplete pages: ${checks - failed} checks passed, ${failed} failed`);
 process.exit(failed ? 1 : 0);
