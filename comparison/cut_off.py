@@ -87,14 +87,20 @@ def drawn_here(page: Embedded, room: pathlib.Path, *words: str) -> tuple[Picture
     return picture_in(picture), status
 
 
+def run_peer(*words: str | pathlib.Path) -> None:
+    """Runs another decoder, which may fail or take too long: then it shows nothing."""
+    try:
+        subprocess.run(words, stderr=subprocess.DEVNULL, timeout=60)
+    except subprocess.TimeoutExpired:
+        print(f"{words[0]} takes more than a minute")
+
+
 def drawn_by_peers(page: Embedded, room: pathlib.Path) -> dict[str, Picture | None]:
     """What Poppler and jbig2dec draw."""
     (room / "page.pdf").write_bytes(pdf_of(page))
-    subprocess.run(["pdfimages", room / "page.pdf", room / "poppler"], stderr=subprocess.DEVNULL, timeout=60)
+    run_peer("pdfimages", room / "page.pdf", room / "poppler")
     streams = [room / "page.jb2g", room / "page.jb2e"] if page.shared else [room / "page.jb2e"]
-    subprocess.run(
-        ["jbig2dec", "-q", "-e", "-t", "pbm", "-o", room / "jbig2dec.pbm", *streams], stderr=subprocess.DEVNULL, timeout=60
-    )
+    run_peer("jbig2dec", "-q", "-e", "-t", "pbm", "-o", room / "jbig2dec.pbm", *streams)
     return {"Poppler": picture_in(room / "poppler-000.pbm"), "jbig2dec": picture_in(room / "jbig2dec.pbm")}
 
 

@@ -57,7 +57,8 @@ static void tell_passed_over(struct context *context, size_t count, uint32_t seg
 }
 
 /* The segment at which the list ends early has a warning of its own. A page counts it too, after all others. A page of a
- * file counts it only where it may lack it: then that is told apart by the number and the error, if it is the first. */
+ * file counts it only where it may lack it. If it is the only one counted, its number and its error are those of the
+ * list's end. */
 static size_t passed_before_the_end(const struct context *context, const struct lacks *lacks) {
     const hayro_jbig2_passed_over *passed = &lacks->passed;
     const hayro_jbig2_left_out *left_out = &lacks->left_out;
