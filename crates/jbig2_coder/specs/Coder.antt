@@ -1,8 +1,8 @@
 -- The arithmetic decoder (T.88, Annex E in the software conventions of Annex G), one shift at a time. The annexes
 -- differ if a byte from 80 to 8F follows a byte FF, which no encoder writes. Then Annex G decides: in a fresh context
 -- the bytes FF 8F begin with the decision 0, where Annex E has 1.
-use Rattle.std.specs.Prelude.{ℕ, suc, zero, ◌+◌, ◌-◌, ◌*◌, ◌/◌, ◌%◌, ◌^◌, Bool, true, false, not, ◌&&◌, if◌then◌else◌}
-use Rattle.std.specs.Prelude.{◌==◌, nat_lt, nat_le, List, length, slice_index_or}
+use Rattle.std.specs.Prelude.{ℕ, suc, zero, ◌+◌, ◌-◌, ◌*◌, ◌/◌, ◌%◌, ◌^◌, Bool, true, false, not, ◌&&◌, ◌||◌}
+use Rattle.std.specs.Prelude.{if◌then◌else◌, ◌==◌, nat_lt, nat_le, List, length, slice_index_or}
 use Rattle.jbig2_coder.specs.Table.{row_of}
 use Rattle.jbig2_coder.specs.declared.arithmetic_decoder.registers.CodeRegister.{CodeRegister}
 
@@ -52,10 +52,13 @@ module _ (bytes : List ℕ) where  -- the bytes that are read
       let r = byte_in ((0xFF - byte_at 0) * 2 ^ 16) 0 in
       record { a = 0x8000; code = record { c = r.c * 2 ^ 7 % 2 ^ 32; ct = r.ct - 7; place = r.place } }
 
--- Whether the byte that was read last is one of these bytes. Past the last one, what is decoded is no longer what was
--- written (our own rule, for data that is cut off).
+-- Whether the byte that was read last is one of these bytes (our own rule, for data that is cut off). Past the last
+-- one, what is decoded is no longer what was written. So it is from a last byte FF on: the byte after an FF says how the
+-- FF is read (E.3.4), and past the end every byte is FF.
 abbrev pub is_within : List ℕ → Registers → Bool
-is_within bytes registers = nat_lt registers.code.place (length bytes)
+is_within bytes registers =
+    let place = registers.code.place in
+    nat_lt (place + 1) (length bytes) || not (byte_at bytes place == 0xFF)
 
 unfoldable pub likely_next : Context → Context  -- the context after the likely symbol
 likely_next context = record { row = (row_of context.row).nmps; likely = context.likely }

@@ -212,12 +212,14 @@ impl<'a> ArithmeticDecoder<'a> {
         }
     }
 
-    /// Whether the byte that was read last is one of the data. Bytes that are read ahead don't count.
+    /// Whether the byte that was read last is one of the data, and not an FF at its end. Bytes that are
+    /// read ahead don't count.
     pub fn is_within_data(&self) -> bool
         ensures { result ≡ is_within self.now.bytes self.now.registers }
     {
         let code = self.registers.code;
-        code.place.saturating_sub((code.bits / 8) as usize) < self.bytes.len()
+        let place = code.place.saturating_sub((code.bits / 8) as usize);
+        place + 1 < self.bytes.len() || byte_at(self.bytes, place) != 0xFF
     }
 
     /// The next decision in `context`, 0 or 1 (DECODE, Figure G.2). It changes `context`.
