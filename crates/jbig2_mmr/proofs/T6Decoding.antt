@@ -1,9 +1,8 @@
 -- All rows of a bitmap.
-use Rattle.std.proofs.Common.{◌≡◌, ℕ, zero, suc, ◌+◌, ◌-◌, ◌/◌, ◌<◌, ◌≤◌, Bool, true, false, not, ◌&&◌, cond, eqb, ltb, List, [], ◌∷◌, ◌++◌, length, drop, get_or, Option, Some, None, Result, Ok, Err, refl, sym, ap, subst, ◌∙◌, ⊎_elim, add-one, arith}
+use Rattle.std.proofs.Common.{◌≡◌, ℕ, zero, suc, ◌+◌, ◌-◌, ◌/◌, ◌<◌, ◌≤◌, Bool, true, false, not, ◌&&◌, eqb, ltb, List, [], ◌∷◌, ◌++◌, length, drop, get_or, Option, Some, None, Result, Ok, Err, refl, sym, ap, ◌∙◌, ⊎_elim, add-one, arith}
 use Rattle.std.specs.Prelude.{◌||◌}
 use Rattle.std.proofs.lemmas.List.{get_or_append_left, get_or_push, get_or_past, length_push}
 use Rattle.std.proofs.lemmas.Bool.{cases_eq, cases_lt, cond-true, cond-false, lt-ltb, le-ltb, ne_eqb, or_from}
-use Rattle.jbig2_base.specs.Results.{Returns}
 use Rattle.jbig2_base.specs.Grid.{Grid, grid_of, blank, pixel_at}
 use Rattle.jbig2_base.specs.Table.{IsTable}
 use Rattle.jbig2_base.specs.declared.error.DecodeError.{DecodeError}
@@ -13,7 +12,6 @@ use Rattle.jbig2_base.proofs.GridLemmas.{grid_of-ext, pixel_at-grid_of, pixel_at
 use Rattle.jbig2_mmr.specs.T6.{row, pixel_of, black_at, ends_block, Rows, rows_from, rows_of, bits_of, grid_of_rows, DecodedRows, mmr_rows}
 use Rattle.jbig2_mmr.specs.inner.T6Reading.{after_end, row_above, IsRow}
 use Rattle.jbig2_mmr.specs.inner.T6Calls.{ReadRow}
-use Rattle.jbig2_base.proofs.NumberLemmas.{length-bits}
 use Rattle.jbig2_mmr.proofs.T6Rows.{change-none}
 
 -- the rows after one that may be a fault
@@ -171,42 +169,44 @@ pub drawn-rows : (w h : ℕ) (bytes : List ℕ) (done : List (List ℕ)) (whole 
 drawn-rows w h bytes done whole left new e drawn = drawn ∙ ap (λ (r : Rows). grid_of_rows w h r.rows) (sym e)
 
 -- ---- returns
-result_of : Bool → ℕ → ℕ → List ℕ → Rows → Result DecodedRows DecodeError
-result_of strict w h bytes r = cond (strict && not r.whole) (Err (Region InvalidMmrData)) (Ok (record { grid = grid_of_rows w h r.rows; used = length bytes - length r.left / 8 }))
+-- what is returned of the rows, where this is what they are
+pub record RowsTold (bytes : List ℕ) (meant : Rows) (rows taken : ℕ) (there : Bool) : Type 0 where
+  pub count : rows ≡ length meant.rows
+  pub used : taken ≡ length bytes - length meant.left / 8
+  pub whole : there ≡ meant.whole
 
-result-by : (strict : Bool) (w h : ℕ) (bytes : List ℕ) (r : Rows) → rows_of w h bytes ≡ r → mmr_rows strict w h bytes ≡ result_of strict w h bytes r
-unfolding mmr_rows result_of
-result-by strict w h bytes r e = ap (λ (r : Rows). cond (strict && not r.whole) (Err (Region InvalidMmrData)) (Ok (record { grid = grid_of_rows w h r.rows; used = length bytes - length r.left / 8 }))) e
+pub rows-told : (bytes : List ℕ) (meant r : Rows) (count used : ℕ) → meant ≡ r → length r.rows ≡ count → used ≡ length bytes - length r.left / 8 → RowsTold bytes meant count used r.whole
+rows-told bytes meant r count used e n m = record {
+  count = sym n ∙ ap (λ (s : Rows). length s.rows) (sym e);
+  used = m ∙ ap (λ (s : Rows). length bytes - length s.left / 8) (sym e);
+  whole = ap (λ (s : Rows). s.whole) (sym e);
+}
 
 used-grid : (new g : Grid) (used n : ℕ) → new ≡ g → used ≡ n → ◌≡◌ {A = Result DecodedRows DecodeError} (Ok (record { grid = g; used = n })) (Ok (record { grid = new; used = used }))
 used-grid new g used n e f =
     ap (λ (m : Grid). let d : DecodedRows = record { grid = m; used = n } in Ok d) (sym e) ∙ ap (λ (k : ℕ). let d : DecodedRows = record { grid = new; used = k } in Ok d) (sym f)
 
-pub result-whole : (strict : Bool) (w h : ℕ) (bytes : List ℕ) (done : List (List ℕ)) (left : List ℕ) (new : Grid) (used : ℕ) → rows_of w h bytes ≡ record { rows = done; whole = true; left = left } → new ≡ grid_of_rows w h done → used ≡ length bytes - length left / 8 → mmr_rows strict w h bytes ≡ Ok (record { grid = new; used = used })
-unfolding result_of
-result-whole true w h bytes done left new used e g f = result-by true w h bytes (record { rows = done; whole = true; left = left }) e ∙ used-grid new (grid_of_rows w h done) used (length bytes - length left / 8) g f
-result-whole false w h bytes done left new used e g f = result-by false w h bytes (record { rows = done; whole = true; left = left }) e ∙ used-grid new (grid_of_rows w h done) used (length bytes - length left / 8) g f
+pub rows-refused : (strict : Bool) (w h : ℕ) (bytes : List ℕ) → strict ≡ true → not (rows_of w h bytes).whole ≡ true → mmr_rows strict w h bytes ≡ Err (Region InvalidMmrData)
+unfolding mmr_rows
+rows-refused strict w h bytes e missing =
+    let r = rows_of w h bytes in
+    cond-true (strict && not r.whole) (Err (Region InvalidMmrData)) (Ok (record { grid = grid_of_rows w h r.rows; used = length bytes - length r.left / 8 })) (ap (λ b. b && not r.whole) e ∙ missing)
 
-pub result-missing : (strict : Bool) (w h : ℕ) (bytes : List ℕ) (done : List (List ℕ)) (left : List ℕ) (new : Grid) (used : ℕ) (result : Result ℕ DecodeError) → rows_of w h bytes ≡ record { rows = done; whole = false; left = left } → new ≡ grid_of_rows w h done → used ≡ length bytes - length left / 8 → result ≡ cond strict (Err (Region InvalidMmrData)) (Ok used) → Returns (λ (n : ℕ). let d : DecodedRows = record { grid = new; used = n } in d) result (mmr_rows strict w h bytes)
-unfolding result_of
-result-missing true w h bytes done left new used result e g f is =
-    subst (λ (r : Result ℕ DecodeError). Returns (λ (n : ℕ). let d : DecodedRows = record { grid = new; used = n } in d) r (mmr_rows true w h bytes)) (sym is) (result-by true w h bytes (record { rows = done; whole = false; left = left }) e)
-result-missing false w h bytes done left new used result e g f is =
-    subst (λ (r : Result ℕ DecodeError). Returns (λ (n : ℕ). let d : DecodedRows = record { grid = new; used = n } in d) r (mmr_rows false w h bytes)) (sym is) (result-by false w h bytes (record { rows = done; whole = false; left = left }) e ∙ used-grid new (grid_of_rows w h done) used (length bytes - length left / 8) g f)
+pub rows-taken : (strict : Bool) (w h : ℕ) (bytes : List ℕ) (new : Grid) (used : ℕ) → (strict && not (rows_of w h bytes).whole) ≡ false → new ≡ grid_of_rows w h (rows_of w h bytes).rows → used ≡ length bytes - length (rows_of w h bytes).left / 8 → mmr_rows strict w h bytes ≡ Ok (record { grid = new; used = used })
+unfolding mmr_rows
+rows-taken strict w h bytes new used there drawn e =
+    let r = rows_of w h bytes in
+    cond-false (strict && not r.whole) (Err (Region InvalidMmrData)) (Ok (record { grid = grid_of_rows w h r.rows; used = length bytes - length r.left / 8 })) there
+    ∙ used-grid new (grid_of_rows w h r.rows) used (length bytes - length r.left / 8) drawn e
 
 -- without columns or rows
-no-rows : (w h : ℕ) (bytes : List ℕ) → (eqb w 0 || eqb h 0) ≡ true → rows_of w h bytes ≡ record { rows = []; whole = true; left = bits_of bytes }
+pub no-rows : (w h : ℕ) (bytes : List ℕ) → (eqb w 0 || eqb h 0) ≡ true → rows_of w h bytes ≡ record { rows = []; whole = true; left = bits_of bytes }
 unfolding rows_of
 no-rows w h bytes none = cond-true (eqb w 0 || eqb h 0) (record { rows = []; whole = true; left = bits_of bytes }) (rows_from h w [] [] (bits_of bytes)) none
 
 white-grid : (g : Grid) → g ≡ blank g.width g.height false → g ≡ grid_of_rows g.width g.height []
 white-grid g white =
     white ∙ grid_of-ext g.width g.height (λ _ _. false) (λ x j. black_at (get_or [] j []) x) (λ x j a b. sym (ap (λ (cs : List ℕ). black_at cs x) (get_or_past [] j [] (omega arith)) ∙ change-none x))
-
-pub result-none : (strict : Bool) (g : Grid) (bytes : List ℕ) → g ≡ blank g.width g.height false → (eqb g.width 0 || eqb g.height 0) ≡ true → mmr_rows strict g.width g.height bytes ≡ Ok (record { grid = g; used = 0 })
-result-none strict g bytes white none =
-    let size = length-bits bytes in
-    result-whole strict g.width g.height bytes [] (bits_of bytes) g 0 (no-rows g.width g.height bytes none) (white-grid g white) (omega arith)
 
 pub drawn-none : (g : Grid) (bytes : List ℕ) → g ≡ blank g.width g.height false → (eqb g.width 0 || eqb g.height 0) ≡ true → g ≡ grid_of_rows g.width g.height (rows_of g.width g.height bytes).rows
 drawn-none g bytes white none = drawn-rows g.width g.height bytes [] true (bits_of bytes) g (no-rows g.width g.height bytes none) (white-grid g white)

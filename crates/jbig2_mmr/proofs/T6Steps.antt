@@ -1,12 +1,11 @@
 -- Counts of loads and words.
-use Rattle.std.proofs.Common.{◌≡◌, ℕ, ◌+◌, ◌-◌, ◌*◌, ◌/◌, ◌<◌, ◌≤◌, min, Bool, true, false, cond, List, length, drop, Result, Ok, Err, refl, sym, ap, subst, ◌∙◌, ⊎_elim, arith}
+use Rattle.std.proofs.Common.{◌≡◌, ℕ, ◌+◌, ◌-◌, ◌*◌, ◌/◌, ◌<◌, ◌≤◌, min, true, false, List, length, drop, refl, sym, ap, subst, ◌∙◌, ⊎_elim, arith}
 use Rattle.std.proofs.Math.Nat.{mul-le-mul_left, mul-suc}
 use Rattle.std.proofs.lemmas.Bool.{cases_Bool, cases_lt}
 use Rattle.std.proofs.lemmas.List.{length-drop}
-use Rattle.jbig2_base.specs.declared.error.DecodeError.{DecodeError}
 use Rattle.jbig2_base.specs.Counts.{Counts, words_loaded, words_searched}
 use Rattle.jbig2_mmr.specs.T6.{ends_block}
-use Rattle.jbig2_mmr.specs.Steps.{MovesWithin, bytes_taken}
+use Rattle.jbig2_mmr.specs.Steps.{MovesWithin}
 use Rattle.jbig2_mmr.specs.inner.T6Reading.{after_end}
 use Rattle.jbig2_mmr.specs.inner.T6Steps.{words_after, span_words}
 use Rattle.jbig2_mmr.proofs.T6Bits.{end-after, end-none}
@@ -114,10 +113,6 @@ all-moves words rows height bits taken within few =
 -- the bits that were read are those of the bytes that are taken, at most
 pub used-bits : (all left after used : ℕ) → after ≤ left → used ≡ all - after / 8 → 8 * all - left ≤ 8 * used
 used-bits all left after used shorter e = omega arith
-
-pub taken-bits : (strict : Bool) (e : DecodeError) (used all bits : ℕ) (result : Result ℕ DecodeError) → result ≡ cond strict (Err e) (Ok used) → bits ≤ 8 * used → bits ≤ 8 * all → bits ≤ 8 * bytes_taken result all
-taken-bits true e used all bits result is few most = subst (λ (r : Result ℕ DecodeError). bits ≤ 8 * bytes_taken r all) (sym is) most
-taken-bits false e used all bits result is few most = subst (λ (r : Result ℕ DecodeError). bits ≤ 8 * bytes_taken r all) (sym is) few
 
 pub drop-shorter : (n : ℕ) (bits : List ℕ) → length (drop n bits) ≤ length bits
 drop-shorter n bits = omega (arith, length-drop n bits)

@@ -1,6 +1,5 @@
 //! Decodes bitmaps that are coded in two dimensions by T.6 (MMR; T.88, 6.2.6).
-ghost use Rattle.std.specs.Prelude.{◌≡◌, if◌then◌else◌, false, Ok, Err, Bool, ℕ, ◌+◌, ◌*◌, length};
-ghost use Rattle.jbig2_base.specs.declared.error.{DecodeError.TheVariants.{Region}, RegionError.TheVariants.{InvalidMmrData}};
+ghost use Rattle.std.specs.Prelude.{◌≡◌, false, ◌+◌, ◌-◌, ◌*◌, ◌/◌, length};
 ghost use Rattle.jbig2_base.specs.Results.{Returns};
 ghost use Rattle.jbig2_base.specs.Counts.{KeepsLanes, words_of};
 ghost use Rattle.jbig2_base.specs.Grid.{blank};
@@ -48,29 +47,86 @@ pub fn decode<A: Allocator, L: Ledger>(
         (3 * (words_of bitmap.old + 8 * bytes_taken result (length bytes.now)))
         steps.old steps.new }
 {
+    let read = read_rows(bitmap, bytes, steps);
+    if strict && !read.whole {
+        return Err(RegionError::InvalidMmrData.into());
+    }
+    Ok(read.used)
+}
+
+/// How many rows the bytes hold before the first fault or end of block.
+///
+/// Decodes them onto a white bitmap. No memory is taken. Only loads and words are counted: at most
+/// three together for each word of the bitmap and each bit of `bytes`.
+pub fn count_rows<A: Allocator, L: Ledger>(
+    bitmap: &mut Bitmap<A>,
+    bytes: &[u8],
+    steps: &mut Steps<L>,
+) -> u32
+    requires { bitmap.old ≡ blank bitmap.old.width bitmap.old.height false }
+    ensures rows { result ≡ length (rows_of bitmap.old.width bitmap.old.height bytes.now).rows }
+    ensures lanes { KeepsLanes steps.old steps.new }
+    ensures work { MovesWithin (3 * (words_of bitmap.old + 8 * length bytes.now)) steps.old steps.new }
+{
+    read_rows(bitmap, bytes, steps).count
+}
+
+/// What was read of the rows of a bitmap.
+#[derive(Clone, Copy)]
+struct RowsRead {
+    /// How many rows are whole.
+    count: u32,
+    /// How many bytes are used, the last one whole; all after a fault.
+    used: usize,
+    /// Whether no row is missing.
+    whole: bool,
+}
+
+/// Decodes rows onto a white bitmap, up to the first fault or end of block.
+fn read_rows<A: Allocator, L: Ledger>(
+    bitmap: &mut Bitmap<A>,
+    bytes: &[u8],
+    steps: &mut Steps<L>,
+) -> RowsRead
+    requires { bitmap.old ≡ blank bitmap.old.width bitmap.old.height false }
+    ensures count { result.count ≡ length (rows_of bitmap.old.width bitmap.old.height bytes.now).rows }
+    ensures used { result.used ≡ length bytes.now
+        - length (rows_of bitmap.old.width bitmap.old.height bytes.now).left / 8 }
+    ensures whole { result.whole ≡ (rows_of bitmap.old.width bitmap.old.height bytes.now).whole }
+    ensures grid { bitmap.new ≡ grid_of_rows bitmap.old.width bitmap.old.height
+        (rows_of bitmap.old.width bitmap.old.height bytes.now).rows }
+    ensures lanes { KeepsLanes steps.old steps.new }
+    ensures work { MovesWithin (3 * (words_of bitmap.old + 8 * result.used)) steps.old steps.new }
+{
     let height = bitmap.height();
     if bitmap.width() == 0 || height == 0 {
-        return Ok(0);
+        return RowsRead {
+            count: 0,
+            used: 0,
+            whole: true,
+        };
     }
     let mut reader = CodeReader::new(bytes);
     for y in 0..height {
         if reader.skip_end_of_block() {
-            return missing_rows(strict, reader.bytes_used());
+            return RowsRead {
+                count: y,
+                used: reader.bytes_used(),
+                whole: false,
+            };
         }
         if !read_row(bitmap, y, &mut reader, steps) {
-            return missing_rows(strict, bytes.len());
+            return RowsRead {
+                count: y,
+                used: bytes.len(),
+                whole: false,
+            };
         }
     }
     reader.skip_end_of_block();
-    Ok(reader.bytes_used())
-}
-
-/// The result if not all rows are there.
-fn missing_rows(strict: bool, count: usize) -> Result<usize>
-    ensures { result ≡ (if strict then Err (Region InvalidMmrData) else Ok count) }
-{
-    if strict {
-        return Err(RegionError::InvalidMmrData.into());
+    RowsRead {
+        count: height,
+        used: reader.bytes_used(),
+        whole: true,
     }
-    Ok(count)
 }

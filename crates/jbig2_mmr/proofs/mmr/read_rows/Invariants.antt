@@ -4,7 +4,7 @@ use Rattle.jbig2_mmr.specs.T6.{rows_of}
 use Rattle.jbig2_mmr.specs.Steps.{MovesWithin}
 use Rattle.jbig2_mmr.proofs.T6Decoding.{RowsReading}
 use Rattle.jbig2_mmr.proofs.T6Steps.{rows_moves}
-use Rattle.jbig2_mmr.proofs.mmr.decode.Given as goal
+use Rattle.jbig2_mmr.proofs.mmr.read_rows.Given as goal
 
 abbrev pub invariant-loop-y : goal.invariant-loop-y
 invariant-loop-y g l = record {
