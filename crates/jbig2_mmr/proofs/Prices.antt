@@ -26,7 +26,7 @@ taken-within (Err e) grid strict w h bytes is = omega arith
 thrice : (n words height : ℕ) → n ≤ words * height → 3 * n ≤ 2048 * (words * height)
 thrice n words height few = omega arith
 
-mmr-paid : (g : Grid) (bytes : List ℕ) (taken : ℕ) (old new : Counts) → taken ≤ length bytes → KeepsLanes old new → MovesWithin (3 * (words_of g + 8 * taken)) old new → sum_of_counts new ≤ sum_of_counts old + (32 * price_of_bitmap g.width g.height + 32 * length bytes)
+pub mmr-paid : (g : Grid) (bytes : List ℕ) (taken : ℕ) (old new : Counts) → taken ≤ length bytes → KeepsLanes old new → MovesWithin (3 * (words_of g + 8 * taken)) old new → sum_of_counts new ≤ sum_of_counts old + (32 * price_of_bitmap g.width g.height + 32 * length bytes)
 mmr-paid g bytes taken old new within lanes moves =
     let few : words_of g ≤ words_of_row g.width * g.height = mul-le-mul_right g.height (omega arith) in
     let paid : 3 * words_of g ≤ 32 * price_of_bitmap g.width g.height = row-paid g.width g.height (3 * words_of g) (thrice (words_of g) (words_of_row g.width) g.height few) in

@@ -7,6 +7,7 @@ use Rattle.jbig2_region.specs.GenericHeader.{GenericHeader, generic_header_at, r
 use Rattle.jbig2_region.specs.Refinement.{offset, refined_decoded}
 use Rattle.jbig2_region.specs.RefinementHeader.{RefinementHeader, refinement_header_at}
 use Rattle.jbig2_region.specs.RefinementTemplates.{refinement_pixels_at}
+use Rattle.jbig2_region.specs.WholeRows.{refined_part}
 use Rattle.jbig2_region.specs.RegionInfo.{PlacedRegion, region_info_at}
 use Rattle.jbig2_region.specs.Templates.{adaptive_pixel_at, adaptive_pixels_at, free_pixel_at}
 use Rattle.jbig2_region.specs.declared.region_info.RegionSegmentInfo.{RegionSegmentInfo}
@@ -60,3 +61,7 @@ from_input-offset from info = search (from_input-next, from_input-refusal)
 
 pub from_input-refined : (h : RefinementHeader) (from : PlacedRegion) → FromInput (refined_decoded h from)
 from_input-refined h from = search (from_input-next, from_input-offset)
+
+pub from_input-refined_part : (h : RefinementHeader) (from : PlacedRegion) → FromInput (refined_part h from)
+unfolding refined_part
+from_input-refined_part h from = search (from_input-next, from_input-offset)

@@ -87,19 +87,22 @@ coded-paid true template a coding w h bytes start before after counts = decided-
 coded-paid false template a coding w h bytes start before after counts = region-paid _ (is_nominal template a) (read_pixels template a) coding w h bytes start before after (read_pixels-few template a) counts
 
 -- ---- whole rows
-rows-most : (w h m bits decisions words loads : ℕ) → w ≤ 64 * m → 1 ≤ m → bits ≤ 16 → decisions ≤ h * (w + 1) → words ≤ h * w → loads ≤ h * (w * (bits + 1)) → decisions + words + loads ≤ 2048 * (m * h)
-rows-most w h m bits decisions words loads wide some most decided written read =
-    let each : w * (bits + 1) ≤ w * 17 = mul-le-mul_left w (omega arith) in
-    let all : h * (w * (bits + 1)) ≤ h * (1088 * m) = mul-le-mul_left h (omega (arith, each, wide)) in
+rows-most : (w h m loads decisions words loaded : ℕ) → w ≤ 64 * m → 1 ≤ m → loads ≤ 1408 * m → decisions ≤ h * (w + 1) → words ≤ h * w → loaded ≤ h * loads → decisions + words + loaded ≤ 2048 * (m * h)
+rows-most w h m loads decisions words loaded wide some few decided written read =
+    let all : h * loads ≤ h * (1408 * m) = mul-le-mul_left h few in
     let across : h * w ≤ h * (64 * m) = mul-le-mul_left h wide in
     let high : h * 1 ≤ h * m = mul-le-mul_left h some in
     omega (arith, decided, written, read, all, across, high)
 
-pub whole-rows-paid : (template : Template) (w h : ℕ) (bytes : List ℕ) (start : Region) (before after : Counts) → CountsWholeRows (w * (context_bits template + 1)) (source w h bytes start) before after → sum_of_counts after ≤ sum_of_counts before + 32 * price_of_bitmap w h
-whole-rows-paid template w h bytes start before after counts =
-    let all = rows-most w h (words_of_row w) (context_bits template) (h * (w + 1)) (h * w) (h * (w * (context_bits template + 1))) (row-wide w) (row-some w) (bits-most template) (same (h * (w + 1))) (same (h * w)) (same (h * (w * (context_bits template + 1)))) in
+pub counted-rows-paid : (loads w h : ℕ) (bytes : List ℕ) (start : Region) (before after : Counts) → loads ≤ 1408 * words_of_row w → CountsWholeRows loads (source w h bytes start) before after → sum_of_counts after ≤ sum_of_counts before + 32 * price_of_bitmap w h
+counted-rows-paid loads w h bytes start before after few counts =
+    let all = rows-most w h (words_of_row w) loads (h * (w + 1)) (h * w) (h * loads) (row-wide w) (row-some w) few (same (h * (w + 1))) (same (h * w)) (same (h * loads)) in
     let paid = row-paid w h _ all in
     omega (arith, paid, counts.decisions, counts.run_tests, counts.words, counts.loads, counts.lanes.groups, counts.lanes.pixels)
   where
     same : (n : ℕ) → n ≤ n
     same n = omega arith
+
+pub whole-rows-paid : (template : Template) (w h : ℕ) (bytes : List ℕ) (start : Region) (before after : Counts) → CountsWholeRows (w * (context_bits template + 1)) (source w h bytes start) before after → sum_of_counts after ≤ sum_of_counts before + 32 * price_of_bitmap w h
+whole-rows-paid template w h bytes start before after counts =
+    counted-rows-paid (w * (context_bits template + 1)) w h bytes start before after (all-read w (context_bits template) (bits-most template)) counts

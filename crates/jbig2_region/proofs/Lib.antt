@@ -12,6 +12,7 @@ pub mod GenericPrices
 pub mod GroupLemmas
 pub mod HeaderCauses
 pub mod ParsedCauses
+pub mod PartLemmas
 pub mod PixelCauses
 pub mod PixelLemmas
 pub mod PlaceCounts

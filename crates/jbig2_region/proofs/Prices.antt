@@ -43,6 +43,9 @@ read-few w bits most =
     let each : w * (bits + 9) ≤ w * 22 = mul-le-mul_left w (omega arith) in
     omega (arith, each)
 
+pub counted_loads-few : (template : RefinementTemplate) (w : ℕ) → w * (refinement_bits template + 9) ≤ 1408 * words_of_row w
+counted_loads-few template w = read-few w (refinement_bits template) (bits-most template)
+
 pub refinement_loads-few : (template : RefinementTemplate) (a : List AdaptiveTemplatePixel) (w : ℕ) → refinement_loads template a w ≤ 1408 * words_of_row w
 refinement_loads-few template a w = either (is_nominal template a)
   where

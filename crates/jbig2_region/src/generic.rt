@@ -15,7 +15,7 @@ pub mod header;
 
 pub use crate::decoded_region::DecodedRegion;
 use crate::generic_coding::count_coded_rows;
-pub use crate::generic_coding::decode_coded;
+pub use crate::generic_coding::{count_regular_rows, decode_coded};
 use crate::raster::fresh_contexts;
 pub use crate::template::adaptive::parse_adaptive_template_pixels;
 pub use header::{GenericRegionHeader, parse};
@@ -96,9 +96,9 @@ pub fn decode<A: Allocator, B: Allocator, L: Ledger>(
     Ok(DecodedRegion::new(region_info, bitmap))
 }
 
-/// How many rows of a region are whole: its data had not ended when the row was decoded. MMR data and
-/// a region without columns have all their rows. Decodes the rows into a bitmap of its own. The counts
-/// are within the price of a region.
+/// How many rows of a region are whole: its data had not ended when the row was decoded, and MMR data
+/// had no fault before its end. A region without columns has all its rows. Decodes the rows into a
+/// bitmap of its own. The counts are within the price of a region.
 ///
 /// `OutOfMemory` if there is no memory for the bitmap or the contexts. `contexts` then hold any state.
 pub fn whole_rows<A: Allocator, B: Allocator, L: Ledger>(
@@ -114,10 +114,13 @@ pub fn whole_rows<A: Allocator, B: Allocator, L: Ledger>(
     ensures paid { CountsWithin (price_of_region (header_view header.now)) steps.old steps.new }
 {
     let region_info = &header.region_info;
-    if header.mmr || region_info.width == 0 {
+    if region_info.width == 0 {
         return Ok(region_info.height);
     }
     let mut bitmap = Bitmap::new(alloc, region_info.width, region_info.height)?;
+    if header.mmr {
+        return Ok(mmr::count_rows(&mut bitmap, header.bytes, steps));
+    }
     fresh_contexts(contexts, header.template.context_bits())?;
     let mut decoder = ArithmeticDecoder::new(header.bytes);
     let rows = count_coded_rows(

@@ -3,12 +3,12 @@
 ghost use Rattle.std.specs.Prelude.{◌≡◌, ◌+◌, ◌*◌, ◌^◌, ◌<◌, ◌≤◌, length, pos, negsuc, ◌+ℤ◌, false};
 ghost use Rattle.jbig2_base.specs.Grid.{pixel, bit_number};
 ghost use Rattle.jbig2_region.specs.inner.RegionStates.{DecodesRegion, IsReady, region_state, source_of};
-ghost use Rattle.jbig2_region.specs.Generic.{context_at, coding_of, white_if_skipped};
+ghost use Rattle.jbig2_region.specs.Generic.{context_at, coding_of, masked_coding, white_if_skipped};
 ghost use Rattle.jbig2_region.specs.inner.RegionViews.{skip_of};
 ghost use Rattle.jbig2_region.specs.GenericSteps.{CountsCoded, read_pixels};
 ghost use Rattle.jbig2_region.specs.Steps.{CountsRegion};
 ghost use Rattle.jbig2_region.specs.Templates.{FitsTemplate, context_bits, is_nominal, template_pixels};
-ghost use Rattle.jbig2_region.specs.inner.PixelArrays.{is_extended, pixels_view};
+ghost use Rattle.jbig2_region.specs.inner.PixelArrays.{four_pixels, is_extended, pixels_view};
 ghost use Rattle.jbig2_region.specs.WholeRows.{CountsWholeRows, whole_rows};
 
 use crate::generic_kernel::decode_layout;
@@ -20,7 +20,7 @@ use crate::template::{AdaptiveTemplatePixel, GenericTemplatePixels, Template};
 use jbig2_base::bitmap::Bitmap;
 use jbig2_base::bitmap::steps::Steps;
 use jbig2_coder::arithmetic_decoder::{ArithmeticDecoder, ArithmeticDecoderContext};
-use std::alloc::Allocator;
+use std::alloc::{Allocator, Global};
 use std::sync::ledger::Ledger;
 
 /// The template's pixel at `place`, seen from column `x` of row `y`.
@@ -201,6 +201,36 @@ pub fn decode_coded<A: Allocator, L: Ledger>(
     }
 }
 
+/// Counts the whole rows of a region, as `count_whole_rows` does. A pixel that is black in `skip` is
+/// skipped.
+pub fn count_regular_rows<M: Allocator, A: Allocator, L: Ledger>(
+    template: Template,
+    typical: bool,
+    adaptive: &[AdaptiveTemplatePixel; 4],
+    skip: Option<&Bitmap<M>>,
+    bitmap: &mut Bitmap<A>,
+    decoder: &mut ArithmeticDecoder<'_>,
+    contexts: &mut [ArithmeticDecoderContext],
+    steps: &mut Steps<L>,
+) -> u32
+    requires ready { IsReady (context_bits template) bitmap.old contexts.old }
+    requires some { 1 ≤ bitmap.old.width }
+    ensures rows { let pixels = template_pixels false template (four_pixels template adaptive.now) in
+        result ≡ whole_rows (masked_coding typical template pixels (skip_of skip.entry))
+        (source_of (region_state bitmap.old decoder.old contexts.old)) bitmap.old.height }
+    ensures steps { CountsWholeRows (bitmap.old.width * (context_bits template + 1))
+        (source_of (region_state bitmap.old decoder.old contexts.old)) steps.old steps.new }
+{
+    let pixels = TemplatePixels::regular(template, adaptive);
+    let coding = GenericCoding {
+        template,
+        typical,
+        pixels: pixels.as_slice(),
+        skip,
+    };
+    count_whole_rows(&coding, bitmap, decoder, contexts, steps)
+}
+
 /// Counts the whole rows of a region, as `count_whole_rows` does.
 pub(crate) fn count_coded_rows<A: Allocator, L: Ledger>(
     template: Template,
@@ -232,14 +262,8 @@ pub(crate) fn count_coded_rows<A: Allocator, L: Ledger>(
             count_whole_rows(&coding, bitmap, decoder, contexts, steps)
         }
         GenericTemplatePixels::Regular(a) => {
-            let pixels = TemplatePixels::regular(template, a);
-            let coding = GenericCoding {
-                template,
-                typical,
-                pixels: pixels.as_slice(),
-                skip: None::<&Bitmap<A>>,
-            };
-            count_whole_rows(&coding, bitmap, decoder, contexts, steps)
+            let skip = None::<&Bitmap<Global>>;
+            count_regular_rows(template, typical, a, skip, bitmap, decoder, contexts, steps)
         }
     }
 }

@@ -12,6 +12,7 @@ ghost use Rattle.jbig2_base.specs.Causes.{HasCause};
 ghost use Rattle.jbig2_region.specs.Causes.{BreaksOffset};
 
 pub mod header;
+mod part;
 
 use crate::decoded_region::DecodedRegion;
 use crate::raster::fresh_contexts;
@@ -23,6 +24,7 @@ use jbig2_base::bitmap::Bitmap;
 use jbig2_base::bitmap::steps::Steps;
 use jbig2_base::error::{OverflowError, RegionError, Result};
 use jbig2_coder::arithmetic_decoder::{ArithmeticDecoder, ArithmeticDecoderContext};
+pub use part::decode_part;
 use std::alloc::Allocator;
 use std::sync::ledger::Ledger;
 

@@ -1,5 +1,5 @@
 //! Decodes refinements, and makes their contexts (T.88, 6.3.5.3 to 6.3.5.6).
-ghost use Rattle.std.specs.Prelude.{◌≡◌, ◌+◌, ◌^◌, ◌<◌, ◌≤◌, ◌++◌, Bool, List, length, map, pos, ◌+ℤ◌, ◌-ℤ◌, ◌<ℤ◌};
+ghost use Rattle.std.specs.Prelude.{◌≡◌, ◌+◌, ◌*◌, ◌^◌, ◌<◌, ◌≤◌, ◌++◌, Bool, List, length, map, pos, ◌+ℤ◌, ◌-ℤ◌, ◌<ℤ◌};
 ghost use Rattle.jbig2_base.specs.Grid.{pixel, bit_number};
 ghost use Rattle.jbig2_region.specs.Steps.{CountsDecided};
 ghost use Rattle.jbig2_region.specs.Generic.{number_of};
@@ -9,12 +9,15 @@ ghost use Rattle.jbig2_region.specs.inner.RefinementViews.{reference_view};
 ghost use Rattle.jbig2_region.specs.Refinement.{nine, common_colour, reference_pixel, refinement_coding};
 ghost use Rattle.jbig2_region.specs.RefinementTemplates.{refinement_bits};
 ghost use Rattle.jbig2_region.specs.inner.PixelArrays.{two_pixels};
+ghost use Rattle.jbig2_region.specs.WholeRows.{CountsWholeRows, whole_rows};
 
 use crate::generic_coding::context_at;
 use crate::generic_refinement::ReferenceBitmap;
-use crate::raster::{PixelCoding, Row, decode_region, far_pixel};
+use crate::raster::{PixelCoding, Row, count_whole_rows, decode_region, far_pixel};
 use crate::refinement_kernel::{WindowedCoding, decode_windowed};
-use crate::template::refinement::{is_nominal, reference_0, region_0, typical_context};
+use crate::template::refinement::{
+    is_nominal, reference_0, reference_1, region_0, region_1, typical_context,
+};
 use crate::template::{AdaptiveTemplatePixel, RefinementTemplate, pixel};
 use jbig2_base::bitmap::Bitmap;
 use jbig2_base::bitmap::steps::Steps;
@@ -226,6 +229,50 @@ pub fn decode_bitmap<A: Allocator, B: Allocator, L: Ledger>(
         }
         RefinementTemplate::Template1 => {
             decode_windowed(&windowed, bitmap, decoder, contexts, steps);
+        }
+    }
+}
+
+/// Counts the whole rows of a refinement, as `count_whole_rows` does.
+pub(crate) fn count_refined_rows<A: Allocator, B: Allocator, L: Ledger>(
+    template: RefinementTemplate,
+    typical: bool,
+    adaptive: &[AdaptiveTemplatePixel; 2],
+    reference: &ReferenceBitmap<'_, B>,
+    bitmap: &mut Bitmap<A>,
+    decoder: &mut ArithmeticDecoder<'_>,
+    contexts: &mut [ArithmeticDecoderContext],
+    steps: &mut Steps<L>,
+) -> u32
+    requires ready { IsReady (refinement_bits template) bitmap.old contexts.old }
+    requires some { 1 ≤ bitmap.old.width }
+    ensures rows { let from = reference_view reference.now in
+        result ≡ whole_rows
+        (refinement_coding template typical (two_pixels template adaptive.now) from)
+        (source_of (region_state bitmap.old decoder.old contexts.old)) bitmap.old.height }
+    ensures steps { CountsWholeRows (bitmap.old.width * (refinement_bits template + 9))
+        (source_of (region_state bitmap.old decoder.old contexts.old)) steps.old steps.new }
+{
+    match template {
+        RefinementTemplate::Template0 => {
+            let coding = RefinementCoding {
+                template,
+                typical,
+                reference,
+                in_reference: &reference_0(adaptive),
+                in_region: &region_0(adaptive),
+            };
+            count_whole_rows(&coding, bitmap, decoder, contexts, steps)
+        }
+        RefinementTemplate::Template1 => {
+            let coding = RefinementCoding {
+                template,
+                typical,
+                reference,
+                in_reference: &reference_1(),
+                in_region: &region_1(),
+            };
+            count_whole_rows(&coding, bitmap, decoder, contexts, steps)
         }
     }
 }

@@ -1,11 +1,11 @@
 //! The pixels of refinements' templates (T.88, 6.3.5.3), in the reference and in the region, and the
 //! contexts of the decisions that begin their rows (6.3.5.6).
-ghost use Rattle.std.specs.Prelude.{◌≡◌, ◌^◌, ◌<◌, true, IfSome, None, Some, if◌then◌else◌};
+ghost use Rattle.std.specs.Prelude.{◌≡◌, ◌^◌, ◌<◌, true, [], IfSome, None, Some, if◌then◌else◌};
 ghost use Rattle.jbig2_region.specs.RefinementTemplates.{is_nominal};
 ghost use Rattle.jbig2_region.specs.RefinementTemplates.{reference_pixels, refinement_bits, refinement_row_context, region_pixels};
 ghost use Rattle.jbig2_region.specs.inner.PixelArrays.{two_pixels};
 ghost use Rattle.jbig2_region.specs.inner.RefinementWindows.{corners};
-ghost use Rattle.jbig2_region.specs.declared.template.RefinementTemplate.TheVariants.{Template0};
+ghost use Rattle.jbig2_region.specs.declared.template.RefinementTemplate.TheVariants.{Template0, Template1};
 
 use crate::template::layouts::lies_at;
 use crate::template::{AdaptiveTemplatePixel, RefinementTemplate, pixel};
@@ -32,6 +32,27 @@ pub fn region_0(a: &[AdaptiveTemplatePixel; 2]) -> [AdaptiveTemplatePixel; 4]
     ensures { result ≡ region_pixels Template0 (two_pixels Template0 a.now) }
 {
     [pixel(-1, 0), pixel(1, -1), pixel(0, -1), a[0]]
+}
+
+/// The reference's pixels in template 1 (Figure 13).
+pub fn reference_1() -> [AdaptiveTemplatePixel; 6]
+    ensures { result ≡ reference_pixels Template1 [] }
+{
+    [
+        pixel(1, 1),
+        pixel(0, 1),
+        pixel(1, 0),
+        pixel(0, 0),
+        pixel(-1, 0),
+        pixel(0, -1),
+    ]
+}
+
+/// The region's pixels in template 1.
+pub fn region_1() -> [AdaptiveTemplatePixel; 4]
+    ensures { result ≡ region_pixels Template1 [] }
+{
+    [pixel(-1, 0), pixel(1, -1), pixel(0, -1), pixel(-1, -1)]
 }
 
 /// Whether the adaptive pixels lie where the standard has them by default (Figure 12). Template 1 has

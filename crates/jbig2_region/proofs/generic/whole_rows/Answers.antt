@@ -1,7 +1,8 @@
-use Rattle.std.proofs.Common.{◌≡◌, false, ap, arith}
+use Rattle.std.proofs.Common.{◌≡◌, false, length, ap, arith}
 use Rattle.jbig2_base.specs.Grid.{Grid}
 use Rattle.jbig2_base.proofs.FillLemmas.{white-made}
 use Rattle.jbig2_base.proofs.Prices.{price-same}
+use Rattle.jbig2_mmr.proofs.Prices.{mmr-paid}
 use Rattle.jbig2_region.proofs.GenericPrices.{whole-rows-paid}
 use Rattle.jbig2_region.proofs.generic.whole_rows.Goals as goal
 
@@ -13,3 +14,13 @@ returns-clause-paid g c =
     let h : c.in_ok-bitmap.bitmap.height ≡ info.height = ap (λ (b : Grid). b.height) white in
     let paid = whole-rows-paid c.args.header.now.template _ _ _ _ c.args.steps.now c.count_coded_rows-rows.new.steps c.count_coded_rows-rows.ensures.steps in
     omega (arith, paid, price-same c.in_ok-bitmap.bitmap.width info.width c.in_ok-bitmap.bitmap.height info.height w h)
+
+pub returns-then-header-clause-paid : goal.returns-then-header-clause-paid
+returns-then-header-clause-paid g c =
+    let info = c.args.header.now.region_info in
+    let bitmap = c.in_ok-bitmap.bitmap in
+    let white = (white-made info.width info.height false bitmap c.in_ok-bitmap.ensures).1 in
+    let w : bitmap.width ≡ info.width = ap (λ (b : Grid). b.width) white in
+    let h : bitmap.height ≡ info.height = ap (λ (b : Grid). b.height) white in
+    let paid = mmr-paid bitmap c.args.header.now.bytes.now (length c.args.header.now.bytes.now) c.args.steps.now c.count_rows.new.steps (omega arith) c.count_rows.ensures.lanes c.count_rows.ensures.work in
+    omega (arith, paid, price-same bitmap.width info.width bitmap.height info.height w h)
