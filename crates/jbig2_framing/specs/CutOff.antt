@@ -106,17 +106,16 @@ abbrev pub partial_by : FileOrganization → Reading → List ℕ → Option Seg
 partial_by Sequential reading bytes = sequence_partial reading bytes
 partial_by RandomAccess reading bytes = None
 
--- of a file (Annex D)
-unfoldable pub file_partial : Reading → List ℕ → Option SegmentView
-file_partial reading bytes = on (file_header_at bytes)
+-- of a file (Annex D), by the way its segments are laid out
+abbrev pub of_file : {X : Type 0} → (FileOrganization → Reading → List ℕ → Option X) → Reading → List ℕ → Option X
+of_file {X = X} by reading bytes = on (file_header_at bytes)
   where
-    on : Result (FileHeader × List ℕ) DecodeError → Option SegmentView
-    on (Ok (header, rest)) = partial_by header.organization reading rest
+    on : Result (FileHeader × List ℕ) DecodeError → Option X
+    on (Ok (header, rest)) = by header.organization reading rest
     on (Err e) = None
 
+unfoldable pub file_partial : Reading → List ℕ → Option SegmentView
+file_partial reading bytes = of_file partial_by reading bytes
+
 unfoldable pub file_cut_off : Reading → List ℕ → Option CutOff
-file_cut_off reading bytes = on (file_header_at bytes)
-  where
-    on : Result (FileHeader × List ℕ) DecodeError → Option CutOff
-    on (Ok (header, rest)) = cut_off_by header.organization reading rest
-    on (Err e) = None
+file_cut_off reading bytes = of_file cut_off_by reading bytes

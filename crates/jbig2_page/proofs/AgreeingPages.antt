@@ -142,12 +142,16 @@ text_at-same own shared p =
     same-next (referred_by true own shared p.header.referred_to_segments) (referred_by false own shared p.header.referred_to_segments) _ _ (referred-same own shared p.header.referred_to_segments) (λ referred.
     agrees-next view (λ s. s) (text_header_at (length referred.symbols) true p.bytes) (text_header_at (length referred.symbols) false p.bytes) _ _ (text-header-agrees (length referred.symbols) p.bytes) (λ header. text-decoded-same (is_partial p) header.0 referred.symbols referred.codes))
 
+cells-same : (partial : Bool) (h : HalftoneHeader) (patterns : Patterns) → Same (if partial then halftone_part h patterns else halftone_decoded h patterns) (if partial then halftone_part (lenient_halftone h) patterns else halftone_decoded (lenient_halftone h) patterns)
+cells-same true h patterns = same-itself (halftone_part h patterns)
+cells-same false h patterns = halftone-same h patterns
+
 halftone_at-same : (own shared : Names) (p : SegmentView) → Same (halftone_at true own shared p) (halftone_at false own shared p)
 unfolding halftone_at
 halftone_at-same own shared p =
     let view : HalftoneHeader × List ℕ → HalftoneHeader × List ℕ = λ h. (lenient_halftone h.0, h.1) in
     same-then (some_or (Segment MissingPatternDictionary) (patterns_for own shared p.header.referred_to_segments)) _ _ (λ patterns.
-    agrees-next view (λ s. s) (halftone_header_at true p.bytes) (halftone_header_at false p.bytes) _ _ (halftone-header-agrees p.bytes) (λ header. halftone-same header.0 patterns))
+    agrees-next view (λ s. s) (halftone_header_at true p.bytes) (halftone_header_at false p.bytes) _ _ (halftone-header-agrees p.bytes) (λ header. cells-same (is_partial p) header.0 patterns))
 
 -- whole rows don't depend on the reading
 whole-same : (partial : Bool) (h : GenericHeader) → with_whole_rows partial (lenient_generic h) ≡ lenient_generic (with_whole_rows partial h)
@@ -183,14 +187,14 @@ region-same globals kinds.Generic is_intermediate p d = generic_at-same is_inter
 region-same globals kinds.GenericRefinement is_intermediate p d = refinement_at-same is_intermediate d.grid d.regions p
 
 -- ---- segments of a page
-passed-same : (number : ℕ) (d : Drawing) (r s : Result Drawing DecodeError) → Same r s → Same (or_passed_over true number d r) (or_passed_over false number d s)
-passed-same number d (Ok e) s same = ap (λ (t : Result Drawing DecodeError). or_passed_over false number d t) same
-passed-same number d (Err e) s same = tt
+passed-same : (p : SegmentView) (d : Drawing) (r s : Result Drawing DecodeError) → Same r s → Same (or_passed_over true p d r) (or_passed_over false p d s)
+passed-same p d (Ok e) s same = ap (λ (t : Result Drawing DecodeError). or_passed_over false p d t) same
+passed-same p d (Err e) s same = tt
 
 immediate-same : (globals : Names) (kind : RegionKind) (p : SegmentView) (d : Drawing) → Same (immediate true globals kind p d) (immediate false globals kind p d)
 unfolding immediate
 immediate-same globals kind p d =
-    passed-same p.header.segment_number d (with_drawn_region d (region_at true globals kind false p d)) (with_drawn_region d (region_at false globals kind false p d))
+    passed-same p d (with_drawn_region d (region_at true globals kind false p d)) (with_drawn_region d (region_at false globals kind false p d))
     (same-next (region_at true globals kind false p d) (region_at false globals kind false p d) _ _ (region-same globals kind false p d) (λ r. refl))
 
 intermediate-same : (globals : Names) (kind : RegionKind) (p : SegmentView) (d : Drawing) → Same (intermediate true globals kind p d) (intermediate false globals kind p d)
@@ -215,9 +219,9 @@ typed-same globals types.ImmediateGenericRefinementRegion h bytes d = immediate-
 typed-same globals types.ImmediateLosslessGenericRefinementRegion h bytes d = immediate-same globals kinds.GenericRefinement (of_type types.ImmediateLosslessGenericRefinementRegion h bytes) d
 typed-same globals kind h bytes d = keeping-same globals kind h bytes d
 
-left-same : (number : ℕ) (d : Drawing) (r s : Result Drawing DecodeError) → Same r s → Same (or_left_out Strict number d r) (or_left_out Lenient number d s)
-left-same number d (Ok e) s same = ap (λ (t : Result Drawing DecodeError). or_left_out Lenient number d t) same
-left-same number d (Err e) s same = tt
+left-same : (p : SegmentView) (d : Drawing) (r s : Result Drawing DecodeError) → Same r s → Same (or_left_out Strict p d r) (or_left_out Lenient p d s)
+left-same p d (Ok e) s same = ap (λ (t : Result Drawing DecodeError). or_left_out Lenient p d t) same
+left-same p d (Err e) s same = tt
 
 told-same : (lacks : Bool) (number : ℕ) (d : Drawing) (r s : Result Drawing DecodeError) → Same r s → Same (or_told lacks number d r) (or_told lacks number d s)
 told-same lacks number d (Ok e) s same = ap (λ (t : Result Drawing DecodeError). or_told lacks number d t) same
@@ -228,20 +232,20 @@ drawn-same globals [] d = refl
 drawn-same globals (p ∷ ps) d =
     same-if (ends_page p.header.segment_type) (Ok d) (Ok d) _ _ refl
     (same-next (segment_on Strict globals p d) (segment_on Lenient globals p d) _ _
-    (told-same (lacks_referred globals p d) p.header.segment_number d (or_left_out Strict p.header.segment_number d (segment_by true globals p d)) (or_left_out Lenient p.header.segment_number d (segment_by false globals p d))
-    (left-same p.header.segment_number d (segment_by true globals p d) (segment_by false globals p d) (typed-same globals p.header.segment_type p.header p.bytes d))) (λ e. drawn-same globals ps e))
+    (told-same (lacks_referred globals p d) p.header.segment_number d (or_left_out Strict p d (segment_by true globals p d)) (or_left_out Lenient p d (segment_by false globals p d))
+    (left-same p d (segment_by true globals p d) (segment_by false globals p d) (typed-same globals p.header.segment_type p.header p.bytes d))) (λ e. drawn-same globals ps e))
 
 -- salvage draws what lenient reading does
-left-salvaged : (number : ℕ) (d : Drawing) (r : Result Drawing DecodeError) → Same (or_left_out Lenient number d r) (or_left_out Salvage number d r)
-left-salvaged number d (Ok e) = refl
-left-salvaged number d (Err e) = tt
+left-salvaged : (p : SegmentView) (d : Drawing) (r : Result Drawing DecodeError) → Same (or_left_out Lenient p d r) (or_left_out Salvage p d r)
+left-salvaged p d (Ok e) = refl
+left-salvaged p d (Err e) = tt
 
 drawn-salvaged : (globals : Names) (ps : List SegmentView) (d : Drawing) → Same (segments_drawn Lenient globals ps d) (segments_drawn Salvage globals ps d)
 drawn-salvaged globals [] d = refl
 drawn-salvaged globals (p ∷ ps) d =
     same-if (ends_page p.header.segment_type) (Ok d) (Ok d) _ _ refl
     (same-next (segment_on Lenient globals p d) (segment_on Salvage globals p d) _ _
-    (told-same (lacks_referred globals p d) p.header.segment_number d (or_left_out Lenient p.header.segment_number d (segment_by false globals p d)) (or_left_out Salvage p.header.segment_number d (segment_by false globals p d)) (left-salvaged p.header.segment_number d (segment_by false globals p d))) (λ e. drawn-salvaged globals ps e))
+    (told-same (lacks_referred globals p d) p.header.segment_number d (or_left_out Lenient p d (segment_by false globals p d)) (or_left_out Salvage p d (segment_by false globals p d)) (left-salvaged p d (segment_by false globals p d))) (λ e. drawn-salvaged globals ps e))
 
 -- ---- what a page begins as
 beginning-same : (ps : List SegmentView) → Same (beginning_of Strict ps) (beginning_of Lenient ps)

@@ -1,18 +1,20 @@
 -- A region over a whole page of one colour.
-use Rattle.std.proofs.Common.{◌≡◌, ℕ, List, ◌<◌, ◌≤◌, Bool, true, false, ◌&&◌, if◌then◌else◌, nat_lt, cond, ℤ, ◌⊎◌, inl, inr, subst, Result, Ok, Err, refl, sym, ◌∙◌, ap, arith, Some}
+use Rattle.std.proofs.Common.{◌≡◌, ℕ, List, ◌<◌, ◌≤◌, Bool, true, false, ◌&&◌, ◌||◌, if◌then◌else◌, nat_lt, cond, ℤ, ◌⊎◌, inl, inr, subst, Result, Ok, Err, refl, sym, ◌∙◌, ap, arith}
 use Rattle.std.specs.Int.{w32, cast_signed}
 use Rattle.std.specs.Prelude.{IfErr, pos, ◌-ℤ◌}
-use Rattle.std.proofs.lemmas.Bool.{cond-true, and_from, le-ltb, lt-ltb}
+use Rattle.std.proofs.lemmas.Bool.{cond-true, and_from, le-ltb, lt-ltb, ltb-false}
 use Rattle.std.proofs.lemmas.Int.{ints}
-use Rattle.jbig2_base.specs.Results.{Gives, ◌>>=◌}
+use Rattle.jbig2_base.specs.Results.{Gives, ◌>>=◌, refuse_if}
 use Rattle.jbig2_base.specs.Combination.{combined_grid, drawn_pixel, is_below, combined_pixel}
-use Rattle.jbig2_base.specs.Grid.{Grid, pixel_at, pixel, blank}
+use Rattle.jbig2_base.specs.Grid.{Grid, pixel_at, pixel, blank, check_sides, grid_of}
 use Rattle.jbig2_framing.specs.Segment.{SegmentView}
 use Rattle.jbig2_base.specs.Table.{IsTable}
 use Rattle.jbig2_base.specs.declared.bitmap.operator.CombinationOperator.{CombinationOperator}
 use Rattle.jbig2_base.specs.declared.bitmap.operator.CombinationOperator.TheVariants.{Or, And, Xor, Xnor, Replace}
 use Rattle.jbig2_base.specs.declared.error.DecodeError.{DecodeError}
 use Rattle.jbig2_base.specs.declared.error.DecodeError.TheVariants.{OutOfMemory}
+use Rattle.jbig2_base.specs.declared.error.OverflowError.TheVariants.{BitmapDimension}
+use Rattle.jbig2_base.specs.declared.error.DecodeError.TheVariants as errors
 use Rattle.jbig2_base.proofs.GridLemmas.{grid_of-ext, pixel_at-grid_of, table-at}
 use Rattle.jbig2_halftone.specs.inner.HalftoneHeaderViews as halftones
 use Rattle.jbig2_halftone.specs.inner.DictionaryViews.{dictionary_view}
@@ -25,11 +27,11 @@ use Rattle.jbig2_region.specs.declared.generic_refinement.header.GenericRefineme
 use Rattle.jbig2_region.specs.declared.decoded_region.DecodedRegion.{DecodedRegion}
 use Rattle.jbig2_region.specs.declared.region_info.RegionSegmentInfo.{RegionSegmentInfo}
 use Rattle.jbig2_text.specs.inner.TextViews as texts
-use Rattle.jbig2_page.specs.Names.{Names, nothing_passed, with_passed}
+use Rattle.jbig2_page.specs.Names.{Names, nothing_passed}
 use Rattle.jbig2_page.specs.Page.{Drawing, draws_over, or_passed_over, region_at, with_drawn_region, with_region}
 use Rattle.jbig2_page.specs.declared.drawing.passed_over.PassedOver.{PassedOver}
 use Rattle.jbig2_page.specs.declared.region.parsed_region.ParsedRegion.{ParsedRegion}
-use Rattle.jbig2_page.specs.declared.region.parsed_region.ParsedRegion.TheVariants.{Text, Halftone, Generic, Refinement, PageRefinement}
+use Rattle.jbig2_page.specs.declared.region.parsed_region.ParsedRegion.TheVariants.{Text, Halftone, Generic, Refinement, PageRefinement, Part}
 use Rattle.jbig2_page.specs.declared.region.references.References.{References}
 use Rattle.jbig2_page.specs.declared.region.RegionKind.{RegionKind}
 use Rattle.jbig2_page.specs.declared.region.RegionKind.TheVariants as kinds
@@ -39,6 +41,8 @@ use Rattle.jbig2_page.specs.inner.KeptViews.{kept_values}
 use Rattle.jbig2_page.specs.inner.PageViews.{near_area}
 use Rattle.jbig2_page.specs.inner.ParsedRegions.{placed_region, drawing_of, region_grid, info_of, initial_of}
 use Rattle.jbig2_page.specs.inner.WholePages.{IsBlankPage, IsWhole, after_immediate}
+use Rattle.jbig2_base.proofs.Causes.{same-ok}
+use Rattle.jbig2_page.specs.Page.{passing}
 use Rattle.jbig2_page.proofs.PageArea.{area-near}
 use Rattle.jbig2_page.proofs.RegionSizes.{Made, generic-made, halftone-made, refined-made, text-made}
 use Rattle.jbig2_region.specs.RefinementHeader.{IsRefinement}
@@ -64,15 +68,17 @@ drawn_pixel-zero op page source i j column row =
     ∙ cond-true (nat_lt i source.width && nat_lt j source.height) (combined_pixel op (pixel_at page i j) (pixel_at source i j)) (pixel_at page i j) (and_from (nat_lt i source.width) (nat_lt j source.height) (lt-ltb i source.width column) (lt-ltb j source.height row))
 
 -- the region's own pixels
-pub combined-over : (op : CombinationOperator) (black : Bool) (region : Grid) → IsTable region → draws_over op black ≡ true → combined_grid op (blank region.width region.height black) region (pos 0) (pos 0) ≡ region
-combined-over op black region table over =
+pub combined-pixels : (op : CombinationOperator) (black : Bool) (region : Grid) → draws_over op black ≡ true → combined_grid op (blank region.width region.height black) region (pos 0) (pos 0) ≡ grid_of region.width region.height (pixel_at region)
+combined-pixels op black region over =
     let page : Grid = blank region.width region.height black in
     grid_of-ext region.width region.height (drawn_pixel op page region (pos 0) (pos 0)) (pixel_at region)
     (λ i j column row.
     drawn_pixel-zero op page region i j column row
     ∙ ap (λ (b : Bool). combined_pixel op b (pixel_at region i j)) (pixel_at-grid_of region.width region.height (λ _ _. black) i j column row)
     ∙ over_pixel op black (pixel_at region i j) over)
-    ∙ sym table
+
+pub combined-over : (op : CombinationOperator) (black : Bool) (region : Grid) → IsTable region → draws_over op black ≡ true → combined_grid op (blank region.width region.height black) region (pos 0) (pos 0) ≡ region
+combined-over op black region table over = combined-pixels op black region over ∙ sym table
 
 -- ---- a region that is the whole page
 pub whole-page : (info : RegionSegmentInfo) (page : Grid) (black : Bool) → IsBlankPage black page → info.x_location ≡ 0 → info.y_location ≡ 0 → info.width ≡ page.width → info.height ≡ page.height → draws_over info.combination_operator black ≡ true → IsWhole info black page
@@ -99,10 +105,32 @@ drawn-made (Halftone header patterns) g is = halftone-made (halftones.header_vie
 drawn-made (Generic header) g is = generic-made (generics.header_view header) g is
 drawn-made (Refinement header reference) g is = refined-made (refinements.header_view header) (region_view reference.now) g is
 drawn-made (PageRefinement header area) g is = refined-made (refinements.header_view header) (region_view area) g is
+drawn-made (Part region) g is = (pixel_at region.bitmap, sym (same-ok _ _ is))
 
 -- no side of a page is too long
 pub placed-within : {A : Type 0} (r : ParsedRegion A) → (info_of r).width ≤ 65535 → (info_of r).height ≤ 65535 → placed_region r ≡ (region_grid r >>= λ g. Ok (at_location (info_of r) g))
 placed-within r columns rows = rw (le-ltb 65535 (info_of r).width columns, le-ltb 65535 (info_of r).height rows) refl
+
+-- what is there of a region whose data is cut off, at its place
+fits-within : (w h : ℕ) → check_sides w h ≡ Ok tt → (w ≤ 65535) × (h ≤ 65535)
+fits-within w h is = by (nat_lt 65535 w) (nat_lt 65535 h) refl refl is
+  where
+    by : (a b : Bool) → nat_lt 65535 w ≡ a → nat_lt 65535 h ≡ b → refuse_if (a || b) (errors.Overflow BitmapDimension) ≡ Ok tt → (w ≤ 65535) × (h ≤ 65535)
+    by false false wide high fits = (ltb-false 65535 w wide, ltb-false 65535 h high)
+    by false true wide high fits = absurd (cc)
+    by true b wide high fits = absurd (cc)
+
+pub part-placed : {A : Type 0} (region : DecodedRegion A) (w h : ℕ) → Made w h (region_view region).grid → w ≤ 65535 → h ≤ 65535 → ◌≡◌ {A = Result PlacedRegion DecodeError} (Ok (region_view region)) (placed_region (Part region))
+part-placed region w h made columns rows =
+    let g : Grid = (region_view region).grid in
+    let wide : g.width ≡ w = ap (λ (q : Grid). q.width) made.1 in
+    let high : g.height ≡ h = ap (λ (q : Grid). q.height) made.1 in
+    let table : IsTable g = table-at g w h made.0 made.1 in
+    ap (λ (q : Grid). let r : Result PlacedRegion DecodeError = Ok (at_location (info_of (Part region)) q) in r) table
+    ∙ sym (placed-within (Part region) (subst (λ (n : ℕ). n ≤ 65535) (sym wide) columns) (subst (λ (n : ℕ). n ≤ 65535) (sym high) rows))
+
+pub part-fits-placed : {A : Type 0} (region : DecodedRegion A) (w h : ℕ) → Made w h (region_view region).grid → check_sides w h ≡ Ok tt → ◌≡◌ {A = Result PlacedRegion DecodeError} (Ok (region_view region)) (placed_region (Part region))
+part-fits-placed region w h made fits = part-placed region w h made (fits-within w h fits).0 (fits-within w h fits).1
 
 whole-shown : {A : Type 0} (r : ParsedRegion A) (meant : Result PlacedRegion DecodeError) (d : Drawing) (g : Grid) → IsWhole (info_of r) (initial_of r) d.grid → meant ≡ placed_region r → region_grid r ≡ Ok g → with_drawn_region d meant ≡ Ok (record d { grid = g; untouched = false })
 whole-shown r meant d g whole leads is =
@@ -181,14 +209,14 @@ stored number inside d meant region view is =
     ∙ sym (ap (λ (a : Result PlacedRegion DecodeError). a >>= λ r. let e : Result Drawing DecodeError = Ok (with_region number d r) in e) is)
 
 -- ---- in either mode
-pub drawn-either : (strict : Bool) (number : ℕ) (d d' : Drawing) (meant : Result Drawing DecodeError) → meant ≡ Ok d' → or_passed_over strict number d meant ≡ Ok d'
-drawn-either strict number d d' meant is = ap (λ (r : Result Drawing DecodeError). or_passed_over strict number d r) is
+pub drawn-either : (strict : Bool) (p : SegmentView) (d d' : Drawing) (meant : Result Drawing DecodeError) → meant ≡ Ok d' → or_passed_over strict p d meant ≡ Ok d'
+drawn-either strict p d d' meant is = ap (λ (r : Result Drawing DecodeError). or_passed_over strict p d r) is
 
 -- a region that failed is passed over
-pub passed : (strict : Bool) (number : ℕ) (d d1 d' : Drawing) (meant : Result Drawing DecodeError) (e : DecodeError) (result : Result (Unit {0}) DecodeError)
-    → (e ≡ OutOfMemory) ⊎ (meant ≡ Err e) → (e ≡ OutOfMemory) ⊎ (after_immediate d1 ≡ after_immediate d) → (e ≡ OutOfMemory → result ≡ Err OutOfMemory) → Gives (λ _. d') result (or_passed_over strict number d1 (Err e)) → Gives (λ _. d') result (or_passed_over strict number d meant)
-passed strict number d d1 d' meant e result (inl memory) left refused gives = subst (λ (a : Result (Unit {0}) DecodeError). Gives (λ _. d') a (or_passed_over strict number d meant)) (sym (refused memory)) (inl refl)
-passed strict number d d1 d' meant e result (inr failed) (inl memory) refused gives = subst (λ (a : Result (Unit {0}) DecodeError). Gives (λ _. d') a (or_passed_over strict number d meant)) (sym (refused memory)) (inl refl)
-passed strict number d d1 d' meant e result (inr failed) (inr same) refused gives =
-    subst (λ (r : Result Drawing DecodeError). Gives (λ _. d') result (or_passed_over strict number d r)) (sym failed)
-    (subst (λ (b : Drawing). Gives (λ _. d') result (if strict then Err e else Ok (record b { untouched = false; passed_over = with_passed (Some number) e b.passed_over }))) same gives)
+pub passed : (strict : Bool) (p : SegmentView) (d d1 d' : Drawing) (meant : Result Drawing DecodeError) (e : DecodeError) (result : Result (Unit {0}) DecodeError)
+    → (e ≡ OutOfMemory) ⊎ (meant ≡ Err e) → (e ≡ OutOfMemory) ⊎ (after_immediate d1 ≡ after_immediate d) → (e ≡ OutOfMemory → result ≡ Err OutOfMemory) → Gives (λ _. d') result (or_passed_over strict p d1 (Err e)) → Gives (λ _. d') result (or_passed_over strict p d meant)
+passed strict p d d1 d' meant e result (inl memory) left refused gives = subst (λ (a : Result (Unit {0}) DecodeError). Gives (λ _. d') a (or_passed_over strict p d meant)) (sym (refused memory)) (inl refl)
+passed strict p d d1 d' meant e result (inr failed) (inl memory) refused gives = subst (λ (a : Result (Unit {0}) DecodeError). Gives (λ _. d') a (or_passed_over strict p d meant)) (sym (refused memory)) (inl refl)
+passed strict p d d1 d' meant e result (inr failed) (inr same) refused gives =
+    subst (λ (r : Result Drawing DecodeError). Gives (λ _. d') result (or_passed_over strict p d r)) (sym failed)
+    (subst (λ (b : Drawing). Gives (λ _. d') result (if strict then Err e else Ok (passing p e b))) same gives)

@@ -1,6 +1,6 @@
 -- What each segment of a page does to what was drawn before it.
 use Rattle.std.proofs.Common.{◌≡◌, ℕ, ◌+◌, ◌≤◌, ◌&&◌, eqb, Bool, true, false, List, [], ◌∷◌, Result, Ok, Err, refl, sym, subst, arith}
-use Rattle.std.specs.Prelude.{IfOk}
+use Rattle.std.specs.Prelude.{IfOk, Some, if◌then◌else◌}
 use Rattle.std.proofs.lemmas.Bool.{and_parts, cond_both, eqb-true}
 use Rattle.jbig2_base.specs.Results.{◌>>=◌}
 use Rattle.jbig2_framing.specs.Reading.{is_salvaged, is_strict}
@@ -9,8 +9,9 @@ use Rattle.jbig2_base.specs.declared.error.DecodeError.{DecodeError}
 use Rattle.jbig2_framing.specs.declared.reading.Reading.{Reading}
 use Rattle.jbig2_framing.specs.declared.reading.Reading.TheVariants.{Strict, Lenient, Salvage}
 use Rattle.jbig2_region.specs.RegionInfo.{PlacedRegion}
-use Rattle.jbig2_page.specs.Names.{Names, kept_by, with_lack}
+use Rattle.jbig2_page.specs.Names.{Names, kept_by, with_lack, with_passed}
 use Rattle.jbig2_page.specs.Page.{Drawing, segments_drawn, ends_page, immediate, intermediate, lacks_referred, with_names, or_left_out, or_passed_over, or_told, passing, region_at, segment_by, segment_on, with_drawn_region, with_region}
+use Rattle.jbig2_page.specs.Regions.{is_partial}
 use Rattle.jbig2_page.proofs.Lacking.{never-lacks}
 use Rattle.jbig2_page.proofs.SegmentTypes.{of-segment}
 
@@ -19,13 +20,13 @@ pub record StepsBy (strict : Bool) (R : Drawing → Drawing → Type 0) : Type 0
   pub keeps : (d : Drawing) (names : Names) → R d (record d { names = names })
   pub stores : (d : Drawing) (number : ℕ) (region : PlacedRegion) → R d (with_region number d region)
   pub shows : (d : Drawing) (region : PlacedRegion) → IfOk (with_drawn_region d (Ok region)) (R d)
-  pub passes : strict ≡ false → (d : Drawing) (number : ℕ) (e : DecodeError) → IfOk (or_passed_over false number d (Err e)) (R d)
+  pub passes : strict ≡ false → (d : Drawing) (p : SegmentView) (e : DecodeError) → IfOk (or_passed_over false p d (Err e)) (R d)
   pub tells : strict ≡ false → (d e : Drawing) (told : Bool) (number : ℕ) → (told ≡ true → e.passed_over.count ≡ d.passed_over.count) → R d e → R d (record e { passed_over = with_lack told number e.passed_over })
 
-step-shown : (strict : Bool) (R : Drawing → Drawing → Type 0) → StepsBy strict R → (number : ℕ) (d : Drawing) (r : Result PlacedRegion DecodeError) → IfOk (or_passed_over strict number d (with_drawn_region d r)) (R d)
-step-shown strict R by number d (Ok region) = by.shows d region
-step-shown true R by number d (Err e) = tt
-step-shown false R by number d (Err e) = by.passes refl d number e
+step-shown : (strict : Bool) (R : Drawing → Drawing → Type 0) → StepsBy strict R → (p : SegmentView) (d : Drawing) (r : Result PlacedRegion DecodeError) → IfOk (or_passed_over strict p d (with_drawn_region d r)) (R d)
+step-shown strict R by p d (Ok region) = by.shows d region
+step-shown true R by p d (Err e) = tt
+step-shown false R by p d (Err e) = by.passes refl d p e
 
 step-stored : (strict : Bool) (R : Drawing → Drawing → Type 0) → StepsBy strict R → (number : ℕ) (d : Drawing) (r : Result PlacedRegion DecodeError) → IfOk (r >>= λ region. Ok (with_region number d region)) (R d)
 step-stored strict R by number d (Ok region) = by.stores d number region
@@ -42,7 +43,7 @@ step-by strict R by globals p d =
     (record {
       nothing = λ q. step-kept strict R by d (kept_by strict globals q d.names);
       kept = λ kind q. step-stored strict R by q.header.segment_number d (region_at strict globals kind true q d);
-      shown = λ kind q. step-shown strict R by q.header.segment_number d (region_at strict globals kind false q d);
+      shown = λ kind q. step-shown strict R by q d (region_at strict globals kind false q d);
     })
 
 -- salvage alone leaves a segment out
@@ -51,24 +52,24 @@ left-lenient Strict e left = absurd (let no : false ≡ true = left in cc)
 left-lenient Lenient e left = refl
 left-lenient Salvage e left = refl
 
-step-left : (reading : Reading) (R : Drawing → Drawing → Type 0) → StepsBy (is_strict reading) R → (number : ℕ) (d : Drawing) (r : Result Drawing DecodeError) → IfOk r (R d) → IfOk (or_left_out reading number d r) (R d)
-step-left reading R by number d (Ok e) step = step
-step-left reading R by number d (Err e) step =
-    cond_both (is_salvaged reading e) (Ok (passing number e d)) (Err e) (λ (r : Result Drawing DecodeError). IfOk r (R d)) (λ left. by.passes (left-lenient reading e left) d number e) (λ kept. tt)
+step-left : (reading : Reading) (R : Drawing → Drawing → Type 0) → StepsBy (is_strict reading) R → (p : SegmentView) (d : Drawing) (r : Result Drawing DecodeError) → IfOk r (R d) → IfOk (or_left_out reading p d r) (R d)
+step-left reading R by p d (Ok e) step = step
+step-left reading R by p d (Err e) step =
+    cond_both (is_salvaged reading e) (Ok (passing p e d)) (Err e) (λ (r : Result Drawing DecodeError). IfOk r (R d)) (λ left. by.passes (left-lenient reading e left) d p e) (λ kept. tt)
 
 -- in strict reading nothing is left out
-unleft : (number : ℕ) (d e : Drawing) (r : Result Drawing DecodeError) → or_left_out Strict number d r ≡ Ok e → r ≡ Ok e
-unleft number d e (Ok f) is = is
-unleft number d e (Err error) is = absurd (cc)
+unleft : (p : SegmentView) (d e : Drawing) (r : Result Drawing DecodeError) → or_left_out Strict p d r ≡ Ok e → r ≡ Ok e
+unleft p d e (Ok f) is = is
+unleft p d e (Err error) is = absurd (cc)
 
 is-told : (lacks : Bool) (e d : ℕ) → (lacks && eqb e d) ≡ true → e ≡ d
 is-told lacks e d told = eqb-true e d (and_parts lacks (eqb e d) told).1
 
-step-told : (reading : Reading) (R : Drawing → Drawing → Type 0) → StepsBy (is_strict reading) R → (globals : Names) (p : SegmentView) (d : Drawing) (r : Result Drawing DecodeError) → or_left_out reading p.header.segment_number d (segment_by (is_strict reading) globals p d) ≡ r → IfOk r (R d)
+step-told : (reading : Reading) (R : Drawing → Drawing → Type 0) → StepsBy (is_strict reading) R → (globals : Names) (p : SegmentView) (d : Drawing) (r : Result Drawing DecodeError) → or_left_out reading p d (segment_by (is_strict reading) globals p d) ≡ r → IfOk r (R d)
     → IfOk (or_told (lacks_referred globals p d) p.header.segment_number d r) (R d)
 step-told Strict R by globals p d (Ok e) is step =
     subst (λ (lacks : Bool). R d (record e { passed_over = with_lack (lacks && eqb e.passed_over.count d.passed_over.count) p.header.segment_number e.passed_over }))
-    (sym (never-lacks globals p d e (unleft p.header.segment_number d e (segment_by true globals p d) is))) step
+    (sym (never-lacks globals p d e (unleft p d e (segment_by true globals p d) is))) step
 step-told Lenient R by globals p d (Ok e) is step =
     by.tells refl d e (lacks_referred globals p d && eqb e.passed_over.count d.passed_over.count) p.header.segment_number (is-told (lacks_referred globals p d) e.passed_over.count d.passed_over.count) step
 step-told Salvage R by globals p d (Ok e) is step =
@@ -77,8 +78,8 @@ step-told reading R by globals p d (Err e) is step = tt
 
 pub segment-step : (reading : Reading) (R : Drawing → Drawing → Type 0) → StepsBy (is_strict reading) R → (globals : Names) (p : SegmentView) (d : Drawing) → IfOk (segment_on reading globals p d) (R d)
 segment-step reading R by globals p d =
-    step-told reading R by globals p d (or_left_out reading p.header.segment_number d (segment_by (is_strict reading) globals p d)) refl
-    (step-left reading R by p.header.segment_number d (segment_by (is_strict reading) globals p d) (step-by (is_strict reading) R by globals p d))
+    step-told reading R by globals p d (or_left_out reading p d (segment_by (is_strict reading) globals p d)) refl
+    (step-left reading R by p d (segment_by (is_strict reading) globals p d) (step-by (is_strict reading) R by globals p d))
 
 kept-next : (Q : Drawing → Type 0) (d : Drawing) (r : Result Drawing DecodeError) (next : Drawing → Result Drawing DecodeError) → IfOk r (λ e. Q d → Q e) → Q d → ((e : Drawing) → Q e → IfOk (next e) Q) → IfOk (r >>= next) Q
 kept-next Q d (Ok e) next step holds each = each e (step holds)
@@ -104,11 +105,15 @@ counts-on reading globals p d = segment-step reading CountsOn
       keeps = λ d names. omega arith;
       stores = λ d number region. omega arith;
       shows = λ d region. omega arith;
-      passes = λ lenient d number e. omega arith;
+      passes = λ lenient d q e. count-passed (is_partial q) d q e;
       tells = λ lenient d e told number same step. count-told d e told number same step;
     })
     globals p d
   where
+    count-passed : (partial : Bool) (d : Drawing) (q : SegmentView) (e : DecodeError) → (if partial then d.passed_over else with_passed (Some q.header.segment_number) e d.passed_over).count ≤ d.passed_over.count + 1
+    count-passed true d q e = omega arith
+    count-passed false d q e = omega arith
+
     count-told : (d e : Drawing) (told : Bool) (number : ℕ) → (told ≡ true → e.passed_over.count ≡ d.passed_over.count) → CountsOn d e → CountsOn d (record e { passed_over = with_lack told number e.passed_over })
     count-told d e true number same step = omega (arith, same refl)
     count-told d e false number same step = step

@@ -19,9 +19,9 @@ use Rattle.jbig2_framing.proofs.FromInput.{from_input-file, from_input-initial_p
 use Rattle.jbig2_coder.specs.PrefixCode.{Member}
 use Rattle.jbig2_coder.proofs.FromInput.{from_input-custom}
 use Rattle.jbig2_halftone.specs.Patterns.{Patterns}
-use Rattle.jbig2_halftone.proofs.FromInput.{from_input-halftone, from_input-halftone_header, from_input-pattern_header, from_input-patterns}
+use Rattle.jbig2_halftone.proofs.FromInput.{from_input-halftone, from_input-halftone_header, from_input-halftone_part, from_input-pattern_header, from_input-patterns}
 use Rattle.jbig2_region.specs.RegionInfo.{PlacedRegion}
-use Rattle.jbig2_region.proofs.FromInput.{from_input-generic, from_input-generic_header, from_input-refined, from_input-refinement_header}
+use Rattle.jbig2_region.proofs.FromInput.{from_input-generic, from_input-generic_header, from_input-refined, from_input-refined_part, from_input-refinement_header}
 use Rattle.jbig2_symbol.specs.Symbols.{Symbols}
 use Rattle.jbig2_symbol.proofs.FromInput.{from_input-symbol_header, from_input-symbols_decoded}
 use Rattle.jbig2_text.proofs.RegionsFromInput.{from_input-text, from_input-text_header}
@@ -85,7 +85,7 @@ from_input-some_patterns None = tt
 
 from_input-halftone_at : (strict : Bool) (own shared : Names) (p : SegmentView) → FromInput (halftone_at strict own shared p)
 unfolding halftone_at
-from_input-halftone_at strict own shared p = search (from_input-next, from_input-some_patterns, from_input-halftone_header, from_input-halftone)
+from_input-halftone_at strict own shared p = search (from_input-next, from_input-if, from_input-some_patterns, from_input-halftone_header, from_input-halftone, from_input-halftone_part)
 
 from_input-generic_at : (strict is_intermediate : Bool) (p : SegmentView) → FromInput (generic_at strict is_intermediate p)
 unfolding generic_at
@@ -98,7 +98,7 @@ from_input-referred_region strict (number ∷ others) regions = search (from_inp
 from_input-refinement_at : (strict is_intermediate : Bool) (page : Grid) (regions : List (Kept PlacedRegion)) (p : SegmentView) → FromInput (refinement_at strict is_intermediate page regions p)
 unfolding refinement_at
 from_input-refinement_at strict is_intermediate page regions p =
-    search (from_input-next, from_input-referred_region, from_input-refusal, from_input-refinement_header, from_input-refined) depth 8
+    search (from_input-next, from_input-if, from_input-referred_region, from_input-refusal, from_input-refinement_header, from_input-refined, from_input-refined_part) depth 10
 
 from_input-region_at : (strict : Bool) (globals : Names) (kind : RegionKind) (is_intermediate : Bool) (p : SegmentView) (d : Drawing) → FromInput (region_at strict globals kind is_intermediate p d)
 from_input-region_at strict globals kinds.Text is_intermediate p d = from_input-text_at strict d.names globals p
@@ -106,13 +106,13 @@ from_input-region_at strict globals kinds.Halftone is_intermediate p d = from_in
 from_input-region_at strict globals kinds.Generic is_intermediate p d = from_input-generic_at strict is_intermediate p
 from_input-region_at strict globals kinds.GenericRefinement is_intermediate p d = from_input-refinement_at strict is_intermediate d.grid d.regions p
 
-from_input-shown : (strict : Bool) (number : ℕ) (d : Drawing) (r : Result PlacedRegion DecodeError) → FromInput r → FromInput (or_passed_over strict number d (with_drawn_region d r))
-from_input-shown strict number d (Ok r) is = tt
-from_input-shown strict number d (Err e) is = from_input-if strict (Err e) _ is tt
+from_input-shown : (strict : Bool) (p : SegmentView) (d : Drawing) (r : Result PlacedRegion DecodeError) → FromInput r → FromInput (or_passed_over strict p d (with_drawn_region d r))
+from_input-shown strict p d (Ok r) is = tt
+from_input-shown strict p d (Err e) is = from_input-if strict (Err e) _ is tt
 
 from_input-immediate : (strict : Bool) (globals : Names) (kind : RegionKind) (p : SegmentView) (d : Drawing) → FromInput (immediate strict globals kind p d)
 unfolding immediate
-from_input-immediate strict globals kind p d = from_input-shown strict p.header.segment_number d (region_at strict globals kind false p d) (from_input-region_at strict globals kind false p d)
+from_input-immediate strict globals kind p d = from_input-shown strict p d (region_at strict globals kind false p d) (from_input-region_at strict globals kind false p d)
 
 from_input-intermediate : (strict : Bool) (globals : Names) (kind : RegionKind) (p : SegmentView) (d : Drawing) → FromInput (intermediate strict globals kind p d)
 unfolding intermediate
@@ -158,9 +158,9 @@ from_input-segment_by strict globals p d =
       shown = λ kind q. from_input-immediate strict globals kind q d;
     })
 
-from_input-left_out : (reading : Reading) (number : ℕ) (d : Drawing) (r : Result Drawing DecodeError) → FromInput r → FromInput (or_left_out reading number d r)
-from_input-left_out reading number d (Ok e) is = tt
-from_input-left_out reading number d (Err e) is = from_input-if (is_salvaged reading e) _ (Err e) tt is
+from_input-left_out : (reading : Reading) (p : SegmentView) (d : Drawing) (r : Result Drawing DecodeError) → FromInput r → FromInput (or_left_out reading p d r)
+from_input-left_out reading p d (Ok e) is = tt
+from_input-left_out reading p d (Err e) is = from_input-if (is_salvaged reading e) _ (Err e) tt is
 
 from_input-told : (lacks : Bool) (number : ℕ) (d : Drawing) (r : Result Drawing DecodeError) → FromInput r → FromInput (or_told lacks number d r)
 from_input-told lacks number d (Ok e) is = tt
@@ -170,7 +170,7 @@ pub from_input-drawn : (reading : Reading) (globals : Names) (ps : List SegmentV
 from_input-drawn reading globals [] d = tt
 from_input-drawn reading globals (p ∷ ps) d =
     from_input-if _ (Ok d) _ tt
-    (from_input-next (segment_on reading globals p d) _ (from_input-told (lacks_referred globals p d) p.header.segment_number d _ (from_input-left_out reading p.header.segment_number d _ (from_input-segment_by (is_strict reading) globals p d))) (λ e. from_input-drawn reading globals ps e))
+    (from_input-next (segment_on reading globals p d) _ (from_input-told (lacks_referred globals p d) p.header.segment_number d _ (from_input-left_out reading p d _ (from_input-segment_by (is_strict reading) globals p d))) (λ e. from_input-drawn reading globals ps e))
 
 -- ---- pages and files
 pub from_input-drawing : (page : ReadPage) → FromInput page.globals → FromInput (drawing_of_page page)

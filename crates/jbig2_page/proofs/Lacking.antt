@@ -70,7 +70,7 @@ shown : (globals : Names) (kind : RegionKind) (p : SegmentView) (d e : Drawing) 
 unfolding immediate
 shown globals kind p d e is = drawn (region_at true globals kind false p d) is
   where
-    drawn : (r : Result PlacedRegion DecodeError) → or_passed_over true p.header.segment_number d (with_drawn_region d r) ≡ Ok e → (region : PlacedRegion) × (r ≡ Ok region)
+    drawn : (r : Result PlacedRegion DecodeError) → or_passed_over true p d (with_drawn_region d r) ≡ Ok e → (region : PlacedRegion) × (r ≡ Ok region)
     drawn (Ok region) is = (region, refl)
     drawn (Err error) is = absurd (cc)
 
@@ -81,36 +81,40 @@ kept globals kind p d e is =
     (region.0, region.1)
 
 -- ---- segments
+unless : (b c : Bool) → c ≡ false → (b && c) ≡ false
+unless true c is = is
+unless false c is = refl
+
 never-typed : (globals : Names) (kind : SegmentType) (h : Header) (bytes : List ℕ) (d e : Drawing) → segment_by true globals (of_type kind h bytes) d ≡ Ok e → lacks_referred globals (of_type kind h bytes) d ≡ false
 never-typed globals types.SymbolDictionary h bytes d e is =
     let p : SegmentView = of_type types.SymbolDictionary h bytes in
     let names = went (with_symbols true globals p d.names) (λ more. let made : Result Drawing DecodeError = Ok (record d { names = more }) in made) e is in
-    dictionary-named d.names globals p names.0 names.1
+    unless _ _ (dictionary-named d.names globals p names.0 names.1)
 never-typed globals types.IntermediateTextRegion h bytes d e is =
     let p : SegmentView = of_type types.IntermediateTextRegion h bytes in
     let region = kept globals kinds.Text p d e is in
-    text-named d.names globals p region.0 region.1
+    unless _ _ (text-named d.names globals p region.0 region.1)
 never-typed globals types.ImmediateTextRegion h bytes d e is =
     let p : SegmentView = of_type types.ImmediateTextRegion h bytes in
     let region = shown globals kinds.Text p d e is in
-    text-named d.names globals p region.0 region.1
+    unless _ _ (text-named d.names globals p region.0 region.1)
 never-typed globals types.ImmediateLosslessTextRegion h bytes d e is =
     let p : SegmentView = of_type types.ImmediateLosslessTextRegion h bytes in
     let region = shown globals kinds.Text p d e is in
-    text-named d.names globals p region.0 region.1
+    unless _ _ (text-named d.names globals p region.0 region.1)
 never-typed globals types.IntermediateGenericRefinementRegion h bytes d e is =
     let p : SegmentView = of_type types.IntermediateGenericRefinementRegion h bytes in
     let region = kept globals kinds.GenericRefinement p d e is in
-    refinement-there true d.grid d.regions p region.0 region.1
+    unless _ _ (refinement-there true d.grid d.regions p region.0 region.1)
 never-typed globals types.ImmediateGenericRefinementRegion h bytes d e is =
     let p : SegmentView = of_type types.ImmediateGenericRefinementRegion h bytes in
     let region = shown globals kinds.GenericRefinement p d e is in
-    refinement-there false d.grid d.regions p region.0 region.1
+    unless _ _ (refinement-there false d.grid d.regions p region.0 region.1)
 never-typed globals types.ImmediateLosslessGenericRefinementRegion h bytes d e is =
     let p : SegmentView = of_type types.ImmediateLosslessGenericRefinementRegion h bytes in
     let region = shown globals kinds.GenericRefinement p d e is in
-    refinement-there false d.grid d.regions p region.0 region.1
-never-typed globals kind h bytes d e is = refl
+    unless _ _ (refinement-there false d.grid d.regions p region.0 region.1)
+never-typed globals kind h bytes d e is = unless _ _ refl
 
 pub never-lacks : (globals : Names) (p : SegmentView) (d e : Drawing) → segment_by true globals p d ≡ Ok e → lacks_referred globals p d ≡ false
 never-lacks globals p d e is = never-typed globals p.header.segment_type p.header p.bytes d e is

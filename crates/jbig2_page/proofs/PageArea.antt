@@ -9,8 +9,10 @@ use Rattle.jbig2_base.specs.declared.error.DecodeError.TheVariants as errors
 use Rattle.jbig2_base.specs.declared.error.DecodeError.TheVariants.{OutOfMemory, Overflow}
 use Rattle.jbig2_base.specs.declared.error.OverflowError.TheVariants.{ReferenceOffset}
 use Rattle.jbig2_base.specs.declared.error.RegionError.TheVariants.{InvalidDimension}
+use Rattle.std.specs.Prelude.{if◌then◌else◌}
 use Rattle.jbig2_region.specs.RegionInfo.{PlacedRegion}
-use Rattle.jbig2_region.specs.Refinement.{is_far, offset, refined_grid, refined_decoded}
+use Rattle.jbig2_region.specs.WholeRows.{refined_part}
+use Rattle.jbig2_region.specs.Refinement.{is_far, offset, refined_decoded}
 use Rattle.jbig2_region.specs.RefinementHeader.{RefinementHeader}
 use Rattle.jbig2_region.specs.declared.region_info.RegionSegmentInfo.{RegionSegmentInfo}
 use Rattle.jbig2_page.specs.Regions.{page_area}
@@ -29,19 +31,24 @@ not-smaller : (n : ℕ) → nat_lt n n ≡ false
 not-smaller n = le-ltb n n (omega arith)
 
 -- an area that lies far is refused as a reference
-pub area-far : (h : RefinementHeader) (page : Grid) (error : DecodeError) → near_area page h.region_info ≡ Err error → refined_decoded h (page_area page h.region_info) ≡ Err error
+offset-far : (h : RefinementHeader) (page : Grid) (error : DecodeError) → near_area page h.region_info ≡ Err error → offset (page_area page h.region_info) h.region_info ≡ Err error
 unfolding offset
-area-far h page error e =
+offset-far h page error e =
     refused (nat_lt h.region_info.width h.region_info.width) (nat_lt h.region_info.height h.region_info.height) (is_far h.region_info.x_location) (is_far h.region_info.y_location) (not-smaller h.region_info.width) (not-smaller h.region_info.height) e
   where
     refused : (wider higher x y : Bool) → wider ≡ false → higher ≡ false → (refuse_if (x || y) (Overflow ReferenceOffset) >>= λ _. Ok (page_area page h.region_info)) ≡ Err error
-        → ◌>>=◌ {A = Grid} {B = PlacedRegion} (◌>>=◌ {A = ℤ × ℤ} (refuse_if (wider || higher) (errors.Region InvalidDimension) >>= λ _. refuse_if (x || x || y || y) (Overflow ReferenceOffset) >>= λ _. Ok (pos h.region_info.x_location -ℤ pos h.region_info.x_location, pos h.region_info.y_location -ℤ pos h.region_info.y_location)) (λ d. Ok (refined_grid h (page_area page h.region_info)))) (λ g. Ok (record { grid = g; x_location = h.region_info.x_location; y_location = h.region_info.y_location; combination_operator = h.region_info.combination_operator }))
-        ≡ Err error
+        → ◌≡◌ {A = Result (ℤ × ℤ) DecodeError} (refuse_if (wider || higher) (errors.Region InvalidDimension) >>= λ _. refuse_if (x || x || y || y) (Overflow ReferenceOffset) >>= λ _. Ok (pos h.region_info.x_location -ℤ pos h.region_info.x_location, pos h.region_info.y_location -ℤ pos h.region_info.y_location)) (Err error)
     refused true higher x y no_wider no_higher h = cc
     refused false true x y no_wider no_higher h = cc
     refused false false true y no_wider no_higher h = cc
     refused false false false true no_wider no_higher h = cc
     refused false false false false no_wider no_higher h = cc
+
+-- a region far away is refused, whole or in part
+pub area-far : (partial : Bool) (h : RefinementHeader) (page : Grid) (error : DecodeError) → near_area page h.region_info ≡ Err error → (if partial then refined_part h (page_area page h.region_info) else refined_decoded h (page_area page h.region_info)) ≡ Err error
+unfolding refined_part
+area-far true h page error e = rw (offset-far h page error e) refl
+area-far false h page error e = rw (offset-far h page error e) refl
 
 -- the part of the page that was cut out
 pub area-made : (page made : Grid) (info : RegionSegmentInfo) → info.width ≤ 65535 → info.height ≤ 65535 → info.x_location < 2147483648 → info.y_location < 2147483648

@@ -15,7 +15,7 @@ use Rattle.jbig2_steps.specs.Work.{CountsWithin, Paid, PaidBut, price_of_bitmap,
 use Rattle.jbig2_page.specs.Image.{packed_size}
 use Rattle.jbig2_page.specs.Page.{Drawing, ReadPage, drawing_of_page}
 use Rattle.jbig2_page.specs.declared.region.parsed_region.ParsedRegion.{ParsedRegion}
-use Rattle.jbig2_page.specs.declared.region.parsed_region.ParsedRegion.TheVariants.{Text, Halftone, Generic, Refinement, PageRefinement}
+use Rattle.jbig2_page.specs.declared.region.parsed_region.ParsedRegion.TheVariants.{Text, Halftone, Generic, Refinement, PageRefinement, Part}
 use Rattle.jbig2_page.specs.inner.ParsedRegions.{region_grid, info_of}
 use Rattle.jbig2_page.specs.inner.Prices.{counts_of, price_besides, price_of_info}
 use Rattle.jbig2_page.proofs.Direct.{drawn-made}
@@ -36,6 +36,7 @@ parsed-within (Halftone header patterns) = omega arith
 parsed-within (Generic header) = omega arith
 parsed-within (Refinement header reference) = omega arith
 parsed-within (PageRefinement header area) = omega arith
+parsed-within (Part region) = omega arith
 
 -- a region that is decoded in place
 pub placed-paid : {A : Type 0} (r : ParsedRegion A) (w0 w1 w2 : ℕ) → w1 + 32 * (price_of_info r * 1 + price_besides r) ≡ w0 → w2 ≤ w1 + counts_of r → w2 ≤ w0

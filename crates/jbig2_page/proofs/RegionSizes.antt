@@ -1,22 +1,26 @@
 -- What a region decodes to is a table of its size.
-use Rattle.std.proofs.Common.{◌≡◌, ℕ, zero, suc, ◌+◌, ◌-◌, ◌*◌, eqb, nat_lt, Bool, true, false, not, ◌&&◌, if◌then◌else◌, ℤ, pos, ◌+ℤ◌, ◌-ℤ◌, List, [], ◌∷◌, slice_index_or, Option, Some, None, Result, Ok, Err, refl, sym, ◌∙◌, ap, subst}
+use Rattle.std.proofs.Common.{◌≡◌, ℕ, zero, suc, ◌+◌, ◌-◌, ◌*◌, eqb, nat_lt, Bool, true, false, not, ◌&&◌, ◌||◌, if◌then◌else◌, ℤ, pos, ◌+ℤ◌, ◌-ℤ◌, List, [], ◌∷◌, slice_index_or, Option, Some, None, Result, Ok, Err, refl, sym, ◌∙◌, ap, subst, take}
 use Rattle.jbig2_base.specs.Results.{◌>>=◌, refuse_if}
 use Rattle.jbig2_base.specs.Combination.{combined_grid, drawn_pixel}
-use Rattle.jbig2_base.specs.Grid.{Grid, grid_of, blank}
+use Rattle.jbig2_base.specs.Grid.{Grid, grid_of, blank, blank_or_overflow, check_sides}
 use Rattle.jbig2_base.specs.declared.bitmap.operator.CombinationOperator.{CombinationOperator}
+use Rattle.jbig2_base.specs.declared.bitmap.operator.CombinationOperator.TheVariants.{Replace}
 use Rattle.jbig2_base.specs.declared.error.DecodeError.{DecodeError}
-use Rattle.jbig2_base.specs.declared.error.DecodeError.TheVariants.{Symbol}
+use Rattle.jbig2_base.specs.declared.error.DecodeError.TheVariants.{Overflow, Symbol}
+use Rattle.jbig2_base.specs.declared.error.OverflowError.TheVariants.{BitmapDimension}
 use Rattle.jbig2_base.specs.declared.error.SymbolError.TheVariants.{TooManyInstances}
 use Rattle.jbig2_halftone.specs.GrayScale.{gray_scale_image}
 use Rattle.jbig2_halftone.specs.Halftone.{cells_drawn, gray_params, halftone_result, pattern_for, with_cell}
 use Rattle.jbig2_halftone.specs.HalftoneHeader.{HalftoneHeader}
 use Rattle.jbig2_halftone.specs.Patterns.{Patterns}
+use Rattle.jbig2_halftone.specs.WholeCells.{halftone_part, whole_image_rows}
 use Rattle.jbig2_mmr.specs.T6.{DecodedRows, rows_of, mmr_rows}
 use Rattle.jbig2_region.specs.{RegionInfo.{PlacedRegion}, Generic.{generic_result, generic_grid, generic_region}}
 use Rattle.jbig2_region.specs.GenericHeader.{GenericHeader}
 use Rattle.jbig2_region.specs.Raster.{so_far}
 use Rattle.jbig2_region.specs.Refinement.{offset, refined_result, refined_grid, refined_region}
 use Rattle.jbig2_region.specs.RefinementHeader.{RefinementHeader}
+use Rattle.jbig2_region.specs.WholeRows.{refined_part}
 use Rattle.jbig2_text.specs.Refining.{Refining}
 use Rattle.jbig2_text.specs.Text.{TextState, Readings, TextParams, after_instances, coordinate, next_cursor, instance_symbol, strip_start, strip_delta, symbol_placed, t_in_strip, text_region, with_instance, with_symbol}
 use Rattle.jbig2_text.specs.declared.cursor.Cursor.{Cursor}
@@ -94,7 +98,7 @@ halftone-made h d g is =
     (λ values done. cells-made w v h d 0 values start g ((λ _ _. h.flags.initial_pixel_color), refl) done)
     is
 
--- ---- text regions
+-- ---- what a step gives
 -- this holds for what a step gives, if it gives something
 abbrev OnValue : {X : Type 0} → (X → Type 0) → Result X DecodeError → Type 0
 OnValue {X} P a = (x : X) → a ≡ Ok x → P x
@@ -113,6 +117,38 @@ value-if : {Y : Type 0} (P : Y → Type 0) (t : Bool) (a b : Result Y DecodeErro
 value-if P true a b one other = one
 value-if P false a b one other = other
 
+-- ---- regions in part
+pub refined_part-made : (h : RefinementHeader) (from r : PlacedRegion) → refined_part h from ≡ Ok r → Made h.region_info.width h.region_info.height r.grid
+unfolding refined_part
+refined_part-made h from r is =
+    let w = h.region_info.width in
+    let v = h.region_info.height in
+    let P : PlacedRegion → Type 0 = λ q. Made w v q.grid in
+    value-next P (offset from h.region_info) _ (λ d d_is.
+    value-is P _ (combined-made w v Replace _ _ _ _ (combined-made w v Replace (blank w v false) from.grid d.0 d.1 ((λ _ _. false), refl)))) r is
+
+-- a side that is too long is refused
+pub halftone_part-refused : (h : HalftoneHeader) (d : Patterns) (e : DecodeError) → blank_or_overflow h.region_info.width h.region_info.height false ≡ Err e → halftone_part h d ≡ Err e
+unfolding halftone_part
+halftone_part-refused h d e is = by (nat_lt 65535 h.region_info.width || nat_lt 65535 h.region_info.height) (blank h.region_info.width h.region_info.height false) _ is
+  where
+    by : (b : Bool) (g : Grid) (next : Unit {0} → Result PlacedRegion DecodeError) → (refuse_if b (Overflow BitmapDimension) >>= λ _. good g) ≡ bad e → (refuse_if b (Overflow BitmapDimension) >>= next) ≡ bad e
+    by true g next refused = cc
+    by false g next refused = absurd (let never : good g ≡ bad e = refused in cc)
+
+pub halftone_part-made : (h : HalftoneHeader) (d : Patterns) (r : PlacedRegion) → halftone_part h d ≡ Ok r → Made h.region_info.width h.region_info.height r.grid
+unfolding halftone_part
+halftone_part-made h d r is =
+    let w = h.region_info.width in
+    let v = h.region_info.height in
+    let lenient : HalftoneHeader = record h { strict = false } in
+    let P : PlacedRegion → Type 0 = λ q. Made w v q.grid in
+    value-next P (check_sides w v) _ (λ fits fits_is.
+    value-next P (gray_scale_image (gray_params lenient d) h.bytes) _ (λ values values_is.
+    value-next P (cells_drawn lenient d 0 (take (whole_image_rows (gray_params lenient d) h.bytes * h.grid_position_and_size.width) values) (blank w v h.flags.initial_pixel_color)) _ (λ g g_is.
+    value-is P _ (cells-made w v lenient d 0 _ (blank w v h.flags.initial_pixel_color) g ((λ _ _. h.flags.initial_pixel_color), refl) g_is)))) r is
+
+-- ---- text regions
 symbol-made : {w v : ℕ} (flags : TextRegionFlags) (region : Grid) (c : Cursor) (ti : ℤ) (ib : Option Grid) → Made w v region → OnValue (λ more. Made w v more.0) (with_symbol flags region c ti ib)
 symbol-made {w} {v} flags region c ti None made = value-is (λ more. Made w v more.0) (region, c) made
 symbol-made {w} {v} flags region c ti (Some g) made =

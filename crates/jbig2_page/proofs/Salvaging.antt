@@ -98,9 +98,9 @@ fine-globals bytes =
     fine-over (sequential Salvage bytes) _ _ (fine-sequential bytes) (λ ps. fine-named (by_number ps) (nothing_shared (sequence_cut_off Salvage bytes)))
 
 -- ---- pages
-fine-left : (number : ℕ) (d : Drawing) (r : Result Drawing DecodeError) → FromInput r → IsFine (or_left_out Salvage number d r)
-fine-left number d (Ok e) is = refl
-fine-left number d (Err e) is = rw (left-out e is) refl
+fine-left : (p : SegmentView) (d : Drawing) (r : Result Drawing DecodeError) → FromInput r → IsFine (or_left_out Salvage p d r)
+fine-left p d (Ok e) is = refl
+fine-left p d (Err e) is = rw (left-out e is) refl
 
 fine-told : (lacks : Bool) (number : ℕ) (d : Drawing) (r : Result Drawing DecodeError) → IsFine r → IsFine (or_told lacks number d r)
 fine-told lacks number d (Ok e) is = refl
@@ -110,7 +110,7 @@ pub fine-drawn : (globals : Names) (ps : List SegmentView) (d : Drawing) → IsF
 fine-drawn globals [] d = refl
 fine-drawn globals (p ∷ ps) d =
     cond_both (ends_page p.header.segment_type) (Ok d) (segment_on Salvage globals p d >>= λ e. segments_drawn Salvage globals ps e) (λ (r : Result Drawing DecodeError). IsFine r) (λ ends. refl)
-    (λ goes. fine-next (segment_on Salvage globals p d) _ (fine-told (lacks_referred globals p d) p.header.segment_number d (or_left_out Salvage p.header.segment_number d (segment_by false globals p d)) (fine-left p.header.segment_number d (segment_by false globals p d) (from_input-segment_by false globals p d))) (λ e. fine-drawn globals ps e))
+    (λ goes. fine-next (segment_on Salvage globals p d) _ (fine-told (lacks_referred globals p d) p.header.segment_number d (or_left_out Salvage p d (segment_by false globals p d)) (fine-left p d (segment_by false globals p d) (from_input-segment_by false globals p d))) (λ e. fine-drawn globals ps e))
 
 -- ---- files
 fine-filed : (all : List (List SegmentView)) → IsFine (pages_in_file Salvage all)

@@ -1,7 +1,7 @@
 -- Which rule is broken where what a segment refers to is refused, an extension or a refinement.
 use Rattle.std.proofs.Common.{◌≡◌, inl, inr, ℕ, ◌+◌, ◌<◌, Bool, true, false, ◌&&◌, nat_le, nat_lt, is_none, List, [], ◌∷◌, ◌++◌, length, length-append, take, Option, Some, None, Result, Ok, Err, refl, sym, ap, subst, ◌∙◌, arith}
 use Rattle.std.proofs.lemmas.Bool.{and_parts, leb-true, ltb-true}
-use Rattle.std.specs.Prelude.{◌⊎◌, ◌≢◌, Any, IfErr, IfOk, IsTrue, option_and_then, slice_get, unwrap_or}
+use Rattle.std.specs.Prelude.{◌⊎◌, ◌≢◌, Any, if◌then◌else◌, IfErr, IfOk, IsTrue, option_and_then, slice_get, unwrap_or}
 use Rattle.std.specs.List.{flat_map}
 use Rattle.std.specs.Option.{option_map_or}
 use Rattle.std.specs.Int.{w32, from_be_bytes}
@@ -27,7 +27,8 @@ use Rattle.jbig2_region.proofs.ResultCauses.{cause-more}
 use Rattle.jbig2_symbol.specs.Symbols.{Symbols}
 use Rattle.jbig2_page.specs.Causes.{BreaksExtension, BreaksPatternReference, BreaksReferred, BreaksRefinement}
 use Rattle.jbig2_page.specs.Names.{Names, ReferredValues, first_kept, kept_of, referred_by, with_dictionary, with_number, with_numbers, with_table, extension}
-use Rattle.jbig2_page.specs.Regions.{page_area, patterns_for, referred_region, refinement_at}
+use Rattle.jbig2_region.specs.WholeRows.{refined_part}
+use Rattle.jbig2_page.specs.Regions.{is_partial, page_area, patterns_for, referred_region, refinement_at}
 use Rattle.jbig2_page.specs.declared.kept.Kept.{Kept}
 use Rattle.jbig2_page.proofs.Causes.{at-first, at-later}
 
@@ -156,6 +157,12 @@ refined-cause P h from why =
     cause-next P (refined_result h from) _
     (cause-next P (offset from h.region_info) _ (cause-more (BreaksOffset from h.region_info) P (offset from h.region_info) (offset_causes from h.region_info) why) (λ d is. tt)) (λ g is. tt)
 
+part-cause : (P : DecodeError → Type 0) (partial : Bool) (h : RefinementHeader) (from : PlacedRegion) → ((e : DecodeError) → BreaksOffset from h.region_info e → P e) → IfErr (if partial then refined_part h from else refined_decoded h from) P
+unfolding refined_part
+part-cause P true h from why =
+    cause-next P (offset from h.region_info) _ (cause-more (BreaksOffset from h.region_info) P (offset from h.region_info) (offset_causes from h.region_info) why) (λ d is. tt)
+part-cause P false h from why = refined-cause P h from why
+
 refinement_causes : (strict is_intermediate : Bool) (page : Grid) (regions : List (Kept PlacedRegion)) (p : SegmentView) → IfErr (refinement_at strict is_intermediate page regions p) (BreaksRefinement strict is_intermediate page regions p)
 unfolding refinement_at
 refinement_causes strict is_intermediate page regions p =
@@ -171,7 +178,7 @@ refinement_causes strict is_intermediate page regions p =
     cause-next P (refinement_header_at p.bytes) _ (cause-more (BreaksRefinementHeader p.bytes) P (refinement_header_at p.bytes) (refinement_header_causes p.bytes) (λ e broken. inr (inl broken))) (λ header header_is.
     let info = header.0.region_info in
     let Q : Option PlacedRegion → DecodeError → Type 0 = λ r e. BreaksOffset (unwrap_or r (page_area page info)) info e in
-    refined-cause P header.0 (unwrap_or referred (page_area page info)) (λ e broken. inr (inr (header, header_is, subst (λ (r : Option PlacedRegion). Q r e) same broken))))))
+    part-cause P (is_partial p) header.0 (unwrap_or referred (page_area page info)) (λ e broken. inr (inr (header, header_is, subst (λ (r : Option PlacedRegion). Q r e) same broken))))))
 
 pub refinement_cause : {X : Type 0} (strict is_intermediate : Bool) (page : Grid) (regions : List (Kept PlacedRegion)) (p : SegmentView) (r : Result X DecodeError)
     → IfErr r (λ e. (e ≡ OutOfMemory) ⊎ (refinement_at strict is_intermediate page regions p ≡ Err e)) → HasCauseOrNoMemory r (BreaksRefinement strict is_intermediate page regions p)

@@ -32,7 +32,7 @@ still-steps strict g = record {
   keeps = λ d names still. still;
   stores = λ d number region still. still;
   shows = λ d region still never. absurd (let no : false ≡ true = never in cc);
-  passes = λ lenient d number e still never. absurd (let no : false ≡ true = never in cc);
+  passes = λ lenient d p e still never. absurd (let no : false ≡ true = never in cc);
   tells = λ lenient d e told number same step still. step still;
 }
 
@@ -64,7 +64,7 @@ size-steps strict initial_page = record {
   keeps = λ d names has. has;
   stores = λ d number region has. has;
   shows = λ d region has. has;
-  passes = λ lenient d number e has. has;
+  passes = λ lenient d p e has. has;
   tells = λ lenient d e told number same step has. step has;
 }
 
@@ -91,7 +91,7 @@ strict-steps strict is = record {
   keeps = λ d names none. none;
   stores = λ d number region none. none;
   shows = λ d region none. none;
-  passes = λ lenient d number e none. absurd (let strictly : strict ≡ true = is in cc);
+  passes = λ lenient d p e none. absurd (let strictly : strict ≡ true = is in cc);
   tells = λ lenient d e told number same step none. absurd (let strictly : strict ≡ true = is in cc);
 }
 

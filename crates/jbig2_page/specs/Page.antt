@@ -3,7 +3,6 @@
 use Rattle.std.specs.Prelude.{◌≡◌, ◌≤◌, ℕ, ◌+◌, ◌-◌, ◌==◌, ◌&&◌, ◌||◌, is_none, nat_lt, max, min, Bool, true, false, not, List, []}
 use Rattle.std.specs.Prelude.{◌∷◌, ◌++◌, Option, Some, None, Result, Ok, Err, IfOk, IsTrue, if◌then◌else◌}
 use Rattle.std.specs.Int.{w32, cast_signed}
-use Rattle.std.specs.Result.{is_ok}
 use Rattle.jbig2_base.specs.Results.{◌>>=◌}
 use Rattle.jbig2_base.specs.Combination.{combined_grid}
 use Rattle.jbig2_base.specs.Grid.{Grid, blank, max_side}
@@ -26,7 +25,7 @@ use Rattle.jbig2_region.specs.RegionInfo.{PlacedRegion, region_info_at}
 use Rattle.jbig2_region.specs.declared.region_info.RegionSegmentInfo.{RegionSegmentInfo}
 use Rattle.jbig2_page.specs.Names.{Names, any_names_nothing, dictionary_lacks, first_kept, kept_by, kept_under, no_names}
 use Rattle.jbig2_page.specs.Names.{nothing_passed, with_lack, with_passed}
-use Rattle.jbig2_page.specs.Regions.{generic_at, halftone_at, refinement_at, text_at}
+use Rattle.jbig2_page.specs.Regions.{generic_at, halftone_at, is_partial, refinement_at, text_at}
 use Rattle.jbig2_page.specs.declared.kept.Kept.{Kept}
 use Rattle.jbig2_page.specs.declared.drawing.passed_over.PassedOver.{PassedOver}
 use Rattle.jbig2_page.specs.declared.region.RegionKind.{RegionKind}
@@ -93,14 +92,20 @@ with_drawn_region d region = do
   let y = cast_signed w32 r.y_location
   Ok (record d { grid = combined_grid r.combination_operator d.grid r.grid x y; untouched = false })
 
+-- A segment that fails counts as passed over. One whose data is cut off doesn't count here: it counts as the one at which
+-- the list of segments ends early (our own rule).
+abbrev pub with_failed : SegmentView → DecodeError → PassedOver → PassedOver
+with_failed p e passed_over =
+    if is_partial p then passed_over else with_passed (Some p.header.segment_number) e passed_over
+
 -- A segment that is passed over draws nothing, but it counts as a region that came before (our own rule).
-abbrev pub passing : ℕ → DecodeError → Drawing → Drawing
-passing number e d = record d { untouched = false; passed_over = with_passed (Some number) e d.passed_over }
+abbrev pub passing : SegmentView → DecodeError → Drawing → Drawing
+passing p e d = record d { untouched = false; passed_over = with_failed p e d.passed_over }
 
 -- Every reading but the strict one passes over an immediate region that fails (our own rule).
-abbrev pub or_passed_over : Bool → ℕ → Drawing → Result Drawing DecodeError → Result Drawing DecodeError
-or_passed_over strict number d (Ok e) = Ok e
-or_passed_over strict number d (Err e) = if strict then Err e else Ok (passing number e d)
+abbrev pub or_passed_over : Bool → SegmentView → Drawing → Result Drawing DecodeError → Result Drawing DecodeError
+or_passed_over strict p d (Ok e) = Ok e
+or_passed_over strict p d (Err e) = if strict then Err e else Ok (passing p e d)
 
 -- An intermediate region is kept under its segment's number.
 abbrev pub with_region : ℕ → Drawing → PlacedRegion → Drawing
@@ -118,7 +123,7 @@ module _ (strict : Bool) (globals : Names) where
   region_at kinds.GenericRefinement is_intermediate p d = refinement_at strict is_intermediate d.grid d.regions p
 
   unfoldable pub immediate : RegionKind → SegmentView → Drawing → Result Drawing DecodeError
-  immediate kind p d = or_passed_over strict p.header.segment_number d (with_drawn_region d (region_at kind false p d))
+  immediate kind p d = or_passed_over strict p d (with_drawn_region d (region_at kind false p d))
 
   unfoldable pub intermediate : RegionKind → SegmentView → Drawing → Result Drawing DecodeError
   intermediate kind p d = region_at kind true p d >>= λ region. Ok (with_region p.header.segment_number d region)
@@ -138,9 +143,9 @@ abbrev pub lacks_region : List ℕ → List (Kept PlacedRegion) → Bool
 lacks_region [] regions = false
 lacks_region (number ∷ others) regions = is_none (first_kept number regions)
 
--- Whether a segment refers to something that isn't there: strict reading refuses its number.
+-- Whether a segment that is whole refers to something that isn't there: strict reading refuses its number.
 abbrev pub lacks_referred : Names → SegmentView → Drawing → Bool
-lacks_referred globals p d = on (region_type p.header.segment_type)
+lacks_referred globals p d = not (is_partial p) && on (region_type p.header.segment_type)
   where
     on : Option (RegionKind × Bool) → Bool
     on (Some (kinds.Text, is_intermediate)) = any_names_nothing d.names globals p.header.referred_to_segments
@@ -155,15 +160,15 @@ or_told lacks number d (Ok e) =
 or_told lacks number d (Err e) = Err e
 
 -- Salvage passes over any segment that fails. Nothing is kept under its number then.
-abbrev pub or_left_out : Reading → ℕ → Drawing → Result Drawing DecodeError → Result Drawing DecodeError
-or_left_out reading number d (Ok e) = Ok e
-or_left_out reading number d (Err e) = if is_salvaged reading e then Ok (passing number e d) else Err e
+abbrev pub or_left_out : Reading → SegmentView → Drawing → Result Drawing DecodeError → Result Drawing DecodeError
+or_left_out reading p d (Ok e) = Ok e
+or_left_out reading p d (Err e) = if is_salvaged reading e then Ok (passing p e d) else Err e
 
 module _ (reading : Reading) (globals : Names) where
   abbrev pub segment_on : SegmentView → Drawing → Result Drawing DecodeError
   segment_on p d =
       or_told (lacks_referred globals p d) p.header.segment_number d
-      (or_left_out reading p.header.segment_number d (segment_by (is_strict reading) globals p d))
+      (or_left_out reading p d (segment_by (is_strict reading) globals p d))
 
   -- The segments in order, up to an end of page or an end of file.
   abbrev pub segments_drawn : List SegmentView → Drawing → Result Drawing DecodeError
@@ -241,19 +246,9 @@ known_height _ ps = stripes_height ps
 unfoldable pub beginning_of : Reading → List SegmentView → Result InitialPage DecodeError
 beginning_of reading ps = initial_page_by (known_height reading ps) ps
 
--- Whether the part that is there of a segment whose data is cut off can be drawn: that of an immediate text region, or
--- of an immediate generic region with a header (our own rule).
-abbrev pub is_drawn_in_part : SegmentView → Bool
-is_drawn_in_part p = on (region_type p.header.segment_type)
-  where
-    on : Option (RegionKind × Bool) → Bool
-    on (Some (kinds.Generic, false)) = is_ok (generic_header_at false false p.bytes)
-    on (Some (kinds.Text, false)) = true
-    on _ = false
-
--- Salvage draws that part.
+-- Salvage draws what is there of an immediate region whose data is cut off (our own rule).
 abbrev pub drawn_part : Reading → Option SegmentView → Option SegmentView
-drawn_part Salvage (Some p) = if is_drawn_in_part p then Some p else None
+drawn_part Salvage (Some p) = if is_immediate (region_type p.header.segment_type) then Some p else None
 drawn_part _ _ = None
 
 abbrev pub list_of : Option SegmentView → List SegmentView

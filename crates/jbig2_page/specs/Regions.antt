@@ -14,11 +14,12 @@ use Rattle.jbig2_region.specs.Generic.{generic_decoded}
 use Rattle.jbig2_region.specs.GenericHeader.{GenericHeader, generic_header_at}
 use Rattle.jbig2_region.specs.Refinement.{refined_decoded}
 use Rattle.jbig2_region.specs.RefinementHeader.{refinement_header_at}
-use Rattle.jbig2_region.specs.WholeRows.{whole_generic_rows}
+use Rattle.jbig2_region.specs.WholeRows.{refined_part, whole_generic_rows}
 use Rattle.jbig2_region.specs.declared.region_info.RegionSegmentInfo.{RegionSegmentInfo}
 use Rattle.jbig2_halftone.specs.Halftone.{halftone_decoded}
 use Rattle.jbig2_halftone.specs.HalftoneHeader.{halftone_header_at}
 use Rattle.jbig2_halftone.specs.Patterns.{Patterns}
+use Rattle.jbig2_halftone.specs.WholeCells.{halftone_part}
 use Rattle.jbig2_coder.specs.PrefixCode.{Member}
 use Rattle.jbig2_text.specs.TextHeader.{TextHeader, text_header_at}
 use Rattle.jbig2_text.specs.TextRegion.{text_decoded}
@@ -48,12 +49,13 @@ abbrev pub patterns_for : Names → Names → List ℕ → Option Patterns
 patterns_for own shared [] = None
 patterns_for own shared (number ∷ numbers) = kept_of number own.patterns shared.patterns
 
--- A halftone region (7.4.5), drawn with the patterns that it refers to.
+-- A halftone region (7.4.5), drawn with the patterns that it refers to. One whose data is cut off is drawn in part (our
+-- own rule).
 unfoldable pub halftone_at : Bool → Names → Names → SegmentView → Result PlacedRegion DecodeError
 halftone_at strict own shared p = do
   patterns ← some_or (Segment MissingPatternDictionary) (patterns_for own shared p.header.referred_to_segments)
   (header, rest) ← halftone_header_at strict p.bytes
-  halftone_decoded header patterns
+  if is_partial p then halftone_part header patterns else halftone_decoded header patterns
 
 -- A generic region whose data is cut off ends after its whole rows (our own rule).
 abbrev pub with_whole_rows : Bool → GenericHeader → GenericHeader
@@ -85,11 +87,12 @@ page_area page info =
     }))
 
 -- A refinement (7.4.7) of the region that it refers to, or else of the page's area (7.4.7.4). Strict reading refuses an
--- intermediate one that refers to no region.
+-- intermediate one that refers to no region. One whose data is cut off is refined in part (our own rule).
 unfoldable pub refinement_at : Bool → Bool → Grid → List (Kept PlacedRegion) → SegmentView
     → Result PlacedRegion DecodeError
 refinement_at strict is_intermediate page regions p = do
   referred ← referred_region strict p.header.referred_to_segments regions
   known ← refuse_if (strict && is_intermediate && is_none referred) (Segment InvalidReference)
   (header, rest) ← refinement_header_at p.bytes
-  refined_decoded header (unwrap_or referred (page_area page header.region_info))
+  let from = unwrap_or referred (page_area page header.region_info)
+  if is_partial p then refined_part header from else refined_decoded header from

@@ -23,6 +23,7 @@ use crate::drawing::canvas::Canvas;
 use crate::drawing::dictionaries::{extension, keep_patterns, keep_symbols, keep_table};
 use crate::kept::Kept;
 use crate::kept::names::{KeptNames, Lookup};
+use crate::region::cut_off::is_partial;
 use crate::region::references::References;
 use crate::region::refinement::lacks_region;
 use crate::region::{RegionKind, parse_region};
@@ -150,11 +151,14 @@ impl<'a, A: Allocator + Clone> Drawer<'a, A> {
         Ok(())
     }
 
-    /// Whether a segment refers to something that isn't there.
+    /// Whether a segment that is whole refers to something that isn't there.
     fn lacks_referred(&self, segment: &Segment<'_, A>, canvas: &Canvas<A>) -> bool
         ensures { result ≡ lacks_referred self.now.globals.now (segment_view segment.now)
             canvas.now }
     {
+        if is_partial(segment) {
+            return false;
+        }
         let numbers = &segment.header.referred_to_segments;
         let names = Lookup {
             strict: self.reading.is_strict(),
@@ -204,34 +208,34 @@ impl<'a, A: Allocator + Clone> Drawer<'a, A> {
     ) -> Result<()>
         requires { canvas.old.passed_over.count < usize.MAX }
         ensures value { Gives (λ _. canvas.new) result
-            (or_left_out self.now.reading segment.now.header.segment_number canvas.old
+            (or_left_out self.now.reading (segment_view segment.now) canvas.old
             (segment_by (is_strict self.now.reading) self.now.globals.now
             (segment_view segment.now) canvas.old)) }
         ensures paid { Paid work.old work.new }
     {
         match self.try_segment(segment, canvas, work) {
             Ok(()) => Ok(()),
-            Err(error) => self.leave_out(segment.header.segment_number, error, canvas),
+            Err(error) => self.leave_out(segment, error, canvas),
         }
     }
 
     /// Handles a segment that failed and left the page as it was: salvage passes over it.
     fn leave_out(
         &self,
-        segment_number: u32,
+        segment: &Segment<'_, A>,
         error: DecodeError,
         canvas: &mut Canvas<A>,
     ) -> Result<()>
         requires { (error ≡ OutOfMemory) ⊎ (canvas.old.passed_over.count < usize.MAX) }
         ensures value { Gives (λ _. canvas.new) result
-            (or_left_out self.now.reading segment_number canvas.old (Err error)) }
+            (or_left_out self.now.reading (segment_view segment.now) canvas.old (Err error)) }
         ensures memory { error ≡ OutOfMemory → result ≡ Err OutOfMemory }
         ensures asks_nothing { result ≡ Err OutOfMemory → error ≡ OutOfMemory }
     {
         if !self.reading.is_salvaged(&error) {
             return Err(error);
         }
-        canvas.pass(segment_number, error);
+        canvas.pass(segment, error);
         Ok(())
     }
 
@@ -378,7 +382,7 @@ impl<'a, A: Allocator + Clone> Drawer<'a, A> {
     {
         match self.show_region(kind, segment, canvas, work) {
             Ok(()) => Ok(()),
-            Err(error) => self.pass_over(segment.header.segment_number, error, canvas),
+            Err(error) => self.pass_over(segment, error, canvas),
         }
     }
 
@@ -417,13 +421,14 @@ impl<'a, A: Allocator + Clone> Drawer<'a, A> {
     /// salvage pass over it.
     fn pass_over(
         &self,
-        segment_number: u32,
+        segment: &Segment<'_, A>,
         error: DecodeError,
         canvas: &mut Canvas<A>,
     ) -> Result<()>
         requires { canvas.old.passed_over.count < usize.MAX }
         ensures value { Gives (λ _. canvas.new) result
-            (or_passed_over (is_strict self.now.reading) segment_number canvas.old (Err error)) }
+            (or_passed_over (is_strict self.now.reading) (segment_view segment.now) canvas.old
+            (Err error)) }
         ensures err { IfErr result (λ e. canvas.new ≡ canvas.old) }
         ensures memory { error ≡ OutOfMemory → result ≡ Err OutOfMemory }
         ensures asks_nothing { result ≡ Err OutOfMemory → error ≡ OutOfMemory }
@@ -431,7 +436,7 @@ impl<'a, A: Allocator + Clone> Drawer<'a, A> {
         if self.reading.is_strict() || matches!(error, DecodeError::OutOfMemory) {
             return Err(error);
         }
-        canvas.pass(segment_number, error);
+        canvas.pass(segment, error);
         Ok(())
     }
 

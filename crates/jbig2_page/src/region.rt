@@ -6,10 +6,10 @@ ghost use Rattle.jbig2_page.specs.Page.{region_at};
 ghost use Rattle.jbig2_page.specs.inner.ParsedRegions.{IsDecodable, DecodesTo, drawing_of};
 ghost use Rattle.jbig2_steps.specs.Work.{Paid};
 
+pub(crate) mod cut_off;
 mod generic;
 mod halftone;
 pub(crate) mod parsed_region;
-mod part;
 pub(crate) mod references;
 pub(crate) mod refinement;
 mod text;
@@ -54,7 +54,7 @@ pub(crate) fn parse_region<'a, 'n, 'r, A: Allocator + Clone, L: Ledger>(
 {
     match kind {
         RegionKind::Text => parse_text(references, segment, workspace, work),
-        RegionKind::Halftone => parse_halftone(references, segment),
+        RegionKind::Halftone => parse_halftone(references, segment, workspace, work),
         RegionKind::Generic => {
             parse_generic(references, is_intermediate, segment, workspace, work)
         }

@@ -1,7 +1,7 @@
 -- How a region is decoded, once its header is read and what it refers to is found (T.88, 7.4.3 and 7.4.5 to 7.4.7).
 use Rattle.std.specs.Prelude.{◌≡◌, ◌≤◌, Bool, false, Result, Ok, Err, ◌⊎◌}
 use Rattle.jbig2_base.specs.Results.{◌>>=◌}
-use Rattle.jbig2_base.specs.Grid.{Grid, max_side, check_sides}
+use Rattle.jbig2_base.specs.Grid.{Grid, max_side, check_sides, grid_of, pixel_at}
 use Rattle.jbig2_base.specs.declared.error.DecodeError.{DecodeError}
 use Rattle.jbig2_base.specs.declared.error.DecodeError.TheVariants.{OutOfMemory}
 use Rattle.jbig2_region.specs.RegionInfo.{PlacedRegion, at_location}
@@ -19,7 +19,7 @@ use Rattle.jbig2_page.specs.Names.{nothing_passed}
 use Rattle.jbig2_page.specs.Page.{Drawing}
 use Rattle.jbig2_page.specs.declared.region.parsed_region.ParsedRegion.{ParsedRegion}
 use Rattle.jbig2_page.specs.declared.region.parsed_region.ParsedRegion.TheVariants.{Text, Halftone, Generic}
-use Rattle.jbig2_page.specs.declared.region.parsed_region.ParsedRegion.TheVariants.{Refinement, PageRefinement}
+use Rattle.jbig2_page.specs.declared.region.parsed_region.ParsedRegion.TheVariants.{Refinement, PageRefinement, Part}
 use Rattle.jbig2_page.specs.declared.region.references.References.{References}
 use Rattle.jbig2_page.specs.inner.KeptViews.{kept_values}
 use Rattle.jbig2_region.specs.inner.GenericViews as generics
@@ -33,6 +33,13 @@ info_of (Halftone header patterns) = header.region_info
 info_of (Generic header) = header.region_info
 info_of (Refinement header reference) = header.region_info
 info_of (PageRefinement header area) = header.region_info
+info_of (Part region) = record {
+  width = region.bitmap.width;
+  height = region.bitmap.height;
+  x_location = region.x_location;
+  y_location = region.y_location;
+  combination_operator = region.combination_operator;
+}
 
 -- the colour that it begins in
 abbrev pub initial_of : {A : Type 0} → ParsedRegion A → Bool
@@ -41,6 +48,7 @@ initial_of (Halftone header patterns) = header.flags.initial_pixel_color
 initial_of (Generic header) = false
 initial_of (Refinement header reference) = false
 initial_of (PageRefinement header area) = false
+initial_of (Part region) = false
 
 -- the grid that it decodes to
 abbrev pub region_grid : {A : Type 0} → ParsedRegion A → Result Grid DecodeError
@@ -49,6 +57,7 @@ region_grid (Halftone header patterns) = halftone_result (halftones.header_view 
 region_grid (Generic header) = generic_result (generics.header_view header)
 region_grid (Refinement header reference) = refined_result (refinements.header_view header) (region_view reference.now)
 region_grid (PageRefinement header area) = refined_result (refinements.header_view header) (region_view area)
+region_grid (Part region) = Ok (grid_of region.bitmap.width region.bitmap.height (pixel_at region.bitmap))
 
 -- the grid at its place, unless a side of the region is too large
 abbrev pub placed_region : {A : Type 0} → ParsedRegion A → Result PlacedRegion DecodeError
@@ -69,6 +78,7 @@ IsDecodable (Halftone header patterns) = HasCells (halftones.header_view header)
 IsDecodable (Generic header) = IsParsed (generics.header_view header)
 IsDecodable (Refinement header reference) = IsRefinement (refinements.header_view header)
 IsDecodable (PageRefinement header area) = IsRefinement (refinements.header_view header)
+IsDecodable (Part region) = Unit {0}
 
 -- The parsed region decodes to what the definition gives, unless memory ran out.
 abbrev pub DecodesTo : {A : Type 0} → Result (ParsedRegion A) DecodeError → Result PlacedRegion DecodeError → Type 0

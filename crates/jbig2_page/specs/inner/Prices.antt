@@ -8,7 +8,7 @@ use Rattle.jbig2_halftone.specs.inner.DictionaryViews.{dictionary_view}
 use Rattle.jbig2_text.specs.Paying.{number_steps}
 use Rattle.jbig2_page.specs.declared.region.parsed_region.ParsedRegion.{ParsedRegion}
 use Rattle.jbig2_page.specs.declared.region.parsed_region.ParsedRegion.TheVariants.{Text, Halftone, Generic}
-use Rattle.jbig2_page.specs.declared.region.parsed_region.ParsedRegion.TheVariants.{Refinement, PageRefinement}
+use Rattle.jbig2_page.specs.declared.region.parsed_region.ParsedRegion.TheVariants.{Refinement, PageRefinement, Part}
 use Rattle.jbig2_page.specs.inner.ParsedRegions.{info_of}
 use Rattle.jbig2_region.specs.inner.GenericViews as generics
 use Rattle.jbig2_halftone.specs.inner.HalftoneHeaderViews as halftones
@@ -24,6 +24,7 @@ price_besides (Halftone header patterns) =
 price_besides (Generic header) = length header.bytes.now
 price_besides (Refinement header reference) = 0
 price_besides (PageRefinement header area) = 0
+price_besides (Part region) = 0
 
 -- the units of one bitmap of a region's size
 abbrev pub price_of_info : {A : Type 0} → ParsedRegion A → ℕ
@@ -37,3 +38,4 @@ counts_of (Halftone header patterns) =
 counts_of (Generic header) = 32 * price_of_region (generics.header_view header)
 counts_of (Refinement header reference) = 32 * price_of_bitmap header.region_info.width header.region_info.height
 counts_of (PageRefinement header area) = 32 * price_of_bitmap header.region_info.width header.region_info.height
+counts_of (Part region) = 32 * price_of_bitmap region.bitmap.width region.bitmap.height

@@ -3,6 +3,7 @@ ghost use Rattle.std.specs.Prelude.{◌≡◌, ◌==◌, ◌&&◌, ◌*◌, ◌<
 ghost use Rattle.jbig2_page.specs.Names.{with_lack};
 ghost use Rattle.jbig2_base.specs.Grid.{max_side};
 ghost use Rattle.jbig2_base.specs.Results.{Gives};
+ghost use Rattle.jbig2_framing.specs.inner.SegmentViews.{segment_view};
 ghost use Rattle.jbig2_region.specs.inner.RegionViews.{region_view};
 ghost use Rattle.jbig2_page.specs.Image.{packed_of};
 ghost use Rattle.jbig2_page.specs.Page.{blank_page, empty_drawing, passing, with_cut_off, with_drawn_region, with_region};
@@ -13,12 +14,14 @@ use crate::drawing::drawn_rows::DrawnRows;
 use crate::drawing::passed_over::PassedOver;
 use crate::kept::Kept;
 use crate::kept::names::KeptNames;
+use crate::region::cut_off::is_partial;
 use crate::workspace::Workspace;
 use jbig2_base::bitmap::Bitmap;
 use jbig2_base::bitmap::steps::Work;
 use jbig2_base::error::{DecodeError, Result};
 use jbig2_framing::cut_off::CutOff;
 use jbig2_framing::page_info::InitialPage;
+use jbig2_framing::segment::Segment;
 use jbig2_region::generic::DecodedRegion;
 use std::alloc::Allocator;
 use std::marker::Model;
@@ -155,13 +158,17 @@ impl<A: Allocator> Canvas<A> {
         self.untouched = false;
     }
 
-    /// Passes over a segment that failed and left the page as it was.
-    pub(crate) fn pass(&mut self, segment_number: u32, error: DecodeError)
+    /// Passes over a segment that failed and left the page as it was. One whose data is cut off is counted where the
+    /// list of segments ends.
+    pub(crate) fn pass(&mut self, segment: &Segment<'_, A>, error: DecodeError)
         requires { self.old.passed_over.count < usize.MAX }
-        ensures { self.new ≡ passing segment_number error self.old }
+        ensures { self.new ≡ passing (segment_view segment.now) error self.old }
     {
         self.untouched = false;
-        self.passed_over.add(Some(segment_number), error);
+        if !is_partial(segment) {
+            let number = segment.header.segment_number;
+            self.passed_over.add(Some(number), error);
+        }
     }
 
     /// Counts a segment that was drawn or kept without something that it refers to, unless it was counted since

@@ -15,7 +15,7 @@ use jbig2_region::generic;
 use jbig2_region::region_info::{RegionSegmentInfo, parse_region_segment_info};
 use std::alloc::Allocator;
 
-fn is_immediate_region(kind: SegmentType) -> bool
+pub(crate) fn is_immediate_region(kind: SegmentType) -> bool
     ensures { result ≡ is_immediate (region_type kind) }
 {
     matches!(

@@ -1,33 +1,18 @@
 //! The part that is there of a segment whose data is cut off.
 ghost use Rattle.std.specs.Prelude.{◌≡◌, ◌++◌, Ok};
 ghost use Rattle.jbig2_base.specs.Results.{Gives};
-ghost use Rattle.jbig2_framing.specs.inner.SegmentViews.{partial_view, segment_view, segment_views};
+ghost use Rattle.jbig2_framing.specs.inner.SegmentViews.{partial_view, segment_views};
 ghost use Rattle.jbig2_page.specs.Files.{with_part};
-ghost use Rattle.jbig2_page.specs.Page.{drawn_part, is_drawn_in_part, part_of_list};
+ghost use Rattle.jbig2_page.specs.Page.{drawn_part, part_of_list};
 
+use crate::page::beginning::is_immediate_region;
 use jbig2_base::error::Result;
-use jbig2_base::reader::Reader;
 use jbig2_framing::reading::Reading;
-use jbig2_framing::segment::{Segment, SegmentType};
+use jbig2_framing::segment::Segment;
 use jbig2_framing::sort::sort_segments;
-use jbig2_region::generic;
 use std::alloc::Allocator;
 
-/// Whether what is there of a segment can be drawn.
-fn is_drawn_in_part<A: Allocator>(segment: &Segment<'_, A>) -> bool
-    ensures { result ≡ is_drawn_in_part (segment_view segment.now) }
-{
-    match segment.header.segment_type {
-        SegmentType::ImmediateGenericRegion | SegmentType::ImmediateLosslessGenericRegion => {
-            let header = generic::parse(&mut Reader::new(segment.bytes), false, false);
-            header.is_ok()
-        }
-        SegmentType::ImmediateTextRegion | SegmentType::ImmediateLosslessTextRegion => true,
-        _ => false,
-    }
-}
-
-/// In salvage, what is there of a segment, if it can be drawn.
+/// In salvage, what is there of a segment, if it is an immediate region.
 fn drawn_part<A: Allocator>(
     reading: Reading,
     partial: Option<Segment<'_, A>>,
@@ -35,7 +20,7 @@ fn drawn_part<A: Allocator>(
     ensures { partial_view result ≡ drawn_part reading (partial_view partial.entry) }
 {
     let segment = partial?;
-    if matches!(reading, Reading::Salvage) && is_drawn_in_part(&segment) {
+    if matches!(reading, Reading::Salvage) && is_immediate_region(segment.header.segment_type) {
         return Some(segment);
     }
     None

@@ -13,8 +13,10 @@ ghost use Rattle.jbig2_halftone.specs.inner.HalftoneHeaderViews.{header_view};
 ghost use Rattle.jbig2_halftone.specs.inner.DictionaryViews.{dictionary_view};
 
 use crate::kept::names::Lookup;
+use crate::region::cut_off::{halftone_part, is_partial};
 use crate::region::parsed_region::ParsedRegion;
 use crate::region::references::References;
+use crate::workspace::Workspace;
 use jbig2_base::bitmap::steps::Work;
 use jbig2_base::error::{DecodeError, Result, SegmentError};
 use jbig2_base::reader::Reader;
@@ -47,20 +49,26 @@ fn referred_patterns<'a, A: Allocator>(
 
 /// Parses a halftone region, with the patterns of the dictionary that it refers to.
 #[tactic(auto, unfolding(crate::specs::Regions::halftone_at, jbig2_halftone::specs::Halftone::halftone_decoded))]
-pub(crate) fn parse_halftone<'a, 'n, 'r, A: Allocator>(
+pub(crate) fn parse_halftone<'a, 'n, 'r, A: Allocator + Clone, L: Ledger>(
     references: &References<'n, 'r, '_, A>,
     segment: &Segment<'a, A>,
+    workspace: &Workspace<A>,
+    work: &mut Work<L>,
 ) -> Result<ParsedRegion<'a, 'n, 'r, A>>
     ensures value { DecodesTo result
         (halftone_at references.now.names.strict references.now.names.own.now
         references.now.names.globals.now
         (segment_view segment.now)) }
     ensures parsed { IfOk result (λ region. IsDecodable region) }
+    ensures paid { Paid work.old work.new }
 {
     let lookup = &references.names;
     let patterns = referred_patterns(lookup, &segment.header.referred_to_segments)?;
     let mut reader = Reader::new(segment.bytes);
     let header = halftone::parse(&mut reader, lookup.strict)?;
+    if is_partial(segment) {
+        return halftone_part(&header, patterns, workspace, work);
+    }
     Ok(ParsedRegion::Halftone { header, patterns })
 }
 

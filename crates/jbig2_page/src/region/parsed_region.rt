@@ -12,7 +12,7 @@ ghost use Rattle.jbig2_steps.specs.Work.{Paid, PaidBut, price_of_bitmap, budget}
 use crate::kept::referred::ReferredSegments;
 use crate::region::halftone::pay_cells;
 use crate::workspace::{MOST_CONTEXTS, Workspace};
-use jbig2_base::bitmap::Bitmap;
+use jbig2_base::bitmap::{Bitmap, CombinationOperator};
 use jbig2_base::bitmap::steps::Work;
 use jbig2_base::error::{DecodeError, Result};
 use jbig2_coder::arithmetic_decoder::ArithmeticDecoderContext;
@@ -49,6 +49,10 @@ pub(crate) enum ParsedRegion<'a, 'n, 'r, A: Allocator> {
         /// The page's area that is refined.
         area: DecodedRegion<A>,
     },
+    /// What is there of a region whose data is cut off. It is decoded already.
+    Part {
+        region: DecodedRegion<A>,
+    },
 }
 
 impl<A: Allocator> Drop for ParsedRegion<'_, '_, '_, A> {
@@ -68,6 +72,7 @@ impl<A: Allocator> Drop for ParsedRegion<'_, '_, '_, A> {
                 reference: _,
             } => {}
             ParsedRegion::PageRefinement { header: _, area: _ } => {}
+            ParsedRegion::Part { region: _ } => {}
         }
     }
 }
@@ -98,6 +103,13 @@ impl<'a, 'n, 'r, A: Allocator + Clone> ParsedRegion<'a, 'n, 'r, A> {
             ParsedRegion::Generic { header } => header.region_info,
             ParsedRegion::Refinement { header, .. } => header.region_info,
             ParsedRegion::PageRefinement { header, .. } => header.region_info,
+            ParsedRegion::Part { region } => RegionSegmentInfo {
+                width: region.bitmap.width(),
+                height: region.bitmap.height(),
+                x_location: region.x_location,
+                y_location: region.y_location,
+                combination_operator: region.combination_operator,
+            },
         }
     }
 
@@ -111,6 +123,7 @@ impl<'a, 'n, 'r, A: Allocator + Clone> ParsedRegion<'a, 'n, 'r, A> {
             ParsedRegion::Generic { .. } => false,
             ParsedRegion::Refinement { .. } => false,
             ParsedRegion::PageRefinement { .. } => false,
+            ParsedRegion::Part { .. } => false,
         }
     }
 
@@ -127,6 +140,7 @@ impl<'a, 'n, 'r, A: Allocator + Clone> ParsedRegion<'a, 'n, 'r, A> {
             ParsedRegion::Generic { header } => Ok(work.pay(header.bytes.len() as u64)?),
             ParsedRegion::Refinement { .. } => Ok(()),
             ParsedRegion::PageRefinement { .. } => Ok(()),
+            ParsedRegion::Part { .. } => Ok(()),
         }
     }
 
@@ -206,6 +220,11 @@ impl<'a, 'n, 'r, A: Allocator + Clone> ParsedRegion<'a, 'n, 'r, A> {
             ParsedRegion::PageRefinement { header, area } => {
                 generic_refinement::decode_into(header, area, bitmap, contexts, &mut work.steps)
             }
+            ParsedRegion::Part { region } => {
+                let over = CombinationOperator::Replace;
+                bitmap.combine(&region.bitmap, 0, 0, over, &mut work.steps);
+                Ok(())
+            }
         }
     }
 
@@ -247,6 +266,7 @@ impl<'a, 'n, 'r, A: Allocator + Clone> ParsedRegion<'a, 'n, 'r, A> {
             ParsedRegion::Halftone { header, patterns } => {
                 ParsedRegion::Halftone { header, patterns }
             }
+            ParsedRegion::Part { region } => ParsedRegion::Part { region },
         }
     }
 

@@ -1,10 +1,11 @@
 //! Parses refinement regions, and finds the region or the part of the page that each refines (T.88, 7.4.7).
-ghost use Rattle.std.specs.Prelude.{◌≡◌, ◌≤◌, ◌*◌, IfOk};
+ghost use Rattle.std.specs.Prelude.{◌≡◌, ◌≤◌, ◌*◌, IfOk, if◌then◌else◌};
 ghost use Rattle.jbig2_base.specs.Grid.{max_side};
 ghost use Rattle.jbig2_base.specs.Results.{Returns, Gives};
 ghost use Rattle.jbig2_framing.specs.inner.SegmentViews.{segment_view};
 ghost use Rattle.jbig2_region.specs.inner.RegionViews.{region_view};
 ghost use Rattle.jbig2_region.specs.Refinement.{refined_decoded};
+ghost use Rattle.jbig2_region.specs.WholeRows.{refined_part};
 ghost use Rattle.jbig2_region.specs.RefinementHeader.{IsRefinement};
 ghost use Rattle.jbig2_region.specs.inner.RefinedViews.{header_view};
 ghost use Rattle.jbig2_page.specs.Names.{first_kept};
@@ -19,6 +20,7 @@ ghost use Rattle.jbig2_page.specs.declared.kept.Kept.{Kept};
 ghost use Rattle.jbig2_steps.specs.Work.{Paid, PaidBut, price_of_bitmap};
 
 use crate::kept::{Kept, first_under};
+use crate::region::cut_off::{is_partial, refined_part};
 use crate::region::parsed_region::ParsedRegion;
 use crate::region::references::References;
 use crate::workspace::Workspace;
@@ -114,6 +116,7 @@ fn page_area<A: Allocator, B: Allocator, L: Ledger>(
 
 /// Parses a refinement of the page's area (T.88, 7.4.7.4).
 fn parse_page_refinement<'a, 'n, 'r, A: Allocator + Clone, L: Ledger>(
+    is_partial: bool,
     header: GenericRefinementRegionHeader<'a>,
     references: &References<'n, 'r, '_, A>,
     workspace: &Workspace<A>,
@@ -121,8 +124,9 @@ fn parse_page_refinement<'a, 'n, 'r, A: Allocator + Clone, L: Ledger>(
 ) -> Result<ParsedRegion<'a, 'n, 'r, A>>
     requires parsed { IsRefinement (header_view header) }
     ensures value { DecodesTo result
-        (refined_decoded (header_view header.entry)
-        (page_area references.now.page.now header.entry.region_info)) }
+        (let area = page_area references.now.page.now header.entry.region_info in
+        if is_partial then refined_part (header_view header.entry) area
+        else refined_decoded (header_view header.entry) area) }
     ensures parsed { IfOk result (λ region. IsDecodable region) }
     ensures paid { Paid work.old work.new }
 {
@@ -134,6 +138,9 @@ fn parse_page_refinement<'a, 'n, 'r, A: Allocator + Clone, L: Ledger>(
         &header.region_info,
         work,
     )?;
+    if is_partial {
+        return refined_part(&header, &area, workspace, work);
+    }
     Ok(ParsedRegion::PageRefinement { header, area })
 }
 
@@ -163,8 +170,12 @@ pub(crate) fn parse_refinement<'a, 'n, 'r, A: Allocator + Clone, L: Ledger>(
     }
     let mut reader = Reader::new(segment.bytes);
     let header = generic_refinement::parse(&mut reader)?;
+    let is_partial = is_partial(segment);
     let Some(reference) = referred else {
-        return parse_page_refinement(header, references, workspace, work);
+        return parse_page_refinement(is_partial, header, references, workspace, work);
     };
+    if is_partial {
+        return refined_part(&header, reference, workspace, work);
+    }
     Ok(ParsedRegion::Refinement { header, reference })
 }

@@ -1,4 +1,13 @@
+use Rattle.std.proofs.Common.{◌≡◌, ◌∙◌, ap, false, pos, refl, subst, sym, Ok, Result}
+use Rattle.jbig2_base.specs.Combination.{combined_grid}
+use Rattle.jbig2_base.specs.Grid.{Grid, blank}
+use Rattle.jbig2_base.specs.declared.bitmap.operator.CombinationOperator.TheVariants.{Replace}
+use Rattle.jbig2_base.specs.declared.error.DecodeError.{DecodeError}
+use Rattle.jbig2_page.specs.declared.region.parsed_region.ParsedRegion.{ParsedRegion}
+use Rattle.jbig2_page.specs.inner.ParsedRegions.{info_of, initial_of}
+use Rattle.jbig2_page.proofs.Direct.{combined-pixels}
 use Rattle.jbig2_steps.proofs.WorkLemmas.{counts-worth}
+use Rattle.jbig2_base.proofs.Prices.{combined-paid}
 use Rattle.jbig2_page.proofs.region.parsed_region.ParsedRegion.decode_by.Goals as goal
 
 pub returns-in_ok-alloc-in-Halftone-clause-paid : goal.returns-in_ok-alloc-in-Halftone-clause-paid
@@ -12,3 +21,16 @@ returns-in-Refinement-clause-paid g c = rw c.in-Refinement.is (counts-worth c.ar
 
 pub returns-in-PageRefinement-clause-paid : goal.returns-in-PageRefinement-clause-paid
 returns-in-PageRefinement-clause-paid g c = rw c.in-PageRefinement.is (counts-worth c.args.work.now c.decode_into-in-PageRefinement.new.steps _ c.decode_into-in-PageRefinement.ensures.paid)
+
+pub returns-in-Part-clause-value : goal.returns-in-Part-clause-value
+returns-in-Part-clause-value g c =
+    let part = c.in-Part.region.bitmap in
+    let coloured = subst (λ (r : ParsedRegion _). c.args.bitmap.now ≡ blank (info_of r).width (info_of r).height (initial_of r)) c.in-Part.is c.requires.coloured in
+    rw c.in-Part.is
+    (ap (λ (q : Grid). let made : Result Grid DecodeError = Ok q in made)
+    (sym (c.combine.ensures.value
+    ∙ ap (λ (q : Grid). combined_grid Replace q part (pos 0) (pos 0)) coloured
+    ∙ combined-pixels Replace false part refl)))
+
+pub returns-in-Part-clause-paid : goal.returns-in-Part-clause-paid
+returns-in-Part-clause-paid g c = rw c.in-Part.is (counts-worth c.args.work.now c.combine.new.steps _ (combined-paid c.args.bitmap.now c.in-Part.region.bitmap (pos 0) (pos 0) c.args.work.now.steps c.combine.new.steps c.combine.ensures.steps))
