@@ -22,6 +22,7 @@ ghost use Rattle.jbig2_halftone.specs.Causes.{BreaksHalftone};
 
 mod cells;
 pub mod header;
+mod part;
 
 use crate::gray_scale::{GrayScaleParams, decode_gray_scale_image};
 use crate::pattern::PatternDictionary;
@@ -34,6 +35,7 @@ use jbig2_base::error::{DecodeError, RegionError, Result};
 use jbig2_base::search::code_length;
 use jbig2_coder::arithmetic_decoder::ArithmeticDecoderContext;
 use jbig2_region::decoded_region::DecodedRegion;
+pub use part::decode_part;
 use std::alloc::Allocator;
 use std::sync::ledger::Ledger;
 
