@@ -9,6 +9,7 @@ use Rattle.jbig2_halftone.specs.Halftone.{cells_drawn, halftone_result, halftone
 use Rattle.jbig2_halftone.specs.HalftoneHeader.{HalftoneHeader, halftone_flags_at, halftone_grid_at, halftone_header_at}
 use Rattle.jbig2_halftone.specs.PatternHeader.{PatternHeader, pattern_header_at, side_at}
 use Rattle.jbig2_halftone.specs.Patterns.{Patterns, patterns_decoded}
+use Rattle.jbig2_halftone.specs.WholeCells.{halftone_part}
 
 -- ---- headers
 from_input-side : (bytes : List ℕ) → FromInput (side_at bytes)
@@ -68,3 +69,7 @@ from_input-halftone_grid h d = search (from_input-next, from_input-image, from_i
 pub from_input-halftone : (h : HalftoneHeader) (d : Patterns) → FromInput (halftone_decoded h d)
 unfolding halftone_decoded
 from_input-halftone h d = search (from_input-next, from_input-refusal, from_input-halftone_grid)
+
+pub from_input-halftone_part : (h : HalftoneHeader) (d : Patterns) → FromInput (halftone_part h d)
+unfolding halftone_part
+from_input-halftone_part h d = search (from_input-next, from_input-refusal, from_input-image, from_input-cells) depth 8

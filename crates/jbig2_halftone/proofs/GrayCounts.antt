@@ -131,7 +131,7 @@ taken-more p i old mid read new before stays taken = record {
         rw sum (add-mul (h * i) h v)
 
 -- a plane that is read and not taken
-taken-kept : (p : GrayScale) (i : ℕ) (old mid new : Counts) → TakesLanes p i old mid → KeepsLanes mid new → TakesLanes p i old new
+pub taken-kept : (p : GrayScale) (i : ℕ) (old mid new : Counts) → TakesLanes p i old mid → KeepsLanes mid new → TakesLanes p i old new
 taken-kept p i old mid new before stays = record { groups = stays.groups ∙ before.groups; pixels = stays.pixels ∙ before.pixels }
 
 -- ---- planes by the coder
@@ -158,8 +158,11 @@ stops-none p bytes steps = (0, (omega arith, (0, (omega arith, record { plain = 
 pub mmr-begin : (p : GrayScale) (all : ℕ) (steps : Counts) → MovesByMmr (words_of_plane p) 0 all all (0 * taking_loads p) steps steps
 mmr-begin p all steps = record { moves = omega arith; decisions = refl; run_tests = refl }
 
+pub mmr-start : (p : GrayScale) (all : ℕ) (steps : Counts) → MovesByMmr (words_of_plane p) 0 all all 0 steps steps
+mmr-start p all steps = record { moves = omega arith; decisions = refl; run_tests = refl }
+
 -- one more, of the bytes that are left
-mmr-then : (words i all left rest loads : ℕ) (old mid new : Counts) → MovesByMmr words i all left loads old mid → MovesByMmr words 1 left rest 0 mid new → MovesByMmr words (i + 1) all rest loads old new
+pub mmr-then : (words i all left rest loads : ℕ) (old mid new : Counts) → MovesByMmr words i all left loads old mid → MovesByMmr words 1 left rest 0 mid new → MovesByMmr words (i + 1) all rest loads old new
 mmr-then words i all left rest loads old mid new before one = record {
   moves = rw (one-more i words) (omega (arith, before.moves, one.moves));
   decisions = one.decisions ∙ before.decisions;
@@ -178,7 +181,7 @@ mmr-more p i all left rest old mid read new before one taken =
     }
 
 -- no more than all of them
-mmr-some : (p : GrayScale) (bytes : List ℕ) (i left taken : ℕ) (old new : Counts) → i ≤ p.bits_per_pixel → MovesByMmr (words_of_plane p) i (length bytes) left (taken * taking_loads p) old new → TakesLanes p taken old new → CountsMmr p bytes taken old new
+pub mmr-some : (p : GrayScale) (bytes : List ℕ) (i left taken : ℕ) (old new : Counts) → i ≤ p.bits_per_pixel → MovesByMmr (words_of_plane p) i (length bytes) left (taken * taking_loads p) old new → TakesLanes p taken old new → CountsMmr p bytes taken old new
 mmr-some p bytes i left taken old new few counts lanes = record {
   moves = record {
     moves = omega (arith, counts.moves, mul-le-mul_right {m = i} {n = p.bits_per_pixel} (words_of_plane p) few);
@@ -217,7 +220,7 @@ clash : (b : Bool) → b ≡ true → b ≡ false → ⊥
 clash b on off = cc
 
 -- ---- images
-mmr-read : (p : GrayScale) (bytes : List ℕ) (taken : ℕ) (old new : Counts) → p.use_mmr ≡ true → CountsMmr p bytes taken old new → CountsRead p bytes p.bits_per_pixel taken old new
+pub mmr-read : (p : GrayScale) (bytes : List ℕ) (taken : ℕ) (old new : Counts) → p.use_mmr ≡ true → CountsMmr p bytes taken old new → CountsRead p bytes p.bits_per_pixel taken old new
 mmr-read p bytes taken old new is counts = record { plain = λ coded _. absurd (clash p.use_mmr is coded); masked = λ coded _. absurd (clash p.use_mmr is coded); mmr = λ _. counts.moves; lanes = counts.lanes }
 
 pub mmr-image : (p : GrayScale) (bytes : List ℕ) (old new : Counts) → p.use_mmr ≡ true → CountsMmr p bytes p.bits_per_pixel old new → CountsImage p bytes old new

@@ -79,7 +79,7 @@ rows-lenient : (w h : ℕ) (input : List ℕ) → Succeeds (mmr_rows false w h i
 unfolding mmr_rows
 rows-lenient w h input = (_, refl)
 
-plane-lenient : (p : GrayScale) (input : List ℕ) → p.strict ≡ false → Succeeds (mmr_plane p input)
+pub plane-lenient : (p : GrayScale) (input : List ℕ) → p.strict ≡ false → Succeeds (mmr_plane p input)
 unfolding mmr_plane
 plane-lenient p input lenient =
     then-succeeds (mmr_rows p.strict p.width p.height input) (λ rows. Ok (rows.grid, drop rows.used input))

@@ -11,4 +11,7 @@ mod PatternLemmas
 mod PlaneLemmas
 pub mod Prices
 mod RowLemmas
+mod WholeCellLemmas
+mod WholeCellPrices
 mod WorkedHalftones
+mod WorkedParts

@@ -22,7 +22,7 @@ use Rattle.jbig2_halftone.specs.inner.FunctionResults.{StopsCut}
 plain-row : (w m : ℕ) → w ≤ 64 * m → 1 ≤ m → w + row_tests true w + row_words true w + row_loads true w ≤ 90 * m
 plain-row w m wide some = omega arith
 
-masked-row : (w m : ℕ) → w ≤ 64 * m → 1 ≤ m → w + skipping_words w + skipping_loads w ≤ 90 * m
+pub masked-row : (w m : ℕ) → w ≤ 64 * m → 1 ≤ m → w + skipping_words w + skipping_loads w ≤ 90 * m
 masked-row w m wide some = omega arith
 
 -- the rows of all planes
@@ -145,7 +145,7 @@ cells-few h d k (suc n) =
         rw all (omega arith)
 
 -- the cells of a grid, and a word of the skip mask for each
-cells-paid : (w h cells words : ℕ) → words ≤ cells * (h * (3 * words_of_row w)) → 3 * words + cells ≤ 32 * (price_of_bitmap w h * cells)
+pub cells-paid : (w h cells words : ℕ) → words ≤ cells * (h * (3 * words_of_row w)) → 3 * words + cells ≤ 32 * (price_of_bitmap w h * cells)
 unfolding price_of_bitmap
 cells-paid w h cells words few = within (words_of_row w) few
   where
@@ -156,7 +156,7 @@ mask-few : (b : Bool) (cells : ℕ) → (if b then cells else 0) ≤ cells
 mask-few true cells = omega arith
 mask-few false cells = omega arith
 
-mask-counted : (h : HalftoneHeader) (d : Patterns) (old : Counts) → sum_of_counts (after_mask h d old) ≤ sum_of_counts old + h.grid_position_and_size.height * h.grid_position_and_size.width
+pub mask-counted : (h : HalftoneHeader) (d : Patterns) (old : Counts) → sum_of_counts (after_mask h d old) ≤ sum_of_counts old + h.grid_position_and_size.height * h.grid_position_and_size.width
 mask-counted h d old =
     let few = mask-few (is_some (skip_mask h d)) (h.grid_position_and_size.height * h.grid_position_and_size.width) in
     omega (arith, few)

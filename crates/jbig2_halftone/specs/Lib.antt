@@ -5,4 +5,5 @@ pub mod HalftoneHeader
 pub mod PatternHeader
 pub mod Patterns
 pub mod Steps
+pub mod WholeCells
 pub mod inner

@@ -11,6 +11,7 @@ ghost use Rattle.jbig2_halftone.specs.Causes.{BreaksGrayScale};
 mod groups;
 mod lanes;
 mod planes;
+pub(crate) mod whole_rows;
 
 use jbig2_base::bitmap::steps::Steps;
 use jbig2_base::bitmap::{Bitmap, MAX_DIMENSION};

@@ -6,7 +6,8 @@ ghost use Rattle.jbig2_base.specs.Results.{Returns, Gives, Leaves};
 ghost use Rattle.jbig2_base.specs.Counts.{WritesWithin, most_words, overlap};
 ghost use Rattle.jbig2_base.specs.Combination.{combined_grid};
 ghost use Rattle.jbig2_base.specs.Grid.{blank, max_side};
-ghost use Rattle.jbig2_region.specs.inner.RegionViews.{region_view};
+ghost use Rattle.jbig2_region.specs.inner.RegionViews.{region_view, skip_of};
+ghost use Rattle.jbig2_halftone.specs.inner.HalftoneViews.{gray_view};
 ghost use Rattle.jbig2_halftone.specs.GrayScale.{gray_scale_image};
 ghost use Rattle.jbig2_halftone.specs.Halftone.{gray_params, skip_mask, pattern_for, cells_drawn, halftone_result, halftone_contexts, halftone_decoded, decoded_contexts};
 ghost use Rattle.jbig2_halftone.specs.HalftoneHeader.{HalftoneHeader};
@@ -21,6 +22,7 @@ ghost use Rattle.jbig2_halftone.specs.Causes.{BreaksHalftone};
 
 mod cells;
 pub mod header;
+mod part;
 
 use crate::gray_scale::{GrayScaleParams, decode_gray_scale_image};
 use crate::pattern::PatternDictionary;
@@ -33,6 +35,7 @@ use jbig2_base::error::{DecodeError, RegionError, Result};
 use jbig2_base::search::code_length;
 use jbig2_coder::arithmetic_decoder::ArithmeticDecoderContext;
 use jbig2_region::decoded_region::DecodedRegion;
+pub use part::decode_part;
 use std::alloc::Allocator;
 use std::sync::ledger::Ledger;
 
@@ -168,34 +171,33 @@ fn draw_row<D: Allocator, A: Allocator, L: Ledger>(
     Ok(())
 }
 
-/// Draws the patterns of all cells' values onto a region, row by row.
+/// Draws the patterns of the values of the first `rows` rows of cells onto a region, row by row.
 fn draw_rows<D: Allocator, A: Allocator, L: Ledger>(
     header: &HalftoneRegionHeader<'_>,
     dictionary: &PatternDictionary<D>,
+    rows: u32,
     values: &[u32],
     bitmap: &mut Bitmap<A>,
     steps: &mut Steps<L>,
 ) -> Result<()>
     requires columns { header.now.grid_position_and_size.width ≤ max_side }
-    requires rows { header.now.grid_position_and_size.height ≤ max_side }
-    requires sized { length values.now ≡
-        header.now.grid_position_and_size.width * header.now.grid_position_and_size.height }
+    requires rows { rows ≤ max_side }
+    requires sized { length values.now ≡ header.now.grid_position_and_size.width * rows }
     requires region { HasSize header.now.region_info.width header.now.region_info.height
         bitmap.old }
     ensures value { Returns (λ _. bitmap.new) result
         (cells_drawn (header_view header.now) (dictionary_view dictionary.now) 0 values.now
         bitmap.old) }
     ensures refused { IfErr result (λ e. e ≡ DecodeError.Region RegionError.GrayScaleOutOfRange) }
-    ensures steps { let grid = header.now.grid_position_and_size in WritesWithin
+    ensures steps { WritesWithin
         (words_of_cells (header_view header.now) (dictionary_view dictionary.now) 0
-        (grid.height * grid.width)) steps.old steps.new }
+        (rows * header.now.grid_position_and_size.width)) steps.old steps.new }
 {
-    let grid = &header.grid_position_and_size;
-    let columns = grid.width as usize;
+    let columns = header.grid_position_and_size.width as usize;
     let x_vector = header.grid_vector.x_vector;
     let y_vector = header.grid_vector.y_vector;
     let mut first = first_place(header);
-    for m in 0..grid.height {
+    for m in 0..rows {
         let start = m as usize * columns;
         let row = &values[start..start + columns];
         match draw_row(header, dictionary, m, first, row, bitmap, steps) {
@@ -228,6 +230,31 @@ fn skip_mask<D: Allocator, A: Allocator, L: Ledger>(
     Ok(None)
 }
 
+/// What is needed to decode the cells' values (T.88, Table 23), with this mask of the cells that are
+/// skipped.
+fn cell_params<'a, D: Allocator, M: Allocator>(
+    header: &HalftoneRegionHeader<'_>,
+    dictionary: &PatternDictionary<D>,
+    skip_mask: Option<&'a Bitmap<M>>,
+) -> GrayScaleParams<'a, M>
+    ensures params { gray_view result
+        ≡ record (gray_params (header_view header.now) (dictionary_view dictionary.now)) {
+          skip_mask = skip_of skip_mask.entry;
+        } }
+    ensures few { result.bits_per_pixel ≤ 32 }
+{
+    let grid = &header.grid_position_and_size;
+    GrayScaleParams {
+        use_mmr: header.flags.mmr,
+        bits_per_pixel: code_length(dictionary.patterns.len()),
+        width: grid.width,
+        height: grid.height,
+        template: header.flags.template,
+        skip_mask,
+        strict: header.strict,
+    }
+}
+
 /// Decodes the cells' values, row by row (T.88, 6.6.5, steps 2 to 4).
 fn read_cells<D: Allocator, A: Allocator + Clone, B: Allocator, L: Ledger>(
     alloc: A,
@@ -252,16 +279,7 @@ fn read_cells<D: Allocator, A: Allocator + Clone, B: Allocator, L: Ledger>(
         (StopsCells (header_view header.now) (dictionary_view dictionary.now) steps.old steps.new) }
 {
     let skip = skip_mask(alloc.clone()?, header, dictionary, steps)?;
-    let grid = &header.grid_position_and_size;
-    let params = GrayScaleParams {
-        use_mmr: header.flags.mmr,
-        bits_per_pixel: code_length(dictionary.patterns.len()),
-        width: grid.width,
-        height: grid.height,
-        template: header.flags.template,
-        skip_mask: skip.as_ref(),
-        strict: header.strict,
-    };
+    let params = cell_params(header, dictionary, skip.as_ref());
     decode_gray_scale_image(alloc, header.bytes, &params, contexts, steps)
 }
 
@@ -308,7 +326,8 @@ pub fn decode_into<D: Allocator, M: Allocator, A: Allocator + Clone, B: Allocato
         Ok(values) => values,
         Err(error) => return Err(error),
     };
-    draw_rows(header, dictionary, &values, bitmap, steps)
+    let rows = header.grid_position_and_size.height;
+    draw_rows(header, dictionary, rows, &values, bitmap, steps)
 }
 
 /// Decodes a halftone region (T.88, 6.6), as `decode_into` does, into a bitmap of its own. A side

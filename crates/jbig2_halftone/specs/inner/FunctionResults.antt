@@ -8,17 +8,20 @@ use Rattle.jbig2_base.specs.Grid.{Grid, grid_of, part_of}
 use Rattle.jbig2_base.specs.declared.error.DecodeError.{DecodeError}
 use Rattle.jbig2_coder.specs.Coder.{Context}
 use Rattle.jbig2_mmr.specs.Steps.{MovesWithin}
+use Rattle.jbig2_mmr.specs.T6.{rows_of}
 use Rattle.jbig2_region.specs.Generic.{coding_of, skipping_coding}
 use Rattle.jbig2_region.specs.Raster.{Coding, Region, so_far, no_pixels, source}
 use Rattle.jbig2_region.specs.Steps.{CountsRegion, CountsSkipping}
 use Rattle.jbig2_region.specs.Templates.{template_pixels, nominal_adaptive_pixels}
 use Rattle.jbig2_region.specs.declared.template.AdaptiveTemplatePixel.{AdaptiveTemplatePixel}
+use Rattle.jbig2_region.specs.WholeRows.{whole_rows}
 use Rattle.jbig2_halftone.specs.GrayScale.{GrayScale, after_planes, gray_values, mmr_planes}
 use Rattle.jbig2_halftone.specs.Halftone.{column_of, gray_params, row_of, is_beyond}
 use Rattle.jbig2_halftone.specs.HalftoneHeader.{HalftoneHeader}
 use Rattle.jbig2_halftone.specs.Patterns.{Patterns}
 use Rattle.jbig2_halftone.specs.Steps.{CountsPlanes, CountsMasked, StopsImage, TakesLanes, after_mask, taking_loads}
 use Rattle.jbig2_halftone.specs.Steps.{words_of_plane}
+use Rattle.jbig2_halftone.specs.WholeCells.{mmr_left}
 
 -- ---- patterns
 -- pattern k: the columns from k * width on
@@ -56,6 +59,17 @@ module _ (p : GrayScale) where
     planes ← read
     Ok (gray_values p.width p.height planes)
 
+  -- where the plane after the k highest ones begins
+  abbrev pub plane_start : List ℕ → ℕ → Region
+  plane_start bytes k = no_pixels (after_planes p bytes k).registers (after_planes p bytes k).contexts
+
+  -- how many rows of the plane after the k highest ones are whole, with either coding
+  abbrev pub coded_rows : List ℕ → ℕ → ℕ
+  coded_rows bytes k = whole_rows plane_coding (source p.width p.height bytes (plane_start bytes k)) p.height
+
+  abbrev pub mmr_rows_left : List ℕ → ℕ → ℕ
+  mmr_rows_left bytes k = length (rows_of p.width p.height (mmr_left p bytes k)).rows
+
   -- the contexts after all planes; MMR leaves them as they were
   abbrev pub planes_contexts : List ℕ → List Context → List Context
   planes_contexts bytes contexts = if p.use_mmr then contexts else (after_planes p bytes p.bits_per_pixel).contexts
@@ -78,10 +92,6 @@ module _ (p : GrayScale) where
 
   abbrev pub plain_coding : Coding
   plain_coding = coding_of false p.template plane_pixels
-
-  -- where the plane after the k highest ones begins
-  abbrev pub plane_start : List ℕ → ℕ → Region
-  plane_start bytes k = no_pixels (after_planes p bytes k).registers (after_planes p bytes k).contexts
 
   -- one such plane
   abbrev pub CountsPlane : ℕ → ℕ → List ℕ → Region → Counts → Counts → Type 0

@@ -26,7 +26,7 @@ use std::alloc::Allocator;
 use std::sync::ledger::Ledger;
 
 /// Decodes the next plane with the arithmetic coder, into a white bitmap of its size.
-fn decode_plane<M: Allocator, A: Allocator, L: Ledger>(
+pub(crate) fn decode_plane<M: Allocator, A: Allocator, L: Ledger>(
     params: &GrayScaleParams<'_, M>,
     plane: &mut Bitmap<A>,
     decoder: &mut ArithmeticDecoder<'_>,
@@ -102,7 +102,7 @@ fn add_coded_planes<M: Allocator, A: Allocator + Clone, L: Ledger>(
 }
 
 /// Decodes the next plane with MMR, and gives the bytes after it.
-fn read_mmr_plane<'a, M: Allocator, A: Allocator, L: Ledger>(
+pub(crate) fn read_mmr_plane<'a, M: Allocator, A: Allocator, L: Ledger>(
     alloc: A,
     bytes: &'a [u8],
     params: &GrayScaleParams<'_, M>,

@@ -28,7 +28,7 @@ returns-in-Err-clause-value g c =
     let h : HalftoneHeader = header_view c.args.header.now in
     let d : Patterns = dictionary_view c.args.dictionary.now in
     let w : ℕ = h.grid_position_and_size.width in
-    let inside : c.loop-m.m * w + w ≤ length c.args.values.now = row-inside w h.grid_position_and_size.height c.loop-m.m (length c.args.values.now) (omega arith) c.requires.sized in
+    let inside : c.loop-m.m * w + w ≤ length c.args.values.now = row-inside w c.args.rows c.loop-m.m (length c.args.values.now) (omega arith) c.requires.sized in
     rows-fault h d ((c.loop-m.m + 1) * w) c.args.values.now c.args.bitmap.now c.in-Err.error
     (rows-drawn h d w c.loop-m.m _ c.args.values.now _ c.args.bitmap.now c.loop-m.bitmap (omega arith) inside refl c.loop-m.invariant.drawn ∙ c.in-Err.ensures.value)
 
@@ -37,9 +37,9 @@ returns-in-Err-clause-steps g c =
     let h : HalftoneHeader = header_view c.args.header.now in
     let d : Patterns = dictionary_view c.args.dictionary.now in
     let w : ℕ = h.grid_position_and_size.width in
-    let inside : c.loop-m.m * w + w ≤ length c.args.values.now = row-inside w h.grid_position_and_size.height c.loop-m.m (length c.args.values.now) (omega arith) c.requires.sized in
+    let inside : c.loop-m.m * w + w ≤ length c.args.values.now = row-inside w c.args.rows c.loop-m.m (length c.args.values.now) (omega arith) c.requires.sized in
     let here = subst (λ (n : ℕ). WritesWithin (words_of_cells h d (c.loop-m.m * w) n) c.loop-m.steps c.draw_row.new.steps) (part-length (c.loop-m.m * w) w c.args.values.now inside) c.in-Err.ensures.steps in
-    rows-within h d (c.loop-m.m + 1) h.grid_position_and_size.height w c.args.steps.now c.draw_row.new.steps (omega arith) (rows-more h d c.loop-m.m w c.args.steps.now c.loop-m.steps c.draw_row.new.steps c.loop-m.invariant.counts here)
+    rows-within h d (c.loop-m.m + 1) c.args.rows w c.args.steps.now c.draw_row.new.steps (omega arith) (rows-more h d c.loop-m.m w c.args.steps.now c.loop-m.steps c.draw_row.new.steps c.loop-m.invariant.counts here)
 
 pub next_row-first-requires-clause-x : goal.next_row-first-requires-clause-x
 next_row-first-requires-clause-x g c =
@@ -60,7 +60,7 @@ loop-m-preserved g c =
     let h : HalftoneHeader = header_view c.args.header.now in
     let d : Patterns = dictionary_view c.args.dictionary.now in
     let w : ℕ = h.grid_position_and_size.width in
-    let inside : c.loop-m.m * w + w ≤ length c.args.values.now = row-inside w h.grid_position_and_size.height c.loop-m.m (length c.args.values.now) (omega arith) c.requires.sized in
+    let inside : c.loop-m.m * w + w ≤ length c.args.values.now = row-inside w c.args.rows c.loop-m.m (length c.args.values.now) (omega arith) c.requires.sized in
     let here = subst (λ (n : ℕ). WritesWithin (words_of_cells h d (c.loop-m.m * w) n) c.loop-m.steps c.draw_row.new.steps) (part-length (c.loop-m.m * w) w c.args.values.now inside) c.in-Ok.ensures.steps in
     record {
       x = below-x h.grid_position_and_size.horizontal_offset c.loop-m.first.x c.next_row-first.result.x c.loop-m.m h.grid_vector.y_vector h.grid_vector.x_vector c.loop-m.invariant.x c.next_row-first.ensures.x;
@@ -74,7 +74,7 @@ pub returns-clause-value : goal.returns-clause-value
 returns-clause-value g c =
     let h : HalftoneHeader = header_view c.args.header.now in
     let w : ℕ = h.grid_position_and_size.width in
-    let last : c.loop-m.m ≡ h.grid_position_and_size.height = omega arith in
+    let last : c.loop-m.m ≡ c.args.rows = omega arith in
     let all : length c.args.values.now ≤ c.loop-m.m * w = rw last (omega (arith, c.requires.sized)) in
     rows-whole h (dictionary_view c.args.dictionary.now) (c.loop-m.m * w) c.args.values.now c.args.bitmap.now c.loop-m.bitmap all c.loop-m.invariant.drawn
 
@@ -83,5 +83,5 @@ returns-clause-steps g c =
     let h : HalftoneHeader = header_view c.args.header.now in
     let d : Patterns = dictionary_view c.args.dictionary.now in
     let w : ℕ = h.grid_position_and_size.width in
-    let last : c.loop-m.m ≡ h.grid_position_and_size.height = omega arith in
+    let last : c.loop-m.m ≡ c.args.rows = omega arith in
     subst (λ (m : ℕ). WritesWithin (words_of_cells h d 0 (m * w)) c.args.steps.now c.loop-m.steps) last c.loop-m.invariant.counts
