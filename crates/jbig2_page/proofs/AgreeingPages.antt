@@ -2,7 +2,7 @@
 use Rattle.std.proofs.Common.{◌≡◌, ℕ, eqb, Bool, true, false, cond, not, ◌&&◌, List, [], ◌∷◌, ◌++◌, length, Option, Some, None, Result, Ok, Err, refl, sym, subst, ap, ◌∙◌}
 use Rattle.std.specs.Int.{w32}
 use Rattle.std.specs.Option.{option_map_or}
-use Rattle.std.specs.Prelude.{IfOk, is_none, nat_le, option_map, slice_get}
+use Rattle.std.specs.Prelude.{if◌then◌else◌, IfOk, is_none, nat_le, option_map, slice_get}
 use Rattle.jbig2_base.specs.Results.{◌>>=◌, refuse_if, some_or}
 use Rattle.jbig2_base.specs.Fields.{number_at}
 use Rattle.jbig2_framing.specs.File.{file_at, file_header_at}
@@ -27,8 +27,11 @@ use Rattle.jbig2_framing.specs.declared.reading.Reading.TheVariants.{Strict, Len
 use Rattle.jbig2_framing.specs.declared.segment.SegmentType.{SegmentType}
 use Rattle.jbig2_framing.specs.declared.segment.SegmentType.TheVariants as types
 use Rattle.jbig2_coder.specs.PrefixCode.{Member}
+use Rattle.jbig2_halftone.specs.Halftone.{halftone_decoded}
 use Rattle.jbig2_halftone.specs.HalftoneHeader.{HalftoneHeader, halftone_header_at}
 use Rattle.jbig2_halftone.specs.PatternHeader.{PatternHeader, pattern_header_at}
+use Rattle.jbig2_halftone.specs.Patterns.{Patterns}
+use Rattle.jbig2_halftone.specs.WholeCells.{halftone_part}
 use Rattle.jbig2_region.specs.GenericHeader.{GenericHeader, generic_header_at}
 use Rattle.jbig2_region.specs.Generic.{generic_decoded}
 use Rattle.jbig2_region.specs.RegionInfo.{PlacedRegion}
@@ -143,6 +146,7 @@ text_at-same own shared p =
     agrees-next view (λ s. s) (text_header_at (length referred.symbols) true p.bytes) (text_header_at (length referred.symbols) false p.bytes) _ _ (text-header-agrees (length referred.symbols) p.bytes) (λ header. text-decoded-same (is_partial p) header.0 referred.symbols referred.codes))
 
 cells-same : (partial : Bool) (h : HalftoneHeader) (patterns : Patterns) → Same (if partial then halftone_part h patterns else halftone_decoded h patterns) (if partial then halftone_part (lenient_halftone h) patterns else halftone_decoded (lenient_halftone h) patterns)
+unfolding halftone_part
 cells-same true h patterns = same-itself (halftone_part h patterns)
 cells-same false h patterns = halftone-same h patterns
 

@@ -14,17 +14,18 @@ use Rattle.jbig2_region.specs.WholeRows.{whole_generic_rows, whole_rows}
 read-most : (n w : ℕ) (above : List ℕ) (done : List (List ℕ)) (bits : List ℕ) → length (rows_from n w above done bits).rows ≤ length done + n
 unfolding rows_from
 read-most zero w above done bits = omega arith
-read-most (suc n) w above done bits = by (ends_block bits) (row w (pixel_of w above) bits)
+read-most (suc n) w above done bits =
+    by (λ changes more left. read-most n w changes more left) (ends_block bits) (row w (pixel_of w above) bits)
   where
-    by : (b : Bool) (r : Option (List ℕ × List ℕ)) → length (if b then (let x : Rows = record { rows = done; whole = false; left = drop 24 bits } in x) else (elim r [
+    by : ((changes : List ℕ) (more : List (List ℕ)) (left : List ℕ) → length (rows_from n w changes more left).rows ≤ length more + n) → (b : Bool) (r : Option (List ℕ × List ℕ)) → length (if b then (let x : Rows = record { rows = done; whole = false; left = drop 24 bits } in x) else (elim r [
       | None ↦ (let x : Rows = record { rows = done; whole = false; left = [] } in x)
       | Some (changes, left) ↦ rows_from n w changes (done ++ changes ∷ []) left
     ])).rows ≤ length done + suc n
-    by true r = omega arith
-    by false None = omega arith
-    by false (Some (changes, left)) =
+    by others true r = omega arith
+    by others false None = omega arith
+    by others false (Some (changes, left)) =
         let more : length (done ++ changes ∷ []) ≡ length done + 1 = length-append done (changes ∷ []) in
-        omega (arith, more, read-most n w changes (done ++ changes ∷ []) left)
+        omega (arith, more, others changes (done ++ changes ∷ []) left)
 
 rows-most : (w h : ℕ) (bytes : List ℕ) → length (rows_of w h bytes).rows ≤ h
 unfolding rows_of

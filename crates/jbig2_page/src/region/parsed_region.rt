@@ -12,8 +12,8 @@ ghost use Rattle.jbig2_steps.specs.Work.{Paid, PaidBut, price_of_bitmap, budget}
 use crate::kept::referred::ReferredSegments;
 use crate::region::halftone::pay_cells;
 use crate::workspace::{MOST_CONTEXTS, Workspace};
-use jbig2_base::bitmap::{Bitmap, CombinationOperator};
 use jbig2_base::bitmap::steps::Work;
+use jbig2_base::bitmap::{Bitmap, CombinationOperator};
 use jbig2_base::error::{DecodeError, Result};
 use jbig2_coder::arithmetic_decoder::ArithmeticDecoderContext;
 use jbig2_coder::huffman_table::StandardHuffmanTables;
