@@ -258,8 +258,9 @@ uint32_t hayro_jbig2_file_new_within(const hayro_jbig2_memory *memory, bool stri
 /* Salvage, for viewers of damaged files. It reads as lenient reading does, and leaves out what that refuses
  * (docs/FORMAT.md, 12.7): a list of segments ends at a bad header, a dictionary that fails is passed over, globals keep
  * what can be read of them, an open height is taken from the regions, and a page of a file that can't begin doesn't stop
- * the others. Of a generic region that is cut off the whole rows are drawn, and of a text region the whole instances.
- * What else lenient reading reads, this reads in the same way. Pages are drawn by the calls above.
+ * the others. Of a region that is cut off what is whole is drawn: rows of pixels, rows of a halftone region's grid, or
+ * instances of a text region. Below its whole rows a refinement shows what it refines. What else lenient reading reads,
+ * this reads in the same way. Pages are drawn by the calls above.
  * HAYRO_JBIG2_NO_WORK_LIMIT is no limit for `work`. */
 uint32_t hayro_jbig2_globals_new_salvaged(const hayro_jbig2_memory *memory, uint64_t work, const uint8_t *bytes,
                                           size_t length, hayro_jbig2_globals **globals);

@@ -1,13 +1,14 @@
 #!/usr/bin/env python3
 """Cuts pages off at random places, and compares the rows that are shown of them here, by Poppler and by jbig2dec.
 
-    cut_off.py [--count COUNT] [--seed SEED] [--thrice] [--list] FILE.jb2 ..
+    cut_off.py [--suite] [--count COUNT] [--seed SEED] [--thrice] [--list] [FILE.jb2 ..]
 
-Each FILE is sequential, and its first page is taken, as a PDF file has it. The end of its stream is cut off, at a place after
-its headers; with --thrice each page is cut off after a third, a half and four fifths. The command hayro-jbig2 reads it in
-salvage. A row counts if it has ink on the whole page and is shown as it is there. Status 1 where the command reports nothing,
-or shows ink that the whole page doesn't have, unless a refinement would have changed it. --list names each page of which
-another decoder shows more rows.
+Each FILE is sequential, and its first page is taken, as a PDF file has it. With --suite there are those of the conformance
+suite that have refinements, halftone regions or MMR data, too. The end of a page's stream is cut off, at a place after its
+headers; with --thrice each page is cut off after a third, a half and four fifths. The command hayro-jbig2 reads it in salvage.
+A row counts if it has ink on the whole page and is shown as it is there. Status 1 where the command reports nothing, or shows
+ink that the whole page doesn't have, unless what is missing could have taken it away. --list names each page of which another
+decoder shows more rows.
 Needs make and libqpdf (Debian's libqpdf-dev), jbig2dec, and pdfimages (Debian's poppler-utils).
 """
 from __future__ import annotations
@@ -15,6 +16,7 @@ from __future__ import annotations
 import argparse
 import collections
 import dataclasses
+import itertools
 import pathlib
 import random
 import subprocess
@@ -24,12 +26,15 @@ import tempfile
 from root import ROOT
 from conformance.runner.embedding import Embedded, embedded_page, pdf_of
 from conformance.runner.pictures import NoPicture, Picture, pictures_of
-from conformance.runner.segments import sequential
+from conformance.runner.segments import PAGE_INFORMATION, Segment, sequential
+from conformance.suite.all_cases import cases_of
+from conformance.suite.case import SEQUENTIAL
 
 COMMAND = pathlib.Path(ROOT, "c/out/hayro-jbig2")
 INCOMPLETE = 3  # the command's status for a page that lacks something
 HEADERS = 64  # page information, and the headers of a region
-REFINEMENTS = (42, 43)
+HALFTONES, REFINEMENTS = (22, 23), (42, 43)
+MODULES = ("mmr", "refinements", "halftones")  # of the conformance suite
 PARTS = (1 / 3, 1 / 2, 4 / 5)
 
 
@@ -113,36 +118,54 @@ def shown_of(name: str, page: Embedded, whole: Picture, place: int) -> Shown:
         pictures = drawn_by_peers(cut, room)
     rows = {"ours": right_rows(ours, whole)} | {peer: right_rows(picture, whole) for peer, picture in pictures.items()}
     inked = sum(any(row) for row in rows_of(whole))
-    is_wrong = not is_refined(page) and has_wrong_ink(ours, whole)
+    is_wrong = not any(map(takes_ink_away, sequential(page.stream))) and has_wrong_ink(ours, whole)
     return Shown(f"{name} after {place} bytes", rows, inked, status == INCOMPLETE, is_wrong)
 
 
-def is_refined(page: Embedded) -> bool:
-    """Whether a page has a refinement: what it would change is shown where it is cut off."""
-    return any(segment.kind in REFINEMENTS for segment in sequential(page.stream))
+def takes_ink_away(segment: Segment) -> bool:
+    """Whether more of a segment may turn black pixels white: it is a refinement, a page or a halftone region that begins black,
+    or a halftone region whose cells are not joined by Or."""
+    flags = segment.data[16:18]
+    if segment.kind == PAGE_INFORMATION:
+        return bool(flags[0] & 4)
+    return segment.kind in REFINEMENTS or segment.kind in HALFTONES and flags[1] & 0xF0 > 0
 
 
-def whole_pages(paths: list[pathlib.Path]) -> list[tuple[str, Embedded, Picture]]:
+def suite_files() -> list[tuple[str, bytes]]:
+    """Files of the conformance suite, which are to be drawn."""
+    cases = [case for module in MODULES for case in cases_of(module)]
+    return [(case.name, case.files[".jb2"]) for case in cases if case.kind == SEQUENTIAL]
+
+
+def whole_pages(files: list[tuple[str, bytes]]) -> list[tuple[str, Embedded, Picture]]:
     """The first pages of files, and what the command draws of them."""
     pages = []
-    for path in paths:
-        page = embedded_page(path.read_bytes(), 0)
+    for name, data in files:
+        page = embedded_page(data, 0)
         with tempfile.TemporaryDirectory() as folder:
             picture, status = drawn_here(page, pathlib.Path(folder))
         if status or picture is None or picture.is_plain or len(page.stream) <= HEADERS:
-            print(f"{path.name}: left out")
+            print(f"{name}: left out")
         else:
-            pages.append((path.name, page, picture))
+            pages.append((name, page, picture))
     return pages
+
+
+def inside(stream: bytes, place: int) -> int:
+    """A place, or the one after it where a segment ends there: nobody can see that a page ends early there."""
+    ends = itertools.accumulate(len(segment.on_page(1)) for segment in sequential(stream))
+    return place + (place in ends)
 
 
 def cuts(options: argparse.Namespace, pages: list[tuple[str, Embedded, Picture]]):
     """The pages that are cut off, each with the place."""
     if options.thrice:
-        return [(page, int(part * len(page[1].stream))) for page in pages for part in PARTS]
-    chance = random.Random(options.seed)
-    chosen = [chance.choice(pages) for _ in range(options.count)]
-    return [(page, chance.randrange(HEADERS, len(page[1].stream))) for page in chosen]
+        places = [(page, int(part * len(page[1].stream))) for page in pages for part in PARTS]
+    else:
+        chance = random.Random(options.seed)
+        chosen = [chance.choice(pages) for _ in range(options.count)]
+        places = [(page, chance.randrange(HEADERS, len(page[1].stream))) for page in chosen]
+    return [(page, inside(page[1].stream, place)) for page, place in places]
 
 
 def main() -> int:
@@ -151,10 +174,14 @@ def main() -> int:
     parser.add_argument("--seed", type=int, default=1)
     parser.add_argument("--thrice", action="store_true")
     parser.add_argument("--list", action="store_true")
-    parser.add_argument("files", type=pathlib.Path, nargs="+")
+    parser.add_argument("--suite", action="store_true")
+    parser.add_argument("files", type=pathlib.Path, nargs="*")
     options = parser.parse_args()
+    files = [(path.name, path.read_bytes()) for path in options.files] + (suite_files() if options.suite else [])
+    if not files:
+        parser.error("there are no files")
     subprocess.run(["make", "--quiet", "-C", pathlib.Path(ROOT, "c")], check=True, stdout=subprocess.DEVNULL)
-    places = cuts(options, whole_pages(options.files))
+    places = cuts(options, whole_pages(files))
     total, wrong, less = collections.Counter(), 0, 0
     for (name, page, whole), place in places:
         shown = shown_of(name, page, whole, place)

@@ -3,9 +3,10 @@
 
 usage: comparison/parts.py [COUNT [SEED]]
 
-The pages have regions of all kinds, in files or embedded; comparison/model reads them too. Compared are the picture, or
-the error of a page that has no size, and how many segments the page lacks, with the number and the error of the first.
-PYTHONPATH may name a folder with the installed package, as `python3 -m pip install --target FOLDER python` makes it.
+The pages have regions of all kinds, in files or embedded; comparison/model reads them too. Half of them end in one larger
+region, and are cut off in its data. Compared are the picture, or the error of a page that has no size, and how many segments
+the page lacks, with the number and the error of the first.
+PYTHONPATH may name a folder with the installed package, as `python3 -m pip install --target FOLDER ./python` makes it.
 """
 from __future__ import annotations
 
@@ -15,14 +16,21 @@ import sys
 
 import hayro_jbig2
 
-from compare import kept, settings
+from compare import coded, kept, settings
+from made_up import altered, random_symbol
 from model.answers import Refused, TooMuch, Work
 from model.salvage import embedded_page, page_of_file
-from small_documents import Author
+from small_documents import INTERMEDIATE, LOSSLESS, Author, random_bitmap, random_generic, random_refinement
 from symbols import random_document
-from jbig2_encoder.framing import HEADER
+from jbig2_encoder.bitmap import REPLACE, XOR, Bitmap
+from jbig2_encoder.document import Document
+from jbig2_encoder.framing import GENERIC, HALFTONE, HEADER, PATTERN_DICTIONARY, REFINEMENT
+from jbig2_encoder.generic import GenericForm, generic_data
+from jbig2_encoder.halftone import Grid, HalftoneForm, halftone_data, pattern_data
+from jbig2_encoder.refinement import refinement_data
 
 KINDS = "coder prefix refined aggregates tables more".split()
+LARGEST = 48, 36
 
 
 @dataclasses.dataclass
@@ -44,7 +52,102 @@ def written(chance):
     return author.document, len(author.document.pages)
 
 
+class Ending:
+    """A page that ends in a region. What begins it, and what the region refers to, are drawn and kept as they are."""
+
+    def __init__(self, chance):
+        self.chance = chance
+        self.document = Document(chance.choice((0, 0, 0, 254)))
+        size = LARGEST if chance.random() < 0.7 else (chance.randrange(1, 9 + LARGEST[0]), chance.randrange(1, 9 + LARGEST[1]))
+        open_height = chance.random() < 0.1
+        self.page = self.document.start_page(*size, chance.randrange(2), chance.randrange(4), unknown_height=open_height)
+        if chance.random() < 0.7:
+            whole = random_bitmap(chance, *LARGEST)
+            self.page.draw(GENERIC, whole, generic_data(whole, random_generic(chance)), *self.place())
+
+    def place(self):
+        """Mostly on the page."""
+        least = -5 if self.chance.random() < 0.1 else 0
+        return self.chance.randrange(least, 9), self.chance.randrange(least, 9)
+
+    def put(self, kind, size, header, coded_data, place, referred=()):
+        """The last region, of which some have any bytes for the coded data."""
+        chance = self.chance
+        if chance.random() < 0.25:
+            coded_data = coded(chance, chance.randrange(size[0] * size[1] + 1))
+        kind += chance.choice((0, 0, 0, 0, LOSSLESS, LOSSLESS, LOSSLESS, INTERMEDIATE))
+        operator = chance.choice((0, 1, XOR, XOR, XOR, 3, REPLACE, REPLACE, REPLACE))
+        self.page.keep(kind, Bitmap(*size), header + coded_data, *place, operator, referred)
+
+    def generic(self, form=None):
+        form = form or random_generic(self.chance)
+        bitmap = random_bitmap(self.chance, *LARGEST)
+        data, header = generic_data(bitmap, form), 1 if form.mmr else 1 + 2 * len(form.places)
+        self.put(GENERIC, (bitmap.width, bitmap.height), data[:header], data[header:], self.place())
+
+    def by_mmr(self):
+        self.generic(GenericForm(mmr=True, ends_block=self.chance.random() < 0.5))
+
+    def refinement(self, reference, place, referred=()):
+        """A refinement of a bitmap at a place, at another one; one in twenty is larger than its reference."""
+        chance, form, (x, y) = self.chance, random_refinement(self.chance), self.place()
+        most = LARGEST if chance.random() < 0.05 or not referred else (reference.width, reference.height)
+        size = chance.randrange(1, most[0] + 1), chance.randrange(1, most[1] + 1)
+        shift = place[0] - x, place[1] - y
+        bitmap = altered(chance, reference, *size, shift)
+        data, header = refinement_data(bitmap, reference, shift, form), 1 + len(form.pixel_bytes())
+        self.put(REFINEMENT, size, data[:header], data[header:], (x, y), referred)
+
+    def refinement_of_page(self):
+        self.refinement(self.page.picture, (0, 0))
+
+    def refinement_of_region(self):
+        reference, place = random_bitmap(self.chance, *LARGEST), self.place()
+        kept_data = generic_data(reference, random_generic(self.chance))
+        at = self.page.keep(GENERIC + INTERMEDIATE, reference, kept_data, *place)
+        self.refinement(reference, place, [at])
+
+    def halftone(self, mmr=False):
+        """A grid along the sides or a turned one; some have a value without a pattern, or no pattern dictionary."""
+        chance = self.chance
+        sides = chance.randrange(1, 6), chance.randrange(1, 5)
+        patterns = [random_symbol(chance, *sides) for _ in range(chance.choice((1, 2, 3, 4, 5, 7, 9, 16, 20)))]
+        at = self.page.put(PATTERN_DICTIONARY, pattern_data(patterns, GenericForm(chance.randrange(4))))
+        size = chance.randrange(1, LARGEST[0] + 1), chance.randrange(1, LARGEST[1] + 1)
+        vector = (256 * sides[0], 0) if chance.random() < 0.6 else (chance.randrange(1600), chance.randrange(900))
+        grid = Grid(*(chance.randrange(1, 15) for _ in "xy"), *(chance.randrange(-900, 900) for _ in "xy"), *vector)
+        form = HalftoneForm(chance.randrange(4), mmr, chance.random() < 0.5, chance.randrange(5), chance.randrange(2))
+        most = 1 << (len(patterns) - 1).bit_length() if chance.random() < 0.2 else len(patterns)
+        values = [[chance.randrange(most) for _ in range(grid.width)] for _ in range(grid.height)]
+        data = halftone_data(values, grid, patterns, form, size)
+        self.put(HALFTONE, size, data[:21], data[21:], self.place(), [at] * (chance.random() < 0.95))
+
+    def halftone_by_mmr(self):
+        self.halftone(True)
+
+    def write(self):
+        chance = self.chance
+        chance.choice((
+            self.generic, self.by_mmr, self.refinement_of_page, self.refinement_of_region, self.halftone, self.halftone_by_mmr
+        ))()
+
+
+def cut_ending(chance):
+    """A page that is cut off in the data of the region that ends it: rather late, and some after a byte FF."""
+    ending = Ending(chance)
+    ending.write()
+    data = ending.document.segments[-1].data
+    marks = [place + 1 for place, byte in enumerate(data[:-1]) if byte == 0xFF]
+    late = int(len(data) * chance.random() ** 0.4)
+    left = chance.choice(marks) if marks and chance.random() < 0.2 else late
+    if chance.random() < 0.5:
+        return Cut(ending.document.embedded()[0][: left - len(data)], None, False, 1)
+    return Cut(ending.document.sequential()[: left - len(data)], None, True, 1)
+
+
 def random_cut(chance):
+    if chance.random() < 0.5:
+        return cut_ending(chance)
     document, pages = written(chance)
     if pages == 1 and chance.random() < 0.5:
         stream, shared = document.embedded()

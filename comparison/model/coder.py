@@ -31,8 +31,9 @@ class Coder:
 
     @property
     def is_past_end(self):
-        """Whether the byte read last, which is at `place`, is beyond the data."""
-        return self.place >= len(self.data)
+        """Whether the byte read last, which is at `place`, is beyond the data, or an FF that ends them: how an FF is read
+        depends on the byte after it."""
+        return self.place >= len(self.data) - self.data.endswith(b"\xff")
 
     def byte(self, place):
         return self.data[place] if place < len(self.data) else 0xFF

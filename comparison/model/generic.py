@@ -83,8 +83,9 @@ class Refinement:
         self.below = settled(REFERENCE[template], adaptive)
         self.typical = typical
 
-    def decode(self, work, coder, contexts, size, reference, shift):
-        """A bitmap of that size; the reference lies `shift` to the right of it and below it."""
+    def decode(self, work, coder, contexts, size, reference, shift, is_cut=False):
+        """A bitmap of that size, whose reference lies `shift` to the right of it and below it; of data that is cut off the
+        rows that are whole."""
         bitmap = Bitmap(work, *size)
         dx, dy = shift
         same = 0
@@ -104,4 +105,6 @@ class Refinement:
                 for i, j in self.below:
                     context = context << 1 | reference.pixel(x - dx + i, y - dy + j)
                 bitmap.rows[y][x] = coder.decide(contexts, context)
+            if is_cut and coder.is_past_end:
+                return bitmap.part(work, 0, 0, bitmap.width, y)
         return bitmap

@@ -173,12 +173,17 @@ class Drawing:
         if segment.kind in HALFTONE:
             found = None if first is None else self.names.find(PATTERNS, first)
             refuse_if(found is None, Fault.MISSING_PATTERN_DICTIONARY)
-            return regions.Halftone(self.work, data, found, strict).decode()
+            return regions.Halftone(self.work, data, found, strict, segment.is_cut).decode()
         if segment.kind in GENERIC:
             return regions.generic_region(self.work, data, segment.kind, segment.length is None, strict, segment.is_cut)
         reference = None if first is None else self.names.own.get(("region", first))
         refuse_if(strict and reference is None and (first is not None or segment.kind == 40), Fault.INVALID_REFERENCE)
-        return regions.refinement_region(self.work, data, reference, self.page)
+        return regions.refinement_region(self.work, data, reference, self.page, segment.is_cut)
+
+    def pass_over(self, segment, fault):
+        """Counts a segment that fails. One that is cut off counts where its list ends."""
+        if not segment.is_cut:
+            self.passed_over.append((segment.number, fault))
 
     def draw(self, segment):
         """What a segment of a page does."""
@@ -192,7 +197,7 @@ class Drawing:
             except Refused as refused:
                 if self.strict:
                     raise
-                self.passed_over.append((segment.number, refused.fault))
+                self.pass_over(segment, refused.fault)
                 return
             place = regions.signed(region.x), regions.signed(region.y)
             self.page.combine(self.work, region.bitmap, *place, region.operator)

@@ -11,6 +11,7 @@ from .prefix import STANDARD, symbol_codes
 from .text import CoderSource, PrefixSource, Settings, TextReader
 
 LARGEST_PLACE = 1 << 31
+REPLACE = 4
 # The tables of a text region's numbers by their selections, and the mask of these, from the lowest bit on.
 TEXT_CHOICES = (
     ("IAFS", 3, {0: 6, 1: 7}), ("IADS", 3, {0: 8, 1: 9, 2: 10}), ("IADT", 3, {0: 11, 1: 12, 2: 13}),
@@ -92,7 +93,7 @@ def information_of(data, kind, has_unknown_length):
 
 
 def generic_region(work, data, kind, has_unknown_length, strict, is_cut=False):
-    """A generic region (7.4.6); of one whose data is cut off and that is not by MMR, the rows that are whole."""
+    """A generic region (7.4.6); of one whose data is cut off the rows that are whole."""
     reader = Reader(data)
     region, is_mmr, coded = generic_header(reader)
     rest = reader.rest()
@@ -100,12 +101,13 @@ def generic_region(work, data, kind, has_unknown_length, strict, is_cut=False):
         region, rest = with_row_count(region, rest)
     refuse_large(region.width, region.height)
     if is_mmr:
-        return region.with_bitmap(t6.decode(work, rest, region.width, region.height, strict)[0])
+        return region.with_bitmap(t6.decode(work, rest, region.width, region.height, strict, is_cut)[0])
     return region.with_bitmap(coded.decode(work, Coder(rest), bytearray(1 << 16), region.width, region.height, is_cut))
 
 
-def refinement_region(work, data, reference, page):
-    """A refinement of another region, or of the page's area where that is None."""
+def refinement_region(work, data, reference, page, is_cut=False):
+    """A refinement of another region, or of the page's area where that is None. Of one whose data is cut off the rows that
+    are whole, and below them the reference."""
     reader = Reader(data)
     region = region_information(reader)
     flags = reader.number(1)
@@ -122,7 +124,11 @@ def refinement_region(work, data, reference, page):
     shift = reference.x - region.x, reference.y - region.y
     coded = Refinement(flags & 1, pixels, bool(flags & 2))
     size = region.width, region.height
-    bitmap = coded.decode(work, Coder(reader.rest()), bytearray(1 << 13), size, reference.bitmap, shift)
+    bitmap = coded.decode(work, Coder(reader.rest()), bytearray(1 << 13), size, reference.bitmap, shift, is_cut)
+    if is_cut:
+        whole_rows, bitmap = bitmap, Bitmap(work, *size)
+        bitmap.combine(work, reference.bitmap, *shift, REPLACE)
+        bitmap.combine(work, whole_rows, 0, 0, REPLACE)
     return region.with_bitmap(bitmap)
 
 
@@ -151,12 +157,13 @@ def patterns(work, data, strict):
 
 
 class Halftone:
-    """Reads a halftone region (7.4.5)."""
+    """Reads a halftone region (7.4.5), or the part of one whose data is cut off."""
 
-    def __init__(self, work, data, of_patterns, strict):
+    def __init__(self, work, data, of_patterns, strict, is_cut=False):
         self.work = work
         self.patterns = of_patterns
         self.strict = strict
+        self.is_cut = is_cut
         reader = Reader(data)
         self.region = region_information(reader)
         self.flags = reader.number(1)
@@ -179,13 +186,14 @@ class Halftone:
         return x + pattern.width <= 0 or x >= region.width or y + pattern.height <= 0 or y >= region.height
 
     def planes(self):
-        """The coded planes, from the highest."""
-        count = (len(self.patterns) - 1).bit_length()
+        """The coded planes, from the highest; of data that is cut off the last one has the rows that are whole."""
+        cuts = [False] * (len(self.patterns) - 1).bit_length()
+        cuts[-1:] = [self.is_cut] * len(cuts[-1:])
         self.work.draw(self.columns * self.rows)
         if self.flags & 1:
             data = self.data
-            for _ in range(count):
-                plane, used = t6.decode(self.work, data, self.columns, self.rows, self.strict)
+            for is_cut in cuts:
+                plane, used = t6.decode(self.work, data, self.columns, self.rows, self.strict, is_cut)
                 data = data[used:]
                 yield plane
             return
@@ -195,13 +203,13 @@ class Halftone:
         template = self.flags >> 1 & 3
         coded = Generic(template, NOMINAL[template], skipped=skipped)
         coder, contexts = Coder(self.data), bytearray(1 << 16)
-        for _ in range(count):
-            yield coded.decode(self.work, coder, contexts, self.columns, self.rows)
+        for is_cut in cuts:
+            yield coded.decode(self.work, coder, contexts, self.columns, self.rows, is_cut)
 
     def decode(self):
         bitmap = Bitmap(self.work, self.region.width, self.region.height, self.flags >> 7)
         planes = list(self.planes())
-        for row in range(self.rows):
+        for row in range(planes[-1].height if planes else self.rows):
             self.work.decide(self.columns)
             for column in range(self.columns):
                 value = bit = 0

@@ -3,9 +3,9 @@ import dataclasses
 
 from . import regions
 from .answers import Fault, Refused, Work, refuse_if
-from .bitmap import LARGEST, Bitmap, refuse_large
+from .bitmap import LARGEST, Bitmap
 from .bits import Reader
-from .page import GENERIC, INTERMEDIATE, KEPT, REGIONS, TEXT, END_OF_FILE, END_OF_PAGE
+from .page import INTERMEDIATE, KEPT, REGIONS, END_OF_FILE, END_OF_PAGE
 from .page import Drawing, Names, file_header, page_size, segment_header, segments_of_pages, with_data
 
 
@@ -28,14 +28,7 @@ class Salvaged:
 
 def is_drawn_in_part(segment):
     """Whether a segment whose data is cut off is drawn as far as it is there."""
-    if segment.kind not in GENERIC or segment.kind in INTERMEDIATE:
-        return segment.kind in TEXT and segment.kind not in INTERMEDIATE
-    try:
-        region = regions.generic_header(Reader(segment.data))[0]
-        refuse_large(region.width, region.height)
-    except Refused:
-        return False
-    return True
+    return segment.kind in REGIONS and segment.kind not in INTERMEDIATE
 
 
 def association(data):
@@ -86,7 +79,7 @@ class Salvaging(Drawing):
         try:
             super().draw(segment)
         except Refused as refused:
-            self.passed_over.append((segment.number, refused.fault))
+            self.pass_over(segment, refused.fault)
 
 
 def globals_of(work, segments):

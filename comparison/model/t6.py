@@ -1,7 +1,7 @@
 """MMR data: the profile of T.6 in docs/FORMAT.md, section 7."""
 from jbig2_encoder.t6 import BLACK, BLACK_MAKE_UP, LONG_MAKE_UP, WHITE, WHITE_MAKE_UP
 
-from .answers import Fault, Refused
+from .answers import Fault, refuse_if
 from .bitmap import Bitmap
 
 END_OF_BLOCK = "000000000001" * 2
@@ -87,8 +87,8 @@ class Rows:
         return self.width
 
 
-def decode(work, data, width, height, strict):
-    """A bitmap, and how many bytes of the data it used."""
+def decode(work, data, width, height, strict, is_cut=False):
+    """A bitmap, and how many bytes of the data it used; of data that is cut off the rows that are whole."""
     bitmap = Bitmap(work, width, height)
     if not width or not height:
         return bitmap, 0
@@ -97,14 +97,12 @@ def decode(work, data, width, height, strict):
         try:
             ended = rows.ends_block()
             above = above if ended else rows.row(above)
+            used = (rows.place + 7) // 8
         except Fails:
-            if strict:
-                raise Refused(Fault.INVALID_MMR_DATA) from None
-            return bitmap, len(data)
+            ended, used = True, len(data)
         if ended:
-            if strict:
-                raise Refused(Fault.INVALID_MMR_DATA)
-            return bitmap, (rows.place + 7) // 8
+            refuse_if(strict, Fault.INVALID_MMR_DATA)
+            return bitmap.part(work, 0, 0, width, y) if is_cut else bitmap, used
         work.decide(width // 8 + 1)
         bitmap.rows[y] = bytearray(above)
     rows.ends_block()

@@ -3,20 +3,22 @@ from __future__ import annotations
 
 from collections.abc import Iterator
 
-from jbig2_encoder.bitmap import Bitmap
+from jbig2_encoder.bitmap import REPLACE, Bitmap
 from jbig2_encoder.document import Document, Page
 from jbig2_encoder.fields import Change, changed_by, number
-from jbig2_encoder.framing import END_OF_STRIPE, EXTENSION, GENERIC, PATTERN_DICTIONARY, UNKNOWN
+from jbig2_encoder.framing import END_OF_STRIPE, EXTENSION, GENERIC, HALFTONE, PATTERN_DICTIONARY, REFINEMENT, UNKNOWN
 from jbig2_encoder.generic import GenericForm, generic_data, row_count
-from jbig2_encoder.halftone import pattern_data
+from jbig2_encoder.halftone import Grid, HalftoneForm, draw_halftone, halftone_data, pattern_data
+from jbig2_encoder.refinement import RefinementForm, refinement_data
 from jbig2_encoder.text import Settings, TextForm
 
 from . import breaking as errors
 from .breaking import Edit, Fault, blank, broken, broken_page, meant, setting
 from .case import PICTURE, RANDOM, Case, page_document
-from .drawing import dots, page_picture, shapes
+from .drawing import changed, dots, gray_ramp, page_picture, shapes
 from .files import DRAWINGS
 from .pages import put_generic
+from .refinements import keep_picture
 from .typesetting import WORDS, Alphabet, put_dictionary, put_text, set_words
 
 FILE, SEGMENT, INFORMATION, REGION = "broken-file", "broken-segment", "broken-page", "broken-region"
@@ -98,21 +100,45 @@ def draw_text(page: Page, prefix: bool) -> None:
     put_text(page, text, Settings(), alphabet.symbols, referred, TextForm(prefix))
 
 
+def draw_refinement(page: Page, of_page: bool) -> None:
+    """A refinement of what the page shows, or of a region that it doesn't show."""
+    if of_page:
+        draw_generic(page)
+        referred = []
+    else:
+        referred = [keep_picture(page, page_picture())]
+    bitmap = changed(page_picture())
+    data = refinement_data(bitmap, page_picture(), (0, 0), RefinementForm(typical=of_page))
+    page.draw(REFINEMENT, bitmap, data, operator=REPLACE, referred=referred)
+
+
+def draw_ramp(page: Page, mmr: bool) -> None:
+    patterns, form = dots(2, 2, 5), HalftoneForm(mmr=mmr)
+    grid, size = Grid(32, 20, right=2 * 256), (page.picture.width, page.picture.height)
+    values = gray_ramp(grid.width, grid.height, len(patterns))
+    referred = [page.put(PATTERN_DICTIONARY, pattern_data(patterns, GenericForm()))]
+    bitmap = draw_halftone(values, grid, patterns, form, *size)
+    page.draw(HALFTONE, bitmap, halftone_data(values, grid, patterns, form, size), referred=referred)
+
+
 def cut_regions() -> Iterator[Case]:
     """Files that end early in the data of a region of another kind, which lenient reading drops."""
     drawings = {
         "mmr": draw_mmr, "text-coder": lambda page: draw_text(page, False),
         "text-prefix": lambda page: draw_text(page, True),
+        "refinement-of-page": lambda page: draw_refinement(page, True),
+        "refinement-of-region": lambda page: draw_refinement(page, False),
+        "halftone-coder": lambda page: draw_ramp(page, False), "halftone-mmr": lambda page: draw_ramp(page, True),
     }
     for kind, draw in drawings.items():
         document = page_document(draw)
         region, *ends = document.segments[-3:]
         after = sum(map(len, document.headers()[-len(ends):]))
+        below = page_picture() if kind == "refinement-of-page" else Bitmap(64, 40)
         for name, missing in (("data", len(region.data) // 2), ("last-byte", 1)):
             rule = "the file ends in a segment"
             yield file_case(
-                f"cut-in-{kind}-{name}", rule, errors.ENDS, PICTURE, lambda data: data[: -after - missing],
-                Bitmap(64, 40), document
+                f"cut-in-{kind}-{name}", rule, errors.ENDS, PICTURE, lambda data: data[: -after - missing], below, document
             )
 
 

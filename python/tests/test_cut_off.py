@@ -10,32 +10,44 @@ import hayro_jbig2
 from pages import ROOT
 
 sys.path[1:1] = [str(ROOT), str(ROOT / "comparison")]
-from conformance.suite.drawing import dots, grown, page_picture, shapes  # noqa: E402
-from conformance.suite.halftones import SQUARE, ramp  # noqa: E402
+from conformance.suite.drawing import changed, dots, page_picture, shapes  # noqa: E402
 from conformance.suite.texts import refined_text  # noqa: E402
-from conformance.suite.typesetting import WORDS, Alphabet, Layout, put_dictionary, put_text, set_words  # noqa: E402
+from conformance.suite.typesetting import WORDS, Alphabet, Layout, put_dictionary, set_words, text_bitmap  # noqa: E402
 from jbig2_encoder.bitmap import REPLACE  # noqa: E402
 from jbig2_encoder.document import Document  # noqa: E402
-from jbig2_encoder.framing import GENERIC, HALFTONE, PATTERN_DICTIONARY, REFINEMENT  # noqa: E402
+from jbig2_encoder.framing import GENERIC, HALFTONE, PATTERN_DICTIONARY, REFINEMENT, TEXT  # noqa: E402
 from jbig2_encoder.generic import GenericForm, generic_data  # noqa: E402
-from jbig2_encoder.halftone import HalftoneForm, draw_halftone, halftone_data, pattern_data  # noqa: E402
-from jbig2_encoder.refinement import RefinementForm, refinement_data  # noqa: E402
-from jbig2_encoder.text import Settings, TextForm  # noqa: E402
+from jbig2_encoder.halftone import Grid, HalftoneForm, draw_halftone, halftone_data, pattern_data  # noqa: E402
+from jbig2_encoder.refinement import NOMINAL, RefinementForm, refinement_data  # noqa: E402
+from jbig2_encoder.text import Settings, TextForm, text_data  # noqa: E402
 from model.answers import Work  # noqa: E402
 from model.salvage import embedded_page, page_of_file  # noqa: E402
 
 SIZE = (80, 40)
+INFORMATION = 17  # the bytes of a region's information
 REFINED = ((1, 0, 0, 0), (-1, 1, 1, 0), (2, -2, 0, 1))
+# Adaptive pixels of a refinement, and what makes an immediate region an intermediate one.
+MOVED = ((2, -1), (-3, 1))
+KEPT = -2
+INTERMEDIATE = tuple(kind + KEPT for kind in (TEXT, HALFTONE, GENERIC, REFINEMENT))
+# Grids of cells of 2 by 2 pixels; the second one leaves the page on all sides.
+STRAIGHT = Grid(40, 20, right=2 * 256)
+TURNED = Grid(38, 28, -2 * 256, 6 * 256, 500, 110)
 
 
-def put_generic(form, lossless=False):
+def put_generic(form, kind=GENERIC):
     def put(page):
-        page.draw(GENERIC + lossless, page_picture(*SIZE), generic_data(page_picture(*SIZE), form), operator=REPLACE)
+        put_region(page, kind, page_picture(*SIZE), generic_data(page_picture(*SIZE), form))
 
     return put
 
 
-def put_words(prefix, refined=False, colour=0):
+def put_region(page, kind, bitmap, data, referred=()):
+    """A region by Replace, which is drawn if it is an immediate one."""
+    (page.keep if kind in INTERMEDIATE else page.draw)(kind, bitmap, data, operator=REPLACE, referred=referred)
+
+
+def put_words(prefix, refined=False, colour=0, kind=TEXT):
     """Words by a dictionary, by Xor on white or on black: some with every second letter refined, or many lines of them."""
 
     def put(page):
@@ -46,32 +58,44 @@ def put_words(prefix, refined=False, colour=0):
         else:
             lines = [alphabet.ids(word) for word in 8 * WORDS]
             text = set_words(lines, alphabet.symbols, settings, Layout(step=1), prefix)
-        put_text(page, text, settings, alphabet.symbols, referred, TextForm(prefix), operator=REPLACE)
+        bitmap = text_bitmap(text, settings, alphabet.symbols, SIZE)
+        put_region(page, kind, bitmap, text_data(text, settings, alphabet.symbols, TextForm(prefix)), referred)
 
     return put
 
 
-def put_halftone(mmr):
+def put_halftone(form, count=9, kind=HALFTONE, grid=STRAIGHT):
+    """A region of so many patterns, each row of its grid another one."""
+
     def put(page):
-        patterns, form = dots(4, 4, 9), HalftoneForm(mmr=mmr)
+        patterns = dots(2, 2, count)
         referred = [page.put(PATTERN_DICTIONARY, pattern_data(patterns, GenericForm()))]
-        values = ramp(SQUARE, len(patterns))
-        bitmap = draw_halftone(values, SQUARE, patterns, form, *SIZE)
-        page.draw(HALFTONE, bitmap, halftone_data(values, SQUARE, patterns, form, SIZE), operator=REPLACE, referred=referred)
+        values = [[(7 * x * x + 5 * y * y + x * y) // 11 % count for x in range(grid.width)] for y in range(grid.height)]
+        bitmap = draw_halftone(values, grid, patterns, form, *SIZE)
+        put_region(page, kind, bitmap, halftone_data(values, grid, patterns, form, SIZE), referred)
 
     return put
 
 
-def put_refinement(page):
-    """A refinement of what the page shows."""
-    bitmap = grown(page.picture)
-    page.draw(REFINEMENT, bitmap, refinement_data(bitmap, page.picture, (0, 0), RefinementForm()), operator=REPLACE)
+def put_refinement(form, place=None, kind=REFINEMENT):
+    """A refinement of what the page shows, or of a region at a place."""
+
+    def put(page):
+        reference, referred, shift = page.picture, [], (0, 0)
+        if place is not None:
+            reference, shift = page_picture(*SIZE), place
+            data = generic_data(reference, GenericForm())
+            referred = [page.keep(GENERIC + KEPT, reference, data, *place)]
+        bitmap = changed(reference.part(-shift[0], -shift[1], *SIZE), 3)
+        put_region(page, kind, bitmap, refinement_data(bitmap, reference, shift, form), referred)
+
+    return put
 
 
 DRAWN_IN_PART = {
     **{
         f"generic region by template {template}, {'with' if typical else 'without'} prediction": put_generic(
-            GenericForm(template, typical=typical), lossless=typical
+            GenericForm(template, typical=typical), GENERIC + typical
         )
         for template, typical in itertools.product(range(4), (False, True))
     },
@@ -83,11 +107,33 @@ DRAWN_IN_PART = {
     "text by prefix codes": put_words(True),
     "text by prefix codes on black": put_words(True, colour=1),
     "text by prefix codes, refined": put_words(True, refined=True),
+    **{
+        f"refinement of {what}, {how}{', typical' * typical}": put_refinement(
+            RefinementForm(template, pixels, typical), place, REFINEMENT + typical
+        )
+        for what, place in (("the page", None), ("a region", (0, 0)), ("a region beside it", (7, 5)))
+        for how, template, pixels in (("template 0", 0, NOMINAL), ("other pixels", 0, MOVED), ("template 1", 1, NOMINAL))
+        for typical in (False, True)
+    },
+    **{
+        f"halftone region by {how}, {count} patterns": put_halftone(form, count, HALFTONE + form.skips, grid)
+        for count in (2, 4, 5)
+        for how, form, grid in (
+            ("template 0", HalftoneForm(), STRAIGHT),
+            ("template 3", HalftoneForm(3), STRAIGHT),
+            ("MMR", HalftoneForm(mmr=True), STRAIGHT),
+            ("MMR on black", HalftoneForm(mmr=True, operator=REPLACE, colour=1), STRAIGHT),
+            ("template 1 with skipped cells", HalftoneForm(1, skips=True, operator=REPLACE, colour=1), TURNED),
+        )
+    },
 }
 DROPPED = {
-    "halftone region by the coder": put_halftone(False),
-    "halftone region by MMR": put_halftone(True),
-    "refinement region": put_refinement,
+    "generic region": put_generic(GenericForm(), GENERIC + KEPT),
+    "generic region by MMR": put_generic(GenericForm(mmr=True), GENERIC + KEPT),
+    "text by the coder": put_words(False, kind=TEXT + KEPT),
+    "text by prefix codes": put_words(True, kind=TEXT + KEPT),
+    "halftone region": put_halftone(HalftoneForm(), 5, HALFTONE + KEPT),
+    "refinement of a region": put_refinement(RefinementForm(), (0, 0), REFINEMENT + KEPT),
 }
 
 
@@ -108,7 +154,7 @@ class CutOff(unittest.TestCase):
         region = document.segments[-1]
         whole, (stream, _) = document.sequential(), document.embedded()
         self.assertEqual(bytes(hayro_jbig2.decode(stream, salvage=True).rows), page.picture.packed())
-        for left in len(region.data) // 3, len(region.data) // 2, len(region.data) - 1:
+        for left in INFORMATION, len(region.data) // 3, len(region.data) // 2, len(region.data) - 1:
             missing = len(region.data) - left
             yield left, whole[:-missing], stream[:-missing], region.at, below
 
@@ -136,14 +182,18 @@ class CutOff(unittest.TestCase):
                     self.assertEqual((bytes(page.rows), passed.segment_number), (below, number))
                     self.assertEqual(passed.error.variant, "UnexpectedEof")
                 shown.append(meant.bitmap.packed() != below)
-        return shown[1:]
+        return shown[-2:]
 
     def test_regions_that_are_drawn_in_part(self):
         for name, put in DRAWN_IN_PART.items():
             with self.subTest(name):
                 self.assertEqual(self.check_kind(put), [True, True])
 
-    def test_regions_that_are_dropped(self):
+    def test_a_halftone_region_of_one_pattern(self):
+        """It has no plane, and half of its data is less than its header."""
+        self.assertEqual(self.check_kind(put_halftone(HalftoneForm(colour=1), 1)), [False, True])
+
+    def test_intermediate_regions_are_dropped(self):
         for name, put in DROPPED.items():
             with self.subTest(name):
                 self.assertEqual(self.check_kind(put), [False, False])

@@ -59,7 +59,7 @@ def decode(
     A lenient decoder passes over a segment that is cut off, an immediate region that fails, a number that names
     nothing, and an extension that it should understand; with `strict` the first fault is raised. With `salvage`, for viewers of
     damaged files, whatever a lenient decoder refuses is left out: only a page without a size and a damaged file header
-    are raised.
+    are raised. Of a region that is cut off the rows, cells or symbols that are whole are drawn.
 
     Where `Page.is_complete` is false, an `IncompletePageWarning` is given, unless `warn` is false or a filter of
     `warnings` says otherwise. `Page.passed_over` and `Page.left_out` tell what the page lacks.
