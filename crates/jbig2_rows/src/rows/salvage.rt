@@ -59,6 +59,36 @@ const FIRST_OF_FOUR: &[Call] = &[
     LINE,
 ];
 
+/// A row of some black pixels, and a black row.
+const REFINED_FIRST: &[Call] = &[
+    PAPER,
+    INK,
+    INK,
+    INK,
+    PAPER,
+    INK,
+    PAPER,
+    PAPER,
+    LINE,
+    Call::Chunk(true, 1),
+    LINE,
+];
+
+/// A row of a black pixel and seven white ones, and a black row.
+const DOT_BLACK: &[Call] = &[
+    INK,
+    PAPER,
+    PAPER,
+    PAPER,
+    PAPER,
+    PAPER,
+    PAPER,
+    PAPER,
+    LINE,
+    Call::Chunk(true, 1),
+    LINE,
+];
+
 const ONE_PAGE: &[FilePage] = &[FilePage {
     number: 1,
     dimensions: (8, 1),
@@ -91,6 +121,20 @@ const CUT_OFF: Report = Report {
 
 /// The same of a file in sequence.
 const PART: Option<(Option<u32>, DecodeError)> = Some((Some(1), TOO_EARLY));
+
+/// The same of a page, which counts the segment.
+const PAGE_PART: Report = Report {
+    passed_over: 1,
+    first: PART,
+    cut_off: PART,
+};
+
+/// The same of segment 2.
+const PAGE_LACKS_2: Report = Report {
+    passed_over: 1,
+    first: Some((Some(2), TOO_EARLY)),
+    cut_off: Some((Some(2), TOO_EARLY)),
+};
 
 /// Segment 2 has no end marker.
 const NO_MARKER: Option<(Option<u32>, DecodeError)> = Some((
@@ -140,11 +184,7 @@ const ROWS: &[Row] = &[
                 bytes: "P G 00000002 26",
                 answer: Calls(DOT),
                 globals_report: NOTHING,
-                report: Report {
-                    passed_over: 1,
-                    first: Some((Some(2), TOO_EARLY)),
-                    cut_off: Some((Some(2), TOO_EARLY)),
-                },
+                report: PAGE_LACKS_2,
             }),
             // Only the first row of the region is whole.
             Case::Salvage(SalvageCase::Page {
@@ -153,11 +193,31 @@ const ROWS: &[Row] = &[
                     BE3C87",
                 answer: Calls(FIRST_OF_FOUR),
                 globals_report: NOTHING,
-                report: Report {
-                    passed_over: 1,
-                    first: PART,
-                    cut_off: PART,
-                },
+                report: PAGE_PART,
+            }),
+            // Only the first row of the refinement is whole. Below it the page shows.
+            Case::Salvage(SalvageCase::Page {
+                globals: "",
+                bytes: "P@15=00000002@27=04 00000001 2A 00 01 00000020 00000008 00000002 00*8 04 01 0E71E0",
+                answer: Calls(REFINED_FIRST),
+                globals_report: NOTHING,
+                report: PAGE_PART,
+            }),
+            // Only the first row of MMR data is whole.
+            Case::Salvage(SalvageCase::Page {
+                globals: "",
+                bytes: "P@15=00000002@27=04 00000001 26 00 01 00000020 00000008 00000002 00*8 04 01 26AB",
+                answer: Calls(DOT_BLACK),
+                globals_report: NOTHING,
+                report: PAGE_PART,
+            }),
+            // Nothing can be drawn of a text region whose dictionary isn't there. It counts once.
+            Case::Salvage(SalvageCase::Page {
+                globals: "",
+                bytes: "P 00000002 06 20 01 01 00000020 00000008 00000001 00*9 0000",
+                answer: Calls(WHITE),
+                globals_report: NOTHING,
+                report: PAGE_LACKS_2,
             }),
         ],
     },
