@@ -123,8 +123,7 @@ def page_of_file(data, index, work=None):
     refuse_if(index >= len(pages), Fault.NO_SUCH_PAGE)
     number, own = list(pages.items())[index]
     has_end = any(segment.kind == END_OF_PAGE for segment in own)
-    is_whole = has_end or cut_off is None or cut_off.page not in (None, 0, number)
-    return drawn(work, own, globals_of(work, shared), None if is_whole else cut_off)
+    return drawn(work, own, globals_of(work, shared), None if has_end else cut_off)
 
 
 def embedded_page(shared, stream, work=None):

@@ -144,20 +144,15 @@ module _ (reading : Reading) where
       cut_off = file_cut_off reading bytes;
     })
 
--- A segment at which the list of segments ends early may belong to a page if its page is that one, none, or not known.
-abbrev pub may_belong : ℕ → Option ℕ → Bool
-may_belong number None = true
-may_belong number (Some n) = n == 0 || n == number
-
 -- The cut-off that a page has from its file (our own rule). A page whose end is there lacks nothing. In random access
 -- the data of all pages comes last, so each page may lack some.
-abbrev pub may_lack : FileOrganization → PageInFile → CutOff → Bool
-may_lack RandomAccess page c = true
-may_lack Sequential page c = ends_of page.segments == 0 && may_belong page.initial_page.number c.page_association
+abbrev pub may_lack : FileOrganization → PageInFile → Bool
+may_lack RandomAccess page = true
+may_lack Sequential page = ends_of page.segments == 0
 
 abbrev pub cut_off_of : FileOrganization → PageInFile → Option CutOff → Option CutOff
 cut_off_of organization page None = None
-cut_off_of organization page (Some c) = if may_lack organization page c then Some c else None
+cut_off_of organization page (Some c) = if may_lack organization page then Some c else None
 
 abbrev pub page_in : ReadFile → PageInFile → ReadPage
 page_in book page = record {

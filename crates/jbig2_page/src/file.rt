@@ -4,7 +4,7 @@ ghost use Rattle.jbig2_base.specs.Results.{Returns, Gives};
 ghost use Rattle.jbig2_framing.specs.CutOff.{file_cut_off};
 ghost use Rattle.jbig2_framing.specs.inner.SegmentViews.{file_view, header_view, segment_views};
 ghost use Rattle.jbig2_page.specs.inner.ByPages.{pages_view};
-ghost use Rattle.jbig2_page.specs.Files.{needs_page, lacks_page, association_check, cut_off_of, is_end_of_page, ends_of, may_belong, may_lack, page_in_file, pages_in_file, left_out_of, miscounts, book_at, segments_at, shared_by};
+ghost use Rattle.jbig2_page.specs.Files.{needs_page, lacks_page, association_check, cut_off_of, is_end_of_page, ends_of, may_lack, page_in_file, pages_in_file, left_out_of, miscounts, book_at, segments_at, shared_by};
 ghost use Rattle.jbig2_page.specs.Returned.{IsReturned};
 ghost use Rattle.jbig2_page.specs.inner.PageViews.{kept_names};
 ghost use Rattle.jbig2_page.specs.Causes.{BreaksBook, IsFromInput};
@@ -87,12 +87,10 @@ impl<'a, A: Allocator> Model for FileContent<'a, A> {
 
 impl<'a, A: Allocator> FilePage<'a, A> {
     /// Whether the page may lack something of the segment at which the file's list of segments ends early.
-    fn may_lack(&self, organization: FileOrganization, cut_off: &CutOff) -> bool
-        ensures { result ≡ may_lack organization self.now cut_off.now }
+    fn may_lack(&self, organization: FileOrganization) -> bool
+        ensures { result ≡ may_lack organization self.now }
     {
-        matches!(organization, FileOrganization::RandomAccess)
-            || count_ends(&self.segments) == 0
-                && may_belong(self.initial_page.number, cut_off.page_association)
+        matches!(organization, FileOrganization::RandomAccess) || count_ends(&self.segments) == 0
     }
 
     /// The cut-off that the page has from its file.
@@ -106,7 +104,7 @@ impl<'a, A: Allocator> FilePage<'a, A> {
         match cut_off {
             None => None,
             Some(cut_off) => {
-                if self.may_lack(organization, cut_off) {
+                if self.may_lack(organization) {
                     Some(cut_off.duplicate())
                 } else {
                     None
@@ -132,16 +130,6 @@ impl<'a, A: Allocator> FilePage<'a, A> {
         } }
     {
         PageContent::of_file(reading, self.initial_page, &self.segments, globals, cut_off)
-    }
-}
-
-/// Whether a segment of this association may belong to the page with this number.
-fn may_belong(number: u32, association: Option<u32>) -> bool
-    ensures { result ≡ may_belong number association }
-{
-    match association {
-        None => true,
-        Some(page) => page == 0 || page == number,
     }
 }
 
