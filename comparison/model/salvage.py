@@ -11,10 +11,9 @@ from .page import Drawing, Names, file_header, page_size, segment_header, segmen
 
 @dataclasses.dataclass
 class CutOff:
-    """The segment at which a list ends early: its number and its page, as far as they are there, and its fault."""
+    """The segment at which a list ends early: its number, as far as it is there, and its fault."""
 
     number: object
-    page: object
     fault: Fault
 
 
@@ -31,14 +30,6 @@ def is_drawn_in_part(segment):
     return segment.kind in REGIONS and segment.kind not in INTERMEDIATE
 
 
-def association(data):
-    """The page of a header that may be cut off, or None: without the length, which is its last field."""
-    try:
-        return segment_header(Reader(data + bytes(4)), False).page
-    except Refused:
-        return None
-
-
 def salvaged_list(data):
     """The segments of a sequential list in order, with what is there of the last one, and the cut-off or None."""
     segments, cut_off, reader = [], None, Reader(data)
@@ -49,7 +40,7 @@ def salvaged_list(data):
             segments.append(with_data(reader, header))
         except Refused as refused:
             number = int.from_bytes(here[:4], "big") if len(here) >= 4 else None
-            cut_off = CutOff(number, association(here), refused.fault)
+            cut_off = CutOff(number, refused.fault)
             if header is not None and header.length is not None:
                 part = dataclasses.replace(header, data=reader.rest(), is_cut=True)
                 segments += [part] * is_drawn_in_part(part)
@@ -121,7 +112,7 @@ def page_of_file(data, index, work=None):
     shared, pages = segments_of_pages(segments)
     pages = {number: own for number, own in pages.items() if is_drawn(own)}
     refuse_if(index >= len(pages), Fault.NO_SUCH_PAGE)
-    number, own = list(pages.items())[index]
+    own = list(pages.values())[index]
     has_end = any(segment.kind == END_OF_PAGE for segment in own)
     return drawn(work, own, globals_of(work, shared), None if has_end else cut_off)
 
