@@ -41,8 +41,8 @@ use Rattle.jbig2_text.specs.TextHeader.{TextHeader, text_header_at}
 use Rattle.jbig2_text.specs.TextRegion.{text_decoded}
 use Rattle.jbig2_page.specs.Files.{PageInFile, ReadFile, association_check, book_at, by_pages, ends_of, before_pages, pages_in_file, page_in_file, cut_off_of, lacks_page, left_out_of, miscounts, of_page, page_in, page_of, part_of_file, segments_at, shared_by, with_part}
 use Rattle.jbig2_page.specs.Lenient.{LenientReadingAgrees, ReadingsAgree, SalvageAgrees}
-use Rattle.jbig2_page.specs.Names.{Names, ReferredValues, KeptGlobals, nothing_shared, dictionary_lacks, or_shared_without, extension, first_kept, kept_by, kept_of, no_names, pattern_dictionary_at, referred_by, symbol_dictionary_at, with_code, with_dictionary, with_number, with_numbers, with_patterns, with_symbols, with_table, globals_at, shared_from}
-use Rattle.jbig2_page.specs.Page.{Drawing, ReadPage, beginning_of, drawing_of_page, page_from, page_segments, part_of_list, ends_page, immediate, intermediate, lacks_referred, with_names, or_left_out, or_passed_over, or_told, blank_page, region_at, regions_height, segment_by, segment_on, segments_drawn, with_cut_off, with_drawn_region, known_height}
+use Rattle.jbig2_page.specs.Names.{Names, ReferredValues, KeptGlobals, nothing_shared, fault_of, or_shared_without, extension, first_kept, kept_by, kept_of, no_names, pattern_dictionary_at, referred_by, symbol_dictionary_at, with_code, with_dictionary, with_number, with_numbers, with_patterns, with_symbols, with_table, globals_at, shared_from}
+use Rattle.jbig2_page.specs.Page.{Drawing, ReadPage, beginning_of, drawing_of_page, page_from, page_segments, part_of_list, ends_page, immediate, intermediate, strict_fault, with_names, or_left_out, or_passed_over, or_told, blank_page, region_at, regions_height, segment_by, segment_on, segments_drawn, with_cut_off, with_drawn_region, known_height}
 use Rattle.jbig2_page.specs.Regions.{generic_at, halftone_at, is_partial, with_whole_instances, with_whole_rows, patterns_for, referred_region, refinement_at, text_at}
 use Rattle.jbig2_page.specs.declared.kept.Kept.{Kept}
 use Rattle.jbig2_page.specs.declared.region.RegionKind.{RegionKind}
@@ -105,32 +105,40 @@ kept-same shared types.SymbolDictionary h bytes own = with-symbols-same shared (
 kept-same shared types.PatternDictionary h bytes own = with-patterns-same (of_type types.PatternDictionary h bytes) own
 kept-same shared types.Tables h bytes own = same-itself (with_code (of_type types.Tables h bytes) own)
 kept-same shared types.Extension h bytes own = same-next (extension true bytes) (extension false bytes) (λ known. Ok own) (λ known. Ok own) (extension-same bytes) (λ known. refl)
+kept-same shared types.Reserved h bytes own = tt
 kept-same shared _ h bytes own = refl
 
-without-same : (lacks : Bool) (number : ℕ) (shared : KeptGlobals) (r s : Result Names DecodeError) → Same r s → Same (or_shared_without Strict lacks number shared r) (or_shared_without Lenient lacks number shared s)
-without-same lacks number shared (Ok names) s same = ap (λ (t : Result Names DecodeError). or_shared_without Lenient lacks number shared t) same
-without-same lacks number shared (Err e) s same = tt
+same-ok-of : {A : Type 0} (r s : Result A DecodeError) (x : A) → Same r s → r ≡ Ok x → s ≡ Ok x
+same-ok-of {A = A} r s x same is = subst (λ (t : Result A DecodeError). Same t s) is same
+
+pub kept-any : (strict : Bool) (shared : Names) (p : SegmentView) (own names : Names) → kept_by true shared p own ≡ Ok names → kept_by strict shared p own ≡ Ok names
+kept-any true shared p own names is = is
+kept-any false shared p own names is = same-ok-of (kept_by true shared p own) (kept_by false shared p own) names (kept-same shared p.header.segment_type p.header p.bytes own) is
+
+without-same : (fault : Option DecodeError) (number : ℕ) (shared : KeptGlobals) (r s : Result Names DecodeError) → Same r s → Same (or_shared_without Strict fault number shared r) (or_shared_without Lenient fault number shared s)
+without-same fault number shared (Ok names) s same = ap (λ (t : Result Names DecodeError). or_shared_without Lenient fault number shared t) same
+without-same fault number shared (Err e) s same = tt
 
 named-same : (ps : List SegmentView) (shared : KeptGlobals) → Same (shared_from Strict ps shared) (shared_from Lenient ps shared)
 named-same [] shared = refl
 named-same (p ∷ ps) shared =
     let kept : Result Names DecodeError = kept_by true no_names p shared.names in
     let other : Result Names DecodeError = kept_by false no_names p shared.names in
-    let lacks : Bool = dictionary_lacks shared.names no_names p in
-    same-next (or_shared_without Strict lacks p.header.segment_number shared kept) (or_shared_without Lenient lacks p.header.segment_number shared other) _ _
-    (without-same lacks p.header.segment_number shared kept other (kept-same no_names p.header.segment_type p.header p.bytes shared.names)) (λ more. named-same ps more)
+    let fault : Option DecodeError = fault_of (kept_by true no_names p shared.names) in
+    same-next (or_shared_without Strict fault p.header.segment_number shared kept) (or_shared_without Lenient fault p.header.segment_number shared other) _ _
+    (without-same fault p.header.segment_number shared kept other (kept-same no_names p.header.segment_type p.header p.bytes shared.names)) (λ more. named-same ps more)
 
 -- salvage names what lenient reading does
-without-salvaged : (lacks : Bool) (number : ℕ) (shared : KeptGlobals) (r : Result Names DecodeError) → Same (or_shared_without Lenient lacks number shared r) (or_shared_without Salvage lacks number shared r)
-without-salvaged lacks number shared (Ok names) = refl
-without-salvaged lacks number shared (Err e) = tt
+without-salvaged : (fault : Option DecodeError) (number : ℕ) (shared : KeptGlobals) (r : Result Names DecodeError) → Same (or_shared_without Lenient fault number shared r) (or_shared_without Salvage fault number shared r)
+without-salvaged fault number shared (Ok names) = refl
+without-salvaged fault number shared (Err e) = tt
 
 named-salvaged : (ps : List SegmentView) (shared : KeptGlobals) → Same (shared_from Lenient ps shared) (shared_from Salvage ps shared)
 named-salvaged [] shared = refl
 named-salvaged (p ∷ ps) shared =
     let kept : Result Names DecodeError = kept_by false no_names p shared.names in
-    let lacks : Bool = dictionary_lacks shared.names no_names p in
-    same-next (or_shared_without Lenient lacks p.header.segment_number shared kept) (or_shared_without Salvage lacks p.header.segment_number shared kept) _ _ (without-salvaged lacks p.header.segment_number shared kept) (λ more. named-salvaged ps more)
+    let fault : Option DecodeError = fault_of (kept_by true no_names p shared.names) in
+    same-next (or_shared_without Lenient fault p.header.segment_number shared kept) (or_shared_without Salvage fault p.header.segment_number shared kept) _ _ (without-salvaged fault p.header.segment_number shared kept) (λ more. named-salvaged ps more)
 
 -- ---- regions
 -- whole instances don't depend on the reading
@@ -223,20 +231,27 @@ typed-same globals types.ImmediateGenericRefinementRegion h bytes d = immediate-
 typed-same globals types.ImmediateLosslessGenericRefinementRegion h bytes d = immediate-same globals kinds.GenericRefinement (of_type types.ImmediateLosslessGenericRefinementRegion h bytes) d
 typed-same globals kind h bytes d = keeping-same globals kind h bytes d
 
+-- what strict reading draws, every reading draws
+pub segment-any : (strict : Bool) (globals : Names) (p : SegmentView) (d e : Drawing) → segment_by true globals p d ≡ Ok e → segment_by strict globals p d ≡ Ok e
+segment-any true globals p d e is = is
+segment-any false globals p d e is = same-ok-of (segment_by true globals p d) (segment_by false globals p d) e (typed-same globals p.header.segment_type p.header p.bytes d) is
+
 left-same : (p : SegmentView) (d : Drawing) (r s : Result Drawing DecodeError) → Same r s → Same (or_left_out Strict p d r) (or_left_out Lenient p d s)
 left-same p d (Ok e) s same = ap (λ (t : Result Drawing DecodeError). or_left_out Lenient p d t) same
 left-same p d (Err e) s same = tt
 
-told-same : (lacks : Bool) (number : ℕ) (d : Drawing) (r s : Result Drawing DecodeError) → Same r s → Same (or_told lacks number d r) (or_told lacks number d s)
-told-same lacks number d (Ok e) s same = ap (λ (t : Result Drawing DecodeError). or_told lacks number d t) same
-told-same lacks number d (Err e) s same = tt
+told-same : (fault : Option DecodeError) (number : ℕ) (d : Drawing) (r s : Result Drawing DecodeError) → Same r s → Same (or_told fault number d r) (or_told fault number d s)
+told-same None number d r s same = same
+told-same (Some fault) number d (Ok e) s same =
+    subst (λ (t : Result Drawing DecodeError). Same (or_told (Some fault) number d (Ok e)) (or_told (Some fault) number d t)) (sym same) (same-itself (or_told (Some fault) number d (Ok e)))
+told-same (Some fault) number d (Err e) s same = tt
 
 drawn-same : (globals : Names) (ps : List SegmentView) (d : Drawing) → Same (segments_drawn Strict globals ps d) (segments_drawn Lenient globals ps d)
 drawn-same globals [] d = refl
 drawn-same globals (p ∷ ps) d =
     same-if (ends_page p.header.segment_type) (Ok d) (Ok d) _ _ refl
     (same-next (segment_on Strict globals p d) (segment_on Lenient globals p d) _ _
-    (told-same (lacks_referred globals p d) p.header.segment_number d (or_left_out Strict p d (segment_by true globals p d)) (or_left_out Lenient p d (segment_by false globals p d))
+    (told-same (strict_fault globals p d) p.header.segment_number d (or_left_out Strict p d (segment_by true globals p d)) (or_left_out Lenient p d (segment_by false globals p d))
     (left-same p d (segment_by true globals p d) (segment_by false globals p d) (typed-same globals p.header.segment_type p.header p.bytes d))) (λ e. drawn-same globals ps e))
 
 -- salvage draws what lenient reading does
@@ -249,7 +264,7 @@ drawn-salvaged globals [] d = refl
 drawn-salvaged globals (p ∷ ps) d =
     same-if (ends_page p.header.segment_type) (Ok d) (Ok d) _ _ refl
     (same-next (segment_on Lenient globals p d) (segment_on Salvage globals p d) _ _
-    (told-same (lacks_referred globals p d) p.header.segment_number d (or_left_out Lenient p d (segment_by false globals p d)) (or_left_out Salvage p d (segment_by false globals p d)) (left-salvaged p d (segment_by false globals p d))) (λ e. drawn-salvaged globals ps e))
+    (told-same (strict_fault globals p d) p.header.segment_number d (or_left_out Lenient p d (segment_by false globals p d)) (or_left_out Salvage p d (segment_by false globals p d)) (left-salvaged p d (segment_by false globals p d))) (λ e. drawn-salvaged globals ps e))
 
 -- ---- what a page begins as
 beginning-same : (ps : List SegmentView) → Same (beginning_of Strict ps) (beginning_of Lenient ps)

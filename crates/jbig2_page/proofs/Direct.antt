@@ -1,7 +1,7 @@
 -- A region over a whole page of one colour.
 use Rattle.std.proofs.Common.{◌≡◌, ℕ, List, ◌<◌, ◌≤◌, Bool, true, false, ◌&&◌, ◌||◌, if◌then◌else◌, nat_lt, cond, ℤ, ◌⊎◌, inl, inr, subst, Result, Ok, Err, refl, sym, ◌∙◌, ap, arith}
 use Rattle.std.specs.Int.{w32, cast_signed}
-use Rattle.std.specs.Prelude.{IfErr, pos, ◌-ℤ◌}
+use Rattle.std.specs.Prelude.{pos, ◌-ℤ◌}
 use Rattle.std.proofs.lemmas.Bool.{cond-true, and_from, le-ltb, lt-ltb, ltb-false}
 use Rattle.std.proofs.lemmas.Int.{ints}
 use Rattle.jbig2_base.specs.Results.{Gives, ◌>>=◌, refuse_if}
@@ -40,7 +40,7 @@ use Rattle.jbig2_page.specs.declared.kept.Kept.{Kept}
 use Rattle.jbig2_page.specs.inner.KeptViews.{kept_values}
 use Rattle.jbig2_page.specs.inner.PageViews.{near_area}
 use Rattle.jbig2_page.specs.inner.ParsedRegions.{placed_region, drawing_of, region_grid, info_of, initial_of}
-use Rattle.jbig2_page.specs.inner.WholePages.{IsBlankPage, IsWhole, after_immediate}
+use Rattle.jbig2_page.specs.inner.WholePages.{IsBlankPage, IsWhole}
 use Rattle.jbig2_base.proofs.Causes.{same-ok}
 use Rattle.jbig2_page.specs.Page.{passing}
 use Rattle.jbig2_page.proofs.PageArea.{area-near}
@@ -197,11 +197,6 @@ led {A = A} r strict globals kind is_intermediate p page regions items names unt
     ∙ leads
 
 -- a page that is as it was
-pub left-as-was : (inside d : Drawing) (page : Grid) (result : Result (Unit {0}) DecodeError) → inside ≡ d → IfErr result (λ e. (e ≡ OutOfMemory) ⊎ (page ≡ inside.grid)) → IfErr result (λ e. (e ≡ OutOfMemory) ⊎ (after_immediate (record inside { grid = page }) ≡ after_immediate d))
-left-as-was inside d page (Ok u) view left = left
-left-as-was inside d page (Err e) view (inl memory) = inl memory
-left-as-was inside d page (Err e) view (inr same) = inr (ap (λ (g : Grid). after_immediate (record inside { grid = g })) same ∙ ap after_immediate view)
-
 -- an intermediate region is kept
 pub stored : (number : ℕ) (inside d : Drawing) (meant : Result PlacedRegion DecodeError) (region : PlacedRegion) → inside ≡ d → meant ≡ Ok region → Ok (with_region number inside region) ≡ (meant >>= λ r. Ok (with_region number d r))
 stored number inside d meant region view is =
@@ -214,7 +209,7 @@ drawn-either strict p d d' meant is = ap (λ (r : Result Drawing DecodeError). o
 
 -- a region that failed is passed over
 pub passed : (strict : Bool) (p : SegmentView) (d d1 d' : Drawing) (meant : Result Drawing DecodeError) (e : DecodeError) (result : Result (Unit {0}) DecodeError)
-    → (e ≡ OutOfMemory) ⊎ (meant ≡ Err e) → (e ≡ OutOfMemory) ⊎ (after_immediate d1 ≡ after_immediate d) → (e ≡ OutOfMemory → result ≡ Err OutOfMemory) → Gives (λ _. d') result (or_passed_over strict p d1 (Err e)) → Gives (λ _. d') result (or_passed_over strict p d meant)
+    → (e ≡ OutOfMemory) ⊎ (meant ≡ Err e) → (e ≡ OutOfMemory) ⊎ (d1 ≡ d) → (e ≡ OutOfMemory → result ≡ Err OutOfMemory) → Gives (λ _. d') result (or_passed_over strict p d1 (Err e)) → Gives (λ _. d') result (or_passed_over strict p d meant)
 passed strict p d d1 d' meant e result (inl memory) left refused gives = subst (λ (a : Result (Unit {0}) DecodeError). Gives (λ _. d') a (or_passed_over strict p d meant)) (sym (refused memory)) (inl refl)
 passed strict p d d1 d' meant e result (inr failed) (inl memory) refused gives = subst (λ (a : Result (Unit {0}) DecodeError). Gives (λ _. d') a (or_passed_over strict p d meant)) (sym (refused memory)) (inl refl)
 passed strict p d d1 d' meant e result (inr failed) (inr same) refused gives =

@@ -1,7 +1,7 @@
 -- What each segment of a page does to what was drawn before it.
-use Rattle.std.proofs.Common.{◌≡◌, ℕ, ◌+◌, ◌≤◌, ◌&&◌, eqb, Bool, true, false, List, [], ◌∷◌, Result, Ok, Err, refl, sym, subst, arith}
-use Rattle.std.specs.Prelude.{IfOk, Some, if◌then◌else◌}
-use Rattle.std.proofs.lemmas.Bool.{and_parts, cond_both, eqb-true}
+use Rattle.std.proofs.Common.{◌≡◌, ℕ, ◌+◌, ◌≤◌, eqb, Bool, true, false, List, [], ◌∷◌, Result, Ok, Err, ap, refl, sym, subst, arith}
+use Rattle.std.specs.Prelude.{IfOk, Option, Some, None, if◌then◌else◌}
+use Rattle.std.proofs.lemmas.Bool.{cond_both, eqb-true}
 use Rattle.jbig2_base.specs.Results.{◌>>=◌}
 use Rattle.jbig2_framing.specs.Reading.{is_salvaged, is_strict}
 use Rattle.jbig2_framing.specs.Segment.{SegmentView}
@@ -9,10 +9,9 @@ use Rattle.jbig2_base.specs.declared.error.DecodeError.{DecodeError}
 use Rattle.jbig2_framing.specs.declared.reading.Reading.{Reading}
 use Rattle.jbig2_framing.specs.declared.reading.Reading.TheVariants.{Strict, Lenient, Salvage}
 use Rattle.jbig2_region.specs.RegionInfo.{PlacedRegion}
-use Rattle.jbig2_page.specs.Names.{Names, kept_by, with_lack, with_passed}
-use Rattle.jbig2_page.specs.Page.{Drawing, segments_drawn, ends_page, immediate, intermediate, lacks_referred, with_names, or_left_out, or_passed_over, or_told, passing, region_at, segment_by, segment_on, with_drawn_region, with_region}
+use Rattle.jbig2_page.specs.Names.{Names, fault_of, kept_by, with_passed}
+use Rattle.jbig2_page.specs.Page.{Drawing, segments_drawn, ends_page, immediate, intermediate, strict_fault, with_names, or_left_out, or_passed_over, or_told, passing, region_at, segment_by, segment_on, with_drawn_region, with_region}
 use Rattle.jbig2_page.specs.Regions.{is_partial}
-use Rattle.jbig2_page.proofs.Lacking.{never-lacks}
 use Rattle.jbig2_page.proofs.SegmentTypes.{of-segment}
 
 -- R holds between what was drawn before a segment and what is drawn after it, whatever the segment is.
@@ -21,7 +20,7 @@ pub record StepsBy (strict : Bool) (R : Drawing → Drawing → Type 0) : Type 0
   pub stores : (d : Drawing) (number : ℕ) (region : PlacedRegion) → R d (with_region number d region)
   pub shows : (d : Drawing) (region : PlacedRegion) → IfOk (with_drawn_region d (Ok region)) (R d)
   pub passes : strict ≡ false → (d : Drawing) (p : SegmentView) (e : DecodeError) → IfOk (or_passed_over false p d (Err e)) (R d)
-  pub tells : strict ≡ false → (d e : Drawing) (told : Bool) (number : ℕ) → (told ≡ true → e.passed_over.count ≡ d.passed_over.count) → R d e → R d (record e { passed_over = with_lack told number e.passed_over })
+  pub tells : strict ≡ false → (d e : Drawing) (number : ℕ) (fault : DecodeError) → e.passed_over.count ≡ d.passed_over.count → R d e → R d (record e { passed_over = with_passed (Some number) fault e.passed_over })
 
 step-shown : (strict : Bool) (R : Drawing → Drawing → Type 0) → StepsBy strict R → (p : SegmentView) (d : Drawing) (r : Result PlacedRegion DecodeError) → IfOk (or_passed_over strict p d (with_drawn_region d r)) (R d)
 step-shown strict R by p d (Ok region) = by.shows d region
@@ -62,19 +61,32 @@ unleft : (p : SegmentView) (d e : Drawing) (r : Result Drawing DecodeError) → 
 unleft p d e (Ok f) is = is
 unleft p d e (Err error) is = absurd (cc)
 
-is-told : (lacks : Bool) (e d : ℕ) → (lacks && eqb e d) ≡ true → e ≡ d
-is-told lacks e d told = eqb-true e d (and_parts lacks (eqb e d) told).1
+-- what strict reading doesn't refuse has no fault
+never-faulty : (globals : Names) (p : SegmentView) (d e : Drawing) → segment_by true globals p d ≡ Ok e → strict_fault globals p d ≡ None
+never-faulty globals p d e is = by (is_partial p)
+  where
+    by : (partial : Bool) → (if partial then None else fault_of (segment_by true globals p d)) ≡ None
+    by true = refl
+    by false = ap (λ (r : Result Drawing DecodeError). fault_of r) is
+
+told-lenient : (strict : Bool) (R : Drawing → Drawing → Type 0) → StepsBy strict R → strict ≡ false → (fault : Option DecodeError) (number : ℕ) (d : Drawing) (r : Result Drawing DecodeError) → IfOk r (R d) → IfOk (or_told fault number d r) (R d)
+told-lenient strict R by lenient None number d r step = step
+told-lenient strict R by lenient (Some fault) number d (Ok e) step =
+    cond_both (eqb e.passed_over.count d.passed_over.count) (Ok (record e { passed_over = with_passed (Some number) fault e.passed_over })) (Ok e) (λ (r : Result Drawing DecodeError). IfOk r (R d))
+    (λ same. by.tells lenient d e number fault (eqb-true e.passed_over.count d.passed_over.count same) step) (λ other. step)
+told-lenient strict R by lenient (Some fault) number d (Err e) step = tt
 
 step-told : (reading : Reading) (R : Drawing → Drawing → Type 0) → StepsBy (is_strict reading) R → (globals : Names) (p : SegmentView) (d : Drawing) (r : Result Drawing DecodeError) → or_left_out reading p d (segment_by (is_strict reading) globals p d) ≡ r → IfOk r (R d)
-    → IfOk (or_told (lacks_referred globals p d) p.header.segment_number d r) (R d)
+    → IfOk (or_told (strict_fault globals p d) p.header.segment_number d r) (R d)
 step-told Strict R by globals p d (Ok e) is step =
-    subst (λ (lacks : Bool). R d (record e { passed_over = with_lack (lacks && eqb e.passed_over.count d.passed_over.count) p.header.segment_number e.passed_over }))
-    (sym (never-lacks globals p d e (unleft p d e (segment_by true globals p d) is))) step
-step-told Lenient R by globals p d (Ok e) is step =
-    by.tells refl d e (lacks_referred globals p d && eqb e.passed_over.count d.passed_over.count) p.header.segment_number (is-told (lacks_referred globals p d) e.passed_over.count d.passed_over.count) step
-step-told Salvage R by globals p d (Ok e) is step =
-    by.tells refl d e (lacks_referred globals p d && eqb e.passed_over.count d.passed_over.count) p.header.segment_number (is-told (lacks_referred globals p d) e.passed_over.count d.passed_over.count) step
-step-told reading R by globals p d (Err e) is step = tt
+    subst (λ (fault : Option DecodeError). IfOk (or_told fault p.header.segment_number d (Ok e)) (R d)) (sym (never-faulty globals p d e (unleft p d e (segment_by true globals p d) is))) step
+step-told Strict R by globals p d (Err e) is step = refused (strict_fault globals p d)
+  where
+    refused : (fault : Option DecodeError) → IfOk (or_told fault p.header.segment_number d (Err e)) (R d)
+    refused None = tt
+    refused (Some fault) = tt
+step-told Lenient R by globals p d r is step = told-lenient false R by refl (strict_fault globals p d) p.header.segment_number d r step
+step-told Salvage R by globals p d r is step = told-lenient false R by refl (strict_fault globals p d) p.header.segment_number d r step
 
 pub segment-step : (reading : Reading) (R : Drawing → Drawing → Type 0) → StepsBy (is_strict reading) R → (globals : Names) (p : SegmentView) (d : Drawing) → IfOk (segment_on reading globals p d) (R d)
 segment-step reading R by globals p d =
@@ -106,14 +118,10 @@ counts-on reading globals p d = segment-step reading CountsOn
       stores = λ d number region. omega arith;
       shows = λ d region. omega arith;
       passes = λ lenient d q e. count-passed (is_partial q) d q e;
-      tells = λ lenient d e told number same step. count-told d e told number same step;
+      tells = λ lenient d e number fault same step. omega (arith, same);
     })
     globals p d
   where
     count-passed : (partial : Bool) (d : Drawing) (q : SegmentView) (e : DecodeError) → (if partial then d.passed_over else with_passed (Some q.header.segment_number) e d.passed_over).count ≤ d.passed_over.count + 1
     count-passed true d q e = omega arith
     count-passed false d q e = omega arith
-
-    count-told : (d e : Drawing) (told : Bool) (number : ℕ) → (told ≡ true → e.passed_over.count ≡ d.passed_over.count) → CountsOn d e → CountsOn d (record e { passed_over = with_lack told number e.passed_over })
-    count-told d e true number same step = omega (arith, same refl)
-    count-told d e false number same step = step

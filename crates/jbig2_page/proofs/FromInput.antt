@@ -1,5 +1,5 @@
 -- Law: no definition returns an error that bytes cannot bring about: that of files, of pages and of what they draw.
-use Rattle.std.proofs.Common.{ℕ, Bool, true, false, List, [], ◌∷◌, length, Option, Some, None, Result, Ok, Err}
+use Rattle.std.proofs.Common.{ℕ, eqb, Bool, true, false, List, [], ◌∷◌, length, Option, Some, None, Result, Ok, Err}
 use Rattle.std.specs.Prelude.{IfOk, ◌&&◌}
 use Rattle.std.specs.Option.{option_map_or}
 use Rattle.jbig2_base.specs.Results.{◌>>=◌, refuse_if, some_or}
@@ -25,10 +25,10 @@ use Rattle.jbig2_region.proofs.FromInput.{from_input-generic, from_input-generic
 use Rattle.jbig2_symbol.specs.Symbols.{Symbols}
 use Rattle.jbig2_symbol.proofs.FromInput.{from_input-symbol_header, from_input-symbols_decoded}
 use Rattle.jbig2_text.proofs.RegionsFromInput.{from_input-text, from_input-text_header}
-use Rattle.jbig2_page.specs.Names.{Names, ReferredValues, KeptGlobals, dictionary_lacks, extension, nothing_shared, or_shared_without, kept_by, no_names, pattern_dictionary_at, symbol_dictionary_at, with_code, with_dictionary, with_number, with_numbers, with_patterns, with_symbols, with_table, globals_at, shared_from}
+use Rattle.jbig2_page.specs.Names.{Names, ReferredValues, KeptGlobals, extension, fault_of, with_passed, nothing_shared, or_shared_without, kept_by, no_names, pattern_dictionary_at, symbol_dictionary_at, with_code, with_dictionary, with_number, with_numbers, with_patterns, with_symbols, with_table, globals_at, shared_from}
 use Rattle.jbig2_page.specs.Files.{PageInFile, ReadFile, association_check, book_at, by_pages, before_pages, pages_in_file, page_in_file, miscounts, of_page, shared_by, segments_at}
 use Rattle.jbig2_page.specs.Image.{first_page}
-use Rattle.jbig2_page.specs.Page.{Drawing, ReadPage, beginning_of, page_from, grid_of_page, immediate, intermediate, lacks_referred, with_names, or_left_out, or_passed_over, or_told, blank_page, drawing_of_page, region_at, segment_by, segment_on, segments_drawn, with_drawn_region, known_height}
+use Rattle.jbig2_page.specs.Page.{Drawing, ReadPage, beginning_of, page_from, grid_of_page, immediate, intermediate, strict_fault, with_names, or_left_out, or_passed_over, or_told, blank_page, drawing_of_page, region_at, segment_by, segment_on, segments_drawn, with_drawn_region, known_height}
 use Rattle.jbig2_page.specs.Regions.{generic_at, halftone_at, referred_region, refinement_at, text_at}
 use Rattle.jbig2_page.specs.declared.kept.Kept.{Kept}
 use Rattle.jbig2_page.specs.declared.region.RegionKind.{RegionKind}
@@ -127,23 +127,24 @@ from_input-kept_by strict shared types.SymbolDictionary h bytes own = from_input
 from_input-kept_by strict shared types.PatternDictionary h bytes own = from_input-with_patterns strict (of_type types.PatternDictionary h bytes) own
 from_input-kept_by strict shared types.Tables h bytes own = from_input-with_code (of_type types.Tables h bytes) own
 from_input-kept_by strict shared types.Extension h bytes own = from_input-next (extension strict bytes) _ (from_input-extension strict bytes) (λ known. tt)
+from_input-kept_by strict shared types.Reserved h bytes own = search (from_input-next, from_input-refusal)
 from_input-kept_by strict shared _ h bytes own = tt
 
 -- a segment that draws nothing
 pub from_input-kept : (strict : Bool) (shared : Names) (p : SegmentView) (own : Names) → FromInput (kept_by strict shared p own)
 from_input-kept strict shared p own = from_input-kept_by strict shared p.header.segment_type p.header p.bytes own
 
-from_input-shared-without : (reading : Reading) (lacks : Bool) (number : ℕ) (shared : KeptGlobals) (r : Result Names DecodeError) → FromInput r → FromInput (or_shared_without reading lacks number shared r)
-from_input-shared-without reading lacks number shared (Ok names) is = tt
-from_input-shared-without reading lacks number shared (Err e) is = from_input-if (is_salvaged reading e) _ (Err e) tt is
+from_input-shared-without : (reading : Reading) (fault : Option DecodeError) (number : ℕ) (shared : KeptGlobals) (r : Result Names DecodeError) → FromInput r → FromInput (or_shared_without reading fault number shared r)
+from_input-shared-without reading fault number shared (Ok names) is = tt
+from_input-shared-without reading fault number shared (Err e) is = from_input-if (is_salvaged reading e) _ (Err e) tt is
 
 pub from_input-named : (reading : Reading) (ps : List SegmentView) (shared : KeptGlobals) → FromInput (shared_from reading ps shared)
 from_input-named reading [] shared = tt
 from_input-named reading (p ∷ ps) shared =
     let kept : Result Names DecodeError = kept_by (is_strict reading) no_names p shared.names in
-    let lacks : Bool = dictionary_lacks shared.names no_names p in
-    from_input-next (or_shared_without reading lacks p.header.segment_number shared kept) _
-    (from_input-shared-without reading lacks p.header.segment_number shared kept (from_input-kept_by (is_strict reading) no_names p.header.segment_type p.header p.bytes shared.names)) (λ more. from_input-named reading ps more)
+    let fault : Option DecodeError = fault_of (kept_by true no_names p shared.names) in
+    from_input-next (or_shared_without reading fault p.header.segment_number shared kept) _
+    (from_input-shared-without reading fault p.header.segment_number shared kept (from_input-kept_by (is_strict reading) no_names p.header.segment_type p.header p.bytes shared.names)) (λ more. from_input-named reading ps more)
 
 pub from_input-globals : (reading : Reading) (bytes : List ℕ) → FromInput (globals_at reading bytes)
 unfolding globals_at
@@ -162,15 +163,16 @@ from_input-left_out : (reading : Reading) (p : SegmentView) (d : Drawing) (r : R
 from_input-left_out reading p d (Ok e) is = tt
 from_input-left_out reading p d (Err e) is = from_input-if (is_salvaged reading e) _ (Err e) tt is
 
-from_input-told : (lacks : Bool) (number : ℕ) (d : Drawing) (r : Result Drawing DecodeError) → FromInput r → FromInput (or_told lacks number d r)
-from_input-told lacks number d (Ok e) is = tt
-from_input-told lacks number d (Err e) is = is
+from_input-told : (fault : Option DecodeError) (number : ℕ) (d : Drawing) (r : Result Drawing DecodeError) → FromInput r → FromInput (or_told fault number d r)
+from_input-told None number d r is = is
+from_input-told (Some fault) number d (Ok e) is = from_input-if (eqb e.passed_over.count d.passed_over.count) (Ok (record e { passed_over = with_passed (Some number) fault e.passed_over })) (Ok e) tt tt
+from_input-told (Some fault) number d (Err e) is = is
 
 pub from_input-drawn : (reading : Reading) (globals : Names) (ps : List SegmentView) (d : Drawing) → FromInput (segments_drawn reading globals ps d)
 from_input-drawn reading globals [] d = tt
 from_input-drawn reading globals (p ∷ ps) d =
     from_input-if _ (Ok d) _ tt
-    (from_input-next (segment_on reading globals p d) _ (from_input-told (lacks_referred globals p d) p.header.segment_number d _ (from_input-left_out reading p d _ (from_input-segment_by (is_strict reading) globals p d))) (λ e. from_input-drawn reading globals ps e))
+    (from_input-next (segment_on reading globals p d) _ (from_input-told (strict_fault globals p d) p.header.segment_number d _ (from_input-left_out reading p d _ (from_input-segment_by (is_strict reading) globals p d))) (λ e. from_input-drawn reading globals ps e))
 
 -- ---- pages and files
 pub from_input-drawing : (page : ReadPage) → FromInput page.globals → FromInput (drawing_of_page page)

@@ -8,13 +8,13 @@ pub mod Books
 pub mod ByPages
 pub mod Causes
 pub mod Chunks
+mod Complete
 pub mod Direct
 pub mod DrawingSteps
 pub mod DrawnPages
 mod FileRows
 pub mod KeptLemmas
 mod LeftLemmas
-mod Lacking
 pub mod Order
 pub mod PackedBits
 mod PackedRows

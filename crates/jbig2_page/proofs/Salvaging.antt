@@ -1,5 +1,5 @@
 -- Salvage refuses little: neither globals, nor lists of segments, nor what a page draws.
-use Rattle.std.proofs.Common.{◌≡◌, ℕ, zero, suc, eqb, Bool, true, false, List, [], ◌∷◌, length, None, Result, Ok, Err, refl, arith}
+use Rattle.std.proofs.Common.{◌≡◌, ℕ, zero, suc, eqb, true, false, List, [], ◌∷◌, length, Option, Some, None, Result, Ok, Err, refl, arith}
 use Rattle.std.proofs.lemmas.Bool.{cond_both, le-ltb, ne_eqb}
 use Rattle.std.specs.Prelude.{IsTrue}
 use Rattle.std.specs.Result.{is_ok}
@@ -20,8 +20,8 @@ use Rattle.jbig2_base.proofs.FromInput.{FromInput, IsFromInput}
 use Rattle.jbig2_framing.proofs.FromInput.{from_input-header, from_input-segment, from_input-segment_data}
 use Rattle.jbig2_page.specs.Files.{PageInFile, association_check, book_at, by_pages, before_pages, pages_in_file, page_in_file, segments_at, shared_by}
 use Rattle.jbig2_page.specs.Lenient.{HasBeginning}
-use Rattle.jbig2_page.specs.Names.{Names, KeptGlobals, dictionary_lacks, globals_at, kept_by, shared_from, no_names, nothing_shared, or_shared_without}
-use Rattle.jbig2_page.specs.Page.{Drawing, IsSide, beginning_of, ends_page, lacks_referred, or_left_out, or_told, segment_by, segment_on, segments_drawn}
+use Rattle.jbig2_page.specs.Names.{Names, KeptGlobals, fault_of, globals_at, kept_by, shared_from, no_names, nothing_shared, or_shared_without, with_passed}
+use Rattle.jbig2_page.specs.Page.{Drawing, IsSide, beginning_of, ends_page, strict_fault, or_left_out, or_told, segment_by, segment_on, segments_drawn}
 use Rattle.jbig2_page.proofs.FromInput.{from_input-filed, from_input-kept, from_input-segment_by}
 
 -- each error that bytes can bring about is left out
@@ -81,16 +81,16 @@ fine-by Sequential bytes = fine-sequential bytes
 fine-by RandomAccess bytes = fine-next (headers_in (length bytes) Salvage bytes) _ (fine-headers (length bytes) bytes) (λ hs. fine-gathered hs.0 hs.1)
 
 -- ---- globals
-fine-without : (lacks : Bool) (number : ℕ) (shared : KeptGlobals) (r : Result Names DecodeError) → FromInput r → IsFine (or_shared_without Salvage lacks number shared r)
-fine-without lacks number shared (Ok names) is = refl
-fine-without lacks number shared (Err e) is = rw (left-out e is) refl
+fine-without : (fault : Option DecodeError) (number : ℕ) (shared : KeptGlobals) (r : Result Names DecodeError) → FromInput r → IsFine (or_shared_without Salvage fault number shared r)
+fine-without fault number shared (Ok names) is = refl
+fine-without fault number shared (Err e) is = rw (left-out e is) refl
 
 pub fine-named : (ps : List SegmentView) (shared : KeptGlobals) → IsFine (shared_from Salvage ps shared)
 fine-named [] shared = refl
 fine-named (p ∷ ps) shared =
     let kept : Result Names DecodeError = kept_by false no_names p shared.names in
-    let lacks : Bool = dictionary_lacks shared.names no_names p in
-    fine-next (or_shared_without Salvage lacks p.header.segment_number shared kept) _ (fine-without lacks p.header.segment_number shared kept (from_input-kept false no_names p shared.names)) (λ more. fine-named ps more)
+    let fault : Option DecodeError = fault_of (kept_by true no_names p shared.names) in
+    fine-next (or_shared_without Salvage fault p.header.segment_number shared kept) _ (fine-without fault p.header.segment_number shared kept (from_input-kept false no_names p shared.names)) (λ more. fine-named ps more)
 
 pub fine-globals : (bytes : List ℕ) → IsFine (globals_at Salvage bytes)
 unfolding globals_at
@@ -102,15 +102,16 @@ fine-left : (p : SegmentView) (d : Drawing) (r : Result Drawing DecodeError) →
 fine-left p d (Ok e) is = refl
 fine-left p d (Err e) is = rw (left-out e is) refl
 
-fine-told : (lacks : Bool) (number : ℕ) (d : Drawing) (r : Result Drawing DecodeError) → IsFine r → IsFine (or_told lacks number d r)
-fine-told lacks number d (Ok e) is = refl
-fine-told lacks number d (Err e) is = is
+fine-told : (fault : Option DecodeError) (number : ℕ) (d : Drawing) (r : Result Drawing DecodeError) → IsFine r → IsFine (or_told fault number d r)
+fine-told None number d r is = is
+fine-told (Some fault) number d (Ok e) is = cond_both (eqb e.passed_over.count d.passed_over.count) (Ok (record e { passed_over = with_passed (Some number) fault e.passed_over })) (Ok e) (λ (r : Result Drawing DecodeError). IsFine r) (λ same. refl) (λ other. refl)
+fine-told (Some fault) number d (Err e) is = is
 
 pub fine-drawn : (globals : Names) (ps : List SegmentView) (d : Drawing) → IsFine (segments_drawn Salvage globals ps d)
 fine-drawn globals [] d = refl
 fine-drawn globals (p ∷ ps) d =
     cond_both (ends_page p.header.segment_type) (Ok d) (segment_on Salvage globals p d >>= λ e. segments_drawn Salvage globals ps e) (λ (r : Result Drawing DecodeError). IsFine r) (λ ends. refl)
-    (λ goes. fine-next (segment_on Salvage globals p d) _ (fine-told (lacks_referred globals p d) p.header.segment_number d (or_left_out Salvage p d (segment_by false globals p d)) (fine-left p d (segment_by false globals p d) (from_input-segment_by false globals p d))) (λ e. fine-drawn globals ps e))
+    (λ goes. fine-next (segment_on Salvage globals p d) _ (fine-told (strict_fault globals p d) p.header.segment_number d (or_left_out Salvage p d (segment_by false globals p d)) (fine-left p d (segment_by false globals p d) (from_input-segment_by false globals p d))) (λ e. fine-drawn globals ps e))
 
 -- ---- files
 fine-filed : (all : List (List SegmentView)) → IsFine (pages_in_file Salvage all)

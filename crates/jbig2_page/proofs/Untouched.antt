@@ -33,7 +33,7 @@ still-steps strict g = record {
   stores = λ d number region still. still;
   shows = λ d region still never. absurd (let no : false ≡ true = never in cc);
   passes = λ lenient d p e still never. absurd (let no : false ≡ true = never in cc);
-  tells = λ lenient d e told number same step still. step still;
+  tells = λ lenient d e number fault same step still. step still;
 }
 
 pub untouched-blank : UntouchedIsBlank
@@ -65,7 +65,7 @@ size-steps strict initial_page = record {
   stores = λ d number region has. has;
   shows = λ d region has. has;
   passes = λ lenient d p e has. has;
-  tells = λ lenient d e told number same step has. step has;
+  tells = λ lenient d e number fault same step has. step has;
 }
 
 of-grid : (P : Grid → Type 0) (drawn : Result Drawing DecodeError) → IfOk drawn (λ d. P d.grid) → IfOk (drawn >>= λ d. Ok d.grid) P
@@ -92,7 +92,7 @@ strict-steps strict is = record {
   stores = λ d number region none. none;
   shows = λ d region none. none;
   passes = λ lenient d p e none. absurd (let strictly : strict ≡ true = is in cc);
-  tells = λ lenient d e told number same step none. absurd (let strictly : strict ≡ true = is in cc);
+  tells = λ lenient d e number fault same step none. absurd (let strictly : strict ≡ true = is in cc);
 }
 
 strict-drawing : (page : ReadPage) → IsTrue (is_strict page.reading) → page.cut_off ≡ None → IfOk (drawing_of_page page) PassesNothing

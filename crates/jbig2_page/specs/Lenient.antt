@@ -1,6 +1,7 @@
 -- Laws (our own rule). Where strict reading accepts, lenient reading gives the same. Where lenient reading accepts,
 -- salvage gives the same. And salvage refuses little.
-use Rattle.std.specs.Prelude.{◌≡◌, ◌≤◌, ℕ, Any, IsTrue, List, None, Some, Result, Ok, IfOk}
+use Rattle.std.specs.Prelude.{◌≡◌, ◌≤◌, ℕ, Any, not, IsTrue, List, None, Some, Result, Ok, IfOk}
+use Rattle.std.specs.List.{list_all}
 use Rattle.std.specs.Result.{is_ok}
 use Rattle.jbig2_base.specs.Results.{◌>>=◌, some_or}
 use Rattle.jbig2_framing.specs.CutOff.{file_cut_off, sequence_cut_off}
@@ -12,12 +13,15 @@ use Rattle.jbig2_base.specs.declared.error.DecodeError.{DecodeError}
 use Rattle.jbig2_base.specs.declared.error.DecodeError.TheVariants.{Format}
 use Rattle.jbig2_base.specs.declared.error.FormatError.TheVariants.{MissingPageInfo}
 use Rattle.jbig2_framing.specs.declared.file_header.FileHeader.{FileHeader}
+use Rattle.jbig2_framing.specs.declared.page_info.InitialPage.{InitialPage}
 use Rattle.jbig2_framing.specs.declared.page_info.PageInformation.{PageInformation}
 use Rattle.jbig2_framing.specs.declared.reading.Reading.{Reading}
 use Rattle.jbig2_framing.specs.declared.reading.Reading.TheVariants.{Strict, Lenient, Salvage}
 use Rattle.jbig2_page.specs.Files.{ReadFile, book_at, of_page, page_of, segments_at}
 use Rattle.jbig2_page.specs.Names.{Names, globals_at, nothing_passed}
-use Rattle.jbig2_page.specs.Page.{IsSide, ReadPage, drawing_of_page, page_from, page_segments, known_height}
+use Rattle.jbig2_page.specs.Page.{Drawing, IsSide, ReadPage, blank_page, drawing_of_page, page_from, page_segments, known_height}
+use Rattle.jbig2_page.specs.Page.{segments_drawn}
+use Rattle.jbig2_page.specs.Regions.{is_partial}
 
 -- Strict reading passes over nothing: its lists of segments never end early, and no segment of them is passed over.
 pub record StrictPassesNothing : Type 0 where
@@ -25,6 +29,15 @@ pub record StrictPassesNothing : Type 0 where
   pub file : (bytes : List ℕ) → IfOk (book_at Strict bytes) (λ book. book.cut_off ≡ None)
   pub drawing : (page : ReadPage) → IsTrue (is_strict page.reading) → page.cut_off ≡ None
       → IfOk (drawing_of_page page) (λ d. d.passed_over ≡ nothing_passed)
+
+-- Where nothing was passed over, strict reading draws the same: the whole of a page's segments, none of which is cut off,
+-- from the same beginning. So what lenient reading and salvage forgive always counts.
+abbrev pub CompletePagesAreStrict : Type 0
+CompletePagesAreStrict = (reading : Reading) (globals : Names) (segments : List SegmentView)
+    (initial_page : InitialPage) (d : Drawing)
+    → IsTrue (list_all (λ p. not (is_partial p)) segments)
+    → segments_drawn reading globals segments (blank_page initial_page) ≡ Ok d → d.passed_over ≡ nothing_passed
+    → segments_drawn Strict globals segments (blank_page initial_page) ≡ Ok d
 
 -- Where the one reading succeeds, the other gives the same value.
 abbrev pub IsSameUnder : {A : Type 0} → Reading → Reading → (Reading → Result A DecodeError) → Type 0

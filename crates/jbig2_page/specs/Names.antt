@@ -1,7 +1,7 @@
 -- Names (T.88, 7.3): what segments keep for later ones, each under its segment's number, and what later ones refer to.
 -- A number means the first value that is kept under it: one of the page's own, or else one of the globals. That the
 -- first of equal numbers counts is our own rule.
-use Rattle.std.specs.Prelude.{ℕ, ◌+◌, nat_le, nat_lt, ◌==◌, ◌&&◌, ◌||◌, is_none, Bool, true, false, List, [], ◌∷◌, ◌++◌, length, Option}
+use Rattle.std.specs.Prelude.{ℕ, ◌+◌, nat_le, nat_lt, ◌==◌, Bool, true, false, List, [], ◌∷◌, ◌++◌, length, Option}
 use Rattle.std.specs.Prelude.{Some, None, Result, Ok, Err, if◌then◌else◌}
 use Rattle.std.specs.Int.{w32}
 use Rattle.std.specs.Option.{option_map_or, option_or}
@@ -15,7 +15,7 @@ use Rattle.jbig2_framing.specs.Segment.{SegmentView}
 use Rattle.jbig2_base.specs.declared.error.DecodeError.{DecodeError}
 use Rattle.jbig2_base.specs.declared.error.DecodeError.TheVariants.{Overflow, Segment, Unsupported}
 use Rattle.jbig2_base.specs.declared.error.OverflowError.TheVariants.{SymbolCount}
-use Rattle.jbig2_base.specs.declared.error.SegmentError.TheVariants.{InvalidReference}
+use Rattle.jbig2_base.specs.declared.error.SegmentError.TheVariants.{InvalidReference, UnknownType}
 use Rattle.jbig2_framing.specs.declared.reading.Reading.{Reading}
 use Rattle.jbig2_framing.specs.declared.cut_off.CutOff.{CutOff}
 use Rattle.jbig2_framing.specs.declared.segment.SegmentType.{SegmentType}
@@ -126,6 +126,7 @@ kept_by strict shared p own = on p.header.segment_type
     on types.PatternDictionary = with_patterns strict p own
     on types.Tables = with_code p own
     on types.Extension = extension strict p.bytes >>= λ known. Ok own
+    on types.Reserved = refuse_if strict (Segment UnknownType) >>= λ known. Ok own
     on _ = Ok own
 
 -- What the reading passed over: how many segments, and the number and the error of the first one.
@@ -140,26 +141,14 @@ with_passed number e passed = record {
   first = option_or passed.first (Some (record { segment_number = number; error = e }));
 }
 
--- A number names nothing where neither a symbol dictionary nor a custom table is kept under it.
-abbrev pub names_nothing : Names → Names → ℕ → Bool
-names_nothing own shared number =
-    is_none (kept_of number own.symbols shared.symbols) && is_none (kept_of number own.codes shared.codes)
+abbrev pub fault_of : {X : Type 0} → Result X DecodeError → Option DecodeError  -- what a result is refused for
+fault_of (Ok x) = None
+fault_of (Err e) = Some e
 
-abbrev pub any_names_nothing : Names → Names → List ℕ → Bool
-any_names_nothing own shared [] = false
-any_names_nothing own shared (number ∷ numbers) =
-    names_nothing own shared number || any_names_nothing own shared numbers
-
-abbrev pub dictionary_lacks : Names → Names → SegmentView → Bool  -- a symbol dictionary with a number that names nothing
-dictionary_lacks own shared p = on p.header.segment_type
-  where
-    on : SegmentType → Bool
-    on types.SymbolDictionary = any_names_nothing own shared p.header.referred_to_segments
-    on _ = false
-
--- What is kept or drawn without something that it refers to counts as passed over too (our own rule).
-abbrev pub with_lack : Bool → ℕ → PassedOver → PassedOver
-with_lack lacks number passed = if lacks then with_passed (Some number) (Segment InvalidReference) passed else passed
+-- What strict reading refuses counts as passed over too, though it is kept or drawn (our own rule).
+abbrev pub with_fault : Option DecodeError → ℕ → PassedOver → PassedOver
+with_fault None number passed = passed
+with_fault (Some e) number passed = with_passed (Some number) e passed
 
 -- What globals keep, what was passed over of them, and the segment at which their list ended early, if it did.
 pub record KeptGlobals : Type 0 where
@@ -174,11 +163,13 @@ abbrev pub names_of : Result KeptGlobals DecodeError → Result Names DecodeErro
 names_of shared = shared >>= λ s. Ok s.names
 
 module _ (reading : Reading) where
-  -- Salvage passes over a segment that fails. Nothing is kept under its number then.
-  abbrev pub or_shared_without : Bool → ℕ → KeptGlobals → Result Names DecodeError → Result KeptGlobals DecodeError
-  or_shared_without lacks number shared (Ok names) =
-      Ok (record shared { names = names; passed_over = with_lack lacks number shared.passed_over })
-  or_shared_without lacks number shared (Err e) =
+  -- Salvage passes over a segment that fails. Nothing is kept under its number then. `fault` is what strict reading
+  -- refuses it for.
+  abbrev pub or_shared_without : Option DecodeError → ℕ → KeptGlobals → Result Names DecodeError
+      → Result KeptGlobals DecodeError
+  or_shared_without fault number shared (Ok names) =
+      Ok (record shared { names = names; passed_over = with_fault fault number shared.passed_over })
+  or_shared_without fault number shared (Err e) =
       if is_salvaged reading e then Ok (record shared { passed_over = with_passed (Some number) e shared.passed_over })
       else Err e
 
@@ -187,8 +178,8 @@ module _ (reading : Reading) where
   abbrev pub shared_from : List SegmentView → KeptGlobals → Result KeptGlobals DecodeError
   shared_from [] shared = Ok shared
   shared_from (p ∷ ps) shared = do
-    let lacks = dictionary_lacks shared.names no_names p
-    more ← or_shared_without lacks p.header.segment_number shared (kept_by (is_strict reading) no_names p shared.names)
+    let fault = fault_of (kept_by true no_names p shared.names)
+    more ← or_shared_without fault p.header.segment_number shared (kept_by (is_strict reading) no_names p shared.names)
     shared_from ps more
 
   -- The globals in these bytes: the segments lie one after the other, and are sorted before they are decoded.

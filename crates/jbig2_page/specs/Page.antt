@@ -1,6 +1,6 @@
 -- What a page shows (T.88, 8). Its segments are taken in order. Each is drawn onto the page, kept for later ones, or
 -- changes nothing, as its type says (7.3).
-use Rattle.std.specs.Prelude.{◌≡◌, ◌≤◌, ℕ, ◌+◌, ◌-◌, ◌==◌, ◌&&◌, ◌||◌, is_none, nat_lt, max, min, Bool, true, false, not, List, []}
+use Rattle.std.specs.Prelude.{◌≡◌, ◌≤◌, ℕ, ◌+◌, ◌-◌, ◌==◌, ◌||◌, nat_lt, max, min, Bool, true, false, not, List, []}
 use Rattle.std.specs.Prelude.{◌∷◌, ◌++◌, Option, Some, None, Result, Ok, Err, IfOk, IsTrue, if◌then◌else◌}
 use Rattle.std.specs.Int.{w32, cast_signed}
 use Rattle.jbig2_base.specs.Results.{◌>>=◌}
@@ -23,8 +23,8 @@ use Rattle.jbig2_region.specs.GenericHeader.{generic_header_at}
 use Rattle.jbig2_region.specs.Refinement.{is_far}
 use Rattle.jbig2_region.specs.RegionInfo.{PlacedRegion, region_info_at}
 use Rattle.jbig2_region.specs.declared.region_info.RegionSegmentInfo.{RegionSegmentInfo}
-use Rattle.jbig2_page.specs.Names.{Names, any_names_nothing, dictionary_lacks, first_kept, kept_by, kept_under, no_names}
-use Rattle.jbig2_page.specs.Names.{nothing_passed, with_lack, with_passed}
+use Rattle.jbig2_page.specs.Names.{Names, fault_of, kept_by, kept_under, no_names}
+use Rattle.jbig2_page.specs.Names.{nothing_passed, with_passed}
 use Rattle.jbig2_page.specs.Regions.{generic_at, halftone_at, is_partial, refinement_at, text_at}
 use Rattle.jbig2_page.specs.declared.kept.Kept.{Kept}
 use Rattle.jbig2_page.specs.declared.drawing.passed_over.PassedOver.{PassedOver}
@@ -138,26 +138,18 @@ module _ (strict : Bool) (globals : Names) where
       on (Some (kind, false)) = immediate kind p d
       on None = with_names d (kept_by strict globals p d.names)
 
--- A refinement whose first number names no region.
-abbrev pub lacks_region : List ℕ → List (Kept PlacedRegion) → Bool
-lacks_region [] regions = false
-lacks_region (number ∷ others) regions = is_none (first_kept number regions)
+-- What strict reading refuses a segment for. Of one whose data is cut off nothing is said here.
+abbrev pub strict_fault : Names → SegmentView → Drawing → Option DecodeError
+strict_fault globals p d = if is_partial p then None else fault_of (segment_by true globals p d)
 
--- Whether a segment that is whole refers to something that isn't there: strict reading refuses its number.
-abbrev pub lacks_referred : Names → SegmentView → Drawing → Bool
-lacks_referred globals p d = not (is_partial p) && on (region_type p.header.segment_type)
-  where
-    on : Option (RegionKind × Bool) → Bool
-    on (Some (kinds.Text, is_intermediate)) = any_names_nothing d.names globals p.header.referred_to_segments
-    on (Some (kinds.GenericRefinement, is_intermediate)) = lacks_region p.header.referred_to_segments d.regions
-    on (Some _) = false
-    on None = dictionary_lacks d.names globals p
-
--- Such a segment counts as passed over, once, though it is drawn or kept (our own rule).
-abbrev pub or_told : Bool → ℕ → Drawing → Result Drawing DecodeError → Result Drawing DecodeError
-or_told lacks number d (Ok e) =
-    Ok (record e { passed_over = with_lack (lacks && e.passed_over.count == d.passed_over.count) number e.passed_over })
-or_told lacks number d (Err e) = Err e
+-- A segment with such a fault counts as passed over, once, though it is drawn or kept (our own rule).
+abbrev pub or_told : Option DecodeError → ℕ → Drawing → Result Drawing DecodeError → Result Drawing DecodeError
+or_told None number d r = r
+or_told (Some fault) number d (Ok e) =
+    if e.passed_over.count == d.passed_over.count then
+    Ok (record e { passed_over = with_passed (Some number) fault e.passed_over })
+    else Ok e
+or_told (Some fault) number d (Err e) = Err e
 
 -- Salvage passes over any segment that fails. Nothing is kept under its number then.
 abbrev pub or_left_out : Reading → SegmentView → Drawing → Result Drawing DecodeError → Result Drawing DecodeError
@@ -167,7 +159,7 @@ or_left_out reading p d (Err e) = if is_salvaged reading e then Ok (passing p e 
 module _ (reading : Reading) (globals : Names) where
   abbrev pub segment_on : SegmentView → Drawing → Result Drawing DecodeError
   segment_on p d =
-      or_told (lacks_referred globals p d) p.header.segment_number d
+      or_told (strict_fault globals p d) p.header.segment_number d
       (or_left_out reading p d (segment_by (is_strict reading) globals p d))
 
   -- The segments in order, up to an end of page or an end of file.

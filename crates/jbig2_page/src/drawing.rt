@@ -4,12 +4,11 @@ ghost use Rattle.jbig2_base.specs.Results.{Gives};
 ghost use Rattle.jbig2_framing.specs.inner.SegmentViews.{segment_view, segment_views};
 ghost use Rattle.jbig2_page.specs.Names.{nothing_passed, with_patterns, with_symbols};
 ghost use Rattle.jbig2_framing.specs.Reading.{is_strict};
-ghost use Rattle.jbig2_page.specs.Page.{segments_drawn, ends_page, immediate, intermediate, lacks_referred, with_names, or_left_out, or_passed_over, region_at, segment_by, segment_on, with_drawn_region};
+ghost use Rattle.jbig2_page.specs.Page.{segments_drawn, ends_page, immediate, intermediate, with_names, or_left_out, or_passed_over, region_at, segment_by, segment_on, with_drawn_region};
 ghost use Rattle.jbig2_base.specs.declared.error.DecodeError.TheVariants.{OutOfMemory};
 ghost use Rattle.jbig2_region.specs.inner.RegionViews.{region_view};
 ghost use Rattle.jbig2_page.specs.inner.KeptViews.{kept_values};
 ghost use Rattle.jbig2_page.specs.inner.ParsedRegions.{drawing_of};
-ghost use Rattle.jbig2_page.specs.inner.WholePages.{after_immediate};
 ghost use Rattle.jbig2_page.specs.Prices.{capped, drawn_count, price_of_segment, price_of_type};
 ghost use Rattle.jbig2_steps.specs.Work.{Paid, budget};
 
@@ -20,12 +19,11 @@ pub(crate) mod packed;
 pub mod passed_over;
 
 use crate::drawing::canvas::Canvas;
-use crate::drawing::dictionaries::{extension, keep_patterns, keep_symbols, keep_table};
+use crate::drawing::dictionaries::{extension, keep_patterns, keep_symbols, keep_table, unlisted};
 use crate::kept::Kept;
 use crate::kept::names::{KeptNames, Lookup};
 use crate::region::cut_off::is_partial;
 use crate::region::references::References;
-use crate::region::refinement::lacks_region;
 use crate::region::{RegionKind, parse_region};
 use jbig2_base::bitmap::Bitmap;
 use jbig2_base::bitmap::steps::Work;
@@ -151,35 +149,19 @@ impl<'a, A: Allocator + Clone> Drawer<'a, A> {
         Ok(())
     }
 
-    /// Whether a segment that is whole refers to something that isn't there.
-    fn lacks_referred(&self, segment: &Segment<'_, A>, canvas: &Canvas<A>) -> bool
-        ensures { result ≡ lacks_referred self.now.globals.now (segment_view segment.now)
-            canvas.now }
+    /// The same in strict reading.
+    fn strictly(&self) -> Drawer<'a, A>
+        ensures reading { result.reading ≡ Reading.Strict }
+        ensures globals { result.globals.now ≡ self.now.globals.now }
     {
-        if is_partial(segment) {
-            return false;
-        }
-        let numbers = &segment.header.referred_to_segments;
-        let names = Lookup {
-            strict: self.reading.is_strict(),
-            own: &canvas.names,
+        Drawer {
+            reading: Reading::Strict,
             globals: self.globals,
-        };
-        match segment.header.segment_type {
-            SegmentType::IntermediateTextRegion
-            | SegmentType::ImmediateTextRegion
-            | SegmentType::ImmediateLosslessTextRegion => names.any_names_nothing(numbers),
-            SegmentType::IntermediateGenericRefinementRegion
-            | SegmentType::ImmediateGenericRefinementRegion
-            | SegmentType::ImmediateLosslessGenericRefinementRegion => {
-                lacks_region(numbers, &canvas.regions)
-            }
-            _ => names.dictionary_lacks(segment),
         }
     }
 
-    /// Draws one segment onto the page, or keeps what it holds. One that refers to something that isn't there is
-    /// counted as passed over too.
+    /// Draws one segment onto the page, or keeps what it holds. It is tried strictly first: one that strict reading
+    /// refuses is counted, also where another reading draws or keeps it.
     fn draw_segment<L: Ledger>(
         &self,
         segment: &Segment<'_, A>,
@@ -192,10 +174,22 @@ impl<'a, A: Allocator + Clone> Drawer<'a, A> {
             canvas.old) }
         ensures paid { Paid work.old work.new }
     {
-        let lacks = self.lacks_referred(segment, canvas);
+        if self.reading.is_strict() || is_partial(segment) {
+            return self.take_segment(segment, canvas, work);
+        }
         let before = canvas.passed_over.count;
-        self.take_segment(segment, canvas, work)?;
-        canvas.tell_lack(lacks, before, segment.header.segment_number);
+        let fault = match self.strictly().try_segment(segment, canvas, work) {
+            Ok(()) => return Ok(()),
+            Err(fault) => fault,
+        };
+        if matches!(fault, DecodeError::OutOfMemory) {
+            return Err(fault);
+        }
+        match self.take_segment(segment, canvas, work) {
+            Ok(()) => {}
+            Err(error) => return Err(error),
+        }
+        canvas.tell(fault, before, segment.header.segment_number);
         Ok(())
     }
 
@@ -250,8 +244,7 @@ impl<'a, A: Allocator + Clone> Drawer<'a, A> {
         ensures value { Gives (λ _. canvas.new) result
             (segment_by (is_strict self.now.reading) self.now.globals.now
             (segment_view segment.now) canvas.old) }
-        ensures err { IfErr result (λ e. (e ≡ OutOfMemory) ⊎
-            (after_immediate canvas.new ≡ after_immediate canvas.old)) }
+        ensures err { IfErr result (λ e. (e ≡ OutOfMemory) ⊎ (canvas.new ≡ canvas.old)) }
         ensures paid { Paid work.old work.new }
     {
         match segment.header.segment_type {
@@ -289,8 +282,8 @@ impl<'a, A: Allocator + Clone> Drawer<'a, A> {
             | SegmentType::EndOfStripe
             | SegmentType::EndOfFile
             | SegmentType::Profiles
-            | SegmentType::ColourPalette
-            | SegmentType::Reserved => Ok(()),
+            | SegmentType::ColourPalette => Ok(()),
+            SegmentType::Reserved => unlisted(self.reading.is_strict()),
         }
     }
 
@@ -376,8 +369,7 @@ impl<'a, A: Allocator + Clone> Drawer<'a, A> {
         ensures value { Gives (λ _. canvas.new) result
             (immediate (is_strict self.now.reading) self.now.globals.now kind
             (segment_view segment.now) canvas.old) }
-        ensures err { IfErr result (λ e. (e ≡ OutOfMemory) ⊎
-            (after_immediate canvas.new ≡ after_immediate canvas.old)) }
+        ensures err { IfErr result (λ e. (e ≡ OutOfMemory) ⊎ (canvas.new ≡ canvas.old)) }
         ensures paid { Paid work.old work.new }
     {
         match self.show_region(kind, segment, canvas, work) {
@@ -398,8 +390,7 @@ impl<'a, A: Allocator + Clone> Drawer<'a, A> {
         ensures value { Gives (λ _. canvas.new) result
             (with_drawn_region canvas.old (region_at (is_strict self.now.reading)
             self.now.globals.now kind false (segment_view segment.now) canvas.old)) }
-        ensures err { IfErr result (λ e. (e ≡ OutOfMemory) ⊎
-            (after_immediate canvas.new ≡ after_immediate canvas.old)) }
+        ensures err { IfErr result (λ e. (e ≡ OutOfMemory) ⊎ (canvas.new ≡ canvas.old)) }
         ensures passed { canvas.new.passed_over ≡ canvas.old.passed_over }
         ensures paid { Paid work.old work.new }
     {
@@ -409,7 +400,13 @@ impl<'a, A: Allocator + Clone> Drawer<'a, A> {
         let parsed = parse_region(&references, kind, false, segment, workspace, work)?;
         if is_white && parsed.makes_up(&canvas.bitmap) {
             canvas.untouched = false;
-            return parsed.decode_onto(&mut canvas.bitmap, &mut canvas.workspace, work);
+            match parsed.decode_onto(&mut canvas.bitmap, &mut canvas.workspace, work) {
+                Ok(()) => return Ok(()),
+                Err(error) => {
+                    canvas.untouched = !matches!(error, DecodeError::OutOfMemory);
+                    return Err(error);
+                }
+            }
         }
         let seen = parsed.above_end(canvas.bitmap.height());
         let region = seen.decode(&mut canvas.workspace, work)?;

@@ -1,19 +1,19 @@
 //! Decodes the segments that several pages share, as in PDF, in the work that a caller's counter allows.
-ghost use Rattle.std.specs.Prelude.{◌≡◌, ◌+◌, ◌*◌, ◌<◌, ◌≤◌, ◌⊎◌, Ok, IfErr, IfOk, length};
+ghost use Rattle.std.specs.Prelude.{◌≡◌, ◌+◌, ◌*◌, ◌<◌, ◌≤◌, ◌⊎◌, true, Ok, IfErr, IfOk, length};
 ghost use Rattle.jbig2_framing.specs.Sequential.{sorted_segments};
 ghost use Rattle.jbig2_base.specs.Results.{Gives};
 ghost use Rattle.jbig2_framing.specs.Reading.{is_strict};
 ghost use Rattle.jbig2_base.specs.declared.error.DecodeError.TheVariants.{OutOfMemory};
 ghost use Rattle.jbig2_framing.specs.inner.SegmentViews.{segment_view, segment_views};
-ghost use Rattle.jbig2_page.specs.Names.{dictionary_lacks, globals_at, shared_from, kept_by, no_names, nothing_shared, or_shared_without};
+ghost use Rattle.jbig2_page.specs.Names.{fault_of, globals_at, shared_from, kept_by, no_names, nothing_shared, or_shared_without};
 ghost use Rattle.jbig2_page.specs.Returned.{IsReturned};
 ghost use Rattle.jbig2_page.specs.inner.KeptViews.{found_value};
 ghost use Rattle.jbig2_steps.specs.Work.{IsWithinLimit, Paid, budget};
 
-use crate::drawing::dictionaries::{extension, keep_patterns, keep_symbols, keep_table};
+use crate::drawing::dictionaries::{extension, keep_patterns, keep_symbols, keep_table, unlisted};
 use crate::drawing::passed_over::PassedOver;
 use crate::drawing::pay_segment;
-use crate::kept::names::{KeptNames, Lookup};
+use crate::kept::names::KeptNames;
 use crate::workspace::Workspace;
 use jbig2_base::bitmap::steps::Work;
 use jbig2_base::error::{DecodeError, Result};
@@ -138,20 +138,8 @@ impl<A: Allocator + Clone> GlobalsContent<A> {
         Ok(globals)
     }
 
-    /// Whether a segment is a symbol dictionary that refers to something that isn't there.
-    fn lacks(&self, none: &KeptNames<A>, segment: &Segment<'_, A>) -> bool
-        requires { none.now ≡ no_names }
-        ensures { result ≡ dictionary_lacks self.now.names no_names (segment_view segment.now) }
-    {
-        let lookup = Lookup {
-            strict: false,
-            own: &self.names,
-            globals: none,
-        };
-        lookup.dictionary_lacks(segment)
-    }
-
-    /// Keeps what one more segment holds. Salvage passes over one that fails.
+    /// Keeps what one more segment holds. It is tried strictly first: one that strict reading refuses is counted, also
+    /// where another reading keeps it. Salvage passes over one that fails.
     fn add<L: Ledger>(
         &mut self,
         reading: Reading,
@@ -162,26 +150,31 @@ impl<A: Allocator + Clone> GlobalsContent<A> {
         requires { self.old.passed_over.count < usize.MAX }
         ensures value { Gives (λ _. self.new) result
             (or_shared_without reading
-            (dictionary_lacks self.old.names no_names (segment_view segment.now))
+            (fault_of (kept_by true no_names (segment_view segment.now) self.old.names))
             segment.now.header.segment_number self.old
             (kept_by (is_strict reading) no_names (segment_view segment.now) self.old.names)) }
         ensures paid { Paid work.old work.new }
     {
         let none = KeptNames::new(workspace.alloc.clone()?)?;
-        let lacks = self.lacks(&none, segment);
         let names = &mut self.names;
-        match keep_segment(names, &none, reading.is_strict(), segment, workspace, work) {
+        let fault = match keep_segment(names, &none, true, segment, workspace, work) {
+            Ok(()) => return Ok(()),
+            Err(fault) => fault,
+        };
+        if reading.is_strict() || matches!(fault, DecodeError::OutOfMemory) {
+            return Err(fault);
+        }
+        let number = segment.header.segment_number;
+        match keep_segment(names, &none, false, segment, workspace, work) {
             Ok(()) => {
-                self.passed_over
-                    .tell_lack(lacks, segment.header.segment_number);
+                self.passed_over.add(Some(number), fault);
                 Ok(())
             }
             Err(error) => {
                 if !reading.is_salvaged(&error) {
                     return Err(error);
                 }
-                self.passed_over
-                    .add(Some(segment.header.segment_number), error);
+                self.passed_over.add(Some(number), error);
                 Ok(())
             }
         }
@@ -210,6 +203,7 @@ fn keep_segment<A: Allocator + Clone, L: Ledger>(
         SegmentType::PatternDictionary => keep_patterns(names, strict, segment, workspace, work),
         SegmentType::Tables => keep_table(names, segment, workspace),
         SegmentType::Extension => extension(strict, segment.bytes),
+        SegmentType::Reserved => unlisted(strict),
         _ => Ok(()),
     }
 }

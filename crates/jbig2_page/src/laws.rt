@@ -8,7 +8,7 @@ ghost use Rattle.jbig2_base.specs.declared.bitmap.operator.CombinationOperator.{
 ghost use Rattle.jbig2_page.specs.Calls.{CallsAreFew, ChunksFit, DrawsGrid, calls_of};
 ghost use Rattle.jbig2_page.specs.Causes.{ErrorsAreFromInput};
 ghost use Rattle.jbig2_page.specs.Image.{PackedBitsAreBytes};
-ghost use Rattle.jbig2_page.specs.Lenient.{LenientReadingAgrees, SalvageAgrees, SalvageRefusesLittle, StrictPassesNothing};
+ghost use Rattle.jbig2_page.specs.Lenient.{CompletePagesAreStrict, LenientReadingAgrees, SalvageAgrees, SalvageRefusesLittle, StrictPassesNothing};
 ghost use Rattle.jbig2_page.specs.Order.{EndOfPageEnds, OrderChangesNothing};
 ghost use Rattle.jbig2_page.specs.Page.{PagesKeepTheirSize, UntouchedIsBlank, draws_over};
 
@@ -44,6 +44,12 @@ pub fn pages_keep_their_size()
 /// Strict reading passes over nothing: where it draws a page, it draws each of the page's segments.
 pub fn strict_reading_passes_nothing()
     ensures { StrictPassesNothing }
+{}
+
+/// Where nothing was passed over of a page's segments, none of which is cut off, strict reading draws the same. So each
+/// fault that lenient reading or salvage forgives counts.
+pub fn complete_pages_are_strict()
+    ensures { CompletePagesAreStrict }
 {}
 
 /// Each bit of the packed rows of a page is 1 where the page's byte is 0, and 0 where that is 255.

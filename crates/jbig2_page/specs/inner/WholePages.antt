@@ -1,11 +1,10 @@
 -- Regions that fill a whole page by themselves (our own rule).
-use Rattle.std.specs.Prelude.{◌≡◌, ◌≤◌, Bool, false}
+use Rattle.std.specs.Prelude.{◌≡◌, ◌≤◌, Bool}
 use Rattle.std.specs.Int.{w32, cast_signed}
 use Rattle.jbig2_base.specs.Combination.{combined_grid}
 use Rattle.jbig2_base.specs.Grid.{Grid, blank, max_side}
 use Rattle.jbig2_base.specs.Table.{IsTable}
 use Rattle.jbig2_region.specs.declared.region_info.RegionSegmentInfo.{RegionSegmentInfo}
-use Rattle.jbig2_page.specs.Page.{Drawing}
 
 -- a page that is all of one colour, as at its beginning
 pub record IsBlankPage (black : Bool) (page : Grid) : Type 0 where
@@ -21,7 +20,3 @@ pub record IsWhole (info : RegionSegmentInfo) (initial_pixel : Bool) (page : Gri
   pub over : (g : Grid) → IsTable g → g.width ≡ info.width → g.height ≡ info.height
       → combined_grid info.combination_operator page g
       (cast_signed w32 info.x_location) (cast_signed w32 info.y_location) ≡ g
-
--- the drawing after any immediate region
-abbrev pub after_immediate : Drawing → Drawing
-after_immediate d = record d { untouched = false }

@@ -1,6 +1,6 @@
 //! The page while its segments are drawn: its bitmap, the intermediate regions that are kept, and what was passed over.
-ghost use Rattle.std.specs.Prelude.{◌≡◌, ◌==◌, ◌&&◌, ◌*◌, ◌<◌, ◌≤◌, [], true, false, Ok};
-ghost use Rattle.jbig2_page.specs.Names.{with_lack};
+ghost use Rattle.std.specs.Prelude.{◌≡◌, ◌==◌, ◌*◌, ◌<◌, ◌≤◌, [], true, false, Ok, Some, if◌then◌else◌};
+ghost use Rattle.jbig2_page.specs.Names.{with_passed};
 ghost use Rattle.jbig2_base.specs.Grid.{max_side};
 ghost use Rattle.jbig2_base.specs.Results.{Gives};
 ghost use Rattle.jbig2_framing.specs.inner.SegmentViews.{segment_view};
@@ -101,7 +101,8 @@ impl<A: Allocator> Canvas<A> {
 
     /// Whether the page is still white.
     pub(crate) fn is_white(&self) -> bool
-        ensures { result ≡ true → IsBlankPage false self.now.grid }
+        ensures blank { result ≡ true → IsBlankPage false self.now.grid }
+        ensures untouched { result ≡ true → self.now.untouched ≡ true }
     {
         if !self.untouched || self.default_pixel {
             return false;
@@ -171,17 +172,17 @@ impl<A: Allocator> Canvas<A> {
         }
     }
 
-    /// Counts a segment that was drawn or kept without something that it refers to, unless it was counted since
-    /// `before` segments were.
-    pub(crate) fn tell_lack(&mut self, lacks: bool, before: usize, number: u32)
+    /// Counts a segment that strict reading refuses, unless it was counted since `before` segments were.
+    pub(crate) fn tell(&mut self, fault: DecodeError, before: usize, number: u32)
         requires { before < usize.MAX }
         ensures { let passed = self.old.passed_over in
-            self.new ≡ record self.old {
-              passed_over = with_lack (lacks && passed.count == before) number passed;
-            } }
+            self.new ≡ (if passed.count == before
+            then record self.old { passed_over = with_passed (Some number) fault passed }
+            else self.old) }
     {
-        let lacks = lacks && self.passed_over.count == before;
-        self.passed_over.tell_lack(lacks, number);
+        if self.passed_over.count == before {
+            self.passed_over.add(Some(number), fault);
+        }
     }
 
     /// Counts the segment at which the list of segments ended early.

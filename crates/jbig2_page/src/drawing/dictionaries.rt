@@ -1,7 +1,7 @@
 //! Segments that draw nothing and keep something for later ones (T.88, 7.4.2, 7.4.4 and 7.4.13), of
 //! a page or of its globals. Only salvage passes over one that fails.
 ghost use Rattle.std.specs.Prelude.{◌≡◌, ◌+◌, ◌*◌, ◌⊎◌, IfErr, IfOk};
-ghost use Rattle.jbig2_base.specs.Results.{Returns, Gives};
+ghost use Rattle.jbig2_base.specs.Results.{Returns, Gives, refuse_if};
 ghost use Rattle.jbig2_framing.specs.inner.SegmentViews.{segment_view};
 ghost use Rattle.jbig2_page.specs.Names.{symbol_dictionary_at, with_symbols, pattern_dictionary_at, with_patterns, with_code, extension, Names};
 ghost use Rattle.jbig2_page.specs.inner.KeptViews.{patterns_view, symbols_view};
@@ -15,7 +15,7 @@ use crate::kept::names::{KeptNames, Lookup};
 use crate::kept::referred::gather_referred;
 use crate::workspace::{MOST_CONTEXTS, Workspace};
 use jbig2_base::bitmap::steps::Work;
-use jbig2_base::error::{DecodeError, Result};
+use jbig2_base::error::{DecodeError, Result, SegmentError};
 use jbig2_base::field::u32_field;
 use jbig2_base::reader::Reader;
 use jbig2_coder::huffman_table::HuffmanTable;
@@ -168,6 +168,16 @@ pub(crate) fn extension(strict: bool, bytes: &[u8]) -> Result<()>
     let kind = u32_field(&mut reader)?;
     if kind >= 0x8000_0000 {
         return Err(DecodeError::Unsupported);
+    }
+    Ok(())
+}
+
+/// A segment of a type that isn't listed (T.88, 7.3): strict reading refuses it.
+pub(crate) fn unlisted(strict: bool) -> Result<()>
+    ensures { Returns (λ known. known) result (refuse_if strict (DecodeError.Segment SegmentError.UnknownType)) }
+{
+    if strict {
+        return Err(SegmentError::UnknownType.into());
     }
     Ok(())
 }

@@ -1,8 +1,8 @@
 //! The segments that lenient reading or salvage passed over: how many, and why the first one failed.
-ghost use Rattle.std.specs.Prelude.{◌≡◌, ◌<◌, true};
-ghost use Rattle.jbig2_page.specs.Names.{nothing_passed, with_lack, with_passed};
+ghost use Rattle.std.specs.Prelude.{◌≡◌, ◌<◌};
+ghost use Rattle.jbig2_page.specs.Names.{nothing_passed, with_passed};
 
-use jbig2_base::error::{DecodeError, SegmentError};
+use jbig2_base::error::DecodeError;
 
 /// A segment that lenient reading or salvage passed over.
 #[derive(Debug, Drop, PartialEq, Eq)]
@@ -14,8 +14,8 @@ pub struct PassedSegment {
 }
 
 /// What the reading passed over in a page or in globals. In lenient reading these are the immediate regions that failed
-/// (T.88, 8.2), in salvage all segments that failed: they left everything as it was. In both it is also the segment at
-/// which the list of segments ended early.
+/// (T.88, 8.2), in salvage all segments that failed: they left everything as it was. In both it is also each segment that
+/// was drawn or kept though strict reading refuses it, and the segment at which the list of segments ended early.
 #[derive(Debug, Drop, PartialEq, Eq)]
 pub struct PassedOver {
     /// How many segments were passed over; 0 if none was.
@@ -31,16 +31,6 @@ impl PassedOver {
         PassedOver {
             count: 0,
             first: None,
-        }
-    }
-
-    /// Counts a segment that was drawn or kept without something that it refers to, if `lacks` is true.
-    pub(crate) fn tell_lack(&mut self, lacks: bool, segment_number: u32)
-        requires { lacks ≡ true → self.old.count < usize.MAX }
-        ensures { self.new ≡ with_lack lacks segment_number self.old }
-    {
-        if lacks {
-            self.add(Some(segment_number), SegmentError::InvalidReference.into());
         }
     }
 

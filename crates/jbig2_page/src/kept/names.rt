@@ -2,7 +2,7 @@
 //! by their numbers (T.88, 7.3).
 ghost use Rattle.std.specs.Prelude.{◌≡◌, Ok};
 ghost use Rattle.jbig2_base.specs.Results.{Gives};
-ghost use Rattle.jbig2_page.specs.Names.{any_names_nothing, dictionary_lacks, kept_of, kept_under, names_nothing, no_names};
+ghost use Rattle.jbig2_page.specs.Names.{kept_of, kept_under, no_names};
 ghost use Rattle.jbig2_framing.specs.inner.SegmentViews.{segment_view};
 ghost use Rattle.jbig2_page.specs.Prices.{capped, names_count};
 ghost use Rattle.jbig2_page.specs.Regions.{patterns_for};
@@ -168,34 +168,6 @@ impl<'a, A: Allocator> Lookup<'a, A> {
         let own = self.own.tables();
         let globals = self.globals.tables();
         kept_of(own, globals, number)
-    }
-
-    /// Whether a number names neither a symbol dictionary nor a custom table.
-    fn names_nothing(&self, number: u32) -> bool
-        ensures { result ≡ names_nothing self.now.own.now self.now.globals.now number }
-    {
-        self.symbols(number).is_none() && self.table(number).is_none()
-    }
-
-    /// Whether one of these numbers does.
-    pub(crate) fn any_names_nothing(&self, numbers: &[u32]) -> bool
-        ensures { result ≡ any_names_nothing self.now.own.now self.now.globals.now numbers.now }
-    {
-        for number in numbers {
-            if self.names_nothing(*number) {
-                return true;
-            }
-        }
-        false
-    }
-
-    /// Whether a symbol dictionary has a number that names nothing.
-    pub(crate) fn dictionary_lacks(&self, segment: &Segment<'_, A>) -> bool
-        ensures { result ≡ dictionary_lacks self.now.own.now self.now.globals.now
-            (segment_view segment.now) }
-    {
-        matches!(segment.header.segment_type, SegmentType::SymbolDictionary)
-            && self.any_names_nothing(&segment.header.referred_to_segments)
     }
 
     pub(crate) fn patterns(&self, number: u32) -> Option<&'a PatternDictionary<A>>

@@ -9,7 +9,6 @@ ghost use Rattle.jbig2_region.specs.WholeRows.{refined_part};
 ghost use Rattle.jbig2_region.specs.RefinementHeader.{IsRefinement};
 ghost use Rattle.jbig2_region.specs.inner.RefinedViews.{header_view};
 ghost use Rattle.jbig2_page.specs.Names.{first_kept};
-ghost use Rattle.jbig2_page.specs.Page.{lacks_region};
 ghost use Rattle.jbig2_page.specs.Regions.{page_area, referred_region, refinement_at};
 ghost use Rattle.jbig2_page.specs.inner.KeptViews.{found_value, kept_values};
 ghost use Rattle.jbig2_page.specs.inner.PageViews.{near_area};
@@ -45,20 +44,6 @@ fn region_named<'a, A: Allocator>(
         ≡ first_kept number (kept_values region_view regions.now) }
 {
     first_under(regions, number)
-}
-
-/// Whether a refinement's first number names no region.
-pub(crate) fn lacks_region<A: Allocator>(
-    numbers: &[u32],
-    regions: &[Kept<DecodedRegion<A>>],
-) -> bool
-    ensures { result ≡ lacks_region numbers.now (kept_values region_view regions.now) }
-{
-    let Some(number) = numbers.first() else {
-        return false;
-    };
-    let region = region_named(regions, *number);
-    region.is_none()
 }
 
 /// The region that a segment's first referred number names, if it has one. Strict reading refuses a

@@ -7,12 +7,11 @@ use Rattle.jbig2_base.specs.declared.error.DecodeError.{DecodeError}
 use Rattle.jbig2_base.specs.declared.error.DecodeError.TheVariants.{OutOfMemory}
 use Rattle.jbig2_framing.specs.declared.reading.Reading.{Reading}
 use Rattle.jbig2_page.specs.Page.{Drawing, or_left_out, segment_by}
-use Rattle.jbig2_page.specs.inner.WholePages.{after_immediate}
 use Rattle.jbig2_page.proofs.drawing.Drawer.take_segment.Goals as goal
 
 -- a segment that failed is left out
 left : (reading : Reading) (p : SegmentView) (d d1 d' : Drawing) (meant : Result Drawing DecodeError) (e : DecodeError) (result : Result (Unit {0}) DecodeError)
-    → (e ≡ OutOfMemory) ⊎ (meant ≡ Err e) → (e ≡ OutOfMemory) ⊎ (after_immediate d1 ≡ after_immediate d) → (e ≡ OutOfMemory → result ≡ Err OutOfMemory) → Gives (λ _. d') result (or_left_out reading p d1 (Err e)) → Gives (λ _. d') result (or_left_out reading p d meant)
+    → (e ≡ OutOfMemory) ⊎ (meant ≡ Err e) → (e ≡ OutOfMemory) ⊎ (d1 ≡ d) → (e ≡ OutOfMemory → result ≡ Err OutOfMemory) → Gives (λ _. d') result (or_left_out reading p d1 (Err e)) → Gives (λ _. d') result (or_left_out reading p d meant)
 left reading p d d1 d' meant e result (inl memory) as_was refused gives = subst (λ (a : Result (Unit {0}) DecodeError). Gives (λ _. d') a (or_left_out reading p d meant)) (sym (refused memory)) (inl refl)
 left reading p d d1 d' meant e result (inr failed) (inl memory) refused gives = subst (λ (a : Result (Unit {0}) DecodeError). Gives (λ _. d') a (or_left_out reading p d meant)) (sym (refused memory)) (inl refl)
 left reading p d d1 d' meant e result (inr failed) (inr same) refused gives =
@@ -33,5 +32,5 @@ pub leave_out-requires : goal.leave_out-requires
 leave_out-requires g c =
     ⊎_elim
     (λ (memory : c.in-Err.error ≡ OutOfMemory). inl memory)
-    (λ (same : after_immediate c.try_segment.new.canvas ≡ after_immediate c.args.canvas.now). inr (omega (arith, c.requires, ap (λ (d : Drawing). d.passed_over.count) same)))
+    (λ (same : c.try_segment.new.canvas ≡ c.args.canvas.now). inr (omega (arith, c.requires, ap (λ (d : Drawing). d.passed_over.count) same)))
     c.in-Err.ensures.err

@@ -1,4 +1,4 @@
-use Rattle.std.proofs.Common.{◌≡◌, ◌⊎◌, ℕ, Bool, true, false, Some, Result, Ok, Err, inl, inr, ⊎_elim, refl, sym, ap, ◌∙◌}
+use Rattle.std.proofs.Common.{◌≡◌, ◌⊎◌, ℕ, true, false, Some, Result, Ok, Err, inl, inr, ⊎_elim, refl, sym, ap, ◌∙◌}
 use Rattle.std.proofs.lemmas.Bool.{cond-false, cond-true, false≢true}
 use Rattle.jbig2_base.specs.declared.error.DecodeError.{DecodeError}
 use Rattle.jbig2_base.specs.declared.error.DecodeError.TheVariants.{OutOfMemory}
@@ -7,28 +7,31 @@ use Rattle.jbig2_framing.specs.inner.SegmentViews.{segment_view}
 use Rattle.jbig2_framing.specs.declared.reading.Reading.{Reading}
 use Rattle.jbig2_framing.specs.declared.reading.Reading.TheVariants.{Strict, Lenient, Salvage}
 use Rattle.jbig2_framing.proofs.RandomAccess.{left-out}
-use Rattle.jbig2_page.specs.Names.{KeptGlobals, Names, dictionary_lacks, kept_by, no_names, or_shared_without, with_lack, with_passed}
+use Rattle.jbig2_framing.specs.Segment.{SegmentView}
+use Rattle.jbig2_page.proofs.AgreeingPages.{kept-any}
+use Rattle.jbig2_page.specs.Names.{KeptGlobals, Names, fault_of, kept_by, no_names, or_shared_without, with_passed}
 use Rattle.jbig2_page.specs.declared.drawing.passed_over.PassedOver.{PassedOver}
 use Rattle.jbig2_page.proofs.globals.GlobalsContent.add.Goals as goal
+use Rattle.jbig2_page.proofs.globals.GlobalsContent.add.Goals.{then-is_strict-via-then-is_strict, then-is_strict-via-else-is_strict+then-matches, in-OutOfMemory, in_default}
 
-taken : (reading : Reading) (lacks : Bool) (number : ℕ) (shared : KeptGlobals) (kept : Result Names DecodeError) (names : Names) (passed : PassedOver) → kept ≡ Ok names → passed ≡ with_lack lacks number shared.passed_over
-    → or_shared_without reading lacks number shared kept ≡ Ok (record { names = names; passed_over = passed; cut_off = shared.cut_off })
-taken reading lacks number shared kept names passed is counted =
-    ap (λ (r : Result Names DecodeError). or_shared_without reading lacks number shared r) is
-    ∙ ap (λ (p : PassedOver). let made : Result KeptGlobals DecodeError = Ok (record { names = names; passed_over = p; cut_off = shared.cut_off }) in made) (sym counted)
+-- what strict reading keeps, every reading keeps
+kept : (reading : Reading) (number : ℕ) (shared : KeptGlobals) (p : SegmentView) (names : Names) → kept_by true no_names p shared.names ≡ Ok names
+    → or_shared_without reading (fault_of (kept_by true no_names p shared.names)) number shared (kept_by (is_strict reading) no_names p shared.names) ≡ Ok (record shared { names = names })
+kept reading number shared p names is =
+    let same : kept_by (is_strict reading) no_names p shared.names ≡ Ok names = kept-any (is_strict reading) no_names p shared.names names is in
+    rw (is, same) refl
 
-refused : (reading : Reading) (lacks : Bool) (number : ℕ) (shared : KeptGlobals) (kept : Result Names DecodeError) (e : DecodeError) → kept ≡ Err e → is_salvaged reading e ≡ false → or_shared_without reading lacks number shared kept ≡ Err e
-refused reading lacks number shared kept e is stays =
-    ap (λ (r : Result Names DecodeError). or_shared_without reading lacks number shared r) is
-    ∙ cond-false (is_salvaged reading e) (Ok (record shared { passed_over = with_passed (Some number) e shared.passed_over })) (Err e) stays
+-- what it refuses is refused by strict reading
+refused : (reading : Reading) (number : ℕ) (shared : KeptGlobals) (p : SegmentView) (e : DecodeError) → is_strict reading ≡ true → kept_by true no_names p shared.names ≡ Err e
+    → or_shared_without reading (fault_of (kept_by true no_names p shared.names)) number shared (kept_by (is_strict reading) no_names p shared.names) ≡ Err e
+refused Strict number shared p e strict is = rw is refl
+refused Lenient number shared p e strict is = absurd (let never : false ≡ true = strict in cc)
+refused Salvage number shared p e strict is = absurd (let never : false ≡ true = strict in cc)
 
-left : (reading : Reading) (lacks : Bool) (number : ℕ) (shared : KeptGlobals) (kept : Result Names DecodeError) (e : DecodeError) (names : Names) (passed : PassedOver) → kept ≡ Err e → is_salvaged reading e ≡ true → names ≡ shared.names → passed ≡ with_passed (Some number) e shared.passed_over
-    → or_shared_without reading lacks number shared kept ≡ Ok (record { names = names; passed_over = passed; cut_off = shared.cut_off })
-left reading lacks number shared kept e names passed is salvaged same counted =
-    ap (λ (r : Result Names DecodeError). or_shared_without reading lacks number shared r) is
-    ∙ cond-true (is_salvaged reading e) (Ok (record shared { passed_over = with_passed (Some number) e shared.passed_over })) (Err e) salvaged
-    ∙ ap (λ (p : PassedOver). let made : Result KeptGlobals DecodeError = Ok (record { names = shared.names; passed_over = p; cut_off = shared.cut_off }) in made) (sym counted)
-    ∙ ap (λ (n : Names). let made : Result KeptGlobals DecodeError = Ok (record { names = n; passed_over = passed; cut_off = shared.cut_off }) in made) (sym same)
+-- and by another reading kept with its fault, refused, or left out
+forgiven : (reading : Reading) (number : ℕ) (shared : KeptGlobals) (p : SegmentView) (e : DecodeError) (r : Result Names DecodeError) → is_strict reading ≡ false → kept_by true no_names p shared.names ≡ Err e → kept_by false no_names p shared.names ≡ r
+    → or_shared_without reading (fault_of (kept_by true no_names p shared.names)) number shared (kept_by (is_strict reading) no_names p shared.names) ≡ or_shared_without reading (Some e) number shared r
+forgiven reading number shared p e r lenient fault is = rw (fault, lenient, is) refl
 
 never-memory : (reading : Reading) → is_salvaged reading OutOfMemory ≡ false
 never-memory Strict = refl
@@ -39,18 +42,60 @@ unchanged : {A : Type 0} (reading : Reading) (e : DecodeError) (x y : A) → (e 
 unchanged reading e x y (inl memory) salvaged = absurd (false≢true (sym (never-memory reading) ∙ ap (λ (d : DecodeError). is_salvaged reading d) (sym memory) ∙ salvaged))
 unchanged reading e x y (inr same) salvaged = same
 
+-- the error of strict reading, which isn't want of memory, left the names as they were
 pub returns-in-Ok-clause-value : goal.returns-in-Ok-clause-value
 returns-in-Ok-clause-value g c =
     let reading = c.args.reading in
     let p = segment_view c.args.segment.now in
     let number = c.args.segment.now.header.segment_number in
     let inside : KeptGlobals = record { names = c.self.inside.names; passed_over = c.self.inside.passed_over; cut_off = c.self.inside.cut_off } in
-    let kept : kept_by (is_strict reading) no_names p inside.names ≡ Ok c.keep_segment.new.names =
-    ap (λ (b : Bool). kept_by b no_names p inside.names) (sym c.is_strict.ensures) ∙ c.in-Ok.ensures.value in
-    let meant : KeptGlobals → Result KeptGlobals DecodeError = λ shared. or_shared_without reading (dictionary_lacks shared.names no_names p) number shared (kept_by (is_strict reading) no_names p shared.names) in
+    let meant : KeptGlobals → Result KeptGlobals DecodeError = λ shared. or_shared_without reading (fault_of (kept_by true no_names p shared.names)) number shared (kept_by (is_strict reading) no_names p shared.names) in
+    ap meant (sym c.self.view_is) ∙ kept reading number inside p c.keep_segment.new.names c.in-Ok.ensures.value
+
+pub returns-then-is_strict-clause-value : goal.returns-then-is_strict-clause-value
+returns-then-is_strict-clause-value g c =
+    let reading = c.args.reading in
+    let p = segment_view c.args.segment.now in
+    let number = c.args.segment.now.header.segment_number in
+    let inside : KeptGlobals = record { names = c.self.inside.names; passed_over = c.self.inside.passed_over; cut_off = c.self.inside.cut_off } in
+    let meant : KeptGlobals → Result KeptGlobals DecodeError = λ shared. or_shared_without reading (fault_of (kept_by true no_names p shared.names)) number shared (kept_by (is_strict reading) no_names p shared.names) in
+    elim c.then-is_strict.branch [
+      | then-is_strict-via-then-is_strict w ↦
+          ⊎_elim
+          (λ (memory : c.in-Err.fault ≡ OutOfMemory). inl memory)
+          (λ fails. inr (ap meant (sym c.self.view_is) ∙ refused reading number inside p c.in-Err.fault (sym c.is_strict.ensures ∙ w.if-is_strict.true) fails))
+          c.in-Err.ensures.value
+      | then-is_strict-via-else-is_strict+then-matches w ↦ elim w.match-matches.branch [
+        | in-OutOfMemory m ↦ inl m.in-OutOfMemory.is
+        | in_default m ↦ absurd (false≢true (sym m.matches-is ∙ w.if-matches.true))
+      ]
+    ]
+
+-- what is there after an error that isn't want of memory
+fails-too : (e : DecodeError) (r : Result Names DecodeError) → (e ≡ OutOfMemory → ⊥) → (e ≡ OutOfMemory) ⊎ (r ≡ Err e) → r ≡ Err e
+fails-too e r other (inl memory) = absurd (other memory)
+fails-too e r other (inr fails) = fails
+
+stays : (e : DecodeError) (x y : Names) → (e ≡ OutOfMemory → ⊥) → (e ≡ OutOfMemory) ⊎ (x ≡ y) → x ≡ y
+stays e x y other (inl memory) = absurd (other memory)
+stays e x y other (inr same) = same
+
+pub returns-in-Ok-keep_segment-clause-value : goal.returns-in-Ok-keep_segment-clause-value
+returns-in-Ok-keep_segment-clause-value g c =
+    let reading = c.args.reading in
+    let p = segment_view c.args.segment.now in
+    let number = c.args.segment.now.header.segment_number in
+    let inside : KeptGlobals = record { names = c.self.inside.names; passed_over = c.self.inside.passed_over; cut_off = c.self.inside.cut_off } in
+    let meant : KeptGlobals → Result KeptGlobals DecodeError = λ shared. or_shared_without reading (fault_of (kept_by true no_names p shared.names)) number shared (kept_by (is_strict reading) no_names p shared.names) in
+    let other : c.in-Err.fault ≡ OutOfMemory → ⊥ = elim c.match-matches.branch [
+      | in-OutOfMemory w ↦ λ memory. false≢true (sym c.if-matches.false ∙ w.matches-is)
+      | in_default w ↦ w.in_default.not-OutOfMemory
+    ] in
+    let same = stays c.in-Err.fault c.keep_segment.new.names inside.names other c.in-Err.ensures.unchanged in
     ap meant (sym c.self.view_is)
-    ∙ ap (λ (b : Bool). or_shared_without reading b number inside (kept_by (is_strict reading) no_names p inside.names)) (ap (λ (shared : KeptGlobals). dictionary_lacks shared.names no_names p) c.self.view_is ∙ sym c.lacks-lacks.ensures)
-    ∙ taken reading c.lacks-lacks.result number inside _ c.keep_segment.new.names c.tell_lack.new.self kept c.tell_lack.ensures
+    ∙ forgiven reading number inside p c.in-Err.fault (Ok c.keep_segment-2.new.names) (sym c.is_strict.ensures ∙ c.if-is_strict.false) (fails-too c.in-Err.fault (kept_by true no_names p inside.names) other c.in-Err.ensures.value)
+    (ap (λ (n : Names). kept_by false no_names p n) (sym same) ∙ c.in-Ok-keep_segment.ensures.value)
+    ∙ ap (λ (q : PassedOver). let made : Result KeptGlobals DecodeError = Ok (record { names = c.keep_segment-2.new.names; passed_over = q; cut_off = inside.cut_off }) in made) (sym c.add.ensures)
 
 pub returns-then-not-is_salvaged-clause-value : goal.returns-then-not-is_salvaged-clause-value
 returns-then-not-is_salvaged-clause-value g c =
@@ -58,15 +103,22 @@ returns-then-not-is_salvaged-clause-value g c =
     let p = segment_view c.args.segment.now in
     let number = c.args.segment.now.header.segment_number in
     let inside : KeptGlobals = record { names = c.self.inside.names; passed_over = c.self.inside.passed_over; cut_off = c.self.inside.cut_off } in
-    let meant : KeptGlobals → Result KeptGlobals DecodeError = λ shared. or_shared_without reading (dictionary_lacks shared.names no_names p) number shared (kept_by (is_strict reading) no_names p shared.names) in
+    let meant : KeptGlobals → Result KeptGlobals DecodeError = λ shared. or_shared_without reading (fault_of (kept_by true no_names p shared.names)) number shared (kept_by (is_strict reading) no_names p shared.names) in
+    let error = c.in-Err-keep_segment.error in
+    let other : c.in-Err.fault ≡ OutOfMemory → ⊥ = elim c.match-matches.branch [
+      | in-OutOfMemory w ↦ λ memory. false≢true (sym c.if-matches.false ∙ w.matches-is)
+      | in_default w ↦ w.in_default.not-OutOfMemory
+    ] in
+    let same = stays c.in-Err.fault c.keep_segment.new.names inside.names other c.in-Err.ensures.unchanged in
     ⊎_elim
-    (λ (memory : c.in-Err.error ≡ OutOfMemory). inl memory)
+    (λ (memory : error ≡ OutOfMemory). inl memory)
     (λ fails.
     inr
     (ap meant (sym c.self.view_is)
-    ∙ refused reading (dictionary_lacks inside.names no_names p) number inside (kept_by (is_strict reading) no_names p inside.names) c.in-Err.error
-    (ap (λ (b : Bool). kept_by b no_names p inside.names) (sym c.is_strict.ensures) ∙ fails) (sym c.if-not-is_salvaged.ensures.value)))
-    c.in-Err.ensures.value
+    ∙ forgiven reading number inside p c.in-Err.fault (Err error) (sym c.is_strict.ensures ∙ c.if-is_strict.false) (fails-too c.in-Err.fault (kept_by true no_names p inside.names) other c.in-Err.ensures.value)
+    (ap (λ (n : Names). kept_by false no_names p n) (sym same) ∙ fails)
+    ∙ cond-false (is_salvaged reading error) (Ok (record inside { passed_over = with_passed (Some number) error inside.passed_over })) (Err error) (sym c.if-not-is_salvaged.ensures.value)))
+    c.in-Err-keep_segment.ensures.value
 
 pub returns-clause-value : goal.returns-clause-value
 returns-clause-value g c =
@@ -74,9 +126,19 @@ returns-clause-value g c =
     let p = segment_view c.args.segment.now in
     let number = c.args.segment.now.header.segment_number in
     let inside : KeptGlobals = record { names = c.self.inside.names; passed_over = c.self.inside.passed_over; cut_off = c.self.inside.cut_off } in
-    let meant : KeptGlobals → Result KeptGlobals DecodeError = λ shared. or_shared_without reading (dictionary_lacks shared.names no_names p) number shared (kept_by (is_strict reading) no_names p shared.names) in
-    let salvaged : is_salvaged reading c.in-Err.error ≡ true = sym c.if-not-is_salvaged.ensures.value in
-    let fails = left-out reading c.in-Err.error (kept_by c.is_strict.result no_names p inside.names) c.in-Err.ensures.value salvaged in
+    let meant : KeptGlobals → Result KeptGlobals DecodeError = λ shared. or_shared_without reading (fault_of (kept_by true no_names p shared.names)) number shared (kept_by (is_strict reading) no_names p shared.names) in
+    let error = c.in-Err-keep_segment.error in
+    let other : c.in-Err.fault ≡ OutOfMemory → ⊥ = elim c.match-matches.branch [
+      | in-OutOfMemory w ↦ λ memory. false≢true (sym c.if-matches.false ∙ w.matches-is)
+      | in_default w ↦ w.in_default.not-OutOfMemory
+    ] in
+    let same = stays c.in-Err.fault c.keep_segment.new.names inside.names other c.in-Err.ensures.unchanged in
+    let salvaged : is_salvaged reading error ≡ true = sym c.if-not-is_salvaged.ensures.value in
+    let fails = left-out reading error (kept_by false no_names p c.keep_segment.new.names) c.in-Err-keep_segment.ensures.value salvaged in
+    let kept_names : c.keep_segment-2.new.names ≡ inside.names = unchanged reading error c.keep_segment-2.new.names c.keep_segment.new.names c.in-Err-keep_segment.ensures.unchanged salvaged ∙ same in
     ap meant (sym c.self.view_is)
-    ∙ left reading (dictionary_lacks inside.names no_names p) number inside (kept_by (is_strict reading) no_names p inside.names) c.in-Err.error c.keep_segment.new.names c.add.new.self
-    (ap (λ (b : Bool). kept_by b no_names p inside.names) (sym c.is_strict.ensures) ∙ fails) salvaged (unchanged reading c.in-Err.error c.keep_segment.new.names inside.names c.in-Err.ensures.unchanged salvaged) c.add.ensures
+    ∙ forgiven reading number inside p c.in-Err.fault (Err error) (sym c.is_strict.ensures ∙ c.if-is_strict.false) (fails-too c.in-Err.fault (kept_by true no_names p inside.names) other c.in-Err.ensures.value)
+    (ap (λ (n : Names). kept_by false no_names p n) (sym same) ∙ fails)
+    ∙ cond-true (is_salvaged reading error) (Ok (record inside { passed_over = with_passed (Some number) error inside.passed_over })) (Err error) salvaged
+    ∙ ap (λ (q : PassedOver). let made : Result KeptGlobals DecodeError = Ok (record { names = inside.names; passed_over = q; cut_off = inside.cut_off }) in made) (sym c.add-in-Err-keep_segment.ensures)
+    ∙ ap (λ (n : Names). let made : Result KeptGlobals DecodeError = Ok (record { names = n; passed_over = c.add-in-Err-keep_segment.new.self; cut_off = inside.cut_off }) in made) (sym kept_names)

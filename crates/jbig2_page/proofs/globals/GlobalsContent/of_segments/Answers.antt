@@ -1,4 +1,4 @@
-use Rattle.std.proofs.Common.{◌≡◌, ℕ, suc, ◌+◌, ◌<◌, ◌≤◌, List, ◌∷◌, length, drop, get_or, Bool, true, false, Some, Result, Ok, Err, inl, inr, ⊎_elim, sym, ap, subst, ◌∙◌, arith}
+use Rattle.std.proofs.Common.{Option, None, ◌≡◌, ℕ, suc, ◌+◌, ◌<◌, ◌≤◌, List, ◌∷◌, length, drop, get_or, true, Some, Result, Ok, Err, inl, inr, ⊎_elim, sym, ap, subst, ◌∙◌, arith}
 use Rattle.std.proofs.Math.Seq.{drop-cons}
 use Rattle.std.proofs.lemmas.Bool.{cond_both}
 use Rattle.std.proofs.lemmas.List.{at_drop_all}
@@ -9,13 +9,13 @@ use Rattle.jbig2_base.specs.declared.error.DecodeError.{DecodeError}
 use Rattle.jbig2_base.specs.declared.error.DecodeError.TheVariants.{OutOfMemory}
 use Rattle.jbig2_framing.specs.declared.reading.Reading.{Reading}
 use Rattle.jbig2_framing.specs.declared.segment.Segment.{Segment}
-use Rattle.jbig2_page.specs.Names.{shared_from, Names, KeptGlobals, dictionary_lacks, kept_by, no_names, or_shared_without, with_passed}
+use Rattle.jbig2_page.specs.Names.{shared_from, Names, KeptGlobals, fault_of, kept_by, no_names, or_shared_without, with_passed}
 use Rattle.jbig2_steps.proofs.WorkLemmas.{paid-limit}
 use Rattle.jbig2_page.proofs.globals.GlobalsContent.of_segments.Goals as goal
 
 -- what a segment makes of what was shared before it
 abbrev after : {A : Type 0} → Reading → Segment A → KeptGlobals → Result KeptGlobals DecodeError
-after reading item shared = or_shared_without reading (dictionary_lacks shared.names no_names (segment_view item)) item.header.segment_number shared (kept_by (is_strict reading) no_names (segment_view item) shared.names)
+after reading item shared = or_shared_without reading (fault_of (kept_by true no_names (segment_view item) shared.names)) item.header.segment_number shared (kept_by (is_strict reading) no_names (segment_view item) shared.names)
 
 -- a segment that is refused ends the names
 refused-segment : {A : Type 0} (reading : Reading) (segments : List (Segment A)) (i : ℕ) (item : Segment A) (shared : KeptGlobals) (e : DecodeError) → i < length segments → item ≡ get_or segments i item → after reading item shared ≡ Err e → shared_from reading (segment_views (drop i segments)) shared ≡ Err e
@@ -31,10 +31,10 @@ taken-segment reading segments i item shared more inside is taken =
     rw (here, taken, next)
 
 -- a segment adds at most one
-counts-on : (reading : Reading) (lacks : Bool) (number : ℕ) (shared : KeptGlobals) (r : Result Names DecodeError) → IfOk (or_shared_without reading lacks number shared r) (λ more. more.passed_over.count ≤ shared.passed_over.count + 1)
-counts-on reading true number shared (Ok names) = omega arith
-counts-on reading false number shared (Ok names) = omega arith
-counts-on reading lacks number shared (Err e) =
+counts-on : (reading : Reading) (fault : Option DecodeError) (number : ℕ) (shared : KeptGlobals) (r : Result Names DecodeError) → IfOk (or_shared_without reading fault number shared r) (λ more. more.passed_over.count ≤ shared.passed_over.count + 1)
+counts-on reading None number shared (Ok names) = omega arith
+counts-on reading (Some e) number shared (Ok names) = omega arith
+counts-on reading fault number shared (Err e) =
     cond_both (is_salvaged reading e) (Ok (record shared { passed_over = with_passed (Some number) e shared.passed_over })) (Err e)
     (λ (r : Result KeptGlobals DecodeError). IfOk r (λ more. more.passed_over.count ≤ shared.passed_over.count + 1)) (λ left. omega arith) (λ kept. tt)
 
@@ -44,7 +44,7 @@ loop-segment-preserved g c =
     let item = c.segment-item.result in
     let more : c.add.new.self.passed_over.count ≤ shared.passed_over.count + 1 =
     subst (λ (r : Result KeptGlobals DecodeError). IfOk r (λ s. s.passed_over.count ≤ shared.passed_over.count + 1)) c.in-Ok.ensures.value
-    (counts-on c.args.reading (dictionary_lacks shared.names no_names (segment_view item)) item.header.segment_number shared (kept_by (is_strict c.args.reading) no_names (segment_view item) shared.names)) in
+    (counts-on c.args.reading (fault_of (kept_by true no_names (segment_view item) shared.names)) item.header.segment_number shared (kept_by (is_strict c.args.reading) no_names (segment_view item) shared.names)) in
     record {
       named =
           taken-segment c.args.reading c.args.segments.now c.loop-segment.segment-index item shared c.add.new.self (omega arith) c.segment-item.is c.in-Ok.ensures.value
