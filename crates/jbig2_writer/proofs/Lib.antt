@@ -1,0 +1,3 @@
+pub mod ContextLemmas
+pub mod EntryLemmas
+pub mod RowLemmas

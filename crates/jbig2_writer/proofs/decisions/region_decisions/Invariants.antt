@@ -1,0 +1,10 @@
+use Rattle.std.proofs.Common.{◌≡◌}
+use Rattle.jbig2_writer.specs.Rows.{predicted_before, rows_decisions}
+use Rattle.jbig2_writer.proofs.decisions.region_decisions.Given as goal
+
+abbrev pub invariant-loop-y : goal.invariant-loop-y
+invariant-loop-y g l = record {
+  rows : l.decisions.items ≡ rows_decisions l.settings l.bitmap l.y;
+  predicted : l.predicted ≡ predicted_before l.settings l.bitmap l.y;
+  steps : l.steps ≡ record l.initial.steps { loads = l.steps.loads };
+}
