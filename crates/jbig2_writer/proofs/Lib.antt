@@ -1,3 +1,4 @@
 pub mod ContextLemmas
 pub mod EntryLemmas
 pub mod RowLemmas
+pub mod SegmentLemmas

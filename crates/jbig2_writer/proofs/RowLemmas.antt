@@ -1,7 +1,7 @@
 -- The decisions of a row, as they are added one by one.
-use Rattle.std.proofs.Common.{◌≡◌, ℕ, zero, suc, ◌+◌, ◌<◌, Bool, true, false, cond, eqb, not, ◌&&◌, List, [], ◌∷◌, ◌++◌, refl, sym, ◌∙◌, ap, arith, add-one, append-nil, append_assoc, ⊎_elim}
+use Rattle.std.proofs.Common.{◌≡◌, ℕ, zero, suc, ◌+◌, ◌<◌, Bool, true, false, cond, eqb, not, List, [], ◌∷◌, ◌++◌, refl, sym, ◌∙◌, ap, arith, add-one, append-nil, append_assoc, ⊎_elim}
 use Rattle.std.specs.Bool.{beq}
-use Rattle.std.proofs.lemmas.Bool.{and_left, and_right, cases_eq, cond-true, cond-false}
+use Rattle.std.proofs.lemmas.Bool.{and_left, and_right, cases_eq}
 use Rattle.jbig2_base.specs.Grid.{Grid, bit_number, differ, pixel_at, same_colour}
 use Rattle.jbig2_region.specs.Generic.{context_at}
 use Rattle.jbig2_region.specs.Templates.{row_context}

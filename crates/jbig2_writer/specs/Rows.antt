@@ -1,5 +1,5 @@
 -- The decisions of a region row by row, as the writer makes them: each context is made from the whole bitmap.
-use Rattle.std.specs.Prelude.{ℕ, zero, suc, ◌+◌, Bool, false, if◌then◌else◌, List, [], ◌∷◌, ◌++◌}
+use Rattle.std.specs.Prelude.{ℕ, zero, suc, Bool, false, if◌then◌else◌, List, [], ◌∷◌, ◌++◌}
 use Rattle.jbig2_base.specs.Grid.{Grid, differ, pixel_at}
 use Rattle.jbig2_region.specs.Generic.{context_at}
 use Rattle.jbig2_region.specs.Templates.{nominal_adaptive_pixels, row_context, template_pixels}

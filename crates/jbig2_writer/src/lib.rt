@@ -5,6 +5,7 @@
 mod context;
 mod decisions;
 mod error;
+mod segments;
 mod settings;
 
 pub use error::WriteError;
