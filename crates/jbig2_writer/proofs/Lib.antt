@@ -1,4 +1,5 @@
 pub mod ContextLemmas
 pub mod EntryLemmas
+pub mod PageLemmas
 pub mod RowLemmas
 pub mod SegmentLemmas

@@ -18,3 +18,7 @@ page_information width height =
 
 abbrev pub region_data : WriteSettings → ℕ → ℕ → List ℕ → List ℕ  -- a generic region with these coded bytes (7.4.6)
 region_data s width height coded = generic_bytes (region_with (choice_of s) width height (λ _ _. false) false coded)
+
+abbrev pub segments_of : WriteSettings → ℕ → ℕ → List ℕ → List ℕ  -- page information and the region with these coded bytes
+segments_of s width height coded =
+    segment_of 0 48 (page_information width height) ++ segment_of 1 38 (region_data s width height coded)

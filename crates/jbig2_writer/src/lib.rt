@@ -5,8 +5,10 @@
 mod context;
 mod decisions;
 mod error;
+mod page;
 mod segments;
 mod settings;
 
 pub use error::WriteError;
+pub use page::{MAX_PIXELS, write_page};
 pub use settings::WriteSettings;
