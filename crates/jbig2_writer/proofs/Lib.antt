@@ -3,3 +3,4 @@ pub mod EntryLemmas
 pub mod PageLemmas
 pub mod RowLemmas
 pub mod SegmentLemmas
+mod WriterWorked

@@ -34,7 +34,8 @@ fn is_as_above<B: Allocator, L: Ledger>(bitmap: &Bitmap<B>, y: u32, steps: &mut 
         (row_above (pixel_at bitmap.now) y) }
     ensures steps { steps.new ≡ record steps.old { loads = steps.new.loads } }
 {
-    for x in 0..bitmap.width() {
+    let width = bitmap.width();
+    for x in 0..width {
         if bitmap.get_pixel(x, y, steps) != pixel_above(bitmap, x, y, steps) {
             return false;
         }

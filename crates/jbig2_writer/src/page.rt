@@ -20,6 +20,7 @@ pub const MAX_PIXELS: u64 = 1_000_000_000;
 
 /// The types of the two segments (7.3).
 const PAGE_INFORMATION: u8 = 48;
+
 const IMMEDIATE_GENERIC_REGION: u8 = 38;
 
 /// Whether a page can have a side of this length.
