@@ -1,5 +1,5 @@
 -- The contexts of the pixels, as they are made step by step, and as the pixels before them make them.
-use Rattle.std.proofs.Common.{◌≡◌, ℕ, ◌+◌, ◌*◌, ◌^◌, ◌<◌, ◌≤◌, Bool, true, false, ◌&&◌, ◌||◌, List, [], ◌∷◌, length, drop, get_or, map, ℤ, pos, negsuc, ◌+ℤ◌, ◌<ℤ◌, ◌≤ℤ◌, ◌⊎◌, inl, inr, refl, sym, ◌∙◌, ap, arith, ⊎_elim}
+use Rattle.std.proofs.Common.{◌≡◌, ℕ, ◌+◌, ◌-◌, ◌*◌, ◌^◌, ◌<◌, ◌≤◌, Bool, true, false, ◌&&◌, ◌||◌, List, [], ◌∷◌, length, drop, get_or, map, ℤ, pos, negsuc, ◌+ℤ◌, ◌<ℤ◌, ◌≤ℤ◌, ◌⊎◌, inl, inr, refl, sym, ◌∙◌, ap, arith, ⊎_elim}
 use Rattle.std.specs.Prelude.{int_le, int_lt}
 use Rattle.std.proofs.lemmas.Bool.{and_parts, or_cases, cases_lt}
 use Rattle.std.proofs.lemmas.Int.{ints}
@@ -14,7 +14,7 @@ use Rattle.jbig2_region.specs.declared.template.AdaptiveTemplatePixel.{AdaptiveT
 use Rattle.jbig2_region.specs.Templates.{is_earlier}
 use Rattle.jbig2_region.specs.declared.template.Template.{Template}
 use Rattle.jbig2_region.specs.declared.template.Template.TheVariants.{Template0, Template1, Template2, Template3}
-use Rattle.jbig2_region.proofs.ContextLemmas.{context-lt}
+use Rattle.jbig2_region.proofs.ContextLemmas.{context-lt, context-step}
 use Rattle.jbig2_inverses.specs.RegionWriter.{pixels_before}
 use Rattle.jbig2_inverses.proofs.RegionInverse.{pixel-before}
 use Rattle.jbig2_writer.specs.Rows.{places}
@@ -26,9 +26,16 @@ context-half places g x y k few some =
     let below : 2 ^ length (drop k places) ≤ 2 ^ 15 = pow-le-pow_right (omega arith) short in
     omega (arith, context-lt (drop k places) g x y)
 
-pub bit-few : (b : Bool) (n : ℕ) → n ≡ bit_number b → n ≤ 1
-bit-few true n e = omega arith
-bit-few false n e = omega arith
+pub bit-few : (b : Bool) (n m : ℕ) → n ≡ m → m ≡ bit_number b → n ≤ 1
+bit-few true n m same e = omega (arith, same, e)
+bit-few false n m same e = omega (arith, same, e)
+
+-- one pixel more
+pub context-more : (places : List AdaptiveTemplatePixel) (g : Grid) (x y left : ℕ) (p : AdaptiveTemplatePixel) (number bit byte : ℕ) → 0 < left → left ≤ length places → number ≡ context_at (drop left places) g x y → byte ≡ bit
+    → bit ≡ bit_number (pixel g (pos x +ℤ (get_or places (left - 1) p).x) (pos y +ℤ (get_or places (left - 1) p).y)) → 2 * number + byte ≡ context_at (drop (left - 1) places) g x y
+context-more places g x y left p number bit byte some few is_number same is_bit =
+    let next : left ≡ left - 1 + 1 = omega (arith, some) in
+    context-step places g x y (left - 1) p number byte (omega (arith, some, few)) (is_number ∙ ap (λ (k : ℕ). context_at (drop k places) g x y) next) (same ∙ is_bit)
 
 -- ---- contexts from the pixels so far
 abbrev pub all_earlier : List AdaptiveTemplatePixel → Bool  -- all places come before the pixel that is coded

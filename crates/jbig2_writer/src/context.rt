@@ -116,6 +116,7 @@ fn pixel_near<A: Allocator, L: Ledger>(
     requires row { y < 65536 }
     ensures value { result ≡ bit_number (pixel bitmap.now (pos x +ℤ place.x) (pos y +ℤ place.y)) }
     ensures steps { steps.new ≡ record steps.old { loads = steps.new.loads } }
+    ensures loads { steps.new.loads ≤ steps.old.loads + 1 }
 {
     let column = x as i32 + i32::from(place.x);
     let row = y as i32 + i32::from(place.y);
@@ -135,6 +136,7 @@ pub fn context_at<A: Allocator, L: Ledger>(
     requires row { y < 65536 }
     ensures value { result ≡ context_at places.now bitmap.now x y }
     ensures steps { steps.new ≡ record steps.old { loads = steps.new.loads } }
+    ensures loads { steps.new.loads ≤ steps.old.loads + 16 }
 {
     let mut context = 0;
     let mut left = places.len();

@@ -1,5 +1,5 @@
 //! The decisions of a generic region, each with the number of its context (T.88, 6.2.5).
-ghost use Rattle.std.specs.Prelude.{◌≡◌, ◌+◌, ◌<◌, ◌≤◌, ◌++◌, length, IfOk, OnOk};
+ghost use Rattle.std.specs.Prelude.{◌≡◌, ◌+◌, ◌*◌, ◌<◌, ◌≤◌, ◌++◌, length, IfOk, OnOk};
 ghost use Rattle.jbig2_base.specs.Grid.{bit_number, max_side, pixel_at};
 ghost use Rattle.jbig2_inverses.specs.RegionWriter.{row_above, same_rows};
 ghost use Rattle.jbig2_writer.specs.Rows.{pixel_decisions, row_decisions, rows_decisions, typical_row};
@@ -21,6 +21,7 @@ fn pixel_above<B: Allocator, L: Ledger>(
 ) -> u8
     ensures value { result ≡ bit_number (row_above (pixel_at bitmap.now) y x) }
     ensures steps { steps.new ≡ record steps.old { loads = steps.new.loads } }
+    ensures loads { steps.new.loads ≤ steps.old.loads + 1 }
 {
     if y == 0 {
         return 0;
@@ -33,6 +34,7 @@ fn is_as_above<B: Allocator, L: Ledger>(bitmap: &Bitmap<B>, y: u32, steps: &mut 
     ensures value { result ≡ same_rows bitmap.now.width (λ x. pixel_at bitmap.now x y)
         (row_above (pixel_at bitmap.now) y) }
     ensures steps { steps.new ≡ record steps.old { loads = steps.new.loads } }
+    ensures loads { steps.new.loads ≤ steps.old.loads + 2 * bitmap.now.width }
 {
     let width = bitmap.width();
     for x in 0..width {
@@ -57,6 +59,7 @@ fn push_pixels<A: Allocator, B: Allocator, L: Ledger>(
     ensures pixels { OnOk result (decisions.new.items
         ≡ decisions.old.items ++ pixel_decisions places.now bitmap.now y bitmap.now.width) }
     ensures steps { steps.new ≡ record steps.old { loads = steps.new.loads } }
+    ensures loads { steps.new.loads ≤ steps.old.loads + 17 * bitmap.now.width }
 {
     for x in 0..bitmap.width() {
         let context = context_at(places, bitmap, x, y, steps);
@@ -81,6 +84,7 @@ fn push_row<A: Allocator, B: Allocator, L: Ledger>(
         ≡ decisions.old.items ++ row_decisions settings.now bitmap.now y predicted) }
     ensures typical { IfOk result (λ typical. typical ≡ typical_row settings.now bitmap.now y) }
     ensures steps { steps.new ≡ record steps.old { loads = steps.new.loads } }
+    ensures loads { steps.new.loads ≤ steps.old.loads + 19 * bitmap.now.width }
 {
     let places = places(settings.template);
     if !settings.typical {
@@ -108,6 +112,8 @@ pub fn region_decisions<A: Allocator, B: Allocator, L: Ledger>(
     ensures rows { IfOk result
         (λ v. v.items ≡ rows_decisions settings.now bitmap.now bitmap.now.height) }
     ensures steps { steps.new ≡ record steps.old { loads = steps.new.loads } }
+    ensures loads { steps.new.loads
+        ≤ steps.old.loads + 19 * (bitmap.now.width * bitmap.now.height) }
 {
     let mut decisions = Vec::new(alloc);
     let mut predicted = false;

@@ -1,5 +1,5 @@
 //! Writes a bitmap as an embedded page (T.88, D.3).
-ghost use Rattle.std.specs.Prelude.{◌≡◌, ◌+◌, ◌^◌, ◌<◌, ◌≤◌, length, IfOk};
+ghost use Rattle.std.specs.Prelude.{◌≡◌, ◌+◌, ◌*◌, ◌^◌, ◌<◌, ◌≤◌, length, IfOk};
 ghost use Rattle.jbig2_base.specs.Grid.{max_side, pixel_at};
 ghost use Rattle.jbig2_page_inverse.specs.PageWriter.{coded_bytes};
 ghost use Rattle.jbig2_writer.specs.Segments.{segments_of};
@@ -56,6 +56,8 @@ fn coded_region<A: Allocator + Clone, B: Allocator, L: Ledger>(
     ensures coded { let g = bitmap.now in IfOk result
         (λ v. v.items ≡ coded_bytes (choice_of settings.now) g.width g.height (pixel_at g)) }
     ensures steps { steps.new ≡ record steps.old { loads = steps.new.loads } }
+    ensures loads { steps.new.loads
+        ≤ steps.old.loads + 19 * (bitmap.now.width * bitmap.now.height) }
 {
     let decisions = region_decisions(alloc.clone()?, bitmap, settings, steps)?;
     encode_list(alloc, decisions.as_slice()).map_err(|_| AllocError)
@@ -83,7 +85,8 @@ fn segments<A: Allocator + Clone>(
 }
 
 /// Writes the bitmap as an embedded page (T.88, D.3), as a PDF file holds it: page information, and one immediate
-/// generic region of the page's size. The region is coded as `settings` say. The steps count the loads of pixels.
+/// generic region of the page's size. The region is coded as `settings` say. The steps count loads of pixels, at most
+/// 19 for each pixel of the bitmap.
 ///
 /// Returns `InvalidSides` if a side is 0 or above 65535, `TooLarge` if there are more than 1,000,000,000 pixels, and
 /// `OutOfMemory` if memory is refused.
@@ -97,6 +100,8 @@ pub fn write_page<A: Allocator + Clone, B: Allocator, L: Ledger>(
     // The definition of a page reads the bitmap back, whatever settings were taken.
     ensures reads_back { IfOk result (λ v. ReadsBack v.items bitmap.now) }
     ensures steps { steps.new ≡ record steps.old { loads = steps.new.loads } }
+    ensures loads { steps.new.loads
+        ≤ steps.old.loads + 19 * (bitmap.now.width * bitmap.now.height) }
 {
     let width = bitmap.width();
     let height = bitmap.height();
