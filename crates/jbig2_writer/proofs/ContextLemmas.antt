@@ -17,7 +17,7 @@ use Rattle.jbig2_region.specs.declared.template.Template.TheVariants.{Template0,
 use Rattle.jbig2_region.proofs.ContextLemmas.{context-lt, context-step}
 use Rattle.jbig2_inverses.specs.RegionWriter.{pixels_before}
 use Rattle.jbig2_inverses.proofs.RegionInverse.{pixel-before}
-use Rattle.jbig2_writer.specs.Rows.{places}
+use Rattle.jbig2_writer.specs.inner.Rows.{places}
 
 -- fifteen pixels make a number of fifteen bits
 pub context-half : (places : List AdaptiveTemplatePixel) (g : Grid) (x y k : ℕ) → length places ≤ 16 → 0 < k → context_at (drop k places) g x y < 32768

@@ -9,7 +9,7 @@ use Rattle.jbig2_region.specs.Templates.{row_context}
 use Rattle.jbig2_inverses.specs.CoderStates.{Entry}
 use Rattle.jbig2_inverses.specs.RegionWriter.{entries_before, known_or, ltp_before, ltp_entries, pixel_entries, pixels_before, row_entries}
 use Rattle.jbig2_writer.specs.declared.settings.WriteSettings.{WriteSettings}
-use Rattle.jbig2_writer.specs.Rows.{pixel_decisions, places, predicted_before, row_decisions, rows_decisions, typical_row}
+use Rattle.jbig2_writer.specs.inner.Rows.{pixel_decisions, places, predicted_before, row_decisions, rows_decisions, typical_row}
 use Rattle.jbig2_writer.proofs.ContextLemmas.{context-same, places-earlier}
 
 known-of : (t c : Bool) (e : Entry) → known_or (cond t (Some c) (cond false (Some false) None)) e ≡ cond t [] (e ∷ [])

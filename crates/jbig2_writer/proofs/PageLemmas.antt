@@ -24,8 +24,8 @@ use Rattle.jbig2_page.specs.Page.{IsSide, page_from}
 use Rattle.jbig2_page_inverse.specs.PageWriter.{IsChoice, coded_bytes, page_bytes, region_with}
 use Rattle.jbig2_page_inverse.proofs.PageInverse.{pages_read_back}
 use Rattle.jbig2_writer.specs.declared.settings.WriteSettings.{WriteSettings}
-use Rattle.jbig2_writer.specs.Rows.{rows_decisions}
-use Rattle.jbig2_writer.specs.Segments.{page_information, region_data, segment_of, segments_of}
+use Rattle.jbig2_writer.specs.inner.Rows.{rows_decisions}
+use Rattle.jbig2_writer.specs.inner.Segments.{page_information, region_data, segment_of, segments_of}
 use Rattle.jbig2_writer.specs.Written.{ReadsBack, check_size, choice_of, is_side, max_pixels, written}
 use Rattle.jbig2_writer.specs.declared.error.WriteError.{WriteError}
 use Rattle.jbig2_writer.specs.declared.error.WriteError.TheVariants.{InvalidSides, TooLarge}

@@ -9,7 +9,7 @@ use Rattle.jbig2_region.specs.declared.template.AdaptiveTemplatePixel.{AdaptiveT
 use Rattle.jbig2_inverses.specs.CoderStates.{Entry}
 use Rattle.jbig2_inverses.specs.RegionWriter.{row_above, same_rows}
 use Rattle.jbig2_writer.specs.declared.settings.WriteSettings.{WriteSettings}
-use Rattle.jbig2_writer.specs.Rows.{pixel_decisions, places, predicted_before, row_decisions, rows_decisions, typical_row}
+use Rattle.jbig2_writer.specs.inner.Rows.{pixel_decisions, places, predicted_before, row_decisions, rows_decisions, typical_row}
 
 -- ---- typical rows
 unlike : (a b : Bool) → (bit_number a ≡ bit_number b → ⊥) → same_colour a b ≡ false

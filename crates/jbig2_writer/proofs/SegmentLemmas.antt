@@ -6,7 +6,7 @@ use Rattle.jbig2_base.specs.Grid.{bit_number}
 use Rattle.jbig2_region.specs.Templates.{nominal_adaptive_pixels}
 use Rattle.jbig2_inverses.specs.GenericSegmentWriter.{adaptive_bytes, generic_bytes, info_bytes, template_number}
 use Rattle.jbig2_writer.specs.declared.settings.WriteSettings.{WriteSettings}
-use Rattle.jbig2_writer.specs.Segments.{page_information, region_data, segment_of}
+use Rattle.jbig2_writer.specs.inner.Segments.{page_information, region_data, segment_of}
 
 -- three parts that are added one after another
 three : (old a b c ra rb rc : List ℕ) → ra ≡ old ++ a → rb ≡ ra ++ b → rc ≡ rb ++ c → rc ≡ old ++ (a ++ (b ++ c))

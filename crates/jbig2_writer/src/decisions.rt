@@ -2,7 +2,7 @@
 ghost use Rattle.std.specs.Prelude.{◌≡◌, ◌+◌, ◌*◌, ◌<◌, ◌≤◌, ◌++◌, length, IfOk, OnOk};
 ghost use Rattle.jbig2_base.specs.Grid.{bit_number, max_side, pixel_at};
 ghost use Rattle.jbig2_inverses.specs.RegionWriter.{row_above, same_rows};
-ghost use Rattle.jbig2_writer.specs.Rows.{pixel_decisions, row_decisions, rows_decisions, typical_row};
+ghost use Rattle.jbig2_writer.specs.inner.Rows.{pixel_decisions, row_decisions, rows_decisions, typical_row};
 
 use crate::context::{context_at, places, row_context};
 use crate::settings::WriteSettings;

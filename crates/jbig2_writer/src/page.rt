@@ -2,7 +2,7 @@
 ghost use Rattle.std.specs.Prelude.{◌≡◌, ◌+◌, ◌*◌, ◌^◌, ◌<◌, ◌≤◌, length, IfOk};
 ghost use Rattle.jbig2_base.specs.Grid.{max_side, pixel_at};
 ghost use Rattle.jbig2_page_inverse.specs.PageWriter.{coded_bytes};
-ghost use Rattle.jbig2_writer.specs.Segments.{segments_of};
+ghost use Rattle.jbig2_writer.specs.inner.Segments.{segments_of};
 ghost use Rattle.jbig2_writer.specs.Written.{Gives, ReadsBack, check_size, choice_of, is_side, written};
 
 use crate::decisions::region_decisions;
@@ -18,9 +18,10 @@ use std::sync::ledger::Ledger;
 /// The most pixels of a bitmap that is written, so that its segment can state the length of its data (7.2.7).
 pub const MAX_PIXELS: u64 = 1_000_000_000;
 
-/// The types of the two segments (7.3).
+/// The type of page information (7.3).
 const PAGE_INFORMATION: u8 = 48;
 
+/// The type of an immediate generic region (7.3).
 const IMMEDIATE_GENERIC_REGION: u8 = 38;
 
 /// Whether a page can have a side of this length.

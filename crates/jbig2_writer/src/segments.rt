@@ -4,7 +4,7 @@ ghost use Rattle.std.specs.List.{flat_map};
 ghost use Rattle.jbig2_base.specs.Grid.{bit_number};
 ghost use Rattle.jbig2_inverses.specs.GenericSegmentWriter.{adaptive_bytes, template_number};
 ghost use Rattle.jbig2_region.specs.Templates.{nominal_adaptive_pixels};
-ghost use Rattle.jbig2_writer.specs.Segments.{page_information, region_data, segment_of};
+ghost use Rattle.jbig2_writer.specs.inner.Segments.{page_information, region_data, segment_of};
 
 use crate::settings::WriteSettings;
 use jbig2_region::template::Template;

@@ -1,5 +1,5 @@
 use Rattle.std.proofs.Common.{◌≡◌, ◌++◌, ◌≤◌, ◌+◌, ◌*◌}
-use Rattle.jbig2_writer.specs.Rows.{pixel_decisions}
+use Rattle.jbig2_writer.specs.inner.Rows.{pixel_decisions}
 use Rattle.jbig2_writer.proofs.decisions.push_pixels.Given as goal
 
 abbrev pub invariant-loop-x : goal.invariant-loop-x

@@ -1,5 +1,5 @@
 use Rattle.std.proofs.Common.{◌≡◌, ◌≤◌, ◌+◌, ◌*◌}
-use Rattle.jbig2_writer.specs.Rows.{predicted_before, rows_decisions}
+use Rattle.jbig2_writer.specs.inner.Rows.{predicted_before, rows_decisions}
 use Rattle.jbig2_writer.proofs.decisions.region_decisions.Given as goal
 
 abbrev pub invariant-loop-y : goal.invariant-loop-y
