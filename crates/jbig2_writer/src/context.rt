@@ -12,13 +12,13 @@ use std::alloc::Allocator;
 use std::sync::ledger::Ledger;
 
 /// A list of places, each of columns to the right and rows down.
-macro_rules! places {
+macro_rules! list_of_places {
     ($(($x:expr, $y:expr)),*) => {
         [$(AdaptiveTemplatePixel { x: $x, y: $y }),*]
     };
 }
 
-static TEMPLATE_0: [AdaptiveTemplatePixel; 16] = places![
+static TEMPLATE_0: [AdaptiveTemplatePixel; 16] = list_of_places![
     (-1, 0),
     (-2, 0),
     (-3, 0),
@@ -37,7 +37,7 @@ static TEMPLATE_0: [AdaptiveTemplatePixel; 16] = places![
     (-2, -2)
 ];
 
-static TEMPLATE_1: [AdaptiveTemplatePixel; 13] = places![
+static TEMPLATE_1: [AdaptiveTemplatePixel; 13] = list_of_places![
     (-1, 0),
     (-2, 0),
     (-3, 0),
@@ -53,7 +53,7 @@ static TEMPLATE_1: [AdaptiveTemplatePixel; 13] = places![
     (-1, -2)
 ];
 
-static TEMPLATE_2: [AdaptiveTemplatePixel; 10] = places![
+static TEMPLATE_2: [AdaptiveTemplatePixel; 10] = list_of_places![
     (-1, 0),
     (-2, 0),
     (2, -1),
@@ -66,7 +66,7 @@ static TEMPLATE_2: [AdaptiveTemplatePixel; 10] = places![
     (-1, -2)
 ];
 
-static TEMPLATE_3: [AdaptiveTemplatePixel; 10] = places![
+static TEMPLATE_3: [AdaptiveTemplatePixel; 10] = list_of_places![
     (-1, 0),
     (-2, 0),
     (-3, 0),

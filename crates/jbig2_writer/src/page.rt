@@ -65,7 +65,7 @@ fn coded_region<A: Allocator + Clone, B: Allocator, L: Ledger>(
 }
 
 /// The two segments of a page of this size, whose region has these coded bytes.
-fn segments<A: Allocator + Clone>(
+fn page_segments<A: Allocator + Clone>(
     alloc: A,
     width: u32,
     height: u32,
@@ -108,6 +108,6 @@ pub fn write_page<A: Allocator + Clone, B: Allocator, L: Ledger>(
     let height = bitmap.height();
     check_size(width, height)?;
     let coded = coded_region(alloc.clone()?, bitmap, settings, steps)?;
-    let bytes = segments(alloc, width, height, settings, &coded)?;
+    let bytes = page_segments(alloc, width, height, settings, &coded)?;
     Ok(bytes)
 }
