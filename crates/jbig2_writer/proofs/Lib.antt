@@ -1,0 +1,6 @@
+pub mod ContextLemmas
+pub mod EntryLemmas
+pub mod PageLemmas
+pub mod RowLemmas
+pub mod SegmentLemmas
+mod WriterWorked

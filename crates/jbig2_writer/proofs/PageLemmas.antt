@@ -1,0 +1,179 @@
+-- The parts that are written are a page, and the page reads back.
+use Rattle.std.proofs.Common.{◌≡◌, ℕ, ◌+◌, ◌*◌, ◌<◌, ◌≤◌, Bool, true, false, not, ◌&&◌, cond, nat_le, nat_lt, List, [], ◌++◌, length, Result, Ok, Err, MatchResult, IsErrAnd, IfOk, refl, sym, ◌∙◌, ap, subst, arith, append-nil, length-append}
+use Rattle.std.specs.List.{flat_map}
+use Rattle.std.proofs.lemmas.Bool.{and_parts, not-false}
+use Rattle.std.proofs.lemmas.Bool.Decides.{nat_tests}
+use Rattle.jbig2_base.specs.Results.{◌>>=◌}
+use Rattle.jbig2_base.specs.Results as base
+use Rattle.jbig2_base.specs.declared.error.DecodeError.{DecodeError}
+use Rattle.jbig2_base.proofs.Causes.{same-ok}
+use Rattle.jbig2_base.specs.Grid.{Grid, max_side, pixel_at}
+use Rattle.jbig2_base.specs.Table.{IsTable}
+use Rattle.jbig2_coder.specs.Encoder.{encoded_bytes}
+use Rattle.jbig2_region.specs.Generic.{generic_coding}
+use Rattle.jbig2_region.specs.Templates.{nominal_adaptive_pixels, takes_extended, adaptive_pixel_count}
+use Rattle.jbig2_region.specs.declared.template.Template.{Template}
+use Rattle.jbig2_region.specs.declared.template.Template.TheVariants.{Template0, Template1, Template2, Template3}
+use Rattle.jbig2_inverses.specs.CoderStates.{Entry}
+use Rattle.jbig2_inverses.specs.GenericSegmentWriter.{AreAdaptive, adaptive_bytes, generic_bytes, info_bytes}
+use Rattle.jbig2_inverses.specs.RegionWriter.{entries_before, generic_entries, is_typical}
+use Rattle.jbig2_inverses.specs.SegmentWriter.{information_bytes, segment_bytes}
+use Rattle.jbig2_inverses.proofs.CodedLength.{coded_data_is_short}
+use Rattle.jbig2_inverses.proofs.RegionInverse.{entries-few}
+use Rattle.jbig2_page.specs.Page.{IsSide, page_from}
+use Rattle.jbig2_page_inverse.specs.PageWriter.{IsChoice, coded_bytes, page_bytes, region_with}
+use Rattle.jbig2_page_inverse.proofs.PageInverse.{pages_read_back}
+use Rattle.jbig2_writer.specs.declared.settings.WriteSettings.{WriteSettings}
+use Rattle.jbig2_writer.specs.inner.Rows.{rows_decisions}
+use Rattle.jbig2_writer.specs.inner.Segments.{page_information, region_data, segment_of, segments_of}
+use Rattle.jbig2_writer.specs.Written.{ReadsBack, check_size, choice_of, is_side, max_pixels, written}
+use Rattle.jbig2_writer.specs.declared.error.WriteError.{WriteError}
+use Rattle.jbig2_writer.specs.declared.error.WriteError.TheVariants.{InvalidSides, TooLarge}
+use Rattle.jbig2_writer.proofs.EntryLemmas.{rows-are}
+
+-- ---- the coded bytes
+entries-are : (s : WriteSettings) (g : Grid) → 0 < g.width → rows_decisions s g g.height ≡ generic_entries (region_with (choice_of s) g.width g.height (pixel_at g) false []) (pixel_at g)
+unfolding generic_entries
+entries-are s g wide =
+    let header = region_with (choice_of s) g.width g.height (pixel_at g) false [] in
+    let turned : g.height * g.width ≡ g.width * g.height = omega arith in
+    rows-are s g g.height wide
+    ∙ ap (λ (n : ℕ). entries_before (generic_coding header) g.width g.height (pixel_at g) (is_typical s.typical g.width (pixel_at g)) 0 n) turned
+
+pub coded-is : (s : WriteSettings) (g : Grid) (decisions slice : List Entry) → 1 ≤ g.width → decisions ≡ rows_decisions s g g.height → slice ≡ decisions
+    → encoded_bytes slice ≡ coded_bytes (choice_of s) g.width g.height (pixel_at g)
+unfolding coded_bytes
+coded-is s g decisions slice some are is = ap encoded_bytes (is ∙ are ∙ entries-are s g (omega (arith, some)))
+
+-- what the encoder gives, with its error changed
+pub mapped-bytes : {X D : Type 0} (view : X → List ℕ) (r : Result X DecodeError) (m : Result X D) (post : DecodeError → D → Type 0) (made meant : List ℕ) → base.Gives view r (Ok made) → made ≡ meant
+    → MatchResult r (λ x. m ≡ Ok x) (λ e. IsErrAnd m (post e)) → IfOk m (λ x. view x ≡ meant)
+mapped-bytes {X = X} {D = D} view (Ok x) m post made meant gives is same =
+    let P : Result X D → Type 0 = λ q. IfOk q (λ y. view y ≡ meant) in
+    subst P (sym same) (sym (same-ok made (view x) gives) ∙ is)
+mapped-bytes view (Err e) (Ok x) post made meant gives is same = absurd same
+mapped-bytes view (Err e) (Err d) post made meant gives is same = tt
+
+-- ---- their length
+coded-short : (s : WriteSettings) (w h : ℕ) (pixels : ℕ → ℕ → Bool) → 7 * length (coded_bytes (choice_of s) w h pixels) ≤ 30 * (w * h) + 40
+unfolding coded_bytes generic_entries
+coded-short s w h pixels =
+    let header = region_with (choice_of s) w h pixels false [] in
+    let few = coded_data_is_short (generic_entries header pixels) in
+    let most = entries-few (generic_coding header) w h pixels (is_typical s.typical w pixels) 0 (w * h) in
+    omega (arith, few, most)
+
+length-adaptive : (template : Template) → length (flat_map adaptive_bytes (nominal_adaptive_pixels template)) ≤ 8
+length-adaptive Template0 = omega arith
+length-adaptive Template1 = omega arith
+length-adaptive Template2 = omega arith
+length-adaptive Template3 = omega arith
+
+length-data : (s : WriteSettings) (w h : ℕ) (coded : List ℕ) → length (region_data s w h coded) ≡ 18 + length (flat_map adaptive_bytes (nominal_adaptive_pixels s.template) ++ coded)
+unfolding generic_bytes info_bytes
+length-data s w h coded = omega arith
+
+pub region-short : (s : WriteSettings) (w h : ℕ) (none bytes coded slice : List ℕ) → none ≡ [] → bytes ≡ none ++ region_data s w h coded → length coded + 26 < 4294967296 → slice ≡ bytes → length slice < 4294967296
+region-short s w h none bytes coded slice empty is short same =
+    let all : slice ≡ region_data s w h coded = same ∙ is ∙ ap (λ (l : List ℕ). l ++ region_data s w h coded) empty in
+    let size = length-data s w h coded in
+    let parts = length-append (flat_map adaptive_bytes (nominal_adaptive_pixels s.template)) coded in
+    omega (arith, ap length all, size, parts, length-adaptive s.template, short)
+
+pub information-short : (none bytes slice : List ℕ) (w h : ℕ) → none ≡ [] → bytes ≡ none ++ page_information w h → slice ≡ bytes → length slice < 4294967296
+unfolding page_information
+information-short none bytes slice w h empty is same =
+    let all : slice ≡ page_information w h = same ∙ is ∙ ap (λ (l : List ℕ). l ++ page_information w h) empty in
+    let size : length (page_information w h) ≡ 19 = refl in
+    omega (arith, ap length all, size)
+
+-- ---- the size
+pub record IsAllowed (w h : ℕ) : Type 0 where
+  pub columns : IsSide w
+  pub rows : IsSide h
+  pub few : w * h ≤ 1000000000
+
+side-is : (n : ℕ) → is_side n ≡ true → IsSide n
+side-is n e = let both = and_parts (nat_le 1 n) (nat_le n max_side) e in (grind (arith, nat_tests), grind (arith, nat_tests))
+
+abbrev by_tests : Bool → Bool → Result (Unit {0}) WriteError
+by_tests bad large = cond bad (Err InvalidSides) (cond large (Err TooLarge) (Ok tt))
+
+allowed-by : (bad large : Bool) (unit : Unit {0}) → by_tests bad large ≡ Ok unit → (bad ≡ false) × (large ≡ false)
+allowed-by true large unit e = absurd (cc)
+allowed-by false true unit e = absurd (cc)
+allowed-by false false unit e = (refl, refl)
+
+pub allowed : (w h : ℕ) (r : Result (Unit {0}) WriteError) (unit : Unit {0}) → r ≡ check_size w h → r ≡ Ok unit → IsAllowed w h
+allowed w h r unit is e =
+    let parts = allowed-by (not (is_side w && is_side h)) (nat_lt max_pixels (w * h)) unit (sym is ∙ e) in
+    let both : (is_side w && is_side h) ≡ true = not-false (is_side w && is_side h) parts.0 in
+    let sides = and_parts (is_side w) (is_side h) both in
+    record { columns = side-is w sides.0; rows = side-is h sides.1; few = grind (arith, nat_tests) }
+
+-- ---- the page
+page-is : (s : WriteSettings) (w h : ℕ) (pixels : ℕ → ℕ → Bool)
+    → page_bytes (choice_of s) w h pixels ≡ segment_of 0 48 (page_information w h) ++ (segment_of 1 38 (region_data s w h (coded_bytes (choice_of s) w h pixels)) ++ [])
+unfolding page_bytes segment_bytes segment_of information_bytes page_information generic_bytes
+page-is s w h pixels = refl
+
+-- the two segments
+pub segments-made : (s : WriteSettings) (w h : ℕ) (start mid end no_information information first no_region region second coded : List ℕ) → start ≡ [] → no_information ≡ [] → no_region ≡ []
+    → information ≡ no_information ++ page_information w h → first ≡ information → region ≡ no_region ++ region_data s w h coded → second ≡ region
+    → mid ≡ start ++ segment_of 0 48 first → end ≡ mid ++ segment_of 1 38 second → end ≡ segments_of s w h coded
+segments-made s w h start mid end no_information information first no_region region second coded empty no_i no_r is_i is_first is_r is_second is_mid is_end =
+    let one : first ≡ page_information w h = is_first ∙ is_i ∙ ap (λ (l : List ℕ). l ++ page_information w h) no_i in
+    let two : second ≡ region_data s w h coded = is_second ∙ is_r ∙ ap (λ (l : List ℕ). l ++ region_data s w h coded) no_r in
+    is_end ∙ ap (λ (l : List ℕ). l ++ segment_of 1 38 second) (is_mid ∙ ap (λ (l : List ℕ). l ++ segment_of 0 48 first) empty)
+    ∙ ap (λ (l : List ℕ). segment_of 0 48 l ++ segment_of 1 38 second) one
+    ∙ ap (λ (l : List ℕ). segment_of 0 48 (page_information w h) ++ segment_of 1 38 l) two
+
+-- they are the page
+pub page-made : (s : WriteSettings) (g : Grid) (w h : ℕ) (bytes coded slice : List ℕ) → w ≡ g.width → h ≡ g.height → bytes ≡ segments_of s w h slice → slice ≡ coded → coded ≡ coded_bytes (choice_of s) g.width g.height (pixel_at g)
+    → bytes ≡ page_bytes (choice_of s) g.width g.height (pixel_at g)
+page-made s g w h bytes coded slice is_w is_h is_bytes is_slice is_coded =
+    let region : List ℕ = region_data s g.width g.height (coded_bytes (choice_of s) g.width g.height (pixel_at g)) in
+    is_bytes ∙ ap (λ (n : ℕ). segments_of s n h slice) is_w ∙ ap (λ (n : ℕ). segments_of s g.width n slice) is_h
+    ∙ ap (λ (l : List ℕ). segments_of s g.width g.height l) (is_slice ∙ is_coded)
+    ∙ ap (λ (l : List ℕ). segment_of 0 48 (page_information g.width g.height) ++ l) (sym (append-nil (segment_of 1 38 region)))
+    ∙ sym (page-is s g.width g.height (pixel_at g))
+
+pub coded-fits : (s : WriteSettings) (g : Grid) (w h : ℕ) (coded slice : List ℕ) → w ≡ g.width → h ≡ g.height → IsAllowed w h → slice ≡ coded → coded ≡ coded_bytes (choice_of s) g.width g.height (pixel_at g) → length slice + 26 < 4294967296
+coded-fits s g w h coded slice is_w is_h is is_slice is_coded =
+    let short = coded-short s g.width g.height (pixel_at g) in
+    let few : g.width * g.height ≤ 1000000000 = subst (λ (n : ℕ). g.width * n ≤ 1000000000) is_h (subst (λ (n : ℕ). n * h ≤ 1000000000) is_w is.few) in
+    omega (arith, ap length (is_slice ∙ is_coded), short, few)
+
+pub given : (s : WriteSettings) (g : Grid) (w h : ℕ) (bytes : List ℕ) (r : Result (Unit {0}) WriteError) (unit : Unit {0}) → w ≡ g.width → h ≡ g.height → r ≡ check_size w h → r ≡ Ok unit → bytes ≡ page_bytes (choice_of s) g.width g.height (pixel_at g)
+    → written s g ≡ Ok bytes
+given s g w h bytes r unit is_w is_h is_r ok made =
+    let page : List ℕ = page_bytes (choice_of s) g.width g.height (pixel_at g) in
+    let next : Result (Unit {0}) WriteError → Result (List ℕ) WriteError = λ q. q >>= λ _. Ok page in
+    ap next (ap (λ (n : ℕ). check_size n g.height) (sym is_w) ∙ ap (λ (n : ℕ). check_size w n) (sym is_h) ∙ sym is_r ∙ ok)
+    ∙ ap (λ (l : List ℕ). Ok l) (sym made)
+
+-- ---- it reads back
+choice-is : (s : WriteSettings) → IsChoice (choice_of s)
+choice-is s = record { template = tt; extended = extended s.template; count = count s.template; pixels = pixels s.template }
+  where
+    extended : (t : Template) → takes_extended false false t ≡ false
+    extended t = refl
+
+    count : (t : Template) → length (nominal_adaptive_pixels t) ≡ adaptive_pixel_count false false t
+    count Template0 = refl
+    count Template1 = refl
+    count Template2 = refl
+    count Template3 = refl
+
+    pixels : (t : Template) → AreAdaptive (nominal_adaptive_pixels t)
+    pixels Template0 = (refl, omega arith, omega arith, (refl, omega arith, omega arith, (refl, omega arith, omega arith, (refl, omega arith, omega arith, tt))))
+    pixels Template1 = (refl, omega arith, omega arith, tt)
+    pixels Template2 = (refl, omega arith, omega arith, tt)
+    pixels Template3 = (refl, omega arith, omega arith, tt)
+
+pub reads-back : (s : WriteSettings) (g : Grid) (w h : ℕ) (bytes : List ℕ) → IsTable g → w ≡ g.width → h ≡ g.height → IsAllowed w h → bytes ≡ page_bytes (choice_of s) g.width g.height (pixel_at g) → ReadsBack bytes g
+reads-back s g w h bytes whole is_w is_h allows made reading globals =
+    let turned : IsAllowed g.width h = subst (λ (n : ℕ). IsAllowed n h) is_w allows in
+    let is : IsAllowed g.width g.height = subst (λ (n : ℕ). IsAllowed g.width n) is_h turned in
+    let read = pages_read_back reading globals (choice_of s) g.width g.height (pixel_at g) (choice-is s) is.columns is.rows (λ _. is.few) in
+    (read.0, ap (λ (l : List ℕ). page_from reading globals l) made ∙ read.1, read.2 ∙ ap (λ (h : Grid). Ok h) (sym whole))

@@ -1,0 +1,59 @@
+-- The bytes of segments, as they are added part by part.
+use Rattle.std.proofs.Common.{◌≡◌, ℕ, ◌+◌, ◌*◌, List, [], ◌∷◌, ◌++◌, length, refl, sym, ◌∙◌, ap, arith, append_assoc}
+use Rattle.std.specs.List.{flat_map}
+use Rattle.std.specs.Int.{w32, to_be_bytes}
+use Rattle.jbig2_base.specs.Grid.{bit_number}
+use Rattle.jbig2_region.specs.Templates.{nominal_adaptive_pixels}
+use Rattle.jbig2_inverses.specs.GenericSegmentWriter.{adaptive_bytes, generic_bytes, info_bytes, template_number}
+use Rattle.jbig2_writer.specs.declared.settings.WriteSettings.{WriteSettings}
+use Rattle.jbig2_writer.specs.inner.Segments.{page_information, region_data, segment_of}
+
+-- three parts that are added one after another
+three : (old a b c ra rb rc : List ℕ) → ra ≡ old ++ a → rb ≡ ra ++ b → rc ≡ rb ++ c → rc ≡ old ++ (a ++ (b ++ c))
+three old a b c ra rb rc is_a is_b is_c =
+    is_c ∙ ap (λ (l : List ℕ). l ++ c) (is_b ∙ ap (λ (l : List ℕ). l ++ b) is_a)
+    ∙ append_assoc (old ++ a) b c ∙ append_assoc old a (b ++ c)
+
+pub information-added : (old ra rb rc a b : List ℕ) (width height : ℕ) → a ≡ to_be_bytes w32 width → b ≡ to_be_bytes w32 height → ra ≡ old ++ a → rb ≡ ra ++ b
+    → rc ≡ rb ++ 0 ∷ 0 ∷ 0 ∷ 0 ∷ 0 ∷ 0 ∷ 0 ∷ 0 ∷ 1 ∷ 0 ∷ 0 ∷ [] → rc ≡ old ++ page_information width height
+unfolding page_information
+information-added old ra rb rc a b width height is_a is_b first second third =
+    let rest : List ℕ = 0 ∷ 0 ∷ 0 ∷ 0 ∷ 0 ∷ 0 ∷ 0 ∷ 0 ∷ 1 ∷ 0 ∷ 0 ∷ [] in
+    three old a b rest ra rb rc first second third
+    ∙ ap (λ (l : List ℕ). old ++ (l ++ (b ++ rest))) is_a
+    ∙ ap (λ (l : List ℕ). old ++ (to_be_bytes w32 width ++ (l ++ rest))) is_b
+
+pub segment-added : (old ra rb rc rd re a c d segment_data : List ℕ) (number kind size : ℕ) → a ≡ to_be_bytes w32 number → c ≡ to_be_bytes w32 1 → d ≡ to_be_bytes w32 size → size ≡ length segment_data
+    → ra ≡ old ++ a → rb ≡ ra ++ (kind + 64) ∷ 0 ∷ [] → rc ≡ rb ++ c → rd ≡ rc ++ d → re ≡ rd ++ segment_data → re ≡ old ++ segment_of number kind segment_data
+unfolding segment_of
+segment-added old ra rb rc rd re a c d segment_data number kind size is_a is_c is_d is_size first second third fourth fifth =
+    let flags : List ℕ = (kind + 64) ∷ 0 ∷ [] in
+    three rb c d segment_data rc rd re third fourth fifth
+    ∙ ap (λ (l : List ℕ). rb ++ (l ++ (d ++ segment_data))) is_c
+    ∙ ap (λ (l : List ℕ). rb ++ (to_be_bytes w32 1 ++ (l ++ segment_data))) (is_d ∙ ap (λ (n : ℕ). to_be_bytes w32 n) is_size)
+    ∙ three old a flags (to_be_bytes w32 1 ++ (to_be_bytes w32 (length segment_data) ++ segment_data)) ra rb _ first second refl
+    ∙ ap (λ (l : List ℕ). old ++ (l ++ (flags ++ (to_be_bytes w32 1 ++ (to_be_bytes w32 (length segment_data) ++ segment_data))))) is_a
+
+data-is : (s : WriteSettings) (width height flags : ℕ) (coded : List ℕ) → flags ≡ 2 * template_number s.template + 8 * bit_number s.typical
+    → region_data s width height coded ≡ to_be_bytes w32 width ++ (to_be_bytes w32 height ++ ((0 ∷ 0 ∷ 0 ∷ 0 ∷ 0 ∷ 0 ∷ 0 ∷ 0 ∷ 0 ∷ []) ++ ((flags ∷ []) ++ (flat_map adaptive_bytes (nominal_adaptive_pixels s.template) ++ coded))))
+unfolding generic_bytes info_bytes
+data-is s width height flags coded is =
+    let same : 0 + 2 * template_number s.template + 8 * bit_number s.typical + 0 ≡ flags = omega (arith, is) in
+    ap (λ (n : ℕ). to_be_bytes w32 width ++ (to_be_bytes w32 height ++ ((0 ∷ 0 ∷ 0 ∷ 0 ∷ 0 ∷ 0 ∷ 0 ∷ 0 ∷ 0 ∷ []) ++ ((n ∷ []) ++ (flat_map adaptive_bytes (nominal_adaptive_pixels s.template) ++ coded))))) same
+
+pub region-added : (old ra rb rc rd re rf a b e coded : List ℕ) (s : WriteSettings) (width height flags : ℕ) → a ≡ to_be_bytes w32 width → b ≡ to_be_bytes w32 height
+    → flags ≡ 2 * template_number s.template + 8 * bit_number s.typical → e ≡ flat_map adaptive_bytes (nominal_adaptive_pixels s.template)
+    → ra ≡ old ++ a → rb ≡ ra ++ b → rc ≡ rb ++ 0 ∷ 0 ∷ 0 ∷ 0 ∷ 0 ∷ 0 ∷ 0 ∷ 0 ∷ 0 ∷ [] → rd ≡ rc ++ flags ∷ [] → re ≡ rd ++ e → rf ≡ re ++ coded
+    → rf ≡ old ++ region_data s width height coded
+region-added old ra rb rc rd re rf a b e coded s width height flags is_a is_b is_flags is_e first second third fourth fifth sixth =
+    let corner : List ℕ = 0 ∷ 0 ∷ 0 ∷ 0 ∷ 0 ∷ 0 ∷ 0 ∷ 0 ∷ 0 ∷ [] in
+    let adaptive : List ℕ = flat_map adaptive_bytes (nominal_adaptive_pixels s.template) in
+    let end : List ℕ = (flags ∷ []) ++ (adaptive ++ coded) in
+    three rc (flags ∷ []) e coded rd re rf fourth fifth sixth
+    ∙ ap (λ (l : List ℕ). rc ++ ((flags ∷ []) ++ (l ++ coded))) is_e
+    ∙ ap (λ (l : List ℕ). l ++ end) (three old a b corner ra rb rc first second third)
+    ∙ append_assoc old (a ++ (b ++ corner)) end
+    ∙ ap (λ (l : List ℕ). old ++ l) (append_assoc a (b ++ corner) end ∙ ap (λ (l : List ℕ). a ++ l) (append_assoc b corner end))
+    ∙ ap (λ (l : List ℕ). old ++ (l ++ (b ++ (corner ++ end)))) is_a
+    ∙ ap (λ (l : List ℕ). old ++ (to_be_bytes w32 width ++ (l ++ (corner ++ end)))) is_b
+    ∙ ap (λ (l : List ℕ). old ++ l) (sym (data-is s width height flags coded is_flags))

@@ -1,0 +1,14 @@
+use Rattle.std.proofs.Common.{◌≡◌, ◌≤◌, length, drop, ◌+◌, ◌-◌}
+use Rattle.jbig2_region.specs.Generic.{context_at}
+use Rattle.jbig2_writer.proofs.context.context_at.Given as goal
+
+abbrev pub invariant-loop-left : goal.invariant-loop-left
+invariant-loop-left g l = record {
+  within : l.left ≤ length l.places;
+  loads : l.steps.loads ≤ l.initial.steps.loads + (length l.places - l.left);
+  steps : l.steps ≡ record l.initial.steps { loads = l.steps.loads };
+  value : l.context ≡ context_at (drop l.left l.places) l.bitmap l.x l.y;
+}
+
+abbrev pub decreases-loop-left : goal.decreases-loop-left
+decreases-loop-left g l = l.left

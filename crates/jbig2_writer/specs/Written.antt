@@ -1,0 +1,50 @@
+-- What is written for a bitmap: the bytes of an embedded page that holds it, or a refusal of its size. Then how the
+-- result of the writer compares with that, and what it is that the bytes read back.
+use Rattle.std.specs.Prelude.{◌≡◌, ℕ, ◌*◌, ◌&&◌, nat_le, nat_lt, false, Bool, not, if◌then◌else◌, List, Result, Ok, Err, ◌⊎◌}
+use Rattle.jbig2_base.specs.Grid.{Grid, max_side, pixel_at}
+use Rattle.jbig2_base.specs.Results.{◌>>=◌}
+use Rattle.jbig2_framing.specs.declared.reading.Reading.{Reading}
+use Rattle.jbig2_region.specs.Templates.{nominal_adaptive_pixels}
+use Rattle.jbig2_page.specs.Names.{Names}
+use Rattle.jbig2_page.specs.Page.{ReadPage, page_from, grid_of_page}
+use Rattle.jbig2_page_inverse.specs.PageWriter.{Choice, page_bytes}
+use Rattle.jbig2_writer.specs.declared.error.WriteError.{WriteError}
+use Rattle.jbig2_writer.specs.declared.error.WriteError.TheVariants.{InvalidSides, OutOfMemory, TooLarge}
+use Rattle.jbig2_writer.specs.declared.settings.WriteSettings.{WriteSettings}
+
+-- by the arithmetic coder, with nominal adaptive pixels
+abbrev pub choice_of : WriteSettings → Choice
+choice_of s = record {
+  mmr = false;
+  end_of_block = false;
+  template = s.template;
+  extended = false;
+  typical = s.typical;
+  adaptive = nominal_adaptive_pixels s.template;
+}
+
+abbrev pub is_side : ℕ → Bool
+is_side n = nat_le 1 n && nat_le n max_side
+
+abbrev pub max_pixels : ℕ  -- so many pixels at most, so that a segment can state the length of its data (7.2.7)
+max_pixels = 1000000000
+
+abbrev pub check_size : ℕ → ℕ → Result (Unit {0}) WriteError
+check_size width height =
+    if not (is_side width && is_side height) then Err InvalidSides
+    else if nat_lt max_pixels (width * height) then Err TooLarge
+    else Ok tt
+
+-- the page that holds the bitmap; its sides are 1 to 65535
+abbrev pub written : WriteSettings → Grid → Result (List ℕ) WriteError
+written s g = check_size g.width g.height >>= λ _. Ok (page_bytes (choice_of s) g.width g.height (pixel_at g))
+
+-- The result of a call, seen by `view`, is what was meant, unless memory ran out.
+abbrev pub Gives : {X Y : Type 0} → (X → Y) → Result X WriteError → Result Y WriteError → Type 0
+Gives view (Ok x) meant = meant ≡ Ok (view x)
+Gives view (Err e) meant = (e ≡ OutOfMemory) ⊎ (meant ≡ Err e)
+
+-- In each mode and with any globals, the bytes are a page, and it is drawn as this grid.
+abbrev pub ReadsBack : List ℕ → Grid → Type 0
+ReadsBack bytes g = (reading : Reading) (globals : Names)
+    → (page : ReadPage) × (page_from reading globals bytes ≡ Ok page) × (grid_of_page page ≡ Ok g)

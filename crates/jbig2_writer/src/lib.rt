@@ -1,0 +1,14 @@
+//! Writes a bitmap as an embedded page of JBIG2 (ITU-T T.88): page information, and one immediate generic region of
+//! the page's size. By proof the definition of a page reads each bitmap back as it was.
+#![tactic(auto)]
+
+mod context;
+mod decisions;
+mod error;
+mod page;
+mod segments;
+mod settings;
+
+pub use error::WriteError;
+pub use page::{MAX_PIXELS, write_page};
+pub use settings::WriteSettings;

@@ -1,0 +1,113 @@
+//! Writes a bitmap as an embedded page (T.88, D.3).
+ghost use Rattle.std.specs.Prelude.{◌≡◌, ◌+◌, ◌*◌, ◌^◌, ◌<◌, ◌≤◌, length, IfOk};
+ghost use Rattle.jbig2_base.specs.Grid.{max_side, pixel_at};
+ghost use Rattle.jbig2_page_inverse.specs.PageWriter.{coded_bytes};
+ghost use Rattle.jbig2_writer.specs.inner.Segments.{segments_of};
+ghost use Rattle.jbig2_writer.specs.Written.{Gives, ReadsBack, check_size, choice_of, is_side, written};
+
+use crate::decisions::region_decisions;
+use crate::error::WriteError;
+use crate::segments::{push_information, push_region, push_segment};
+use crate::settings::WriteSettings;
+use jbig2_base::bitmap::steps::Steps;
+use jbig2_base::bitmap::{Bitmap, MAX_DIMENSION};
+use jbig2_coder::mq::encode_list;
+use std::alloc::{AllocError, Allocator};
+use std::sync::ledger::Ledger;
+
+/// The most pixels of a bitmap that is written, so that its segment can state the length of its data (7.2.7).
+pub const MAX_PIXELS: u64 = 1_000_000_000;
+
+/// The type of page information (7.3).
+const PAGE_INFORMATION: u8 = 48;
+
+/// The type of an immediate generic region (7.3).
+const IMMEDIATE_GENERIC_REGION: u8 = 38;
+
+/// Whether a page can have a side of this length.
+fn is_side(length: u32) -> bool
+    ensures { result ≡ is_side length }
+{
+    1 <= length && length <= MAX_DIMENSION
+}
+
+/// Refuses a size that no page has, or one that is too large to be written.
+fn check_size(width: u32, height: u32) -> Result<(), WriteError>
+    ensures { result ≡ check_size width height }
+{
+    if !(is_side(width) && is_side(height)) {
+        return Err(WriteError::InvalidSides);
+    }
+    if u64::from(width) * u64::from(height) > MAX_PIXELS {
+        return Err(WriteError::TooLarge);
+    }
+    Ok(())
+}
+
+/// The coded bytes of the bitmap as a generic region.
+fn coded_region<A: Allocator + Clone, B: Allocator, L: Ledger>(
+    alloc: A,
+    bitmap: &Bitmap<B>,
+    settings: &WriteSettings,
+    steps: &mut Steps<L>,
+) -> Result<Vec<u8, A>, AllocError>
+    requires some { 1 ≤ bitmap.now.width }
+    requires columns { bitmap.now.width ≤ max_side }
+    requires rows { bitmap.now.height ≤ max_side }
+    ensures coded { let g = bitmap.now in IfOk result
+        (λ v. v.items ≡ coded_bytes (choice_of settings.now) g.width g.height (pixel_at g)) }
+    ensures steps { steps.new ≡ record steps.old { loads = steps.new.loads } }
+    ensures loads { steps.new.loads
+        ≤ steps.old.loads + 19 * (bitmap.now.width * bitmap.now.height) }
+{
+    let decisions = region_decisions(alloc.clone()?, bitmap, settings, steps)?;
+    encode_list(alloc, decisions.as_slice()).map_err(|_| AllocError)
+}
+
+/// The two segments of a page of this size, whose region has these coded bytes.
+fn page_segments<A: Allocator + Clone>(
+    alloc: A,
+    width: u32,
+    height: u32,
+    settings: &WriteSettings,
+    coded: &[u8],
+) -> Result<Vec<u8, A>, AllocError>
+    requires { length coded.now + 26 < 2 ^ 32 }
+    ensures { IfOk result (λ v. v.items ≡ segments_of settings.now width height coded.now) }
+{
+    let mut information = Vec::new(alloc.clone()?);
+    push_information(&mut information, width, height)?;
+    let mut region = Vec::new(alloc.clone()?);
+    push_region(&mut region, width, height, settings, coded)?;
+    let mut bytes = Vec::new(alloc);
+    push_segment(&mut bytes, 0, PAGE_INFORMATION, &information)?;
+    push_segment(&mut bytes, 1, IMMEDIATE_GENERIC_REGION, &region)?;
+    Ok(bytes)
+}
+
+/// Writes the bitmap as an embedded page (T.88, D.3), as a PDF file holds it: page information, and one immediate
+/// generic region of the page's size. The region is coded as `settings` say. The steps count loads of pixels, at most
+/// 19 for each pixel of the bitmap.
+///
+/// Returns `InvalidSides` if a side is 0 or above 65535, `TooLarge` if there are more than 1,000,000,000 pixels, and
+/// `OutOfMemory` if memory is refused.
+pub fn write_page<A: Allocator + Clone, B: Allocator, L: Ledger>(
+    alloc: A,
+    bitmap: &Bitmap<B>,
+    settings: &WriteSettings,
+    steps: &mut Steps<L>,
+) -> Result<Vec<u8, A>, WriteError>
+    ensures bytes { Gives (λ v. v.items) result (written settings.now bitmap.now) }
+    // The definition of a page reads the bitmap back, whatever settings were taken.
+    ensures reads_back { IfOk result (λ v. ReadsBack v.items bitmap.now) }
+    ensures steps { steps.new ≡ record steps.old { loads = steps.new.loads } }
+    ensures loads { steps.new.loads
+        ≤ steps.old.loads + 19 * (bitmap.now.width * bitmap.now.height) }
+{
+    let width = bitmap.width();
+    let height = bitmap.height();
+    check_size(width, height)?;
+    let coded = coded_region(alloc.clone()?, bitmap, settings, steps)?;
+    let bytes = page_segments(alloc, width, height, settings, &coded)?;
+    Ok(bytes)
+}

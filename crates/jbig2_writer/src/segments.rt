@@ -1,0 +1,98 @@
+//! The segments of a page as bytes (T.88, 7.2, 7.4.6 and 7.4.8).
+ghost use Rattle.std.specs.Prelude.{◌≡◌, ◌+◌, ◌*◌, ◌^◌, ◌<◌, ◌++◌, length, OnOk};
+ghost use Rattle.std.specs.List.{flat_map};
+ghost use Rattle.jbig2_base.specs.Grid.{bit_number};
+ghost use Rattle.jbig2_inverses.specs.GenericSegmentWriter.{adaptive_bytes, template_number};
+ghost use Rattle.jbig2_region.specs.Templates.{nominal_adaptive_pixels};
+ghost use Rattle.jbig2_writer.specs.inner.Segments.{page_information, region_data, segment_of};
+
+use crate::settings::WriteSettings;
+use jbig2_region::template::Template;
+use std::alloc::{AllocError, Allocator};
+
+/// Adds a segment of this number and type (7.3) on page 1, which refers to no other.
+pub fn push_segment<A: Allocator>(
+    bytes: &mut Vec<u8, A>,
+    number: u32,
+    kind: u8,
+    segment_data: &[u8],
+) -> Result<(), AllocError>
+    requires kind { kind < 64 }
+    requires short { length segment_data.now < 2 ^ 32 }
+    ensures { OnOk result
+        (bytes.new.items ≡ bytes.old.items ++ segment_of number kind segment_data.now) }
+{
+    let page: u32 = 1;
+    bytes.extend_from_slice(&number.to_be_bytes())?;
+    bytes.extend_from_slice(&[kind + 64, 0])?;
+    bytes.extend_from_slice(&page.to_be_bytes())?;
+    bytes.extend_from_slice(&(segment_data.len() as u32).to_be_bytes())?;
+    bytes.extend_from_slice(segment_data)?;
+    Ok(())
+}
+
+/// Adds the data of page information: a lossless page of this size, which begins white, of no stated resolution.
+pub fn push_information<A: Allocator>(
+    bytes: &mut Vec<u8, A>,
+    width: u32,
+    height: u32,
+) -> Result<(), AllocError>
+    ensures { OnOk result (bytes.new.items ≡ bytes.old.items ++ page_information width height) }
+{
+    bytes.extend_from_slice(&width.to_be_bytes())?;
+    bytes.extend_from_slice(&height.to_be_bytes())?;
+    bytes.extend_from_slice(&[0, 0, 0, 0, 0, 0, 0, 0, 1, 0, 0])?;
+    Ok(())
+}
+
+/// The number of a template (GBTEMPLATE).
+fn template_number(template: Template) -> u8
+    ensures value { result ≡ template_number template }
+    ensures small { result < 4 }
+{
+    match template {
+        Template::Template0 => 0,
+        Template::Template1 => 1,
+        Template::Template2 => 2,
+        Template::Template3 => 3,
+    }
+}
+
+/// The nominal adaptive pixels, each by its columns to the right and its rows down in two's complement (7.4.6.3).
+fn adaptive_bytes(template: Template) -> &'static [u8]
+    ensures { result.now ≡ flat_map adaptive_bytes (nominal_adaptive_pixels template) }
+{
+    match template {
+        Template::Template0 => &[0x03, 0xFF, 0xFD, 0xFF, 0x02, 0xFE, 0xFE, 0xFE],
+        Template::Template1 => &[0x03, 0xFF],
+        Template::Template2 | Template::Template3 => &[0x02, 0xFF],
+    }
+}
+
+/// The flags of a generic region by the arithmetic coder (7.4.6.2).
+fn region_flags(settings: &WriteSettings) -> u8
+    ensures { result ≡ 2 * template_number settings.now.template + 8 * bit_number settings.now.typical }
+{
+    let typical = if settings.typical { 8 } else { 0 };
+    2 * template_number(settings.template) + typical
+}
+
+/// Adds the data of a generic region of this size at the page's corner, to be combined by OR.
+pub fn push_region<A: Allocator>(
+    bytes: &mut Vec<u8, A>,
+    width: u32,
+    height: u32,
+    settings: &WriteSettings,
+    coded: &[u8],
+) -> Result<(), AllocError>
+    ensures { OnOk result
+        (bytes.new.items ≡ bytes.old.items ++ region_data settings.now width height coded.now) }
+{
+    bytes.extend_from_slice(&width.to_be_bytes())?;
+    bytes.extend_from_slice(&height.to_be_bytes())?;
+    bytes.extend_from_slice(&[0, 0, 0, 0, 0, 0, 0, 0, 0])?;
+    bytes.push(region_flags(settings))?;
+    bytes.extend_from_slice(adaptive_bytes(settings.template))?;
+    bytes.extend_from_slice(coded)?;
+    Ok(())
+}

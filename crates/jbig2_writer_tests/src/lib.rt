@@ -1,0 +1,6 @@
+//! Tests of the writer of pages. The writer counts its steps in the counter that it is given, so what makes a counter
+//! stands here.
+#![tactic(auto)]
+
+#[cfg(test)]
+mod pages;
