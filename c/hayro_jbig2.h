@@ -190,19 +190,19 @@ typedef struct hayro_jbig2_page_info {
 /* The number of a segment of which not even the number is there: the bytes end within it. */
 #define HAYRO_JBIG2_NO_SEGMENT_NUMBER UINT32_MAX
 
-/* What a page that was drawn lacks: how many segments were passed over, with the number and the error of the first. All
- * 0 where none was: then the page is complete, as far as can be known. The format has no checksum, so damage within
- * arithmetic data can't be known. Counted are:
+/* What a page that was drawn lacks: how many segments count, with the number and the error of the first. All 0 where none
+ * does: then the page is complete, as far as can be known. Counted are (docs/FORMAT.md, 12.2):
  *
- * - a region that fails, in salvage also a dictionary or a table that fails;
- * - a text region, a refinement or a symbol dictionary that refers to a segment which isn't there. It is drawn or kept
- *   all the same; its error is HAYRO_JBIG2_SEGMENT_INVALID_REFERENCE;
+ * - each whole segment that strict reading refuses, also where lenient reading draws, keeps or skips it: a region that
+ *   fails, in salvage also a dictionary or a table that fails; rows of MMR data after a fault, a gray value without a
+ *   pattern, an id without a symbol; what refers to a segment which isn't there; an extension that must be understood; a
+ *   type that is not listed. Its error is the one that it is passed over for, or else the one of strict reading;
  * - as the last one the segment at which the list of segments ends early: the bytes end within it, or salvage stops
  *   there.
  *
- * Not counted is what else lenient reading forgives (docs/FORMAT.md, 12.2): rows of MMR data after a fault, gray values
- * without a pattern, ids without a symbol. Strict reading refuses these. Globals have a report of their own,
- * hayro_jbig2_globals_get_left_out. */
+ * Damage within arithmetic data can't be known: the format has no checksum. Besides it this alone is not counted: a
+ * file's counts of pages and of ends of pages, an unknown length of another type than 38, a region of page 0, and segments
+ * that are missing as a whole. Globals have a report of their own, hayro_jbig2_globals_get_left_out. */
 typedef struct hayro_jbig2_passed_over {
     size_t count;
     uint32_t segment, error;
@@ -273,14 +273,14 @@ uint32_t hayro_jbig2_file_new_salvaged(const hayro_jbig2_memory *memory, uint64_
 /* What lenient reading or salvage left out of globals, a page or a file. What was passed over in a page that was drawn
  * comes from hayro_jbig2_context_get_passed_over. All 0 where nothing was left out, and after strict reading.
  *
- * - Of globals and of a file: the segments passed over of those that pages share. Of a page 0: its own are passed over
- *   when it is drawn.
+ * - Of globals and of a file: the segments that count of those that pages share. Of a page 0: its own count when it is
+ *   drawn.
  * - Of a file: the pages that can't begin.
  * - Of all three: the segment at which the list of segments ends early, which is not among `segments`. A page counts it
  *   when it is drawn, and so does each page of the file that may lack it. Its number is HAYRO_JBIG2_NO_SEGMENT_NUMBER
  *   where the bytes end within it. */
 typedef struct hayro_jbig2_left_out {
-    size_t segments;                   /* how many segments that pages share were passed over */
+    size_t segments;                   /* how many segments that pages share count */
     uint32_t segment, error;           /* the number and the error of the first */
     size_t pages;                      /* pages of a file that can't begin, which salvage leaves out */
     uint32_t page_error;               /* the error of the first */

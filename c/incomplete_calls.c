@@ -1,4 +1,5 @@
-/* Draws pages that are cut off, or that refer to what isn't there, leniently and in salvage: what the library counts.
+/* Draws pages that are cut off, that refer to what isn't there, or whose faults are forgiven, leniently and in salvage: what
+ * the library counts.
  * usage: incomplete_calls PAGE FILE, which are page.jb2 and t88-h1.jb2 of crates/jbig2_decode/data. */
 #include "checks.h"
 
@@ -89,6 +90,44 @@ static void tells_of_what_is_not_there(void) {
     draws(&shared, &other, other.length, 0x80, (hayro_jbig2_passed_over){1, 2, LACK});
 }
 
+/* A region of the page's size; a halftone region of one cell, number 2, by MMR, and its three patterns, number 1. */
+#define AREA "\0\0\0\x08\0\0\0\1\0\0\0\0\0\0\0\0\0"
+#define PATTERNS "\0\0\0\1\x10\0\1\0\0\0\7\0\1\1\0\0\0\2"
+#define CELL "\0\0\0\2\x16\x20\1\1\0\0\0\x29" AREA "\1\0\0\0\1\0\0\0\1\0\0\0\0\0\0\0\0\0\0\0\0"
+#define FORGIVEN(segments) segments, sizeof segments - 1
+
+/* What strict reading refuses, and lenient reading draws or skips. */
+static void tells_of_what_is_forgiven(void) {
+    static const struct {
+        const char *segments;
+        size_t length;
+        uint8_t row;
+        hayro_jbig2_passed_over meant;
+    } cases[] = {
+        /* MMR data, of a region and of an intermediate one. */
+        {FORGIVEN("\0\0\0\1\x26\0\1\0\0\0\x13" AREA "\1\x26"), 0, {1, 1, HAYRO_JBIG2_REGION_INVALID_MMR_DATA}},
+        {FORGIVEN("\0\0\0\1\x24\0\1\0\0\0\x13" AREA "\1\x26"), 0, {1, 1, HAYRO_JBIG2_REGION_INVALID_MMR_DATA}},
+        /* A gray value without a pattern. */
+        {FORGIVEN(PATTERNS CELL "\x26\xA8\x80"), 0x80, {1, 2, HAYRO_JBIG2_REGION_GRAY_SCALE_OUT_OF_RANGE}},
+        /* An id without a symbol. */
+        {FORGIVEN("\0\0\0\2\6\0\1\0\0\0\x1B" AREA "\0\x10\0\0\0\1\xA9\x43\xFF\xAC"),
+         0,
+         {1, 2, HAYRO_JBIG2_SYMBOL_OUT_OF_RANGE}},
+        /* An extension that must be understood, a type that is not listed, and an intermediate refinement of no region. */
+        {FORGIVEN("\0\0\0\1\x3E\0\1\0\0\0\4\x80\0\0\0"), 0, {1, 1, HAYRO_JBIG2_UNSUPPORTED}},
+        {FORGIVEN("\0\0\0\1\x3F\0\1\0\0\0\0"), 0, {1, 1, HAYRO_JBIG2_SEGMENT_UNKNOWN_TYPE}},
+        {FORGIVEN("\0\0\0\1\x28\0\1\0\0\0\x12" AREA "\1"), 0, {1, 1, LACK}},
+    };
+    for (size_t i = 0; i < sizeof cases / sizeof *cases; i++) {
+        struct bytes bytes = page;
+        append(&bytes, cases[i].segments, cases[i].length);
+        draws(NULL, &bytes, bytes.length, cases[i].row, cases[i].meant);
+        /* It counts once, before a region that is drawn. */
+        append(&bytes, REGION("\x08"), REGION_LENGTH);
+        draws(NULL, &bytes, bytes.length, cases[i].row | 0x80, cases[i].meant);
+    }
+}
+
 /* A dictionary of globals that refers to number 0, which isn't there; it is cut off; another one is cut off after it. */
 static void tells_of_globals(void) {
     static const struct {
@@ -163,6 +202,7 @@ int main(int count, char **words) {
     page_with_globals(&page, &shared, &text);
     tells_of_cuts();
     tells_of_what_is_not_there();
+    tells_of_what_is_forgiven();
     tells_of_globals();
     tells_which_page_is_cut_off();
     printf("%u checks of incomplete pages from C, %u failed\n", checks, failures);

@@ -49,7 +49,7 @@ def refusing(drawing, segments):
     for segment in segments:
         try:
             if drawing.page is None and segment.kind in KEPT:
-                drawing.keep(segment)
+                drawing.draw(segment)
             elif drawing.page is not None:
                 if segment.kind in (END_OF_PAGE, END_OF_FILE):
                     break

@@ -1,16 +1,19 @@
 #!/usr/bin/env python3
-"""Cuts made-up pages off at random places, and compares what the Python package draws of them in salvage with a model.
+"""Cuts made-up pages off at random places or gives them faults, and compares what the Python package draws of them, leniently
+and in salvage, with a model.
 
 usage: comparison/parts.py [COUNT [SEED]]
 
 The pages have regions of all kinds, in files or embedded; comparison/model reads them too. Half of them end in one larger
-region, and are cut off in its data. Compared are the picture, or the error of a page that has no size, and how many segments
-the page lacks, with the number and the error of the first.
+region, and are cut off in its data. A third have faults in their segments, and half of these are whole. Compared are the
+picture, or the error of a page that is refused, and how many segments the page and what it shares lack, with the number and
+the error of the first.
 PYTHONPATH may name a folder with the installed package, as `python3 -m pip install --target FOLDER ./python` makes it.
 """
 from __future__ import annotations
 
 import dataclasses
+import itertools
 import random
 import sys
 
@@ -18,19 +21,23 @@ import hayro_jbig2
 
 from compare import coded, kept, settings
 from made_up import altered, random_symbol
+from model import salvage
 from model.answers import Refused, TooMuch, Work
-from model.salvage import embedded_page, page_of_file
+from model.page import read_embedded, read_file
 from small_documents import INTERMEDIATE, LOSSLESS, Author, random_bitmap, random_generic, random_refinement
 from symbols import random_document
 from jbig2_encoder.bitmap import REPLACE, XOR, Bitmap
-from jbig2_encoder.document import Document
-from jbig2_encoder.framing import GENERIC, HALFTONE, HEADER, PATTERN_DICTIONARY, REFINEMENT
+from jbig2_encoder.document import Document, Segment
+from jbig2_encoder.framing import GENERIC, HALFTONE, HEADER, PAGE, PATTERN_DICTIONARY, REFINEMENT
 from jbig2_encoder.generic import GenericForm, generic_data
 from jbig2_encoder.halftone import Grid, HalftoneForm, halftone_data, pattern_data
 from jbig2_encoder.refinement import refinement_data
 
 KINDS = "coder prefix refined aggregates tables more".split()
 LARGEST = 48, 36
+READINGS = "lenient", "salvage"
+# Segments that lenient reading skips: extensions, and one of a type that is not listed.
+SKIPPED = (62, bytes.fromhex("80000001")), (62, bytes.fromhex("20000000")), (62, b"\x80"), (63, b"")
 
 
 @dataclasses.dataclass
@@ -132,11 +139,45 @@ class Ending:
         ))()
 
 
+def change_data(chance, segment):
+    """Changes a bit of a segment's data, rather late, or leaves its end out."""
+    place = int(len(segment.data) * chance.random() ** 0.5)
+    rest = bytes([segment.data[place] ^ 1 << chance.randrange(8)]) + segment.data[place + 1 :]
+    segment.data = segment.data[:place] + rest * (chance.random() < 0.8)
+
+
+def add_fault(chance, document):
+    """Gives a document a fault: in a segment's data, by a number that may name nothing, or by a segment that is skipped."""
+    place = chance.randrange(len(document.segments))
+    segment = document.segments[place]
+    before = [other.at for other in document.segments if other.at < segment.at]
+    kind = chance.choice(("data", "data", "data", "number", "skipped"))
+    if kind == "data" and segment.data and segment.kind != PAGE:
+        change_data(chance, segment)
+    elif kind == "number" and before:
+        segment.referred = (*segment.referred, chance.choice(before))
+    elif kind == "skipped":
+        document.segments.insert(place + 1, Segment(segment.at, *chance.choice(SKIPPED), page=segment.page))
+
+
+def with_faults(chance, document):
+    """Gives some documents faults. Whether all of it is there."""
+    if chance.random() < 0.67:
+        return False
+    for _ in range(chance.randrange(1, 4)):
+        add_fault(chance, document)
+    return chance.random() < 0.5
+
+
 def cut_ending(chance):
     """A page that is cut off in the data of the region that ends it: rather late, and some after a byte FF."""
     ending = Ending(chance)
     ending.write()
+    if with_faults(chance, ending.document):
+        return Cut(ending.document.embedded()[0], None, False, 1)
     data = ending.document.segments[-1].data
+    if not data:
+        return Cut(ending.document.sequential(), None, True, 1)
     marks = [place + 1 for place, byte in enumerate(data[:-1]) if byte == 0xFF]
     late = int(len(data) * chance.random() ** 0.4)
     left = chance.choice(marks) if marks and chance.random() < 0.2 else late
@@ -149,11 +190,12 @@ def random_cut(chance):
     if chance.random() < 0.5:
         return cut_ending(chance)
     document, pages = written(chance)
+    is_whole = with_faults(chance, document)
     if pages == 1 and chance.random() < 0.5:
         stream, shared = document.embedded()
-        return Cut(stream[: chance.randrange(len(stream))], shared or None, False, 1)
+        return Cut(stream[: None if is_whole else chance.randrange(len(stream))], shared or None, False, 1)
     data = document.sequential()
-    return Cut(data[: chance.randrange(len(HEADER), len(data))], None, True, pages)
+    return Cut(data[: None if is_whole else chance.randrange(len(HEADER), len(data))], None, True, pages)
 
 
 def name_of(fault):
@@ -161,33 +203,41 @@ def name_of(fault):
     return fault.value[0].rstrip(")").split("(")[-1]
 
 
-def by_model(cut, index):
-    """A page: its sides and rows, how many segments it lacks, and the first one; or the name of its error."""
-    work = Work(400_000, 30_000_000)
+def read_by_model(cut, index, reading, work):
+    if reading == "salvage":
+        return salvage.page_of_file(cut.data, index, work) if cut.is_file else salvage.embedded_page(cut.shared, cut.data, work)
+    return read_file(cut.data, index, False, work) if cut.is_file else read_embedded(cut.shared, cut.data, False, work)
+
+
+def by_model(cut, index, reading):
+    """A page: its sides and rows, how many segments it lacks, and the first one, and the same of what it shares; or the name of
+    its error."""
     try:
-        page = page_of_file(cut.data, index, work) if cut.is_file else embedded_page(cut.shared, cut.data, work)
+        page = read_by_model(cut, index, reading, Work(400_000, 30_000_000))
     except Refused as refused:
         return "NoSuchPage" if refused.fault.value[0].startswith("no ") else name_of(refused.fault)
-    bitmap, lacks = page.bitmap, page.lacks
-    first = (lacks[0][0], name_of(lacks[0][1])) if lacks else None
-    return bitmap.width, bitmap.height, bitmap.packed(), len(lacks), first
+    known = [page.bitmap.width, page.bitmap.height, page.bitmap.packed()]
+    for lacks in page.lacks, page.shared_lacks:
+        known += [len(lacks), (lacks[0][0], name_of(lacks[0][1])) if lacks else None]
+    return tuple(known)
 
 
-def by_package(cut, index):
+def by_package(cut, index, reading):
+    how = {"salvage": reading == "salvage", "work_limit": None, "warn": False}
     try:
-        page = hayro_jbig2.decode(
-            cut.data, globals=cut.shared, page=index, salvage=True, work_limit=None, warn=False
-        )
+        page = hayro_jbig2.decode(cut.data, globals=cut.shared, page=index, **how)
     except hayro_jbig2.Jbig2Error as error:
         return error.variant
-    count, first = page.passed_over.count, page.passed_over.first
-    first = (first.segment_number, first.error.variant) if first else None
-    return page.width, page.height, bytes(page.rows), count, first
+    known = [page.width, page.height, bytes(page.rows)]
+    for passed_over in page.passed_over, page.left_out.passed_over:
+        first = passed_over.first
+        known += [passed_over.count, (first.segment_number, first.error.variant) if first else None]
+    return tuple(known)
 
 
-def difference(cut, index):
+def difference(cut, index, reading):
     """What differs of a page, or None."""
-    meant, found = by_model(cut, index), by_package(cut, index)
+    meant, found = by_model(cut, index, reading), by_package(cut, index, reading)
     if meant == found:
         return None
     found_sides, meant_sides = (answer if isinstance(answer, str) else answer[:2] for answer in (found, meant))
@@ -208,17 +258,18 @@ def main():
     pages = differing = left_out = 0
     for turn in range(count):
         cut = random_cut(random.Random(seed << 40 | turn))
-        for index in range(cut.pages):
+        for index, reading in itertools.product(range(cut.pages), READINGS):
             try:
-                fault = difference(cut, index)
+                fault = difference(cut, index, reading)
             except TooMuch:
                 left_out += 1
                 continue
             pages += 1
             if fault:
                 differing += 1
-                print(f"cut {turn}, page {index}: {fault}: {kept_names(cut, f'parts-{seed}-{turn}')}", flush=True)
-    print(f"{pages} pages that are cut off, {differing} differ; {left_out} left out, which are too much work for the model")
+                names = kept_names(cut, f"parts-{seed}-{turn}")
+                print(f"cut {turn}, page {index}, {reading}: {fault}: {names}", flush=True)
+    print(f"{pages} readings of pages, {differing} differ; {left_out} left out, which are too much work for the model")
     return 1 if differing else 0
 
 

@@ -18,8 +18,8 @@ export class WorkLimitReached extends Jbig2Error {
 }
 
 /**
- * What a page, or what pages share, lacks: segments that failed or are cut off, and those that refer to a segment that
- * isn't there. Their count, and the number and the error of the first.
+ * What a page, or what pages share, lacks: segments that are cut off, and those that strict reading refuses, also where
+ * they are drawn or kept. Their count, and the number and the error of the first.
  */
 export interface PassedOver {
   count: number;
@@ -47,8 +47,10 @@ export class DecodedPage {
   /** A bit for each pixel, 1 is black, the leftmost the highest of its byte; (width + 7) >> 3 bytes a row. */
   readonly rows: Uint8Array;
   /**
-   * Whether nothing is known to be missing: no segment of the page failed or is cut off, and each found what it refers
-   * to; nor of its globals, or of what the pages of its file share. Damage within arithmetic data can't be known.
+   * Whether nothing is known to be missing: no segment of the page is cut off, and strict reading refuses none; nor of
+   * its globals, or of what the pages of its file share. Damage within arithmetic data can't be known. Not counted are a
+   * file's counts of pages and of ends of pages, an unknown length of another type than 38, a region of page 0, and
+   * segments that are missing as a whole.
    */
   readonly isComplete: boolean;
   readonly passedOver: PassedOver;

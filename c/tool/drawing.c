@@ -109,8 +109,8 @@ static void refuse_page(struct drawn *drawn, struct fault fault) {
     drawn->status = is_of_limits(fault.error) ? OVER_LIMIT : NOT_DONE;
 }
 
-/* What the other way drew of a page that strict reading refused with an error. The library counts what is missing. What
- * it forgives without a count has the error of strict reading. */
+/* What the other way drew of a page that strict reading refused with an error. The library counts what strict reading
+ * refuses. What it doesn't count has the error of strict reading. */
 static void add_what_it_lacks(struct attempt *attempt, uint32_t error, const hayro_jbig2_left_out *left_out,
                               struct drawn *drawn) {
     hayro_jbig2_passed_over passed = {0, 0, 0};

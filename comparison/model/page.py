@@ -1,4 +1,5 @@
 """Segments, files and pages: which segments there are, and what they draw (7.2, 7.3, 7.4.8, 8 and Annex D)."""
+import copy
 import dataclasses
 
 from . import regions
@@ -30,6 +31,29 @@ class Segment:
     length: object
     data: bytes = b""
     is_cut: bool = False
+
+
+@dataclasses.dataclass
+class CutOff:
+    """The segment at which a list ends early: its number, as far as it is there, and its fault."""
+
+    number: object
+    fault: Fault
+
+
+def cut_off_at(here, fault):
+    """The cut-off of the bytes from a segment on."""
+    return CutOff(int.from_bytes(here[:4], "big") if len(here) >= 4 else None, fault)
+
+
+@dataclasses.dataclass
+class Drawn:
+    """A page: its bitmap, and the numbers and faults of the segments that it lacks, the one that is cut off at the end;
+    `shared_lacks` are those of the globals."""
+
+    bitmap: Bitmap
+    lacks: list
+    shared_lacks: list
 
 
 def segment_header(reader, strict):
@@ -68,26 +92,30 @@ def with_data(reader, segment):
     return dataclasses.replace(segment, data=reader.take(length))
 
 
-def sequential(data, strict):
-    segments, reader = [], Reader(data)
-    while reader.bits_left:
-        try:
-            segment = with_data(reader, segment_header(reader, strict))
-        except Refused as refused:
-            if strict or refused.fault is not Fault.UNEXPECTED_EOF:
-                raise
-            break
-        segments.append(segment)
-        if segment.kind == END_OF_FILE:
-            break
+def by_number(segments):
     return sorted(segments, key=lambda segment: segment.number)
 
 
+def sequential(data, strict):
+    """The segments of a sequential list in order, and the cut-off or None."""
+    segments, cut_off, reader = [], None, Reader(data)
+    while reader.bits_left and cut_off is None and not (segments and segments[-1].kind == END_OF_FILE):
+        here = reader.rest()
+        try:
+            segments.append(with_data(reader, segment_header(reader, strict)))
+        except Refused as refused:
+            if strict or refused.fault is not Fault.UNEXPECTED_EOF:
+                raise
+            cut_off = cut_off_at(here, refused.fault)
+    return by_number(segments), cut_off
+
+
 def random_access(data, strict):
+    """The segments of a list in random access in order, of which none is cut off."""
     headers, reader = [], Reader(data)
     while reader.bits_left and not (headers and headers[-1].kind == END_OF_FILE):
         headers.append(segment_header(reader, strict))
-    return sorted([with_data(reader, header) for header in headers], key=lambda segment: segment.number)
+    return by_number([with_data(reader, header) for header in headers]), None
 
 
 def page_size(segments, height_without_stripes=lambda segments: 0):
@@ -139,8 +167,8 @@ class Names:
 
 
 class Drawing:
-    """Goes through segments: keeps what they name, and draws on a page; the page is None for globals. `passed_over` has the
-    regions that fail in lenient reading: their numbers and faults."""
+    """Goes through segments: keeps what they name, and draws on a page; the page is None for globals. Lenient reading notes in
+    `passed_over` each segment that strict reading refuses as it stands, with its fault."""
 
     def __init__(self, work, strict, names, page=None):
         self.work = work
@@ -149,18 +177,21 @@ class Drawing:
         self.page = page
         self.passed_over = []
 
-    def keep(self, segment):
-        """A dictionary, a table or an extension."""
+    def decoded(self, segment):
+        """What a segment comes to with the names and the page that are there, which stay as they are."""
         if segment.kind == SYMBOLS:
             referred, tables = self.names.referred(segment, self.strict)
-            reader = DictionaryReader(self.work, segment.data, referred, tables, self.strict)
-            self.names.keep(segment, SYMBOLS, reader.decode())
-        elif segment.kind == PATTERNS:
-            self.names.keep(segment, PATTERNS, regions.patterns(self.work, segment.data, self.strict))
-        elif segment.kind == TABLES:
-            self.names.keep(segment, TABLES, custom_table(segment.data))
-        elif self.strict:
-            refuse_if(Reader(segment.data).number(4) >> 31, Fault.UNSUPPORTED)
+            return DictionaryReader(self.work, segment.data, referred, tables, self.strict).decode()
+        if segment.kind == PATTERNS:
+            return regions.patterns(self.work, segment.data, self.strict)
+        if segment.kind == TABLES:
+            return custom_table(segment.data)
+        if segment.kind in REGIONS:
+            return self.region(segment)
+        if self.strict:
+            refuse_if(segment.kind not in KNOWN, Fault.UNKNOWN_TYPE)
+            refuse_if(segment.kind == EXTENSION and Reader(segment.data).number(4) >> 31, Fault.UNSUPPORTED)
+        return None
 
     def region(self, segment):
         """A region of any kind."""
@@ -180,48 +211,70 @@ class Drawing:
         refuse_if(strict and reference is None and (first is not None or segment.kind == 40), Fault.INVALID_REFERENCE)
         return regions.refinement_region(self.work, data, reference, self.page, segment.is_cut)
 
-    def pass_over(self, segment, fault):
-        """Counts a segment that fails. One that is cut off counts where its list ends."""
-        if not segment.is_cut:
-            self.passed_over.append((segment.number, fault))
+    def strict_fault(self, segment):
+        """What strict reading refuses a segment for, or None. Its work isn't counted: the segment is read once more."""
+        try:
+            Drawing(copy.copy(self.work), True, self.names, self.page).decoded(segment)
+        except Refused as refused:
+            return refused.fault
+        return None
+
+    def is_passed_over(self, segment):
+        """Whether a segment that fails is passed over."""
+        return not self.strict and segment.kind in REGIONS and segment.kind not in INTERMEDIATE
 
     def draw(self, segment):
-        """What a segment of a page does."""
-        if segment.kind in KEPT:
-            self.keep(segment)
+        """What a segment does. One that is cut off counts where its list ends."""
+        is_counted = not self.strict and not segment.is_cut
+        fault = self.strict_fault(segment) if is_counted else None
+        try:
+            self.put(segment, self.decoded(segment))
+        except Refused as refused:
+            if not self.is_passed_over(segment):
+                raise
+            fault = refused.fault
+        if is_counted and fault is not None:
+            self.passed_over.append((segment.number, fault))
+
+    def put(self, segment, value):
+        """Keeps what a segment comes to, or draws it."""
+        if segment.kind in (SYMBOLS, PATTERNS, TABLES):
+            self.names.keep(segment, segment.kind, value)
         elif segment.kind in INTERMEDIATE:
-            self.names.keep(segment, "region", self.region(segment))
+            self.names.keep(segment, "region", value)
         elif segment.kind in REGIONS:
-            try:
-                region = self.region(segment)
-            except Refused as refused:
-                if self.strict:
-                    raise
-                self.pass_over(segment, refused.fault)
-                return
-            place = regions.signed(region.x), regions.signed(region.y)
-            self.page.combine(self.work, region.bitmap, *place, region.operator)
+            self.page.combine(self.work, value.bitmap, regions.signed(value.x), regions.signed(value.y), value.operator)
+
+    def share(self, segments):
+        """Goes through segments without a page. Only dictionaries, tables and extensions are read, and a type that is not
+        listed counts."""
+        for segment in segments:
+            if segment.kind in KEPT or segment.kind not in KNOWN:
+                self.draw(segment)
+        return self
+
+    def finish(self, segments):
+        """Goes through those of a page."""
+        for segment in segments:
+            if segment.kind in (END_OF_PAGE, END_OF_FILE):
+                break
+            self.draw(segment)
+        return self
 
 
-def globals_of(work, segments, strict):
-    """The names that segments without a page leave."""
-    drawing = Drawing(work, strict, Names())
-    for segment in segments:
-        if segment.kind in KEPT:
-            drawing.keep(segment)
-    return drawing.names
+def drawn(drawing, segments, shared, cut_off):
+    """A page by its drawing; `shared` is that of the globals, or None."""
+    drawing.finish(segments)
+    cut = [] if cut_off is None else [(cut_off.number, cut_off.fault)]
+    return Drawn(drawing.page, drawing.passed_over + cut, [] if shared is None else shared.passed_over)
 
 
-def drawn(work, segments, shared, strict):
-    """The bitmap of a page."""
+def page_drawn(work, segments, shared, strict, cut_off):
+    """A page by its segments; `shared` is the drawing of the globals, or None."""
     width, height, colour = page_size(segments)
-    page = Bitmap(work, width, height, colour)
-    drawing = Drawing(work, strict, Names(shared), page)
-    for segment in segments:
-        if segment.kind in (END_OF_PAGE, END_OF_FILE):
-            break
-        drawing.draw(segment)
-    return page
+    names = Names(None if shared is None else shared.names)
+    drawing = Drawing(work, strict, names, Bitmap(work, width, height, colour))
+    return drawn(drawing, segments, shared, cut_off)
 
 
 def file_header(reader):
@@ -230,6 +283,10 @@ def file_header(reader):
     flags = reader.number(1)
     refuse_if(flags & 0xF0, Fault.RESERVED_BITS)
     return flags, None if flags & 2 else reader.number(4)
+
+
+def has_end(segments):
+    return any(segment.kind == END_OF_PAGE for segment in segments)
 
 
 def segments_of_pages(segments):
@@ -248,7 +305,7 @@ class File:
         self.strict = strict
         reader = Reader(data)
         flags, count = file_header(reader)
-        segments = (sequential if flags & 1 else random_access)(reader.rest(), strict)
+        segments, self.cut_off = (sequential if flags & 1 else random_access)(reader.rest(), strict)
         self.shared, self.pages = segments_of_pages(segments)
         of_pages = (*REGIONS, PAGE, END_OF_PAGE, END_OF_STRIPE)
         if strict:
@@ -260,17 +317,30 @@ class File:
             page_size(own)
 
 
-def page_of_file(data, index, strict, work=None):
-    """A page of a file as a bitmap, or what refuses it is raised."""
+def read_file(data, index, strict, work=None):
+    """A page of a file, or what refuses it is raised."""
     work = work or Work()
     file = File(data, strict)
     refuse_if(index >= len(file.pages), Fault.NO_SUCH_PAGE)
-    shared = globals_of(work, file.shared, strict)
-    return drawn(work, list(file.pages.values())[index], shared, strict)
+    shared = Drawing(work, strict, Names()).share(file.shared)
+    own = list(file.pages.values())[index]
+    return page_drawn(work, own, shared, strict, None if has_end(own) else file.cut_off)
+
+
+def read_embedded(shared, stream, strict, work=None):
+    """An embedded page; `shared` are the bytes of its globals, or None."""
+    work = work or Work()
+    if shared is not None:
+        shared = Drawing(work, strict, Names()).share(sequential(shared, strict)[0])
+    segments, cut_off = sequential(stream, strict)
+    return page_drawn(work, segments, shared, strict, cut_off)
+
+
+def page_of_file(data, index, strict, work=None):
+    """The bitmap of a page of a file."""
+    return read_file(data, index, strict, work).bitmap
 
 
 def embedded_page(shared, stream, strict, work=None):
-    """An embedded page as a bitmap; `shared` are the bytes of its globals, or None."""
-    work = work or Work()
-    names = None if shared is None else globals_of(work, sequential(shared, strict), strict)
-    return drawn(work, sequential(stream, strict), names, strict)
+    """The bitmap of an embedded page."""
+    return read_embedded(shared, stream, strict, work).bitmap

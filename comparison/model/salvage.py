@@ -5,24 +5,9 @@ from . import regions
 from .answers import Fault, Refused, Work, refuse_if
 from .bitmap import LARGEST, Bitmap
 from .bits import Reader
-from .page import INTERMEDIATE, KEPT, REGIONS, END_OF_FILE, END_OF_PAGE
-from .page import Drawing, Names, file_header, page_size, segment_header, segments_of_pages, with_data
-
-
-@dataclasses.dataclass
-class CutOff:
-    """The segment at which a list ends early: its number, as far as it is there, and its fault."""
-
-    number: object
-    fault: Fault
-
-
-@dataclasses.dataclass
-class Salvaged:
-    """A page: its bitmap, and the numbers and faults of the segments that it lacks, the one that is cut off at the end."""
-
-    bitmap: Bitmap
-    lacks: list
+from .page import INTERMEDIATE, REGIONS, END_OF_FILE
+from .page import Drawing, Names, by_number, cut_off_at, drawn, file_header, has_end, page_size
+from .page import segment_header, segments_of_pages, with_data
 
 
 def is_drawn_in_part(segment):
@@ -39,12 +24,11 @@ def salvaged_list(data):
             header = segment_header(reader, False)
             segments.append(with_data(reader, header))
         except Refused as refused:
-            number = int.from_bytes(here[:4], "big") if len(here) >= 4 else None
-            cut_off = CutOff(number, refused.fault)
+            cut_off = cut_off_at(here, refused.fault)
             if header is not None and header.length is not None:
                 part = dataclasses.replace(header, data=reader.rest(), is_cut=True)
                 segments += [part] * is_drawn_in_part(part)
-    return sorted(segments, key=lambda segment: segment.number), cut_off
+    return by_number(segments), cut_off
 
 
 def lowest_end(segments):
@@ -66,31 +50,20 @@ class Salvaging(Drawing):
     def __init__(self, work, names, page=None):
         super().__init__(work, False, names, page)
 
-    def draw(self, segment):
-        try:
-            super().draw(segment)
-        except Refused as refused:
-            self.pass_over(segment, refused.fault)
+    def is_passed_over(self, segment):
+        return True
 
 
-def globals_of(work, segments):
-    """The names that segments without a page leave."""
-    drawing = Salvaging(work, Names())
-    for segment in segments:
-        if segment.kind in KEPT:
-            drawing.draw(segment)
-    return drawing.names
+def shared_by(work, segments):
+    """The drawing of segments without a page."""
+    return Salvaging(work, Names()).share(segments)
 
 
-def drawn(work, segments, shared, cut_off):
+def page_drawn(work, segments, shared, cut_off):
+    """A page by its segments; `shared` is the drawing of the globals, or None."""
     width, height, colour = page_size(segments, lowest_end)
-    drawing = Salvaging(work, Names(shared), Bitmap(work, width, height, colour))
-    for segment in segments:
-        if segment.kind in (END_OF_PAGE, END_OF_FILE):
-            break
-        drawing.draw(segment)
-    cut = [] if cut_off is None else [(cut_off.number, cut_off.fault)]
-    return Salvaged(drawing.page, drawing.passed_over + cut)
+    names = Names(None if shared is None else shared.names)
+    return drawn(Salvaging(work, names, Bitmap(work, width, height, colour)), segments, shared, cut_off)
 
 
 def is_drawn(segments):
@@ -113,13 +86,12 @@ def page_of_file(data, index, work=None):
     pages = {number: own for number, own in pages.items() if is_drawn(own)}
     refuse_if(index >= len(pages), Fault.NO_SUCH_PAGE)
     own = list(pages.values())[index]
-    has_end = any(segment.kind == END_OF_PAGE for segment in own)
-    return drawn(work, own, globals_of(work, shared), None if has_end else cut_off)
+    return page_drawn(work, own, shared_by(work, shared), None if has_end(own) else cut_off)
 
 
 def embedded_page(shared, stream, work=None):
     """An embedded page; `shared` are the bytes of its globals, or None."""
     work = work or Work()
-    names = None if shared is None else globals_of(work, salvaged_list(shared)[0])
+    shared = None if shared is None else shared_by(work, salvaged_list(shared)[0])
     segments, cut_off = salvaged_list(stream)
-    return drawn(work, segments, names, cut_off)
+    return page_drawn(work, segments, shared, cut_off)

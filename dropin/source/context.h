@@ -24,8 +24,6 @@ struct open_file {
 struct lacks {
     hayro_jbig2_passed_over passed; /* in a page */
     hayro_jbig2_left_out left_out;  /* of a list of segments, and pages of a file */
-    bool has_unknown;
-    uint32_t unknown; /* the first segment of an unknown type, which the decoder doesn't count */
 };
 
 struct context {
@@ -82,9 +80,6 @@ uint32_t draw_embedded(struct context *context, struct page **page);
 
 /* left_out.c */
 
-/* Notes the first segment of an unknown type in the list that was gathered. Globals are a list without a file's header,
-   whatever their context is. The headers take memory. */
-uint32_t look_for_unknown(struct context *context, bool is_file);
 /* One warning of each kind, with the number of the first segment. They are given once. */
 void tell_lacks(struct context *context);
 

@@ -38,9 +38,7 @@ static uint32_t draw(struct context *context, hayro_jbig2_page *stream, struct p
 
 uint32_t draw_embedded(struct context *context, struct page **page) {
     hayro_jbig2_page *stream = NULL;
-    uint32_t answer = look_for_unknown(context, false);
-    if (answer == HAYRO_JBIG2_OK)
-        answer = new_stream(context, &stream);
+    uint32_t answer = new_stream(context, &stream);
     if (answer == HAYRO_JBIG2_OK) {
         /* The decoder has a copy of them. */
         clear_bytes(context->allocator, &context->bytes);

@@ -3,9 +3,7 @@
 uint32_t open_file(struct context *context) {
     struct open_file *open = &context->open;
     const struct bytes *bytes = &context->bytes;
-    uint32_t answer = look_for_unknown(context, true);
-    if (answer == HAYRO_JBIG2_OK)
-        answer = read_file(&context->memory, bytes, &open->file);
+    uint32_t answer = read_file(&context->memory, bytes, &open->file);
     if (answer == HAYRO_JBIG2_OK)
         answer = hayro_jbig2_file_get_left_out(open->file, &context->lacks.left_out);
     if (answer != HAYRO_JBIG2_OK) {

@@ -20,9 +20,7 @@ struct globals *jbig2_make_global_ctx(struct context *context) {
     if (globals->made_of != NULL)
         return globals;
     *globals = (struct globals){.made_of = context, .holders = 1};
-    globals->answer = look_for_unknown(context, false);
-    if (globals->answer == HAYRO_JBIG2_OK)
-        globals->answer = decode(&context->memory, &context->bytes, &globals->decoded);
+    globals->answer = decode(&context->memory, &context->bytes, &globals->decoded);
     if (globals->answer == HAYRO_JBIG2_OK)
         globals->answer = hayro_jbig2_globals_get_left_out(globals->decoded, &context->lacks.left_out);
     if (globals->answer == HAYRO_JBIG2_OK)

@@ -1,47 +1,5 @@
 #include "context.h"
 
-/* A file's header: its identification, its flags, and the count of its pages where it has one (T.88, D.4). */
-enum { FLAGS_AT = 8, WITHOUT_COUNT = 9, WITH_COUNT = 13 };
-enum { IS_SEQUENTIAL = 1, HAS_NO_COUNT = 2 };
-/* Types of segments: T.88, 7.3, and what the decoder names those that are not listed there. */
-enum { END_OF_FILE = 51, NOT_LISTED = 64 };
-
-/* Where the segments of a file begin, one after the other. Those of one with random access are not looked at. */
-static size_t start_of_segments(const struct bytes *bytes) {
-    if (bytes->length < WITH_COUNT || !(bytes->at[FLAGS_AT] & IS_SEQUENTIAL))
-        return bytes->length;
-    return bytes->at[FLAGS_AT] & HAS_NO_COUNT ? WITHOUT_COUNT : WITH_COUNT;
-}
-
-/* Reads a segment's header, and how many bytes it takes with its data. */
-static uint32_t read_segment(const struct context *context, size_t place, hayro_jbig2_segment_info *info,
-                             size_t *taken) {
-    const uint8_t *at = start_of(&context->bytes) + place;
-    size_t length = context->bytes.length - place;
-    uint32_t answer = hayro_jbig2_segment_get_info(&context->memory, false, at, length, info);
-    return answer != HAYRO_JBIG2_OK ? answer
-                                    : hayro_jbig2_segment_get_length(&context->memory, false, at, length, taken);
-}
-
-uint32_t look_for_unknown(struct context *context, bool is_file) {
-    size_t place = is_file ? start_of_segments(&context->bytes) : 0, taken;
-    hayro_jbig2_segment_info info = {0};
-    uint32_t answer = HAYRO_JBIG2_OK;
-    context->lacks = (struct lacks){0};
-    for (; place < context->bytes.length && info.segment_type != END_OF_FILE; place += taken) {
-        answer = read_segment(context, place, &info, &taken);
-        if (answer != HAYRO_JBIG2_OK)
-            break;
-        if (info.segment_type == NOT_LISTED) {
-            context->lacks.has_unknown = true;
-            context->lacks.unknown = info.number;
-            break;
-        }
-    }
-    /* Where the list ends early, the decoder says so. */
-    return answer == HAYRO_JBIG2_OUT_OF_MEMORY ? answer : HAYRO_JBIG2_OK;
-}
-
 static void warn_of_several(struct context *context, uint32_t segment, size_t count, const char *one,
                             const char *several, uint32_t error) {
     char what[80];
@@ -85,8 +43,5 @@ void tell_lacks(struct context *context) {
     tell_passed_over(context, left_out->segments, left_out->segment, left_out->error);
     warn_of_several(context, NO_SEGMENT, left_out->pages, "a page is left out",
                     "pages are left out, the first as follows", left_out->page_error);
-    if (lacks.has_unknown)
-        tell_answer(context, SEVERITY_WARNING, lacks.unknown, "a segment is left out",
-                    HAYRO_JBIG2_SEGMENT_UNKNOWN_TYPE);
     tell_end(context, left_out);
 }

@@ -33,6 +33,9 @@ enum { SPACES = 0x20202020 };
 /* An extension of unknown length, which strict reading refuses, and a segment of an unknown type. */
 #define OPEN_EXTENSION "\0\0\0\3\x3E\0\1\xFF\xFF\xFF\xFF\0\0\0\1\0\0\0\1\0\0\0\0\0\0\0\0\0" TEMPLATE "\xFF\xAC\0\0\0\1"
 #define UNKNOWN_TYPE(number) "\0\0\0" number "\x3F\0\1\0\0\0\0"
+/* Number 1, a region by MMR whose data has a fault, and number 3, an extension that must be understood. */
+#define MMR_FAULT "\0\0\0\1\x26\0\1\0\0\0\x13\0\0\0\x08\0\0\0\1\0\0\0\0\0\0\0\0\0\1\x26"
+#define EXTENSION "\0\0\0\3\x3E\0\1\0\0\0\4\x80\0\0\0"
 #define FILE_HEADER "\x97JB2\r\n\x1A\n"
 
 /* The bytes of a literal without its end. */
@@ -79,7 +82,7 @@ static void draws_what_is_left(void) {
 }
 
 static const char cut[] = "a segment is left out: unexpected end of input";
-static const char unknown[] = "a segment is left out: unknown or reserved segment type";
+static const char unknown[] = "a segment was passed over: unknown or reserved segment type";
 static const char unmarked[] = "the rest of the segments is left out: missing end marker for unknown-length region";
 static const char miscounted[] = "the rest of the segments is left out: invalid referred-to segment count";
 
@@ -131,6 +134,19 @@ static void tells_of_symbols_that_are_not_there(void) {
     draws(false, BYTES(PAGE TEXT("\x20\1")), 0x00, 1, 3, failed);
     draws(false, BYTES(PAGE GOOD_SYMBOLS TEXT("\x20\2")), 0x80, 0, 0, "");
     draws(false, BYTES(PAGE GOOD_SYMBOLS TEXT("\x40\1\2")), 0x80, 1, 3, lacking);
+}
+
+/* Rows of MMR data after a fault are white, and an extension that must be understood is skipped. */
+static void tells_of_what_is_forgiven(void) {
+    static const char rows[] = "a segment was passed over: invalid MMR-encoded data";
+    draws(false, BYTES(PAGE MMR_FAULT REGION), 0x80, 1, 1, rows);
+    draws(true, BYTES(FILE_HEADER "\3" PAGE MMR_FAULT REGION END_OF_PAGE), 0x80, 1, 1, rows);
+    draws(false, BYTES(PAGE REGION EXTENSION), 0x80, 1, 3, "a segment was passed over: unsupported feature");
+    draws(false, BYTES(PAGE MMR_FAULT REGION EXTENSION), 0x80, 1, 1,
+          "2 segments were passed over, this one first: invalid MMR-encoded data");
+    setenv("HAYRO_JBIG2_READING", "lenient", 1);
+    draws(false, BYTES(PAGE MMR_FAULT REGION), 0x80, 1, 1, rows);
+    unsetenv("HAYRO_JBIG2_READING");
 }
 
 /* The first page of a file is complete, since its end is there; the second one isn't. */
@@ -237,6 +253,7 @@ void survives_damage(void) {
     tells_which_segment_is_left_out();
     tells_of_each_cut();
     tells_of_symbols_that_are_not_there();
+    tells_of_what_is_forgiven();
     tells_which_page_is_cut_off();
     reads_leniently_where_it_is_asked_to();
     tells_two_faults_of_one_kind();

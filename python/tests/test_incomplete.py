@@ -1,4 +1,4 @@
-"""Pages that are cut off, or that refer to what isn't there: `Page.is_complete`, and a warning."""
+"""Pages that are cut off, that refer to what isn't there, or whose faults are forgiven: `Page.is_complete`, and a warning."""
 
 from __future__ import annotations
 
@@ -17,6 +17,27 @@ REGIONS = b"".join(bytes.fromhex(REGION % number) for number in range(2, 6))
 # The text region of TEXT, which refers to number 0 besides: no dictionary.
 OTHER_TEXT = TEXT.replace(bytes.fromhex("06 20 01 01"), bytes.fromhex("06 40 00 01 01"))
 READINGS = {"lenient": {}, "salvage": {"salvage": True}}
+AREA = "00000008 00000001 0000000000000000 00"
+# A halftone region of one cell, number 2, by MMR, and its three patterns, number 1.
+CELL = (
+    "00000001 10 00 01 00000007 00 01 01 00000002"
+    f"00000002 16 20 01 01 00000029 {AREA} 01 00000001 00000001" + "00" * 12
+)
+# Faults that are forgiven: segments, the number of the one that counts, its error, and the row.
+FORGIVEN = {
+    "MMR data": (f"00000001 26 00 01 00000013 {AREA} 01 26", 1, "InvalidMmrData", b"\0"),
+    "MMR data of an intermediate region": (f"00000001 24 00 01 00000013 {AREA} 01 26", 1, "InvalidMmrData", b"\0"),
+    "MMR data of patterns": ("00000001 10 00 01 00000008 01 08 01 00000000 26", 1, "InvalidMmrData", b"\0"),
+    "a gray value without a pattern": (f"{CELL} 26A880", 2, "GrayScaleOutOfRange", b"\x80"),
+    "an id without a symbol": (f"00000002 06 00 01 0000001B {AREA} 0010 00000001 A943FFAC", 2, "OutOfRange", b"\0"),
+    "a delta S after the last instance": (
+        (GLOBALS + TEXT[30:-2]).hex() + "0000", 2, "TooManyInstances", b"\x80"
+    ),
+    "an extension": ("00000001 3E 00 01 00000004 80000000", 1, "Unsupported", b"\0"),
+    "an extension that is too short": ("00000001 3E 00 01 00000003 800000", 1, "UnexpectedEof", b"\0"),
+    "a type that is not listed": ("00000001 3F 00 01 00000000", 1, "UnknownType", b"\0"),
+    "an intermediate refinement of no region": (f"00000001 28 00 01 00000012 {AREA} 01", 1, "InvalidReference", b"\0"),
+}
 
 
 class Incomplete(unittest.TestCase):
@@ -81,6 +102,34 @@ class Incomplete(unittest.TestCase):
             page = hayro_jbig2.decode(TEXT, globals=shared, **how, warn=False)
             self.assertEqual((page.passed_over.count, page.is_complete), (0, False))
             self.assertEqual(page.lacks, ["what pages share: segment 1: segment refers to an invalid segment"])
+
+    def test_what_is_forgiven_counts(self):
+        end = bytes.fromhex("00000009 31 00 01 00000000")
+        for name, (segments, number, variant, row) in FORGIVEN.items():
+            stream = PAGE.read_bytes() + bytes.fromhex(segments)
+            for reading, how in READINGS.items():
+                for data in stream, HEADER + stream + end:
+                    with self.subTest(name, reading=reading):
+                        page = self.decoded(data, **how)
+                        first = page.passed_over.first
+                        self.assertEqual((page.rows, page.passed_over.count, first.segment_number), (row, 1, number))
+                        self.assertEqual((first.error.variant, page.left_out.cut_off), (variant, None))
+
+    def test_what_is_forgiven_counts_once_and_in_order(self):
+        """A region that fails, one whose fault is forgiven, and one that is cut off."""
+        bad = bytes.fromhex(REGION % 2).replace(b"\0\x03\xff\xfd", b"\0\x03\0\xfd")
+        forgiven = bytes.fromhex(FORGIVEN["MMR data"][0])
+        for how in READINGS.values():
+            page = self.decoded(PAGE.read_bytes() + forgiven + bad + bytes.fromhex(REGION % 3)[:-1], **how)
+            self.assertEqual((page.passed_over.count, page.passed_over.first.segment_number), (3, 1))
+            self.assertEqual(page.passed_over.first.error.variant, "InvalidMmrData")
+
+    def test_what_is_forgiven_of_globals(self):
+        more = bytes.fromhex("00000003 3E 00 00 00000004 80000000")
+        for how in READINGS.values():
+            page = hayro_jbig2.decode(TEXT, globals=GLOBALS + more, **how, warn=False)
+            self.assertEqual((page.rows, page.passed_over.count, page.is_complete), (b"\x80", 0, False))
+            self.assertEqual(page.lacks, ["what pages share: segment 3: unsupported feature"])
 
     def test_two_faults_of_one_kind_are_two(self):
         """A dictionary that lacks something, and a list that ends with the same error, in salvage."""

@@ -15,12 +15,14 @@ pub struct DecoderContext {
 }
 
 impl DecoderContext {
-    /// Whether nothing is known to be missing of the page that was decoded last: no segment of it failed or is cut off,
-    /// and each found what it refers to; nor of its globals, or of what the pages of its file share. False after an
-    /// error, and in a new context. `hayro-jbig2` 0.4.0 has no such call.
+    /// Whether nothing is known to be missing of the page that was decoded last: no segment of it is cut off, and strict
+    /// reading refuses none; nor of its globals, or of what the pages of its file share. False after an error, and in a
+    /// new context. `hayro-jbig2` 0.4.0 has no such call.
     ///
-    /// Lenient reading forgives more without a count: rows of MMR data after a fault, gray values without a pattern, ids
-    /// without a symbol. Damage within arithmetic data can't be known: the format has no checksum.
+    /// So faults that lenient reading forgives count: rows of MMR data after a fault, gray values without a pattern, ids
+    /// without a symbol, references to what isn't there. Damage within arithmetic data can't be known: the format has no
+    /// checksum. Not counted are a file's counts of pages and of ends of pages, an unknown length of another type than
+    /// 38, a region of page 0, and segments that are missing as a whole.
     pub fn is_complete(&self) -> bool {
         self.passed_over().count == 0 && self.is_shared_whole
     }

@@ -2,8 +2,8 @@
 
 use crate::error::DecodeError;
 
-/// What a page, or what pages share, lacks: segments that failed or are cut off, and those that refer to a segment that
-/// isn't there, which are drawn or kept all the same.
+/// What a page, or what pages share, lacks: segments that are cut off, and those that strict reading refuses, also where
+/// they are drawn or kept all the same.
 #[derive(Debug, Clone, Copy, Default, PartialEq, Eq)]
 pub struct PassedOver {
     /// How many segments these are.
@@ -17,7 +17,7 @@ pub struct PassedOver {
 pub struct PassedSegment {
     /// The segment's number. `None` where it isn't known, as where the bytes end within it.
     pub segment_number: Option<u32>,
-    /// The fault for which it was passed over.
+    /// The fault for which it was passed over, or for which strict reading refuses it.
     pub error: DecodeError,
 }
 

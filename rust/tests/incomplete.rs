@@ -1,9 +1,10 @@
-//! Pages that are cut off, or that refer to what isn't there: `DecoderContext::is_complete`, and what they lack.
+//! Pages that are cut off, that refer to what isn't there, or whose faults are forgiven: `DecoderContext::is_complete`, and what
+//! they lack.
 
 use hayro_jbig2::{
     DecodeError, DecodeSettings, Decoder, DecoderContext, File, Globals, Page, PassedOver, PassedSegment,
 };
-use hayro_jbig2::{HuffmanError, ParseError, SegmentError};
+use hayro_jbig2::{HuffmanError, ParseError, RegionError, SegmentError, SymbolError};
 
 const LENIENT: DecodeSettings = DecodeSettings { strict: false };
 const STRICT: DecodeSettings = DecodeSettings { strict: true };
@@ -38,6 +39,14 @@ fn regions() -> Vec<u8> {
 
 fn one(segment_number: Option<u32>, error: DecodeError) -> PassedOver {
     PassedOver { count: 1, first: Some(PassedSegment { segment_number, error }) }
+}
+
+struct Nobody;
+
+impl Decoder for Nobody {
+    fn push_pixel(&mut self, _black: bool) {}
+    fn push_pixel_chunk(&mut self, _black: bool, _chunk_count: u32) {}
+    fn next_line(&mut self) {}
 }
 
 /// The first byte of a page, whether it is complete, and what it lacks.
@@ -122,14 +131,47 @@ fn symbols_that_are_not_there() {
     });
 }
 
+/// What strict reading refuses, and lenient reading draws or skips.
+#[test]
+fn what_is_forgiven() {
+    const MMR: DecodeError = DecodeError::Region(RegionError::InvalidMmrData);
+    const GRAY: DecodeError = DecodeError::Region(RegionError::GrayScaleOutOfRange);
+    const ID: DecodeError = DecodeError::Symbol(SymbolError::OutOfRange);
+    const TYPE: DecodeError = DecodeError::Segment(SegmentError::UnknownType);
+    let area = "00000008 00000001 0000000000000000 00";
+    let cell = format!(
+        "00000001 10 00 01 00000007 00 01 01 00000002 00000002 16 20 01 01 00000029 {area}
+        01 00000001 00000001 000000000000000000000000"
+    );
+    for (segments, row, number, error) in [
+        (format!("00000001 26 00 01 00000013 {area} 01 26"), 0x00, 1, MMR),
+        (format!("00000001 24 00 01 00000013 {area} 01 26"), 0x00, 1, MMR),
+        (format!("{cell} 26A880"), 0x80, 2, GRAY),
+        (format!("00000002 06 00 01 0000001B {area} 0010 00000001 A943FFAC"), 0x00, 2, ID),
+        ("00000001 3E 00 01 00000004 80000000".to_string(), 0x00, 1, DecodeError::Unsupported),
+        ("00000001 3F 00 01 00000000".to_string(), 0x00, 1, TYPE),
+    ] {
+        let stream = of(&[PAGE, &segments]);
+        both(&stream, None, |page| {
+            assert_eq!(drawn(page), (row, false, one(Some(number), error)));
+            assert_eq!(page.cut_off(), None);
+        });
+        let strict = Page::new_embedded(&stream, None, &STRICT);
+        let mut context = DecoderContext::default();
+        assert_eq!(strict.and_then(|page| page.decode_with(&mut Nobody, &mut context)), Err(error));
+    }
+    // Of globals.
+    let globals = of(&[SYMBOLS, "00000003 3E 00 00 00000004 80000000"]);
+    let lacks = one(Some(3), DecodeError::Unsupported);
+    assert_eq!(Globals::new(&globals, &LENIENT).unwrap().left_out().passed_over, lacks);
+    assert_eq!(Globals::salvaged(&globals).unwrap().left_out().passed_over, lacks);
+    both(&of(&[PAGE, TEXT, DATA]), Some(&globals), |page| {
+        assert_eq!(drawn(page), (0x80, false, PassedOver::default()));
+    });
+}
+
 #[test]
 fn a_context_holds_no_page_after_an_error() {
-    struct Nobody;
-    impl Decoder for Nobody {
-        fn push_pixel(&mut self, _black: bool) {}
-        fn push_pixel_chunk(&mut self, _black: bool, _chunk_count: u32) {}
-        fn next_line(&mut self) {}
-    }
     let (file, lacking) = (File::new(BOOK, &STRICT).unwrap(), of(&[PAGE, TEXT, DATA]));
     let (whole, refused) = (file.page(0).unwrap(), Page::new_embedded(&lacking, None, &STRICT).unwrap());
     let mut context = DecoderContext::default();

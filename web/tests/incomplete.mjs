@@ -1,5 +1,5 @@
 /**
- * Pages that are cut off, or that refer to what isn't there: `isComplete`, and what they lack.
+ * Pages that are cut off, that refer to what isn't there, or whose faults are forgiven: `isComplete`, and what they lack.
  *
  * usage: node web/tests/incomplete.mjs FILE, which is t88-h1.jb2
  */
@@ -29,6 +29,21 @@ const SYMBOLS = hex("00000001 00 00 01 0000000F 0001 00000001 00000001 5F8080004
 const DATA = `01 0000002D 00000008 00000001 ${"00".repeat(9)} 0011 0000 00000001 01 ${"00".repeat(17)} 0004`;
 const TEXT = joined(PAGE, "00000002 06 20 01", DATA);
 const OTHER_TEXT = joined(PAGE, "00000002 06 40 00 01", DATA);
+
+// What strict reading refuses, and lenient reading draws or skips: segments, the first byte of the row, the number of the one
+// that counts, and its error.
+const AREA = `00000008 00000001 ${"00".repeat(9)}`;
+const CELL =
+  "00000001 10 00 01 00000007 00 01 01 00000002" +
+  `00000002 16 20 01 01 00000029 ${AREA} 01 00000001 00000001 ${"00".repeat(12)}`;
+const FORGIVEN = [
+  ["MMR data", `00000001 26 00 01 00000013 ${AREA} 01 26`, 0, 1, "REGION_INVALID_MMR_DATA"],
+  ["MMR data of an intermediate region", `00000001 24 00 01 00000013 ${AREA} 01 26`, 0, 1, "REGION_INVALID_MMR_DATA"],
+  ["a gray value without a pattern", `${CELL} 26A880`, 128, 2, "REGION_GRAY_SCALE_OUT_OF_RANGE"],
+  ["an id without a symbol", `00000002 06 00 01 0000001B ${AREA} 0010 00000001 A943FFAC`, 0, 2, "SYMBOL_OUT_OF_RANGE"],
+  ["an extension", "00000001 3E 00 01 00000004 80000000", 0, 1, "UNSUPPORTED"],
+  ["a type that is not listed", "00000001 3F 00 01 00000000", 0, 1, "SEGMENT_UNKNOWN_TYPE"],
+];
 
 const END = "PARSE_UNEXPECTED_EOF";
 const REFERENCE = "SEGMENT_INVALID_REFERENCE";
@@ -63,6 +78,7 @@ function checkStreams() {
     ["a page with three ends of a line", joined(TEXT, "0A0A0A"), { globals }, `128 1 null ${END}`],
     ["a page without its globals", TEXT, {}, "0 1 2 HUFFMAN_INVALID_CODE"],
     ["a page with one of two dictionaries", OTHER_TEXT, { globals }, `128 1 2 ${REFERENCE}`],
+    ...FORGIVEN.map(([name, segments, row, segment, error]) => [name, joined(PAGE, segments), {}, `${row} 1 ${segment} ${error}`]),
   ];
   for (const [name, bytes, options, meant] of cases) {
     for (const reading of READINGS) {

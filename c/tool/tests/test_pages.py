@@ -162,8 +162,8 @@ class Faults(Case):
             messages[path.rsplit("/", 1)[1][:-4]].append(message)
         return messages, ended.status
 
-    def test_what_lenient_reading_forgives_in_silence(self):
-        """Faults in coded data that lenient reading draws over have their segment too."""
+    def test_what_lenient_reading_forgives(self):
+        """Faults that lenient reading draws over or skips have their segment too."""
         drawn = {entry.name for entry in ENTRIES if entry.lenient == PICTURE} - {entry.name for entry in REFUSED}
         names = sorted(drawn & {entry.name for entry in ENTRIES if entry.strict != PICTURE} & set(FILES))
         messages, status = self.messages_of(names)

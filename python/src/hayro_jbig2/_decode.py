@@ -57,12 +57,14 @@ def decode(
     is a file, unless there are globals.
 
     A lenient decoder passes over a segment that is cut off, an immediate region that fails, a number that names
-    nothing, and an extension that it should understand; with `strict` the first fault is raised. With `salvage`, for viewers of
-    damaged files, whatever a lenient decoder refuses is left out: only a page without a size and a damaged file header
-    are raised. Of a region that is cut off the rows, cells or symbols that are whole are drawn.
+    nothing, and an extension that it should understand, and draws what it can of some faulty data; with `strict` the
+    first fault is raised. With `salvage`, for viewers of damaged files, whatever a lenient decoder refuses is left out:
+    only a page without a size and a damaged file header are raised. Of a region that is cut off the rows, cells or
+    symbols that are whole are drawn.
 
     Where `Page.is_complete` is false, an `IncompletePageWarning` is given, unless `warn` is false or a filter of
-    `warnings` says otherwise. `Page.passed_over` and `Page.left_out` tell what the page lacks.
+    `warnings` says otherwise. `Page.passed_over` and `Page.left_out` say what the page lacks: each segment that is cut
+    off, or that strict reading refuses.
 
     `work_limit` is how many units of work the page may take, and as many again what it shares with other pages; None is
     no limit. A unit is about a pixel that is decoded, cleared or combined. The default is 100 for each pixel of the

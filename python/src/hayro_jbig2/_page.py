@@ -25,13 +25,13 @@ class PassedSegment:
     segment_number: int | None
     """The segment's number; None where it isn't known, as where the data ends within it."""
     error: Jbig2Error
-    """The fault for which it was passed over, which was not raised."""
+    """The fault for which it was passed over, or for which strict reading refuses it. It was not raised."""
 
 
 @dataclass(frozen=True)
 class PassedOver:
-    """What a page, or what pages share, lacks: segments that failed or are cut off, and those that refer to a segment
-    that isn't there, which are drawn or kept all the same."""
+    """What a page, or what pages share, lacks: segments that are cut off, and those that strict reading refuses, also
+    where they are drawn or kept all the same."""
 
     count: int
     """How many segments these are."""
@@ -106,11 +106,13 @@ class Page:
 
     @property
     def is_complete(self) -> bool:
-        """Whether nothing is known to be missing: no segment of the page failed or is cut off, and each found what it
-        refers to; nor of its globals, or of what the pages of its file share.
+        """Whether nothing is known to be missing: no segment of the page is cut off, and strict reading refuses none; nor
+        of its globals, or of what the pages of its file share.
 
-        Lenient reading forgives more without a count: rows of MMR data after a fault, gray values without a pattern,
-        ids without a symbol. Damage within arithmetic data can't be known: the format has no checksum.
+        So faults that lenient reading forgives count: rows of MMR data after a fault, gray values without a pattern, ids
+        without a symbol, references to what isn't there. Damage within arithmetic data can't be known: the format has no
+        checksum. Not counted are a file's counts of pages and of ends of pages, an unknown length of another type than
+        38, a region of page 0, and segments that are missing as a whole.
         """
         return not self.lacks
 

@@ -5,12 +5,16 @@ use crate::call::{BLACK, Call, DOT, LINE, PAPER, WHITE, WHITE_TWICE};
 use crate::case::Answer::{Calls, Refused, Undrawn};
 use crate::case::Case::{ByMode, Page, Size};
 use crate::case::Modes::Both;
-use crate::case::Row;
+use crate::case::{Case, Row};
 use crate::errors::{INVALID_MMR, TOO_EARLY, TOO_LARGE};
+use crate::salvage::{NOTHING, Report, SalvageCase};
 use crate::{files, symbols};
 use hayro_jbig2::{DecodeError, FormatError};
 
 const WIDEST: &[Call] = &[Call::Chunk(false, 8191), PAPER, PAPER, PAPER, PAPER, PAPER, PAPER, PAPER, LINE];
+
+/// Segment 1 has MMR data with a fault.
+const ONE_FAULT: Report = Report { passed_over: 1, first: Some((Some(1), INVALID_MMR)), cut_off: None };
 
 pub const ROWS: &[Row] = &[
     Row { name: "1", cases: files::ROW_1 },
@@ -41,6 +45,20 @@ pub const ROWS: &[Row] = &[
         cases: &[
             Page(Both, "P 00000001260001 00000018 00000008 00000001 00*9 01 26A280080080", Calls(BLACK)),
             ByMode("P 00000001260001 00000013 00000008 00000001 00*9 01 26", Undrawn(INVALID_MMR), Calls(WHITE)),
+            Case::Salvage(SalvageCase::Page {
+                globals: "",
+                bytes: "P 00000001260001 00000013 00000008 00000001 00*9 01 26",
+                answer: Calls(WHITE),
+                globals_report: NOTHING,
+                report: ONE_FAULT,
+            }),
+            Case::Salvage(SalvageCase::Page {
+                globals: "",
+                bytes: "P 00000001240001 00000013 00000008 00000001 00*9 01 26",
+                answer: Calls(WHITE),
+                globals_report: NOTHING,
+                report: ONE_FAULT,
+            }),
         ],
     },
     Row { name: "11", cases: symbols::ROW_11 },

@@ -3,9 +3,12 @@ use crate::call::{BLACK, Call, DOT, INK, LINE, PAPER, WHITE};
 use crate::case::Answer::{Calls, Undrawn};
 use crate::case::Case::{ByMode, Page};
 use crate::case::Modes::Both;
-use crate::case::Row;
+use crate::case::{Case, Row};
 use crate::errors::{TOO_EARLY, TOO_LARGE};
+use crate::salvage::{NOTHING, Report, SalvageCase};
 use hayro_jbig2::{DecodeError, RegionError, SegmentError};
+
+const NO_PATTERN: DecodeError = DecodeError::Region(RegionError::GrayScaleOutOfRange);
 
 /// One row of three patterns of two pixels, and two white pixels.
 const FOUR_CELLS: &[Call] = &[INK, PAPER, INK, INK, PAPER, INK, PAPER, PAPER, LINE];
@@ -56,9 +59,21 @@ const ROWS_7: &[Row] = &[
             ),
             ByMode(
                 "P 00000001100001 00000007 00010100000002 T@8=00000029 26A880",
-                Undrawn(DecodeError::Region(RegionError::GrayScaleOutOfRange)),
+                Undrawn(NO_PATTERN),
                 Calls(DOT),
             ),
+            // The value without a pattern counts.
+            Case::Salvage(SalvageCase::Page {
+                globals: "",
+                bytes: "P 00000001100001 00000007 00010100000002 T@8=00000029 26A880",
+                answer: Calls(DOT),
+                globals_report: NOTHING,
+                report: Report {
+                    passed_over: 1,
+                    first: Some((Some(2), NO_PATTERN)),
+                    cut_off: None,
+                },
+            }),
             Page(
                 Both,
                 "P 00000001100001 00000007 00010100000001 T@8=0000002A 26A826A8",

@@ -6,11 +6,14 @@ use crate::case::Modes::{Both, Lenient, Strict};
 use crate::case::{Case, Row};
 use crate::coder::CoderCase;
 use crate::errors::{INVALID_SELECTION, NO_PAGE, TOO_EARLY};
+use crate::salvage::{NOTHING, Report, SalvageCase};
 use hayro_jbig2::{DecodeError, HuffmanError, OverflowError, SymbolError};
 
 const TOO_MANY: DecodeError = DecodeError::Symbol(SymbolError::TooManyInstances);
 
 const INVALID: DecodeError = DecodeError::Symbol(SymbolError::Invalid);
+
+const NO_SYMBOL: DecodeError = DecodeError::Symbol(SymbolError::OutOfRange);
 
 pub const ROW_11: &[Case] = &[Page(Both, "P S X", Calls(DOT))];
 
@@ -110,7 +113,7 @@ const ROWS_8: &[Row] = &[
             Page(
                 Both,
                 "P S@23=00 000000020020010100 00000E 1003 00000001 00000001 4180FC21 X@0=00000003@6=02",
-                Undrawn(DecodeError::Symbol(SymbolError::OutOfRange)),
+                Undrawn(NO_SYMBOL),
             ),
             Page(
                 Both,
@@ -138,7 +141,21 @@ const ROWS_8: &[Row] = &[
     },
     Row {
         name: "R8.4",
-        cases: &[ByMode("P S X@55=0000", Undrawn(TOO_MANY), Calls(DOT))],
+        cases: &[
+            ByMode("P S X@55=0000", Undrawn(TOO_MANY), Calls(DOT)),
+            // The number after the last instance counts.
+            Case::Salvage(SalvageCase::Page {
+                globals: "",
+                bytes: "P S X@55=0000",
+                answer: Calls(DOT),
+                globals_report: NOTHING,
+                report: Report {
+                    passed_over: 1,
+                    first: Some((Some(2), TOO_MANY)),
+                    cut_off: None,
+                },
+            }),
+        ],
     },
     Row {
         name: "R8.5",
@@ -169,6 +186,23 @@ const ROWS_8: &[Row] = &[
                 "P S 0000000206200101 0000001B 00000008 00000001 00*9 0010 00000001 A943FFAC",
                 Calls(DOT),
             ),
+            // Without a dictionary there is no symbol. It is not drawn, and counts.
+            ByMode(
+                "P 00000002060001 0000001B 00000008 00000001 00*9 0010 00000001 A943FFAC",
+                Undrawn(NO_SYMBOL),
+                Calls(WHITE),
+            ),
+            Case::Salvage(SalvageCase::Page {
+                globals: "",
+                bytes: "P 00000002060001 0000001B 00000008 00000001 00*9 0010 00000001 A943FFAC",
+                answer: Calls(WHITE),
+                globals_report: NOTHING,
+                report: Report {
+                    passed_over: 1,
+                    first: Some((Some(2), NO_SYMBOL)),
+                    cut_off: None,
+                },
+            }),
         ],
     },
 ];

@@ -8,6 +8,7 @@ use crate::coder::{CoderCase, Reading};
 use crate::errors::{INVALID_MMR, TOO_EARLY, TOO_LARGE};
 use crate::rows::coding::{CODED, DECISIONS};
 use crate::rows::{files, symbols};
+use crate::salvage::{NOTHING, Report, SalvageCase};
 use crate::table::TableCase;
 use hayro_jbig2::parts::segment::SegmentType;
 use hayro_jbig2::{DecodeError, FormatError};
@@ -17,6 +18,13 @@ const MANY: Call = Call::Chunk(false, 8191);
 
 /// One row of 65535 white pixels.
 const WIDEST: &[Call] = &[MANY, PAPER, PAPER, PAPER, PAPER, PAPER, PAPER, PAPER, LINE];
+
+/// Segment 1 has MMR data with a fault.
+const ONE_FAULT: Report = Report {
+    passed_over: 1,
+    first: Some((Some(1), INVALID_MMR)),
+    cut_off: None,
+};
 
 const ROWS: &[Row] = &[
     Row {
@@ -156,6 +164,21 @@ const ROWS: &[Row] = &[
                 Undrawn(INVALID_MMR),
                 Calls(WHITE),
             ),
+            // The fault counts, also of an intermediate region.
+            Case::Salvage(SalvageCase::Page {
+                globals: "",
+                bytes: "P 00000001260001 00000013 00000008 00000001 00*9 01 26",
+                answer: Calls(WHITE),
+                globals_report: NOTHING,
+                report: ONE_FAULT,
+            }),
+            Case::Salvage(SalvageCase::Page {
+                globals: "",
+                bytes: "P 00000001240001 00000013 00000008 00000001 00*9 01 26",
+                answer: Calls(WHITE),
+                globals_report: NOTHING,
+                report: ONE_FAULT,
+            }),
         ],
     },
     Row {
