@@ -100,7 +100,7 @@ impl<A: Allocator> DecoderContext<A> {
     }
 
     /// Whether there is a page that was drawn last, and it is complete: no segment was passed over, none was cut off,
-    /// and each found what it refers to. Damage within coded data can't be known: the format has no checksum.
+    /// and strict reading would refuse none. Damage within coded data can't be known: the format has no checksum.
     pub fn is_complete(&self) -> bool
         ensures { result ≡ (self.now.holds_page && self.now.drawing.passed_over.count == 0) }
     {

@@ -48,8 +48,7 @@ pub(crate) fn content_of<A: Allocator>(globals: Option<&Globals<A>>) -> Option<&
 }
 
 impl<A: Allocator> Globals<A> {
-    /// What salvage passed over of the globals' segments, and the dictionaries that refer to something that isn't
-    /// there.
+    /// What salvage passed over of the globals' segments, and those that are kept though strict reading refuses them.
     pub fn passed_over(&self) -> &PassedOver
         ensures { result.now ≡ self.now.passed_over }
     {
