@@ -33,10 +33,11 @@ use Rattle.jbig2_region.specs.declared.template.Template.{Template}
 use Rattle.jbig2_region.specs.declared.template.Template.TheVariants.{Template0, Template1, Template2, Template3}
 use Rattle.jbig2_region.specs.declared.template.AdaptiveTemplatePixel.{AdaptiveTemplatePixel}
 use Rattle.jbig2_region.specs.RegionInfo.{PlacedRegion, at_location}
+use Rattle.jbig2_framing.specs.declared.segment.SegmentType.{SegmentType}
 use Rattle.jbig2_page.specs.Names.{Names}
-use Rattle.jbig2_page.proofs.AgreeingPages.{no-part}
+use Rattle.jbig2_page.proofs.AgreeingPages.{no-part, segment-any}
 use Rattle.jbig2_page.specs.Regions.{generic_at, is_partial, with_whole_rows}
-use Rattle.jbig2_page.specs.Page.{Drawing, IsSide, ReadPage, beginning_of, blank_page, known_height, page_from, part_of_list, grid_of_page, immediate, lacks_referred, or_passed_over, or_left_out, or_told, with_cut_off, with_drawn_region, segments_drawn}
+use Rattle.jbig2_page.specs.Page.{Drawing, IsSide, ReadPage, beginning_of, blank_page, known_height, page_from, part_of_list, grid_of_page, immediate, or_passed_over, segment_by, segment_on, with_cut_off, with_drawn_region, segments_drawn}
 use Rattle.jbig2_inverses.specs.BitmapWriter.{mmr_bytes}
 use Rattle.jbig2_inverses.specs.GenericSegmentWriter.{adaptive_bytes, IsHeader, generic_bytes, info_bytes}
 use Rattle.jbig2_inverses.specs.RegionWriter.{is_typical, generic_entries}
@@ -222,18 +223,28 @@ module _ (reading : Reading) (globals : Names) (c : Choice) (w h : ℕ) (pixels 
       ∙ ap (λ (r : Result (List SegmentView) DecodeError). (r >>= λ ps. Ok (by_number (ps ++ []))) >>= next) (segments-are short)
       ∙ ap (λ (r : Result InitialPage DecodeError). r >>= λ i. Ok (made i)) beginning-is
 
-  -- its drawing
-  abbrev drawing : Grid → Bool → Drawing
-  drawing g untouched = record (blank_page initial) { grid = g; untouched = untouched }
+-- its drawing: page information draws nothing, and the region is drawn without a fault
+whole-segment : (c : Choice) (w h : ℕ) (pixels : ℕ → ℕ → Bool) (number : ℕ) (kind : SegmentType) (bytes : List ℕ) → is_partial (segment c w h pixels number kind bytes) ≡ false
+whole-segment c w h pixels number kind bytes = le-ltb (length bytes) (length bytes) (omega arith)
 
-  grid-is : grid_of_page page ≡ Ok (grid_of w h pixels)
-  unfolding grid_of_page immediate
-  grid-is =
-      let d = blank_page initial in
-      let shown : Result Drawing DecodeError → Result Grid DecodeError = λ r. (or_told (lacks_referred globals second d) 1 d (or_left_out reading 1 d r) >>= λ e. segments_drawn reading globals [] e) >>= λ e. Ok e.grid in
-      grid-with-cut page.cut_off (segments_drawn reading globals page.segments d)
-      ∙ ap (λ (r : Result PlacedRegion DecodeError). shown (or_passed_over strict 1 d (with_drawn_region d r))) region-is
-      ∙ ap (λ (g : Grid). Ok g) (drawn w h pixels)
+without-fault : (reading : Reading) (globals : Names) (p : SegmentView) (d e : Drawing) → is_partial p ≡ false → segment_by true globals p d ≡ Ok e → segment_on reading globals p d ≡ Ok e
+without-fault reading globals p d e whole is = rw (whole, is, segment-any (is_strict reading) globals p d e is) refl
+
+grid-is : (reading : Reading) (globals : Names) (c : Choice) (w h : ℕ) (pixels : ℕ → ℕ → Bool) (is : IsChoice c) (columns : IsSide w) (rows : IsSide h) → grid_of_page (page reading globals c w h pixels is columns rows) ≡ Ok (grid_of w h pixels)
+unfolding grid_of_page immediate
+grid-is reading globals c w h pixels is columns rows =
+    let whole = page reading globals c w h pixels is columns rows in
+    let d : Drawing = blank_page whole.initial_page in
+    let one : SegmentView = segment c w h pixels 0 types.PageInformation (information_bytes (information c w h pixels)) in
+    let two : SegmentView = segment c w h pixels 1 types.ImmediateGenericRegion (region_bytes c w h pixels) in
+    let e : Drawing = record d { grid = combined_grid Or d.grid (grid_of w h pixels) (pos 0) (pos 0); untouched = false } in
+    let first : segment_on reading globals one d ≡ Ok d = without-fault reading globals one d d (whole-segment c w h pixels 0 types.PageInformation (information_bytes (information c w h pixels))) refl in
+    let strictly : segment_by true globals two d ≡ Ok e = ap (λ (r : Result PlacedRegion DecodeError). or_passed_over true two d (with_drawn_region d r)) (region-is Strict globals c w h pixels is columns rows) in
+    let second : segment_on reading globals two d ≡ Ok e = without-fault reading globals two d e (whole-segment c w h pixels 1 types.ImmediateGenericRegion (region_bytes c w h pixels)) strictly in
+    grid-with-cut whole.cut_off (segments_drawn reading globals whole.segments d)
+    ∙ ap (λ (r : Result Drawing DecodeError). (r >>= λ x. segments_drawn reading globals (two ∷ []) x) >>= λ x. Ok x.grid) first
+    ∙ ap (λ (r : Result Drawing DecodeError). (r >>= λ x. segments_drawn reading globals [] x) >>= λ x. Ok x.grid) second
+    ∙ ap (λ (g : Grid). let r : Result Grid DecodeError = Ok g in r) (drawn w h pixels)
 
 -- ---- a segment can state the length
 bits-short : (w h : ℕ) → w ≤ max_side → h ≤ max_side → h * (7 * w + 60) ≤ 65535 * 458805
