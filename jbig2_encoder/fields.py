@@ -3,9 +3,10 @@ from __future__ import annotations
 
 import contextlib
 from collections.abc import Callable, Iterator, Sequence
+from typing import Optional
 
 # What a field is written as: of its name, its value, and its bits or None.
-Change = Callable[[str, int | None, int | None], int | None]
+Change = Callable[[str, Optional[int], Optional[int]], Optional[int]]
 _change: Change | None = None
 
 

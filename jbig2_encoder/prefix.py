@@ -3,11 +3,12 @@ from __future__ import annotations
 
 import itertools
 from collections.abc import Sequence
+from typing import Optional
 
 from .fields import settled
 
 # A line of a table: prefix length, range length, least number (of a lower line, the greatest), and kind.
-Line = tuple[int, int, int, str | None]
+Line = tuple[int, int, int, Optional[str]]
 OUT_OF_BAND = "out of band"
 LOWER = "lower"
 UPPER = "upper"

@@ -4,9 +4,9 @@ export type Bytes = ArrayBuffer | SharedArrayBuffer | ArrayBufferView;
 /** The module hayro_jbig2.wasm. */
 export type ModuleSource = Bytes | Response | WebAssembly.Module;
 
-/** Why a page is not decoded: `number` and `error` as in hayro_jbig2.h, and its text as `message`. */
+/** Why a page is not decoded: `number` and `error` as in hayro_jbig2.h, and its text, or another one, as `message`. */
 export class Jbig2Error extends Error {
-  constructor(number: number);
+  constructor(number: number, message?: string);
   readonly number: number;
   /** The name of the number, as "FORMAT_MISSING_PAGE_INFO". */
   readonly error: string;

@@ -13,6 +13,7 @@ import { Jbig2Error, OUT_OF_MEMORY, WORK_LIMIT, WorkLimitReached } from "./jbig2
 export { DecodedPage, Jbig2Error, WorkLimitReached };
 
 const UNEXPECTED_END = 1;
+const INVALID_HEADER = 2;
 const NO_SUCH_PAGE = 101;
 const NO_SEGMENT_NUMBER = 2 ** 32 - 1;
 const ENDS_OF_LINE = [0x0a, 0x0d];
@@ -26,11 +27,21 @@ const [WORK_OF_PIXEL, LEAST_WORK, SHARED_WORK] = [100, 2 ** 24, 2 ** 28];
 
 // What the identification of a file begins with (Annex D.4.1). The rest of it tells files that were damaged on the way.
 const BEGINNING = [0x97, 0x4a, 0x42, 0x32];
+// What a PDF file begins with. No segment does: 45, the minus sign, is no type of segments.
+const BEGINNING_OF_PDF = [0x25, 0x50, 0x44, 0x46, 0x2d];
+
+const begins = (bytes, beginning) => beginning.every((byte, place) => bytes[place] === byte);
 
 /** Whether bytes begin as a JBIG2 file does. Other bytes are those of an embedded page, as PDF has them. */
 export function isFile(source) {
+  return begins(bytesOf(source), BEGINNING);
+}
+
+/** The bytes of a file, of an embedded page or of globals. Those of a PDF file are refused. */
+function dataOf(source) {
   const bytes = bytesOf(source);
-  return BEGINNING.every((byte, place) => bytes[place] === byte);
+  if (!begins(bytes, BEGINNING_OF_PDF)) return bytes;
+  throw new Jbig2Error(INVALID_HEADER, "this is a PDF file: pdf.js of this package finds its images");
 }
 
 /** The error of a number, or null for 0. */
@@ -111,7 +122,7 @@ export class Decoder {
   pageCount(bytes, { strict = false, salvage = false, workLimit = null } = {}) {
     checkLimit(workLimit);
     const count = (file) => Number(this.#exports.hayro_jbig2_file_page_count(file));
-    return this.#with([bytesOf(bytes)], 0, ([stream]) => this.#file(stream, { strict, salvage, workLimit }, count));
+    return this.#with([dataOf(bytes)], 0, ([stream]) => this.#file(stream, { strict, salvage, workLimit }, count));
   }
 
   /**
@@ -135,7 +146,7 @@ export class Decoder {
     if (!Number.isSafeInteger(page)) throw new TypeError("the page's index has to be a whole number");
     checkLimit(workLimit);
     const reading = { strict, salvage, workLimit };
-    const inputs = (globals === null ? [bytes] : [bytes, globals]).map(bytesOf);
+    const inputs = (globals === null ? [bytes] : [bytes, globals]).map(dataOf);
     const isEmbedded = globals !== null || !isFile(bytes);
     if (isEmbedded && page !== 0) throw new Jbig2Error(NO_SUCH_PAGE);
     return this.#with(inputs, 0, ([stream, shared]) => {

@@ -5,11 +5,11 @@ import { ERRORS } from "./errors.js";
 export const OUT_OF_MEMORY = 41;
 export const WORK_LIMIT = 103;
 
-/** Why a page is not decoded: `number` and `error` as in hayro_jbig2.h, and its text as `message`. */
+/** Why a page is not decoded: `number` and `error` as in hayro_jbig2.h, and its text, or another one, as `message`. */
 export class Jbig2Error extends Error {
-  constructor(number) {
+  constructor(number, message) {
     const [error, text] = ERRORS[number] ?? [`ANSWER_${number}`, "no answer of this library"];
-    super(text);
+    super(message ?? text);
     this.name = "Jbig2Error";
     this.number = number;
     this.error = error;
@@ -19,9 +19,8 @@ export class Jbig2Error extends Error {
 /** A page, or what pages share, asks for more work than the limit allows: the library's WORK_LIMIT. */
 export class WorkLimitReached extends Jbig2Error {
   constructor(limit) {
-    super(WORK_LIMIT);
+    super(WORK_LIMIT, `more work than the limit of ${limit} units`);
     this.name = "WorkLimitReached";
     this.error = "WORK_LIMIT_REACHED";
-    this.message = `more work than the limit of ${limit} units`;
   }
 }

@@ -6,12 +6,12 @@ import { FileSection } from "./sections.js";
 const MOST_SECONDS = 2_000_000;
 
 const element = (id) => document.querySelector(`#${id}`);
-const [files, note, progress, stop, stopAll] = ["files", "note", "progress", "stop", "stop-all"].map(element);
+const [files, note, stopAll] = ["files", "note", "stop-all"].map(element);
 
 element("unloaded").remove();
 let sections = [];
-// The page that is being decoded.
-let running = {};
+// The file that was begun last.
+let last;
 
 const counted = (count, what) => `${count} ${what}${count === 1 ? "" : "s"}`;
 const summed = (key) => sections.reduce((sum, section) => sum + section[key], 0);
@@ -25,34 +25,22 @@ function summary() {
   return `${counted(sections.length, "file")}: ${parts.join(", ")}.`;
 }
 
-function setRunning(isRunning) {
-  stop.disabled = stopAll.disabled = !isRunning;
-  progress.hidden = !isRunning;
-  files.setAttribute("aria-busy", String(isRunning));
-}
-
 const queue = new FileQueue({
-  begin(file, waiting) {
-    running = {};
-    note.textContent = `${file} is being decoded.${waiting ? ` Files that wait: ${waiting}.` : ""}`;
-    progress.removeAttribute("value");
-    setRunning(true);
-    sections.push(new FileSection(file));
-    files.append(sections.at(-1).element);
+  begin(file, stop) {
+    last = file;
+    const section = new FileSection(file, stop);
+    sections.push(section);
+    files.append(section.element);
+    return section;
   },
-  page(data) {
-    if (data.begins) {
-      running = data.begins;
-      [progress.max, progress.value] = [running.count, running.number - 1];
-    } else sections.at(-1)?.add(data);
-  },
-  // A file whose section was cleared away is stopped too.
-  fail(error) {
-    sections.at(-1)?.add({ ...running, error });
-  },
-  end(file) {
-    note.textContent = `${file} is done. ${summary()}`;
-    setRunning(false);
+  change(running, waiting) {
+    const isRunning = running.length > 0;
+    stopAll.disabled = !isRunning;
+    files.setAttribute("aria-busy", String(isRunning));
+    const decoded = `${running.join(", ")} ${running.length === 1 ? "is" : "are"} being decoded.`;
+    const text = isRunning ? `${decoded}${waiting ? ` Files that wait: ${waiting}.` : ""}` : `${last} is done. ${summary()}`;
+    // A screen reader reads it again where it is set.
+    if (note.textContent !== text) note.textContent = text;
   },
 });
 
@@ -68,7 +56,6 @@ element("choose").addEventListener("change", ({ target }) => {
   // So that the same file can be chosen again.
   target.value = "";
 });
-stop.addEventListener("click", () => queue.stop());
 stopAll.addEventListener("click", () => queue.stopAll());
 element("clear").addEventListener("click", () => {
   queue.stopAll();

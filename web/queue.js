@@ -1,7 +1,11 @@
 /**
- * Files that a worker decodes, one after the other. One that takes too long, or that a user stops, ends its worker,
- * and the next file gets another.
+ * Files that workers decode, one after the other. Where a file takes long, the next one begins beside it. One that takes
+ * too long, or that a user stops, ends its worker.
  */
+
+// A file that has taken so many milliseconds holds up no other.
+const PATIENCE = 2000;
+const MOST_AT_ONCE = 4;
 
 /** A worker, and the promise that it has loaded the decoder. */
 function startedWorker() {
@@ -24,16 +28,37 @@ async function bytesOfFile(file) {
   }
 }
 
+/** Has a worker decode a file, and hands each page to its section. */
+async function decode(file, { seconds, ...options }, { worker, loaded }, section) {
+  const bytes = await bytesOfFile(file);
+  await loaded;
+  await new Promise((resolve, reject) => {
+    let timer;
+    const isLate = () => reject(new Error(`stopped, since a page took more than ${seconds} seconds`));
+    const watch = () => (clearTimeout(timer), (timer = setTimeout(isLate, 1000 * seconds)));
+    worker.onmessage = ({ data }) => {
+      watch();
+      if (data.isDone) clearTimeout(timer), resolve();
+      else section.page(data);
+    };
+    worker.onerror = (event) => reject(new Error(`the decoder stopped: ${event.message}`));
+    watch();
+    worker.postMessage({ bytes, ...options }, [bytes]);
+  });
+}
+
 export class FileQueue {
   #waiting = [];
-  #isRunning = false;
-  #worker = null;
-  #stop = () => {};
+  /** The files that are decoded: the name of each, how to stop it, and whether it takes long. */
+  #running = new Set();
+  /** A worker that is done with its file, if there is one. */
+  #spare = null;
   #show;
 
   /**
-   * @param show what is called as files are decoded: `begin(file, waiting)`, `page(data)` with what the worker sends,
-   *   `fail(text)`, and at the end of all `end(file)`
+   * @param show what is called as files are decoded: `begin(file, stop)`, which returns the file's section, with `page(data)`
+   *   for what the worker sends, `fail(text)` and `end()`; and `change(running, waiting)` with the names of the files that
+   *   are decoded and the number of those that wait
    */
   constructor(show) {
     this.#show = show;
@@ -42,63 +67,43 @@ export class FileQueue {
   /** Adds a file. `options`: whether to `salvage`, whether work `isLimited`, and the most `seconds` for a page. */
   add(file, options) {
     this.#waiting.push([file, options]);
-    if (!this.#isRunning) this.#run();
+    this.#goOn();
   }
 
-  /** Stops the file that runs, and goes on with the next one. */
-  stop() {
-    this.#stop("stopped");
-  }
-
-  /** Stops the file that runs, and those that wait. */
+  /** Stops the files that are decoded, and those that wait. */
   stopAll() {
     this.#waiting = [];
-    this.stop();
+    for (const { stop } of this.#running) stop();
   }
 
-  async #run() {
-    this.#isRunning = true;
-    let name;
-    while (this.#waiting.length > 0) {
-      const [file, options] = this.#waiting.shift();
-      name = file.name;
-      this.#show.begin(name, this.#waiting.length);
-      await this.#decodeOrStop(file, options);
-    }
-    this.#isRunning = false;
-    this.#show.end(name);
+  /** Begins with files that wait, unless one runs that is quick so far. */
+  #goOn() {
+    const isFree = () => this.#running.size < MOST_AT_ONCE && [...this.#running].every(({ isSlow }) => isSlow);
+    while (this.#waiting.length > 0 && isFree()) this.#run(...this.#waiting.shift());
+    this.#show.change([...this.#running].map(({ name }) => name), this.#waiting.length);
   }
 
   /** Decodes a file until it is done, fails or is stopped. Only a worker that is done is used again. */
-  async #decodeOrStop(file, options) {
-    const stopped = new Promise((_, reject) => (this.#stop = (text) => reject(new Error(text))));
+  async #run(file, options) {
+    const run = { name: file.name, isSlow: false };
+    const stopped = new Promise((_, reject) => (run.stop = () => reject(new Error("stopped"))));
+    const timer = setTimeout(() => ((run.isSlow = true), this.#goOn()), PATIENCE);
+    this.#running.add(run);
+    const section = this.#show.begin(file.name, run.stop);
     let started = null;
     try {
-      started = this.#worker ??= startedWorker();
-      await Promise.race([this.#decode(file, options, started), stopped]);
+      started = this.#spare ?? startedWorker();
+      this.#spare = null;
+      await Promise.race([decode(file, options, started, section), stopped]);
+      if (this.#spare) started.worker.terminate();
+      else this.#spare = started;
     } catch (error) {
-      this.#show.fail(error.message);
-      this.#worker = null;
+      section.fail(error.message);
       started?.worker.terminate();
     }
-    this.#stop = () => {};
-  }
-
-  async #decode(file, { seconds, ...options }, { worker, loaded }) {
-    const bytes = await bytesOfFile(file);
-    await loaded;
-    await new Promise((resolve, reject) => {
-      let timer;
-      const isLate = () => reject(new Error(`stopped, since a page took more than ${seconds} seconds`));
-      const watch = () => (clearTimeout(timer), (timer = setTimeout(isLate, 1000 * seconds)));
-      worker.onmessage = ({ data }) => {
-        watch();
-        if (data.isDone) clearTimeout(timer), resolve();
-        else this.#show.page(data);
-      };
-      worker.onerror = (event) => reject(new Error(`the decoder stopped: ${event.message}`));
-      watch();
-      worker.postMessage({ bytes, ...options }, [bytes]);
-    });
+    clearTimeout(timer);
+    section.end();
+    this.#running.delete(run);
+    this.#goOn();
   }
 }

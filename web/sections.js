@@ -1,4 +1,4 @@
-/** A section for each file: its name, links to its pages by their numbers, and the pages. */
+/** A section for each file: its name, how far it is decoded, links to its pages by their numbers, and the pages. */
 
 import { figureOf } from "./figures.js";
 
@@ -7,24 +7,51 @@ let figureCount = 0;
 
 export class FileSection {
   #nav = document.createElement("nav");
+  #running = document.createElement("p");
+  #progress = document.createElement("progress");
   #name;
+  // The page that is being decoded.
+  #label = {};
   element = document.createElement("section");
   pageCount = 0;
   incompleteCount = 0;
   errorCount = 0;
 
-  constructor(file) {
+  /** `stop` stops the file. */
+  constructor(file, stop) {
     this.#name = file;
     const heading = document.createElement("h2");
     heading.id = `file-${++sectionCount}`;
     heading.textContent = file;
     this.element.setAttribute("aria-labelledby", heading.id);
     this.#nav.setAttribute("aria-label", `Pages of ${file}`);
-    this.element.append(heading, this.#nav);
+    this.#progress.setAttribute("aria-label", `Pages of ${file} that are decoded`);
+    const button = Object.assign(document.createElement("button"), { type: "button", className: "stop", textContent: "Stop" });
+    button.setAttribute("aria-label", `Stop ${file}`);
+    button.addEventListener("click", stop);
+    this.#running.append(this.#progress, " ", button);
+    this.element.append(heading, this.#running, this.#nav);
+  }
+
+  /** Takes what the worker sends: that a page begins, a page, or an error. */
+  page(data) {
+    if (data.begins) {
+      this.#label = data.begins;
+      [this.#progress.max, this.#progress.value] = [this.#label.count, this.#label.number - 1];
+    } else this.#add(data);
+  }
+
+  /** Says why the file is not decoded any further. */
+  fail(error) {
+    this.#add({ ...this.#label, error });
+  }
+
+  end() {
+    this.#running.remove();
   }
 
   /** Adds a page, or an error, of the file. */
-  add(data) {
+  #add(data) {
     const figure = figureOf({ file: this.#name, ...data });
     figure.id = `page-${++figureCount}`;
     if (data.number) this.#nav.append(this.#linkTo(figure, data));

@@ -4,6 +4,7 @@ from __future__ import annotations
 import dataclasses
 import hashlib
 from collections.abc import Callable, Iterator, Sequence
+from typing import Union
 
 from jbig2_encoder.bitmap import Bitmap
 from jbig2_encoder.document import Document, Page
@@ -12,7 +13,7 @@ from jbig2_encoder.pictures import pbm
 from .features import FEATURES
 
 # The names of features, the one in front first, or one name alone; and what draws on a page.
-Features = str | tuple[str, ...]
+Features = Union[str, tuple[str, ...]]
 Drawing = Callable[[Page], object]
 PICTURE = "picture"
 # What any decoder is asked for: the picture, or anything but a crash.

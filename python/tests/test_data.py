@@ -103,7 +103,8 @@ class Help(unittest.TestCase):
                 self.assertIs(getattr(hayro_jbig2, name), kind)
                 self.assertIn(f"    {name} ", text)
         self.assertNotIn("BaseException", text)
-        self.assertLess(len(text.splitlines()), 500)
+        # Of the exceptions alone there would be more than a thousand.
+        self.assertLess(len(text.splitlines()), 700)
 
 
 class Loading(unittest.TestCase):

@@ -83,7 +83,7 @@ class Limits(unittest.TestCase):
             (150, PAGE, {"globals": many, "work_limit": None}),
             (150, HEADER + many.replace(PATTERNS[4:], SHARED_PATTERNS[4:]) + PAGE, {"work_limit": None}),
             # Room for a page of 113 MB in the library, and none for its rows here.
-            (230, PAGE[:11] + struct.pack(">II", 30000, 30000) + PAGE[19:], {}),
+            (200, PAGE[:11] + struct.pack(">II", 30000, 30000) + PAGE[19:], {}),
         ):
             program = f"""import hayro_jbig2
 try:

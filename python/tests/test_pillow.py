@@ -8,6 +8,7 @@ import pickle
 import tempfile
 import unittest
 import warnings
+from unittest import mock
 
 from PIL import Image, ImageSequence, UnidentifiedImageError
 
@@ -95,9 +96,21 @@ class Files(unittest.TestCase):
         ):
             with self.assertRaises(error):
                 Image.open(io.BytesIO(data))
+
+    def test_the_limit_of_work(self):
         image = Image.open(io.BytesIO(HEADER + WIDE))
         with self.assertRaises(hayro_jbig2.WorkLimitReached):
             image.load()
+        image = Image.open(io.BytesIO(BOOK))
+        with mock.patch("hayro_jbig2.pillow.WORK_LIMIT", 10):
+            with self.assertRaisesRegex(hayro_jbig2.WorkLimitReached, "10 units"):
+                Image.open(io.BytesIO(BOOK))
+            with self.assertRaisesRegex(hayro_jbig2.WorkLimitReached, "10 units"):
+                image.load()
+        for limit in None, 1 << 24:
+            with mock.patch("hayro_jbig2.pillow.WORK_LIMIT", limit):
+                Image.open(io.BytesIO(BOOK)).load()
+        image.load()
 
     def test_pages_that_are_too_large_are_refused(self):
         first, large = (

@@ -15,6 +15,11 @@ pub struct DecoderContext {
 }
 
 impl DecoderContext {
+    #[cfg(feature = "std")]
+    pub(crate) fn within(limit: Limit) -> Self {
+        Self { limit, ..Self::default() }
+    }
+
     /// Whether nothing is known to be missing of the page that was decoded last: no segment of it is cut off, and strict
     /// reading refuses none; nor of its globals, or of what the pages of its file share. False after an error, and in a
     /// new context. `hayro-jbig2` 0.4.0 has no such call.

@@ -55,7 +55,7 @@ impl<'a> File<'a> {
         Self::read(data, Reading::Salvage, Limit::of(work))
     }
 
-    fn read(data: &'a [u8], reading: Reading, limit: Limit) -> Result<Self> {
+    pub(crate) fn read(data: &'a [u8], reading: Reading, limit: Limit) -> Result<Self> {
         let inner = library::File::new(data, reading, limit.of_shared(data.len()))?;
         Ok(Self { inner })
     }

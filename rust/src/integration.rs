@@ -42,6 +42,15 @@ impl Jbig2Decoder {
     pub fn new<R: BufRead + Seek>(reader: R) -> ImageResult<Self> {
         Ok(Self { page: crate::Jbig2Decoder::new(reader)? })
     }
+
+    /// As [`new`](Self::new) with another limit of work for the page, and for what it shares with others, or none.
+    ///
+    /// # Errors
+    ///
+    /// As of [`new`](Self::new).
+    pub fn new_within<R: BufRead + Seek>(reader: R, work: Option<u64>) -> ImageResult<Self> {
+        Ok(Self { page: crate::Jbig2Decoder::new_within(reader, work)? })
+    }
 }
 
 impl ImageDecoder for Jbig2Decoder {

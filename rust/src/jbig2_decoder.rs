@@ -5,7 +5,9 @@ use core::fmt;
 use std::io::{self, Read};
 
 use crate::error::{DecodeError, FormatError};
-use crate::{DecodeSettings, File, Page};
+use crate::library::Reading;
+use crate::work::Limit;
+use crate::{DecoderContext, File, Page};
 
 /// Why [`Jbig2Decoder`] has no page.
 #[derive(Debug)]
@@ -43,6 +45,7 @@ impl From<DecodeError> for Jbig2Error {
 #[derive(Debug)]
 pub struct Jbig2Decoder {
     bytes: Vec<u8>,
+    limit: Limit,
     dimensions: (u32, u32),
 }
 
@@ -53,11 +56,25 @@ impl Jbig2Decoder {
     ///
     /// The reader's error, or the first fault of the file, or want of memory or of work. A file without pages is
     /// [`FormatError::MissingPageInfo`].
-    pub fn new<R: Read>(mut reader: R) -> Result<Self, Jbig2Error> {
+    pub fn new<R: Read>(reader: R) -> Result<Self, Jbig2Error> {
+        Self::read(reader, Limit::Usual)
+    }
+
+    /// As [`new`](Self::new) with another limit of work for the page, and for what it shares with others, or none (see
+    /// [`DecoderContext::set_work_limit`]). `hayro-jbig2` 0.4.0 has no such call.
+    ///
+    /// # Errors
+    ///
+    /// As of [`new`](Self::new).
+    pub fn new_within<R: Read>(reader: R, work: Option<u64>) -> Result<Self, Jbig2Error> {
+        Self::read(reader, Limit::of(work))
+    }
+
+    fn read<R: Read>(mut reader: R, limit: Limit) -> Result<Self, Jbig2Error> {
         let mut bytes = Vec::new();
         reader.read_to_end(&mut bytes)?;
-        let dimensions = with_first_page(&bytes, |page| Ok(page.dimensions()))?;
-        Ok(Self { bytes, dimensions })
+        let dimensions = with_first_page(&bytes, limit, |page| Ok(page.dimensions()))?;
+        Ok(Self { bytes, limit, dimensions })
     }
 
     /// The page's width and height in pixels.
@@ -75,12 +92,13 @@ impl Jbig2Decoder {
     ///
     /// If `image` has not width times height bytes.
     pub fn read_image(&self, image: &mut [u8]) -> Result<(), Jbig2Error> {
-        Ok(with_first_page(&self.bytes, |page| page.read_image(image))?)
+        let mut context = DecoderContext::within(self.limit);
+        Ok(with_first_page(&self.bytes, self.limit, |page| page.read_image_with(image, &mut context))?)
     }
 }
 
-fn with_first_page<T>(bytes: &[u8], run: impl FnOnce(&Page<'_>) -> crate::Result<T>) -> crate::Result<T> {
-    let file = File::new(bytes, &DecodeSettings::default())?;
+fn with_first_page<T>(bytes: &[u8], limit: Limit, run: impl FnOnce(&Page<'_>) -> crate::Result<T>) -> crate::Result<T> {
+    let file = File::read(bytes, Reading::Lenient, limit)?;
     match file.page(0) {
         Some(page) => run(&page),
         None => Err(FormatError::MissingPageInfo.into()),

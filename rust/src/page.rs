@@ -133,9 +133,13 @@ impl<'a> Page<'a> {
     ///
     /// If `image` has not width times height bytes.
     pub fn read_image(&self, image: &mut [u8]) -> Result<()> {
+        self.read_image_with(image, &mut DecoderContext::default())
+    }
+
+    pub(crate) fn read_image_with(&self, image: &mut [u8], ctx: &mut DecoderContext) -> Result<()> {
         let size = self.width() as usize * self.height() as usize;
         assert_eq!(image.len(), size, "a page of another size");
-        self.decode(&mut image::Writer::new(image))
+        self.decode_with(&mut image::Writer::new(image), ctx)
     }
 
     /// Decodes the page to packed rows, from the top: a bit for each pixel, 1 is black, the leftmost the highest of its

@@ -126,6 +126,25 @@ fn limits_are_set_and_lifted() {
 }
 
 #[test]
+fn a_reader_has_a_limit() {
+    let mut file = hex("974A42320D0A1A0A 03");
+    file.extend(symbol());
+    file.extend(hex("00000002 30 00 01 00000013 00000008 00000001 0000000000000000000000 00000003 31 00 01 00000000"));
+    let is_work = |refused| matches!(refused, Err(Jbig2Error::Decode(DecodeError::WorkLimit)));
+    // What the page shares with others is refused, or the page is, or nothing.
+    assert!(is_work(Jbig2Decoder::new_within(&file[..], Some(1000)).map(drop)));
+    let mut image = [7; 65535];
+    assert!(is_work(Jbig2Decoder::new_within(&wide_region()[..], Some(LEAST)).unwrap().read_image(&mut image)));
+    assert_eq!(image, [7; 65535]);
+    for work in [Some(LEAST), None] {
+        let image = &mut image[..64 * 56];
+        image.fill(7);
+        Jbig2Decoder::new_within(EXAMPLE, work).unwrap().read_image(image).unwrap();
+        assert!(image.contains(&0));
+    }
+}
+
+#[test]
 fn the_limit_grows_with_the_page() {
     // White pages without a region, of so many pixels.
     for (width, height, limit) in

@@ -18,7 +18,7 @@ import tempfile
 
 from chromium import Chromium, chromium
 from firefox import Firefox, firefox
-from looks import faults_of_looks
+from looks import faults_of_looks, names
 from page import FILES, WEB, Server, choose, drop, open_page, set_checked, shown, wait_until_shown
 
 FILES_AT_ONCE = 100
@@ -114,8 +114,10 @@ def goes_on(browser, folder):
     browser.wait_for('document.querySelector("#note").textContent.startsWith("slow.jb2 is being decoded.")')
     look("a slow file", slow, "page 1 of 1: stopped, since a page took more than 1 seconds")
     browser.drop([slow, good])
-    browser.wait_for('document.querySelector("#note").textContent.startsWith("slow.jb2 is being decoded.")')
-    browser.evaluate('document.querySelector("#stop").click()')
+    # The good file is shown while the slow one runs, which can be stopped then.
+    browser.wait_for('document.querySelectorAll("section:last-child figure").length === 3 && document.querySelectorAll(".stop").length === 1')
+    faults += names(browser)
+    browser.evaluate('document.querySelector(".stop").click()')
     look("a file that is stopped", slow, "stopped")
     return faults + clears(browser, slow, good)
 
@@ -129,7 +131,7 @@ def clears(browser, slow, good):
     browser.drop([slow, slow])
     browser.wait_for('document.querySelector("#note").textContent.startsWith("slow.jb2 is being decoded.")')
     browser.evaluate('document.querySelector("#clear").click()')
-    browser.wait_for('document.querySelector("#stop").disabled')
+    browser.wait_for('document.querySelector("#stop-all").disabled')
     drop(browser, [good])
     pages = shown(browser)
     return [] if list(pages) == [good.name] and len(pages[good.name]) == 3 else [f"all is cleared away: {pages}"]
@@ -188,6 +190,8 @@ def test(browser, folder):
 def take_picture(browser, picture, width, files):
     browser.resize(width, 900)
     drop(browser, files)
+    # As the page looks at its pictures for the first time it takes those away that are out of sight.
+    browser.evaluate("new Promise((resolve) => setTimeout(resolve, 500))")
     browser.evaluate('dispatchEvent(new Event("beforeprint"))')
     pathlib.Path(picture).write_bytes(browser.picture())
 

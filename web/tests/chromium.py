@@ -14,6 +14,10 @@ def chromium():
     return next(filter(None, map(shutil.which, ("chromium", "chromium-browser", "google-chrome"))), None)
 
 
+# The codes of keys, and the texts that they write.
+KEYS = {"Tab": (9, ""), "Enter": (13, "\r")}
+
+
 class Chromium(Driven):
     """A browser with one empty page."""
 
@@ -88,6 +92,12 @@ class Chromium(Driven):
         data = {"items": [], "files": [str(file.resolve()) for file in files], "dragOperationsMask": 1}
         for kind in ("dragEnter", "dragOver", "drop"):
             self.call("Input.dispatchDragEvent", type=kind, x=200, y=200, data=data)
+
+    def press(self, key):
+        """Presses a key of KEYS, and lets it go."""
+        code, text = KEYS[key]
+        for kind in "keyDown", "keyUp":
+            self.call("Input.dispatchKeyEvent", type=kind, key=key, code=key, windowsVirtualKeyCode=code, text=text)
 
     def resize(self, width, height):
         """Gives the page this size."""

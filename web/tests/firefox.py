@@ -18,6 +18,8 @@ PREFERENCES = {
 }
 # The elements that have a role and a name, but for pictures, which come and go.
 NAMED = "button, a, input, select, progress, nav, header, main, section, [role]:not(canvas)"
+# Keys, as WebDriver writes them.
+KEYS = {"Tab": "\ue004", "Enter": "\ue007"}
 SCHEMES = {"dark": 0, "light": 1, "": 2}
 
 
@@ -120,6 +122,11 @@ class Firefox(Driven):
               document.body.dispatchEvent(new DragEvent("drop", { dataTransfer, bubbles: true, cancelable: true }));
             })()"""
         )
+
+    def press(self, key):
+        """Presses a key of KEYS, and lets it go."""
+        presses = [{"type": kind, "value": KEYS[key]} for kind in ("keyDown", "keyUp")]
+        self.call("WebDriver:PerformActions", actions=[{"type": "key", "id": "keyboard", "actions": presses}])
 
     def resize(self, width, height):
         """Gives the page this size."""

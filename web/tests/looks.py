@@ -1,4 +1,6 @@
-"""What a user of the page sees, hears, saves and prints: captions, links, names for screen readers, contrast, zoom, files."""
+"""
+What a user of the page sees, hears, saves and prints: captions, links, names for screen readers, contrast, zoom, keys, files.
+"""
 import json
 import pathlib
 import re
@@ -21,6 +23,8 @@ ROLES = {"button", "link", "checkbox", "spinbutton", "combobox", "textbox", "pro
 # What is read, with the least contrast that WCAG 2.1 asks for (AA).
 READ = ["h1", "p", "label", "h2", "nav a", "figcaption b", "figcaption span", ".lacks", "figure.error figcaption", "#note"]
 LEAST_CONTRAST = 4.5
+# Where the Tab key goes from the field of files on, up to the first page's picture. Nothing can be stopped then.
+REACHED = ["choose", "Options", "salvage", "limited", "seconds", "zoom", "clear", "1", "2", "3", "Save as PNG", ""]
 CONTRAST = """((selectors) => {
   const numbers = (text) => text.match(/[\\d.]+/g).map(Number);
   const luminance = (colour) => {
@@ -53,6 +57,7 @@ def faults_of_looks(browser, folder):
     for look in captions, names, contrast, zoom, pictures_out_of_sight:
         faults += look(browser)
     faults += saved(browser, whole)
+    faults += keyboard(browser)
     shown(browser)
     return faults + printed(browser, folder)
 
@@ -129,6 +134,21 @@ def pictures_out_of_sight(browser):
     finally:
         browser.resize(900, 900)
     return []
+
+
+def keyboard(browser):
+    """What a user acts on is reached by the Tab key in the page's order, and acts by Enter."""
+    focus = "(({ id, textContent }) => id || textContent)(document.activeElement)"
+    browser.evaluate('document.querySelector("#choose").focus()')
+    reached = []
+    for _ in REACHED:
+        reached.append(browser.evaluate(focus))
+        browser.press("Tab")
+    faults = [] if reached == REACHED else [f"the Tab key goes from {' to '.join(reached)}"]
+    browser.evaluate('document.querySelector("#clear").focus()')
+    browser.press("Enter")
+    left = browser.evaluate('document.querySelectorAll("figure").length')
+    return faults + ([f"Enter on Clear leaves {left} pages"] if left else [])
 
 
 def printed(browser, folder):

@@ -128,6 +128,21 @@ async function checkMemory() {
   check(error?.error === "OUT_OF_MEMORY" && error.name === "Jbig2Error", `want of memory: ${error}`);
 }
 
+/** The bytes of a PDF file are refused with what to do. */
+function checkPdfFiles(stream) {
+  const file = new TextEncoder().encode("%PDF-1.4\n1 0 obj");
+  const calls = {
+    decode: () => decoder.decode(file),
+    salvage: () => decoder.decode(file, { salvage: true }),
+    globals: () => decoder.decode(stream, { globals: file }),
+    pageCount: () => decoder.pageCount(file),
+  };
+  for (const [name, call] of Object.entries(calls)) {
+    const error = thrown(call);
+    check(error?.error === "FORMAT_INVALID_HEADER" && /a PDF file/.test(error.message), `a PDF file, ${name}: ${error}`);
+  }
+}
+
 /** pdf.js's interface, by its use there. */
 async function checkImage(file, stream, globals) {
   check(/load\(\)/.test(thrown(() => new Jbig2Image().parse(file))?.message), "Jbig2Image before it is loaded");
@@ -163,6 +178,7 @@ const embedded = readdirSync(folder).find((name) => name.endsWith(".globals.jb2"
 checkLimit();
 checkSharedLimit("t88-h1.jb2", read("t88-h1.jb2"));
 await checkMemory();
+checkPdfFiles(read(`${embedded}.page.jb2`));
 await checkImage(read("t88-h1.jb2"), read(`${embedded}.page.jb2`), read(`${embedded}.globals.jb2`));
 const count = `${checks - failed} checks passed, ${failed} failed`;
 console.log(`pages: ${forms} in all forms, the limit of work, pdf.js's interface: ${count}`);

@@ -5,18 +5,24 @@
 
     image = Image.open("scan.jb2")
 
-The pages are frames of mode "1", which `seek` chooses. They are read leniently, within the default limit of work. One
-that is incomplete gives an `IncompletePageWarning` when it is loaded, and `info["is_complete"]` is false then;
+The pages are frames of mode "1", which `seek` chooses. They are read leniently, within the limit of work. One that is
+incomplete gives an `IncompletePageWarning` when it is loaded, and `info["is_complete"]` is false then;
 `info["passed_over"]` is how many segments it lacks. A fault of the data is an OSError.
 """
 
 from __future__ import annotations
 
-from typing import Any
+from typing import TYPE_CHECKING, Any
 
 from PIL import Image, ImageFile
 
 from . import DecodeError, decode, sizes
+
+if TYPE_CHECKING:
+    from ._library import WorkLimit
+
+# How many units of work a page may take, and what pages share; None is no limit.
+WORK_LIMIT: WorkLimit = "default"
 
 _IDENTIFICATION = b"\x97JB2\r\n\x1a\n"
 
@@ -29,17 +35,19 @@ class Jbig2ImageFile(ImageFile.ImageFile):
     # Of an image that was pickled, which is the page alone.
     n_frames, is_animated = 1, False
     _frame, _loaded = 0, True
-    # Older versions of Pillow have no types.
+    # Older versions of Pillow have no types, or none of what a plugin needs.
     fp: Any
     info: Any
     tile: Any
+    _exclusive_fp: Any
+    _seek_check: Any
 
     def _open(self) -> None:
         self._data = self.fp.read()
         if not self._data.startswith(_IDENTIFICATION):
             raise SyntaxError("not a JBIG2 file")
         try:
-            self._sizes = sizes(self._data)
+            self._sizes = sizes(self._data, work_limit=WORK_LIMIT)
         except DecodeError as error:
             raise OSError(str(error)) from error
         if not self._sizes:
@@ -56,7 +64,8 @@ class Jbig2ImageFile(ImageFile.ImageFile):
         """Chooses a page, from 0. Raises EOFError where there is none, and as Image.open does where it is too large."""
         if self._seek_check(frame):
             # Image.open looks at the first page alone.
-            Image._decompression_bomb_check(self._sizes[frame][1:])
+            image: Any = Image
+            image._decompression_bomb_check(self._sizes[frame][1:])
             self._show(frame)
 
     def tell(self) -> int:
@@ -67,7 +76,7 @@ class Jbig2ImageFile(ImageFile.ImageFile):
         """Decodes the page, unless that is done."""
         if not self._loaded:
             try:
-                page = decode(self._data, page=self._frame)
+                page = decode(self._data, page=self._frame, work_limit=WORK_LIMIT)
             except DecodeError as error:
                 raise OSError(str(error)) from error
             self.im = page.to_image().im
@@ -77,7 +86,8 @@ class Jbig2ImageFile(ImageFile.ImageFile):
             if self._exclusive_fp and self.fp:
                 self.fp.close()
                 self.fp = None
-        return super().load()
+        parent: Any = super()
+        return parent.load()
 
     def _show(self, frame: int) -> None:
         self._frame, self._loaded = frame, False

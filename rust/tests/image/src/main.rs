@@ -36,4 +36,6 @@ fn main() {
     image.fill(0);
     decoder.read_image(&mut image).unwrap();
     assert_eq!(image, expected);
+    let limited = Jbig2Decoder::new_within(Cursor::new(&example), Some(2000));
+    assert!(matches!(limited, Err(ImageError::Decoding(_))));
 }
