@@ -56,6 +56,8 @@ struct globals {
 struct reader {
     struct budget budget;
     hayro_jbig2_file *file;
+    bool has_shared; /* what the pages share was made by itself, to find a fault */
+    hayro_jbig2_globals *shared;
     struct reader *next;
 };
 
