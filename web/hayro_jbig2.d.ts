@@ -48,7 +48,9 @@ export class DecodedPage {
   readonly rows: Uint8Array;
   /**
    * Whether nothing is known to be missing: no segment of the page failed or is cut off, and each found what it refers
-   * to; nor of its globals, or of what the pages of its file share. Damage within arithmetic data can't be known.
+   * to. No segment of its globals, or of what the pages of its file share, failed or refers to what isn't there. Of
+   * globals that are cut off a page lacks something only if it refers to the segment that is. Damage within arithmetic
+   * data can't be known.
    */
   readonly isComplete: boolean;
   readonly passedOver: PassedOver;

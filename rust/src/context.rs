@@ -16,8 +16,9 @@ pub struct DecoderContext {
 
 impl DecoderContext {
     /// Whether nothing is known to be missing of the page that was decoded last: no segment of it failed or is cut off,
-    /// and each found what it refers to; nor of its globals, or of what the pages of its file share. False after an
-    /// error, and in a new context. `hayro-jbig2` 0.4.0 has no such call.
+    /// and each found what it refers to. No segment of its globals, or of what the pages of its file share, failed or
+    /// refers to what isn't there. Of globals that are cut off a page lacks something only if it refers to the segment
+    /// that is. False after an error, and in a new context. `hayro-jbig2` 0.4.0 has no such call.
     ///
     /// Lenient reading forgives more without a count: rows of MMR data after a fault, gray values without a pattern, ids
     /// without a symbol. Damage within arithmetic data can't be known: the format has no checksum.

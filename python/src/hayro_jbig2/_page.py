@@ -107,7 +107,8 @@ class Page:
     @property
     def is_complete(self) -> bool:
         """Whether nothing is known to be missing: no segment of the page failed or is cut off, and each found what it
-        refers to; nor of its globals, or of what the pages of its file share.
+        refers to. No segment of its globals, or of what the pages of its file share, failed or refers to what isn't
+        there. Of globals that are cut off a page lacks something only if it refers to the segment that is.
 
         Lenient reading forgives more without a count: rows of MMR data after a fault, gray values without a pattern,
         ids without a symbol. Damage within arithmetic data can't be known: the format has no checksum.
