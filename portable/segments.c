@@ -109,16 +109,22 @@ static uint32_t ask(const struct question *like) {
 
 static size_t least(size_t a, size_t b) { return a < b ? a : b; }
 
-/* Asks of the first bytes, and of all of them where these end too early. */
-static uint32_t ask_of_header(struct question *question) {
+static bool ends_too_early(uint32_t answer) {
+    return answer == HAYRO_JBIG2_PARSE_UNEXPECTED_EOF || answer == HAYRO_JBIG2_SEGMENT_MISSING_END_MARKER;
+}
+
+/* Asks of the first bytes, and of twice as many where these end too early. So what comes after a segment is not copied
+ * for each one of a long list. */
+static uint32_t ask_of_first(struct question *question) {
     const size_t length = question->length;
     uint32_t answer;
     question->length = least(length, MOST_FIRST_BYTES);
     answer = ask(question);
-    if (answer != HAYRO_JBIG2_PARSE_UNEXPECTED_EOF || question->length == length)
-        return answer;
-    question->length = length;
-    return ask(question);
+    while (ends_too_early(answer) && question->length < length) {
+        question->length += least(question->length, length - question->length);
+        answer = ask(question);
+    }
+    return answer;
 }
 
 static struct question question_of(enum kind_of_question kind, const hayro_jbig2_memory *memory, bool strict,
@@ -138,7 +144,7 @@ static struct question question_of(enum kind_of_question kind, const hayro_jbig2
 uint32_t hayro_jbig2_segment_get_info(const hayro_jbig2_memory *memory, bool strict, const uint8_t *bytes,
                                       size_t length, hayro_jbig2_segment_info *info) {
     struct question question = question_of(ASKS_INFO, memory, strict, bytes, length, info, INFO_BYTES);
-    return ask_of_header(&question);
+    return ask_of_first(&question);
 }
 
 uint32_t hayro_jbig2_segment_get_references(const hayro_jbig2_memory *memory, bool strict, const uint8_t *bytes,
@@ -146,7 +152,7 @@ uint32_t hayro_jbig2_segment_get_references(const hayro_jbig2_memory *memory, bo
     struct question question =
         question_of(ASKS_REFERENCES, memory, strict, bytes, length, numbers, 4 * (uint64_t)count);
     question.count = count;
-    return ask_of_header(&question);
+    return ask_of_first(&question);
 }
 
 uint32_t hayro_jbig2_segment_get_length(const hayro_jbig2_memory *memory, bool strict, const uint8_t *bytes,
@@ -157,7 +163,7 @@ uint32_t hayro_jbig2_segment_get_length(const hayro_jbig2_memory *memory, bool s
     if (answer != HAYRO_JBIG2_OK)
         return answer;
     if (info.data_length == HAYRO_JBIG2_UNKNOWN_LENGTH)
-        return ask(&question);
+        return ask_of_first(&question);
     /* Where the length is known, the data need not be copied to see whether they are all there. */
     if (info.data_length > length - info.header_length)
         return HAYRO_JBIG2_PARSE_UNEXPECTED_EOF;

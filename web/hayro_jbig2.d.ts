@@ -48,9 +48,10 @@ export class DecodedPage {
   readonly rows: Uint8Array;
   /**
    * Whether nothing is known to be missing: no segment of the page is cut off, and strict reading refuses none; nor of
-   * its globals, or of what the pages of its file share. Damage within arithmetic data can't be known. Not counted are a
-   * file's counts of pages and of ends of pages, an unknown length of another type than 38, a region of page 0, and
-   * segments that are missing as a whole.
+   * its globals, or of what the pages of its file share. Of globals that are cut off a page lacks something only if it
+   * refers to the segment that is. Damage within arithmetic data can't be known. Not counted are a file's counts of pages
+   * and of ends of pages, an unknown length of another type than 38, a region of page 0, and segments that are missing
+   * as a whole.
    */
   readonly isComplete: boolean;
   readonly passedOver: PassedOver;

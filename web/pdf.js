@@ -63,6 +63,7 @@ export class Pdf {
 
   async #addFromStreams() {
     for (const [number, object] of this.#objects.all()) {
+      if (this.#objects.isFull) return;
       if (object.begin === undefined || this.#objects.valueOf(object, "Type") !== "/ObjStm") continue;
       try {
         await this.#addFrom(object);

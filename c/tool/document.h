@@ -32,6 +32,8 @@ struct image {
     bool is_inverted, is_mask;
 };
 
+struct faults;
+
 /* Globals that are decoded once, when the first page needs them. */
 struct globals {
     pthread_mutex_t lock; /* while they are decoded or shared */
@@ -49,13 +51,16 @@ struct globals {
     uint32_t answer; /* why there is no handle */
     uint32_t strict_answer;
     hayro_jbig2_left_out left_out;
-    struct text reason; /* why a PDF file has no bytes of them, or is damaged there */
+    struct text reason;    /* why a PDF file has no bytes of them, or is damaged there */
+    struct faults *faults; /* what is wrong with them once they are read, found once for all pages */
 };
 
 /* A file that is read. Each thread takes one of its own. */
 struct reader {
     struct budget budget;
     hayro_jbig2_file *file;
+    bool has_shared; /* what the pages share was made by itself, to find a fault */
+    hayro_jbig2_globals *shared;
     struct reader *next;
 };
 

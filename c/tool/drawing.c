@@ -90,18 +90,8 @@ static uint32_t try_to_draw(const struct attempt *attempt, struct drawn *drawn, 
 }
 
 static void add_faults_of_globals(const struct globals *globals, struct faults *faults) {
-    struct faults own = {.count = 0};
-    if (globals == NULL)
-        return;
-    if (globals->reason.length > 0)
-        add_fault(&own, fault_of_pdf(DAMAGED_PDF, &globals->reason));
-    add_left_out(&own, &globals->list, &globals->left_out);
-    if (own.count == 0 && globals->strict_answer != HAYRO_JBIG2_OK)
-        add_fault(&own, fault_of_list(&globals->list, globals->strict_answer));
-    for (size_t i = 0; i < own.count; i++) {
-        own.at[i].is_of_globals = true;
-        add_fault(faults, own.at[i]);
-    }
+    for (size_t i = 0; globals != NULL && i < globals->faults->count; i++)
+        add_fault(faults, globals->faults->at[i]);
 }
 
 static void refuse_page(struct drawn *drawn, struct fault fault) {

@@ -100,13 +100,24 @@ static bool breaks_rule(const struct segment *segment, uint32_t error) {
     }
 }
 
+static struct fault fault_of_end(const struct segment_list *list, uint32_t error) {
+    return list->error == error ? fault_at_end(list, error) : (struct fault){.error = error};
+}
+
 struct fault fault_of_list(const struct segment_list *list, uint32_t error) {
     for (size_t i = 0; i < list->count; i++)
         if (breaks_rule(&list->at[i], error))
             return fault_at(&list->at[i], error);
-    if (list->error == error)
-        return fault_at_end(list, error);
-    return (struct fault){.error = error};
+    return fault_of_end(list, error);
+}
+
+struct fault fault_of_page(const struct segment_list *list, uint32_t page, uint32_t error) {
+    size_t count;
+    const struct segment *const *segments = segments_of_page(list, page, &count);
+    for (size_t i = 0; i < count; i++)
+        if (breaks_rule(segments[i], error))
+            return fault_at(segments[i], error);
+    return fault_of_end(list, error);
 }
 
 struct fault fault_left_out(const struct segment_list *list, const hayro_jbig2_left_out *left_out, uint32_t error) {

@@ -36,6 +36,8 @@ void add_fault(struct faults *faults, struct fault fault);
 struct fault fault_of_number(const struct segment_list *list, uint32_t number, uint32_t error);
 /* A fault that reading headers strictly found: it is at the first segment that breaks its rule, where one does. */
 struct fault fault_of_list(const struct segment_list *list, uint32_t error);
+/* The same for a page of a file, of which the page's segments are looked at alone. */
+struct fault fault_of_page(const struct segment_list *list, uint32_t page, uint32_t error);
 /* The fault of this error among what salvage left out: of the segment at which the list ends early, or of the first that
  * was passed over. If both have it, the other readings refuse the end first, since they read all headers first; but
  * lenient reading goes on after a cut. Where neither has it, it is a fault that reading headers strictly found. */

@@ -22,6 +22,7 @@ void free_globals(struct globals *globals) {
     free_segments(&globals->list);
     free_bytes(&globals->bytes);
     free_text(&globals->reason);
+    free(globals->faults);
     pthread_mutex_destroy(&globals->lock);
     free(globals);
 }
@@ -58,12 +59,7 @@ static bool fetch(struct document *document, struct globals *globals) {
     return is_read;
 }
 
-/* Decodes globals once. They are locked. */
-static void read_globals(struct document *document, struct globals *globals) {
-    if (globals->is_read)
-        return;
-    globals->is_read = true;
-    open_budget(&globals->budget, document->reading.memory);
+static void decode_once(struct document *document, struct globals *globals) {
     if (!fetch(document, globals)) {
         globals->answer = globals->strict_answer = CANT_BE_READ;
         return;
@@ -78,12 +74,32 @@ static void read_globals(struct document *document, struct globals *globals) {
         look_for_fault(globals, &document->reading);
 }
 
-static struct fault fault_of_globals(const struct globals *globals, uint32_t answer) {
-    struct fault fault = fault_left_out(&globals->list, &globals->left_out, answer);
+static void find_faults(const struct globals *globals, struct faults *faults) {
     if (globals->answer == CANT_BE_READ)
-        fault = fault_of_pdf(CANT_BE_READ, &globals->reason);
-    fault.is_of_globals = true;
-    return fault;
+        add_fault(faults, fault_of_pdf(CANT_BE_READ, &globals->reason));
+    else if (globals->answer != HAYRO_JBIG2_OK)
+        add_fault(faults, fault_left_out(&globals->list, &globals->left_out, globals->answer));
+    else {
+        if (globals->reason.length > 0)
+            add_fault(faults, fault_of_pdf(DAMAGED_PDF, &globals->reason));
+        add_left_out(faults, &globals->list, &globals->left_out);
+        if (faults->count == 0 && globals->strict_answer != HAYRO_JBIG2_OK)
+            add_fault(faults, fault_of_list(&globals->list, globals->strict_answer));
+    }
+    for (size_t i = 0; i < faults->count; i++)
+        faults->at[i].is_of_globals = true;
+}
+
+/* They are locked. */
+static void read_globals(struct document *document, struct globals *globals) {
+    if (globals->is_read)
+        return;
+    globals->is_read = true;
+    open_budget(&globals->budget, document->reading.memory);
+    decode_once(document, globals);
+    globals->faults = room_for(sizeof *globals->faults);
+    globals->faults->count = 0;
+    find_faults(globals, globals->faults);
 }
 
 bool share_globals(struct document *document, struct globals *globals, hayro_jbig2_globals **handle,
@@ -97,7 +113,8 @@ bool share_globals(struct document *document, struct globals *globals, hayro_jbi
     }
     pthread_mutex_unlock(&globals->lock);
     if (answer != HAYRO_JBIG2_OK)
-        *fault = fault_of_globals(globals, answer);
+        *fault =
+            answer == globals->answer ? globals->faults->at[0] : (struct fault){.error = answer, .is_of_globals = true};
     return answer == HAYRO_JBIG2_OK;
 }
 

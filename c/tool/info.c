@@ -23,11 +23,11 @@ const char *name_of_state(enum status status) {
     }
 }
 
-static void note_faults(struct listing *listing, size_t page, const struct faults *faults) {
+static void note_faults(struct listing *listing, const struct faults *faults) {
     size_t count = listing->found_count + faults->count;
     listing->found = larger_room(listing->found, count * sizeof *listing->found);
     for (size_t i = 0; i < faults->count; i++)
-        listing->found[listing->found_count++] = (struct found){page, faults->at[i]};
+        listing->found[listing->found_count++] = faults->at[i];
 }
 
 /* The segments of a page's own stream. The source must stay open. */
@@ -45,7 +45,8 @@ static enum status list_page(const struct printer *printer, struct listing *list
     struct source source;
     struct segment_list list;
     draw_page(painter, document, index, &drawn);
-    note_faults(listing, document->images[index].page, &drawn.faults);
+    if (document->kind == KIND_FILE)
+        note_faults(listing, &drawn.faults);
     list_stream(document, index, &source, &list);
     printer->page(listing, index, &drawn, document->kind == KIND_FILE ? NULL : &list);
     free_segments(&list);
@@ -60,7 +61,7 @@ static enum status list_document(const struct printer *printer, struct document 
     struct painter painter;
     enum status status = ALL_WHOLE;
     find_faults_of_file(document, &faults);
-    note_faults(&listing, 0, &faults);
+    note_faults(&listing, &faults);
     printer->begin(&listing);
     open_painter(&painter);
     /* Where the list can't be written, nobody waits for the rest. */

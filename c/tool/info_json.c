@@ -155,7 +155,7 @@ static void begin(const struct listing *listing) {
     fputs(",\n    \"faults\": [", stdout);
     for (size_t i = 0; i < listing->found_count; i++) {
         fputs(i > 0 ? ", " : "", stdout);
-        print_fault(&listing->found[i].fault);
+        print_fault(&listing->found[i]);
     }
     fputs("],\n    \"pages\": [", stdout);
 }

@@ -42,7 +42,7 @@ static void begin(const struct listing *listing) {
         printf(", %zu pages, %zu JBIG2 images", document->pages, document->count);
     putchar('\n');
     for (size_t i = 0; i < listing->found_count; i++)
-        print_fault("  FAULT: ", &listing->found[i].fault);
+        print_fault("  FAULT: ", &listing->found[i]);
 }
 
 static void print_resolution(const struct page_information *information) {
@@ -113,24 +113,21 @@ static int compare_places(const void *one, const void *other) {
     return a->place < b->place ? -1 : a->place > b->place;
 }
 
-/* Faults of one page, or of all where `page` is 0, by their places. Those of globals have places of their own. */
-static size_t sort_faults(const struct listing *listing, size_t page, struct fault **sorted) {
-    bool is_file = listing->document->kind == KIND_FILE;
-    size_t count = 0;
-    *sorted = room_for(listing->found_count * sizeof **sorted);
-    for (size_t i = 0; i < listing->found_count; i++) {
-        const struct found *found = &listing->found[i];
-        bool is_shown = found->fault.has_place && (is_file || !found->fault.is_of_globals);
-        if (is_shown && (page == 0 || found->page == page))
-            (*sorted)[count++] = found->fault;
-    }
-    qsort(*sorted, count, sizeof **sorted, compare_places);
-    return count;
+/* Those that have a place in a list, by their places. Globals have places of their own, but for those of a file. */
+static size_t sort_faults(const struct fault *faults, size_t count, bool is_file, struct fault *sorted) {
+    size_t sorted_count = 0;
+    for (size_t i = 0; i < count; i++)
+        if (faults[i].has_place && (is_file || !faults[i].is_of_globals))
+            sorted[sorted_count++] = faults[i];
+    qsort(sorted, sorted_count, sizeof *sorted, compare_places);
+    return sorted_count;
 }
 
-static void print_segments(const struct listing *listing, const struct segment_list *list, size_t page) {
-    struct fault *faults;
-    size_t count = sort_faults(listing, page, &faults), next = 0;
+/* The segments of a list, with the faults that were found in it. */
+static void print_segments(const struct segment_list *list, const struct fault *found, size_t found_count,
+                           bool is_file) {
+    struct fault *faults = room_for(found_count * sizeof *faults);
+    size_t count = sort_faults(found, found_count, is_file, faults), next = 0;
     bool has_last = list->error != HAYRO_JBIG2_OK && list->known >= KNOWS_TYPE;
     if (list->count > 0 || has_last)
         printf("  %8s  %-37s  %4s  %9s  %8s   %-9s  %-27s%s\n", "segment", "type", "page", "byte", "length",
@@ -166,13 +163,13 @@ static void print_page(const struct listing *listing, size_t index, const struct
     if (document->kind == KIND_PDF)
         print_image(image);
     if (list != NULL)
-        print_segments(listing, list, image->page);
+        print_segments(list, drawn->faults.at, drawn->faults.count, false);
 }
 
 static void end(const struct listing *listing) {
     const struct document *document = listing->document;
     if (document->kind == KIND_FILE)
-        print_segments(listing, &document->list, 0);
+        print_segments(&document->list, listing->found, listing->found_count, true);
     for (size_t i = 0; i < document->globals_count; i++) {
         const struct globals *globals = document->globals[i];
         if (!globals->is_read)
@@ -181,7 +178,7 @@ static void end(const struct listing *listing) {
         if (document->kind == KIND_PDF)
             printf(" in object %d %d", globals->object, globals->generation);
         printf(": %zu bytes\n", globals->bytes.length);
-        print_segments(&(struct listing){.document = document}, &globals->list, 0);
+        print_segments(&globals->list, NULL, 0, false);
     }
 }
 

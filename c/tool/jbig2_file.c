@@ -17,6 +17,7 @@ static uint32_t read_file(struct document *document, bool is_strict, struct read
 }
 
 static void free_reader(struct reader *reader) {
+    hayro_jbig2_globals_free(reader->shared);
     hayro_jbig2_file_free(reader->file);
     close_budget(&reader->budget);
     free(reader);

@@ -4,15 +4,9 @@
 
 #include "drawing.h"
 
-/* A fault with the page that it was found on, 0 for the file as a whole. */
-struct found {
-    size_t page;
-    struct fault fault;
-};
-
 struct listing {
     const struct document *document;
-    struct found *found; /* of the file, and of all pages */
+    struct fault *found; /* of the file as a whole, and of the pages whose segments are its own */
     size_t found_count;
 };
 

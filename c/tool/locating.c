@@ -2,6 +2,8 @@
 
 #include "drawing.h"
 
+#include "jbig2_file.h"
+
 #include <stdlib.h>
 #include <string.h>
 
@@ -16,19 +18,22 @@ struct slice {
 
 /* Takes the segments of a page, or all where it is embedded. */
 static void cut_slice(struct slice *slice, const struct segment_list *list, bool is_embedded, uint32_t page) {
-    *slice = (struct slice){.bytes = room_for(list->size)};
-    slice->segments = room_for(list->count * sizeof *slice->segments);
-    slice->ends = room_for(list->count * sizeof *slice->ends);
-    for (size_t i = 0; i < list->count; i++) {
-        const struct segment *segment = &list->at[i];
-        if (!is_embedded && segment->page != page)
-            continue;
-        size_t size = segment->header_size;
-        memcpy(slice->bytes + slice->length, list->bytes + segment->place, size);
-        memcpy(slice->bytes + slice->length + size, list->bytes + segment->data, segment->length);
-        slice->length += size + segment->length;
-        slice->segments[slice->count] = segment;
-        slice->ends[slice->count++] = slice->length;
+    size_t count = list->count;
+    const struct segment *const *of_page = is_embedded ? NULL : segments_of_page(list, page, &count);
+    *slice = (struct slice){.count = count};
+    slice->segments = room_for(count * sizeof *slice->segments);
+    slice->ends = room_for(count * sizeof *slice->ends);
+    for (size_t i = 0; i < count; i++) {
+        slice->segments[i] = is_embedded ? &list->at[i] : of_page[i];
+        slice->length += slice->segments[i]->header_size + slice->segments[i]->length;
+        slice->ends[i] = slice->length;
+    }
+    slice->bytes = room_for(slice->length);
+    for (size_t i = 0; i < count; i++) {
+        const struct segment *segment = slice->segments[i];
+        uint8_t *data = slice->bytes + slice->ends[i] - segment->length;
+        memcpy(data - segment->header_size, list->bytes + segment->place, segment->header_size);
+        memcpy(data, list->bytes + segment->data, segment->length);
     }
 }
 
@@ -42,6 +47,7 @@ static void free_slice(struct slice *slice) {
 struct search {
     const struct attempt *attempt;
     hayro_jbig2_context *context;
+    struct reader *reader; /* of a file, which keeps the globals */
     hayro_jbig2_globals *globals;
     uint64_t work;
 };
@@ -84,31 +90,44 @@ static const struct segment *find_segment(struct search *search, const struct sl
     return slice->segments[with - 1];
 }
 
-/* Makes the globals of a file once more for its page alone. */
-static void make_globals(struct search *search) {
-    const struct attempt *attempt = search->attempt;
-    const hayro_jbig2_memory *memory = &attempt->painter->budget.memory;
+/* What the pages of a file share, for its pages alone. A file of many pages with faults has it made once. */
+static void make_shared(const struct attempt *attempt, struct reader *reader) {
+    uint64_t work = work_for(&attempt->document->reading, stated_pixels(attempt->list));
     struct slice slice;
-    if (attempt->document->kind != KIND_FILE) {
-        search->globals = attempt->source->handle;
-        return;
-    }
+    reader->has_shared = true;
     cut_slice(&slice, attempt->list, false, 0);
     if (slice.count > 0)
-        hayro_jbig2_globals_new_salvaged(memory, search->work, slice.bytes, slice.length, &search->globals);
+        hayro_jbig2_globals_new_salvaged(&reader->budget.memory, work, slice.bytes, slice.length, &reader->shared);
     free_slice(&slice);
+}
+
+static uint32_t find_globals(struct search *search) {
+    const struct attempt *attempt = search->attempt;
+    uint32_t answer = HAYRO_JBIG2_OK;
+    search->globals = attempt->source->handle;
+    if (attempt->document->kind != KIND_FILE)
+        return answer;
+    search->reader = take_reader(attempt->document, attempt->is_strict, &answer);
+    if (search->reader == NULL)
+        return answer;
+    if (!search->reader->has_shared)
+        make_shared(attempt, search->reader);
+    search->globals = search->reader->shared;
+    return answer;
 }
 
 static uint32_t open_search(struct search *search, const struct attempt *attempt, const struct drawn *drawn) {
     uint64_t pixels = (uint64_t)drawn->width * drawn->height;
     *search = (struct search){.attempt = attempt, .work = work_for(&attempt->document->reading, pixels)};
-    return hayro_jbig2_context_new(&attempt->painter->budget.memory, &search->context);
+    uint32_t answer = hayro_jbig2_context_new(&attempt->painter->budget.memory, &search->context);
+    return answer == HAYRO_JBIG2_OK ? find_globals(search) : answer;
 }
 
 static void close_search(struct search *search) {
+    const struct attempt *attempt = search->attempt;
     hayro_jbig2_context_free(search->context);
-    if (search->globals != search->attempt->source->handle)
-        hayro_jbig2_globals_free(search->globals);
+    if (search->reader != NULL)
+        give_back_reader(attempt->document, attempt->is_strict, search->reader);
 }
 
 static struct fault search_for_fault(struct search *search, const struct drawn *drawn, uint32_t error) {
@@ -117,7 +136,6 @@ static struct fault search_for_fault(struct search *search, const struct drawn *
     hayro_jbig2_left_out left_out = {0};
     struct fault fault = {.error = error};
     struct slice slice;
-    make_globals(search);
     if (!is_embedded && search->globals != NULL)
         hayro_jbig2_globals_get_left_out(search->globals, &left_out);
     if ((left_out.segments > 0 && left_out.error == error) || left_out.list_error == error) {
@@ -134,7 +152,9 @@ static struct fault search_for_fault(struct search *search, const struct drawn *
 }
 
 struct fault locate_fault(const struct attempt *attempt, const struct drawn *drawn, uint32_t error) {
-    struct fault fault = fault_of_list(attempt->list, error);
+    bool is_of_file = attempt->document->kind == KIND_FILE && drawn->width > 0;
+    struct fault fault =
+        is_of_file ? fault_of_page(attempt->list, drawn->number, error) : fault_of_list(attempt->list, error);
     struct search search;
     if (fault.has_segment || is_of_limits(error) || error == HAYRO_JBIG2_OK || drawn->width == 0)
         return fault;

@@ -138,22 +138,25 @@ static void list_headers_first(struct segment_list *list, size_t place) {
     }
 }
 
-/* By page, then by number, then by place. */
-static int compare_informations(const void *one, const void *other) {
+static int compare(uint32_t one, uint32_t other) { return (one > other) - (one < other); }
+
+/* Segments with the same key stay in their order. */
+static int compare_numbers(const void *one, const void *other) {
     const struct segment *a = *(const struct segment *const *)one, *b = *(const struct segment *const *)other;
-    if (a->page != b->page)
-        return a->page < b->page ? -1 : 1;
-    if (a->number != b->number)
-        return a->number < b->number ? -1 : 1;
-    return a < b ? -1 : a > b;
+    return a->number != b->number ? compare(a->number, b->number) : (a > b) - (a < b);
 }
 
-static void list_informations(struct segment_list *list) {
-    list->informations = room_for(list->count * sizeof *list->informations);
+static int compare_pages(const void *one, const void *other) {
+    const struct segment *a = *(const struct segment *const *)one, *b = *(const struct segment *const *)other;
+    return a->page != b->page ? compare(a->page, b->page) : (a > b) - (a < b);
+}
+
+static const struct segment **sorted(const struct segment_list *list, int (*order)(const void *, const void *)) {
+    const struct segment **segments = room_for(list->count * sizeof *segments);
     for (size_t i = 0; i < list->count; i++)
-        if (list->at[i].type == PAGE_INFORMATION)
-            list->informations[list->information_count++] = &list->at[i];
-    qsort(list->informations, list->information_count, sizeof *list->informations, compare_informations);
+        segments[i] = &list->at[i];
+    qsort(segments, list->count, sizeof *segments, order);
+    return segments;
 }
 
 void list_segments(struct segment_list *list, const uint8_t *bytes, size_t size, size_t start, bool has_random_access) {
@@ -162,12 +165,14 @@ void list_segments(struct segment_list *list, const uint8_t *bytes, size_t size,
         list_headers_first(list, start);
     else
         list_one_after_the_other(list, start);
-    list_informations(list);
+    list->by_number = sorted(list, compare_numbers);
+    list->by_page = sorted(list, compare_pages);
 }
 
 void free_segments(struct segment_list *list) {
     free(list->at);
-    free(list->informations);
+    free(list->by_number);
+    free(list->by_page);
     *list = (struct segment_list){.bytes = NULL};
 }
 
@@ -194,11 +199,35 @@ uint32_t *referred_numbers(const struct segment_list *list, const struct segment
     return numbers;
 }
 
+static uint32_t number_of(const struct segment *segment) { return segment->number; }
+
+static uint32_t page_of(const struct segment *segment) { return segment->page; }
+
+/* Where the first of sorted segments is whose key is not below this one. */
+static size_t first_from(const struct segment_list *list, const struct segment *const *segments,
+                         uint32_t (*key_of)(const struct segment *segment), uint32_t key) {
+    size_t first = 0, end = list->count;
+    while (first < end) {
+        size_t middle = first + (end - first) / 2;
+        if (key_of(segments[middle]) < key)
+            first = middle + 1;
+        else
+            end = middle;
+    }
+    return first;
+}
+
 const struct segment *segment_of_number(const struct segment_list *list, uint32_t number) {
-    for (size_t i = 0; i < list->count; i++)
-        if (list->at[i].number == number)
-            return &list->at[i];
-    return NULL;
+    size_t first = first_from(list, list->by_number, number_of, number);
+    return first < list->count && list->by_number[first]->number == number ? list->by_number[first] : NULL;
+}
+
+const struct segment *const *segments_of_page(const struct segment_list *list, uint32_t page, size_t *count) {
+    size_t first = first_from(list, list->by_page, page_of, page), end = first;
+    while (end < list->count && list->by_page[end]->page == page)
+        end++;
+    *count = end - first;
+    return list->by_page + first;
 }
 
 uint32_t number_in(const struct segment_list *list, const struct segment *segment, size_t place, size_t size) {
@@ -230,18 +259,14 @@ static void read_page_information(const struct segment_list *list, const struct 
 }
 
 bool page_information_of(const struct segment_list *list, uint32_t page, struct page_information *information) {
-    size_t first = 0, end = list->information_count;
-    while (first < end) {
-        size_t middle = first + (end - first) / 2;
-        if (list->informations[middle]->page < page)
-            first = middle + 1;
-        else
-            end = middle;
-    }
-    if (first == list->information_count || list->informations[first]->page != page)
-        return false;
-    read_page_information(list, list->informations[first], information);
-    return true;
+    size_t count;
+    const struct segment *const *segments = segments_of_page(list, page, &count), *first = NULL;
+    for (size_t i = 0; i < count; i++)
+        if (segments[i]->type == PAGE_INFORMATION && (first == NULL || segments[i]->number < first->number))
+            first = segments[i];
+    if (first != NULL)
+        read_page_information(list, first, information);
+    return first != NULL;
 }
 
 /* One more than the greatest last row of all stripes, for pages whose height is unknown. */

@@ -41,9 +41,8 @@ struct segment_list {
     uint32_t error;      /* what ended the list early, a number of hayro_jbig2.h, or 0 */
     struct segment last; /* the segment of that error, as far as its header was read */
     enum known known;
-    /* The page informations by page and number, so that a file of many pages doesn't take the square of its length. */
-    const struct segment **informations;
-    size_t information_count;
+    /* All of them by number and by page, so that a file of many pages doesn't take the square of its length. */
+    const struct segment **by_number, **by_page;
 };
 
 /* The segments of `size` bytes from `start` on. The bytes must stay until free_segments. */
@@ -66,6 +65,8 @@ bool read_file_header(struct file_header *header, const uint8_t *bytes, size_t s
 uint32_t *referred_numbers(const struct segment_list *list, const struct segment *segment);
 /* The first segment with a number, or NULL. */
 const struct segment *segment_of_number(const struct segment_list *list, uint32_t number);
+/* The segments of a page in their order. */
+const struct segment *const *segments_of_page(const struct segment_list *list, uint32_t page, size_t *count);
 
 /* A big number of 1 to 4 bytes in a segment's data, or 0 past its end. */
 uint32_t number_in(const struct segment_list *list, const struct segment *segment, size_t place, size_t size);

@@ -5,6 +5,7 @@
 
 #include <stdio.h>
 #include <stdlib.h>
+#include <string.h>
 
 static unsigned checks, failures;
 
@@ -153,6 +154,26 @@ static void keeps_ceilings(void) {
     CHECK(draws_within(&bounded) == HAYRO_JBIG2_OK);
 }
 
+/* How much a segment of unknown length takes is found without memory for all that comes after it. */
+static void finds_ends_of_data(void) {
+    static const uint8_t begin[] = {0, 0, 0, 1, 38, 0, 1, 255, 255, 255, 255, 0, 0, 0, 8,
+                                    0, 0, 0, 1, 0,  0, 0, 0,   0,   0,   0,   0, 0, 1};
+    static uint8_t list[1 << 23];
+    struct bounded bounded = {0, 1 << 22, 0};
+    const hayro_jbig2_memory memory = {take, give_back, &bounded};
+    static const size_t ends[] = {sizeof begin, 4090, 4096, 5000, 300000};
+    size_t i, taken = 0;
+    memset(list, 1, sizeof list);
+    memcpy(list, begin, sizeof begin);
+    CHECK(hayro_jbig2_segment_get_length(NULL, false, list, sizeof list, &taken) ==
+          HAYRO_JBIG2_SEGMENT_MISSING_END_MARKER);
+    for (i = sizeof ends / sizeof *ends; i-- > 0;) {
+        memset(list + ends[i], 0, 6);
+        CHECK(hayro_jbig2_segment_get_length(&memory, false, list, sizeof list, &taken) == HAYRO_JBIG2_OK);
+        CHECK(taken == ends[i] + 6 && bounded.held == 0);
+    }
+}
+
 int main(int count, char **words) {
     FILE *file = count == 2 ? fopen(words[1], "rb") : NULL;
     if (file == NULL)
@@ -166,6 +187,7 @@ int main(int count, char **words) {
     traps(has_no_stack);
     traps_in_globals();
     keeps_ceilings();
+    finds_ends_of_data();
     printf("%u checks of traps and ceilings, %u failed\n", checks, failures);
     return failures > 0;
 }

@@ -93,6 +93,17 @@ class Incomplete(unittest.TestCase):
             for other in pickle.loads(pickle.dumps(page)), copy.deepcopy(page):
                 self.assertEqual((other, other.lacks), (page, page.lacks))
 
+    def test_globals_that_are_cut_off(self):
+        """The page lacks something where it refers to the dictionary that is cut off, and not where that is another."""
+        other = bytes.fromhex("00000007") + GLOBALS[4:-1]
+        for how in READINGS.values():
+            page = hayro_jbig2.decode(TEXT, globals=GLOBALS + other, **how)
+            self.assertEqual((page.rows, page.is_complete), (b"\x80", True))
+            self.assertEqual(page.left_out.cut_off.segment_number, 7)
+            page = self.decoded(TEXT, globals=GLOBALS[:-1], **how)
+            self.assertEqual((page.rows, page.passed_over.first.segment_number), (b"\0", 2))
+            self.assertEqual(page.left_out.cut_off.segment_number, 1)
+
     def test_globals_that_lack_something(self):
         """A dictionary that refers to number 0, which isn't there: the page finds it, and its symbols may be others."""
         lacking = GLOBALS.replace(bytes.fromhex("00000001 00 00"), bytes.fromhex("00000001 00 20 00"), 1)

@@ -21,8 +21,9 @@ impl DecoderContext {
     }
 
     /// Whether nothing is known to be missing of the page that was decoded last: no segment of it is cut off, and strict
-    /// reading refuses none; nor of its globals, or of what the pages of its file share. False after an error, and in a
-    /// new context. `hayro-jbig2` 0.4.0 has no such call.
+    /// reading refuses none; nor of its globals, or of what the pages of its file share. Of globals that are cut off a page
+    /// lacks something only if it refers to the segment that is. False after an error, and in a new context. `hayro-jbig2`
+    /// 0.4.0 has no such call.
     ///
     /// So faults that lenient reading forgives count: rows of MMR data after a fault, gray values without a pattern, ids
     /// without a symbol, references to what isn't there. Damage within arithmetic data can't be known: the format has no

@@ -169,6 +169,10 @@ for (const [name, [bytes, meant]] of Object.entries(FILES)) {
   const contents = await contentsOf(bytes);
   check(isPdf(bytes) && contents === meant, `${name}: ${JSON.stringify(contents)}, but it has ${JSON.stringify(meant)}`);
 }
+// An object stream of as many objects as are read, and one that can't be unpacked: that isn't tried.
+const most = stream(7, `/Type/ObjStm/N ${2 ** 20}/First ${2 ** 22}/Filter/Fl`, deflateSync("1 0 ".repeat(2 ** 20) + "7"));
+const contents = await contentsOf(file(IMAGE, most, stream(8, "/Type/ObjStm/N 1/First 4/Filter/Fl", "no zlib")));
+check(contents === "5 right; fault: the file has more than 1048576 objects", `after the most objects: ${contents}`);
 const buffer = Uint8Array.from(FILES["an image"][0]).buffer;
 check(isPdf(buffer) && (await contentsOf(buffer)) === "5 right", "an ArrayBuffer is not read");
 const folder = process.argv[2];

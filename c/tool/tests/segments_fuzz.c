@@ -13,6 +13,17 @@
 
 static size_t listed;
 
+/* Each segment is found by its number, or an earlier one of that number, and by its page in its order. */
+static bool is_found(const struct segment_list *list, const struct segment *segment) {
+    size_t count, place = 0;
+    const struct segment *first = segment_of_number(list, segment->number);
+    const struct segment *const *of_page = segments_of_page(list, segment->page, &count);
+    while (place < count && of_page[place] < segment)
+        place++;
+    return first != NULL && first <= segment && first->number == segment->number && place < count &&
+           of_page[place] == segment;
+}
+
 /* Reads all that the list offers. */
 static void read_list(struct segment_list *list) {
     struct page_information information;
@@ -20,7 +31,7 @@ static void read_list(struct segment_list *list) {
     struct text text = {NULL, 0, 0};
     for (size_t i = 0; i < list->count; i++) {
         const struct segment *segment = &list->at[i];
-        if (segment->data > list->size || segment->length > list->size - segment->data)
+        if (segment->data > list->size || segment->length > list->size - segment->data || !is_found(list, segment))
             abort();
         uint32_t *numbers = referred_numbers(list, segment);
         for (size_t j = 0; j < segment->referred_count; j++)

@@ -9,7 +9,7 @@ from support import BOOK, EXAMPLE, HAS_PDF, INCOMPLETE, NOT_DONE, SUITE, WHOLE, 
 
 from conformance.runner.embedding import embedded_page, image_of
 from conformance.runner.manifest import PICTURE, read_manifest
-from conformance.runner.pdf import pdf_of
+from conformance.runner.pdf import joined, pdf_of, stream_object
 from conformance.runner.segments import segments_of_file
 
 ENTRIES = read_manifest(SUITE / "manifest.tsv")
@@ -135,6 +135,23 @@ class Info(Case):
         table = self.run_here("info", scan).output.decode()
         self.assertIn("scan.pdf: a PDF file", table)
         self.assertIn("globals in object", table)
+
+    @unittest.skipUnless(HAS_PDF, "libqpdf is not here")
+    def test_images_of_one_page_have_their_own_faults(self):
+        """The segments of the second image lie where those of the first one do, which is cut off."""
+        page = image_of(embedded_page(BOOK, 1))
+        words = "/Type /XObject /Subtype /Image /Filter /JBIG2Decode /DecodeParms << /JBIG2Globals 4 0 R >>"
+        scan = self.made(joined([
+            b"<< /Type /Catalog /Pages 2 0 R >>",
+            b"<< /Type /Pages /Count 1 /Kids [3 0 R] >>",
+            b"<< /Type /Page /Parent 2 0 R /Resources << /XObject << /A 5 0 R /B 6 0 R >> >> >>",
+            stream_object("", page.shared),
+            stream_object(words, page.stream[:-1]),
+            stream_object(words, page.stream),
+        ]), "scan.pdf")
+        table = self.run_here("info", scan).output.decode()
+        first, second = table.split("page 1, image 2: whole")
+        self.assertEqual((first.count("FAULT at"), second.count("FAULT")), (1, 0))
 
     @unittest.skipUnless(HAS_PDF, "libqpdf is not here")
     def test_a_damaged_pdf_file(self):

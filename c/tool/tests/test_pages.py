@@ -4,6 +4,7 @@ from __future__ import annotations
 import concurrent.futures
 import random
 import re
+import struct
 import unittest
 
 from support import (
@@ -179,6 +180,17 @@ class Faults(Case):
             text = " ".join(messages[entry.name])
             self.assertTrue(entry.lenient in text or "neither a" in text or "no page" in text, (entry.name, text))
         self.assertGreater(sum("segment " in "".join(lines) for lines in messages.values()), len(names) // 2)
+
+    def test_many_pages_with_faults(self):
+        """The time is in proportion to the number of pages, whether they are incomplete or refused."""
+        count, size = 100000, struct.pack(">4I", 8, 1, 0, 0)
+        for region, status in (38, INCOMPLETE), (0, NOT_DONE):
+            data = [BOOK[:9] + struct.pack(">I", count)]
+            for page in range(1, count + 1):
+                for kind, content in (48, size + b"\0\0\0"), (region, size + b"\0"), (49, b""):
+                    data.append(struct.pack(">IBBII", len(data), 64 | kind, 0, page, len(content)) + content)
+            ended = self.run_here(self.made(b"".join(data)), "-f", "pbm", "-o", "-", timeout=15)
+            self.assert_ends(ended, status, f"page {count}: ", f"segment {3 * count - 1} (")
 
     def test_salvage_draws_more(self):
         scan = self.made(BOOK[:36] + b"\xff" * 4 + BOOK[40:])

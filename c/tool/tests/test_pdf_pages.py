@@ -3,6 +3,7 @@ from __future__ import annotations
 
 import json
 import random
+import struct
 import unittest
 
 from support import BOOK, COUNTED, HAS_PDF, HAS_TIFF, INCOMPLETE, NOT_DONE, OVER_LIMIT, SANITIZED, WHOLE, Case, counted
@@ -112,6 +113,25 @@ class PdfPages(Case):
             "<< /Type /Annot /Subtype /Link >>",
             *["<< /Type /Page /Parent 2 0 R /Annots 3 0 R >>"] * count,
         ], images=0))
+
+    def test_many_images_whose_globals_have_many_segments(self):
+        """What is wrong with globals is found once. The last segment, of no type, is."""
+        count, segments = 20000, 500000
+        header = struct.Struct(">I3BI")
+        shared = b"".join(header.pack(number, 62, 0, 0, 4) + b" \0\0\0" for number in range(segments))
+        size = struct.pack(">4I3x", 8, 1, 0, 0)
+        words = "/Type /XObject /Subtype /Image /Width 65535 /Height 65535 /Filter /JBIG2Decode"
+        image = stream_object(words + " /DecodeParms << /JBIG2Globals 4 0 R >>", header.pack(0, 48, 0, 1, 19) + size)
+        names = " ".join(f"/{number} {number} 0 R" for number in range(5, 5 + count))
+        self.made(joined([
+            b"<< /Type /Catalog /Pages 2 0 R >>",
+            b"<< /Type /Pages /Count 1 /Kids [3 0 R] >>",
+            f"<< /Type /Page /Parent 2 0 R /Resources << /XObject << {names} >> >> >>".encode(),
+            stream_object("", shared + header.pack(segments, 63, 0, 0, 0)),
+            *[image] * count,
+        ]), "scan.pdf")
+        ended = self.run_here("scan.pdf", "--quiet", "-f", "pbm", "-o", "-", timeout=SECONDS)
+        self.assert_ends(ended, INCOMPLETE, f"image {count}: incomplete: globals: segment {segments} (unknown type)")
 
     def test_empty_streams(self):
         """The decoder gets no null pointer: COUNTED stops there."""

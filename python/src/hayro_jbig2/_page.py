@@ -107,7 +107,8 @@ class Page:
     @property
     def is_complete(self) -> bool:
         """Whether nothing is known to be missing: no segment of the page is cut off, and strict reading refuses none; nor
-        of its globals, or of what the pages of its file share.
+        of its globals, or of what the pages of its file share. Of globals that are cut off a page lacks something only if
+        it refers to the segment that is.
 
         So faults that lenient reading forgives count: rows of MMR data after a fault, gray values without a pattern, ids
         without a symbol, references to what isn't there. Damage within arithmetic data can't be known: the format has no
