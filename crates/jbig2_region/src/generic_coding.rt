@@ -20,7 +20,7 @@ use crate::template::{AdaptiveTemplatePixel, GenericTemplatePixels, Template};
 use jbig2_base::bitmap::Bitmap;
 use jbig2_base::bitmap::steps::Steps;
 use jbig2_coder::arithmetic_decoder::{ArithmeticDecoder, ArithmeticDecoderContext};
-use std::alloc::{Allocator, Global};
+use std::alloc::Allocator;
 use std::sync::ledger::Ledger;
 
 /// The template's pixel at `place`, seen from column `x` of row `y`.
@@ -262,8 +262,14 @@ pub(crate) fn count_coded_rows<A: Allocator, L: Ledger>(
             count_whole_rows(&coding, bitmap, decoder, contexts, steps)
         }
         GenericTemplatePixels::Regular(a) => {
-            let skip = None::<&Bitmap<Global>>;
-            count_regular_rows(template, typical, a, skip, bitmap, decoder, contexts, steps)
+            let pixels = TemplatePixels::regular(template, a);
+            let coding = GenericCoding {
+                template,
+                typical,
+                pixels: pixels.as_slice(),
+                skip: None::<&Bitmap<A>>,
+            };
+            count_whole_rows(&coding, bitmap, decoder, contexts, steps)
         }
     }
 }
