@@ -231,7 +231,8 @@ static void tells_what_is_left_out_before_the_rest(void) {
                                   "\0\0\0\x7C\x26\xA0\1\0\0\0\0";
     struct counted memory = counted_allocator();
     struct heard heard = {0};
-    struct context *context = embedded_context(&memory.base, NULL, &heard);
+    struct globals *globals = made_globals(&memory.base, &heard);
+    struct context *context = embedded_context(&memory.base, globals, &heard);
     take_in(context, stream.at, stream.length, 4096);
     take_in(context, more, 11, 11);
     CHECK(jbig2_complete_page(context) == 0);
@@ -243,6 +244,7 @@ static void tells_what_is_left_out_before_the_rest(void) {
     CHECK(heard.count[SEVERITY_WARNING] == 2 * before + 1);
     CHECK(heard.segment == 0x7C && strstr(heard.text, "invalid referred-to segment count") != NULL);
     jbig2_ctx_free(context);
+    jbig2_global_ctx_free(globals);
     CHECK(memory.held == 0);
 }
 
