@@ -121,17 +121,18 @@ class TextReader:
         settings = self.settings
         refuse_if(settings.count > settings.most, Fault.TOO_MANY_INSTANCES)
         bitmap = Bitmap(self.work, width, height, settings.colour)
-        for placed in self.instances():
+        for placed in self.instances(self.initial_strip()):
             self.draw(bitmap, placed)
         return bitmap
 
     def decode_part(self, width, height):
         """Of data that is cut off the instances that are whole: those before the first one that has an error, or at whose
-        end the coder is past the data."""
+        end the coder is past the data. An error in the initial strip is the region's."""
         settings = self.settings
         bitmap = Bitmap(self.work, width, height, settings.colour)
+        strip = self.initial_strip()
         try:
-            for _, placed in zip(range(settings.most), self.instances()):
+            for _, placed in zip(range(settings.most), self.instances(strip)):
                 if self.source.is_past_end():
                     break
                 self.draw(bitmap, placed)
@@ -143,10 +144,12 @@ class TextReader:
         if placed is not None:
             bitmap.combine(self.work, *placed, self.settings.operator)
 
-    def instances(self):
+    def initial_strip(self):
+        return in_signed(-self.strip_delta(), Fault.PLACEMENT_COORDINATE)
+
+    def instances(self, strip):
         """Each instance when it is read: its symbol with left and top, or None where nothing is drawn."""
         settings, source = self.settings, self.source
-        strip = in_signed(-self.strip_delta(), Fault.PLACEMENT_COORDINATE)
         left, first = settings.count, 0
         while left:
             strip = in_signed(strip + self.strip_delta(), Fault.PLACEMENT_COORDINATE)
