@@ -1,0 +1,8 @@
+pub mod ExtendedTemplate
+pub mod RasterDecisions
+mod RasterWorked
+pub mod Steps
+pub mod SymbolClasses
+mod SymbolWorked
+pub mod TextLists
+mod TextWorked

@@ -1,0 +1,4 @@
+pub mod ExtendedTemplate
+pub mod RasterDecisions
+pub mod SymbolClasses
+pub mod TextInstances
