@@ -9,11 +9,13 @@
 #include <stdlib.h>
 
 uint64_t work_for(const struct reading *reading, uint64_t pixels) {
-    enum { LEAST = 1 << 24, FOR_A_PIXEL = 100 };
+    enum { LEAST = 1 << 24, FOR_A_PIXEL = 100, LONGEST_SIDE = 65535 };
+    /* What pages share doesn't need more than the largest page, however many a file states. */
+    const uint64_t most = (uint64_t)LONGEST_SIDE * LONGEST_SIDE * FOR_A_PIXEL;
     if (reading->has_own_work)
         return reading->work;
-    if (pixels > UINT64_MAX / FOR_A_PIXEL)
-        return UINT64_MAX - 1;
+    if (pixels > most / FOR_A_PIXEL)
+        return most;
     return pixels * FOR_A_PIXEL < LEAST ? LEAST : pixels * FOR_A_PIXEL;
 }
 

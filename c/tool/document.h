@@ -19,7 +19,7 @@ struct reading {
     size_t memory; /* the most that the decoder may take at once for either */
 };
 
-/* The limit of work for some pixels (SECURITY.md). */
+/* The limit of work for some pixels (SECURITY.md): at most that of the largest page. */
 uint64_t work_for(const struct reading *reading, uint64_t pixels);
 
 /* A page of a file, an embedded page, or an image of a PDF file. */

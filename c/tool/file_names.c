@@ -45,8 +45,7 @@ static void add_stem(struct text *text, const char *name) {
     const char *slash = strrchr(name, '/'), *base = slash != NULL ? slash + 1 : name, *dot = strrchr(base, '.');
     if (strcmp(name, "standard input") == 0)
         base = "stdin";
-    int length = dot != NULL && dot > base ? (int)(dot - base) : (int)strlen(base);
-    add_text(text, "%.*s", length, base);
+    add_bytes(text, base, dot != NULL && dot > base ? (size_t)(dot - base) : strlen(base));
 }
 
 char *file_name_of_page(const struct words *words, const struct document *document, size_t index) {
@@ -54,7 +53,9 @@ char *file_name_of_page(const struct words *words, const struct document *docume
     const char *folder = words->output;
     struct text name = {NULL, 0, 0};
     if (folder != NULL)
-        add_text(&name, "%s%s", folder, folder[strlen(folder) - 1] == '/' ? "" : "/");
+        add_bytes(&name, folder, strlen(folder));
+    if (folder != NULL && folder[strlen(folder) - 1] != '/')
+        add_text(&name, "/");
     add_stem(&name, document->name);
     if (document->count > 1)
         add_text(&name, "-%0*zu", digits_of(document->pages), image->page);

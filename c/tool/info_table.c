@@ -108,9 +108,16 @@ static void print_segment(const struct segment_list *list, const struct segment 
     free_text(&region);
 }
 
-static int compare_places(const void *one, const void *other) {
+static int compare_faults(const void *one, const void *other) {
     const struct fault *a = one, *b = other;
-    return a->place < b->place ? -1 : a->place > b->place;
+    if (a->place != b->place)
+        return a->place < b->place ? -1 : 1;
+    return (a->error > b->error) - (a->error < b->error);
+}
+
+/* A file's fault is one of each page that lacks something by it, too. */
+static bool is_same(const struct fault *one, const struct fault *other) {
+    return compare_faults(one, other) == 0 && one->others == other->others && strcmp(one->note, other->note) == 0;
 }
 
 /* Those that have a place in a list, by their places. Globals have places of their own, but for those of a file. */
@@ -119,7 +126,7 @@ static size_t sort_faults(const struct fault *faults, size_t count, bool is_file
     for (size_t i = 0; i < count; i++)
         if (faults[i].has_place && (is_file || !faults[i].is_of_globals))
             sorted[sorted_count++] = faults[i];
-    qsort(sorted, sorted_count, sizeof *sorted, compare_places);
+    qsort(sorted, sorted_count, sizeof *sorted, compare_faults);
     return sorted_count;
 }
 
@@ -138,7 +145,8 @@ static void print_segments(const struct segment_list *list, const struct fault *
         while (next < count && faults[next].place < segment->place)
             next++;
         for (; next < count && faults[next].place == segment->place; next++)
-            print_fault("      ^ FAULT at ", &faults[next]);
+            if (next == 0 || !is_same(&faults[next - 1], &faults[next]))
+                print_fault("      ^ FAULT at ", &faults[next]);
     }
     free(faults);
 }

@@ -141,11 +141,24 @@ static void *run_thread(void *shared) {
     return NULL;
 }
 
+/* A user's limit, or the C library, may give threads less stack than the libraries need. */
+static void set_least_stack(pthread_attr_t *attributes) {
+    enum { LEAST = 1 << 20 };
+    size_t size;
+    if (pthread_attr_getstacksize(attributes, &size) == 0 && size < LEAST)
+        pthread_attr_setstacksize(attributes, LEAST);
+}
+
 /* Starts as many threads as it can. */
 static unsigned start_threads(struct work *work, pthread_t *threads) {
     unsigned count = 0;
-    while (count < work->words->jobs && pthread_create(&threads[count], NULL, run_thread, work) == 0)
+    pthread_attr_t attributes;
+    if (pthread_attr_init(&attributes) != 0)
+        return 0;
+    set_least_stack(&attributes);
+    while (count < work->words->jobs && pthread_create(&threads[count], &attributes, run_thread, work) == 0)
         count++;
+    pthread_attr_destroy(&attributes);
     return count;
 }
 

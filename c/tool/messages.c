@@ -8,6 +8,7 @@
 #include <stdarg.h>
 #include <stdio.h>
 #include <stdlib.h>
+#include <string.h>
 #include <unistd.h>
 
 static bool shows_progress;
@@ -39,6 +40,31 @@ void *larger_room(void *block, size_t size) {
 
 void *room_for(size_t size) { return larger_room(NULL, size); }
 
+/* Where `length` bytes more and a null byte can be written. */
+static char *make_room(struct text *text, size_t length) {
+    if (text->room - text->length <= length) {
+        text->room = 2 * text->room + length + 1;
+        text->at = larger_room(text->at, text->room);
+    }
+    return text->at + text->length;
+}
+
+void add_bytes(struct text *text, const char *bytes, size_t length) {
+    char *added = make_room(text, length);
+    memcpy(added, bytes, length);
+    added[length] = '\0';
+    text->length += length;
+}
+
+/* A line ends where a format does: names of files and texts of a PDF file may have ends of lines too. */
+static void keep_in_line(char *added, size_t length, const char *format) {
+    size_t size = strlen(format);
+    bool ends_line = size > 0 && format[size - 1] == '\n';
+    for (size_t i = 0; i + ends_line < length; i++)
+        if (added[i] == '\n')
+            added[i] = '?';
+}
+
 static void add_arguments(struct text *text, const char *format, va_list arguments) {
     va_list again;
     va_copy(again, arguments);
@@ -46,11 +72,9 @@ static void add_arguments(struct text *text, const char *format, va_list argumen
     va_end(again);
     if (length < 0)
         return;
-    if (text->room - text->length <= (size_t)length) {
-        text->room = 2 * text->room + (size_t)length + 1;
-        text->at = larger_room(text->at, text->room);
-    }
-    text->length += (size_t)vsnprintf(text->at + text->length, text->room - text->length, format, arguments);
+    char *added = make_room(text, (size_t)length);
+    text->length += (size_t)vsnprintf(added, (size_t)length + 1, format, arguments);
+    keep_in_line(added, (size_t)length, format);
 }
 
 void add_text(struct text *text, const char *format, ...) {

@@ -25,7 +25,10 @@ struct text {
     size_t length, room;
 };
 
+/* Of what is added, a line ends at the end of the format alone. */
 void add_text(struct text *text, const char *format, ...) LIKE_PRINTF(2, 3);
+/* The bytes as they are. */
+void add_bytes(struct text *text, const char *bytes, size_t length);
 void free_text(struct text *text);
 
 /* Memory for the program itself. Where there is none, the program ends with a message and NOT_DONE. */

@@ -112,6 +112,13 @@ static qpdf_oh stream_without_last_filter(qpdf_data qpdf, qpdf_oh stream) {
     return made;
 }
 
+/* A stream that was made would keep its bytes until the file is closed. */
+static void forget_stream(qpdf_data qpdf, qpdf_oh stream) {
+    if (qpdf_oh_is_stream(qpdf, stream))
+        qpdf_replace_object(qpdf, qpdf_oh_get_object_id(qpdf, stream), qpdf_oh_get_generation(qpdf, stream),
+                            qpdf_oh_new_null(qpdf));
+}
+
 static bool has_filters_before(qpdf_data qpdf, qpdf_oh stream) {
     qpdf_oh filters = qpdf_oh_get_key(qpdf, qpdf_oh_get_dict(qpdf, stream), "/Filter");
     return qpdf_oh_is_array(qpdf, filters) && qpdf_oh_get_array_n_items(qpdf, filters) > 1;
@@ -150,6 +157,8 @@ bool read_pdf_stream(struct document *document, int object, int generation, stru
         add_text(reason, "%s", detail_of(qpdf, qpdf_get_error(qpdf)));
     else if (reason->length == 0)
         add_text(reason, "its filters can't be undone");
+    if (has_before && stream != 0)
+        forget_stream(qpdf, stream);
     qpdf_oh_release_all(qpdf);
     return is_read;
 }

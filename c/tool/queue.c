@@ -192,14 +192,25 @@ void stop_queue(struct queue *queue) {
     pthread_mutex_unlock(&queue->lock);
 }
 
-/* The queue is locked. */
+/* The queue is locked, but not while a message is written: a terminal may be stopped, and pages go on meanwhile. */
 static void print_done(struct queue *queue) {
-    for (; queue->printed < queue->turn; queue->printed++) {
-        struct report *report = &queue->reports[queue->printed];
-        print_messages(&report->messages);
-        free_text(&report->messages);
+    while (queue->printed < queue->turn) {
+        struct report *report = &queue->reports[queue->printed++];
+        struct text messages = report->messages;
+        report->messages = (struct text){NULL, 0, 0};
         queue->status = worse_of(queue->status, report->status);
+        pthread_mutex_unlock(&queue->lock);
+        print_messages(&messages);
+        free_text(&messages);
+        pthread_mutex_lock(&queue->lock);
     }
+}
+
+static void show_pages(struct queue *queue) {
+    size_t done = queue->pages_done, pages = queue->pages;
+    pthread_mutex_unlock(&queue->lock);
+    print_progress(done, pages);
+    pthread_mutex_lock(&queue->lock);
 }
 
 static double seconds_now(void) {
@@ -226,7 +237,7 @@ enum status print_reports(struct queue *queue) {
         print_done(queue);
         double now = seconds_now();
         if (shows && now - began > 1 && now - shown > 0.1) {
-            print_progress(queue->pages_done, queue->pages);
+            show_pages(queue);
             shown = now;
         }
         if (!queue->is_over || queue->printed < queue->count)

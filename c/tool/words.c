@@ -153,14 +153,19 @@ static const char *name_of_option(int option) {
     for (const struct option *at = options; at->name != NULL; at++)
         if (at->val == option)
             return at->name;
-    return "?";
+    return NULL;
 }
 
-/* getopt may still be at the word before that of a short option, as of -zq. */
+/* getopt may still be at the word before that of a short option, as of -zq. An option that is there has a word that it
+ * doesn't take, as --force=x. */
 static enum request wrong_option(const char *word) {
     char name[] = {'-', (char)optopt, '\0'};
-    bool is_short = optopt != 0 && strcmp(name_of_option(optopt), "?") == 0;
-    return wrong("there is no option", is_short ? name : word);
+    const char *known = name_of_option(optopt);
+    if (optopt == 0 || known == NULL)
+        return wrong("there is no option", optopt != 0 ? name : word);
+    char what[40];
+    snprintf(what, sizeof what, "no word belongs to --%s", known);
+    return wrong(what, NULL);
 }
 
 static enum request read_options(struct words *words, int count, char **all) {
@@ -222,9 +227,12 @@ enum request read_words(struct words *words, int count, char **all) {
     enum request request = read_options(words, count, all);
     if (request != GO_ON)
         return request;
-    words->is_info = optind < count && strcmp(all[optind], "info") == 0;
-    words->inputs = all + optind + words->is_info;
-    words->input_count = (size_t)(count - optind - words->is_info);
+    /* Without even a name, the place after it is past the end. */
+    int first = optind < count ? optind : count;
+    words->is_info = first < count && strcmp(all[first], "info") == 0;
+    first += words->is_info;
+    words->inputs = all + first;
+    words->input_count = (size_t)(count - first);
     if (words->jobs == 0) {
         long processors = sysconf(_SC_NPROCESSORS_ONLN);
         words->jobs = processors < 1 ? 1 : processors > MOST_JOBS ? MOST_JOBS : (unsigned)processors;

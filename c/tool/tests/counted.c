@@ -1,11 +1,14 @@
 /* Linked in between the command and the library (-Wl,--wrap): counts how often globals are decoded and embedded pages
  * read, and says so at the end. It stops the program where a call gets a null pointer in place of bytes, which the
- * library doesn't take. */
+ * library doesn't take, or a limit of work above that of the largest page. Where NO_WORDS is set, the program begins without any word, not even its name: older kernels let
+ * a caller do so. */
 #include "hayro_jbig2.h"
 
 #include <pthread.h>
 #include <stdio.h>
 #include <stdlib.h>
+
+#define MOST_WORK (UINT64_C(100) * 65535 * 65535)
 
 static pthread_mutex_t lock = PTHREAD_MUTEX_INITIALIZER;
 static unsigned long globals_count, pages_count;
@@ -27,7 +30,7 @@ uint32_t __wrap_hayro_jbig2_page_new(const hayro_jbig2_memory *memory, bool stri
 
 uint32_t __wrap_hayro_jbig2_globals_new_within(const hayro_jbig2_memory *memory, bool strict, uint64_t work,
                                                const uint8_t *bytes, size_t length, hayro_jbig2_globals **globals) {
-    if (bytes == NULL)
+    if (bytes == NULL || (work > MOST_WORK && work != HAYRO_JBIG2_NO_WORK_LIMIT))
         abort();
     add_one(&globals_count);
     return __real_hayro_jbig2_globals_new_within(memory, strict, work, bytes, length, globals);
@@ -39,6 +42,13 @@ uint32_t __wrap_hayro_jbig2_page_new(const hayro_jbig2_memory *memory, bool stri
         abort();
     add_one(&pages_count);
     return __real_hayro_jbig2_page_new(memory, strict, globals, stream, stream_length, page);
+}
+
+int __real_main(int count, char **all);
+int __wrap_main(int count, char **all);
+
+int __wrap_main(int count, char **all) {
+    return getenv("NO_WORDS") != NULL ? __real_main(0, all + count) : __real_main(count, all);
 }
 
 static void tell(void) { fprintf(stderr, "decoded globals: %lu, read pages: %lu\n", globals_count, pages_count); }

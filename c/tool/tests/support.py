@@ -43,12 +43,13 @@ class Ended:
     errors: str
 
 
-def run(*words, program: str = TOOL, **how) -> Ended:
-    """Runs the program."""
-    how = {"stdout": subprocess.PIPE, "stderr": subprocess.PIPE, "timeout": 120, **how}
+def run(*words, program: str = TOOL, seconds: int = 60, **how) -> Ended:
+    """Runs the program for at most this many seconds of the processor. On a busy computer many more may pass."""
+    how = {"stdout": subprocess.PIPE, "stderr": subprocess.PIPE, "timeout": 20 * seconds, **how}
     if "input" not in how:
         how.setdefault("stdin", subprocess.DEVNULL)
-    ended = subprocess.run([program, *map(str, words)], check=False, **how)
+    limited = ["sh", "-c", f'ulimit -t {seconds}; exec "$@"', "sh"]
+    ended = subprocess.run([*limited, program, *map(str, words)], check=False, **how)
     return Ended(ended.returncode, ended.stdout or b"", (ended.stderr or b"").decode(errors="replace"))
 
 

@@ -96,6 +96,11 @@ class Info(Case):
         what = "segment 11 (immediate lossless generic region): invalid adaptive template pixel location"
         self.assertEqual(table[row + 1].strip(), f"^ FAULT at byte {place}: {what}")
 
+    def test_a_fault_of_a_file_and_of_its_page_has_one_line_among_the_segments(self):
+        place = BOOK.index(bytes.fromhex("0000000b 27 00 02 00000023"))
+        table = self.run_here("info", self.made(BOOK[: place + 18])).output
+        self.assertEqual(table.count(b"^ FAULT at byte %d: " % place), 1)
+
     def test_a_file_that_is_refused_is_listed(self):
         place = BOOK.index(bytes.fromhex("0000000b 27 00 02 00000023"))
         scan = self.made(BOOK[: place + 5] + b"\xa0" + BOOK[place + 6 :])

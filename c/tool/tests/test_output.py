@@ -28,17 +28,19 @@ def slow_page(side: int) -> bytes:
 
 
 def shown_on_terminal(words: list[str], room: pathlib.Path) -> str:
-    """What a program that ends well shows on a terminal as its standard error."""
+    """What a program that ends well shows on a terminal as its standard error. It is read meanwhile: a terminal holds
+    little, and the program waits then."""
     leader, follower = pty.openpty()
-    subprocess.run(words, cwd=room, stderr=follower, check=True)
-    os.close(follower)
     shown = b""
-    try:
-        while piece := os.read(leader, 4096):
-            shown += piece
-    except OSError:
-        pass
+    with subprocess.Popen(words, cwd=room, stderr=follower) as process:
+        os.close(follower)
+        try:
+            while piece := os.read(leader, 4096):
+                shown += piece
+        except OSError:
+            pass
     os.close(leader)
+    assert process.returncode == WHOLE, process.returncode
     return shown.decode()
 
 
@@ -309,10 +311,13 @@ class Output(Case):
         self.assertEqual(shown_on_terminal([*words, "-q"], self.room), "")
 
     def test_the_stem_of_hidden_and_odd_names(self):
-        for name, stem in {".jb2": ".jb2", "a.b.jb2": "a.b", "plain": "plain"}.items():
+        for name, stem in {".jb2": ".jb2", "a.b.jb2": "a.b", "plain": "plain", "a\nb": "a\nb"}.items():
             self.made(BOOK, name)
             self.assert_ends(self.run_here(name, "-p", "1"), WHOLE)
             self.assertIn(f"{stem}-1.png", self.files())
+        (self.room / "new\nfolder").mkdir()
+        self.assert_ends(self.run_here("plain", "-p", "1", "-o", "new\nfolder"), WHOLE)
+        self.assertIn("new\nfolder/plain-1.png", self.files())
 
 
 if __name__ == "__main__":

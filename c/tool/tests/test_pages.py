@@ -30,6 +30,7 @@ from conformance.runner.manifest import PICTURE, read_manifest, read_sample
 from conformance.runner.segments import header_at, with_data
 from test_output import slow_page
 
+SECONDS = 40
 ENTRIES = read_manifest(SUITE / "manifest.tsv")
 FILES = sorted({entry.name for entry in ENTRIES if not entry.is_embedded})
 REFUSED = [entry for entry in ENTRIES if entry.lenient not in (PICTURE, "-") and not entry.is_embedded]
@@ -129,7 +130,7 @@ class Suite(Case):
             trials.append((data, [*words, "-", *([] if "info" in words else ["-f", "pbm"])]))
 
         def ended_of(trial):
-            return run(*trial[1], input=trial[0], program=SANITIZED, timeout=60)
+            return run(*trial[1], input=trial[0], program=SANITIZED)
 
         with concurrent.futures.ThreadPoolExecutor(2) as pool:
             for trial, ended in zip(trials, pool.map(ended_of, trials)):
@@ -189,7 +190,7 @@ class Faults(Case):
             for page in range(1, count + 1):
                 for kind, content in (48, size + b"\0\0\0"), (region, size + b"\0"), (49, b""):
                     data.append(struct.pack(">IBBII", len(data), 64 | kind, 0, page, len(content)) + content)
-            ended = self.run_here(self.made(b"".join(data)), "-f", "pbm", "-o", "-", timeout=15)
+            ended = self.run_here(self.made(b"".join(data)), "-f", "pbm", "-o", "-", seconds=SECONDS)
             self.assert_ends(ended, status, f"page {count}: ", f"segment {3 * count - 1} (")
 
     def test_salvage_draws_more(self):

@@ -196,6 +196,13 @@ class Pdf(Case):
         texts = ["scan.pdf: the PDF file is damaged: expected endstream"]
         self.assertEqual(self.pages_of("scan.pdf", status=INCOMPLETE, texts=texts), self.meant)
 
+    def test_no_text_of_a_pdf_file_adds_a_line(self):
+        """libqpdf names the key that is there twice."""
+        words = "/Filter /JBIG2Decode /A#0ascan.pdf:#20whole 1 /A#0ascan.pdf:#20whole 2"
+        self.made(one_image("", self.images[2].stream, b"", words), "scan.pdf")
+        ended = self.run_here("scan.pdf", "-f", "pbm", "-o", "-", "--quiet")
+        self.assertRegex(ended.errors, r"^scan\.pdf: the PDF file is damaged: .*/A\?scan\.pdf: whole;.*\n")
+
     def test_a_page_without_an_image(self):
         data = pdf_of(self.images[:2])
         second = max(map(int, re.findall(rb"/Image (\d+) 0 R", data)))

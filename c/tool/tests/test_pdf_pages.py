@@ -1,12 +1,15 @@
 """The tree of pages of PDF files: what pages inherit, odd trees, and small files that ask for much."""
 from __future__ import annotations
 
+import dataclasses
 import json
 import random
 import struct
+import subprocess
 import unittest
 
-from support import BOOK, COUNTED, HAS_PDF, HAS_TIFF, INCOMPLETE, NOT_DONE, OVER_LIMIT, SANITIZED, WHOLE, Case, counted
+from support import BOOK, COUNTED, HAS_PDF, HAS_TIFF, INCOMPLETE, NOT_DONE, OVER_LIMIT, SANITIZED, TOOL, WHOLE, Case
+from support import counted
 
 from conformance.runner.embedding import embedded_page, image_of
 from conformance.runner.pdf import Image, joined, pdf_of, stream_object
@@ -29,7 +32,7 @@ class PdfPages(Case):
     def listed(self, data: bytes, status: int = WHOLE) -> list[tuple[int, str]]:
         """The page and the object of each image."""
         self.made(data, "scan.pdf")
-        ended = self.run_here("info", "--json", "scan.pdf", timeout=SECONDS)
+        ended = self.run_here("info", "--json", "scan.pdf", seconds=SECONDS)
         self.assertEqual(ended.status, status, ended.errors)
         [document] = json.loads(ended.output)
         self.pages = document["pdf_pages"]
@@ -91,7 +94,7 @@ class PdfPages(Case):
 
     def assert_soon(self, data: bytes) -> None:
         self.made(data, "scan.pdf")
-        ended = self.run_here("scan.pdf", timeout=SECONDS)
+        ended = self.run_here("scan.pdf", seconds=SECONDS)
         self.assert_ends(ended, NOT_DONE, "scan.pdf: the PDF file has no JBIG2 image")
 
     def test_small_files_that_ask_for_much(self):
@@ -114,6 +117,27 @@ class PdfPages(Case):
             *["<< /Type /Page /Parent 2 0 R /Annots 3 0 R >>"] * count,
         ], images=0))
 
+    def test_images_that_lie_within_each_other(self):
+        """The data of each are all that follow, and one at a time is in memory, also where other filters come first."""
+        count, first = 3000, 4
+        names = " ".join(f"/{number} {number} 0 R" for number in range(first, first + count))
+        words = "/Subtype /Image /Width 8 /Height 8 /Filter [/ASCIIHexDecode /JBIG2Decode]"
+        head = f"%d 0 obj\n<< {words} /Length %010d >>\nstream\n"
+        size = len(head % (first, 0))
+        out = bytearray(joined([
+            b"<< /Type /Catalog /Pages 2 0 R >>",
+            b"<< /Type /Pages /Count 1 /Kids [3 0 R] >>",
+            f"<< /Type /Page /Parent 2 0 R /Resources << /XObject << {names} >> >> >>".encode(),
+        ]).split(b"xref")[0])
+        for number in range(first, first + count):
+            out += f"{head % (number, (first + count - 1 - number) * size):{size}}".encode()
+        out += b"\nendstream endobj\ntrailer << /Root 1 0 R >>\n%%EOF\n"
+        self.made(out, "scan.pdf")
+        limited = ["sh", "-c", 'ulimit -v 300000; exec "$@"', "sh", TOOL, "scan.pdf", "-j", "1", "-f", "pbm", "-o", "-"]
+        ended = subprocess.run(limited, capture_output=True, check=False, cwd=self.room, timeout=20 * SECONDS)
+        self.assertEqual(ended.returncode, NOT_DONE, ended.stderr[-300:])
+        self.assertIn(b"scan.pdf: page 1: image %d: can't be read: " % count, ended.stderr)
+
     def test_many_images_whose_globals_have_many_segments(self):
         """What is wrong with globals is found once. The last segment, of no type, is."""
         count, segments = 20000, 500000
@@ -130,7 +154,7 @@ class PdfPages(Case):
             stream_object("", shared + header.pack(segments, 63, 0, 0, 0)),
             *[image] * count,
         ]), "scan.pdf")
-        ended = self.run_here("scan.pdf", "--quiet", "-f", "pbm", "-o", "-", timeout=SECONDS)
+        ended = self.run_here("scan.pdf", "--quiet", "-f", "pbm", "-o", "-", seconds=SECONDS)
         self.assert_ends(ended, INCOMPLETE, f"image {count}: incomplete: globals: segment {segments} (unknown type)")
 
     def test_empty_streams(self):
@@ -192,6 +216,13 @@ class Globals(Case):
             self.assertEqual(counted("-g", shared, *pages, "-j", jobs, "-o", f"word-{jobs}/", cwd=self.room), (1, 200))
         written = {path.read_bytes() for path in self.room.rglob("*.png")}
         self.assertEqual((len(written), len(list(self.room.rglob("*.png")))), (1, 1200))
+
+    def test_no_number_of_images_lifts_the_limit_of_globals_above_that_of_the_largest_page(self):
+        """A PDF file states sizes that no page has to have. COUNTED stops there."""
+        data = pdf_of([dataclasses.replace(PAGE, width=65535, height=65535)] * 3)
+        for words in ["-p", "1"], []:
+            ended = self.run_here(self.made(data, "scan.pdf"), *words, "-q", "-f", "pbm", "-o", "-", program=COUNTED)
+            self.assertEqual(ended.status, WHOLE, ended.errors)
 
     def test_the_limit_of_shared_globals_is_that_of_the_first_page_for_each_file(self):
         """So it doesn't depend on which page is drawn first."""

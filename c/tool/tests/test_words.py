@@ -1,10 +1,11 @@
 """The words of the command line, help, versions, and what an input is."""
 from __future__ import annotations
 
+import os
 import re
 import unittest
 
-from support import BARE, BOOK, EXAMPLE, NOT_DONE, ROOT, WHOLE, WRONG_WORDS, Case, run
+from support import BARE, BOOK, COUNTED, EXAMPLE, INCOMPLETE, NOT_DONE, ROOT, WHOLE, WRONG_WORDS, Case, run
 
 VERSION = re.search(r'HAYRO_JBIG2_VERSION "(.*)"', (ROOT / "c" / "hayro_jbig2.h").read_text())[1]
 LONG_OPTIONS = """output format force pages strict salvage globals password work memory jobs json quiet help
@@ -58,6 +59,23 @@ class Words(Case):
     def test_an_option_that_is_not_there_is_named(self):
         for words, name in {("-zq", EXAMPLE): "-z", (EXAMPLE, "-qz"): "-z", (EXAMPLE, "--zq"): "--zq"}.items():
             self.assert_ends(self.run_here(*words), WRONG_WORDS, f"there is no option {name};")
+
+    def test_an_option_that_takes_no_word_is_named(self):
+        for words, name in {("--force=x", EXAMPLE): "--force", (EXAMPLE, "--quiet=1"): "--quiet"}.items():
+            self.assert_ends(self.run_here(*words), WRONG_WORDS, f"no word belongs to {name};")
+
+    def test_not_even_a_name(self):
+        ended = self.run_here(program=COUNTED, env={**os.environ, "NO_WORDS": "1"})
+        self.assert_ends(ended, WRONG_WORDS, "name a file;")
+
+    def test_a_message_has_one_line(self):
+        """A file's name can't add a line that the program never said."""
+        name = "a\nscan.jb2: whole.jb2"
+        self.made(BOOK[:600], name)
+        ended = self.run_here(name, "-f", "pbm", "-o", "-")
+        self.assertEqual(ended.status, INCOMPLETE, ended.errors)
+        self.assertTrue(all(line.startswith("a?scan.jb2: whole.jb2: ") for line in ended.errors.splitlines()), ended.errors)
+        self.assert_ends(self.run_here("gone\nscan.jb2"), NOT_DONE, "gone?scan.jb2: can't be read")
 
     def test_pages(self):
         for pages, numbers in {"1-3,7": [1, 2, 3], "2": [2], "2-": [2, 3], "3,1": [1, 3], "1,1-2": [1, 2]}.items():
