@@ -5,7 +5,7 @@
  *
  * conformance/peers/pdfjs has to fetch pdf.js first. Times are milliseconds of the processor, the best of N runs (5), of the
  * first page of a sequential file. Both get the stream that a PDF file has, and pdf.js's rows are not widened. So `RGBA` is
- * our rows with their pixels of four bytes beside pdf.js's rows alone.
+ * our rows with their pixels of four bytes beside pdf.js's rows alone, in a new array and in one that is used again.
  */
 import { readFileSync } from "node:fs";
 import { basename } from "node:path";
@@ -48,22 +48,28 @@ function rowsOfTheirs(bytes) {
   }
 }
 
-const worst = { packed: 0, rgba: 0 };
-console.log("| Page | pdf.js | ours, packed | of pdf.js | ours, RGBA | of pdf.js |\n|---|---|---|---|---|---|");
+const worst = { packed: 0, rgba: 0, again: 0 };
+console.log("| Page | pdf.js | ours, packed | of pdf.js | ours, RGBA | of pdf.js | used again | of pdf.js |\n|---|---|---|---|---|---|---|---|");
 for (const file of words) {
   const bytes = new Uint8Array(readFileSync(file));
   const stream = bytes.subarray(HEADER);
+  const decode = () => ours.decode(stream, { workLimit: Infinity });
+  const given = decode().toRgba();
   const [best, made] = measured({
     theirs: () => rowsOfTheirs(bytes),
-    packed: () => ours.decode(stream, { workLimit: Infinity }).rows,
-    rgba: () => ours.decode(stream, { workLimit: Infinity }).toRgba(),
+    packed: () => decode().rows,
+    rgba: () => decode().toRgba(),
+    again: () => decode().toRgba(given),
   });
   const isSame = made.theirs && Buffer.from(made.theirs.buffer).equals(made.packed);
   const note = isSame ? "" : made.theirs ? " (pdf.js draws another page)" : " (pdf.js refuses it)";
-  const ratios = ["packed", "rgba"].map((name) => best[name] / best.theirs);
-  if (isSame) [worst.packed, worst.rgba] = [Math.max(worst.packed, ratios[0]), Math.max(worst.rgba, ratios[1])];
-  const times = [best.theirs, best.packed, best.rgba].map((time) => time.toFixed(1));
-  const cells = [times[0], times[1], ratios[0].toFixed(2), times[2], ratios[1].toFixed(2)];
+  const cells = [best.theirs.toFixed(1)];
+  for (const name of Object.keys(worst)) {
+    const ratio = best[name] / best.theirs;
+    if (isSame) worst[name] = Math.max(worst[name], ratio);
+    cells.push(best[name].toFixed(1), ratio.toFixed(2));
+  }
   console.log(`| ${basename(file)}${note} | ${cells.join(" | ")} |`);
 }
-console.log(`\nThe largest ratio where the rows are the same: packed ${worst.packed.toFixed(2)}, RGBA ${worst.rgba.toFixed(2)}`);
+const largest = Object.entries(worst).map(([name, ratio]) => `${name} ${ratio.toFixed(2)}`);
+console.log(`\nThe largest ratios where the rows are the same: ${largest.join(", ")}`);

@@ -1,6 +1,6 @@
 /** A page as packed rows, and as the other forms that they can be had in. */
 
-import { Jbig2Error, OUT_OF_MEMORY } from "./jbig2_error.js";
+import { orOutOfMemory } from "./jbig2_error.js";
 
 // Opaque black, as the bytes of ImageData make up a number of 32 bits. White is -1, all bits set.
 const BLACK = 0xff000000 | 0;
@@ -29,14 +29,15 @@ function unpack({ width, height, rows }, black, pixels) {
   }
 }
 
-/** Makes the array of a page's pixels. A page can be too large for one. */
-function whitePixels(Pixels, length) {
-  try {
-    return new Pixels(length).fill(255);
-  } catch (error) {
-    if (error instanceof RangeError) throw new Jbig2Error(OUT_OF_MEMORY);
-    throw error;
-  }
+/** The array of a page's pixels, all white: `given`, or a new one. */
+const whitePixels = (Pixels, length, given) => orOutOfMemory(() => arrayOf(Pixels, length, given).fill(255));
+
+/** `given`, if it is such an array of this length, or a new one where there is none. */
+function arrayOf(Pixels, length, given) {
+  if (given === null) return new Pixels(length);
+  const isSuch = Object.prototype.toString.call(given) === `[object ${Pixels.name}]`;
+  if (isSuch && given.length === length) return given;
+  throw new TypeError(`the array of the pixels has to be a ${Pixels.name} of ${length} bytes`);
 }
 
 export class DecodedPage {
@@ -61,16 +62,17 @@ export class DecodedPage {
     return (this.#data ??= this.toRgba());
   }
 
-  /** The pixels as ImageData has them, made anew. */
-  toRgba() {
-    const data = whitePixels(Uint8ClampedArray, 4 * this.width * this.height);
-    unpack(this, BLACK, new Int32Array(data.buffer));
+  /** The pixels as ImageData has them, in `given`, which is an array of their size, or in a new one. */
+  toRgba(given = null) {
+    const size = this.width * this.height;
+    const data = whitePixels(Uint8ClampedArray, 4 * size, given);
+    unpack(this, BLACK, new Int32Array(data.buffer, data.byteOffset, size));
     return data;
   }
 
-  /** A byte for each pixel, made anew: 0 is black, 255 is white. */
-  toGray() {
-    const pixels = whitePixels(Uint8Array, this.width * this.height);
+  /** A byte for each pixel, 0 is black, 255 is white: in `given`, which is an array of their size, or in a new one. */
+  toGray(given = null) {
+    const pixels = whitePixels(Uint8Array, this.width * this.height, given);
     unpack(this, 0, pixels);
     return pixels;
   }

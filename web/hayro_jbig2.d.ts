@@ -58,10 +58,10 @@ export class DecodedPage {
   readonly leftOut: LeftOut;
   /** The pixels as ImageData has them, made when they are asked for first. */
   readonly data: Uint8ClampedArray;
-  /** The pixels as ImageData has them, made anew. */
-  toRgba(): Uint8ClampedArray;
-  /** A byte for each pixel, made anew: 0 is black, 255 is white. */
-  toGray(): Uint8Array;
+  /** The pixels as ImageData has them: in `given`, which is an array of their size, or in a new one. */
+  toRgba(given?: Uint8ClampedArray | null): Uint8ClampedArray;
+  /** A byte for each pixel, 0 is black, 255 is white: in `given`, which is an array of their size, or in a new one. */
+  toGray(given?: Uint8Array | null): Uint8Array;
 }
 
 export interface WorkOptions {
@@ -89,6 +89,32 @@ export interface DecodeOptions extends ReadingOptions {
 /** Whether bytes begin as a JBIG2 file does. Other bytes are those of an embedded page, as PDF has them. */
 export function isFile(source: Bytes): boolean;
 
+/** A file that `Decoder.open` has read, until it is closed. */
+export class OpenFile {
+  private constructor();
+  /** How many pages the file has. */
+  readonly pageCount: number;
+  /**
+   * Decodes a page by its index from 0.
+   * @throws {WorkLimitReached | Jbig2Error | TypeError}
+   */
+  decode(page: number): DecodedPage;
+  /** Frees what the file holds. A file may be closed again. */
+  close(): void;
+}
+
+/** Globals that `Decoder.openGlobals` has read, until they are closed. */
+export class OpenGlobals {
+  private constructor();
+  /**
+   * Decodes an embedded page.
+   * @throws {WorkLimitReached | Jbig2Error | TypeError}
+   */
+  decode(bytes: Bytes): DecodedPage;
+  /** Frees what they hold. They may be closed again. */
+  close(): void;
+}
+
 /** A loaded decoder. One page is decoded at a time; several may be loaded, in workers of their own. */
 export class Decoder {
   private constructor();
@@ -98,8 +124,20 @@ export class Decoder {
    * @param most the most bytes of memory that decoding may take
    */
   static load(source?: ModuleSource | Promise<ModuleSource>, most?: number): Promise<Decoder>;
-  /** How many bytes of the module's memory are in use: none between two calls. */
+  /** How many bytes of the module's memory are in use: none between two calls, but for what is open. */
   readonly held: number;
+  /** Whether a call didn't return, as where the module's stack is used up. Only another decoder goes on then. */
+  readonly isBroken: boolean;
+  /**
+   * Reads a file once, for several of its pages. It takes memory until it is closed.
+   * @throws {WorkLimitReached | Jbig2Error | TypeError}
+   */
+  open(bytes: Bytes, options?: ReadingOptions): OpenFile;
+  /**
+   * Reads globals once, for several embedded pages. They take memory until they are closed.
+   * @throws {WorkLimitReached | Jbig2Error | TypeError}
+   */
+  openGlobals(bytes: Bytes, options?: ReadingOptions): OpenGlobals;
   /** How many pages a file has. */
   pageCount(bytes: Bytes, options?: ReadingOptions): number;
   /**

@@ -8,9 +8,10 @@
 import { bytesOf } from "./bytes.js";
 import { DecodedPage } from "./decoded_page.js";
 import { Heap } from "./heap.js";
-import { Jbig2Error, OUT_OF_MEMORY, WORK_LIMIT, WorkLimitReached } from "./jbig2_error.js";
+import { Jbig2Error, OUT_OF_MEMORY, WORK_LIMIT, WorkLimitReached, orOutOfMemory } from "./jbig2_error.js";
+import { OpenFile, OpenGlobals } from "./opened.js";
 
-export { DecodedPage, Jbig2Error, WorkLimitReached };
+export { DecodedPage, Jbig2Error, OpenFile, OpenGlobals, WorkLimitReached };
 
 const UNEXPECTED_END = 1;
 const INVALID_HEADER = 2;
@@ -60,6 +61,10 @@ const passedOver = ([count, segment, error]) => ({
 /** What was left out of both, for a page and its globals. */
 const joined = (one, other) => ({ ...one, passedOver: other.passedOver, cutOff: one.cutOff ?? other.cutOff });
 
+function checkIndex(page) {
+  if (!Number.isSafeInteger(page)) throw new TypeError("the page's index has to be a whole number");
+}
+
 /** A limit of work is a whole number or Infinity, or null for the usual one. */
 function checkLimit(limit) {
   const isLimit = limit === null || limit === Infinity || (Number.isSafeInteger(limit) && limit >= 0);
@@ -101,28 +106,72 @@ export class Decoder {
     if (!(typeof most === "number" && most >= 0)) throw new TypeError("the most bytes of memory have to be a number");
     const decoder = new Decoder();
     const heap = (decoder.#heap = new Heap(most));
-    const imports = {
-      heap: {
-        jbig2_c_take: (answer, _memory, size, align) => heap.answer(Number(answer), Number(size), Number(align)),
-        jbig2_c_give_back: (_memory, block, size) => heap.give(Number(block), Number(size)),
-      },
-    };
-    const { exports } = await instanceOf(await source, imports);
+    const { exports } = await instanceOf(await source, heap.imports);
     decoder.#exports = exports;
     heap.begin(exports.memory);
     return decoder;
   }
 
-  /** How many bytes of its memory are in use: none between two calls. */
+  /** How many bytes of its memory are in use: none between two calls, but for what is open. */
   get held() {
     return this.#heap.held;
   }
 
+  /** Whether a call didn't return, as where the module's stack is used up. Only another decoder goes on then. */
+  get isBroken() {
+    return this.#isBroken;
+  }
+
   /** How many pages a file has. What they share is decoded, within the limit of work. */
-  pageCount(bytes, { strict = false, salvage = false, workLimit = null } = {}) {
+  pageCount(bytes, options) {
+    const file = this.open(bytes, options);
+    try {
+      return file.pageCount;
+    } finally {
+      file.close();
+    }
+  }
+
+  /**
+   * Reads a file once, for several of its pages: `decode` reads all of it for each. What its pages share is decoded now,
+   * within the limit of work, and the limit holds for each page too. It takes memory until it is closed.
+   * @returns {OpenFile}
+   * @throws {WorkLimitReached | Jbig2Error}
+   */
+  open(bytes, { strict = false, salvage = false, workLimit = null } = {}) {
     checkLimit(workLimit);
-    const count = (file) => Number(this.#exports.hayro_jbig2_file_page_count(file));
-    return this.#with([dataOf(bytes)], 0, ([stream]) => this.#file(stream, { strict, salvage, workLimit }, count));
+    const reading = { strict, salvage, workLimit };
+    const { inputs, giveBack } = this.#taken([dataOf(bytes)], 0);
+    try {
+      const file = this.#newShared("file", inputs[0], reading);
+      const draw = (page) => (checkIndex(page), this.#drawn("file", file, [BigInt(page)], reading));
+      const opened = new OpenFile(draw, this.#closing(file, giveBack));
+      opened.pageCount = Number(this.#run("hayro_jbig2_file_page_count", file));
+      return opened;
+    } catch (error) {
+      giveBack();
+      throw error;
+    }
+  }
+
+  /**
+   * Reads globals once, for several embedded pages, within the limit of work, which holds for each page too. They take
+   * memory until they are closed.
+   * @returns {OpenGlobals}
+   * @throws {WorkLimitReached | Jbig2Error}
+   */
+  openGlobals(bytes, { strict = false, salvage = false, workLimit = null } = {}) {
+    checkLimit(workLimit);
+    const reading = { strict, salvage, workLimit };
+    const globals = this.#with([dataOf(bytes)], 0, ([stream]) => this.#newGlobals(stream, reading));
+    const draw = (bytes) => this.#with([dataOf(bytes)], 0, ([stream]) => this.#drawnPage(stream, globals, reading));
+    return new OpenGlobals(draw, this.#closing(globals, () => {}));
+  }
+
+  /** Lets a handle stay, and returns what frees it. */
+  #closing(handle, giveBack) {
+    this.#heap.stay();
+    return () => (this.#release(handle), giveBack());
   }
 
   /**
@@ -143,7 +192,7 @@ export class Decoder {
    * @throws {WorkLimitReached | Jbig2Error}
    */
   decode(bytes, { globals = null, page = 0, strict = false, salvage = false, workLimit = null } = {}) {
-    if (!Number.isSafeInteger(page)) throw new TypeError("the page's index has to be a whole number");
+    checkIndex(page);
     checkLimit(workLimit);
     const reading = { strict, salvage, workLimit };
     const inputs = (globals === null ? [bytes] : [bytes, globals]).map(dataOf);
@@ -151,53 +200,46 @@ export class Decoder {
     if (isEmbedded && page !== 0) throw new Jbig2Error(NO_SUCH_PAGE);
     return this.#with(inputs, 0, ([stream, shared]) => {
       if (!isEmbedded) {
-        return this.#file(stream, reading, (file) => this.#drawn("file", file, [BigInt(page)], reading));
+        const file = this.#newShared("file", stream, reading);
+        return this.#held(file, (file) => this.#drawn("file", file, [BigInt(page)], reading));
       }
-      if (globals === null) return this.#page(stream, [], reading, (page) => this.#drawn("page", page, [], reading));
-      return this.#globals(shared, reading, (shared) =>
-        this.#page(stream, [shared], reading, (page) => {
-          const drawn = this.#drawn("page", page, [], reading);
-          drawn.leftOut = joined(drawn.leftOut, this.#leftOut("globals", shared));
-          return drawn;
-        }),
-      );
+      if (globals === null) return this.#drawnPage(stream, null, reading);
+      return this.#held(this.#newGlobals(shared, reading), (globals) => this.#drawnPage(stream, globals, reading));
     });
   }
 
-  /** A handle of a file, of globals or of an embedded page, for the work. */
-  #file(stream, reading, work) {
-    return this.#shared("file", stream, reading, work);
-  }
-
-  #globals(stream, reading, work) {
-    return this.#withoutLineEnd("globals", stream, work, (bytes, work) => this.#shared("globals", bytes, reading, work));
-  }
-
-  #shared(kind, stream, { strict, salvage, workLimit }, work) {
+  /** A handle of a file, or of globals as they stand. */
+  #newShared(kind, stream, { strict, salvage, workLimit }) {
     const limit = workLimit ?? SHARED_WORK;
     const words = [wordOf(limit), ...stream];
     const name = `hayro_jbig2_${kind}_new`;
-    if (salvage) return this.#held(work, limit, `${name}_salvaged`, ...words);
-    return this.#held(work, limit, `${name}_within`, strict ? 1 : 0, ...words);
+    return salvage ? this.#made(limit, `${name}_salvaged`, ...words) : this.#made(limit, `${name}_within`, strict ? 1 : 0, ...words);
   }
 
-  #page(stream, globals, { strict, salvage }, work) {
-    const how = globals.length ? "with" : "alone";
-    const [call, words] = salvage ? ["salvaged", []] : ["page", [strict ? 1 : 0]];
-    return this.#withoutLineEnd("page", stream, work, (bytes, work) =>
-      this.#held(work, Infinity, `jbig2_c_${call}_${how}`, ...words, ...globals, ...bytes),
-    );
+  #newGlobals(stream, reading) {
+    return this.#withoutLineEnd("globals", stream, (bytes) => this.#newShared("globals", bytes, reading));
+  }
+
+  #newPage(stream, globals, { strict, salvage }) {
+    const name = `jbig2_c_${salvage ? "salvaged" : "page"}_${globals === null ? "alone" : "with"}`;
+    const words = [...(salvage ? [] : [strict ? 1 : 0]), ...(globals === null ? [] : [globals])];
+    return this.#withoutLineEnd("page", stream, (bytes) => this.#made(Infinity, name, ...words, ...bytes));
   }
 
   /**
-   * Reads a stream. PDF files may count in the end of a line after the last segment; the module takes it for a segment
+   * A handle of a stream. PDF files may count in the end of a line after the last segment; the module takes it for a segment
    * that is cut off within its number.
    */
-  #withoutLineEnd(kind, [place, length], work, read) {
+  #withoutLineEnd(kind, [place, length], make) {
     for (let end = length; ; end--) {
-      const isWhole = (handle) => length - end === 2n || !this.#endsALine(kind, handle, place + end);
-      const done = read([place, end], (handle) => isWhole(handle) && { result: work(handle) });
-      if (done) return done.result;
+      const handle = make([place, end]);
+      let isWhole = false;
+      try {
+        isWhole = length - end === 2n || !this.#endsALine(kind, handle, place + end);
+        if (isWhole) return handle;
+      } finally {
+        if (!isWhole) this.#release(handle);
+      }
     }
   }
 
@@ -205,6 +247,15 @@ export class Decoder {
     const { cutOff } = this.#leftOut(kind, handle);
     const isInNumber = cutOff?.segment === null && cutOff.error.number === UNEXPECTED_END;
     return isInNumber && ENDS_OF_LINE.includes(this.#view().getUint8(Number(end) - 1));
+  }
+
+  /** Draws an embedded page over globals, if it has some, and returns what `decode` does. */
+  #drawnPage(stream, globals, reading) {
+    return this.#held(this.#newPage(stream, globals, reading), (page) => {
+      const drawn = this.#drawn("page", page, [], reading);
+      if (globals !== null) drawn.leftOut = joined(drawn.leftOut, this.#leftOut("globals", globals));
+      return drawn;
+    });
   }
 
   /** Draws a page of a handle, and returns what `decode` does. */
@@ -219,7 +270,7 @@ export class Decoder {
         leftOut: this.#leftOut(kind, handle),
       });
     };
-    return this.#held(draw, Infinity, "hayro_jbig2_context_new");
+    return this.#held(this.#made(Infinity, "hayro_jbig2_context_new"), draw);
   }
 
   /** What was left out of what a handle holds. */
@@ -239,7 +290,7 @@ export class Decoder {
     const size = Math.ceil(width / 8) * height;
     return this.#with([], size, (_, place) => {
       this.#call(Infinity, "hayro_jbig2_context_rows", context, 0n, place, BigInt(size));
-      return new Uint8Array(this.#exports.memory.buffer).slice(Number(place), Number(place) + size);
+      return orOutOfMemory(() => new Uint8Array(this.#exports.memory.buffer).slice(Number(place), Number(place) + size));
     });
   }
 
@@ -247,18 +298,24 @@ export class Decoder {
     return new DataView(this.#exports.memory.buffer);
   }
 
-  /**
-   * Makes a call, of at most `limit` units of work. After one that doesn't return, the module's stack and memory are
-   * not as they were.
-   */
-  #call(limit, name, ...words) {
-    let answer;
+  /** Calls the module. After a call that doesn't return, its stack and its memory are not as they were. */
+  #run(name, ...words) {
+    this.#check();
     try {
-      answer = this.#exports[name](...words);
+      return this.#exports[name](...words);
     } catch (error) {
       this.#isBroken = true;
       throw error;
     }
+  }
+
+  #check() {
+    if (this.#isBroken) throw new Error("an earlier call was broken off: load another decoder");
+  }
+
+  /** Makes a call of at most `limit` units of work. */
+  #call(limit, name, ...words) {
+    const answer = this.#run(name, ...words);
     if (answer === WORK_LIMIT) throw new WorkLimitReached(limit);
     if (answer !== 0) throw new Jbig2Error(answer);
   }
@@ -276,24 +333,33 @@ export class Decoder {
     });
   }
 
-  /** Makes a handle by a call of at most `limit` units, and frees it after the work. */
-  #held(work, limit, name, ...words) {
+  /** A handle that a call of at most `limit` units makes. It is to be released. */
+  #made(limit, name, ...words) {
     return this.#with([], 8, (_, place) => {
       this.#view().setBigUint64(Number(place), 0n, true);
       this.#call(limit, name, MEMORY, ...words, place);
-      const handle = this.#view().getBigUint64(Number(place), true);
-      try {
-        return work(handle);
-      } finally {
-        if (!this.#isBroken) this.#exports.jbig2_c_release(handle);
-      }
+      return this.#view().getBigUint64(Number(place), true);
     });
   }
 
-  /** Copies inputs into the module's memory, takes `room` bytes more, and gives all back after the work. */
-  #with(inputs, room, work) {
-    if (this.#isBroken) throw new Error("an earlier call was broken off: load another decoder");
+  #release(handle) {
+    if (!this.#isBroken) this.#run("jbig2_c_release", handle);
+  }
+
+  /** Does work with a handle, and frees it. */
+  #held(handle, work) {
+    try {
+      return work(handle);
+    } finally {
+      this.#release(handle);
+    }
+  }
+
+  /** Copies inputs into the module's memory, and takes `room` bytes more. `giveBack` gives all of it back. */
+  #taken(inputs, room) {
+    this.#check();
     const blocks = [];
+    const giveBack = () => blocks.forEach(([block, size]) => this.#heap.give(block, size));
     const take = (size) => {
       const block = this.#heap.take(size);
       if (!block) throw new Jbig2Error(OUT_OF_MEMORY);
@@ -306,9 +372,20 @@ export class Decoder {
         new Uint8Array(this.#exports.memory.buffer).set(bytes, block);
         return [BigInt(block), BigInt(bytes.length)];
       });
-      return work(copied, BigInt(take(room)));
+      return { inputs: copied, place: BigInt(take(room)), giveBack };
+    } catch (error) {
+      giveBack();
+      throw error;
+    }
+  }
+
+  /** Does work with inputs and room in the module's memory. */
+  #with(inputs, room, work) {
+    const taken = this.#taken(inputs, room);
+    try {
+      return work(taken.inputs, taken.place);
     } finally {
-      for (const [block, size] of blocks) this.#heap.give(block, size);
+      taken.giveBack();
     }
   }
 }

@@ -24,3 +24,13 @@ export class WorkLimitReached extends Jbig2Error {
     this.error = "WORK_LIMIT_REACHED";
   }
 }
+
+/** What a call makes, which can be too large for an array. */
+export function orOutOfMemory(make) {
+  try {
+    return make();
+  } catch (error) {
+    if (error instanceof RangeError) throw new Jbig2Error(OUT_OF_MEMORY);
+    throw error;
+  }
+}

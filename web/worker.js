@@ -1,12 +1,13 @@
 /** Decodes the pages of one file after the other, apart from the page that shows them. */
 import { Decoder, isFile } from "./hayro_jbig2.js";
 import { Pdf, isPdf } from "./pdf.js";
+import { SharedGlobals } from "./shared_globals.js";
 
 let decoder;
 
 /** An image of a PDF file: its name, and how to decode it. */
-function imageOf(pdf, number, options) {
-  const decode = ({ bytes, globals }) => decoder.decode(bytes, { globals, ...options });
+function imageOf(pdf, number, shared) {
+  const decode = ({ bytes, globals }) => shared.decode(bytes, globals);
   return { name: `object ${number}`, decode: () => pdf.streams(number).then(decode) };
 }
 
@@ -24,16 +25,17 @@ function withHint(decode) {
 async function contentsOf(bytes, options) {
   if (isPdf(bytes)) {
     const pdf = await Pdf.open(bytes);
-    return { kind: "image", pages: pdf.images().map((number) => imageOf(pdf, number, options)), faults: pdf.faults };
+    const shared = new SharedGlobals(decoder, options);
+    const pages = pdf.images().map((number) => imageOf(pdf, number, shared));
+    return { kind: "image", pages, faults: pdf.faults, close: () => shared.close() };
   }
   if (!isFile(bytes)) {
     const decode = () => withHint(() => decoder.decode(bytes, options));
     return { kind: "embedded page", pages: [{ decode }], faults: [] };
   }
-  const count = decoder.pageCount(bytes, options);
-  const decode = (index) => decoder.decode(bytes, { page: index, ...options });
-  const pages = Array.from({ length: count }, (_, index) => ({ decode: () => decode(index) }));
-  return { kind: "page", pages, faults: [] };
+  const file = decoder.open(bytes, options);
+  const pages = Array.from({ length: file.pageCount }, (_, index) => ({ decode: () => file.decode(index) }));
+  return { kind: "page", pages, faults: [], close: () => file.close() };
 }
 
 const described = (error) => (error.error ? `${error.error}: ${error.message}` : String(error.message ?? error));
@@ -82,31 +84,57 @@ async function show(label, decode) {
   }
 }
 
-async function showFile({ bytes, salvage, isLimited }) {
-  try {
-    const { kind, pages, faults } = await contentsOf(bytes, { salvage, workLimit: isLimited ? null : Infinity });
-    const count = pages.length;
-    const shown = [];
-    for (const [index, { name, decode }] of pages.entries()) {
-      const number = index + 1;
-      const label = { number, count, name: `${kind} ${number} of ${count}${name ? `, ${name}` : ""}` };
-      postMessage({ begins: label });
-      const page = await show(label, decode);
-      if (page) shown.push(page);
+/** Shows the pages of a file, in their order. After a call that didn't return no other page can be decoded. */
+async function showPages(kind, pages) {
+  const count = pages.length;
+  const shown = [];
+  for (const [index, { name, decode }] of pages.entries()) {
+    const number = index + 1;
+    const label = { number, count, name: `${kind} ${number} of ${count}${name ? `, ${name}` : ""}` };
+    postMessage({ begins: label });
+    const page = await show(label, decode);
+    if (page) shown.push(page);
+    if (decoder.isBroken && number < count) {
+      postMessage({ error: `left out of this file: ${counted(count - number, kind)} after it, since the decoder stopped` });
     }
+    if (decoder.isBroken) break;
+  }
+  return shown;
+}
+
+async function showFile({ bytes, salvage, isLimited }) {
+  let close;
+  try {
+    if (decoder.isBroken) decoder = await loaded();
+    const contents = await contentsOf(bytes, { salvage, workLimit: isLimited ? null : Infinity });
+    const { kind, pages, faults } = contents;
+    close = contents.close;
+    const shown = await showPages(kind, pages);
     const lacks = kind === "page" ? lackingOfFile(shown) : [];
     for (const fault of [...faults, ...lacks]) postMessage({ error: `left out of this file: ${fault}` });
-    if (count === 0) postMessage({ error: "no JBIG2 page in this file" });
+    if (pages.length === 0) postMessage({ error: "no JBIG2 page in this file" });
   } catch (error) {
     postMessage({ error: described(error) });
   }
+  end(close);
   postMessage({ isDone: true });
 }
+
+/** Closes a file. Its pages are shown whether or not that succeeds. */
+function end(close) {
+  try {
+    close?.();
+  } catch (error) {
+    console.error(error);
+  }
+}
+
+const loaded = () => Decoder.load(fetch(new URL("hayro_jbig2.wasm", import.meta.url)));
 
 // The page that shows them sends a file when the one before is done.
 onmessage = ({ data }) => showFile(data);
 try {
-  decoder = await Decoder.load(fetch(new URL("hayro_jbig2.wasm", import.meta.url)));
+  decoder = await loaded();
   postMessage({ isReady: true });
 } catch (error) {
   postMessage({ error: described(error) });

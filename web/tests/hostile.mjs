@@ -11,6 +11,7 @@ import { GROWING, SMALL } from "./hostile_files.mjs";
 const SIZES = [250e3, 1e6];
 // Seconds of the processor and MiB for the larger size, and for a small file that unpacks to as much as it may.
 const MOST = { growing: { seconds: 10, memory: 500 }, small: { seconds: 20, memory: 1200 } };
+// Of the processor; on a busy machine many more of the clock.
 const KILLED_AFTER = 40;
 
 /** Reads a file with all its images, and returns what it took. */
@@ -32,8 +33,9 @@ async function reading(bytes) {
 /** The same in a process of its own. */
 function measured(kind, name, size) {
   const words = [fileURLToPath(import.meta.url), kind, name, String(size)];
-  const options = { timeout: KILLED_AFTER * 1000, killSignal: "SIGKILL", encoding: "utf8" };
-  const { status, stdout, stderr } = spawnSync(process.execPath, words, options);
+  const limited = ["-c", `ulimit -t ${KILLED_AFTER}; exec "$@"`, "sh", process.execPath, ...words];
+  const options = { timeout: 15 * KILLED_AFTER * 1000, killSignal: "SIGKILL", encoding: "utf8" };
+  const { status, stdout, stderr } = spawnSync("sh", limited, options);
   if (status === 0) return JSON.parse(stdout);
   const error = status === null ? `no end in ${KILLED_AFTER} s` : stderr.slice(-400);
   return { seconds: Infinity, memory: Infinity, error };

@@ -56,7 +56,7 @@ def faults_of_looks(browser, folder):
     drop(browser, [whole, cut, text])
     for look in captions, names, contrast, zoom, pictures_out_of_sight:
         faults += look(browser)
-    faults += saved(browser, whole)
+    faults += saved(browser, whole) + not_saved(browser)
     faults += keyboard(browser)
     shown(browser)
     return faults + printed(browser, folder)
@@ -199,3 +199,16 @@ def read_png(data):
     rows = [lines[y * (stride + 1) + 1 : (y + 1) * (stride + 1)] for y in range(height)]
     digits = ["".join(f"{byte ^ 255:08b}" for byte in row)[:width] for row in rows]
     return (width, height), "".join(digits)
+
+
+def not_saved(browser):
+    """Where a page can't be saved, the button says so."""
+    browser.evaluate(
+        """(() => { const whole = CompressionStream;
+          self.CompressionStream = class { constructor() { throw new Error("no room"); } };
+          document.querySelector("figcaption button").click();
+          setTimeout(() => (self.CompressionStream = whole), 1000); })()"""
+    )
+    time.sleep(2)
+    caption = browser.evaluate("document.querySelector('figcaption').textContent")
+    return [] if caption.endswith("Not saved: no room.") else ["nothing says that a page was not saved"]

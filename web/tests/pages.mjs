@@ -82,6 +82,30 @@ async function checkForms(name, page) {
   check(isSame(page.toRgba(), colours), `${name}: RGBA`);
   check(page.data === page.data && isSame(page.data, page.toRgba()), `${name}: data`);
   check(hasPage(Buffer.from(await pngOf(page)), page), `${name}: PNG`);
+  checkGiven(name, page, pixels, colours);
+}
+
+/** Pixels in an array that is handed in: at its place in its buffer, over what is there, and nothing beside it. */
+function checkGiven(name, page, pixels, colours) {
+  for (const [form, Pixels, meant] of [["toGray", Uint8Array, pixels], ["toRgba", Uint8ClampedArray, colours]]) {
+    const around = new Uint8Array(meant.length + 12).fill(7);
+    const given = new Pixels(around.buffer, 8, meant.length);
+    const isFilled = page[form](given) === given && isSame(given, meant);
+    const beside = [...around.subarray(0, 8), ...around.subarray(-4)];
+    check(isFilled && isSame(Uint8Array.from(beside), Array(12).fill(7)), `${name}: ${form}, given`);
+  }
+}
+
+/** An array of another kind or size is refused. */
+function checkWrongArrays() {
+  const small = decoder.decode(hex(page("00000003", "00000002")));
+  for (const given of [new Uint8ClampedArray(23), new Uint8Array(24), new Int32Array(24), [], 24, "", new ArrayBuffer(24)]) {
+    check(thrown(() => small.toRgba(given)) instanceof TypeError, `toRgba of ${Object.prototype.toString.call(given)}`);
+  }
+  for (const given of [new Uint8ClampedArray(6), new Uint8Array(5), {}, 6]) {
+    check(thrown(() => small.toGray(given)) instanceof TypeError, `toGray of ${Object.prototype.toString.call(given)}`);
+  }
+  check(small.toRgba(null).length === 24 && small.toGray(undefined).length === 6, "null in place of an array");
 }
 
 const hex = (digits) => Uint8Array.from(Buffer.from(digits.replace(/ /g, ""), "hex"));
@@ -178,6 +202,7 @@ const embedded = readdirSync(folder).find((name) => name.endsWith(".globals.jb2"
 checkLimit();
 checkSharedLimit("t88-h1.jb2", read("t88-h1.jb2"));
 await checkMemory();
+checkWrongArrays();
 checkPdfFiles(read(`${embedded}.page.jb2`));
 await checkImage(read("t88-h1.jb2"), read(`${embedded}.page.jb2`), read(`${embedded}.globals.jb2`));
 const count = `${checks - failed} checks passed, ${failed} failed`;

@@ -17,6 +17,7 @@ export async function pagesOf(bytes: ArrayBuffer): Promise<DecodedPage[]> {
 
 export async function shown(page: DecodedPage): Promise<[ImageData, Uint8Array, string | undefined]> {
   const data = new ImageData(page.data, page.width, page.height);
+  page.toRgba(data.data), page.toGray(new Uint8Array(page.width * page.height));
   return [data, await pngOf(page), page.isComplete ? undefined : page.leftOut.cutOff?.error.message ?? page.passedOver.error?.message];
 }
 

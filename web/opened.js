@@ -1,0 +1,34 @@
+/** What is read once for several pages. */
+
+class Opened {
+  #draw;
+  #close;
+
+  /** `draw` decodes a page, and `close` frees what is held for it. */
+  constructor(draw, close) {
+    [this.#draw, this.#close] = [draw, close];
+  }
+
+  /**
+   * Decodes a page, as `Decoder.decode` does.
+   * @returns {DecodedPage}
+   * @throws {WorkLimitReached | Jbig2Error}
+   */
+  decode(page) {
+    if (!this.#close) throw new Error("this is closed already");
+    return this.#draw(page);
+  }
+
+  /** Frees what is held. To call it again does nothing. */
+  close() {
+    const close = this.#close;
+    this.#close = null;
+    close?.();
+  }
+}
+
+/** A file that `Decoder.open` has read. `decode` takes the index of a page, from 0, below `pageCount`. */
+export class OpenFile extends Opened {}
+
+/** Globals that `Decoder.openGlobals` has read. `decode` takes the bytes of an embedded page. */
+export class OpenGlobals extends Opened {}

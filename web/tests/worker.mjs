@@ -1,0 +1,93 @@
+/**
+ * Runs the page's worker in Node: a file of many pages is read once, and after a call that doesn't return the worker decodes the
+ * next file.
+ *
+ * usage: node web/tests/worker.mjs
+ */
+import { readFileSync } from "node:fs";
+import { counts, fileOf, trap } from "./watched.mjs";
+import { module } from "./module.mjs";
+
+const PAGES = 300;
+const example = readFileSync(new URL("../../crates/jbig2_decode/data/t88-h1.jb2", import.meta.url));
+let messages = [];
+let done = () => {};
+let failed = 0;
+let checks = 0;
+
+globalThis.onmessage = null;
+// What can't be closed is told there.
+console.error = () => {};
+globalThis.fetch = async () => new Response(module, { headers: { "content-type": "application/wasm" } });
+globalThis.postMessage = (message) => {
+  messages.push(message);
+  if (message.isDone || message.isReady) done();
+};
+
+function check(holds, name) {
+  checks++;
+  if (!holds) failed++, console.log(`worker: ${name}`);
+}
+
+/** What the worker says of a file. */
+async function saidOf(bytes) {
+  messages = [];
+  const end = new Promise((resolve) => (done = resolve));
+  globalThis.onmessage({ data: { bytes: Uint8Array.from(bytes).buffer, salvage: false, isLimited: true } });
+  await end;
+  return messages;
+}
+
+const pagesOf = (messages) => messages.filter(({ rows }) => rows).map(({ number, width }) => `${number} ${width}`);
+const errorsOf = (messages) => messages.filter(({ error }) => error).map(({ number, error }) => `${number ?? "file"} ${error}`);
+
+async function checkReadings() {
+  counts.clear();
+  const said = await saidOf(fileOf(PAGES));
+  const meant = Array.from({ length: PAGES }, (_, at) => `${at + 1} ${8 + (at % 100)}`);
+  const readings = counts.get("hayro_jbig2_file_new_within");
+  check(String(pagesOf(said)) === String(meant) && errorsOf(said).length === 0, `${PAGES} pages: ${errorsOf(said)}`);
+  check(readings === 1, `${PAGES} pages take ${readings} readings`);
+}
+
+/** Globals that the images of a PDF file share are decoded once, also where they have a fault. */
+async function checkGlobals() {
+  const object = (number, words, data) => `${number} 0 obj<<${words}/Length ${data.length / 2}>>stream\n${Buffer.from(data, "hex").toString("latin1")}\nendstream endobj\n`;
+  const image = `0000000030000100000013000000080000000100${"00".repeat(10)}`;
+  for (const [globals, errors] of [["000000010000010000000F00010000000100000001" + "5F80800040", 0], ["0000000100A00000000000", PAGES]]) {
+    const images = Array.from({ length: PAGES }, (_, at) => object(at + 2, "/Filter/JBIG2Decode/DecodeParms<</JBIG2Globals 1 0 R>>", image));
+    counts.clear();
+    const said = await saidOf(Buffer.from(`%PDF-1.5\n${object(1, "", globals)}${images.join("")}`, "latin1"));
+    const readings = counts.get("hayro_jbig2_globals_new_within");
+    check(pagesOf(said).length === PAGES - errors && errorsOf(said).length === errors, `${PAGES} images: ${errorsOf(said)[0]}`);
+    check(readings === 1, `the globals of ${PAGES} images are read ${readings} times`);
+  }
+}
+
+async function checkTrap(name, after) {
+  Object.assign(trap, { name, after });
+  const said = await saidOf(example);
+  trap.name = null;
+  const next = await saidOf(example);
+  const isWhole = pagesOf(said).length === 3;
+  check(isWhole || (/unreachable/.test(errorsOf(said)[0]) && errorsOf(said).length < 3), `${name} doesn't return: ${errorsOf(said)}`);
+  check(pagesOf(next).length === 3 && errorsOf(next).length === 0, `the file after ${name}: ${errorsOf(next)}`);
+  return said;
+}
+
+await import("../worker.js");
+check(messages.some(({ isReady }) => isReady), "the worker is not ready");
+await checkReadings();
+await checkGlobals();
+const said = await checkTrap("hayro_jbig2_file_draw", 1);
+check(pagesOf(said).length === 1, `${pagesOf(said).length} pages before a call that doesn't return`);
+await checkTrap("hayro_jbig2_file_new_within", 0);
+await checkTrap("jbig2_c_release", 0);
+const whole = await checkTrap("jbig2_c_release", 3);
+check(pagesOf(whole).length === 3 && errorsOf(whole).length === 0, "a file that can't be closed lacks pages");
+globalThis.fetch = async () => new Response("", { status: 404 });
+Object.assign(trap, { name: "hayro_jbig2_file_draw", after: 0 });
+await saidOf(example);
+check(/404/.test(errorsOf(await saidOf(example))[0]), "a decoder that can't be loaded again");
+console.log(`worker: ${checks - failed} checks passed, ${failed} failed`);
+process.exit(failed ? 1 : 0);
