@@ -7,8 +7,10 @@
 - `pointer + distance` is checked as `pointer`, so that one comparison does for all fields of a struct. After the memory are
   SPARE bytes that may be touched. `(pointer + distance) - distance` is written, which a compiler makes `pointer`. Whatever
   the distance is, the same byte is taken, and never one outside of the block.
-- What gcc would make slow code of is marked: it makes one jump of all choices by a condition that is used more than once, and
-  additions of products by constants.
+- What gcc would make slow code of is marked: it makes one jump of all choices by a condition that is used more than once,
+  additions of products by constants, and adds in another order, so that what is known last is not added last.
+- A function that only reads the place of the stack doesn't write it back. Nothing has changed it: the functions that it calls
+  are of the same kind, and the host sets no such place.
 """
 import re
 import sys
@@ -32,6 +34,11 @@ KEPT = re.compile(r" *w2c_([lp]\d+) = w2c_j(\d+);")
 TAKEN = re.compile(r" *w2c_j(\d+) = w2c_([lp]\d+);")
 SET = re.compile(r" *w2c_([ijlp])(\d+) (?:[-+*/%&|^]|<<|>>)?= ")
 CHOICE = re.compile(r"( *w2c_[ij]\d+ = )(w2c_i\d+)( \? w2c_[ij]\d+ : w2c_[ij]\d+;)")
+WIDENED = re.compile(r"( *w2c_j(\d+) = )\(u64\)\(w2c_i\2\);")
+SMALL_SUM = re.compile(r" *w2c_i(\d+) \+= (w2c_i\d+);")
+HOST = {"Z_heapZ_jbig2_c_take", "Z_heapZ_jbig2_c_give_back"}
+STACK_READ = "  w2c_j0 = instance->w2c_g0;"
+STACK_SET = re.compile(r" *instance->w2c_g0 = w2c_j0;")
 COMPARED = re.compile(r" *(w2c_i\d+) = .*(?: [<>]=? | [=!]= |!\().*;")
 
 
@@ -54,6 +61,30 @@ def growing(lines, found):
     while more:
         known |= more
         more = {name for name, called in calls.items() if called & known} - known
+    return known
+
+
+def restored(body):
+    """The variable in which a function keeps the place of the stack, where it sets that place once at most, to what it was. None
+    where it sets another place; an empty name where it sets none."""
+    numbers = [number for number, line in enumerate(body) if "instance->w2c_g0 =" in line]
+    if not numbers:
+        return ""
+    kept = KEPT.fullmatch(body[body.index(STACK_READ) + 1]) if body.count(STACK_READ) == 1 else None
+    if len(numbers) > 1 or not kept or not STACK_SET.fullmatch(body[numbers[0]]):
+        return None
+    changes = [line for line in body if (match := SET.match(line)) and match[1] + match[2] == kept[1]]
+    taken = TAKEN.fullmatch(body[numbers[0] - 1])
+    return kept[1] if len(changes) == 1 and taken and taken.groups() == ("0", kept[1]) else None
+
+
+def leaving_stack(lines, found):
+    """The functions during which the place of the stack is never another one."""
+    bodies = {name: lines[start + 1 : end] for name, (start, end) in found.items()}
+    known = {name for name, body in bodies.items() if restored(body) is not None} | HOST
+    calls = {name: set(CALL.findall("\n".join(body))) for name, body in bodies.items()}
+    while others := {name for name in known if calls.get(name, set()) - known}:
+        known -= others
     return known
 
 
@@ -107,32 +138,44 @@ def quick_access(match, distances):
     return f"{before}&memory, (size_t)({place}), {far}u{after}"
 
 
-def quick_function(body, grows, asking):
+def quick_line(line, before, after, distances):
+    """A line of a function, with those beside it; None where it isn't needed."""
+    if match := ACCESS.fullmatch(line):
+        return quick_access(match, distances)
+    if (match := CHOICE.fullmatch(line)) and COMPARED.sub(r"\1", before) != match[2]:
+        return f"{match[1]}wasm_rt_hidden({match[2]}){match[3]}"
+    if (match := PRODUCT.fullmatch(line)) and distances.numbers.get(match[2], 0) > LEAST_FACTOR:
+        return line.replace(match[1], f"wasm_rt_hidden_factor({match[1]})")
+    # A slot of the stack has either a number of 32 bits or one of 64, so the sum isn't used after it is widened.
+    if (match := SMALL_SUM.fullmatch(line)) and (wide := WIDENED.fullmatch(after)) and wide[2] == match[1]:
+        return f"{wide[1]}wasm_rt_sum(w2c_i{match[1]}, {match[2]});"
+    if (match := WIDENED.fullmatch(line)) and (small := SMALL_SUM.fullmatch(before)) and small[1] == match[2]:
+        return None
+    return line
+
+
+def quick_function(body, grows, asking, leaves_stack):
     """The lines of a function; asking: the functions that may make the memory larger."""
-    distances, has_accesses = Distances(), any(ACCESS.fullmatch(line) for line in body)
-    for number, line in enumerate(body):
-        if match := ACCESS.fullmatch(line):
-            body[number] = quick_access(match, distances)
-        elif (match := CHOICE.fullmatch(line)) and COMPARED.sub(r"\1", body[number - 1]) != match[2]:
-            body[number] = f"{match[1]}wasm_rt_hidden({match[2]}){match[3]}"
-        elif (match := PRODUCT.fullmatch(line)) and distances.numbers.get(match[2], 0) > LEAST_FACTOR:
-            body[number] = line.replace(match[1], f"wasm_rt_hidden_factor({match[1]})")
-        elif has_accesses and any(name in asking for name in CALL.findall(line)):
-            body[number] += " memory = instance->w2c_memory;"
+    distances, has_accesses, quick = Distances(), any(ACCESS.fullmatch(line) for line in body), []
+    for before, line, after in zip(["", *body], body, [*body[1:], ""]):
+        made = None if leaves_stack and STACK_SET.fullmatch(line) else quick_line(line, before, after, distances)
+        if has_accesses and any(name in asking for name in CALL.findall(line)):
+            made += " memory = instance->w2c_memory;"
+        quick.append(made)
         distances.read(line)
     if has_accesses:
-        place = body.index("  FUNC_PROLOGUE;")
-        body[place] = f"  {'' if grows else 'const '}wasm_rt_memory_t memory = instance->w2c_memory;"
-    return body
+        place = quick.index("  FUNC_PROLOGUE;")
+        quick[place] = f"  {'' if grows else 'const '}wasm_rt_memory_t memory = instance->w2c_memory;"
+    return quick
 
 
 def main():
     lines = sys.stdin.read().split("\n")
     found = functions(lines)
-    asking = growing(lines, found)
+    asking, leaving = growing(lines, found), leaving_stack(lines, found)
     for name, (start, end) in found.items():
-        lines[start:end] = quick_function(lines[start:end], name in asking, asking)
-    text = "\n".join(lines)
+        lines[start:end] = quick_function(lines[start:end], name in asking, asking, name in leaving)
+    text = "\n".join(line for line in lines if line is not None)
     pages = re.search(r"wasm_rt_allocate_memory\(&instance->w2c_memory, (\d+), ", text)[1]
     sizes = f"#define LEAST_SIZE ({pages} * 65536)\n"
     sizes += f"#if WASM_RT_SPARE_BYTES < {SPARE}\n#error the memory has too few bytes after it\n#endif\n"

@@ -2806,7 +2806,6 @@ static wasm_rt_part void w2c_f9(Z_hayro_jbig2_instance_t* RESTRICT instance, u64
   (*Z_heapZ_jbig2_c_give_back)((struct Z_heap_instance_t*)instance, w2c_j0, w2c_j1, w2c_j2);
   w2c_B7:;
   w2c_j0 = w2c_l1;
-  instance->w2c_g0 = w2c_j0;
   goto w2c_Bfunc;
   w2c_B0:;
   UNREACHABLE;
@@ -2964,7 +2963,6 @@ static wasm_rt_part void w2c_f10(Z_hayro_jbig2_instance_t* RESTRICT instance, u6
   (*Z_heapZ_jbig2_c_give_back)((struct Z_heap_instance_t*)instance, w2c_j0, w2c_j1, w2c_j2);
   w2c_B5:;
   w2c_j0 = w2c_l1;
-  instance->w2c_g0 = w2c_j0;
   goto w2c_Bfunc;
   w2c_B0:;
   UNREACHABLE;
@@ -3000,7 +2998,6 @@ static wasm_rt_part void w2c_f11(Z_hayro_jbig2_instance_t* RESTRICT instance, u6
   (*Z_heapZ_jbig2_c_give_back)((struct Z_heap_instance_t*)instance, w2c_j0, w2c_j1, w2c_j2);
   w2c_B1:;
   w2c_j0 = w2c_l1;
-  instance->w2c_g0 = w2c_j0;
   goto w2c_Bfunc;
   w2c_B0:;
   UNREACHABLE;
@@ -15411,7 +15408,6 @@ static wasm_rt_part void w2c_f31(Z_hayro_jbig2_instance_t* RESTRICT instance, u6
   (*Z_heapZ_jbig2_c_give_back)((struct Z_heap_instance_t*)instance, w2c_j0, w2c_j1, w2c_j2);
   w2c_B1:;
   w2c_j0 = w2c_l1;
-  instance->w2c_g0 = w2c_j0;
   goto w2c_Bfunc;
   w2c_B0:;
   UNREACHABLE;
@@ -35047,7 +35043,6 @@ static wasm_rt_part void w2c_f48(Z_hayro_jbig2_instance_t* RESTRICT instance, u6
   (*Z_heapZ_jbig2_c_give_back)((struct Z_heap_instance_t*)instance, w2c_j0, w2c_j1, w2c_j2);
   w2c_B7:;
   w2c_j0 = w2c_l1;
-  instance->w2c_g0 = w2c_j0;
   goto w2c_Bfunc;
   w2c_B0:;
   UNREACHABLE;
@@ -37250,7 +37245,6 @@ static wasm_rt_part void w2c_f53(Z_hayro_jbig2_instance_t* RESTRICT instance, u6
   (*Z_heapZ_jbig2_c_give_back)((struct Z_heap_instance_t*)instance, w2c_j0, w2c_j1, w2c_j2);
   w2c_B7:;
   w2c_j0 = w2c_l1;
-  instance->w2c_g0 = w2c_j0;
   goto w2c_Bfunc;
   w2c_B0:;
   UNREACHABLE;
@@ -37380,7 +37374,6 @@ static wasm_rt_part void w2c_f54(Z_hayro_jbig2_instance_t* RESTRICT instance, u6
   (*Z_heapZ_jbig2_c_give_back)((struct Z_heap_instance_t*)instance, w2c_j0, w2c_j1, w2c_j2);
   w2c_B7:;
   w2c_j0 = w2c_l1;
-  instance->w2c_g0 = w2c_j0;
   goto w2c_Bfunc;
   w2c_B0:;
   UNREACHABLE;
@@ -39336,7 +39329,6 @@ static wasm_rt_part void w2c_f57(Z_hayro_jbig2_instance_t* RESTRICT instance, u6
   (*Z_heapZ_jbig2_c_give_back)((struct Z_heap_instance_t*)instance, w2c_j0, w2c_j1, w2c_j2);
   w2c_B13:;
   w2c_j0 = w2c_l1;
-  instance->w2c_g0 = w2c_j0;
   goto w2c_Bfunc;
   w2c_B0:;
   UNREACHABLE;
@@ -39466,7 +39458,6 @@ static wasm_rt_part void w2c_f58(Z_hayro_jbig2_instance_t* RESTRICT instance, u6
   (*Z_heapZ_jbig2_c_give_back)((struct Z_heap_instance_t*)instance, w2c_j0, w2c_j1, w2c_j2);
   w2c_B7:;
   w2c_j0 = w2c_l1;
-  instance->w2c_g0 = w2c_j0;
   goto w2c_Bfunc;
   w2c_B0:;
   UNREACHABLE;
@@ -50295,8 +50286,7 @@ static wasm_rt_part void w2c_f66(Z_hayro_jbig2_instance_t* RESTRICT instance, u6
     w2c_i5 &= w2c_i6;
     w2c_i6 = 0u;
     w2c_i5 = w2c_i5 != w2c_i6;
-    w2c_i4 += w2c_i5;
-    w2c_j4 = (u64)(w2c_i4);
+    w2c_j4 = wasm_rt_sum(w2c_i4, w2c_i5);
     w2c_j3 *= w2c_j4;
     w2c_i2 = w2c_j2 < w2c_j3;
     w2c_i0 = w2c_i2 ? w2c_i0 : w2c_i1;
@@ -50484,8 +50474,7 @@ static wasm_rt_part void w2c_f66(Z_hayro_jbig2_instance_t* RESTRICT instance, u6
     w2c_i3 &= w2c_i4;
     w2c_i4 = 0u;
     w2c_i3 = w2c_i3 != w2c_i4;
-    w2c_i2 += w2c_i3;
-    w2c_j2 = (u64)(w2c_i2);
+    w2c_j2 = wasm_rt_sum(w2c_i2, w2c_i3);
     w2c_j1 *= w2c_j2;
     w2c_l19 = w2c_j1;
     w2c_i0 = w2c_j0 < w2c_j1;
@@ -50548,8 +50537,7 @@ static wasm_rt_part void w2c_f66(Z_hayro_jbig2_instance_t* RESTRICT instance, u6
     w2c_i5 &= w2c_i6;
     w2c_i6 = 0u;
     w2c_i5 = w2c_i5 != w2c_i6;
-    w2c_i4 += w2c_i5;
-    w2c_j4 = (u64)(w2c_i4);
+    w2c_j4 = wasm_rt_sum(w2c_i4, w2c_i5);
     w2c_j3 *= w2c_j4;
     w2c_j4 = 6ull;
     w2c_j3 <<= (w2c_j4 & 63);
@@ -50731,8 +50719,7 @@ static wasm_rt_part void w2c_f66(Z_hayro_jbig2_instance_t* RESTRICT instance, u6
     w2c_i1 &= w2c_i2;
     w2c_i2 = 0u;
     w2c_i1 = w2c_i1 != w2c_i2;
-    w2c_i0 += w2c_i1;
-    w2c_j0 = (u64)(w2c_i0);
+    w2c_j0 = wasm_rt_sum(w2c_i0, w2c_i1);
     w2c_l42 = w2c_j0;
     w2c_j0 = w2c_l45;
     w2c_j1 = 3ull;
@@ -52702,8 +52689,7 @@ static wasm_rt_part void w2c_f66(Z_hayro_jbig2_instance_t* RESTRICT instance, u6
       w2c_i1 = 4294967295u;
       w2c_i2 = w2c_l52;
       w2c_i1 <<= (w2c_i2 & 31);
-      w2c_i0 += w2c_i1;
-      w2c_j0 = (u64)(w2c_i0);
+      w2c_j0 = wasm_rt_sum(w2c_i0, w2c_i1);
       w2c_p7 = w2c_j0;
       w2c_j1 = w2c_p4;
       w2c_i0 = w2c_j0 >= w2c_j1;
@@ -55478,7 +55464,6 @@ static wasm_rt_part void w2c_f67(Z_hayro_jbig2_instance_t* RESTRICT instance, u6
   (*Z_heapZ_jbig2_c_give_back)((struct Z_heap_instance_t*)instance, w2c_j0, w2c_j1, w2c_j2);
   w2c_B2:;
   w2c_j0 = w2c_l1;
-  instance->w2c_g0 = w2c_j0;
   goto w2c_Bfunc;
   w2c_B0:;
   UNREACHABLE;
@@ -58401,8 +58386,7 @@ static wasm_rt_part void w2c_f73(Z_hayro_jbig2_instance_t* RESTRICT instance, u6
   w2c_i2 &= w2c_i3;
   w2c_i3 = 0u;
   w2c_i2 = w2c_i2 != w2c_i3;
-  w2c_i1 += w2c_i2;
-  w2c_j1 = (u64)(w2c_i1);
+  w2c_j1 = wasm_rt_sum(w2c_i1, w2c_i2);
   w2c_p1 = w2c_j1;
   w2c_j2 = 6ull;
   w2c_j1 <<= (w2c_j2 & 63);
@@ -60024,8 +60008,7 @@ static wasm_rt_part void w2c_f77(Z_hayro_jbig2_instance_t* RESTRICT instance, u6
   w2c_i2 &= w2c_i3;
   w2c_i3 = 0u;
   w2c_i2 = w2c_i2 != w2c_i3;
-  w2c_i1 += w2c_i2;
-  w2c_j1 = (u64)(w2c_i1);
+  w2c_j1 = wasm_rt_sum(w2c_i1, w2c_i2);
   w2c_l7 = w2c_j1;
   w2c_i2 = w2c_p3;
   w2c_j2 = (u64)(w2c_i2);
@@ -60610,8 +60593,7 @@ static wasm_rt_part void w2c_f78(Z_hayro_jbig2_instance_t* RESTRICT instance, u6
       w2c_j0 = w2c_l19;
       w2c_i1 = w2c_l28;
       w2c_i2 = 1u;
-      w2c_i1 += w2c_i2;
-      w2c_j1 = (u64)(w2c_i1);
+      w2c_j1 = wasm_rt_sum(w2c_i1, w2c_i2);
       w2c_l20 = w2c_j1;
       w2c_i0 = w2c_j0 <= w2c_j1;
       if (w2c_i0) {goto w2c_B11;}
@@ -62068,7 +62050,6 @@ static wasm_rt_part void w2c_f81(Z_hayro_jbig2_instance_t* RESTRICT instance, u6
   w2c_i1 |= w2c_i2;
   i32_store8(&memory, (size_t)(w2c_j0), 0u, w2c_i1);
   w2c_j0 = w2c_l3;
-  instance->w2c_g0 = w2c_j0;
   goto w2c_Bfunc;
   w2c_B0:;
   UNREACHABLE;
@@ -62652,8 +62633,7 @@ static wasm_rt_part void w2c_f82(Z_hayro_jbig2_instance_t* RESTRICT instance, u6
   w2c_i2 &= w2c_i3;
   w2c_i3 = 0u;
   w2c_i2 = w2c_i2 != w2c_i3;
-  w2c_i1 += w2c_i2;
-  w2c_j1 = (u64)(w2c_i1);
+  w2c_j1 = wasm_rt_sum(w2c_i1, w2c_i2);
   w2c_l6 = w2c_j1;
   w2c_j2 = 6ull;
   w2c_j1 <<= (w2c_j2 & 63);
@@ -62923,7 +62903,6 @@ static wasm_rt_part u32 w2c_f83(Z_hayro_jbig2_instance_t* RESTRICT instance, u64
   w2c_i1 += w2c_i2;
   i32_store(&memory, (size_t)(w2c_j0 - 48u), 48u, w2c_i1);
   w2c_j0 = w2c_l4;
-  instance->w2c_g0 = w2c_j0;
   w2c_i0 = w2c_l7;
   w2c_i1 = w2c_l10;
   w2c_i0 ^= w2c_i1;
@@ -63813,8 +63792,7 @@ static wasm_rt_part void w2c_f84(Z_hayro_jbig2_instance_t* RESTRICT instance, u3
   w2c_j0 = 2ull;
   w2c_i1 = w2c_l56;
   w2c_i2 = w2c_l60;
-  w2c_i1 += w2c_i2;
-  w2c_j1 = (u64)(w2c_i1);
+  w2c_j1 = wasm_rt_sum(w2c_i1, w2c_i2);
   w2c_j0 <<= (w2c_j1 & 63);
   w2c_j1 = 33554432ull;
   w2c_i2 = w2c_l60;
@@ -64115,8 +64093,7 @@ static wasm_rt_part void w2c_f84(Z_hayro_jbig2_instance_t* RESTRICT instance, u3
       w2c_j5 = 48ull;
       w2c_j4 >>= (w2c_j5 & 63);
       w2c_i4 = (u32)(w2c_j4);
-      w2c_i3 += w2c_i4;
-      w2c_j3 = (u64)(w2c_i3);
+      w2c_j3 = wasm_rt_sum(w2c_i3, w2c_i4);
       w2c_j2 += w2c_j3;
       w2c_l29 = w2c_j2;
       w2c_i2 = (u32)(w2c_j2);
@@ -64196,8 +64173,7 @@ static wasm_rt_part void w2c_f84(Z_hayro_jbig2_instance_t* RESTRICT instance, u3
       w2c_i4 = (u32)(w2c_j4);
       w2c_i3 += w2c_i4;
       w2c_i4 = w2c_l52;
-      w2c_i3 += w2c_i4;
-      w2c_j3 = (u64)(w2c_i3);
+      w2c_j3 = wasm_rt_sum(w2c_i3, w2c_i4);
       w2c_j2 += w2c_j3;
       w2c_l29 = w2c_j2;
       w2c_i2 = (u32)(w2c_j2);
@@ -64277,8 +64253,7 @@ static wasm_rt_part void w2c_f84(Z_hayro_jbig2_instance_t* RESTRICT instance, u3
       w2c_i4 = (u32)(w2c_j4);
       w2c_i3 += w2c_i4;
       w2c_i4 = w2c_l52;
-      w2c_i3 += w2c_i4;
-      w2c_j3 = (u64)(w2c_i3);
+      w2c_j3 = wasm_rt_sum(w2c_i3, w2c_i4);
       w2c_j2 += w2c_j3;
       w2c_l29 = w2c_j2;
       w2c_i2 = (u32)(w2c_j2);
@@ -64358,8 +64333,7 @@ static wasm_rt_part void w2c_f84(Z_hayro_jbig2_instance_t* RESTRICT instance, u3
       w2c_i4 = (u32)(w2c_j4);
       w2c_i3 += w2c_i4;
       w2c_i4 = w2c_l52;
-      w2c_i3 += w2c_i4;
-      w2c_j3 = (u64)(w2c_i3);
+      w2c_j3 = wasm_rt_sum(w2c_i3, w2c_i4);
       w2c_j2 += w2c_j3;
       w2c_l29 = w2c_j2;
       w2c_i2 = (u32)(w2c_j2);
@@ -64439,8 +64413,7 @@ static wasm_rt_part void w2c_f84(Z_hayro_jbig2_instance_t* RESTRICT instance, u3
       w2c_i4 = (u32)(w2c_j4);
       w2c_i3 += w2c_i4;
       w2c_i4 = w2c_l52;
-      w2c_i3 += w2c_i4;
-      w2c_j3 = (u64)(w2c_i3);
+      w2c_j3 = wasm_rt_sum(w2c_i3, w2c_i4);
       w2c_j2 += w2c_j3;
       w2c_l29 = w2c_j2;
       w2c_i2 = (u32)(w2c_j2);
@@ -64520,8 +64493,7 @@ static wasm_rt_part void w2c_f84(Z_hayro_jbig2_instance_t* RESTRICT instance, u3
       w2c_i4 = (u32)(w2c_j4);
       w2c_i3 += w2c_i4;
       w2c_i4 = w2c_l52;
-      w2c_i3 += w2c_i4;
-      w2c_j3 = (u64)(w2c_i3);
+      w2c_j3 = wasm_rt_sum(w2c_i3, w2c_i4);
       w2c_j2 += w2c_j3;
       w2c_l29 = w2c_j2;
       w2c_i2 = (u32)(w2c_j2);
@@ -64601,8 +64573,7 @@ static wasm_rt_part void w2c_f84(Z_hayro_jbig2_instance_t* RESTRICT instance, u3
       w2c_i4 = (u32)(w2c_j4);
       w2c_i3 += w2c_i4;
       w2c_i4 = w2c_l52;
-      w2c_i3 += w2c_i4;
-      w2c_j3 = (u64)(w2c_i3);
+      w2c_j3 = wasm_rt_sum(w2c_i3, w2c_i4);
       w2c_j2 += w2c_j3;
       w2c_l29 = w2c_j2;
       w2c_i2 = (u32)(w2c_j2);
@@ -64682,8 +64653,7 @@ static wasm_rt_part void w2c_f84(Z_hayro_jbig2_instance_t* RESTRICT instance, u3
       w2c_i4 = (u32)(w2c_j4);
       w2c_i3 += w2c_i4;
       w2c_i4 = w2c_l52;
-      w2c_i3 += w2c_i4;
-      w2c_j3 = (u64)(w2c_i3);
+      w2c_j3 = wasm_rt_sum(w2c_i3, w2c_i4);
       w2c_j2 += w2c_j3;
       w2c_l9 = w2c_j2;
       w2c_i2 = (u32)(w2c_j2);
@@ -64943,8 +64913,7 @@ static wasm_rt_part void w2c_f84(Z_hayro_jbig2_instance_t* RESTRICT instance, u3
   w2c_j0 = 2ull;
   w2c_i1 = w2c_l56;
   w2c_i2 = w2c_l60;
-  w2c_i1 += w2c_i2;
-  w2c_j1 = (u64)(w2c_i1);
+  w2c_j1 = wasm_rt_sum(w2c_i1, w2c_i2);
   w2c_j0 <<= (w2c_j1 & 63);
   w2c_j1 = 33554432ull;
   w2c_i2 = w2c_l60;
@@ -65072,15 +65041,13 @@ static wasm_rt_part void w2c_f84(Z_hayro_jbig2_instance_t* RESTRICT instance, u3
   w2c_i1 = w2c_l54;
   w2c_i0 -= w2c_i1;
   w2c_i1 = 9u;
-  w2c_i0 += w2c_i1;
-  w2c_j0 = (u64)(w2c_i0);
+  w2c_j0 = wasm_rt_sum(w2c_i0, w2c_i1);
   w2c_l39 = w2c_j0;
   w2c_i0 = w2c_l58;
   w2c_i1 = w2c_l56;
   w2c_i0 -= w2c_i1;
   w2c_i1 = 9u;
-  w2c_i0 += w2c_i1;
-  w2c_j0 = (u64)(w2c_i0);
+  w2c_j0 = wasm_rt_sum(w2c_i0, w2c_i1);
   w2c_l40 = w2c_j0;
   w2c_j0 = w2c_l11;
   w2c_i0 = (u32)(w2c_j0);
@@ -65131,8 +65098,7 @@ static wasm_rt_part void w2c_f84(Z_hayro_jbig2_instance_t* RESTRICT instance, u3
     w2c_i1 &= w2c_i2;
     w2c_i2 = 0u;
     w2c_i1 = w2c_i1 != w2c_i2;
-    w2c_i0 += w2c_i1;
-    w2c_j0 = (u64)(w2c_i0);
+    w2c_j0 = wasm_rt_sum(w2c_i0, w2c_i1);
     w2c_l25 = w2c_j0;
     w2c_j0 = w2c_l18;
     w2c_i0 = !(w2c_j0);
@@ -65304,8 +65270,7 @@ static wasm_rt_part void w2c_f84(Z_hayro_jbig2_instance_t* RESTRICT instance, u3
     w2c_i1 &= w2c_i2;
     w2c_i2 = 0u;
     w2c_i1 = w2c_i1 != w2c_i2;
-    w2c_i0 += w2c_i1;
-    w2c_j0 = (u64)(w2c_i0);
+    w2c_j0 = wasm_rt_sum(w2c_i0, w2c_i1);
     w2c_l42 = w2c_j0;
     w2c_j0 = w2c_l18;
     w2c_i0 = (u32)(w2c_j0);
@@ -65477,8 +65442,7 @@ static wasm_rt_part void w2c_f84(Z_hayro_jbig2_instance_t* RESTRICT instance, u3
       w2c_j0 = w2c_l27;
       w2c_i1 = w2c_l50;
       w2c_i2 = 1u;
-      w2c_i1 += w2c_i2;
-      w2c_j1 = (u64)(w2c_i1);
+      w2c_j1 = wasm_rt_sum(w2c_i1, w2c_i2);
       w2c_l12 = w2c_j1;
       w2c_i0 = w2c_j0 <= w2c_j1;
       if (w2c_i0) {goto w2c_B72;}
@@ -65956,8 +65920,7 @@ static wasm_rt_part void w2c_f84(Z_hayro_jbig2_instance_t* RESTRICT instance, u3
         w2c_i6 = w2c_l55;
         w2c_i5 -= w2c_i6;
         w2c_i6 = 55u;
-        w2c_i5 += w2c_i6;
-        w2c_j5 = (u64)(w2c_i5);
+        w2c_j5 = wasm_rt_sum(w2c_i5, w2c_i6);
         w2c_j4 >>= (w2c_j5 & 63);
         w2c_j5 = w2c_l14;
         w2c_j4 &= w2c_j5;
@@ -65974,8 +65937,7 @@ static wasm_rt_part void w2c_f84(Z_hayro_jbig2_instance_t* RESTRICT instance, u3
         w2c_i6 = w2c_l58;
         w2c_i5 -= w2c_i6;
         w2c_i6 = 55u;
-        w2c_i5 += w2c_i6;
-        w2c_j5 = (u64)(w2c_i5);
+        w2c_j5 = wasm_rt_sum(w2c_i5, w2c_i6);
         w2c_j4 >>= (w2c_j5 & 63);
         w2c_j5 = w2c_l24;
         w2c_j4 &= w2c_j5;
@@ -65990,8 +65952,7 @@ static wasm_rt_part void w2c_f84(Z_hayro_jbig2_instance_t* RESTRICT instance, u3
         w2c_i4 = w2c_l74;
         w2c_i5 = w2c_l70;
         w2c_i4 &= w2c_i5;
-        w2c_i3 += w2c_i4;
-        w2c_j3 = (u64)(w2c_i3);
+        w2c_j3 = wasm_rt_sum(w2c_i3, w2c_i4);
         w2c_j2 += w2c_j3;
         w2c_l7 = w2c_j2;
         w2c_i2 = (u32)(w2c_j2);
@@ -66729,8 +66690,7 @@ static wasm_rt_part void w2c_f84(Z_hayro_jbig2_instance_t* RESTRICT instance, u3
         w2c_j5 = 48ull;
         w2c_j4 >>= (w2c_j5 & 63);
         w2c_i4 = (u32)(w2c_j4);
-        w2c_i3 += w2c_i4;
-        w2c_j3 = (u64)(w2c_i3);
+        w2c_j3 = wasm_rt_sum(w2c_i3, w2c_i4);
         w2c_j2 += w2c_j3;
         w2c_l25 = w2c_j2;
         w2c_i2 = (u32)(w2c_j2);
@@ -66810,8 +66770,7 @@ static wasm_rt_part void w2c_f84(Z_hayro_jbig2_instance_t* RESTRICT instance, u3
         w2c_i4 = (u32)(w2c_j4);
         w2c_i3 += w2c_i4;
         w2c_i4 = w2c_p0;
-        w2c_i3 += w2c_i4;
-        w2c_j3 = (u64)(w2c_i3);
+        w2c_j3 = wasm_rt_sum(w2c_i3, w2c_i4);
         w2c_j2 += w2c_j3;
         w2c_l25 = w2c_j2;
         w2c_i2 = (u32)(w2c_j2);
@@ -66891,8 +66850,7 @@ static wasm_rt_part void w2c_f84(Z_hayro_jbig2_instance_t* RESTRICT instance, u3
         w2c_i4 = (u32)(w2c_j4);
         w2c_i3 += w2c_i4;
         w2c_i4 = w2c_l52;
-        w2c_i3 += w2c_i4;
-        w2c_j3 = (u64)(w2c_i3);
+        w2c_j3 = wasm_rt_sum(w2c_i3, w2c_i4);
         w2c_j2 += w2c_j3;
         w2c_l25 = w2c_j2;
         w2c_i2 = (u32)(w2c_j2);
@@ -66972,8 +66930,7 @@ static wasm_rt_part void w2c_f84(Z_hayro_jbig2_instance_t* RESTRICT instance, u3
         w2c_i4 = (u32)(w2c_j4);
         w2c_i3 += w2c_i4;
         w2c_i4 = w2c_l52;
-        w2c_i3 += w2c_i4;
-        w2c_j3 = (u64)(w2c_i3);
+        w2c_j3 = wasm_rt_sum(w2c_i3, w2c_i4);
         w2c_j2 += w2c_j3;
         w2c_l25 = w2c_j2;
         w2c_i2 = (u32)(w2c_j2);
@@ -67053,8 +67010,7 @@ static wasm_rt_part void w2c_f84(Z_hayro_jbig2_instance_t* RESTRICT instance, u3
         w2c_i4 = (u32)(w2c_j4);
         w2c_i3 += w2c_i4;
         w2c_i4 = w2c_l52;
-        w2c_i3 += w2c_i4;
-        w2c_j3 = (u64)(w2c_i3);
+        w2c_j3 = wasm_rt_sum(w2c_i3, w2c_i4);
         w2c_j2 += w2c_j3;
         w2c_l25 = w2c_j2;
         w2c_i2 = (u32)(w2c_j2);
@@ -67134,8 +67090,7 @@ static wasm_rt_part void w2c_f84(Z_hayro_jbig2_instance_t* RESTRICT instance, u3
         w2c_i4 = (u32)(w2c_j4);
         w2c_i3 += w2c_i4;
         w2c_i4 = w2c_l52;
-        w2c_i3 += w2c_i4;
-        w2c_j3 = (u64)(w2c_i3);
+        w2c_j3 = wasm_rt_sum(w2c_i3, w2c_i4);
         w2c_j2 += w2c_j3;
         w2c_l25 = w2c_j2;
         w2c_i2 = (u32)(w2c_j2);
@@ -67215,8 +67170,7 @@ static wasm_rt_part void w2c_f84(Z_hayro_jbig2_instance_t* RESTRICT instance, u3
         w2c_i4 = (u32)(w2c_j4);
         w2c_i3 += w2c_i4;
         w2c_i4 = w2c_l52;
-        w2c_i3 += w2c_i4;
-        w2c_j3 = (u64)(w2c_i3);
+        w2c_j3 = wasm_rt_sum(w2c_i3, w2c_i4);
         w2c_j2 += w2c_j3;
         w2c_l25 = w2c_j2;
         w2c_i2 = (u32)(w2c_j2);
@@ -67296,8 +67250,7 @@ static wasm_rt_part void w2c_f84(Z_hayro_jbig2_instance_t* RESTRICT instance, u3
         w2c_i4 = (u32)(w2c_j4);
         w2c_i3 += w2c_i4;
         w2c_i4 = w2c_l52;
-        w2c_i3 += w2c_i4;
-        w2c_j3 = (u64)(w2c_i3);
+        w2c_j3 = wasm_rt_sum(w2c_i3, w2c_i4);
         w2c_j2 += w2c_j3;
         w2c_p2 = w2c_j2;
         w2c_i2 = (u32)(w2c_j2);
@@ -71558,8 +71511,7 @@ static wasm_rt_part void w2c_f93(Z_hayro_jbig2_instance_t* RESTRICT instance, u6
   w2c_j0 = w2c_l11;
   w2c_i1 = w2c_l25;
   w2c_i2 = 1u;
-  w2c_i1 += w2c_i2;
-  w2c_j1 = (u64)(w2c_i1);
+  w2c_j1 = wasm_rt_sum(w2c_i1, w2c_i2);
   w2c_j0 >>= (w2c_j1 & 63);
   w2c_l9 = w2c_j0;
   goto w2c_B3;
@@ -71621,8 +71573,7 @@ static wasm_rt_part void w2c_f93(Z_hayro_jbig2_instance_t* RESTRICT instance, u6
   w2c_j0 = w2c_l5;
   w2c_i1 = w2c_l30;
   w2c_i2 = 1u;
-  w2c_i1 += w2c_i2;
-  w2c_j1 = (u64)(w2c_i1);
+  w2c_j1 = wasm_rt_sum(w2c_i1, w2c_i2);
   w2c_l12 = w2c_j1;
   w2c_i0 = w2c_j0 <= w2c_j1;
   if (w2c_i0) {goto w2c_B7;}
@@ -71708,8 +71659,7 @@ static wasm_rt_part void w2c_f93(Z_hayro_jbig2_instance_t* RESTRICT instance, u6
   w2c_j0 = w2c_l11;
   w2c_i1 = w2c_l25;
   w2c_i2 = 1u;
-  w2c_i1 += w2c_i2;
-  w2c_j1 = (u64)(w2c_i1);
+  w2c_j1 = wasm_rt_sum(w2c_i1, w2c_i2);
   w2c_j0 >>= (w2c_j1 & 63);
   w2c_l7 = w2c_j0;
   goto w2c_B8;
@@ -71773,8 +71723,7 @@ static wasm_rt_part void w2c_f93(Z_hayro_jbig2_instance_t* RESTRICT instance, u6
   w2c_j0 = w2c_l5;
   w2c_i1 = w2c_l29;
   w2c_i2 = 1u;
-  w2c_i1 += w2c_i2;
-  w2c_j1 = (u64)(w2c_i1);
+  w2c_j1 = wasm_rt_sum(w2c_i1, w2c_i2);
   w2c_l12 = w2c_j1;
   w2c_i0 = w2c_j0 <= w2c_j1;
   if (w2c_i0) {goto w2c_B12;}
@@ -71876,8 +71825,7 @@ static wasm_rt_part void w2c_f93(Z_hayro_jbig2_instance_t* RESTRICT instance, u6
   w2c_j0 = w2c_l11;
   w2c_i1 = w2c_l25;
   w2c_i2 = 1u;
-  w2c_i1 += w2c_i2;
-  w2c_j1 = (u64)(w2c_i1);
+  w2c_j1 = wasm_rt_sum(w2c_i1, w2c_i2);
   w2c_j0 >>= (w2c_j1 & 63);
   w2c_l5 = w2c_j0;
   goto w2c_B13;
@@ -71941,8 +71889,7 @@ static wasm_rt_part void w2c_f93(Z_hayro_jbig2_instance_t* RESTRICT instance, u6
   w2c_j0 = w2c_l12;
   w2c_i1 = w2c_l27;
   w2c_i2 = 1u;
-  w2c_i1 += w2c_i2;
-  w2c_j1 = (u64)(w2c_i1);
+  w2c_j1 = wasm_rt_sum(w2c_i1, w2c_i2);
   w2c_l14 = w2c_j1;
   w2c_i0 = w2c_j0 <= w2c_j1;
   if (w2c_i0) {goto w2c_B17;}
@@ -72396,8 +72343,7 @@ static wasm_rt_part void w2c_f93(Z_hayro_jbig2_instance_t* RESTRICT instance, u6
       w2c_j2 = w2c_l18;
       w2c_i3 = w2c_l26;
       w2c_i4 = 1u;
-      w2c_i3 += w2c_i4;
-      w2c_j3 = (u64)(w2c_i3);
+      w2c_j3 = wasm_rt_sum(w2c_i3, w2c_i4);
       w2c_j2 <<= (w2c_j3 & 63);
       w2c_j3 = 18446744073709551615ull;
       w2c_j2 ^= w2c_j3;
@@ -72417,8 +72363,7 @@ static wasm_rt_part void w2c_f93(Z_hayro_jbig2_instance_t* RESTRICT instance, u6
       w2c_j1 = w2c_l18;
       w2c_i2 = w2c_l26;
       w2c_i3 = 1u;
-      w2c_i2 += w2c_i3;
-      w2c_j2 = (u64)(w2c_i2);
+      w2c_j2 = wasm_rt_sum(w2c_i2, w2c_i3);
       w2c_j1 <<= (w2c_j2 & 63);
       w2c_j1 = I64_CLZ(w2c_j1);
       w2c_i1 = (u32)(w2c_j1);
@@ -72856,8 +72801,7 @@ static wasm_rt_part void w2c_f93(Z_hayro_jbig2_instance_t* RESTRICT instance, u6
     w2c_j0 = w2c_l11;
     w2c_i1 = w2c_l24;
     w2c_i2 = 1u;
-    w2c_i1 += w2c_i2;
-    w2c_j1 = (u64)(w2c_i1);
+    w2c_j1 = wasm_rt_sum(w2c_i1, w2c_i2);
     w2c_j0 >>= (w2c_j1 & 63);
     w2c_l5 = w2c_j0;
     goto w2c_B42;
@@ -72924,8 +72868,7 @@ static wasm_rt_part void w2c_f93(Z_hayro_jbig2_instance_t* RESTRICT instance, u6
     w2c_j0 = w2c_l12;
     w2c_i1 = w2c_l25;
     w2c_i2 = 1u;
-    w2c_i1 += w2c_i2;
-    w2c_j1 = (u64)(w2c_i1);
+    w2c_j1 = wasm_rt_sum(w2c_i1, w2c_i2);
     w2c_l14 = w2c_j1;
     w2c_i0 = w2c_j0 <= w2c_j1;
     if (w2c_i0) {goto w2c_B46;}
@@ -73019,8 +72962,7 @@ static wasm_rt_part void w2c_f93(Z_hayro_jbig2_instance_t* RESTRICT instance, u6
     w2c_i1 &= w2c_i2;
     w2c_i2 = 0u;
     w2c_i1 = w2c_i1 != w2c_i2;
-    w2c_i0 += w2c_i1;
-    w2c_j0 = (u64)(w2c_i0);
+    w2c_j0 = wasm_rt_sum(w2c_i0, w2c_i1);
     w2c_l17 = w2c_j0;
     w2c_j0 = w2c_l15;
     w2c_j1 = 18446744073709551615ull;
@@ -73170,8 +73112,7 @@ static wasm_rt_part void w2c_f93(Z_hayro_jbig2_instance_t* RESTRICT instance, u6
       w2c_j0 = w2c_l14;
       w2c_i1 = w2c_l24;
       w2c_i2 = 1u;
-      w2c_i1 += w2c_i2;
-      w2c_j1 = (u64)(w2c_i1);
+      w2c_j1 = wasm_rt_sum(w2c_i1, w2c_i2);
       w2c_l18 = w2c_j1;
       w2c_i0 = w2c_j0 <= w2c_j1;
       if (w2c_i0) {goto w2c_B54;}
@@ -73353,8 +73294,7 @@ static wasm_rt_part void w2c_f93(Z_hayro_jbig2_instance_t* RESTRICT instance, u6
       w2c_j0 = w2c_l12;
       w2c_i1 = w2c_l27;
       w2c_i2 = 1u;
-      w2c_i1 += w2c_i2;
-      w2c_j1 = (u64)(w2c_i1);
+      w2c_j1 = wasm_rt_sum(w2c_i1, w2c_i2);
       w2c_l19 = w2c_j1;
       w2c_i0 = w2c_j0 <= w2c_j1;
       if (w2c_i0) {goto w2c_B59;}
@@ -73513,8 +73453,7 @@ static wasm_rt_part void w2c_f93(Z_hayro_jbig2_instance_t* RESTRICT instance, u6
       w2c_j0 = w2c_l18;
       w2c_i1 = w2c_l27;
       w2c_i2 = 1u;
-      w2c_i1 += w2c_i2;
-      w2c_j1 = (u64)(w2c_i1);
+      w2c_j1 = wasm_rt_sum(w2c_i1, w2c_i2);
       w2c_l19 = w2c_j1;
       w2c_i0 = w2c_j0 <= w2c_j1;
       if (w2c_i0) {goto w2c_B64;}
@@ -73685,8 +73624,7 @@ static wasm_rt_part void w2c_f93(Z_hayro_jbig2_instance_t* RESTRICT instance, u6
       w2c_j0 = w2c_l19;
       w2c_i1 = w2c_l26;
       w2c_i2 = 1u;
-      w2c_i1 += w2c_i2;
-      w2c_j1 = (u64)(w2c_i1);
+      w2c_j1 = wasm_rt_sum(w2c_i1, w2c_i2);
       w2c_l11 = w2c_j1;
       w2c_i0 = w2c_j0 <= w2c_j1;
       if (w2c_i0) {goto w2c_B69;}
@@ -74191,8 +74129,7 @@ static wasm_rt_part void w2c_f93(Z_hayro_jbig2_instance_t* RESTRICT instance, u6
         w2c_j2 = w2c_l18;
         w2c_i3 = w2c_l26;
         w2c_i4 = 1u;
-        w2c_i3 += w2c_i4;
-        w2c_j3 = (u64)(w2c_i3);
+        w2c_j3 = wasm_rt_sum(w2c_i3, w2c_i4);
         w2c_j2 <<= (w2c_j3 & 63);
         w2c_j3 = 18446744073709551615ull;
         w2c_j2 ^= w2c_j3;
@@ -74212,8 +74149,7 @@ static wasm_rt_part void w2c_f93(Z_hayro_jbig2_instance_t* RESTRICT instance, u6
         w2c_j1 = w2c_l18;
         w2c_i2 = w2c_l23;
         w2c_i3 = 1u;
-        w2c_i2 += w2c_i3;
-        w2c_j2 = (u64)(w2c_i2);
+        w2c_j2 = wasm_rt_sum(w2c_i2, w2c_i3);
         w2c_j1 <<= (w2c_j2 & 63);
         w2c_j1 = I64_CLZ(w2c_j1);
         w2c_i1 = (u32)(w2c_j1);
@@ -74676,7 +74612,6 @@ static wasm_rt_part void w2c_f93(Z_hayro_jbig2_instance_t* RESTRICT instance, u6
     if (w2c_i0) {goto w2c_L47;}
   w2c_B0:;
   w2c_j0 = w2c_l4;
-  instance->w2c_g0 = w2c_j0;
   FUNC_EPILOGUE;
 }
 
@@ -75837,7 +75772,6 @@ static wasm_rt_part void w2c_f94(Z_hayro_jbig2_instance_t* RESTRICT instance, u6
     if (w2c_i0) {goto w2c_L2;}
   w2c_B1:;
   w2c_j0 = w2c_l6;
-  instance->w2c_g0 = w2c_j0;
   goto w2c_Bfunc;
   w2c_B0:;
   UNREACHABLE;
@@ -75907,7 +75841,6 @@ static wasm_rt_part u32 w2c_f95(Z_hayro_jbig2_instance_t* RESTRICT instance, u32
   w2c_p0 = w2c_i0;
   w2c_B1:;
   w2c_j0 = w2c_l4;
-  instance->w2c_g0 = w2c_j0;
   w2c_i0 = w2c_p1;
   w2c_i1 = w2c_p0;
   w2c_i0 ^= w2c_i1;
@@ -76595,8 +76528,7 @@ static wasm_rt_part void w2c_f97(Z_hayro_jbig2_instance_t* RESTRICT instance, u6
   w2c_i2 = w2c_l23;
   w2c_i1 -= w2c_i2;
   w2c_i2 = 64u;
-  w2c_i1 += w2c_i2;
-  w2c_j1 = (u64)(w2c_i1);
+  w2c_j1 = wasm_rt_sum(w2c_i1, w2c_i2);
   w2c_j0 <<= (w2c_j1 & 63);
   w2c_l13 = w2c_j0;
   w2c_j0 = w2c_l11;
@@ -76829,8 +76761,7 @@ static wasm_rt_part void w2c_f97(Z_hayro_jbig2_instance_t* RESTRICT instance, u6
   w2c_i2 = w2c_l23;
   w2c_i1 -= w2c_i2;
   w2c_i2 = 64u;
-  w2c_i1 += w2c_i2;
-  w2c_j1 = (u64)(w2c_i1);
+  w2c_j1 = wasm_rt_sum(w2c_i1, w2c_i2);
   w2c_j0 <<= (w2c_j1 & 63);
   w2c_j1 = 18446744073709551615ull;
   w2c_j0 ^= w2c_j1;
@@ -77069,8 +77000,7 @@ static wasm_rt_part void w2c_f97(Z_hayro_jbig2_instance_t* RESTRICT instance, u6
   w2c_i2 = w2c_l23;
   w2c_i1 -= w2c_i2;
   w2c_i2 = 64u;
-  w2c_i1 += w2c_i2;
-  w2c_j1 = (u64)(w2c_i1);
+  w2c_j1 = wasm_rt_sum(w2c_i1, w2c_i2);
   w2c_j0 <<= (w2c_j1 & 63);
   w2c_l13 = w2c_j0;
   w2c_j0 = w2c_l11;
@@ -77303,8 +77233,7 @@ static wasm_rt_part void w2c_f97(Z_hayro_jbig2_instance_t* RESTRICT instance, u6
   w2c_i2 = w2c_l23;
   w2c_i1 -= w2c_i2;
   w2c_i2 = 64u;
-  w2c_i1 += w2c_i2;
-  w2c_j1 = (u64)(w2c_i1);
+  w2c_j1 = wasm_rt_sum(w2c_i1, w2c_i2);
   w2c_j0 <<= (w2c_j1 & 63);
   w2c_l13 = w2c_j0;
   w2c_j0 = w2c_l11;
@@ -77485,8 +77414,7 @@ static wasm_rt_part void w2c_f97(Z_hayro_jbig2_instance_t* RESTRICT instance, u6
   w2c_i2 = w2c_l23;
   w2c_i1 -= w2c_i2;
   w2c_i2 = 64u;
-  w2c_i1 += w2c_i2;
-  w2c_j1 = (u64)(w2c_i1);
+  w2c_j1 = wasm_rt_sum(w2c_i1, w2c_i2);
   w2c_j0 <<= (w2c_j1 & 63);
   w2c_l13 = w2c_j0;
   w2c_j1 = 18446744073709551615ull;
@@ -78194,8 +78122,7 @@ static wasm_rt_part void w2c_f98(Z_hayro_jbig2_instance_t* RESTRICT instance, u6
       w2c_j0 = w2c_l31;
       w2c_i1 = w2c_l18;
       w2c_i2 = 1u;
-      w2c_i1 += w2c_i2;
-      w2c_j1 = (u64)(w2c_i1);
+      w2c_j1 = wasm_rt_sum(w2c_i1, w2c_i2);
       w2c_l32 = w2c_j1;
       w2c_i0 = w2c_j0 <= w2c_j1;
       if (w2c_i0) {goto w2c_B9;}
@@ -78430,8 +78357,7 @@ static wasm_rt_part void w2c_f98(Z_hayro_jbig2_instance_t* RESTRICT instance, u6
   w2c_i2 = w2c_l8;
   w2c_i1 -= w2c_i2;
   w2c_i2 = 64u;
-  w2c_i1 += w2c_i2;
-  w2c_j1 = (u64)(w2c_i1);
+  w2c_j1 = wasm_rt_sum(w2c_i1, w2c_i2);
   w2c_j0 <<= (w2c_j1 & 63);
   w2c_l21 = w2c_j0;
   w2c_j1 = 18446744073709551615ull;
@@ -83278,8 +83204,7 @@ static wasm_rt_part void w2c_f107(Z_hayro_jbig2_instance_t* RESTRICT instance, u
   w2c_i1 = 4294967295u;
   w2c_i2 = w2c_l14;
   w2c_i1 <<= (w2c_i2 & 31);
-  w2c_i0 += w2c_i1;
-  w2c_j0 = (u64)(w2c_i0);
+  w2c_j0 = wasm_rt_sum(w2c_i0, w2c_i1);
   w2c_p4 = w2c_j0;
   w2c_j0 = w2c_p3;
   w2c_i0 = (u32)(w2c_j0);
@@ -84406,7 +84331,6 @@ static wasm_rt_part void w2c_f108(Z_hayro_jbig2_instance_t* RESTRICT instance, u
     if (w2c_i0) {goto w2c_L14;}
   w2c_B0:;
   w2c_j0 = w2c_l6;
-  instance->w2c_g0 = w2c_j0;
   FUNC_EPILOGUE;
 }
 
@@ -84661,8 +84585,7 @@ static wasm_rt_part void w2c_f109(Z_hayro_jbig2_instance_t* RESTRICT instance, u
       w2c_j5 = 48ull;
       w2c_j4 >>= (w2c_j5 & 63);
       w2c_i4 = (u32)(w2c_j4);
-      w2c_i3 += w2c_i4;
-      w2c_j3 = (u64)(w2c_i3);
+      w2c_j3 = wasm_rt_sum(w2c_i3, w2c_i4);
       w2c_j2 += w2c_j3;
       w2c_l17 = w2c_j2;
       w2c_i2 = (u32)(w2c_j2);
@@ -84737,8 +84660,7 @@ static wasm_rt_part void w2c_f109(Z_hayro_jbig2_instance_t* RESTRICT instance, u
       w2c_i4 = (u32)(w2c_j4);
       w2c_i3 += w2c_i4;
       w2c_i4 = w2c_l27;
-      w2c_i3 += w2c_i4;
-      w2c_j3 = (u64)(w2c_i3);
+      w2c_j3 = wasm_rt_sum(w2c_i3, w2c_i4);
       w2c_j2 += w2c_j3;
       w2c_l17 = w2c_j2;
       w2c_i2 = (u32)(w2c_j2);
@@ -84813,8 +84735,7 @@ static wasm_rt_part void w2c_f109(Z_hayro_jbig2_instance_t* RESTRICT instance, u
       w2c_i4 = (u32)(w2c_j4);
       w2c_i3 += w2c_i4;
       w2c_i4 = w2c_l21;
-      w2c_i3 += w2c_i4;
-      w2c_j3 = (u64)(w2c_i3);
+      w2c_j3 = wasm_rt_sum(w2c_i3, w2c_i4);
       w2c_j2 += w2c_j3;
       w2c_l17 = w2c_j2;
       w2c_i2 = (u32)(w2c_j2);
@@ -84889,8 +84810,7 @@ static wasm_rt_part void w2c_f109(Z_hayro_jbig2_instance_t* RESTRICT instance, u
       w2c_i4 = (u32)(w2c_j4);
       w2c_i3 += w2c_i4;
       w2c_i4 = w2c_l21;
-      w2c_i3 += w2c_i4;
-      w2c_j3 = (u64)(w2c_i3);
+      w2c_j3 = wasm_rt_sum(w2c_i3, w2c_i4);
       w2c_j2 += w2c_j3;
       w2c_l17 = w2c_j2;
       w2c_i2 = (u32)(w2c_j2);
@@ -84965,8 +84885,7 @@ static wasm_rt_part void w2c_f109(Z_hayro_jbig2_instance_t* RESTRICT instance, u
       w2c_i4 = (u32)(w2c_j4);
       w2c_i3 += w2c_i4;
       w2c_i4 = w2c_l21;
-      w2c_i3 += w2c_i4;
-      w2c_j3 = (u64)(w2c_i3);
+      w2c_j3 = wasm_rt_sum(w2c_i3, w2c_i4);
       w2c_j2 += w2c_j3;
       w2c_l17 = w2c_j2;
       w2c_i2 = (u32)(w2c_j2);
@@ -85041,8 +84960,7 @@ static wasm_rt_part void w2c_f109(Z_hayro_jbig2_instance_t* RESTRICT instance, u
       w2c_i4 = (u32)(w2c_j4);
       w2c_i3 += w2c_i4;
       w2c_i4 = w2c_l21;
-      w2c_i3 += w2c_i4;
-      w2c_j3 = (u64)(w2c_i3);
+      w2c_j3 = wasm_rt_sum(w2c_i3, w2c_i4);
       w2c_j2 += w2c_j3;
       w2c_l17 = w2c_j2;
       w2c_i2 = (u32)(w2c_j2);
@@ -85117,8 +85035,7 @@ static wasm_rt_part void w2c_f109(Z_hayro_jbig2_instance_t* RESTRICT instance, u
       w2c_i4 = (u32)(w2c_j4);
       w2c_i3 += w2c_i4;
       w2c_i4 = w2c_l21;
-      w2c_i3 += w2c_i4;
-      w2c_j3 = (u64)(w2c_i3);
+      w2c_j3 = wasm_rt_sum(w2c_i3, w2c_i4);
       w2c_j2 += w2c_j3;
       w2c_l17 = w2c_j2;
       w2c_i2 = (u32)(w2c_j2);
@@ -85193,8 +85110,7 @@ static wasm_rt_part void w2c_f109(Z_hayro_jbig2_instance_t* RESTRICT instance, u
       w2c_i4 = (u32)(w2c_j4);
       w2c_i3 += w2c_i4;
       w2c_i4 = w2c_l21;
-      w2c_i3 += w2c_i4;
-      w2c_j3 = (u64)(w2c_i3);
+      w2c_j3 = wasm_rt_sum(w2c_i3, w2c_i4);
       w2c_j2 += w2c_j3;
       w2c_p3 = w2c_j2;
       w2c_i2 = (u32)(w2c_j2);
@@ -85433,7 +85349,6 @@ static wasm_rt_part void w2c_f109(Z_hayro_jbig2_instance_t* RESTRICT instance, u
     if (w2c_i0) {goto w2c_L2;}
   w2c_B1:;
   w2c_j0 = w2c_l4;
-  instance->w2c_g0 = w2c_j0;
   goto w2c_Bfunc;
   w2c_B0:;
   UNREACHABLE;
@@ -85692,8 +85607,7 @@ static wasm_rt_part void w2c_f110(Z_hayro_jbig2_instance_t* RESTRICT instance, u
       w2c_j5 = 48ull;
       w2c_j4 >>= (w2c_j5 & 63);
       w2c_i4 = (u32)(w2c_j4);
-      w2c_i3 += w2c_i4;
-      w2c_j3 = (u64)(w2c_i3);
+      w2c_j3 = wasm_rt_sum(w2c_i3, w2c_i4);
       w2c_j2 += w2c_j3;
       w2c_l17 = w2c_j2;
       w2c_i2 = (u32)(w2c_j2);
@@ -85770,8 +85684,7 @@ static wasm_rt_part void w2c_f110(Z_hayro_jbig2_instance_t* RESTRICT instance, u
       w2c_i4 = (u32)(w2c_j4);
       w2c_i3 += w2c_i4;
       w2c_i4 = w2c_l28;
-      w2c_i3 += w2c_i4;
-      w2c_j3 = (u64)(w2c_i3);
+      w2c_j3 = wasm_rt_sum(w2c_i3, w2c_i4);
       w2c_j2 += w2c_j3;
       w2c_l17 = w2c_j2;
       w2c_i2 = (u32)(w2c_j2);
@@ -85846,8 +85759,7 @@ static wasm_rt_part void w2c_f110(Z_hayro_jbig2_instance_t* RESTRICT instance, u
       w2c_i4 = (u32)(w2c_j4);
       w2c_i3 += w2c_i4;
       w2c_i4 = w2c_l21;
-      w2c_i3 += w2c_i4;
-      w2c_j3 = (u64)(w2c_i3);
+      w2c_j3 = wasm_rt_sum(w2c_i3, w2c_i4);
       w2c_j2 += w2c_j3;
       w2c_l17 = w2c_j2;
       w2c_i2 = (u32)(w2c_j2);
@@ -85922,8 +85834,7 @@ static wasm_rt_part void w2c_f110(Z_hayro_jbig2_instance_t* RESTRICT instance, u
       w2c_i4 = (u32)(w2c_j4);
       w2c_i3 += w2c_i4;
       w2c_i4 = w2c_l21;
-      w2c_i3 += w2c_i4;
-      w2c_j3 = (u64)(w2c_i3);
+      w2c_j3 = wasm_rt_sum(w2c_i3, w2c_i4);
       w2c_j2 += w2c_j3;
       w2c_l17 = w2c_j2;
       w2c_i2 = (u32)(w2c_j2);
@@ -85998,8 +85909,7 @@ static wasm_rt_part void w2c_f110(Z_hayro_jbig2_instance_t* RESTRICT instance, u
       w2c_i4 = (u32)(w2c_j4);
       w2c_i3 += w2c_i4;
       w2c_i4 = w2c_l21;
-      w2c_i3 += w2c_i4;
-      w2c_j3 = (u64)(w2c_i3);
+      w2c_j3 = wasm_rt_sum(w2c_i3, w2c_i4);
       w2c_j2 += w2c_j3;
       w2c_l17 = w2c_j2;
       w2c_i2 = (u32)(w2c_j2);
@@ -86074,8 +85984,7 @@ static wasm_rt_part void w2c_f110(Z_hayro_jbig2_instance_t* RESTRICT instance, u
       w2c_i4 = (u32)(w2c_j4);
       w2c_i3 += w2c_i4;
       w2c_i4 = w2c_l21;
-      w2c_i3 += w2c_i4;
-      w2c_j3 = (u64)(w2c_i3);
+      w2c_j3 = wasm_rt_sum(w2c_i3, w2c_i4);
       w2c_j2 += w2c_j3;
       w2c_l17 = w2c_j2;
       w2c_i2 = (u32)(w2c_j2);
@@ -86150,8 +86059,7 @@ static wasm_rt_part void w2c_f110(Z_hayro_jbig2_instance_t* RESTRICT instance, u
       w2c_i4 = (u32)(w2c_j4);
       w2c_i3 += w2c_i4;
       w2c_i4 = w2c_l21;
-      w2c_i3 += w2c_i4;
-      w2c_j3 = (u64)(w2c_i3);
+      w2c_j3 = wasm_rt_sum(w2c_i3, w2c_i4);
       w2c_j2 += w2c_j3;
       w2c_l17 = w2c_j2;
       w2c_i2 = (u32)(w2c_j2);
@@ -86226,8 +86134,7 @@ static wasm_rt_part void w2c_f110(Z_hayro_jbig2_instance_t* RESTRICT instance, u
       w2c_i4 = (u32)(w2c_j4);
       w2c_i3 += w2c_i4;
       w2c_i4 = w2c_l21;
-      w2c_i3 += w2c_i4;
-      w2c_j3 = (u64)(w2c_i3);
+      w2c_j3 = wasm_rt_sum(w2c_i3, w2c_i4);
       w2c_j2 += w2c_j3;
       w2c_p3 = w2c_j2;
       w2c_i2 = (u32)(w2c_j2);
@@ -86469,7 +86376,6 @@ static wasm_rt_part void w2c_f110(Z_hayro_jbig2_instance_t* RESTRICT instance, u
     if (w2c_i0) {goto w2c_L2;}
   w2c_B1:;
   w2c_j0 = w2c_l4;
-  instance->w2c_g0 = w2c_j0;
   goto w2c_Bfunc;
   w2c_B0:;
   UNREACHABLE;
@@ -86728,8 +86634,7 @@ static wasm_rt_part void w2c_f111(Z_hayro_jbig2_instance_t* RESTRICT instance, u
       w2c_j5 = 48ull;
       w2c_j4 >>= (w2c_j5 & 63);
       w2c_i4 = (u32)(w2c_j4);
-      w2c_i3 += w2c_i4;
-      w2c_j3 = (u64)(w2c_i3);
+      w2c_j3 = wasm_rt_sum(w2c_i3, w2c_i4);
       w2c_j2 += w2c_j3;
       w2c_l17 = w2c_j2;
       w2c_i2 = (u32)(w2c_j2);
@@ -86806,8 +86711,7 @@ static wasm_rt_part void w2c_f111(Z_hayro_jbig2_instance_t* RESTRICT instance, u
       w2c_i4 = (u32)(w2c_j4);
       w2c_i3 += w2c_i4;
       w2c_i4 = w2c_l28;
-      w2c_i3 += w2c_i4;
-      w2c_j3 = (u64)(w2c_i3);
+      w2c_j3 = wasm_rt_sum(w2c_i3, w2c_i4);
       w2c_j2 += w2c_j3;
       w2c_l17 = w2c_j2;
       w2c_i2 = (u32)(w2c_j2);
@@ -86882,8 +86786,7 @@ static wasm_rt_part void w2c_f111(Z_hayro_jbig2_instance_t* RESTRICT instance, u
       w2c_i4 = (u32)(w2c_j4);
       w2c_i3 += w2c_i4;
       w2c_i4 = w2c_l21;
-      w2c_i3 += w2c_i4;
-      w2c_j3 = (u64)(w2c_i3);
+      w2c_j3 = wasm_rt_sum(w2c_i3, w2c_i4);
       w2c_j2 += w2c_j3;
       w2c_l17 = w2c_j2;
       w2c_i2 = (u32)(w2c_j2);
@@ -86958,8 +86861,7 @@ static wasm_rt_part void w2c_f111(Z_hayro_jbig2_instance_t* RESTRICT instance, u
       w2c_i4 = (u32)(w2c_j4);
       w2c_i3 += w2c_i4;
       w2c_i4 = w2c_l21;
-      w2c_i3 += w2c_i4;
-      w2c_j3 = (u64)(w2c_i3);
+      w2c_j3 = wasm_rt_sum(w2c_i3, w2c_i4);
       w2c_j2 += w2c_j3;
       w2c_l17 = w2c_j2;
       w2c_i2 = (u32)(w2c_j2);
@@ -87034,8 +86936,7 @@ static wasm_rt_part void w2c_f111(Z_hayro_jbig2_instance_t* RESTRICT instance, u
       w2c_i4 = (u32)(w2c_j4);
       w2c_i3 += w2c_i4;
       w2c_i4 = w2c_l21;
-      w2c_i3 += w2c_i4;
-      w2c_j3 = (u64)(w2c_i3);
+      w2c_j3 = wasm_rt_sum(w2c_i3, w2c_i4);
       w2c_j2 += w2c_j3;
       w2c_l17 = w2c_j2;
       w2c_i2 = (u32)(w2c_j2);
@@ -87110,8 +87011,7 @@ static wasm_rt_part void w2c_f111(Z_hayro_jbig2_instance_t* RESTRICT instance, u
       w2c_i4 = (u32)(w2c_j4);
       w2c_i3 += w2c_i4;
       w2c_i4 = w2c_l21;
-      w2c_i3 += w2c_i4;
-      w2c_j3 = (u64)(w2c_i3);
+      w2c_j3 = wasm_rt_sum(w2c_i3, w2c_i4);
       w2c_j2 += w2c_j3;
       w2c_l17 = w2c_j2;
       w2c_i2 = (u32)(w2c_j2);
@@ -87186,8 +87086,7 @@ static wasm_rt_part void w2c_f111(Z_hayro_jbig2_instance_t* RESTRICT instance, u
       w2c_i4 = (u32)(w2c_j4);
       w2c_i3 += w2c_i4;
       w2c_i4 = w2c_l21;
-      w2c_i3 += w2c_i4;
-      w2c_j3 = (u64)(w2c_i3);
+      w2c_j3 = wasm_rt_sum(w2c_i3, w2c_i4);
       w2c_j2 += w2c_j3;
       w2c_l17 = w2c_j2;
       w2c_i2 = (u32)(w2c_j2);
@@ -87262,8 +87161,7 @@ static wasm_rt_part void w2c_f111(Z_hayro_jbig2_instance_t* RESTRICT instance, u
       w2c_i4 = (u32)(w2c_j4);
       w2c_i3 += w2c_i4;
       w2c_i4 = w2c_l21;
-      w2c_i3 += w2c_i4;
-      w2c_j3 = (u64)(w2c_i3);
+      w2c_j3 = wasm_rt_sum(w2c_i3, w2c_i4);
       w2c_j2 += w2c_j3;
       w2c_p3 = w2c_j2;
       w2c_i2 = (u32)(w2c_j2);
@@ -87505,7 +87403,6 @@ static wasm_rt_part void w2c_f111(Z_hayro_jbig2_instance_t* RESTRICT instance, u
     if (w2c_i0) {goto w2c_L2;}
   w2c_B1:;
   w2c_j0 = w2c_l4;
-  instance->w2c_g0 = w2c_j0;
   goto w2c_Bfunc;
   w2c_B0:;
   UNREACHABLE;
@@ -87729,8 +87626,7 @@ static wasm_rt_part void w2c_f112(Z_hayro_jbig2_instance_t* RESTRICT instance, u
       w2c_j5 = 48ull;
       w2c_j4 >>= (w2c_j5 & 63);
       w2c_i4 = (u32)(w2c_j4);
-      w2c_i3 += w2c_i4;
-      w2c_j3 = (u64)(w2c_i3);
+      w2c_j3 = wasm_rt_sum(w2c_i3, w2c_i4);
       w2c_j2 += w2c_j3;
       w2c_l15 = w2c_j2;
       w2c_i2 = (u32)(w2c_j2);
@@ -87805,8 +87701,7 @@ static wasm_rt_part void w2c_f112(Z_hayro_jbig2_instance_t* RESTRICT instance, u
       w2c_i4 = (u32)(w2c_j4);
       w2c_i3 += w2c_i4;
       w2c_i4 = w2c_l25;
-      w2c_i3 += w2c_i4;
-      w2c_j3 = (u64)(w2c_i3);
+      w2c_j3 = wasm_rt_sum(w2c_i3, w2c_i4);
       w2c_j2 += w2c_j3;
       w2c_l15 = w2c_j2;
       w2c_i2 = (u32)(w2c_j2);
@@ -87881,8 +87776,7 @@ static wasm_rt_part void w2c_f112(Z_hayro_jbig2_instance_t* RESTRICT instance, u
       w2c_i4 = (u32)(w2c_j4);
       w2c_i3 += w2c_i4;
       w2c_i4 = w2c_l19;
-      w2c_i3 += w2c_i4;
-      w2c_j3 = (u64)(w2c_i3);
+      w2c_j3 = wasm_rt_sum(w2c_i3, w2c_i4);
       w2c_j2 += w2c_j3;
       w2c_l15 = w2c_j2;
       w2c_i2 = (u32)(w2c_j2);
@@ -87957,8 +87851,7 @@ static wasm_rt_part void w2c_f112(Z_hayro_jbig2_instance_t* RESTRICT instance, u
       w2c_i4 = (u32)(w2c_j4);
       w2c_i3 += w2c_i4;
       w2c_i4 = w2c_l19;
-      w2c_i3 += w2c_i4;
-      w2c_j3 = (u64)(w2c_i3);
+      w2c_j3 = wasm_rt_sum(w2c_i3, w2c_i4);
       w2c_j2 += w2c_j3;
       w2c_l15 = w2c_j2;
       w2c_i2 = (u32)(w2c_j2);
@@ -88033,8 +87926,7 @@ static wasm_rt_part void w2c_f112(Z_hayro_jbig2_instance_t* RESTRICT instance, u
       w2c_i4 = (u32)(w2c_j4);
       w2c_i3 += w2c_i4;
       w2c_i4 = w2c_l19;
-      w2c_i3 += w2c_i4;
-      w2c_j3 = (u64)(w2c_i3);
+      w2c_j3 = wasm_rt_sum(w2c_i3, w2c_i4);
       w2c_j2 += w2c_j3;
       w2c_l15 = w2c_j2;
       w2c_i2 = (u32)(w2c_j2);
@@ -88109,8 +88001,7 @@ static wasm_rt_part void w2c_f112(Z_hayro_jbig2_instance_t* RESTRICT instance, u
       w2c_i4 = (u32)(w2c_j4);
       w2c_i3 += w2c_i4;
       w2c_i4 = w2c_l19;
-      w2c_i3 += w2c_i4;
-      w2c_j3 = (u64)(w2c_i3);
+      w2c_j3 = wasm_rt_sum(w2c_i3, w2c_i4);
       w2c_j2 += w2c_j3;
       w2c_l15 = w2c_j2;
       w2c_i2 = (u32)(w2c_j2);
@@ -88185,8 +88076,7 @@ static wasm_rt_part void w2c_f112(Z_hayro_jbig2_instance_t* RESTRICT instance, u
       w2c_i4 = (u32)(w2c_j4);
       w2c_i3 += w2c_i4;
       w2c_i4 = w2c_l19;
-      w2c_i3 += w2c_i4;
-      w2c_j3 = (u64)(w2c_i3);
+      w2c_j3 = wasm_rt_sum(w2c_i3, w2c_i4);
       w2c_j2 += w2c_j3;
       w2c_l15 = w2c_j2;
       w2c_i2 = (u32)(w2c_j2);
@@ -88261,8 +88151,7 @@ static wasm_rt_part void w2c_f112(Z_hayro_jbig2_instance_t* RESTRICT instance, u
       w2c_i4 = (u32)(w2c_j4);
       w2c_i3 += w2c_i4;
       w2c_i4 = w2c_l19;
-      w2c_i3 += w2c_i4;
-      w2c_j3 = (u64)(w2c_i3);
+      w2c_j3 = wasm_rt_sum(w2c_i3, w2c_i4);
       w2c_j2 += w2c_j3;
       w2c_p3 = w2c_j2;
       w2c_i2 = (u32)(w2c_j2);
@@ -88484,7 +88373,6 @@ static wasm_rt_part void w2c_f112(Z_hayro_jbig2_instance_t* RESTRICT instance, u
     if (w2c_i0) {goto w2c_L2;}
   w2c_B1:;
   w2c_j0 = w2c_l4;
-  instance->w2c_g0 = w2c_j0;
   goto w2c_Bfunc;
   w2c_B0:;
   UNREACHABLE;
@@ -89044,8 +88932,7 @@ static wasm_rt_part void w2c_f113(Z_hayro_jbig2_instance_t* RESTRICT instance, u
       w2c_j5 = 48ull;
       w2c_j4 >>= (w2c_j5 & 63);
       w2c_i4 = (u32)(w2c_j4);
-      w2c_i3 += w2c_i4;
-      w2c_j3 = (u64)(w2c_i3);
+      w2c_j3 = wasm_rt_sum(w2c_i3, w2c_i4);
       w2c_j2 += w2c_j3;
       w2c_l20 = w2c_j2;
       w2c_i2 = (u32)(w2c_j2);
@@ -89120,8 +89007,7 @@ static wasm_rt_part void w2c_f113(Z_hayro_jbig2_instance_t* RESTRICT instance, u
       w2c_i4 = (u32)(w2c_j4);
       w2c_i3 += w2c_i4;
       w2c_i4 = w2c_l41;
-      w2c_i3 += w2c_i4;
-      w2c_j3 = (u64)(w2c_i3);
+      w2c_j3 = wasm_rt_sum(w2c_i3, w2c_i4);
       w2c_j2 += w2c_j3;
       w2c_l20 = w2c_j2;
       w2c_i2 = (u32)(w2c_j2);
@@ -89196,8 +89082,7 @@ static wasm_rt_part void w2c_f113(Z_hayro_jbig2_instance_t* RESTRICT instance, u
       w2c_i4 = (u32)(w2c_j4);
       w2c_i3 += w2c_i4;
       w2c_i4 = w2c_l40;
-      w2c_i3 += w2c_i4;
-      w2c_j3 = (u64)(w2c_i3);
+      w2c_j3 = wasm_rt_sum(w2c_i3, w2c_i4);
       w2c_j2 += w2c_j3;
       w2c_l20 = w2c_j2;
       w2c_i2 = (u32)(w2c_j2);
@@ -89272,8 +89157,7 @@ static wasm_rt_part void w2c_f113(Z_hayro_jbig2_instance_t* RESTRICT instance, u
       w2c_i4 = (u32)(w2c_j4);
       w2c_i3 += w2c_i4;
       w2c_i4 = w2c_l40;
-      w2c_i3 += w2c_i4;
-      w2c_j3 = (u64)(w2c_i3);
+      w2c_j3 = wasm_rt_sum(w2c_i3, w2c_i4);
       w2c_j2 += w2c_j3;
       w2c_l20 = w2c_j2;
       w2c_i2 = (u32)(w2c_j2);
@@ -89348,8 +89232,7 @@ static wasm_rt_part void w2c_f113(Z_hayro_jbig2_instance_t* RESTRICT instance, u
       w2c_i4 = (u32)(w2c_j4);
       w2c_i3 += w2c_i4;
       w2c_i4 = w2c_l40;
-      w2c_i3 += w2c_i4;
-      w2c_j3 = (u64)(w2c_i3);
+      w2c_j3 = wasm_rt_sum(w2c_i3, w2c_i4);
       w2c_j2 += w2c_j3;
       w2c_l20 = w2c_j2;
       w2c_i2 = (u32)(w2c_j2);
@@ -89424,8 +89307,7 @@ static wasm_rt_part void w2c_f113(Z_hayro_jbig2_instance_t* RESTRICT instance, u
       w2c_i4 = (u32)(w2c_j4);
       w2c_i3 += w2c_i4;
       w2c_i4 = w2c_l40;
-      w2c_i3 += w2c_i4;
-      w2c_j3 = (u64)(w2c_i3);
+      w2c_j3 = wasm_rt_sum(w2c_i3, w2c_i4);
       w2c_j2 += w2c_j3;
       w2c_l20 = w2c_j2;
       w2c_i2 = (u32)(w2c_j2);
@@ -89500,8 +89382,7 @@ static wasm_rt_part void w2c_f113(Z_hayro_jbig2_instance_t* RESTRICT instance, u
       w2c_i4 = (u32)(w2c_j4);
       w2c_i3 += w2c_i4;
       w2c_i4 = w2c_l40;
-      w2c_i3 += w2c_i4;
-      w2c_j3 = (u64)(w2c_i3);
+      w2c_j3 = wasm_rt_sum(w2c_i3, w2c_i4);
       w2c_j2 += w2c_j3;
       w2c_l20 = w2c_j2;
       w2c_i2 = (u32)(w2c_j2);
@@ -89576,8 +89457,7 @@ static wasm_rt_part void w2c_f113(Z_hayro_jbig2_instance_t* RESTRICT instance, u
       w2c_i4 = (u32)(w2c_j4);
       w2c_i3 += w2c_i4;
       w2c_i4 = w2c_l40;
-      w2c_i3 += w2c_i4;
-      w2c_j3 = (u64)(w2c_i3);
+      w2c_j3 = wasm_rt_sum(w2c_i3, w2c_i4);
       w2c_j2 += w2c_j3;
       w2c_l9 = w2c_j2;
       w2c_i2 = (u32)(w2c_j2);
@@ -89999,7 +89879,6 @@ static wasm_rt_part void w2c_f113(Z_hayro_jbig2_instance_t* RESTRICT instance, u
   w2c_j1 |= w2c_j2;
   i64_store(&memory, (size_t)(w2c_j0), 0u, w2c_j1);
   w2c_j0 = w2c_l5;
-  instance->w2c_g0 = w2c_j0;
   goto w2c_Bfunc;
   w2c_B0:;
   UNREACHABLE;
@@ -90562,8 +90441,7 @@ static wasm_rt_part void w2c_f114(Z_hayro_jbig2_instance_t* RESTRICT instance, u
       w2c_j5 = 48ull;
       w2c_j4 >>= (w2c_j5 & 63);
       w2c_i4 = (u32)(w2c_j4);
-      w2c_i3 += w2c_i4;
-      w2c_j3 = (u64)(w2c_i3);
+      w2c_j3 = wasm_rt_sum(w2c_i3, w2c_i4);
       w2c_j2 += w2c_j3;
       w2c_l20 = w2c_j2;
       w2c_i2 = (u32)(w2c_j2);
@@ -90638,8 +90516,7 @@ static wasm_rt_part void w2c_f114(Z_hayro_jbig2_instance_t* RESTRICT instance, u
       w2c_i4 = (u32)(w2c_j4);
       w2c_i3 += w2c_i4;
       w2c_i4 = w2c_l42;
-      w2c_i3 += w2c_i4;
-      w2c_j3 = (u64)(w2c_i3);
+      w2c_j3 = wasm_rt_sum(w2c_i3, w2c_i4);
       w2c_j2 += w2c_j3;
       w2c_l20 = w2c_j2;
       w2c_i2 = (u32)(w2c_j2);
@@ -90714,8 +90591,7 @@ static wasm_rt_part void w2c_f114(Z_hayro_jbig2_instance_t* RESTRICT instance, u
       w2c_i4 = (u32)(w2c_j4);
       w2c_i3 += w2c_i4;
       w2c_i4 = w2c_l40;
-      w2c_i3 += w2c_i4;
-      w2c_j3 = (u64)(w2c_i3);
+      w2c_j3 = wasm_rt_sum(w2c_i3, w2c_i4);
       w2c_j2 += w2c_j3;
       w2c_l20 = w2c_j2;
       w2c_i2 = (u32)(w2c_j2);
@@ -90790,8 +90666,7 @@ static wasm_rt_part void w2c_f114(Z_hayro_jbig2_instance_t* RESTRICT instance, u
       w2c_i4 = (u32)(w2c_j4);
       w2c_i3 += w2c_i4;
       w2c_i4 = w2c_l40;
-      w2c_i3 += w2c_i4;
-      w2c_j3 = (u64)(w2c_i3);
+      w2c_j3 = wasm_rt_sum(w2c_i3, w2c_i4);
       w2c_j2 += w2c_j3;
       w2c_l20 = w2c_j2;
       w2c_i2 = (u32)(w2c_j2);
@@ -90866,8 +90741,7 @@ static wasm_rt_part void w2c_f114(Z_hayro_jbig2_instance_t* RESTRICT instance, u
       w2c_i4 = (u32)(w2c_j4);
       w2c_i3 += w2c_i4;
       w2c_i4 = w2c_l40;
-      w2c_i3 += w2c_i4;
-      w2c_j3 = (u64)(w2c_i3);
+      w2c_j3 = wasm_rt_sum(w2c_i3, w2c_i4);
       w2c_j2 += w2c_j3;
       w2c_l20 = w2c_j2;
       w2c_i2 = (u32)(w2c_j2);
@@ -90942,8 +90816,7 @@ static wasm_rt_part void w2c_f114(Z_hayro_jbig2_instance_t* RESTRICT instance, u
       w2c_i4 = (u32)(w2c_j4);
       w2c_i3 += w2c_i4;
       w2c_i4 = w2c_l40;
-      w2c_i3 += w2c_i4;
-      w2c_j3 = (u64)(w2c_i3);
+      w2c_j3 = wasm_rt_sum(w2c_i3, w2c_i4);
       w2c_j2 += w2c_j3;
       w2c_l20 = w2c_j2;
       w2c_i2 = (u32)(w2c_j2);
@@ -91018,8 +90891,7 @@ static wasm_rt_part void w2c_f114(Z_hayro_jbig2_instance_t* RESTRICT instance, u
       w2c_i4 = (u32)(w2c_j4);
       w2c_i3 += w2c_i4;
       w2c_i4 = w2c_l40;
-      w2c_i3 += w2c_i4;
-      w2c_j3 = (u64)(w2c_i3);
+      w2c_j3 = wasm_rt_sum(w2c_i3, w2c_i4);
       w2c_j2 += w2c_j3;
       w2c_l20 = w2c_j2;
       w2c_i2 = (u32)(w2c_j2);
@@ -91094,8 +90966,7 @@ static wasm_rt_part void w2c_f114(Z_hayro_jbig2_instance_t* RESTRICT instance, u
       w2c_i4 = (u32)(w2c_j4);
       w2c_i3 += w2c_i4;
       w2c_i4 = w2c_l40;
-      w2c_i3 += w2c_i4;
-      w2c_j3 = (u64)(w2c_i3);
+      w2c_j3 = wasm_rt_sum(w2c_i3, w2c_i4);
       w2c_j2 += w2c_j3;
       w2c_l9 = w2c_j2;
       w2c_i2 = (u32)(w2c_j2);
@@ -91519,7 +91390,6 @@ static wasm_rt_part void w2c_f114(Z_hayro_jbig2_instance_t* RESTRICT instance, u
   w2c_j1 |= w2c_j2;
   i64_store(&memory, (size_t)(w2c_j0), 0u, w2c_j1);
   w2c_j0 = w2c_l5;
-  instance->w2c_g0 = w2c_j0;
   goto w2c_Bfunc;
   w2c_B0:;
   UNREACHABLE;
@@ -92082,8 +91952,7 @@ static wasm_rt_part void w2c_f115(Z_hayro_jbig2_instance_t* RESTRICT instance, u
       w2c_j5 = 48ull;
       w2c_j4 >>= (w2c_j5 & 63);
       w2c_i4 = (u32)(w2c_j4);
-      w2c_i3 += w2c_i4;
-      w2c_j3 = (u64)(w2c_i3);
+      w2c_j3 = wasm_rt_sum(w2c_i3, w2c_i4);
       w2c_j2 += w2c_j3;
       w2c_l20 = w2c_j2;
       w2c_i2 = (u32)(w2c_j2);
@@ -92158,8 +92027,7 @@ static wasm_rt_part void w2c_f115(Z_hayro_jbig2_instance_t* RESTRICT instance, u
       w2c_i4 = (u32)(w2c_j4);
       w2c_i3 += w2c_i4;
       w2c_i4 = w2c_l42;
-      w2c_i3 += w2c_i4;
-      w2c_j3 = (u64)(w2c_i3);
+      w2c_j3 = wasm_rt_sum(w2c_i3, w2c_i4);
       w2c_j2 += w2c_j3;
       w2c_l20 = w2c_j2;
       w2c_i2 = (u32)(w2c_j2);
@@ -92234,8 +92102,7 @@ static wasm_rt_part void w2c_f115(Z_hayro_jbig2_instance_t* RESTRICT instance, u
       w2c_i4 = (u32)(w2c_j4);
       w2c_i3 += w2c_i4;
       w2c_i4 = w2c_l40;
-      w2c_i3 += w2c_i4;
-      w2c_j3 = (u64)(w2c_i3);
+      w2c_j3 = wasm_rt_sum(w2c_i3, w2c_i4);
       w2c_j2 += w2c_j3;
       w2c_l20 = w2c_j2;
       w2c_i2 = (u32)(w2c_j2);
@@ -92310,8 +92177,7 @@ static wasm_rt_part void w2c_f115(Z_hayro_jbig2_instance_t* RESTRICT instance, u
       w2c_i4 = (u32)(w2c_j4);
       w2c_i3 += w2c_i4;
       w2c_i4 = w2c_l40;
-      w2c_i3 += w2c_i4;
-      w2c_j3 = (u64)(w2c_i3);
+      w2c_j3 = wasm_rt_sum(w2c_i3, w2c_i4);
       w2c_j2 += w2c_j3;
       w2c_l20 = w2c_j2;
       w2c_i2 = (u32)(w2c_j2);
@@ -92386,8 +92252,7 @@ static wasm_rt_part void w2c_f115(Z_hayro_jbig2_instance_t* RESTRICT instance, u
       w2c_i4 = (u32)(w2c_j4);
       w2c_i3 += w2c_i4;
       w2c_i4 = w2c_l40;
-      w2c_i3 += w2c_i4;
-      w2c_j3 = (u64)(w2c_i3);
+      w2c_j3 = wasm_rt_sum(w2c_i3, w2c_i4);
       w2c_j2 += w2c_j3;
       w2c_l20 = w2c_j2;
       w2c_i2 = (u32)(w2c_j2);
@@ -92462,8 +92327,7 @@ static wasm_rt_part void w2c_f115(Z_hayro_jbig2_instance_t* RESTRICT instance, u
       w2c_i4 = (u32)(w2c_j4);
       w2c_i3 += w2c_i4;
       w2c_i4 = w2c_l40;
-      w2c_i3 += w2c_i4;
-      w2c_j3 = (u64)(w2c_i3);
+      w2c_j3 = wasm_rt_sum(w2c_i3, w2c_i4);
       w2c_j2 += w2c_j3;
       w2c_l20 = w2c_j2;
       w2c_i2 = (u32)(w2c_j2);
@@ -92538,8 +92402,7 @@ static wasm_rt_part void w2c_f115(Z_hayro_jbig2_instance_t* RESTRICT instance, u
       w2c_i4 = (u32)(w2c_j4);
       w2c_i3 += w2c_i4;
       w2c_i4 = w2c_l40;
-      w2c_i3 += w2c_i4;
-      w2c_j3 = (u64)(w2c_i3);
+      w2c_j3 = wasm_rt_sum(w2c_i3, w2c_i4);
       w2c_j2 += w2c_j3;
       w2c_l20 = w2c_j2;
       w2c_i2 = (u32)(w2c_j2);
@@ -92614,8 +92477,7 @@ static wasm_rt_part void w2c_f115(Z_hayro_jbig2_instance_t* RESTRICT instance, u
       w2c_i4 = (u32)(w2c_j4);
       w2c_i3 += w2c_i4;
       w2c_i4 = w2c_l40;
-      w2c_i3 += w2c_i4;
-      w2c_j3 = (u64)(w2c_i3);
+      w2c_j3 = wasm_rt_sum(w2c_i3, w2c_i4);
       w2c_j2 += w2c_j3;
       w2c_l9 = w2c_j2;
       w2c_i2 = (u32)(w2c_j2);
@@ -93039,7 +92901,6 @@ static wasm_rt_part void w2c_f115(Z_hayro_jbig2_instance_t* RESTRICT instance, u
   w2c_j1 |= w2c_j2;
   i64_store(&memory, (size_t)(w2c_j0), 0u, w2c_j1);
   w2c_j0 = w2c_l5;
-  instance->w2c_g0 = w2c_j0;
   goto w2c_Bfunc;
   w2c_B0:;
   UNREACHABLE;
@@ -93433,8 +93294,7 @@ static wasm_rt_part void w2c_f116(Z_hayro_jbig2_instance_t* RESTRICT instance, u
       w2c_j5 = 48ull;
       w2c_j4 >>= (w2c_j5 & 63);
       w2c_i4 = (u32)(w2c_j4);
-      w2c_i3 += w2c_i4;
-      w2c_j3 = (u64)(w2c_i3);
+      w2c_j3 = wasm_rt_sum(w2c_i3, w2c_i4);
       w2c_j2 += w2c_j3;
       w2c_l16 = w2c_j2;
       w2c_i2 = (u32)(w2c_j2);
@@ -93509,8 +93369,7 @@ static wasm_rt_part void w2c_f116(Z_hayro_jbig2_instance_t* RESTRICT instance, u
       w2c_i4 = (u32)(w2c_j4);
       w2c_i3 += w2c_i4;
       w2c_i4 = w2c_l33;
-      w2c_i3 += w2c_i4;
-      w2c_j3 = (u64)(w2c_i3);
+      w2c_j3 = wasm_rt_sum(w2c_i3, w2c_i4);
       w2c_j2 += w2c_j3;
       w2c_l16 = w2c_j2;
       w2c_i2 = (u32)(w2c_j2);
@@ -93585,8 +93444,7 @@ static wasm_rt_part void w2c_f116(Z_hayro_jbig2_instance_t* RESTRICT instance, u
       w2c_i4 = (u32)(w2c_j4);
       w2c_i3 += w2c_i4;
       w2c_i4 = w2c_l32;
-      w2c_i3 += w2c_i4;
-      w2c_j3 = (u64)(w2c_i3);
+      w2c_j3 = wasm_rt_sum(w2c_i3, w2c_i4);
       w2c_j2 += w2c_j3;
       w2c_l16 = w2c_j2;
       w2c_i2 = (u32)(w2c_j2);
@@ -93661,8 +93519,7 @@ static wasm_rt_part void w2c_f116(Z_hayro_jbig2_instance_t* RESTRICT instance, u
       w2c_i4 = (u32)(w2c_j4);
       w2c_i3 += w2c_i4;
       w2c_i4 = w2c_l32;
-      w2c_i3 += w2c_i4;
-      w2c_j3 = (u64)(w2c_i3);
+      w2c_j3 = wasm_rt_sum(w2c_i3, w2c_i4);
       w2c_j2 += w2c_j3;
       w2c_l16 = w2c_j2;
       w2c_i2 = (u32)(w2c_j2);
@@ -93737,8 +93594,7 @@ static wasm_rt_part void w2c_f116(Z_hayro_jbig2_instance_t* RESTRICT instance, u
       w2c_i4 = (u32)(w2c_j4);
       w2c_i3 += w2c_i4;
       w2c_i4 = w2c_l32;
-      w2c_i3 += w2c_i4;
-      w2c_j3 = (u64)(w2c_i3);
+      w2c_j3 = wasm_rt_sum(w2c_i3, w2c_i4);
       w2c_j2 += w2c_j3;
       w2c_l16 = w2c_j2;
       w2c_i2 = (u32)(w2c_j2);
@@ -93813,8 +93669,7 @@ static wasm_rt_part void w2c_f116(Z_hayro_jbig2_instance_t* RESTRICT instance, u
       w2c_i4 = (u32)(w2c_j4);
       w2c_i3 += w2c_i4;
       w2c_i4 = w2c_l32;
-      w2c_i3 += w2c_i4;
-      w2c_j3 = (u64)(w2c_i3);
+      w2c_j3 = wasm_rt_sum(w2c_i3, w2c_i4);
       w2c_j2 += w2c_j3;
       w2c_l16 = w2c_j2;
       w2c_i2 = (u32)(w2c_j2);
@@ -93889,8 +93744,7 @@ static wasm_rt_part void w2c_f116(Z_hayro_jbig2_instance_t* RESTRICT instance, u
       w2c_i4 = (u32)(w2c_j4);
       w2c_i3 += w2c_i4;
       w2c_i4 = w2c_l32;
-      w2c_i3 += w2c_i4;
-      w2c_j3 = (u64)(w2c_i3);
+      w2c_j3 = wasm_rt_sum(w2c_i3, w2c_i4);
       w2c_j2 += w2c_j3;
       w2c_l16 = w2c_j2;
       w2c_i2 = (u32)(w2c_j2);
@@ -93965,8 +93819,7 @@ static wasm_rt_part void w2c_f116(Z_hayro_jbig2_instance_t* RESTRICT instance, u
       w2c_i4 = (u32)(w2c_j4);
       w2c_i3 += w2c_i4;
       w2c_i4 = w2c_l32;
-      w2c_i3 += w2c_i4;
-      w2c_j3 = (u64)(w2c_i3);
+      w2c_j3 = wasm_rt_sum(w2c_i3, w2c_i4);
       w2c_j2 += w2c_j3;
       w2c_p4 = w2c_j2;
       w2c_i2 = (u32)(w2c_j2);
@@ -94348,7 +94201,6 @@ static wasm_rt_part void w2c_f116(Z_hayro_jbig2_instance_t* RESTRICT instance, u
   w2c_j1 |= w2c_j2;
   i64_store(&memory, (size_t)(w2c_j0), 0u, w2c_j1);
   w2c_j0 = w2c_l5;
-  instance->w2c_g0 = w2c_j0;
   goto w2c_Bfunc;
   w2c_B0:;
   UNREACHABLE;
@@ -116335,8 +116187,7 @@ static wasm_rt_part void w2c_f138(Z_hayro_jbig2_instance_t* RESTRICT instance, u
     w2c_j0 = 1ull;
     w2c_i1 = w2c_l19;
     w2c_i2 = 2u;
-    w2c_i1 += w2c_i2;
-    w2c_j1 = (u64)(w2c_i1);
+    w2c_j1 = wasm_rt_sum(w2c_i1, w2c_i2);
     w2c_j0 <<= (w2c_j1 & 63);
     w2c_j1 = w2c_l6;
     w2c_i0 = w2c_j0 < w2c_j1;
@@ -121375,8 +121226,7 @@ static wasm_rt_part void w2c_f145(Z_hayro_jbig2_instance_t* RESTRICT instance, u
       w2c_j0 = w2c_l21;
       w2c_i1 = w2c_l39;
       w2c_i2 = 1u;
-      w2c_i1 += w2c_i2;
-      w2c_j1 = (u64)(w2c_i1);
+      w2c_j1 = wasm_rt_sum(w2c_i1, w2c_i2);
       w2c_l20 = w2c_j1;
       w2c_i0 = w2c_j0 <= w2c_j1;
       if (w2c_i0) {goto w2c_B16;}
@@ -121619,8 +121469,7 @@ static wasm_rt_part void w2c_f145(Z_hayro_jbig2_instance_t* RESTRICT instance, u
         w2c_j5 = w2c_p0;
         w2c_i5 = (u32)(w2c_j5);
         w2c_i4 &= w2c_i5;
-        w2c_i3 += w2c_i4;
-        w2c_j3 = (u64)(w2c_i3);
+        w2c_j3 = wasm_rt_sum(w2c_i3, w2c_i4);
         w2c_j2 += w2c_j3;
         w2c_l19 = w2c_j2;
         w2c_i2 = (u32)(w2c_j2);
@@ -123498,7 +123347,6 @@ static wasm_rt_part void w2c_f148(Z_hayro_jbig2_instance_t* RESTRICT instance, u
   (*Z_heapZ_jbig2_c_give_back)((struct Z_heap_instance_t*)instance, w2c_j0, w2c_j1, w2c_j2);
   w2c_B1:;
   w2c_j0 = w2c_l1;
-  instance->w2c_g0 = w2c_j0;
   goto w2c_Bfunc;
   w2c_B0:;
   UNREACHABLE;
@@ -128094,8 +127942,7 @@ static wasm_rt_part void w2c_f161(Z_hayro_jbig2_instance_t* RESTRICT instance, u
     w2c_j0 = w2c_l13;
     w2c_i1 = w2c_l19;
     w2c_i2 = 1u;
-    w2c_i1 += w2c_i2;
-    w2c_j1 = (u64)(w2c_i1);
+    w2c_j1 = wasm_rt_sum(w2c_i1, w2c_i2);
     w2c_l14 = w2c_j1;
     w2c_i0 = w2c_j0 <= w2c_j1;
     if (w2c_i0) {goto w2c_B12;}
@@ -128316,8 +128163,7 @@ static wasm_rt_part void w2c_f161(Z_hayro_jbig2_instance_t* RESTRICT instance, u
   w2c_i2 &= w2c_i3;
   w2c_i3 = 0u;
   w2c_i2 = w2c_i2 != w2c_i3;
-  w2c_i1 += w2c_i2;
-  w2c_j1 = (u64)(w2c_i1);
+  w2c_j1 = wasm_rt_sum(w2c_i1, w2c_i2);
   w2c_i2 = w2c_l19;
   w2c_j2 = (u64)(w2c_i2);
   w2c_j1 *= w2c_j2;
@@ -129394,8 +129240,7 @@ static wasm_rt_part void w2c_f163(Z_hayro_jbig2_instance_t* RESTRICT instance, u
   w2c_i3 &= w2c_i4;
   w2c_i4 = 0u;
   w2c_i3 = w2c_i3 != w2c_i4;
-  w2c_i2 += w2c_i3;
-  w2c_j2 = (u64)(w2c_i2);
+  w2c_j2 = wasm_rt_sum(w2c_i2, w2c_i3);
   w2c_l9 = w2c_j2;
   w2c_j1 = DIV_U(w2c_j1, w2c_j2);
   w2c_p0 = w2c_j1;
@@ -129628,8 +129473,7 @@ static wasm_rt_part void w2c_f163(Z_hayro_jbig2_instance_t* RESTRICT instance, u
     w2c_j0 = w2c_l16;
     w2c_i1 = w2c_l6;
     w2c_i2 = 1u;
-    w2c_i1 += w2c_i2;
-    w2c_j1 = (u64)(w2c_i1);
+    w2c_j1 = wasm_rt_sum(w2c_i1, w2c_i2);
     w2c_l17 = w2c_j1;
     w2c_i0 = w2c_j0 <= w2c_j1;
     if (w2c_i0) {goto w2c_B10;}
@@ -140336,8 +140180,7 @@ static wasm_rt_part u32 w2c_f236(Z_hayro_jbig2_instance_t* RESTRICT instance, u6
   w2c_i1 &= w2c_i2;
   w2c_i2 = 0u;
   w2c_i1 = w2c_i1 != w2c_i2;
-  w2c_i0 += w2c_i1;
-  w2c_j0 = (u64)(w2c_i0);
+  w2c_j0 = wasm_rt_sum(w2c_i0, w2c_i1);
   w2c_i1 = w2c_l12;
   w2c_j1 = (u64)(w2c_i1);
   w2c_j0 *= w2c_j1;

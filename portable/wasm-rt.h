@@ -87,6 +87,20 @@ static wasm_rt_inline uint64_t wasm_rt_hidden_factor(uint64_t factor) {
 #define wasm_rt_hidden_factor(factor) (factor)
 #endif
 
+/* A sum of 32 bits, of which the second number is often known later than the first, as a number of 64 bits. gcc isn't to add
+ * in another order, nor to widen the sum by an instruction of its own. */
+static wasm_rt_inline uint64_t wasm_rt_sum(uint32_t early, uint32_t late) {
+    uint64_t sum;
+#if defined(__GNUC__) && !defined(__clang__) && defined(__x86_64__)
+    __asm__("" : "+r"(early));
+    sum = (uint32_t)(early + late);
+    __asm__("" : "+r"(sum));
+#else
+    sum = (uint32_t)(early + late);
+#endif
+    return sum;
+}
+
 /* Why the module can't go on. */
 typedef enum {
     WASM_RT_TRAP_NONE,
