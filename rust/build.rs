@@ -9,8 +9,12 @@ use std::path::{Path, PathBuf};
 use std::process::Command;
 use std::{env, fs};
 
-/// The text of the repository, and its copy in a packaged crate. `HAYRO_JBIG2_TEXT` may name another.
-const TEXTS: [&str; 2] = ["../dist/x86_64/libhayro_jbig2.s", "text/libhayro_jbig2.s"];
+/// The texts of the repository, and their copies in a packaged crate: a processor, as targets name it, and two files.
+/// `HAYRO_JBIG2_TEXT` may name another.
+const TEXTS: [(&str, [&str; 2]); 2] = [
+    ("x86_64", ["../dist/x86_64/libhayro_jbig2.s", "text/x86_64/libhayro_jbig2.s"]),
+    ("aarch64", ["../dist/aarch64/libhayro_jbig2.s", "text/aarch64/libhayro_jbig2.s"]),
+];
 
 /// What the text calls of `src/library/memory.rs`.
 const CALLED: [&str; 2] = ["jbig2_c_take", "jbig2_c_give_back"];
@@ -31,7 +35,7 @@ const PORTABLE_FILES: [&str; 8] = [
 const PORTABLE_HEADERS: [&str; 6] =
     ["hayro_jbig2_module.h", "instance.h", "held.h", "calls.h", "wasm-rt.h", "../c/hayro_jbig2.h"];
 
-/// A note of ELF: the program needs a processor of the level x86-64-v2. The loader of glibc 2.33 and later then refuses
+/// A note of ELF, for x86-64: the program needs a processor of the level x86-64-v2. The loader of glibc 2.33 and later then refuses
 /// an older one, before the first instruction (`dist/processor.h`), where GNU ld has linked the program. LLD drops the
 /// note, so `src/library/processor.rs` looks too.
 const LEVEL: &str = "\t.section .note.gnu.property,\"a\",@note\n\t.p2align 3\n\t.long 4, 16, 5\n\t.asciz \"GNU\"\n\
@@ -42,26 +46,29 @@ fn main() {
     let made = PathBuf::from(env::var_os("OUT_DIR").expect("cargo names a folder"));
     println!("cargo::rustc-check-cfg=cfg(hayro_jbig2_portable)");
     println!("cargo::rerun-if-env-changed=HAYRO_JBIG2_PORTABLE");
-    if has_text(&target) {
-        prepare_text(&made);
+    if let Some(texts) = texts_for(&target) {
+        prepare_text(&target, texts, &made);
     } else {
         println!("cargo::rustc-cfg=hayro_jbig2_portable");
         compile_portable(&target, &made);
     }
 }
 
-fn has_text(target: &str) -> bool {
+/// Where the text is that fits the target, if there is one.
+fn texts_for(target: &str) -> Option<&'static [&'static str; 2]> {
     let width = env::var("CARGO_CFG_TARGET_POINTER_WIDTH").expect("cargo names the width of pointers");
-    let fits = target.starts_with("x86_64-") && target.contains("-linux-") && width == "64";
-    fits && env::var("HAYRO_JBIG2_PORTABLE").as_deref() != Ok("1")
+    let is_passed_over = env::var("HAYRO_JBIG2_PORTABLE").as_deref() == Ok("1");
+    let fits = target.contains("-linux-") && width == "64" && !is_passed_over;
+    let processor = target.split('-').next();
+    TEXTS.iter().find(|(name, _)| fits && processor == Some(name)).map(|(_, texts)| texts)
 }
 
-fn prepare_text(made: &Path) {
-    let text = env::var("HAYRO_JBIG2_TEXT").unwrap_or_else(|_| found(&TEXTS).to_owned());
+fn prepare_text(target: &str, texts: &[&'static str; 2], made: &Path) {
+    let text = env::var("HAYRO_JBIG2_TEXT").unwrap_or_else(|_| found(texts).to_owned());
     println!("cargo::rerun-if-env-changed=HAYRO_JBIG2_TEXT");
     println!("cargo::rerun-if-changed={text}");
     let read = fs::read_to_string(&text).unwrap_or_else(|error| panic!("the library's text {text}: {error}"));
-    let prepared = prepared(&read) + LEVEL;
+    let prepared = prepared(&read) + if target.starts_with("x86_64-") { LEVEL } else { "" };
     fs::write(made.join("libhayro_jbig2.s"), prepared).expect("the text can be written into cargo's folder");
 }
 

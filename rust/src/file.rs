@@ -14,7 +14,8 @@ pub struct File<'a> {
 
 impl<'a> File<'a> {
     /// Reads a file: its header and its segments' headers. Its pages are decoded later, each by [`Page::decode`]. What
-    /// the pages share is decoded now, and may take 1024 units of work for each byte of the file, and 2^24 at least.
+    /// the pages share is decoded now, and may take 1024 units of work for each byte of the file, but 2^30 at most, and
+    /// 2^24 at least.
     ///
     /// # Errors
     ///

@@ -12,7 +12,8 @@ pub struct Globals {
 }
 
 impl Globals {
-    /// Reads and decodes the segments of `data`. That may take 1024 units of work for each byte, and 2^24 at least.
+    /// Reads and decodes the segments of `data`. That may take 1024 units of work for each byte, but 2^30 at most, and 2^24
+    /// at least.
     ///
     /// # Errors
     ///

@@ -6,6 +6,8 @@ const FOR_A_PIXEL: u64 = 100;
 const FOR_A_BYTE: u64 = 1024;
 /// What small pages and small globals may take.
 const LEAST: u64 = 1 << 24;
+/// What pages share may take at most, however many bytes it has: a PDF file packs a thousand of them into one.
+const MOST_TO_SHARE: u64 = 1 << 30;
 /// `HAYRO_JBIG2_NO_WORK_LIMIT`
 const NONE: u64 = u64::MAX;
 
@@ -31,7 +33,7 @@ impl Limit {
 
     /// The units that so many bytes may take, of which pages share what they decode to.
     pub(crate) fn of_shared(self, length: usize) -> u64 {
-        self.units(|| (length as u64).saturating_mul(FOR_A_BYTE))
+        self.units(|| (length as u64).saturating_mul(FOR_A_BYTE).min(MOST_TO_SHARE))
     }
 
     fn units(self, usual: impl FnOnce() -> u64) -> u64 {

@@ -101,6 +101,20 @@ fn small_globals_are_refused_at_once() {
     assert!(began.elapsed() < Duration::from_secs(10), "{:?}", began.elapsed());
 }
 
+/// A PDF file packs four million zeros into four thousand bytes, so these lift the limit no further than to 2^30.
+#[test]
+fn many_bytes_lift_the_limit_of_globals_no_further_than_so_far() {
+    // 40 dictionaries of 1000 patterns of 1 by 255 pixels, which take 33 million units each.
+    let mut data: Vec<u8> = (1..=40u8)
+        .flat_map(|number| [&[0, 0, 0, number][..], &hex("10 00 01 00000007 0001FF000003E7")].concat())
+        .collect();
+    data.extend(hex("000000FF 3E 00 00 003D0900"));
+    data.resize(data.len() + 4_000_000, 0);
+    assert_eq!(Globals::new(&data, &LENIENT).err(), Some(DecodeError::WorkLimit));
+    assert_eq!(Globals::salvaged(&data).err(), Some(DecodeError::WorkLimit));
+    assert!(Globals::new_within(&data, &LENIENT, Some(1 << 31)).is_ok());
+}
+
 #[test]
 fn limits_are_set_and_lifted() {
     let file = File::new(EXAMPLE, &STRICT).unwrap();

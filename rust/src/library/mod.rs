@@ -13,7 +13,7 @@ mod globals;
 mod memory;
 mod numbers;
 mod page;
-#[cfg(not(hayro_jbig2_portable))]
+#[cfg(all(not(hayro_jbig2_portable), target_arch = "x86_64"))]
 mod processor;
 
 use core::ptr::{self, NonNull};
@@ -26,13 +26,15 @@ pub(crate) use file::File;
 pub(crate) use globals::Globals;
 pub(crate) use page::Page;
 
-#[cfg(not(hayro_jbig2_portable))]
+#[cfg(all(not(hayro_jbig2_portable), target_arch = "x86_64"))]
 core::arch::global_asm!(include_str!(concat!(env!("OUT_DIR"), "/libhayro_jbig2.s")), options(att_syntax, raw));
+#[cfg(all(not(hayro_jbig2_portable), not(target_arch = "x86_64")))]
+core::arch::global_asm!(include_str!(concat!(env!("OUT_DIR"), "/libhayro_jbig2.s")), options(raw));
 
 /// What the calls that make a handle are handed for memory: that of `memory.rs`, or of C where the library is that of
 /// `portable/`. No other call comes before such a one, so the processor is checked here.
 fn allocator() -> *const ffi::Memory {
-    #[cfg(not(hayro_jbig2_portable))]
+    #[cfg(all(not(hayro_jbig2_portable), target_arch = "x86_64"))]
     processor::check();
     ptr::null()
 }
