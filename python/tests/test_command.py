@@ -66,6 +66,12 @@ class Command(unittest.TestCase):
                 status = end.code
         return status, output.getvalue(), messages.getvalue()
 
+    def test_a_closed_standard_input_is_told(self):
+        with mock.patch.object(sys, "stdin", None), contextlib.redirect_stderr(io.StringIO()) as said:
+            with mock.patch.object(sys, "argv", ["hayro_jbig2", "-", os.devnull + ".png"]):
+                self.assertEqual(command.main(), 1)
+        self.assertEqual(said.getvalue(), "standard input is closed\n")
+
     def test_it_is_a_command(self):
         words = [sys.executable, "-m", "hayro_jbig2"]
         run = subprocess.run([*words, EXAMPLE, "page.pbm", "--page", "1"], capture_output=True, check=False)

@@ -56,6 +56,15 @@ class Lifetimes(unittest.TestCase):
     def test_threads_decode_damaged_pages_with_the_same_globals(self):
         self.run_program("damaged_inputs")
 
+    def test_children_of_a_process_with_threads_decode(self):
+        self.run_program("forks")
+
+    def test_subinterpreters_decode(self):
+        self.run_program("subinterpreters")
+
+    def test_without_the_gil_globals_serve_one_thread_at_a_time(self):
+        self.run_program("without_the_gil")
+
 
 class Values(unittest.TestCase):
     def test_pages_are_values(self):
@@ -89,9 +98,14 @@ class Values(unittest.TestCase):
                 processes.submit(hayro_jbig2.decode, BOOK, page=3).result()
 
     def test_globals_are_not_copied(self):
+        shared = hayro_jbig2.Globals(lifetimes.GLOBALS)
         for copied in pickle.dumps, copy.deepcopy:
-            with self.assertRaises((TypeError, ValueError)):
-                copied(hayro_jbig2.Globals(lifetimes.GLOBALS))
+            with self.assertRaisesRegex(TypeError, "hand on the bytes"):
+                copied(shared)
+        # Both are one handle.
+        self.assertEqual(hayro_jbig2.decode(lifetimes.TEXT, globals=copy.copy(shared)).rows, b"\x80")
+        with self.assertRaisesRegex(TypeError, "hand on the bytes"):
+            copy.copy(shared._inner)
 
 
 if __name__ == "__main__":

@@ -57,6 +57,16 @@ class Limits(unittest.TestCase):
     def test_globals_may_take_more_where_there_are_more_bytes(self):
         hayro_jbig2.Globals(PATTERNS[:7] + (40_007).to_bytes(4, "big") + PATTERNS[11:] + bytes(40_000))
 
+    def test_many_bytes_lift_the_limit_no_further_than_so_far(self):
+        # A PDF file packs four million zeros into four thousand bytes.
+        many = b"".join(number.to_bytes(4, "big") + PATTERNS[4:] for number in range(1, 41))
+        zeros = bytes.fromhex("000000FF 3E 00 00 003D0900") + bytes(4_000_000)
+        for salvage in False, True:
+            with self.assertRaises(hayro_jbig2.WorkLimitReached) as caught:
+                hayro_jbig2.Globals(many + zeros, salvage=salvage)
+            self.assertEqual(str(caught.exception), "the limit of 1073741824 units of work is reached")
+        hayro_jbig2.Globals(many + zeros, work_limit=1 << 31)
+
     def test_a_limit_of_ones_own(self):
         page = hayro_jbig2.decode(EXAMPLE)
         for limit in "default", None, 1 << 20, 2**64 - 1, 2**64:

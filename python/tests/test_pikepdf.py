@@ -2,22 +2,28 @@
 
 from __future__ import annotations
 
+import contextlib
 import io
 import os
 import pathlib
 import sys
 import unittest
+from unittest import mock
 
 import pikepdf
 from pikepdf import jbig2
 
 import hayro_jbig2.pikepdf
 from pages import GLOBALS, HEADER, ROOT, TEXT
-from test_limits import WIDE
+from test_limits import PATTERNS, WIDE
 
 sys.path.insert(1, str(ROOT))
 from conformance.runner import pdf  # noqa: E402
 from conformance.runner.embedding import embedded_page, image_of  # noqa: E402
+
+
+# A dictionary that refers to a number of segments for which there is no code.
+REFUSED = bytes.fromhex("00000001 00 A0 00 00000000")
 
 
 def pdf_of(data):
@@ -81,6 +87,16 @@ class Images(unittest.TestCase):
             hayro_jbig2.pikepdf.install(**how)
             with self.assertRaises(hayro_jbig2.WorkLimitReached):
                 jbig2.get_decoder().decode_jbig2(WIDE, b"")
+
+    def test_globals_are_decoded_once(self):
+        self.addCleanup(hayro_jbig2.pikepdf.install)
+        for globals, error in (GLOBALS, None), (PATTERNS, hayro_jbig2.WorkLimitReached), (REFUSED, hayro_jbig2.DecodeError):
+            hayro_jbig2.pikepdf.install(work_limit=1 << 20)
+            with mock.patch("hayro_jbig2.pikepdf.Globals", side_effect=hayro_jbig2.Globals) as made:
+                for _ in range(3):
+                    with self.assertRaises(error) if error else contextlib.nullcontext():
+                        jbig2.get_decoder().decode_jbig2(TEXT, globals)
+            self.assertEqual(made.call_count, 1)
 
     def test_a_fault_is_an_exception(self):
         hayro_jbig2.pikepdf.install()

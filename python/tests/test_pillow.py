@@ -2,6 +2,7 @@
 
 from __future__ import annotations
 
+import concurrent.futures
 import copy
 import io
 import pickle
@@ -80,6 +81,35 @@ class Files(unittest.TestCase):
         for other in copy.deepcopy(image), image.copy(), pickle.loads(pickle.dumps(image)):
             other.load()
             self.assertEqual(other.tobytes(), image.tobytes())
+            # It is the page alone.
+            self.assertEqual(len(list(ImageSequence.Iterator(other))), 1)
+            other.seek(0)
+            with self.assertRaises(EOFError):
+                other.seek(1)
+
+    def test_a_file_is_read_once_for_all_frames(self):
+        readings = []
+
+        class File(hayro_jbig2._library.File):
+            def __init__(self, *words):
+                readings.append(words)
+                super().__init__(*words)
+
+        with mock.patch("hayro_jbig2._library.File", File):
+            image = Image.open(io.BytesIO(BOOK))
+            for frame, page in zip(ImageSequence.Iterator(image), hayro_jbig2.pages(BOOK)):
+                self.compare(frame, page)
+        # Once more for the pages.
+        self.assertEqual(len(readings), 2)
+
+    def test_threads_load_frames_of_one_image(self):
+        image, page = Image.open(io.BytesIO(BOOK)), hayro_jbig2.decode(BOOK)
+
+        def work(_):
+            return image._file.draw(0, None) == page
+
+        with concurrent.futures.ThreadPoolExecutor(4) as threads:
+            self.assertTrue(all(threads.map(work, range(400))))
 
     def test_what_is_left_out_is_known(self):
         image = Image.open(io.BytesIO(HEADER + TEXT))

@@ -64,9 +64,15 @@ def _globals_of(words: argparse.Namespace, how: dict[str, Any]) -> Globals | Non
         raise _FaultOfGlobals(str(error)) from error
 
 
+def _standard_input() -> bytes:
+    if sys.stdin is None:
+        raise OSError("standard input is closed")
+    return sys.stdin.buffer.read()
+
+
 def _chosen_pages(words: argparse.Namespace) -> Iterable[tuple[int, Page | Jbig2Error]]:
     """The pages to be written, with their indices, or the faults of those that can't be decoded."""
-    data = sys.stdin.buffer.read() if words.input == "-" else pathlib.Path(words.input).read_bytes()
+    data = _standard_input() if words.input == "-" else pathlib.Path(words.input).read_bytes()
     how: dict[str, Any] = {"strict": words.strict, "salvage": words.salvage, "work_limit": words.work_limit}
     if "{}" in words.output:
         return enumerate(pages_or_faults(data, **how))

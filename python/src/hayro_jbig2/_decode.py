@@ -68,7 +68,8 @@ def decode(
 
     `work_limit` is how many units of work the page may take, and as many again what it shares with other pages; None is
     no limit. A unit is about a pixel that is decoded, cleared or combined. The default is 100 for each pixel of the
-    page, 1000 for each byte of what is shared, and 2**24 at least: more than what scanners write takes.
+    page, 1000 for each byte of what is shared, but 2**30 at most, and 2**24 at least: more than what scanners write
+    takes.
 
     Raises `DecodeError` for a fault of the data, `NoSuchPage` (an IndexError) for a page that the file hasn't,
     `WorkLimitReached`, and `OutOfMemory` (a MemoryError).
@@ -76,14 +77,14 @@ def decode(
     content, reading, page = bytes_of(data), _reading(strict, salvage), operator.index(page)
     if globals is None and content.startswith(_BEGINNING):
         with _library.File(content, reading, work_limit) as file:
-            return _checked(_page_of(file, page, work_limit), warn)
+            return checked(_page_of(file, page, work_limit), warn)
     if page != 0:
         raise _library.no_such_page()
     if globals is not None and not isinstance(globals, Globals):
         globals = Globals(globals, strict=strict, salvage=salvage, work_limit=work_limit)
     inner = None if globals is None else globals._inner
     with _library.embedded_page(content, inner, reading) as embedded:
-        return _checked(embedded.draw(work_limit), warn)
+        return checked(embedded.draw(work_limit), warn)
 
 
 def pages(
@@ -129,7 +130,7 @@ def _reading(strict: bool, salvage: bool) -> Reading:
     return Reading.SALVAGE if salvage else Reading.STRICT if strict else Reading.LENIENT
 
 
-def _checked(page: Page, warn: bool) -> Page:
+def checked(page: Page, warn: bool = True) -> Page:
     """The page, after a warning at the caller's caller where it is incomplete."""
     if warn and not page.is_complete:
         text = f"page {page.number} is incomplete: {'; '.join(page.lacks)}"
@@ -140,7 +141,7 @@ def _checked(page: Page, warn: bool) -> Page:
 def _pages_of(file: _library.File, work_limit: WorkLimit, warn: bool) -> Iterator[Page]:
     with file:
         for index in range(len(file.sizes)):
-            yield _checked(_page_of(file, index, work_limit), warn)
+            yield checked(_page_of(file, index, work_limit), warn)
 
 
 def _page_of(file: _library.File, index: int, work_limit: WorkLimit) -> Page:

@@ -1,15 +1,18 @@
 """The calls of the shared library, as c/hayro_jbig2.h declares them. ctypes gives up the GIL during each but one.
 
 Signal handlers and finalizers, which may decode too, run before a call of their thread or after it, and never in the
-middle of one. No lock is held here, so none of them waits for what it has interrupted.
+middle of one. No lock is held here that they can't take again, so none of them waits for what it has interrupted.
 """
 
 from __future__ import annotations
 
+import contextlib
 import ctypes
 import enum
 import operator
 import os
+import sys
+import threading
 from ctypes import POINTER, Structure, byref, c_bool, c_char_p, c_size_t, c_uint8, c_uint32, c_uint64, c_void_p
 from typing import TYPE_CHECKING, NamedTuple, TypeVar, Union
 
@@ -20,7 +23,7 @@ from .errors import Jbig2Error, WorkLimitReached, error_of
 
 if TYPE_CHECKING:
     from collections.abc import Callable
-    from typing import Literal
+    from typing import ContextManager, Literal, NoReturn
 
     WorkLimit = Union[int, None, Literal["default"]]
 
@@ -31,10 +34,12 @@ _NO_WORK_LIMIT = 2**64 - 1
 _UNEXPECTED_EOF = 1
 _NO_SEGMENT_NUMBER = 2**32 - 1
 _LONGEST_LINE_END = 2
-# The limit of work where none is set: more than what scanners write takes (docs/USING.md, "Files that take long").
+# The limit of work where none is set: more than what scanners write takes (docs/USING.md, "Files that take long"). What
+# pages share can be long without being large where it was: a PDF file packs it.
 _UNITS_FOR_A_PIXEL = 100
 _UNITS_FOR_A_BYTE = 1000
 _UNITS_AT_LEAST = 1 << 24
+_UNITS_TO_SHARE_AT_MOST = 1 << 30
 
 
 class _Info(Structure):
@@ -84,7 +89,7 @@ def _load() -> ctypes.CDLL:
         library = ctypes.CDLL(path)
     except OSError as error:
         raise ImportError(f"the library that pip compiles or installs does not load: {error}") from error
-    # Keeps the GIL, so that one thread at a time uses the handle of globals.
+    # Keeps the GIL, where there is one, so that one thread at a time uses the handle of globals.
     setattr(library, "hayro_jbig2_globals_share", ctypes.PyDLL(path).hayro_jbig2_globals_share)
     # The memory, null for malloc and free; then strict.
     made = (c_void_p, c_bool)
@@ -127,6 +132,8 @@ def _load() -> ctypes.CDLL:
 
 
 _LIBRARY = _load()
+# A GIL that is there when this is loaded stays.
+_HAS_GIL = getattr(sys, "_is_gil_enabled", lambda: True)()
 
 
 def _error(number: int) -> Jbig2Error:
@@ -194,6 +201,9 @@ class _Handle(c_void_p):
     def __del__(self) -> None:
         self.close()
 
+    def __reduce__(self) -> NoReturn:
+        raise TypeError("what the library holds can't be copied or pickled: hand on the bytes that it was made of")
+
     def close(self) -> None:
         """Frees it. No other thread may be in a call with it."""
         address, self.value = self.value, None
@@ -225,7 +235,7 @@ class _ReadWithin(_Handle):
     """What is read within a limit of work: globals or a file."""
 
     def __init__(self, kind: str, data: bytes, reading: Reading, limit: WorkLimit) -> None:
-        units = _units(limit, _UNITS_FOR_A_BYTE * len(data))
+        units = _units(limit, min(_UNITS_FOR_A_BYTE * len(data), _UNITS_TO_SHARE_AT_MOST))
         inputs = (units, data, len(data))
         try:
             if reading is Reading.SALVAGE:
@@ -244,13 +254,17 @@ class Globals(_ReadWithin):
 
     def __init__(self, data: bytes, reading: Reading, limit: WorkLimit) -> None:
         super().__init__("globals", data, reading, limit)
+        self._sharing: ContextManager[object] = threading.RLock()
+        if _HAS_GIL:
+            self._sharing = contextlib.nullcontext()
 
 
 class _OwnGlobals(_Handle):
     """The same globals in a handle of its own, for a call without the GIL."""
 
     def __init__(self, globals: Globals) -> None:
-        super().__init__("globals", globals._opened(), call="share")
+        with globals._sharing:
+            super().__init__("globals", globals._opened(), call="share")
 
 
 class _Context(_Handle):
@@ -320,6 +334,27 @@ class File(_ReadWithin):
         """Decodes the page at an index."""
         with _Context(self.sizes[index], limit) as context:
             return context.page(self._call("draw", index, context), self.left_out)
+
+
+class OpenFile:
+    """A file that is read once for pages that are drawn one by one. Several threads may draw: each has a file of its own."""
+
+    def __init__(self, data: bytes, reading: Reading, limit: WorkLimit) -> None:
+        self._inputs = (data, reading, limit)
+        file = File(*self._inputs)
+        self.sizes = file.sizes
+        self._idle = [file]
+
+    def draw(self, index: int, limit: WorkLimit) -> Page:
+        """Decodes the page at an index."""
+        try:
+            file = self._idle.pop()
+        except IndexError:
+            file = File(*self._inputs)
+        try:
+            return file.draw(index, limit)
+        finally:
+            self._idle.append(file)
 
 
 _Read = TypeVar("_Read", bound="Union[Globals, EmbeddedPage]")

@@ -16,7 +16,9 @@ from typing import TYPE_CHECKING, Any
 
 from PIL import Image, ImageFile
 
-from . import DecodeError, decode, sizes
+from . import DecodeError
+from ._decode import checked
+from ._library import OpenFile, Reading
 
 if TYPE_CHECKING:
     from ._library import WorkLimit
@@ -34,7 +36,7 @@ class Jbig2ImageFile(ImageFile.ImageFile):
     format_description = "JBIG2 (ITU-T T.88)"
     # Of an image that was pickled, which is the page alone.
     n_frames, is_animated = 1, False
-    _frame, _loaded = 0, True
+    _frame, _loaded, _min_frame = 0, True, 0
     # Older versions of Pillow have no types, or none of what a plugin needs.
     fp: Any
     info: Any
@@ -43,16 +45,17 @@ class Jbig2ImageFile(ImageFile.ImageFile):
     _seek_check: Any
 
     def _open(self) -> None:
-        self._data = self.fp.read()
-        if not self._data.startswith(_IDENTIFICATION):
+        data = self.fp.read()
+        if not data.startswith(_IDENTIFICATION):
             raise SyntaxError("not a JBIG2 file")
         try:
-            self._sizes = sizes(self._data, work_limit=WORK_LIMIT)
+            # Read once: all frames take a time in proportion to the file's length.
+            self._file = OpenFile(data, Reading.LENIENT, WORK_LIMIT)
         except DecodeError as error:
             raise OSError(str(error)) from error
-        if not self._sizes:
+        if not self._file.sizes:
             raise OSError("a JBIG2 file without pages")
-        self.n_frames = len(self._sizes)
+        self.n_frames = len(self._file.sizes)
         self.is_animated = self.n_frames > 1
         # Where Pillow has a property for it, the mode is written by another name.
         setattr(self, "_mode" if hasattr(Image.Image, "mode") else "mode", "1")
@@ -65,7 +68,7 @@ class Jbig2ImageFile(ImageFile.ImageFile):
         if self._seek_check(frame):
             # Image.open looks at the first page alone.
             image: Any = Image
-            image._decompression_bomb_check(self._sizes[frame][1:])
+            image._decompression_bomb_check(self._file.sizes[frame][1:])
             self._show(frame)
 
     def tell(self) -> int:
@@ -76,7 +79,7 @@ class Jbig2ImageFile(ImageFile.ImageFile):
         """Decodes the page, unless that is done."""
         if not self._loaded:
             try:
-                page = decode(self._data, page=self._frame, work_limit=WORK_LIMIT)
+                page = checked(self._file.draw(self._frame, WORK_LIMIT))
             except DecodeError as error:
                 raise OSError(str(error)) from error
             self.im = page.to_image().im
@@ -91,7 +94,7 @@ class Jbig2ImageFile(ImageFile.ImageFile):
 
     def _show(self, frame: int) -> None:
         self._frame, self._loaded = frame, False
-        self._size = self._sizes[frame][1:]
+        self._size = self._file.sizes[frame][1:]
         self.info = {}
 
 
