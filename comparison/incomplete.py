@@ -5,9 +5,8 @@ usage: comparison/incomplete.py [COUNT [SEED]]
 
 A file is cut off, or the header of one of its segments has another number, type, length, page or reference; half of the files
 have two such faults. Each page is decoded strictly, leniently and in salvage by the Python package. A page that lenient reading
-or salvage returns must be the strict page, or have `is_complete` false. Pages that are said to be complete though strict reading
-refuses them count apart, by its fault. Their rows are right where they are those of a page of the undamaged file, or those
-before the cut was made.
+or salvage returns must be the strict page, or have `is_complete` false, or be refused strictly for reasons of a closed list
+(docs/FORMAT.md, 12.2) that cost no pixel. These are mended in the file, until strict reading reads the same page, and counted.
 PYTHONPATH may name a folder with the installed package, as `python3 -m pip install --target FOLDER ./python` makes it.
 """
 import collections
@@ -18,11 +17,13 @@ import hayro_jbig2
 
 from compare import kept
 from corpus import own_corpus
+from forgiven import reasons_of
 from conformance.runner.segments import CutOff, header_at
 
 SIZE_OF_CORPUS = 400
 NUMBERS = (0, 1, 2, 3, 255, 1 << 16, (1 << 32) - 1)
 TYPES = (0, 4, 6, 7, 16, 20, 22, 23, 36, 38, 39, 40, 42, 43, 48, 49, 50, 51, 52, 53, 62, 63)
+WRONG = ("ANOTHER PAGE", "COMPLETE")
 READINGS = {"lenient": {}, "salvage": {"salvage": True}}
 
 
@@ -53,7 +54,7 @@ def damaged_segment(chance, segment):
 
 
 def damaged(chance, sample):
-    """The damaged bytes of a file, and those before a cut."""
+    """The damaged bytes of a file."""
     segments = list(sample.segments)
     cuts = False
     for _ in range(chance.choice((1, 2))):
@@ -63,7 +64,7 @@ def damaged(chance, sample):
         at = chance.randrange(len(segments))
         segments[at] = damaged_segment(chance, segments[at])
     data = sample.header + b"".join(segments)
-    return data[: chance.randrange(len(sample.header), len(data))] if cuts else data, data
+    return data[: chance.randrange(len(sample.header), len(data))] if cuts else data
 
 
 def decoded(data, index, **how):
@@ -74,8 +75,8 @@ def decoded(data, index, **how):
         return getattr(error, "variant", type(error).__name__)
 
 
-def judged(known, data, index, how):
-    """How a page that isn't read strictly stands to the strict one. `known` are pages that are right."""
+def judged(data, index, how):
+    """How a page that isn't read strictly stands to the strict one."""
     page = decoded(data, index, **how)
     if isinstance(page, str):
         return "refused"
@@ -84,29 +85,23 @@ def judged(known, data, index, how):
     strict = decoded(data, index, strict=True)
     if not isinstance(strict, str):
         return "the strict page" if strict == page else "ANOTHER PAGE"
-    return f"complete, strictly {strict}, " + ("its rows" if page.rows in known else "other rows")
-
-
-def rows_of(pages):
-    return [page.rows for page in pages if not isinstance(page, str)]
+    reasons = reasons_of(data, page, strict, lambda data, index: decoded(data, index, strict=True))
+    return f"complete; strictly refused for: {reasons}" if reasons else f"COMPLETE, strictly refused: {strict}"
 
 
 def main():
     count, seed = (int(word) for word in (sys.argv[1:] + ["20000", "1"][len(sys.argv) - 1 :])[:2])
     samples = own_corpus(SIZE_OF_CORPUS, seed)
-    whole = [rows_of(decoded(sample.bytes(), index) for index in range(sample.pages)) for sample in samples]
     seen, wrong = {name: collections.Counter() for name in READINGS}, 0
     for run in range(count):
         chance = random.Random(f"{seed}/{run}")
         turn = chance.randrange(len(samples))
-        data, uncut = damaged(chance, samples[turn])
-        indices = range(samples[turn].pages)
+        data = damaged(chance, samples[turn])
         for name, how in READINGS.items():
-            known = whole[turn] + rows_of(decoded(uncut, index, **how) for index in indices if data != uncut)
-            for index in indices:
-                verdict = judged(known, data, index, how)
+            for index in range(samples[turn].pages):
+                verdict = judged(data, index, how)
                 seen[name][verdict] += 1
-                if verdict == "ANOTHER PAGE":
+                if verdict.startswith(WRONG):
                     wrong += 1
                     print(f"run {run}, page {index}, {name}: {verdict}, {kept(data, 'incomplete')}")
     for name, verdicts in seen.items():

@@ -1,7 +1,8 @@
 # Fetches a source package of Debian's into a new folder. Sourced.
 
 # fetch_source PACKAGE FOLDER PATTERN ..: unpacks the files of the package's archive that match, below its first folder, and
-# writes the package's version to the file "version". ARCHIVE may name an archive PACKAGE_VERSION.orig.tar.xz that is here.
+# writes the package's version to the file "version". ARCHIVE may name an archive PACKAGE_VERSION.orig.tar.xz that is here, and
+# VERSION a version that is to be fetched in place of the newest.
 fetch_source() {
     local package=$1 folder=$2 archive=${ARCHIVE:-}
     shift 2
@@ -9,9 +10,10 @@ fetch_source() {
     mkdir -p -- "$folder"
     if [ -z "$archive" ]; then
         echo "fetching the source package $package" >&2
-        (cd -- "$folder" && apt-get source --quiet --download-only --tar-only "$package" >&2) || {
+        (cd -- "$folder" && apt-get source --quiet --download-only --tar-only "$package${VERSION:+=$VERSION}" >&2) || {
             echo "apt-get can't fetch it. It needs the sources of Debian (a line deb-src, or \"Types: deb deb-src\") and apt-get" \
-                "update; or ARCHIVE names the archive of a version that is here" >&2
+                "update. Where the mirror has not the newest version, VERSION names another one that apt-cache showsrc $package lists;" \
+                "or ARCHIVE names the archive of a version that is here" >&2
             return 1
         }
         archive=$(ls -- "$folder/$package"_*.orig.tar.*)

@@ -54,7 +54,7 @@ class Decoder:
         """The program, where it isn't there."""
         if self.made and not self.made.exists():
             return f"{self.name}, which {self.maker} makes,"
-        program = shlex.split(self.command)[0].format(program=own_program())
+        program = shlex.split(self.command)[0].replace("{program}", own_program())
         return None if shutil.which(program) else program
 
     def version(self) -> str:

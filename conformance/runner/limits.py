@@ -47,7 +47,12 @@ class Ended:
         """The first line of standard error that tells an error, or the first one, without control characters."""
         lines = self.errors.decode(errors="replace").strip().splitlines()
         line = next((line for line in lines if "error" in line.lower()), lines[0] if lines else "")
-        return "".join(letter if letter.isprintable() else " " for letter in line)
+        return printable(line)
+
+
+def printable(text: str) -> str:
+    """A text without control characters, which break the lines and fields of reports."""
+    return "".join(letter if letter.isprintable() else " " for letter in text)
 
 
 def run(words: list[str], limits: Limits) -> Ended:

@@ -62,7 +62,9 @@ class Entry:
 
 
 def entry_of(line: dict[str, str]) -> Entry:
-    """An entry from the columns of a line."""
+    """An entry from the columns of a line. Its name is that of files in the suite's folder, and of none elsewhere."""
+    if pathlib.PurePath(line["name"]).name != line["name"]:
+        raise ValueError
     sides = [None if line[side] == "-" else int(line[side]) for side in ("width", "height")]
     features = tuple(line["features"].split(","))
     words = ("name", "section", "kind", "sha256", "picture", "strict", "lenient", "rule", "others")

@@ -8,7 +8,10 @@ import re
 NEWLINE_OR_COMMENT = re.compile(rb"(?:\s|#[^\n]*\n)*")
 # A side has at most 65535 pixels.
 NUMBER = re.compile(rb"\d{1,6}(?!\d)")
-CALL = re.compile(rb"(push_pixel_chunk|push_pixel|next_line)(?: (true|false))?(?: (\d+))?\n?")
+# At most as many pixels at once as a row has.
+CALL = re.compile(rb"(push_pixel_chunk|push_pixel|next_line)(?: (true|false))?(?: (\d{1,4})(?!\d))?\n?")
+BLANK = re.compile(rb"\s*\Z")
+MOST = 65535
 
 
 class NoPicture(Exception):
@@ -58,18 +61,19 @@ def pictures_of(data: bytes) -> list[Picture]:
         return []
     if data.startswith((b"push_pixel", b"next_line")):
         return [of_calls(data)]
-    pictures = []
-    while data.strip():
-        picture, data = first_picture(data)
+    pictures, place = [], 0
+    while not BLANK.match(data, place):
+        picture, place = picture_at(data, place)
         pictures.append(picture)
     return pictures
 
 
-def first_picture(data: bytes) -> tuple[Picture, bytes]:
-    """The PBM file that bytes start with, and the bytes after it."""
-    if data[:2] not in (b"P4", b"P1"):
-        raise NoPicture(f"an output that starts with {data[:8]!r}")
-    place, sides = 2, []
+def picture_at(data: bytes, begin: int) -> tuple[Picture, int]:
+    """The PBM file that begins at a place, and the place after it."""
+    form = data[begin : begin + 2]
+    if form not in (b"P4", b"P1"):
+        raise NoPicture(f"an output that starts with {data[begin : begin + 8]!r}")
+    place, sides = begin + 2, []
     for _ in range(2):
         place = NEWLINE_OR_COMMENT.match(data, place).end()
         number = NUMBER.match(data, place)
@@ -80,13 +84,13 @@ def first_picture(data: bytes) -> tuple[Picture, bytes]:
     width, height = sides
     if width == 0 or height == 0:
         raise NoPicture(f"a PBM file of {width} by {height} pixels")
-    if data[:2] == b"P1":
-        return of_digits(data[place:], width, height)
-    size = (width + 7) // 8 * height
-    rows = data[place + 1 : place + 1 + size]
-    if len(rows) < size:
-        raise NoPicture(f"a PBM file of {width} by {height} pixels with {len(rows)} bytes of rows")
-    return without_padding(width, height, rows), data[place + 1 + size :]
+    if form == b"P1":
+        return of_digits(data[place:], width, height), len(data)
+    end = place + 1 + (width + 7) // 8 * height
+    if len(data) < end:
+        rows = max(len(data) - place - 1, 0)
+        raise NoPicture(f"a PBM file of {width} by {height} pixels with {rows} bytes of rows")
+    return without_padding(width, height, data[place + 1 : end]), end
 
 
 def without_padding(width: int, height: int, rows: bytes) -> Picture:
@@ -97,31 +101,36 @@ def without_padding(width: int, height: int, rows: bytes) -> Picture:
     return of_numbers([int.from_bytes(line, "big") >> padding for line in lines], width)
 
 
-def of_digits(data: bytes, width: int, height: int) -> tuple[Picture, bytes]:
+def of_digits(data: bytes, width: int, height: int) -> Picture:
     """A plain PBM file (P1), whose pixels are digits."""
     digits = bytes(digit for digit in data if digit in b"01")
     if len(digits) < width * height:
         raise NoPicture(f"a plain PBM file of {width} by {height} pixels with {len(digits)} of them")
     lines = (digits[width * y : width * (y + 1)] for y in range(height))
-    return of_numbers([int(line or b"0", 2) for line in lines], width), b""
+    return of_numbers([int(line or b"0", 2) for line in lines], width)
 
 
 def of_calls(data: bytes) -> Picture:
     """The picture that calls draw, as docs/FORMAT.md, 12.3 defines them."""
-    rows: list[list[str]] = [[]]
-    place = 0
+    rows: list[int] = []
+    row: list[str] = []
+    width, wide, place = 0, 0, 0
     while place < len(data):
         call = CALL.match(data, place)
         if call is None:
             raise NoPicture(f"a line of calls that starts with {data[place : place + 24]!r}")
         place = call.end()
-        digit = "1" if call[2] == b"true" else "0"
-        if call[1] == b"next_line":
-            rows.append([])
+        if call[1] != b"next_line":
+            count = 8 * int(call[3]) if call[3] else 1
+            row.append(("1" if call[2] == b"true" else "0") * count)
+            wide += count
+        elif wide == 0 or wide != (width or wide):
+            raise NoPicture("calls whose rows have different widths")
         else:
-            rows[-1].append(digit * (8 * int(call[3]) if call[3] else 1))
-    lines = ["".join(row) for row in rows[:-1]]
-    width = len(lines[0]) if lines else 0
-    if rows[-1] or any(len(line) != width for line in lines):
-        raise NoPicture("calls whose rows have different widths")
-    return of_numbers([int(line, 2) for line in lines], width)
+            rows.append(int("".join(row), 2))
+            row, width, wide = [], wide, 0
+        if wide > MOST or len(rows) > MOST:
+            raise NoPicture(f"calls of more than {MOST} pixels in a row, or of more rows")
+    if row or not rows:
+        raise NoPicture("calls whose last row doesn't end")
+    return of_numbers(rows, width)

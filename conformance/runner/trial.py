@@ -9,7 +9,7 @@ import tempfile
 
 from .decoders import Decoder, own_program
 from .embedding import pdf_of, size_in_pdf
-from .limits import MEMORY, Ended, Limits, run
+from .limits import MEMORY, Ended, Limits, printable, run
 from .manifest import PICTURE, Entry, Sample
 from .pictures import NoPicture, Picture, pictures_of
 
@@ -151,4 +151,4 @@ def tried(decoder: Decoder, sample: Sample, limits: Limits) -> Outcome:
     answers = {"lenient": (answer_of(entry, ended, picture), entry.lenient)}
     answers["strict"] = (answer_of(entry, *strictly), entry.strict)
     faults = [f"{mode}: {answer}, not {meant}" for mode, (answer, meant) in answers.items() if answer != meant]
-    return Outcome(entry, verdict, ended.message, "; ".join(faults), picture)
+    return Outcome(entry, verdict, ended.message, printable("; ".join(faults)), picture)

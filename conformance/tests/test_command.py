@@ -107,6 +107,8 @@ class CommandTest(unittest.TestCase):
         self.assertIn("has none of {in}", self.refused(*suite, "unheard-of"))
         self.assertIn("options stand before", self.refused(*suite, "jbig2dec", "--jobs", "2"))
         self.assertIn("is not there", self.refused(*suite, "/no/such/program", "{in}"))
+        for program in "{in}", "./a{brace}":
+            self.assertIn(f"{program} is not there", self.refused(*suite, program, "{in}"))
         self.assertIn("give a decoder", self.refused(*suite))
         self.assertIn("no number above 0", self.refused(*suite, "--jobs", "0", *python("pass")))
         self.assertIn("no name or feature has nowhere", self.refused(*suite, "--only", "nowhere", *python("pass")))
@@ -126,6 +128,9 @@ class CommandTest(unittest.TestCase):
         self.assertIn("the suite lacks a file", self.refused("--suite", str(self.folder), *python("pass")))
         (self.folder / "random.jb2").write_bytes(b"other")
         self.assertIn("is another file", self.refused("--suite", str(self.folder), *python("pass")))
+        manifest = self.folder / "manifest.tsv"
+        manifest.write_text(manifest.read_text().replace("second\t", "../second\t"))
+        self.assertIn("is no manifest", self.refused("--suite", str(self.folder), *python("pass")))
         (self.folder / "manifest.tsv").write_text("one\ttwo\n1\t2\n")
         self.assertIn("is no manifest", self.refused("--suite", str(self.folder), *python("pass")))
 

@@ -101,6 +101,11 @@ class TrialTest(unittest.TestCase):
         self.assertEqual(outcomes[0].fault, "strict: another, not unexpected end of input")
         self.assertTrue(outcomes[1].fault.startswith("lenient: unexpected end of input, not picture; strict: another"))
 
+    def test_a_fault_has_no_control_characters(self):
+        command = f"{sys.executable} -c \"import sys; sys.exit('error: a\\tb\\x1b')\" {{in}}"
+        fault = tried(Decoder("fake", command, strict="-I"), self.samples["sequential"], LIMITS).fault
+        self.assertTrue(fault.startswith("lenient: a b , not picture"), fault)
+
     def test_names(self):
         self.assertIs(decoder_of(["gs"]), next(decoder for decoder in DECODERS if decoder.name == "gs"))
         with self.assertRaises(ValueError):
