@@ -19,6 +19,19 @@ compiler() {
     return 1
 }
 
+# The options for the portable C: quick_options COMPILER FOLDER. Intel's processors from Skylake to Comet Lake are slow at a jump
+# that lies across 32 bytes, and most of this C's jumps are its comparisons of bounds. clang and GNU's assembler can place them.
+quick_options() {
+    local option
+    for option in -mbranches-within-32B-boundaries -Wa,-mbranches-within-32B-boundaries; do
+        if $1 -Werror "$option" -c -x c /dev/null -o "$2/probe" 2>/dev/null; then
+            echo "-O2 $option"
+            return
+        fi
+    done
+    echo -O2
+}
+
 # Whether there is a text of this name for this computer, and HAYRO_JBIG2_PORTABLE=1 doesn't pass it over. With a cross
 # compiler, which PROCESSOR stands for, the processor here says nothing.
 has_text() {
@@ -88,7 +101,9 @@ make_program() {
         # Also where a signal ends it. A caller may have another `room`.
         trap "rm -rf -- ${room@Q}" EXIT
         # A run that begins meanwhile has either program whole. The note has the sum of the program that it is of.
-        (cd -- "$dist/.." && $compile -O2 -Ic -Iportable "${compiled[@]}" -o "$room/made") &&
+        options=-O2
+        [[ " ${compiled[*]}" != *" portable/"* ]] || options=$(quick_options "$compile" "$room")
+        (cd -- "$dist/.." && $compile $options -Ic -Iportable "${compiled[@]}" -o "$room/made") &&
             [ "$(sums_of_parts "$@")" = "$parts" ] &&
             { echo "$compile" && echo "$parts" && sha256sum <"$room/made"; } >"$room/of" &&
             mv -- "$room/made" "$folder/$name" && mv -- "$room/of" "$folder/$name.of"

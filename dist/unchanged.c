@@ -5,10 +5,12 @@
  *        unchanged NOTE FACTS  prints PROGRAM where NOTE has the lines FACTS and PROGRAM, then files as they are now, and
  *                              then an empty line
  *
- * Status 1 where they are not so, or where a name has a line's end in it.
+ * Status 1 where they are not so, where a name has a line's end in it, or where the state of a file can't be known.
  */
 #define _XOPEN_SOURCE 700
 #define _DARWIN_C_SOURCE
+#define _FILE_OFFSET_BITS 64
+#include <errno.h>
 #include <stdbool.h>
 #include <stdio.h>
 #include <string.h>
@@ -36,14 +38,17 @@ static bool has_line(FILE *file, int end, struct line *line) {
     return true;
 }
 
-/* The state of a file or folder. No archive sets its second time, that of the last change of any kind. */
-static void describe(const char *name, char *text) {
+/* The state of a file or folder. No archive sets its second time, that of the last change of any kind. False where nothing
+ * is known of it but an error: it may change without another one. */
+static bool describe(const char *name, char *text) {
     struct stat file;
-    if (stat(name, &file) == 0)
+    if (stat(name, &file) == 0) {
         snprintf(text, ROOM, "%lld %lld.%09ld %lld.%09ld", (long long)file.st_size, (long long)file.st_mtim.tv_sec,
                  (long)file.st_mtim.tv_nsec, (long long)file.st_ctim.tv_sec, (long)file.st_ctim.tv_nsec);
-    else
-        strcpy(text, "not there");
+        return true;
+    }
+    strcpy(text, "not there");
+    return errno == ENOENT || errno == ENOTDIR;
 }
 
 /* Writes two lines for each file: its name, and its state. */
@@ -51,9 +56,8 @@ static bool write_note(void) {
     struct line name = {NULL, 0};
     char state[ROOM];
     while (has_line(stdin, 0, &name)) {
-        if (strchr(name.text, '\n') != NULL)
+        if (strchr(name.text, '\n') != NULL || !describe(name.text, state))
             return false;
-        describe(name.text, state);
         printf("%s\n%s\n", name.text, state);
     }
     return feof(stdin) && fflush(stdout) == 0 && !ferror(stdout);
@@ -66,12 +70,13 @@ static bool is_unchanged(const char *note, const char *facts) {
     if (file == NULL || !has_line(file, '\n', &name) || strcmp(name.text, facts) != 0 ||
         !has_line(file, '\n', &program))
         return false;
-    while (has_line(file, '\n', &name) && name.text[0] != 0) {
-        describe(name.text, state);
-        if (!has_line(file, '\n', &noted) || strcmp(noted.text, state) != 0)
+    /* At the end of a file some libraries leave a line as it was, and others empty it. */
+    bool is_there;
+    while ((is_there = has_line(file, '\n', &name)) && name.text[0] != 0) {
+        if (!describe(name.text, state) || !has_line(file, '\n', &noted) || strcmp(noted.text, state) != 0)
             return false;
     }
-    return name.text[0] == 0 && access(program.text, X_OK) == 0 && puts(program.text) >= 0 && fflush(stdout) == 0;
+    return is_there && access(program.text, X_OK) == 0 && puts(program.text) >= 0 && fflush(stdout) == 0;
 }
 
 int main(int count, char **words) { return !(count == 3 ? is_unchanged(words[1], words[2]) : write_note()); }

@@ -19,6 +19,17 @@ RT = """#!/bin/sh
 echo "$@" >>{log}
 [ "$1" != run ] || {{ printf '#!/bin/sh\\nexit 77\\n' >out/${{PWD##*/}}; chmod +x out/${{PWD##*/}}; }}
 """
+EMPTIES_A_LINE = """
+#include <stdio.h>
+#include <sys/types.h>
+ssize_t __real_getdelim(char **line, size_t *room, int end, FILE *file);
+ssize_t __wrap_getdelim(char **line, size_t *room, int end, FILE *file) {
+    ssize_t length = __real_getdelim(line, room, end, file);
+    if (length < 0 && *line != NULL)
+        **line = 0;
+    return length;
+}
+"""
 # A time before any build here.
 LONG_AGO = 1_500_000_000
 
@@ -261,6 +272,15 @@ class Notes(Case):
             self.assert_says("those of jbig2_mmr were changed")
             shutil.rmtree(self.path("crates", "jbig2_mmr", name.split("/")[0]))
 
+    def test_a_file_whose_state_is_unknown(self):
+        """Sums are taken as long as a link leads to itself."""
+        os.symlink("loop.h", self.path("portable", "loop.h"))
+        self.sums_up()
+        self.assertTrue(self.sums_up())
+        os.remove(self.path("portable", "loop.h"))
+        self.assertTrue(self.sums_up())
+        self.assertFalse(self.sums_up())
+
     def test_the_program_and_what_compares(self):
         self.assert_is_seen("dist/out/jbig2-decode", lambda path: os.chmod(path, 0o644))
         self.assert_is_seen("dist/out/jbig2-decode", os.remove)
@@ -278,6 +298,21 @@ class Notes(Case):
             with open(note, "wb") as file:
                 file.write(b"".join(lines[:count]))
             self.assertTrue(self.sums_up(), count)
+
+    def test_a_note_that_was_cut_off_where_the_end_of_a_file_empties_a_line(self):
+        """As the C library of BSD does."""
+        wrapper, program, note = (os.path.join(self.room, name) for name in ("wrapper.c", "unchanged", "note"))
+        with open(wrapper, "w", encoding="utf-8") as file:
+            file.write(EMPTIES_A_LINE)
+        words = ["-Wl,--wrap=getdelim", self.path("dist", "unchanged.c"), wrapper, "-o", program]
+        subprocess.run(["cc", *words], check=True)
+        names = f"{wrapper}\0".encode()
+        made = subprocess.run([program], input=names, capture_output=True, check=True).stdout.decode()
+        for end, status in {"\n": 0, "": 1}.items():
+            with open(note, "w", encoding="utf-8") as file:
+                file.write(f"facts\n{program}\n{made}{end}")
+            ended = subprocess.run([program, note, "facts"], capture_output=True, check=False)
+            self.assertEqual(ended.returncode, status)
 
     def test_a_copy_and_another_place(self):
         self.assert_runs()
