@@ -35,13 +35,21 @@ quick_options() {
 # Whether there is a text of this name for this computer, and HAYRO_JBIG2_PORTABLE=1 doesn't pass it over. With a cross
 # compiler, which PROCESSOR stands for, the processor here says nothing.
 has_text() {
+    local compile
     [ "${HAYRO_JBIG2_PORTABLE:-}" != 1 ] && [ "$system" = Linux ] && [ -e "$dist/$processor/$1.s" ] || return 1
+    ! compile=$(compiler 2>/dev/null) || is_for_processor "$compile" || return 1
     [ "$processor" != x86_64 ] || [ -n "${PROCESSOR:-}" ] || has_level
+}
+
+# Whether a compiler makes programs for the processor, with pointers of 64 bits. A system of 32 bits may have a kernel of 64.
+is_for_processor() {
+    [[ $(echo "__${processor}__ __LP64__" | $1 -E -P -x c - 2>/dev/null) = *"1 1" ]]
 }
 
 # Whether the programs' text can be linked with the compiler's C library: words.c refuses another one than glibc.
 has_library() {
-    ! $1 -E "$dist/words.c" 2>&1 >/dev/null | grep -q 'needs the GNU C library'
+    local said
+    said=$($1 -E "$dist/words.c" 2>&1 >/dev/null) || [[ $said != *'needs the GNU C library'* ]]
 }
 
 # Whether the text of a program fits, with the compiler that there is.
@@ -64,13 +72,18 @@ sums_of_parts() {
     (cd -- "$dist/.." && sha256sum -- "$@" dist/assembling.sh)
 }
 
-# Whether a program is there that was made of these files by this compiler: is_made NAME FOLDER FILE .. Its note says so,
-# beside it. Where there is no compiler, any has made it.
+# The computer's system and processor, and its C library where it is glibc. Another computer may have the same folder.
+computer() {
+    echo "$system $processor $(getconf GNU_LIBC_VERSION 2>/dev/null)"
+}
+
+# Whether a program is there that was made of these files by this compiler, for this computer: is_made NAME FOLDER FILE .. Its
+# note says so, beside it. Where there is no compiler, any has made it.
 is_made() {
     local made=$2/$1 compile
     [ -x "$made" ] && [ -s "$made.of" ] || return 1
     compile=$(compiler 2>/dev/null) || compile=$(head -n 1 -- "$made.of")
-    [ "$(echo "$compile" && sums_of_parts "${@:3}" && sha256sum <"$made")" = "$(cat -- "$made.of")" ]
+    [ "$(echo "$compile" && computer && sums_of_parts "${@:3}" && sha256sum <"$made")" = "$(cat -- "$made.of")" ]
 }
 
 is_assembled() {
@@ -105,7 +118,7 @@ make_program() {
         [[ " ${compiled[*]}" != *" portable/"* ]] || options=$(quick_options "$compile" "$room")
         (cd -- "$dist/.." && $compile $options -Ic -Iportable "${compiled[@]}" -o "$room/made") &&
             [ "$(sums_of_parts "$@")" = "$parts" ] &&
-            { echo "$compile" && echo "$parts" && sha256sum <"$room/made"; } >"$room/of" &&
+            { echo "$compile" && computer && echo "$parts" && sha256sum <"$room/made"; } >"$room/of" &&
             mv -- "$room/made" "$folder/$name" && mv -- "$room/of" "$folder/$name.of"
     ) || status=$?
     [ "$status" -eq 0 ] || echo "$compile did not make $name of" "${compiled[@]}" >&2
@@ -124,10 +137,12 @@ why_portable() {
         echo "HAYRO_JBIG2_PORTABLE is 1"
     elif has_text "$1"; then
         echo "its text in dist/ needs the GNU C library (glibc) 2.33 or later"
-    elif [ "$system" = Linux ] && [ -e "$dist/$processor/$1.s" ]; then
-        echo "this processor is below the level x86-64-v2"
-    else
+    elif [ "$system" != Linux ] || [ ! -e "$dist/$processor/$1.s" ]; then
         echo "dist/ has no text of it for this computer ($system $processor)"
+    elif ! is_for_processor "$(compiler)"; then
+        echo "$(compiler) makes programs for another processor than $processor, or of 32 bits"
+    else
+        echo "this processor is below the level x86-64-v2"
     fi
 }
 

@@ -18,13 +18,23 @@ TOOLS = (
     "bash env readlink find cmp sha256sum sort xargs cut grep cat mkdir mktemp head rm mv cp chmod printf tr sed dirname "
     "basename realpath"
 ).split()
-# What it makes ends with status 77. It preprocesses words.c as glibc or another C library does.
+# What it makes ends with status 77. It preprocesses words.c as glibc or another C library does, and from standard input the
+# names that are 1 for a processor of 64 bits.
 COMPILER = """#!/bin/bash
 echo "$@" >>{log}
 output=a.out
 while [ "$#" -gt 0 ]; do
     case $1 in
-    -E) [ ! -e {room}/musl ] || echo "error: this program needs the GNU C library (glibc) 2.33" >&2; exit 0 ;;
+    -E)
+        [ ! -e {room}/bits32 ] || exec cat
+        if [[ $* = *" -" ]]; then
+            printf '1 1\\n'
+        elif [ -e {room}/musl ]; then
+            echo "error: this program needs the GNU C library (glibc) 2.33" >&2
+            exit 1
+        fi
+        exit 0
+        ;;
     -o) output=$2 ;;
     esac
     shift
@@ -33,6 +43,7 @@ printf '#!/bin/sh\\nexit 77\\n' >"$output"
 chmod +x "$output"
 """
 NO_TEXT = "dist/ has no text of it for this computer ({})"
+OF_32_BITS = "cc makes programs for another processor than x86_64, or of 32 bits"
 COMPILED = "so the C of portable/ is compiled"
 FEATURES = "processor\t: 0\nflags\t\t: fpu sse sse2 pni ssse3 cx16 sse4_1 sse4_2 popcnt lahf_lm\n"
 
@@ -60,6 +71,10 @@ class Case(unittest.TestCase):
         with open(path, "w", encoding="utf-8") as file:
             file.write(text)
         os.chmod(path, 0o755)
+
+    def mark(self, name):
+        """Makes a file that the compiler looks for."""
+        open(os.path.join(self.room, name), "w", encoding="utf-8").close()
 
     def be(self, system, processor):
         self.write("uname", f"#!/bin/sh\necho {system} {processor}\n")
@@ -93,9 +108,9 @@ class Program(Case):
     def test_another_processor_or_system(self):
         for system in ("Linux", "riscv64"), ("Darwin", "arm64"), ("FreeBSD", "amd64"), ("Linux", "aarch64"):
             with self.subTest(system):
+                # What the computer before it has left in the same folder is another one's.
                 self.be(*system)
                 self.assert_compiles(NO_TEXT.format(" ".join(system)))
-                shutil.rmtree(os.path.join(self.top, "dist", "out"))
 
     def test_the_text_comes_first(self):
         with open("/proc/cpuinfo", encoding="utf-8") as file:
@@ -109,8 +124,19 @@ class Program(Case):
         self.assert_compiles("HAYRO_JBIG2_PORTABLE is 1", HAYRO_JBIG2_PORTABLE="1")
 
     def test_another_c_library(self):
-        open(os.path.join(self.room, "musl"), "w", encoding="utf-8").close()
+        self.mark("musl")
         self.assert_compiles("its text in dist/ needs the GNU C library (glibc) 2.33 or later")
+
+    def test_another_c_library_of_this_computer(self):
+        """As a container has that shares the folder."""
+        self.be("Linux", "riscv64")
+        for version in "glibc 2.41", "glibc 2.36":
+            self.write("getconf", f"#!/bin/sh\necho {version}\n")
+            self.assert_compiles(NO_TEXT.format("Linux riscv64"))
+
+    def test_a_system_of_32_bits(self):
+        self.mark("bits32")
+        self.assert_compiles(OF_32_BITS)
 
     def test_no_compiler(self):
         os.remove(os.path.join(self.bin, "cc"))
@@ -156,14 +182,21 @@ class Test(Case):
 
 
 class Library(Case):
-    def test_another_processor(self):
-        self.be("Linux", "riscv64")
+    def assert_compiles(self, reason):
         status, said = self.run_words("c/build", "--text")
         self.assertEqual(status, 0, said)
-        self.assertIn(f"c/build: {NO_TEXT.format('Linux riscv64')}, {COMPILED}", said)
+        self.assertIn(f"c/build: {reason}, {COMPILED}", said)
         self.assertIn("portable/hayro_jbig2_module.c", self.compiled())
         for name in "libhayro_jbig2.a", "libhayro_jbig2.so.0":
             self.assertTrue(os.path.exists(os.path.join(self.top, "c", "out", name)))
+
+    def test_another_processor(self):
+        self.be("Linux", "riscv64")
+        self.assert_compiles(NO_TEXT.format("Linux riscv64"))
+
+    def test_a_system_of_32_bits(self):
+        self.mark("bits32")
+        self.assert_compiles(OF_32_BITS)
 
     def test_no_compiler(self):
         os.remove(os.path.join(self.bin, "cc"))
