@@ -1,6 +1,7 @@
 """Runs of the built programs with one fault each, by faults.c, which is loaded before the C library."""
 import functools
 import os
+import shlex
 import struct
 import subprocess
 import sys
@@ -27,7 +28,9 @@ class Faults:
         self.plan = os.path.join(folder, "plan")
         self.library = os.path.join(folder, "faults.so")
         source = os.path.join(ROOT, "faults", "faults.c")
-        subprocess.run([os.environ.get("CC", "cc"), "-O2", "-shared", "-fPIC", "-o", self.library, source, "-ldl"], check=True)
+        # The compiler's name may have words after it.
+        compiler = shlex.split(os.environ.get("CC", "cc"))
+        subprocess.run([*compiler, "-O2", "-shared", "-fPIC", "-o", self.library, source, "-ldl"], check=True)
         self.outputs = [open(os.path.join(folder, name), "w+b", buffering=0) for name in ("out", "err")]
         self.environment = {"LD_PRELOAD": self.library, "FAULT_PLAN": self.plan}
         self.runs = 0
