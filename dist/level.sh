@@ -1,7 +1,7 @@
 # Sourced by assembling.sh, and by dist/program at each start.
 
-# Whether a processor of x86-64 has what the texts use, of the level x86-64-v2: has_level [FILE]. The file is /proc/cpuinfo or
-# one like it; where it lists no features, the program itself refuses (processor.h).
+# Whether a processor of x86-64 has the level x86-64-v2: has_level [FILE]. The texts don't use all of it, but glibc's loader asks
+# for all. The file is /proc/cpuinfo or one like it; where it lists no features, the program itself refuses (processor.h).
 has_level() {
     local lines flags name file=${1:-/proc/cpuinfo}
     [ -r "$file" ] || return 0
@@ -10,7 +10,7 @@ has_level() {
     for flags in "${lines[@]}"; do
         [[ $flags = flags* ]] || continue
         flags=" ${flags#*:} "
-        for name in pni ssse3 sse4_1 sse4_2 popcnt; do
+        for name in pni ssse3 sse4_1 sse4_2 popcnt cx16 lahf_lm; do
             [[ $flags = *" $name "* ]] || return 1
         done
         return 0

@@ -45,7 +45,7 @@ chmod +x "$output"
 NO_TEXT = "dist/ has no text of it for this computer ({})"
 OF_32_BITS = "cc makes programs for another processor than x86_64, or of 32 bits"
 COMPILED = "so the C of portable/ is compiled"
-FEATURES = "processor\t: 0\nflags\t\t: fpu sse sse2 pni ssse3 cx16 sse4_1 sse4_2 popcnt lahf_lm\n"
+FEATURES = "processor\t: 0\nflags\t\t: fpu sse sse2 pni ssse3 cx16 sse4_1 sse4_2 popcnt lahf_lm abm\n"
 
 
 class Case(unittest.TestCase):
@@ -218,7 +218,7 @@ class Level(Case):
 
     def test_features(self):
         self.assertTrue(self.has_level(FEATURES))
-        for name in "pni", "ssse3", "sse4_1", "sse4_2", "popcnt":
+        for name in "pni", "ssse3", "sse4_1", "sse4_2", "popcnt", "cx16", "lahf_lm":
             self.assertFalse(self.has_level(FEATURES.replace(f" {name} ", " ")), name)
         self.assertTrue(self.has_level("processor : 0\n"), "where no features are listed, the program itself looks")
 
