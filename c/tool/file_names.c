@@ -15,12 +15,10 @@ static bool is_folder(const char *name) {
 }
 
 bool has_single_output(const struct words *words, const char **name) {
-    *name = NULL;
-    if (words->output == NULL || is_folder(words->output))
-        return false;
-    if (strcmp(words->output, "-") != 0)
-        *name = words->output;
-    return true;
+    bool is_standard = words->output != NULL && strcmp(words->output, "-") == 0;
+    bool is_single = is_standard || (words->output != NULL && !is_folder(words->output));
+    *name = is_single && !is_standard ? words->output : NULL;
+    return is_single;
 }
 
 bool make_folder(const struct words *words, struct text *reason) {

@@ -49,11 +49,14 @@ static bool is_pdf(const struct bytes *bytes) {
     return false;
 }
 
-/* A list of segments that starts as one does. Globals have dictionaries, tables and extensions alone. */
+/* Whether a list of segments starts as one does. */
+static bool is_started(const struct segment_list *list) { return list->count > 0 && is_known_type(list->at[0].type); }
+
+/* Globals have dictionaries, tables and extensions alone. */
 static enum kind kind_of_segments(const struct bytes *bytes) {
     struct segment_list list;
     list_segments(&list, bytes->at, bytes->length, 0, false);
-    bool is_one = list.count > 0 && is_known_type(list.at[0].type);
+    bool is_one = is_started(&list);
     bool has_page = list.known == KNOWS_HEADER && list.last.type == PAGE_INFORMATION;
     bool has_others = false;
     for (size_t i = 0; i < list.count; i++) {
@@ -116,7 +119,15 @@ enum kind kind_of(const struct bytes *bytes) {
 
 static const char *name_of_unknown(const struct bytes *bytes) {
     const char *name = name_of_other_format(bytes);
-    return name != NULL ? name : is_text(bytes) ? "text" : "no segment of JBIG2 at its start";
+    struct segment_list list;
+    if (name != NULL)
+        return name;
+    list_segments(&list, bytes->at, bytes->length, 0, false);
+    bool has_segments = is_started(&list);
+    free_segments(&list);
+    return has_segments      ? "segments of JBIG2 without a page information"
+           : is_text(bytes) ? "text"
+                            : "no segment of JBIG2 at its start";
 }
 
 const char *name_of_kind(enum kind kind, const struct bytes *bytes) {

@@ -11,15 +11,24 @@
 #include <sys/stat.h>
 #include <unistd.h>
 
-/* Says why, if nothing was said. */
-static bool fail(const struct output *output, struct text *reason, const char *why) {
-    const char *name = output->name != NULL ? output->name : "standard output";
+/* Says why something of this name fails, if nothing was said. */
+static bool fail_by_name(const char *name, struct text *reason, const char *why) {
     struct text said = *reason;
     *reason = (struct text){NULL, 0, 0};
     bool is_system = said.length == 0 || strcmp(said.at, "Write Error") == 0;
     add_text(reason, "%s: %s", name, !is_system ? said.at : why != NULL ? why : strerror(errno != 0 ? errno : EIO));
     free_text(&said);
     return false;
+}
+
+static bool fail(const struct output *output, struct text *reason, const char *why) {
+    return fail_by_name(output->name != NULL ? output->name : "standard output", reason, why);
+}
+
+/* TIFF for an output that has no places is written to another file first. */
+static bool fail_to_write(const struct output *output, struct text *reason) {
+    bool is_beside = output->format == FORMAT_TIFF && output->temporary == NULL;
+    return is_beside ? fail_by_name("the temporary file of TIFF", reason, NULL) : fail(output, reason, NULL);
 }
 
 /* A device, a pipe or the like is no file that could be replaced. */
@@ -41,6 +50,13 @@ static char *target_of(const char *name) {
         return realpath(name, NULL);
     size_t size = strlen(name) + 1;
     return memcpy(room_for(size), name, size);
+}
+
+/* A file that is overwritten may be its owner's alone. */
+static void keep_mode(const struct output *output) {
+    struct stat found;
+    if (output->file != NULL && output->temporary != NULL && stat(output->target, &found) == 0)
+        fchmod(fileno(output->file), found.st_mode & 0777);
 }
 
 static FILE *open_file(struct output *output) {
@@ -66,12 +82,13 @@ bool open_output(struct output *output, const char *name, enum format format, bo
     output->file = open_file(output);
     if (output->file == NULL)
         return fail(output, reason, NULL);
+    keep_mode(output);
     if (format != FORMAT_TIFF)
         return true;
     if (output->temporary == NULL && (output->tiff_bytes = tmpfile()) == NULL)
-        return fail(output, reason, NULL);
+        return fail_to_write(output, reason);
     output->tiff = open_tiff(fileno(output->tiff_bytes != NULL ? output->tiff_bytes : output->file));
-    return output->tiff != NULL || fail(output, reason, NULL);
+    return output->tiff != NULL || fail_to_write(output, reason);
 }
 
 bool add_picture(struct output *output, const struct picture *picture, struct text *reason) {
@@ -88,7 +105,7 @@ bool add_picture(struct output *output, const struct picture *picture, struct te
         is_added = add_tiff_page(output->tiff, picture, reason);
         break;
     }
-    return is_added || fail(output, reason, NULL);
+    return is_added || fail_to_write(output, reason);
 }
 
 static bool copy_all(FILE *from, FILE *to) {

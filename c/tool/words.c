@@ -213,7 +213,7 @@ static enum request check_words(struct words *words) {
         return wrong("info writes to standard output", NULL);
     if (!words->is_info && words->is_json)
         return wrong("--json is for info", NULL);
-    if (words->output == NULL && words->input_count == 1 && standard_inputs == 1)
+    if (words->output == NULL && words->input_count == 1 && strcmp(words->inputs[0], "-") == 0)
         words->output = "-";
     if (!choose_format(words))
         return wrong("no format for the ending of (or give --format)", words->output);

@@ -9,6 +9,7 @@ import struct
 import subprocess
 import sys
 import tempfile
+import time
 import unittest
 import zlib
 
@@ -32,6 +33,8 @@ VERSIONS = subprocess.run([TOOL, "--version"], capture_output=True, check=True).
 HAS_PNG, HAS_TIFF, HAS_PDF = (name in VERSIONS for name in (b": libpng", b": libtiff", b": libqpdf"))
 
 WHOLE, NOT_DONE, WRONG_WORDS, INCOMPLETE, OVER_LIMIT = range(5)
+# Seconds after which nothing comes any more. What does come is early, also on a slow and busy computer.
+PATIENCE = 1000
 
 
 @dataclasses.dataclass(frozen=True)
@@ -51,6 +54,13 @@ def run(*words, program: str = TOOL, seconds: int = 60, **how) -> Ended:
     limited = ["sh", "-c", f'ulimit -t {seconds}; exec "$@"', "sh"]
     ended = subprocess.run([*limited, program, *map(str, words)], check=False, **how)
     return Ended(ended.returncode, ended.stdout or b"", (ended.stderr or b"").decode(errors="replace"))
+
+
+def wait_until(is_so, process: subprocess.Popen) -> None:
+    """Waits until something is so, or a process has ended."""
+    last = time.monotonic() + PATIENCE
+    while not is_so() and process.poll() is None and time.monotonic() < last:
+        time.sleep(0.01)
 
 
 def decoded(file: pathlib.Path, index: int, *words: str) -> Picture | None:

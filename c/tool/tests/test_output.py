@@ -8,11 +8,10 @@ import pty
 import signal
 import struct
 import subprocess
-import time
 import unittest
 
-from support import BOOK, EXAMPLE, HAS_TIFF, NOT_DONE, TOOL, WHOLE, Case
-from support import chunks_of, decoded, picture_of_png, pictures_of
+from support import BOOK, EXAMPLE, HAS_TIFF, NOT_DONE, PATIENCE, TOOL, WHOLE, Case
+from support import chunks_of, decoded, picture_of_png, pictures_of, wait_until
 
 MEANT = [decoded(EXAMPLE, index) for index in range(3)]
 NOBODY = 65534
@@ -109,6 +108,16 @@ class Output(Case):
         ended = self.run_here(EXAMPLE, EXAMPLE, "-o", "-", "-f", "pbm")
         self.assertEqual(pictures_of(ended.output), MEANT + MEANT)
 
+    def test_standard_input_of_globals_alone_writes_no_standard_output(self):
+        page, shared = self.made(slow_page(8), "page.jb2e"), bytes.fromhex("00000005 34 00 00 00000000")
+        self.assertEqual(self.run_here(page, "-g", "-", input=shared).output, b"")
+        self.assertEqual(self.files(), ["page.jb2e", "page.png"])
+
+    def test_standard_output_is_no_folder(self):
+        (self.room / "-").mkdir()
+        ended = self.run_here(EXAMPLE, "-f", "pbm", "-o", "-")
+        self.assertEqual((pictures_of(ended.output), self.files()), (MEANT, []))
+
     def test_several_inputs(self):
         scan = self.made(BOOK)
         other = self.room / "other"
@@ -131,25 +140,27 @@ class Output(Case):
             self.assert_ends(self.run_here("scan.jb2", "--force", *words), WHOLE)
             self.assertNotEqual((self.room / words[-1]).read_bytes(), b"mine")
 
-    def wait_for_part(self):
-        """Waits until the first of two pages is written, under the name that the file has meanwhile."""
-        for _ in range(2000):
-            if len(self.files()) == 3:
-                break
-            time.sleep(0.01)
+    def wait_for_part(self, process):
+        """Waits until the first of several pages is written, under the name that the file has meanwhile."""
+        wait_until(lambda: any(".part-" in name for name in self.files()), process)
         self.assertRegex(self.files()[0], r"both\.pbm\.part-")
 
     def test_a_file_that_comes_meanwhile_is_not_overwritten(self):
-        self.made(slow_page(100), "quick.jb2e")
-        self.made(slow_page(5000), "slow.jb2e")
-        words = [TOOL, "quick.jb2e", "slow.jb2e", "-o", "both.pbm"]
-        with subprocess.Popen(words, cwd=self.room, stderr=subprocess.PIPE) as process:
-            self.wait_for_part()
+        words = [TOOL, str(EXAMPLE), "-", "-o", "both.pbm"]
+        with subprocess.Popen(words, cwd=self.room, stdin=subprocess.PIPE, stderr=subprocess.PIPE) as process:
+            self.wait_for_part(process)
             self.made(b"mine", "both.pbm")
-            said = process.communicate()[1].decode()
+            said = process.communicate(BOOK)[1].decode()
         self.assertEqual((process.returncode, said), (NOT_DONE, "hayro-jbig2: both.pbm: File exists\n"))
         self.assertEqual((self.room / "both.pbm").read_bytes(), b"mine")
-        self.assertEqual(self.files(), ["both.pbm", "quick.jb2e", "slow.jb2e"])
+        self.assertEqual(self.files(), ["both.pbm"])
+
+    def test_a_file_that_is_overwritten_keeps_its_mode(self):
+        for mode in 0o600, 0o640, 0o666:
+            for words in ["-p", "1", "-o", "a.png"], ["-o", "a.pbm"], *([["-o", "a.tiff"]] if HAS_TIFF else []):
+                self.made(b"mine", words[-1]).chmod(mode)
+                self.assert_ends(self.run_here(EXAMPLE, "--force", *words), WHOLE)
+                self.assertEqual((self.room / words[-1]).stat().st_mode & 0o777, mode)
 
     def test_pages_in_one_file(self):
         self.assert_ends(self.run_here(EXAMPLE, "-o", "all.pbm"), WHOLE)
@@ -207,6 +218,14 @@ class Output(Case):
                 ended = subprocess.run(limited, cwd=self.room, capture_output=True, check=False)
                 self.assertEqual((ended.returncode, self.files()), (NOT_DONE, ["gray.jb2e"]), ended.stderr)
                 self.assertIn(b"File too large", ended.stderr)
+
+    @unittest.skipUnless(HAS_TIFF, "libtiff is not here")
+    def test_the_temporary_file_of_tiff_is_named(self):
+        """A pipe has no limit of its size."""
+        limited = ["sh", "-c", 'ulimit -f 0; exec "$@"', "sh", TOOL, EXAMPLE, "-f", "tiff", "-o", "-"]
+        ended = subprocess.run(limited, cwd=self.room, capture_output=True, check=False)
+        self.assertEqual((ended.returncode, ended.stdout), (NOT_DONE, b""))
+        self.assertEqual(ended.stderr, b"the temporary file of TIFF: File too large\n")
 
     def test_a_device_keeps_what_it_got(self):
         """A pipe can't be taken back, so nobody says that it isn't written."""
@@ -288,9 +307,9 @@ class Output(Case):
             # A shell starts a background job with some signals ignored, and the command leaves them ignored.
             how = {"preexec_fn": functools.partial(signal.signal, number, signal.SIG_DFL)}
             with subprocess.Popen(words, cwd=self.room, stderr=subprocess.DEVNULL, **how) as process:
-                self.wait_for_part()
+                self.wait_for_part(process)
                 process.send_signal(number)
-                self.assertEqual(process.wait(20), -number)
+                self.assertEqual(process.wait(PATIENCE), -number)
             files = [name for name in self.files() if not name.startswith("core")]
             self.assertEqual(files, ["quick.jb2e", "slow.jb2e"])
 

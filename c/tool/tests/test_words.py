@@ -95,6 +95,7 @@ class Words(Case):
             b"\x97JB2\n\x1a\n" + BOOK[8:]: "damaged, perhaps by a transfer as text",
             b"\x1f\x8b" + bytes(20): "gzip",
             bytes(range(255, 200, -1)): "no segment of JBIG2 at its start",
+            bytes.fromhex("00000001 31 00 01 00000000"): "segments of JBIG2 without a page information",
         }.items():
             with self.subTest(hint=hint):
                 self.assert_ends(self.run_here(self.made(data)), NOT_DONE, "neither a JBIG2 file", hint)
