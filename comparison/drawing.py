@@ -39,7 +39,7 @@ def linked(archive, folder):
 
 class Library:
     """Calls the library for C. Each file is written into the folder first, so that a crash leaves it there; so does a
-    call of more than LONGEST seconds, which ends this process."""
+    call of more than LONGEST seconds of the processor, which ends this process."""
 
     def __init__(self, file, folder):
         self.library = loaded(linked(file, folder) if file.endswith(".a") else file)
@@ -50,9 +50,9 @@ class Library:
         with open(self.name, "wb") as file:
             file.write(data)
         # No handler of Python's is called during a call of C, so the signal ends this process.
-        signal.alarm(LONGEST)
+        signal.setitimer(signal.ITIMER_PROF, LONGEST)
         answer = self.drawn(data, index, strict)
-        signal.alarm(0)
+        signal.setitimer(signal.ITIMER_PROF, 0)
         return answer
 
     def drawn(self, data, index, strict):

@@ -11,7 +11,10 @@ from conformance.runner.pictures import plain
 from conformance.runner.trial import Verdict, tried
 from conformance.tests.small_suite import CROSS, RING, of_numbers, written
 
-LIMITS = Limits(seconds=1)
+# Python may take long to start, on a slow and busy computer.
+LIMITS, SHORT = Limits(seconds=60), Limits(seconds=1)
+# Seconds that nothing waits for to the end.
+LONG = 600
 FAKE = f"""#!{sys.executable}
 import sys
 sys.exit("error: another" if "--strict" in sys.argv else "error: unexpected end of input")
@@ -31,8 +34,8 @@ class TrialTest(unittest.TestCase):
         cls.addClassCleanup(folder.cleanup)
         cls.samples = written(pathlib.Path(folder.name))
 
-    def verdict(self, decoder: Decoder, name: str = "sequential") -> Verdict:
-        return tried(decoder, self.samples[name], LIMITS).verdict
+    def verdict(self, decoder: Decoder, name: str = "sequential", limits: Limits = LIMITS) -> Verdict:
+        return tried(decoder, self.samples[name], limits).verdict
 
     def test_verdicts(self):
         cross = of_numbers(list(CROSS), 9).pbm
@@ -46,17 +49,19 @@ class TrialTest(unittest.TestCase):
             "put(b'text'); sys.exit(1)": Verdict.REFUSED,
             "os.kill(os.getpid(), 11)": Verdict.CRASH,
             "bytearray(1 << 40)": Verdict.REFUSED,
-            "exec('while True: pass')": Verdict.LATE,
             "os.mkdir(out)": Verdict.NOTHING,
         }
         for text, verdict in texts.items():
             with self.subTest(text[:40]):
                 self.assertIs(self.verdict(script(text)), verdict)
 
+    def test_a_decoder_that_goes_on_and_on(self):
+        self.assertIs(self.verdict(script("exec('while True: pass')"), limits=SHORT), Verdict.LATE)
+
     def test_a_decoder_that_waits_for_a_process_of_its_own(self):
         began = time.monotonic()
-        self.assertIs(self.verdict(script("os.system('sleep 60')")), Verdict.LATE)
-        self.assertLess(time.monotonic() - began, 30)
+        self.assertIs(self.verdict(script(f"os.system('sleep {LONG}')"), limits=SHORT), Verdict.LATE)
+        self.assertLess(time.monotonic() - began, LONG / 2)
 
     def test_an_output_without_end(self):
         decoder = decoder_of(["sh", "-c", "exec yes", "{in}"])

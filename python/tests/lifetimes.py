@@ -196,7 +196,7 @@ def forks():
         child = os.fork()
         if child == 0:
             # A child that waits for a thread which it doesn't have ends by the signal.
-            signal.alarm(30)
+            signal.alarm(500)
             check(hayro_jbig2.decode, shared, hayro_jbig2.pages(BOOK))
             os._exit(0)
         _, status = os.waitpid(child, 0)

@@ -23,7 +23,7 @@ class Lifetimes(unittest.TestCase):
         for _ in range(times):
             command = [sys.executable, lifetimes.__file__, name]
             run = subprocess.run(
-                command, capture_output=True, timeout=100, check=False, env={**os.environ, "MALLOC_PERTURB_": "165"}
+                command, capture_output=True, timeout=1000, check=False, env={**os.environ, "MALLOC_PERTURB_": "165"}
             )
             self.assertEqual((run.returncode, run.stderr.decode()), (0, ""))
             written += run.stdout

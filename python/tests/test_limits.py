@@ -25,7 +25,7 @@ PAGE = bytes.fromhex("00000002 30 00 01 00000013 00000008 00000001" + "00" * 11)
 
 class Limits(unittest.TestCase):
     def test_hostile_pages_are_refused_at_once(self):
-        before = time.monotonic()
+        before = time.process_time()
         for how in {}, {"strict": True}, {"salvage": True}:
             for data in WIDE, HEADER + WIDE:
                 with self.assertRaises(hayro_jbig2.WorkLimitReached) as caught:
@@ -33,7 +33,7 @@ class Limits(unittest.TestCase):
             [_] = hayro_jbig2.sizes(WIDE, **how)
             with self.assertRaises(hayro_jbig2.WorkLimitReached):
                 next(hayro_jbig2.pages(HEADER + WIDE, **how))
-        self.assertLess(time.monotonic() - before, 10)
+        self.assertLess(time.process_time() - before, 10)
         self.assertIsInstance(caught.exception, hayro_jbig2.OutOfMemory)
         self.assertEqual(str(caught.exception), "the limit of 16777216 units of work is reached")
         # HAYRO_JBIG2_WORK_LIMIT

@@ -5,6 +5,7 @@ import dataclasses
 import os
 import pathlib
 import re
+import resource
 import struct
 import subprocess
 import sys
@@ -46,7 +47,7 @@ class Ended:
     errors: str
 
 
-def run(*words, program: str = TOOL, seconds: int = 60, **how) -> Ended:
+def run(*words, program: str = TOOL, seconds: int = 300, **how) -> Ended:
     """Runs the program for at most this many seconds of the processor. On a busy computer many more may pass."""
     how = {"stdout": subprocess.PIPE, "stderr": subprocess.PIPE, "timeout": 20 * seconds, **how}
     if "input" not in how:
@@ -54,6 +55,14 @@ def run(*words, program: str = TOOL, seconds: int = 60, **how) -> Ended:
     limited = ["sh", "-c", f'ulimit -t {seconds}; exec "$@"', "sh"]
     ended = subprocess.run([*limited, program, *map(str, words)], check=False, **how)
     return Ended(ended.returncode, ended.stdout or b"", (ended.stderr or b"").decode(errors="replace"))
+
+
+def seconds_of(call) -> float:
+    """The seconds of the processor that the programs take which a call runs."""
+    before = resource.getrusage(resource.RUSAGE_CHILDREN)
+    call()
+    after = resource.getrusage(resource.RUSAGE_CHILDREN)
+    return after.ru_utime + after.ru_stime - before.ru_utime - before.ru_stime
 
 
 def wait_until(is_so, process: subprocess.Popen) -> None:
@@ -124,6 +133,11 @@ class Case(unittest.TestCase):
 
     def files(self) -> list[str]:
         return sorted(str(path.relative_to(self.room)) for path in self.room.rglob("*") if path.is_file())
+
+    def assert_in_proportion(self, run_on, size: int):
+        """What is eight times as large takes some eight times as long, and not 64 times."""
+        small, large = (seconds_of(lambda: run_on(size // part)) for part in (8, 1))
+        self.assertLess(large, 24 * small)
 
     def assert_ends(self, ended: Ended, status: int, *texts: str):
         """The status, and texts that standard error has; none where there are none."""

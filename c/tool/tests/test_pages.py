@@ -30,7 +30,6 @@ from conformance.runner.manifest import PICTURE, read_manifest, read_sample
 from conformance.runner.segments import header_at, with_data
 from test_output import slow_page
 
-SECONDS = 40
 ENTRIES = read_manifest(SUITE / "manifest.tsv")
 FILES = sorted({entry.name for entry in ENTRIES if not entry.is_embedded})
 REFUSED = [entry for entry in ENTRIES if entry.lenient not in (PICTURE, "-") and not entry.is_embedded]
@@ -184,14 +183,18 @@ class Faults(Case):
 
     def test_many_pages_with_faults(self):
         """The time is in proportion to the number of pages, whether they are incomplete or refused."""
-        count, size = 100000, struct.pack(">4I", 8, 1, 0, 0)
-        for region, status in (38, INCOMPLETE), (0, NOT_DONE):
+        size = struct.pack(">4I", 8, 1, 0, 0)
+
+        def run_on(count, region, status):
             data = [BOOK[:9] + struct.pack(">I", count)]
             for page in range(1, count + 1):
                 for kind, content in (48, size + b"\0\0\0"), (region, size + b"\0"), (49, b""):
                     data.append(struct.pack(">IBBII", len(data), 64 | kind, 0, page, len(content)) + content)
-            ended = self.run_here(self.made(b"".join(data)), "-f", "pbm", "-o", "-", seconds=SECONDS)
+            ended = self.run_here(self.made(b"".join(data)), "-f", "pbm", "-o", "-")
             self.assert_ends(ended, status, f"page {count}: ", f"segment {3 * count - 1} (")
+
+        self.assert_in_proportion(lambda count: run_on(count, 38, INCOMPLETE), 100000)
+        self.assert_in_proportion(lambda count: run_on(count, 0, NOT_DONE), 100000)
 
     def test_salvage_draws_more(self):
         scan = self.made(BOOK[:36] + b"\xff" * 4 + BOOK[40:])
