@@ -48,6 +48,11 @@ COMPILED = "so the C of portable/ is compiled"
 FEATURES = "processor\t: 0\nflags\t\t: fpu sse sse2 pni ssse3 cx16 sse4_1 sse4_2 popcnt lahf_lm abm\n"
 
 
+def is_of_level():
+    with open("/proc/cpuinfo", encoding="utf-8") as file:
+        return " popcnt " in file.read()
+
+
 class Case(unittest.TestCase):
     """A test with a copy of the repository, and with a PATH of its own."""
 
@@ -65,6 +70,7 @@ class Case(unittest.TestCase):
         self.write("cc", COMPILER.format(log=self.log, room=room.name))
         self.write("ar", '#!/bin/sh\n: >"$2"\n')
         self.be("Linux", "x86_64")
+        self.before = []
 
     def write(self, name, text):
         path = os.path.join(self.bin, name)
@@ -79,8 +85,22 @@ class Case(unittest.TestCase):
     def be(self, system, processor):
         self.write("uname", f"#!/bin/sh\necho {system} {processor}\n")
 
+    def be_older(self):
+        """Of the features that the kernel lists one is missing, for what runs with other mounts."""
+        cpuinfo = os.path.join(self.room, "cpuinfo")
+        with open(cpuinfo, "w", encoding="utf-8") as file:
+            file.write(FEATURES.replace(" sse4_2 ", " "))
+        unshare, shell, mount = (shutil.which(name) or name for name in ("unshare", "sh", "mount"))
+        line = f'{mount} --bind {cpuinfo} /proc/cpuinfo && exec "$@"'
+        self.before = [unshare, "--mount", "--map-root-user", shell, "-c", line, shell]
+        try:
+            subprocess.run([*self.before, shell, "-c", ""], check=True, capture_output=True)
+        except (OSError, subprocess.CalledProcessError):
+            self.skipTest("unshare, or the right to mount, is not here")
+
     def run_words(self, *words, **variables):
         environment = {"PATH": self.bin, "HOME": self.room, **variables}
+        words = [*self.before, *words]
         ended = subprocess.run(words, env=environment, cwd=self.top, capture_output=True, text=True)
         return ended.returncode, ended.stderr
 
@@ -106,22 +126,29 @@ class Case(unittest.TestCase):
 
 class Program(Case):
     def test_another_processor_or_system(self):
-        for system in ("Linux", "riscv64"), ("Darwin", "arm64"), ("FreeBSD", "amd64"), ("Linux", "aarch64"):
+        for system in ("Linux", "riscv64"), ("Darwin", "arm64"), ("FreeBSD", "amd64"), ("Linux", "i686"):
             with self.subTest(system):
                 # What the computer before it has left in the same folder is another one's.
                 self.be(*system)
                 self.assert_compiles(NO_TEXT.format(" ".join(system)))
 
     def test_the_text_comes_first(self):
-        with open("/proc/cpuinfo", encoding="utf-8") as file:
-            if " popcnt " not in file.read():
-                self.skipTest("this processor is older")
-        self.assertEqual(self.run_words("./jbig2-decode"), (77, ""))
-        compiled = self.compiled()
-        self.assertIn("dist/x86_64/jbig2-decode.s", compiled)
-        self.assertNotIn("hayro_jbig2_module.c", compiled)
-        # Another program follows at once where the reasons change.
-        self.assert_compiles("HAYRO_JBIG2_PORTABLE is 1", HAYRO_JBIG2_PORTABLE="1")
+        for processor in "x86_64", "aarch64":
+            with self.subTest(processor):
+                if processor == "x86_64" and not is_of_level():
+                    self.skipTest("this processor is older")
+                self.be("Linux", processor)
+                self.assertEqual(self.run_words("./jbig2-decode"), (77, ""))
+                compiled = self.compiled()
+                self.assertIn(f"dist/{processor}/jbig2-decode.s", compiled)
+                self.assertNotIn("hayro_jbig2_module.c", compiled)
+                # Another program follows at once where the reasons change.
+                self.assert_compiles("HAYRO_JBIG2_PORTABLE is 1", HAYRO_JBIG2_PORTABLE="1")
+                shutil.rmtree(os.path.join(self.top, "dist", "out"))
+
+    def test_an_older_processor(self):
+        self.be_older()
+        self.assert_compiles("this processor is below the level x86-64-v2")
 
     def test_another_c_library(self):
         self.mark("musl")
@@ -180,6 +207,11 @@ class Test(Case):
     def test_no_python(self):
         self.assert_says("./test needs Python 3: python3 is not on the PATH")
 
+    def test_no_folder(self):
+        os.symlink(shutil.which("python3"), os.path.join(self.bin, "python3"))
+        open(os.path.join(self.top, "c", "out"), "w", encoding="utf-8").close()
+        self.assert_says("./test builds in c/out, which can't be written: take a copy of the repository that can be")
+
 
 class Library(Case):
     def assert_compiles(self, reason):
@@ -204,6 +236,12 @@ class Library(Case):
         status, said = self.run_words("c/build", "--text")
         self.assertEqual(status, 1)
         self.assertIn("there is no C compiler", said)
+
+    def test_an_older_processor(self):
+        self.be_older()
+        status, said = self.run_words("c/build", "--text")
+        self.assertEqual(status, 0, said)
+        self.assertIn(f"c/build: this processor is below the level x86-64-v2, {COMPILED}", said)
 
 
 class Level(Case):
