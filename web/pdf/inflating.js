@@ -25,6 +25,8 @@ const steps = (from, to, each) => Array.from({ length: (to - from + 1) * each },
 // The last length has no bits, and is one less than would follow.
 const LENGTHS = [...ranges(3, [...steps(0, 0, 8), ...steps(1, 5, 4)]).slice(0, 28), [LONGEST_COPY, 0]];
 const DISTANCES = ranges(1, [0, 0, ...steps(0, 13, 2)]);
+// With the bytes and the end of the block.
+const MOST_LITERALS = END_OF_BLOCK + 1 + LENGTHS.length;
 
 class Damage extends Error {}
 
@@ -68,8 +70,10 @@ class Code {
   #counts = new Uint16Array(LONGEST_CODE + 1);
   #symbols;
 
-  constructor(lengths) {
+  /** Where words are missing, zlib takes the code only if it has none, or if one word of one bit `mayBeAlone`. */
+  constructor(lengths, mayBeAlone = true) {
     for (const length of lengths) if (length) this.#counts[length]++;
+    const longest = Math.max(...lengths);
     let left = 1;
     const places = [0, 0];
     for (let length = 1; length <= LONGEST_CODE; length++) {
@@ -77,6 +81,7 @@ class Code {
       check(left >= 0);
       places.push(places[length] + this.#counts[length]);
     }
+    check(left === 0 || longest === 0 || (longest === 1 && mayBeAlone));
     this.#symbols = new Uint16Array(lengths.length);
     lengths.forEach((length, symbol) => length && (this.#symbols[places[length]++] = symbol));
   }
@@ -97,15 +102,16 @@ class Code {
 
 const FIXED_CODES = [
   new Code([...steps(8, 8, 144), ...steps(9, 9, 112), ...steps(7, 7, 24), ...steps(8, 8, 8)]),
-  new Code(steps(5, 5, 30)),
+  new Code(steps(5, 5, 32)),
 ];
 
 /** The two codes of a block that brings its own. */
 function codesOf(bits) {
   const [literals, distances, count] = [bits.next(5) + 257, bits.next(5) + 1, bits.next(4) + 4];
+  check(literals <= MOST_LITERALS && distances <= DISTANCES.length);
   const ofLengths = Array(ORDER.length).fill(0);
   for (let at = 0; at < count; at++) ofLengths[ORDER[at]] = bits.next(3);
-  const code = new Code(ofLengths);
+  const code = new Code(ofLengths, false);
   const lengths = [];
   while (lengths.length < literals + distances) {
     const symbol = code.read(bits);
@@ -117,7 +123,7 @@ function codesOf(bits) {
       for (let left = least + bits.next(size); left > 0; left--) lengths.push(length);
     }
   }
-  check(lengths.length === literals + distances);
+  check(lengths.length === literals + distances && lengths[END_OF_BLOCK] > 0);
   return [new Code(lengths.slice(0, literals)), new Code(lengths.slice(literals))];
 }
 

@@ -20,6 +20,18 @@ const KINDS = {
   },
 };
 
+const bytesOf = (digits) => Uint8Array.from(digits.match(/../g), (byte) => parseInt(byte, 16));
+// Blocks of two letters whose codes zlib refuses, so that nothing comes out; and codes of few words, which it takes.
+const REFUSED = {
+  "too many lengths of words": "789cf5e0010900000080206cf3ff299f48",
+  "too many distances": "789c05fe010900000080206cf3ff29750901",
+  "a code for lengths that lacks words": "789c05e00109000000002064b37f2925",
+  "a code that lacks words": "789c05e0010900000080206cebffa90401",
+  "a code for distances that lacks words": "789c05e1010900000080206cf3ff298b",
+  "a code without the end of the block": "789c05e0010900000080206cd3ffa724",
+};
+const TAKEN = { "one distance": ["789c05e0010900000080206cf3ff2925", 2], "no distance": ["789c05e0010900000080206cf3ff2921", 2], "the end alone": ["789c05e001090000008020fc7f2d", 0] };
+
 async function deflated(bytes) {
   const packed = new Blob([bytes]).stream().pipeThrough(new CompressionStream("deflate"));
   return new Uint8Array(await new Response(packed).arrayBuffer());
@@ -85,6 +97,19 @@ function faultsOfRoom() {
   }
 }
 
+async function faultsOfCodes() {
+  const faults = [];
+  for (const [name, digits] of Object.entries(REFUSED)) {
+    const result = await outcome(bytesOf(`${digits}00000000`));
+    if (typeof result !== "string") faults.push(`${name}: ${result.bytes.length} bytes come out`);
+  }
+  for (const [name, [digits, size]] of Object.entries(TAKEN)) {
+    const result = await outcome(bytesOf(`${digits}00000000`));
+    if (result.bytes?.length !== size) faults.push(`${name}: ${result.bytes?.length ?? result}`);
+  }
+  return faults;
+}
+
 export async function faultsOfUnpacking() {
   const faults = faultsOfRoom();
   for (const [kind, make] of Object.entries(KINDS)) {
@@ -94,7 +119,7 @@ export async function faultsOfUnpacking() {
     const result = await outcome(Uint8Array.from(bytes));
     if (typeof result !== "string" && result.bytes.length > 0) faults.push(`${bytes} unpack to ${result.bytes.length} bytes`);
   }
-  return faults;
+  return [...faults, ...(await faultsOfCodes())];
 }
 
 export const COUNT = Object.keys(KINDS).length * SIZES.length;
