@@ -23,7 +23,8 @@ function withHint(decode) {
 
 /** The pages of a file, or the images of a PDF file; and what of the file could not be read. */
 async function contentsOf(bytes, options) {
-  if (isPdf(bytes)) {
+  // A JBIG2 file may have the words of a PDF file within, as in a comment.
+  if (!isFile(bytes) && isPdf(bytes)) {
     const pdf = await Pdf.open(bytes);
     const shared = new SharedGlobals(decoder, options);
     const pages = pdf.images().map((number) => imageOf(pdf, number, shared));

@@ -64,6 +64,12 @@ async function checkGlobals() {
   }
 }
 
+/** A file is none of PDF, also where it has the words that such a file begins with. */
+async function checkWords() {
+  const said = await saidOf(Buffer.concat([example, Buffer.from("%PDF-1.5\n")]));
+  check(pagesOf(said).length === 3, `a file with the words of a PDF file: ${errorsOf(said)}`);
+}
+
 async function checkTrap(name, after) {
   Object.assign(trap, { name, after });
   const said = await saidOf(example);
@@ -79,6 +85,7 @@ await import("../worker.js");
 check(messages.some(({ isReady }) => isReady), "the worker is not ready");
 await checkReadings();
 await checkGlobals();
+await checkWords();
 const said = await checkTrap("hayro_jbig2_file_draw", 1);
 check(pagesOf(said).length === 1, `${pagesOf(said).length} pages before a call that doesn't return`);
 await checkTrap("hayro_jbig2_file_new_within", 0);
