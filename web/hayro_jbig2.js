@@ -80,10 +80,12 @@ function ownModule() {
   return files ? files.readFile(place) : fetch(place);
 }
 
+const isModule = (source) => Object.prototype.toString.call(source) === "[object WebAssembly.Module]";
+
 /** A module, compiled or as bytes, with its imports. */
 async function instanceOf(source, imports) {
   if (typeof source?.arrayBuffer !== "function") {
-    const made = await WebAssembly.instantiate(source, imports);
+    const made = await WebAssembly.instantiate(isModule(source) ? source : bytesOf(source), imports);
     return made.instance ?? made;
   }
   if (!source.ok) throw new Error(`hayro_jbig2.wasm could not be loaded: ${source.status} ${source.statusText}`);

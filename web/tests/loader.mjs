@@ -153,7 +153,10 @@ async function checkTrap() {
 async function checkSources() {
   const compiled = await WebAssembly.compile(module);
   const response = () => new Response(module, { headers: { "content-type": "application/wasm" } });
-  const sources = [module, compiled, response(), Promise.resolve(module), Promise.resolve(compiled), Promise.resolve(response())];
+  const shared = new SharedArrayBuffer(module.length);
+  new Uint8Array(shared).set(module);
+  const promised = [module, compiled, response()].map((source) => Promise.resolve(source));
+  const sources = [module, compiled, response(), shared, new DataView(shared), ...promised];
   for (const [index, source] of sources.entries()) {
     const made = await Decoder.load(source).then((loaded) => loaded.pageCount(file), String);
     check(made === 3, `source ${index} of the module: ${made}`);
