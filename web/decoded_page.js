@@ -66,7 +66,9 @@ export class DecodedPage {
   toRgba(given = null) {
     const size = this.width * this.height;
     const data = whitePixels(Uint8ClampedArray, 4 * size, given);
-    unpack(this, BLACK, new Int32Array(data.buffer, data.byteOffset, size));
+    if (data.byteOffset % 4 === 0) unpack(this, BLACK, new Int32Array(data.buffer, data.byteOffset, size));
+    // Numbers of 32 bits have no such places.
+    else data.set(this.toRgba());
     return data;
   }
 
