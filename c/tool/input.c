@@ -125,9 +125,9 @@ static const char *name_of_unknown(const struct bytes *bytes) {
     list_segments(&list, bytes->at, bytes->length, 0, false);
     bool has_segments = is_started(&list);
     free_segments(&list);
-    return has_segments      ? "segments of JBIG2 without a page information"
-           : is_text(bytes) ? "text"
-                            : "no segment of JBIG2 at its start";
+    if (has_segments)
+        return "segments of JBIG2 without a page information";
+    return is_text(bytes) ? "text" : "no segment of JBIG2 at its start";
 }
 
 const char *name_of_kind(enum kind kind, const struct bytes *bytes) {

@@ -128,6 +128,20 @@ static bool is_jbig2(qpdf_data qpdf, qpdf_oh stream) {
     return filter_index_of_jbig2(qpdf, qpdf_oh_get_dict(qpdf, stream)) >= 0;
 }
 
+/* Packed segments are about as long as they are unpacked. What is far longer takes many times its length to be listed. */
+static bool is_too_long(const struct document *document, size_t length) {
+    enum { MOST_UNPACKED = 1 << 24 };
+    return length > MOST_UNPACKED && length > document->bytes.length;
+}
+
+/* Why a stream can't be read, if nothing was said. */
+static void add_reason(qpdf_data qpdf, struct text *reason) {
+    if (reason->length == 0 && qpdf_has_error(qpdf))
+        add_text(reason, "%s", detail_of(qpdf, qpdf_get_error(qpdf)));
+    else if (reason->length == 0)
+        add_text(reason, "its filters can't be undone");
+}
+
 bool read_pdf_stream(struct document *document, int object, int generation, struct bytes *bytes, struct text *reason) {
     qpdf_data qpdf = document->pdf->qpdf;
     /* An error that is still there would be taken for one of this stream. */
@@ -145,18 +159,18 @@ bool read_pdf_stream(struct document *document, int object, int generation, stru
         level = qpdf_dl_none;
     bool is_read =
         stream != 0 && !(qpdf_oh_get_stream_data(qpdf, stream, level, &is_decoded, &data, &length) & QPDF_ERRORS);
-    if (is_read && level == qpdf_dl_all && !is_decoded) {
+    add_warning(qpdf, reason);
+    if (is_read && is_too_long(document, length))
+        add_text(reason, "%sit unpacks to %zu bytes", reason->length > 0 ? "; " : "", length);
+    if (is_read && ((level == qpdf_dl_all && !is_decoded) || is_too_long(document, length))) {
         free(data);
         is_read = false;
     }
-    add_warning(qpdf, reason);
     /* libqpdf returns no bytes as NULL, which the decoder doesn't take. */
     if (is_read)
         *bytes = (struct bytes){data != NULL ? data : room_for(0), length};
-    else if (reason->length == 0 && qpdf_has_error(qpdf))
-        add_text(reason, "%s", detail_of(qpdf, qpdf_get_error(qpdf)));
-    else if (reason->length == 0)
-        add_text(reason, "its filters can't be undone");
+    else
+        add_reason(qpdf, reason);
     if (has_before && stream != 0)
         forget_stream(qpdf, stream);
     qpdf_oh_release_all(qpdf);

@@ -120,6 +120,21 @@ class Pdf(Case):
             listed = self.run_here("info", "--json", "scan.pdf")
             self.assertEqual(json.loads(listed.output)[0]["pages"][0]["segments"], [])
 
+    def test_what_unpacks_to_far_more_than_the_file_has_is_refused(self):
+        """The list of its segments would take gigabytes."""
+        image, zeros = self.images[1], zlib.compress(zlib.compress(bytes(1 << 25)))
+        twice = "/Filter [/FlateDecode /FlateDecode /JBIG2Decode]"
+        self.made(one_image("", zeros, b"", twice), "scan.pdf")
+        shared = "/Filter /JBIG2Decode /DecodeParms << /JBIG2Globals 6 0 R >>"
+        data, packed = one_image("", image.stream, zeros, shared), b"<<  /Length %d" % len(zeros)
+        self.assertIn(packed, data)
+        self.made(data.replace(packed, b"<< /Filter [/FlateDecode /FlateDecode] " + packed[4:]), "shared.pdf")
+        for name, where in ("scan.pdf", ""), ("shared.pdf", "globals: "):
+            ended = self.run_here(name, "-o", "page.png")
+            texts = f"{name}: page 1: {where}can't be read: ", "it unpacks to 33554432 bytes"
+            self.assert_ends(ended, NOT_DONE, *texts)
+            self.assertLess(len(self.run_here("info", name).output), 1000)
+
     def test_notes(self):
         image = dataclasses.replace(self.images[1])
         parameters = "/Filter /JBIG2Decode /DecodeParms << /JBIG2Globals 6 0 R >>"
