@@ -132,8 +132,8 @@ def _load() -> ctypes.CDLL:
 
 
 _LIBRARY = _load()
-# A GIL that is there when this is loaded stays.
-_HAS_GIL = getattr(sys, "_is_gil_enabled", lambda: True)()
+# A build for free threads may have a GIL for a while, as other modules are loaded.
+_HAS_GIL = "free-threading" not in sys.version
 
 
 def _error(number: int) -> Jbig2Error:
