@@ -6,7 +6,7 @@ use Rattle.jbig2_steps.specs.Counts.{Counts}
 use Rattle.jbig2_steps.specs.declared.work.Work.{Work}
 
 abbrev pub sum_of_counts : Counts → ℕ  -- the sum of all counts
-sum_of_counts c = c.loads + c.words + c.decisions + c.run_tests + c.groups + c.pixels
+sum_of_counts c = c.loads + c.words + c.decisions + c.run_tests + c.groups + c.pixels + c.cleared
 
 unfoldable pub budget : {L : Type 0} → Work L → ℕ
 budget w = sum_of_counts w.steps + 32 * w.left

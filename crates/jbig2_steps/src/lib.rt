@@ -20,6 +20,7 @@ pub struct Steps<L: Ledger> {
     run_tests: Share<L>,
     groups: Share<L>,
     pixels: Share<L>,
+    cleared: Share<L>,
 }
 
 impl<L: Ledger> Model for Steps<L> {
@@ -35,21 +36,23 @@ impl<L: Ledger> Model for Steps<L> {
       run_tests = s.run_tests.amount;
       groups = s.groups.amount;
       pixels = s.pixels.amount;
+      cleared = s.cleared.amount;
     } };
 
     ghost invariant = { λ s. (0 < s.loads.parts) × (0 < s.words.parts) × (0 < s.decisions.parts)
-        × (0 < s.run_tests.parts) × (0 < s.groups.parts) × (0 < s.pixels.parts) };
+        × (0 < s.run_tests.parts) × (0 < s.groups.parts) × (0 < s.pixels.parts)
+        × (0 < s.cleared.parts) };
 }
 
 impl<L: Ledger> Steps<L> {
     ghost use Rattle.std.specs.Prelude.{◌≡◌, ◌+◌};
-    ghost use Rattle.jbig2_steps.specs.Counts.{Counts, no_steps, words_copied};
+    ghost use Rattle.jbig2_steps.specs.Counts.{Counts, no_steps, words_copied, words_cleared};
 
     /// A counter with all counts at 0, for the ledger that `blank` opens.
     pub fn new(_permit: Permit, blank: Blank) -> Steps<L>
         requires name { blank.name ≡ L.name }
         requires parts { blank.parts ≡ L.parts }
-        requires enough { blank.parts ≡ 6 }
+        requires enough { blank.parts ≡ 7 }
         ensures { result ≡ no_steps }
     {
         let (book, mut loads) = blank.open::<L>();
@@ -58,6 +61,7 @@ impl<L: Ledger> Steps<L> {
         let run_tests = loads.split_off(1, 0);
         let groups = loads.split_off(1, 0);
         let pixels = loads.split_off(1, 0);
+        let cleared = loads.split_off(1, 0);
         Steps {
             book,
             loads,
@@ -66,6 +70,7 @@ impl<L: Ledger> Steps<L> {
             run_tests,
             groups,
             pixels,
+            cleared,
         }
     }
 
@@ -117,5 +122,11 @@ impl<L: Ledger> Steps<L> {
         ensures { self.new ≡ record self.old { pixels = self.old.pixels + 1 } }
     {
         self.book.add(&mut self.pixels, 1);
+    }
+    /// Counts this many words that a new or a changed bitmap begins with.
+    pub fn clear(&mut self, words: u64)
+        ensures { self.new ≡ words_cleared words self.old }
+    {
+        self.book.add(&mut self.cleared, words);
     }
 }

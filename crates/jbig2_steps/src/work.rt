@@ -32,7 +32,7 @@ impl<L: Ledger> Work<L> {
     pub fn new(permit: Permit, blank: Blank) -> Work<L>
         requires name { blank.name ≡ L.name }
         requires parts { blank.parts ≡ L.parts }
-        requires enough { blank.parts ≡ 6 }
+        requires enough { blank.parts ≡ 7 }
         ensures { result.steps ≡ no_steps }
     {
         Work::within(permit, blank, u64::MAX)
@@ -42,7 +42,7 @@ impl<L: Ledger> Work<L> {
     pub fn within(permit: Permit, blank: Blank, units: u64) -> Work<L>
         requires name { blank.name ≡ L.name }
         requires parts { blank.parts ≡ L.parts }
-        requires enough { blank.parts ≡ 6 }
+        requires enough { blank.parts ≡ 7 }
         ensures steps { result.steps ≡ no_steps }
         ensures left { result.left ≡ units }
         ensures budget { budget result ≡ 32 * units }
