@@ -3,7 +3,7 @@ use Rattle.std.proofs.Common.{◌≡◌, ℕ, ◌+◌, ◌-◌, ◌*◌, ◌/◌
 use Rattle.std.proofs.Math.Nat.{mul-le-mul_left}
 use Rattle.std.proofs.lemmas.Bool.{cases_eq, cond-true, cond-false, eq-eqb, ne_eqb}
 use Rattle.std.proofs.Common.{⊎_elim}
-use Rattle.jbig2_base.specs.Counts.{Counts, WritesWithin, most_words, words_copied, words_loaded, words_searched, words_written, words_across, loads_across, rows_combined}
+use Rattle.jbig2_base.specs.Counts.{Counts, WritesWithin, most_words, words_cleared, words_copied, words_loaded, words_searched, words_written, words_across, loads_across, rows_combined}
 
 -- ---- words and loads
 pub written-as : (s t : Counts) (words loads n l : ℕ) → t ≡ words_written words loads s → words ≡ n → loads ≡ l → t ≡ words_written n l s
@@ -11,13 +11,13 @@ written-as s t words loads n l e p q =
     e
     ∙ (let few : s.words + words ≡ s.words + n = ap (λ (k : ℕ). s.words + k) p in
     let most : s.loads + loads ≡ s.loads + l = ap (λ (k : ℕ). s.loads + k) q in
-    λ i. record { loads = most i; words = few i; decisions = s.decisions; run_tests = s.run_tests; groups = s.groups; pixels = s.pixels })
+    λ i. record { loads = most i; words = few i; decisions = s.decisions; run_tests = s.run_tests; groups = s.groups; pixels = s.pixels; cleared = s.cleared })
 
 pub written-none : (s : Counts) (n l : ℕ) → n ≡ 0 → l ≡ 0 → s ≡ words_written n l s
 written-none s n l e f =
     let few : s.words ≡ s.words + n = omega arith in
     let most : s.loads ≡ s.loads + l = omega arith in
-    λ i. record { loads = most i; words = few i; decisions = s.decisions; run_tests = s.run_tests; groups = s.groups; pixels = s.pixels }
+    λ i. record { loads = most i; words = few i; decisions = s.decisions; run_tests = s.run_tests; groups = s.groups; pixels = s.pixels; cleared = s.cleared }
 
 -- some after others
 pub written-then : (s t u : Counts) (m k words loads n l : ℕ) → t ≡ words_written m k s → u ≡ words_written words loads t → n ≡ m + words → l ≡ k + loads → u ≡ words_written n l s
@@ -26,7 +26,7 @@ written-then s t u m k words loads n l before after p q =
     ∙ ap (λ (c : Counts). words_written words loads c) before
     ∙ (let few : s.words + m + words ≡ s.words + n = omega arith in
     let most : s.loads + k + loads ≡ s.loads + l = omega arith in
-    λ i. record { loads = most i; words = few i; decisions = s.decisions; run_tests = s.run_tests; groups = s.groups; pixels = s.pixels })
+    λ i. record { loads = most i; words = few i; decisions = s.decisions; run_tests = s.run_tests; groups = s.groups; pixels = s.pixels; cleared = s.cleared })
 
 -- n words written under two loads each
 abbrev pub after_words : Counts → ℕ → Counts
@@ -37,7 +37,7 @@ after_words-none s n e = written-none s n (2 * n) e (omega arith)
 
 -- a load, and a word under a load
 pub written-run : (s loaded t : Counts) → loaded ≡ record s { loads = s.loads + 1 } → t ≡ record loaded { loads = loaded.loads + 1; words = loaded.words + 1 } → t ≡ words_written 1 2 s
-written-run s loaded t p q = written-then s loaded t 0 1 1 1 1 2 (p ∙ (let same : s.words ≡ s.words + 0 = omega arith in λ i. record { loads = s.loads + 1; words = same i; decisions = s.decisions; run_tests = s.run_tests; groups = s.groups; pixels = s.pixels })) q refl refl
+written-run s loaded t p q = written-then s loaded t 0 1 1 1 1 2 (p ∙ (let same : s.words ≡ s.words + 0 = omega arith in λ i. record { loads = s.loads + 1; words = same i; decisions = s.decisions; run_tests = s.run_tests; groups = s.groups; pixels = s.pixels; cleared = s.cleared })) q refl refl
 
 pub after_words-run : (s t loaded u : Counts) (m n : ℕ) → t ≡ after_words s m → loaded ≡ record t { loads = t.loads + 1 } → u ≡ record loaded { loads = loaded.loads + 1; words = loaded.words + 1 } → n ≡ m + 1 → u ≡ after_words s n
 after_words-run s t loaded u m n e p q f = written-then s t u m (2 * m) 1 2 n (2 * n) e (written-run t loaded u p q) f (omega arith)
@@ -92,7 +92,7 @@ most_words-at (suc n) h = (let e : n ≡ suc n - 1 = omega arith in ap (λ (m : 
 
 -- no word written yet
 pub within-none : (n : ℕ) (s : Counts) → WritesWithin n s s
-within-none n s = record { words = omega arith; loads = omega arith; decisions = refl; run_tests = refl; groups = refl; pixels = refl }
+within-none n s = record { words = omega arith; loads = omega arith; decisions = refl; run_tests = refl; groups = refl; pixels = refl; cleared = refl }
 
 loads-within : (left columns from : ℕ) → 0 < columns → loads_across left columns from ≤ 2 * words_across left columns
 loads-within left columns from some =
@@ -117,6 +117,7 @@ within-rows left columns from rows s t some e =
       run_tests = ap (λ (c : Counts). c.run_tests) e;
       groups = ap (λ (c : Counts). c.groups) e;
       pixels = ap (λ (c : Counts). c.pixels) e;
+      cleared = ap (λ (c : Counts). c.cleared) e;
     }
   where
     doubled : (r n : ℕ) → r * (2 * n) ≡ 2 * (r * n)
@@ -132,7 +133,7 @@ pub copied-then : (s t u : Counts) (m k n : ℕ) → t ≡ words_copied m s → 
 copied-then s t u m k n before after e = written-then s t u m m k k n n before after e e
 
 pub loaded-none : (s : Counts) (n : ℕ) → n ≡ 0 → s ≡ words_loaded n s
-loaded-none s n e = let same : s.loads ≡ s.loads + n = omega arith in λ i. record { loads = same i; words = s.words; decisions = s.decisions; run_tests = s.run_tests; groups = s.groups; pixels = s.pixels }
+loaded-none s n e = let same : s.loads ≡ s.loads + n = omega arith in λ i. record { loads = same i; words = s.words; decisions = s.decisions; run_tests = s.run_tests; groups = s.groups; pixels = s.pixels; cleared = s.cleared }
 
 pub loaded-as : (s t : Counts) (m n : ℕ) → t ≡ words_loaded m s → m ≡ n → t ≡ words_loaded n s
 loaded-as s t m n e p = e ∙ ap (λ (k : ℕ). words_loaded k s) p
@@ -141,7 +142,7 @@ pub loaded-more : (s t u : Counts) (m n : ℕ) → t ≡ words_loaded m s → u 
 loaded-more s t u m n before p e =
     p
     ∙ ap (λ (c : Counts). let made : Counts = record c { loads = c.loads + 1 } in made) before
-    ∙ (let same : s.loads + m + 1 ≡ s.loads + n = omega arith in λ i. record { loads = same i; words = s.words; decisions = s.decisions; run_tests = s.run_tests; groups = s.groups; pixels = s.pixels })
+    ∙ (let same : s.loads + m + 1 ≡ s.loads + n = omega arith in λ i. record { loads = same i; words = s.words; decisions = s.decisions; run_tests = s.run_tests; groups = s.groups; pixels = s.pixels; cleared = s.cleared })
 
 -- a load that ends at column x + others, before the end
 pub search-stops : (from to x others : ℕ) → from ≤ x → (x - from) % 64 ≡ 0 → others < 64 → x + others < to → (x - from + 63) / 64 + 1 ≡ words_searched from to (x + others)
@@ -153,3 +154,16 @@ search-ends from to within = omega arith
 -- a load of `count` columns that are all passed
 pub search-goes : (from to x count : ℕ) → from ≤ x → x < to → (x - from) % 64 ≡ 0 → count ≡ min (to - x) 64 → (x + count - from + 63) / 64 ≡ (x - from + 63) / 64 + 1
 search-goes from to x count after inside whole few = omega arith
+
+-- ---- bitmaps that are made
+pub cleared-none : (s : Counts) (n : ℕ) → n ≡ 0 → s ≡ words_cleared n s
+cleared-none s n e = let same : s.cleared ≡ s.cleared + n = omega arith in λ i. record s { cleared = same i }
+
+pub cleared-as : (s t : Counts) (m n : ℕ) → t ≡ words_cleared m s → m ≡ n → t ≡ words_cleared n s
+cleared-as s t m n e p = e ∙ ap (λ (k : ℕ). words_cleared k s) p
+
+pub cleared-then : (s t u : Counts) (m k n : ℕ) → t ≡ words_cleared m s → u ≡ words_cleared k t → n ≡ m + k → u ≡ words_cleared n s
+cleared-then s t u m k n before after e =
+    after
+    ∙ ap (λ (c : Counts). words_cleared k c) before
+    ∙ (let same : s.cleared + m + k ≡ s.cleared + n = omega arith in λ i. record s { cleared = same i })

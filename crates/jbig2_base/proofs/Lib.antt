@@ -11,6 +11,7 @@ pub mod CountLemmas
 pub mod FillLemmas
 pub mod GridLemmas
 pub mod LaneCounts
+pub mod MadeLemmas
 pub mod NumberLemmas
 mod OperatorCauses
 mod PackedLemmas

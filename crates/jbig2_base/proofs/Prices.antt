@@ -49,7 +49,7 @@ copied-paid g old new copied =
 
 -- words that are written one after the other
 pub written-none : (c : Counts) → WritesWithin 0 c c
-written-none c = record { words = omega arith; loads = omega arith; decisions = refl; run_tests = refl; groups = refl; pixels = refl }
+written-none c = record { words = omega arith; loads = omega arith; decisions = refl; run_tests = refl; groups = refl; pixels = refl; cleared = refl }
 
 pub written-word : (n : ℕ) (old mid new : Counts) → WritesWithin n old mid → new ≡ record mid { words = mid.words + 1 } → WritesWithin (n + 1) old new
 written-word n old mid new before more = record {
@@ -59,4 +59,5 @@ written-word n old mid new before more = record {
   run_tests = ap (λ (c : Counts). c.run_tests) more ∙ before.run_tests;
   groups = ap (λ (c : Counts). c.groups) more ∙ before.groups;
   pixels = ap (λ (c : Counts). c.pixels) more ∙ before.pixels;
+  cleared = ap (λ (c : Counts). c.cleared) more ∙ before.cleared;
 }

@@ -1,11 +1,12 @@
 -- How many steps calls take, by `Counts` before and after (our own rule; no part of the format).
-pub use Rattle.jbig2_steps.specs.Counts.{Counts, no_steps, words_copied, words_loaded, words_written}
-use Rattle.std.specs.Prelude.{◌≡◌, ℕ, ◌+◌, ◌-◌, ◌*◌, ◌/◌, ◌≤◌, ◌==◌, if◌then◌else◌, min, ℤ, pos, negsuc, zero, suc}
-use Rattle.jbig2_base.specs.Grid.{Grid}
+pub use Rattle.jbig2_steps.specs.Counts.{Counts, no_steps, words_cleared, words_copied, words_loaded, words_written}
+use Rattle.std.specs.Prelude.{◌≡◌, ℕ, ◌+◌, ◌-◌, ◌*◌, ◌/◌, ◌≤◌, ◌==◌, ◌||◌, if◌then◌else◌, nat_lt, min, ℤ, pos, negsuc, zero, suc}
+use Rattle.jbig2_base.specs.Grid.{Grid, max_side}
 
-pub record KeepsLanes (old new : Counts) : Type 0 where  -- no group of lanes and no single pixel was counted
+pub record KeepsLanes (old new : Counts) : Type 0 where  -- no group of lanes, no single pixel and no cleared word was counted
   pub groups : new.groups ≡ old.groups
   pub pixels : new.pixels ≡ old.pixels
+  pub cleared : new.cleared ≡ old.cleared
 
 abbrev pub overlap : ℕ → ℕ → ℤ → ℕ  -- how many of a page's columns (or rows) a source covers that begins at x
 overlap page source (pos x) = min source (page - x)
@@ -50,9 +51,23 @@ pub record WritesWithin (most : ℕ) (old new : Counts) : Type 0 where
   pub run_tests : new.run_tests ≡ old.run_tests
   pub groups : new.groups ≡ old.groups
   pub pixels : new.pixels ≡ old.pixels
+  pub cleared : new.cleared ≡ old.cleared
 
 abbrev pub words_of : Grid → ℕ  -- how many words of 64 pixels a bitmap has; each row begins with a new word
 words_of g = (g.width + 63) / 64 * g.height
+
+-- how many words a bitmap of these sides is made with; none if its sides are refused
+unfoldable pub words_made : ℕ → ℕ → ℕ
+words_made width height =
+    if nat_lt max_side width || nat_lt max_side height then 0 else (width + 63) / 64 * height
+
+-- the same if one side may be above 65535
+unfoldable pub wide_words_made : ℕ → ℕ → ℕ
+wide_words_made width height =
+    if nat_lt (max_side * max_side) (width * height) then 0 else (width + 63) / 64 * height
+
+abbrev pub bitmap_made : ℕ → ℕ → Counts → Counts  -- the counts after a bitmap of these sides is made
+bitmap_made width height = words_cleared (words_made width height)
 
 -- How many loads of 64 columns, from column `from` on, find column `place` of a row that ends at column `to`: up to the
 -- load that has it, or all loads if `place` is the end.

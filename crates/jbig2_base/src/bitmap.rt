@@ -1,9 +1,9 @@
 //! Packed bitmaps (T.88, 6): rows of pixels, which a few calls read and write.
 ghost use Rattle.std.specs.Prelude.{◌≡◌, ℕ, ◌+◌, ◌-◌, ◌*◌, ◌/◌, ◌^◌, ◌<◌, ◌≤◌, OnErr, Ok, false, length, slice_index};
 ghost use Rattle.jbig2_base.specs.Results.{Gives};
-ghost use Rattle.jbig2_base.specs.Counts.{words_copied};
+ghost use Rattle.jbig2_base.specs.Counts.{words_cleared, words_copied};
 ghost use Rattle.jbig2_base.specs.Grid.{Grid, blank, pixel_at, bit_number, part_or_overflow, blank_or_overflow, wide_or_overflow};
-ghost use Rattle.jbig2_base.specs.Counts.{words_of};
+ghost use Rattle.jbig2_base.specs.Counts.{words_of, wide_words_made, bitmap_made};
 ghost use Rattle.jbig2_base.specs.Causes.{HasCauseOrNoMemory, BreaksSides, BreaksArea};
 ghost use Rattle.jbig2_base.specs.Table.{IsTable};
 ghost use Rattle.jbig2_base.specs.Bits.{bit};
@@ -62,34 +62,56 @@ impl<A: Allocator> Bitmap<A> {
         }
     }
 
-    /// A white bitmap. A side above 65535 is refused (`OverflowError::BitmapDimension`).
-    pub fn new(alloc: A, width: u32, height: u32) -> Result<Bitmap<A>>
-        ensures { Gives (λ b. b) result (blank_or_overflow width height false) }
+    /// A white bitmap. A side above 65535 is refused (`OverflowError::BitmapDimension`). The words of the bitmap
+    /// count as cleared before memory is asked for.
+    pub fn new<L: Ledger>(
+        alloc: A,
+        width: u32,
+        height: u32,
+        steps: &mut Steps<L>,
+    ) -> Result<Bitmap<A>>
+        ensures value { Gives (λ b. b) result (blank_or_overflow width height false) }
+        ensures steps { steps.new ≡ bitmap_made width height steps.old }
     {
-        Bitmap::new_with(alloc, width, height, false)
+        Bitmap::new_with(alloc, width, height, false, steps)
     }
 
     /// A white bitmap. Its sides may have any length if their product is at most 65535 * 65535. A
-    /// larger product is refused (`OverflowError::BitmapDimension`).
-    pub fn new_wide(alloc: A, width: u32, height: u32) -> Result<Bitmap<A>>
+    /// larger product is refused (`OverflowError::BitmapDimension`). The words of the bitmap count as cleared
+    /// before memory is asked for.
+    pub fn new_wide<L: Ledger>(
+        alloc: A,
+        width: u32,
+        height: u32,
+        steps: &mut Steps<L>,
+    ) -> Result<Bitmap<A>>
         ensures value { Gives (λ b. b) result (wide_or_overflow width height) }
         ensures causes { HasCauseOrNoMemory result (BreaksArea width height) }
+        ensures steps { steps.new ≡ words_cleared (wide_words_made width height) steps.old }
     {
         if u64::from(width) * u64::from(height) > MAX_AREA {
             return Err(OverflowError::BitmapDimension.into());
         }
         let mut rows = PackedRows::new(alloc);
-        rows.refill(width, height, false)?;
+        rows.refill(width, height, false, steps)?;
         Ok(Bitmap { rows })
     }
 
     /// A bitmap whose pixels are all `default_pixel` (`true` is black). A side above 65535 is
-    /// refused (`OverflowError::BitmapDimension`).
-    pub fn new_with(alloc: A, width: u32, height: u32, default_pixel: bool) -> Result<Bitmap<A>>
-        ensures { Gives (λ b. b) result (blank_or_overflow width height default_pixel) }
+    /// refused (`OverflowError::BitmapDimension`). The words of the bitmap count as cleared before memory is
+    /// asked for.
+    pub fn new_with<L: Ledger>(
+        alloc: A,
+        width: u32,
+        height: u32,
+        default_pixel: bool,
+        steps: &mut Steps<L>,
+    ) -> Result<Bitmap<A>>
+        ensures value { Gives (λ b. b) result (blank_or_overflow width height default_pixel) }
+        ensures steps { steps.new ≡ bitmap_made width height steps.old }
     {
         let mut bitmap = Bitmap::new_empty(alloc);
-        bitmap.reinitialize(width, height, default_pixel)?;
+        bitmap.reinitialize(width, height, default_pixel, steps)?;
         Ok(bitmap)
     }
 
@@ -108,25 +130,34 @@ impl<A: Allocator> Bitmap<A> {
     }
 
     /// Changes the size and makes all pixels `default_pixel` (`true` is black). A side above 65535
-    /// is refused (`OverflowError::BitmapDimension`). A refusal changes nothing.
+    /// is refused (`OverflowError::BitmapDimension`). A refusal changes no pixel. The words of the new size
+    /// count as cleared before memory is asked for.
     #[tactic(auto, using(crate::proofs::BitmapCauses::blank_cause))]
-    pub fn reinitialize(&mut self, width: u32, height: u32, default_pixel: bool) -> Result<()>
+    pub fn reinitialize<L: Ledger>(
+        &mut self,
+        width: u32,
+        height: u32,
+        default_pixel: bool,
+        steps: &mut Steps<L>,
+    ) -> Result<()>
         ensures causes { HasCauseOrNoMemory result (BreaksSides width height) }
         ensures value { Gives (λ _. self.new) result
             (blank_or_overflow width height default_pixel) }
         ensures err { OnErr result (self.new ≡ self.old) }
+        ensures steps { steps.new ≡ bitmap_made width height steps.old }
     {
         if width > MAX_DIMENSION || height > MAX_DIMENSION {
             return Err(OverflowError::BitmapDimension.into());
         }
-        self.rows.refill(width, height, default_pixel)
+        self.rows.refill(width, height, default_pixel, steps)
     }
 
-    /// Makes all pixels one colour: black if `black` is true.
-    pub fn fill(&mut self, black: bool)
-        ensures { self.new ≡ blank self.old.width self.old.height black }
+    /// Makes all pixels one colour: black if `black` is true. Each word counts as cleared.
+    pub fn fill<L: Ledger>(&mut self, black: bool, steps: &mut Steps<L>)
+        ensures value { self.new ≡ blank self.old.width self.old.height black }
+        ensures steps { steps.new ≡ words_cleared (words_of self.old) steps.old }
     {
-        self.rows.fill(black);
+        self.rows.fill(black, steps);
     }
 
     /// The number of columns.

@@ -2,7 +2,7 @@
 //! collective bitmap (6.7.5), and the area of the page that a refinement takes (7.4.7.4).
 ghost use Rattle.std.specs.Prelude.{◌≡◌, ◌+◌, ◌/◌, ◌<◌, ◌≤◌, OnErr, OnOk};
 ghost use Rattle.jbig2_base.specs.Results.{Gives};
-ghost use Rattle.jbig2_base.specs.Counts.{words_copied, words_of};
+ghost use Rattle.jbig2_base.specs.Counts.{bitmap_made, words_copied, words_of};
 ghost use Rattle.jbig2_base.specs.Grid.{part_of, part_or_overflow};
 ghost use Rattle.jbig2_base.specs.inner.GridsBefore.{grid_before, pixel_of_part};
 
@@ -52,7 +52,8 @@ fn copy_row<A: Allocator, B: Allocator, L: Ledger>(
 
 impl<A: Allocator> Bitmap<A> {
     /// The part of this bitmap in `area`, white outside, in new memory. A side above 65535 is refused
-    /// (`OverflowError::BitmapDimension`). Each word of the part is written once, with one load.
+    /// (`OverflowError::BitmapDimension`). The part is made, which counts its words as
+    /// cleared, and then each of its words is written once, with one load.
     pub fn part<B: Allocator, L: Ledger>(
         &self,
         alloc: B,
@@ -63,10 +64,12 @@ impl<A: Allocator> Bitmap<A> {
         requires rows { area.top + area.height ≤ 4294967295 }
         ensures value { Gives (λ part. part) result (part_or_overflow self.now area) }
         ensures steps { OnOk result
-            (steps.new ≡ words_copied (words_of (part_of self.now area)) steps.old) }
-        ensures refused { OnErr result (steps.new ≡ steps.old) }
+            (steps.new ≡ words_copied (words_of (part_of self.now area))
+            (bitmap_made area.width area.height steps.old)) }
+        ensures refused { OnErr result
+            (steps.new ≡ bitmap_made area.width area.height steps.old) }
     {
-        let mut part = Bitmap::new(alloc, area.width, area.height)?;
+        let mut part = Bitmap::new(alloc, area.width, area.height, steps)?;
         for y in 0..area.height {
             copy_row(self, area, y, &mut part, steps);
         }

@@ -2,7 +2,7 @@
 //! calls of `words`.
 ghost use Rattle.std.specs.Prelude.{◌≡◌, ℕ, ◌+◌, ◌-◌, ◌*◌, ◌/◌, ◌%◌, ◌^◌, ◌<◌, ◌≤◌, ◌&&◌, nat_lt, OnErr, Ok, false, length, slice_index};
 ghost use Rattle.jbig2_base.specs.Results.{Gives};
-ghost use Rattle.jbig2_base.specs.Counts.{words_copied};
+ghost use Rattle.jbig2_base.specs.Counts.{words_cleared, words_copied};
 ghost use Rattle.jbig2_base.specs.Counts.{words_of};
 ghost use Rattle.jbig2_base.specs.Grid.{blank, pixel_at, bit_number};
 ghost use Rattle.jbig2_base.specs.Blocks.{LiesOn, CombinesBlock};
@@ -57,23 +57,32 @@ impl<A: Allocator> PackedRows<A> {
         }
     }
 
-    /// Changes the size and makes all pixels one colour. A refusal changes nothing.
-    pub fn refill(&mut self, width: u32, height: u32, black: bool) -> Result<()>
+    /// Changes the size and makes all pixels one colour. A refusal changes no pixel. The words of the new size
+    /// count as cleared, even if there is no memory for them.
+    pub fn refill<L: Ledger>(
+        &mut self,
+        width: u32,
+        height: u32,
+        black: bool,
+        steps: &mut Steps<L>,
+    ) -> Result<()>
         ensures value { Gives (λ _. self.new) result (Ok (blank width height black)) }
         ensures err { OnErr result (self.new ≡ self.old) }
+        ensures steps { steps.new ≡ words_cleared ((width + 63) / 64 * height) steps.old }
     {
-        self.words.refill(width, height, black)?;
+        self.words.refill(width, height, black, steps)?;
         self.width = width;
         self.height = height;
         self.stride = width.div_ceil(64) as usize;
         Ok(())
     }
 
-    /// Makes all pixels one colour.
-    pub fn fill(&mut self, black: bool)
-        ensures { self.new ≡ blank self.old.width self.old.height black }
+    /// Makes all pixels one colour. Each word counts as cleared.
+    pub fn fill<L: Ledger>(&mut self, black: bool, steps: &mut Steps<L>)
+        ensures value { self.new ≡ blank self.old.width self.old.height black }
+        ensures steps { steps.new ≡ words_cleared (words_of self.old) steps.old }
     {
-        self.words.fill(self.width, black);
+        self.words.fill(self.width, black, steps);
     }
 
     /// A copy of the rows in new memory. Each word counts as loaded and written.

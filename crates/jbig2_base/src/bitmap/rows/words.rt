@@ -3,7 +3,7 @@
 ghost use Rattle.std.specs.Prelude.{◌≡◌, ℕ, ◌+◌, ◌-◌, ◌*◌, ◌/◌, ◌%◌, ◌^◌, ◌<◌, ◌≤◌, [], OnErr, Ok, true, if◌then◌else◌, length, slice_index, slice_set, bit_or};
 ghost use Rattle.jbig2_base.specs.Results.{Gives};
 ghost use Rattle.jbig2_base.specs.Bits.{bit};
-ghost use Rattle.jbig2_base.specs.Counts.{words_copied};
+ghost use Rattle.jbig2_base.specs.Counts.{words_cleared, words_copied};
 ghost use Rattle.jbig2_base.specs.inner.Combines.{IsBlockOnBoth, CombinesBlockOfWords};
 ghost use Rattle.jbig2_base.specs.inner.Packed.{blank_word, blank_words, row_bit};
 ghost use Rattle.jbig2_base.specs.inner.WordBits.{field_bit};
@@ -50,12 +50,21 @@ impl<A: Allocator> PackedWords<A> {
         }
     }
 
-    /// Changes the size, and makes all pixels one colour. A refusal changes nothing.
-    pub fn refill(&mut self, width: u32, height: u32, black: bool) -> Result<()>
+    /// Changes the size, and makes all pixels one colour. A refusal changes no word. The words of the new size
+    /// count as cleared before memory is asked for.
+    pub fn refill<L: Ledger>(
+        &mut self,
+        width: u32,
+        height: u32,
+        black: bool,
+        steps: &mut Steps<L>,
+    ) -> Result<()>
         ensures value { Gives (λ _. self.new) result (Ok (blank_words width height black)) }
         ensures err { OnErr result (self.new ≡ self.old) }
+        ensures steps { steps.new ≡ words_cleared ((width + 63) / 64 * height) steps.old }
     {
         let count = width.div_ceil(64) as usize * height as usize;
+        steps.clear(count as u64);
         self.words
             .reserve_exact(count.saturating_sub(self.words.len()))?;
         self.words.clear();
@@ -64,13 +73,15 @@ impl<A: Allocator> PackedWords<A> {
         Ok(())
     }
 
-    /// Makes all pixels one colour, in rows of `width` columns.
-    pub fn fill(&mut self, width: u32, black: bool)
+    /// Makes all pixels one colour, in rows of `width` columns. Each word counts as cleared.
+    pub fn fill<L: Ledger>(&mut self, width: u32, black: bool, steps: &mut Steps<L>)
         requires { 0 < length self.old → 0 < width }
         ensures size { length self.new ≡ length self.old }
         ensures value { (k : ℕ) → k < length self.new
             → slice_index self.new k ≡ blank_word width black k }
+        ensures steps { steps.new ≡ words_cleared (length self.old) steps.old }
     {
+        steps.clear(self.words.len() as u64);
         self.words.fill(0);
         fill_rows(&mut self.words, width, black);
     }

@@ -10,8 +10,8 @@ invariant_of-self g c =
     let made : c.fill.new.self ≡ blank_words rows.width rows.height c.args.black = blank_words-made rows.width rows.height c.args.black c.fill.new.self size c.fill.ensures.value in
     blank_words-packed rows.width rows.height rows.stride c.args.black c.fill.new.self c.self.invariant.strided made
 
-pub returns : goal.returns
-returns g c =
+pub returns-clause-value : goal.returns-clause-value
+returns-clause-value g c =
     let rows = c.self.inside in
     let size : length c.fill.new.self ≡ stride_of rows.width * rows.height = omega (arith, c.fill.ensures.size, c.self.invariant.sized, ap (λ n. n * rows.height) c.self.invariant.strided) in
     let made : c.fill.new.self ≡ blank_words rows.width rows.height c.args.black = blank_words-made rows.width rows.height c.args.black c.fill.new.self size c.fill.ensures.value in

@@ -1,0 +1,68 @@
+-- Counts of bitmaps that are made.
+use Rattle.std.specs.Prelude.{◌⊎◌, if◌then◌else◌, ◌||◌}
+use Rattle.std.proofs.Common.{◌≡◌, ℕ, ◌+◌, ◌*◌, ◌/◌, ◌<◌, ◌≤◌, Bool, true, false, ltb, inl, inr, ap, refl, sym, ◌∙◌, arith}
+use Rattle.std.proofs.lemmas.Bool.{cond-true, cond-false}
+use Rattle.std.proofs.lemmas.Bool.Decides.{nat_tests}
+use Rattle.std.proofs.Math.Nat.{mul-le-mul_right}
+use Rattle.jbig2_base.specs.Counts.{Counts, bitmap_made, wide_words_made, words_cleared, words_made}
+use Rattle.jbig2_base.specs.Grid.{max_side}
+use Rattle.jbig2_steps.specs.Work.{sum_of_counts, words_of_row}
+use Rattle.jbig2_base.proofs.CountLemmas.{cleared-as, cleared-none}
+
+-- ---- sides that are refused, and others
+long-columns : (w h : ℕ) → 65535 < w → (ltb 65535 w || ltb 65535 h) ≡ true
+long-columns w h long = grind (arith, nat_tests)
+
+long-rows : (w h : ℕ) → 65535 < h → (ltb 65535 w || ltb 65535 h) ≡ true
+long-rows w h long = grind (arith, nat_tests)
+
+short-sides : (w h : ℕ) → w ≤ 65535 → h ≤ 65535 → (ltb 65535 w || ltb 65535 h) ≡ false
+short-sides w h columns rows = grind (arith, nat_tests)
+
+large-area : (n : ℕ) → 65535 * 65535 < n → ltb (65535 * 65535) n ≡ true
+large-area n large = grind (arith, nat_tests)
+
+small-area : (n : ℕ) → n ≤ 65535 * 65535 → ltb (65535 * 65535) n ≡ false
+small-area n small = grind (arith, nat_tests)
+
+pub made-too_wide : (w h : ℕ) (s : Counts) → 65535 < w → s ≡ bitmap_made w h s
+unfolding words_made
+made-too_wide w h s long = cleared-none s _ (cond-true _ 0 ((w + 63) / 64 * h) (long-columns w h long))
+
+pub made-too_high : (w h : ℕ) (s : Counts) → 65535 < h → s ≡ bitmap_made w h s
+unfolding words_made
+made-too_high w h s long = cleared-none s _ (cond-true _ 0 ((w + 63) / 64 * h) (long-rows w h long))
+
+pub made-of : (w h : ℕ) → w ≤ 65535 → h ≤ 65535 → words_made w h ≡ (w + 63) / 64 * h
+unfolding words_made
+made-of w h columns rows = cond-false _ 0 ((w + 63) / 64 * h) (short-sides w h columns rows)
+
+pub made-here : (w h : ℕ) (s t : Counts) → w ≤ 65535 → h ≤ 65535 → t ≡ words_cleared ((w + 63) / 64 * h) s → t ≡ bitmap_made w h s
+made-here w h s t columns rows cleared = cleared-as s t _ _ cleared (sym (made-of w h columns rows))
+
+pub wide-refused : (w h : ℕ) (s : Counts) → 65535 * 65535 < w * h → s ≡ words_cleared (wide_words_made w h) s
+unfolding wide_words_made
+wide-refused w h s large = cleared-none s _ (cond-true _ 0 ((w + 63) / 64 * h) (large-area (w * h) large))
+
+pub wide-here : (w h : ℕ) (s t : Counts) → w * h ≤ 65535 * 65535 → t ≡ words_cleared ((w + 63) / 64 * h) s → t ≡ words_cleared (wide_words_made w h) s
+unfolding wide_words_made
+wide-here w h s t small cleared = cleared-as s t _ _ cleared (sym (cond-false _ 0 ((w + 63) / 64 * h) (small-area (w * h) small)))
+
+-- ---- how much is counted
+row-words : (w h : ℕ) → (w + 63) / 64 * h ≤ words_of_row w * h
+row-words w h = mul-le-mul_right h (omega arith)
+
+either-few : (b : Bool) (n m : ℕ) → n ≤ m → (if b then 0 else n) ≤ m
+either-few true n m few = omega arith
+either-few false n m few = few
+
+pub made-few : (w h : ℕ) → words_made w h ≤ words_of_row w * h
+unfolding words_made
+made-few w h = either-few _ _ _ (row-words w h)
+
+pub wide-made-few : (w h : ℕ) → wide_words_made w h ≤ words_of_row w * h
+unfolding wide_words_made
+wide-made-few w h = either-few _ _ _ (row-words w h)
+
+pub cleared-counted : (n : ℕ) (old new : Counts) → new ≡ words_cleared n old → sum_of_counts new ≡ sum_of_counts old + n
+cleared-counted n old new cleared = ap (λ (c : Counts). sum_of_counts c) cleared ∙ omega arith
