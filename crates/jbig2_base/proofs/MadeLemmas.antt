@@ -4,9 +4,10 @@ use Rattle.std.proofs.Common.{◌≡◌, ℕ, ◌+◌, ◌*◌, ◌/◌, ◌<◌
 use Rattle.std.proofs.lemmas.Bool.{cond-true, cond-false}
 use Rattle.std.proofs.lemmas.Bool.Decides.{nat_tests}
 use Rattle.std.proofs.Math.Nat.{mul-le-mul_right}
-use Rattle.jbig2_base.specs.Counts.{Counts, bitmap_made, wide_words_made, words_cleared, words_made}
-use Rattle.jbig2_base.specs.Grid.{max_side}
-use Rattle.jbig2_steps.specs.Work.{sum_of_counts, words_of_row}
+use Rattle.jbig2_base.specs.Counts.{Counts, bitmap_made, words_of, wide_words_made, words_cleared, words_made}
+use Rattle.jbig2_base.specs.Grid.{Grid, max_side}
+use Rattle.jbig2_steps.specs.Work.{paid_words, price_of_bitmap, sum_of_counts, words_of_row}
+use Rattle.jbig2_steps.proofs.WorkLemmas.{room-paid}
 use Rattle.jbig2_base.proofs.CountLemmas.{cleared-as, cleared-none}
 
 -- ---- sides that are refused, and others
@@ -56,13 +57,30 @@ either-few : (b : Bool) (n m : ℕ) → n ≤ m → (if b then 0 else n) ≤ m
 either-few true n m few = omega arith
 either-few false n m few = few
 
-pub made-few : (w h : ℕ) → words_made w h ≤ words_of_row w * h
-unfolding words_made
+pub made-few : (w h : ℕ) → words_made w h ≤ paid_words w h
+unfolding words_made paid_words
 made-few w h = either-few _ _ _ (row-words w h)
 
-pub wide-made-few : (w h : ℕ) → wide_words_made w h ≤ words_of_row w * h
-unfolding wide_words_made
+pub wide-made-few : (w h : ℕ) → wide_words_made w h ≤ paid_words w h
+unfolding wide_words_made paid_words
 wide-made-few w h = either-few _ _ _ (row-words w h)
 
 pub cleared-counted : (n : ℕ) (old new : Counts) → new ≡ words_cleared n old → sum_of_counts new ≡ sum_of_counts old + n
 cleared-counted n old new cleared = ap (λ (c : Counts). sum_of_counts c) cleared ∙ omega arith
+
+pub made-counted : (w h : ℕ) (old new : Counts) → new ≡ bitmap_made w h old → sum_of_counts new ≤ sum_of_counts old + paid_words w h
+made-counted w h old new made = omega (arith, cleared-counted (words_made w h) old new made, made-few w h)
+
+pub wide-made-counted : (w h : ℕ) (old new : Counts) → new ≡ words_cleared (wide_words_made w h) old → sum_of_counts new ≤ sum_of_counts old + paid_words w h
+wide-made-counted w h old new made = omega (arith, cleared-counted (wide_words_made w h) old new made, wide-made-few w h)
+
+pub filled-counted : (g : Grid) (old new : Counts) → new ≡ words_cleared (words_of g) old → sum_of_counts new ≤ sum_of_counts old + paid_words g.width g.height
+unfolding paid_words
+filled-counted g old new filled = omega (arith, cleared-counted (words_of g) old new filled, row-words g.width g.height)
+
+-- a bitmap that is made and not drawn on
+pub made-paid : (w h : ℕ) (old new : Counts) → new ≡ bitmap_made w h old → sum_of_counts new ≤ sum_of_counts old + 32 * price_of_bitmap w h
+made-paid w h old new made = omega (arith, made-counted w h old new made, room-paid w h 0 (omega arith))
+
+pub words-same : (w v h k : ℕ) → w ≡ v → h ≡ k → paid_words w h ≡ paid_words v k
+words-same w v h k e f = ap (λ (n : ℕ). paid_words n h) e ∙ ap (λ (n : ℕ). paid_words v n) f

@@ -1,4 +1,4 @@
--- What is counted for MMR data is within the price of its bitmap and a unit for each byte.
+-- What is counted for MMR data, and for making its bitmap, is within the price of the bitmap and a unit for each byte.
 use Rattle.std.specs.Prelude.{if◌then◌else◌}
 use Rattle.std.proofs.Common.{◌≡◌, ℕ, ◌+◌, ◌*◌, ◌≤◌, Bool, true, false, not, ◌&&◌, List, length, Result, Ok, Err, subst, arith}
 use Rattle.std.proofs.Math.Nat.{mul-le-mul_right}
@@ -6,8 +6,8 @@ use Rattle.jbig2_base.specs.Results.{Returns}
 use Rattle.jbig2_base.specs.Counts.{Counts, KeepsLanes, words_of}
 use Rattle.jbig2_base.specs.Grid.{Grid}
 use Rattle.jbig2_base.specs.declared.error.DecodeError.{DecodeError}
-use Rattle.jbig2_steps.specs.Work.{CountsWithin, sum_of_counts, price_of_bitmap, words_of_row}
-use Rattle.jbig2_steps.proofs.WorkLemmas.{row-paid}
+use Rattle.jbig2_steps.specs.Work.{CountsBeside, paid_words, sum_of_counts, price_of_bitmap, words_of_row}
+use Rattle.jbig2_steps.proofs.WorkLemmas.{room-paid}
 use Rattle.jbig2_mmr.specs.Steps.{MovesWithin, bytes_taken}
 use Rattle.jbig2_mmr.specs.T6.{DecodedRows, mmr_rows, rows_of}
 
@@ -23,16 +23,16 @@ taken-within : (result : Result ℕ DecodeError) (grid : Grid) (strict : Bool) (
 taken-within (Ok used) grid strict w h bytes is = used-within strict w h bytes _ is
 taken-within (Err e) grid strict w h bytes is = omega arith
 
-thrice : (n words height : ℕ) → n ≤ words * height → 3 * n ≤ 2048 * (words * height)
+thrice : (n words height : ℕ) → n ≤ words * height → 3 * n ≤ 2047 * (words * height)
 thrice n words height few = omega arith
 
-pub mmr-paid : (g : Grid) (bytes : List ℕ) (taken : ℕ) (old new : Counts) → taken ≤ length bytes → KeepsLanes old new → MovesWithin (3 * (words_of g + 8 * taken)) old new → sum_of_counts new ≤ sum_of_counts old + (32 * price_of_bitmap g.width g.height + 32 * length bytes)
+pub mmr-paid : (g : Grid) (bytes : List ℕ) (taken : ℕ) (old new : Counts) → taken ≤ length bytes → KeepsLanes old new → MovesWithin (3 * (words_of g + 8 * taken)) old new → sum_of_counts new + paid_words g.width g.height ≤ sum_of_counts old + (32 * price_of_bitmap g.width g.height + 32 * length bytes)
 mmr-paid g bytes taken old new within lanes moves =
     let few : words_of g ≤ words_of_row g.width * g.height = mul-le-mul_right g.height (omega arith) in
-    let paid : 3 * words_of g ≤ 32 * price_of_bitmap g.width g.height = row-paid g.width g.height (3 * words_of g) (thrice (words_of g) (words_of_row g.width) g.height few) in
-    omega (arith, paid, moves.moves, moves.decisions, moves.run_tests, lanes.groups, lanes.pixels)
+    let paid : 3 * words_of g + paid_words g.width g.height ≤ 32 * price_of_bitmap g.width g.height = room-paid g.width g.height (3 * words_of g) (thrice (words_of g) (words_of_row g.width) g.height few) in
+    omega (arith, paid, moves.moves, moves.decisions, moves.run_tests, lanes.groups, lanes.pixels, lanes.cleared)
 
-pub decode-paid : (result : Result ℕ DecodeError) (old new : Grid) (strict : Bool) (bytes : List ℕ) (before after : Counts) → Returns (λ used. record { grid = new; used = used }) result (mmr_rows strict old.width old.height bytes) → KeepsLanes before after → MovesWithin (3 * (words_of old + 8 * bytes_taken result (length bytes))) before after → CountsWithin (price_of_bitmap old.width old.height + length bytes) before after
+pub decode-paid : (result : Result ℕ DecodeError) (old new : Grid) (strict : Bool) (bytes : List ℕ) (before after : Counts) → Returns (λ used. record { grid = new; used = used }) result (mmr_rows strict old.width old.height bytes) → KeepsLanes before after → MovesWithin (3 * (words_of old + 8 * bytes_taken result (length bytes))) before after → CountsBeside (paid_words old.width old.height) (price_of_bitmap old.width old.height + length bytes) before after
 decode-paid result old new strict bytes before after value lanes moves =
     let paid = mmr-paid old bytes (bytes_taken result (length bytes)) before after (taken-within result new strict old.width old.height bytes value) lanes moves in
     omega (arith, paid)

@@ -46,7 +46,7 @@ span-more old g new y from x count bits black so_far order inside row colour e =
 -- ---- counts
 -- what loads or writes words keeps lanes and single pixels
 pub lanes-load : (old new : Counts) → new ≡ record old { loads = old.loads + 1 } → KeepsLanes old new
-lanes-load old new e = record { groups = ap (λ (s : Counts). s.groups) e; pixels = ap (λ (s : Counts). s.pixels) e }
+lanes-load old new e = record { groups = ap (λ (s : Counts). s.groups) e; pixels = ap (λ (s : Counts). s.pixels) e; cleared = ap (λ (s : Counts). s.cleared) e }
 
 pub lanes-word : (old new : Counts) → new ≡ record old { words = old.words + 1 } → KeepsLanes old new
-lanes-word old new e = record { groups = ap (λ (s : Counts). s.groups) e; pixels = ap (λ (s : Counts). s.pixels) e }
+lanes-word old new e = record { groups = ap (λ (s : Counts). s.groups) e; pixels = ap (λ (s : Counts). s.pixels) e; cleared = ap (λ (s : Counts). s.cleared) e }

@@ -2,7 +2,7 @@
 use Rattle.std.proofs.Common.{◌≡◌, ℕ, ◌+◌, ◌*◌, ◌/◌, ◌%◌, ◌≤◌, min, Result, Ok, Err, IfOk, ap, ◌∙◌, arith}
 use Rattle.std.specs.Prelude.{max}
 use Rattle.jbig2_steps.specs.Counts.{Counts}
-use Rattle.jbig2_steps.specs.Work.{IsWithinLimit, Paid, PaidBut, sum_of_counts, price_of_bitmap, words_of_row, budget}
+use Rattle.jbig2_steps.specs.Work.{IsWithinLimit, Paid, PaidBut, sum_of_counts, paid_words, price_of_bitmap, words_of_row, budget}
 use Rattle.jbig2_steps.specs.declared.work.Work.{Work}
 
 -- counts alone
@@ -46,7 +46,15 @@ pub taken-least : {T E : Type 0} (result : Result T E) (new old width height pri
 taken-least (Ok x) new old width height price is taken = omega (arith, taken, is, price-least width height)
 taken-least (Err e) new old width height price is taken = tt
 
--- what is counted for each word of a row and for each row is within the price
+-- what is counted for each word of a row and for each row is within the price, and one count more for each word
+pub room-paid : (width height n : ℕ) → n ≤ 2047 * (words_of_row width * height) → n + paid_words width height ≤ 32 * price_of_bitmap width height
+unfolding paid_words price_of_bitmap
+room-paid width height n few = within (words_of_row width) height n few
+  where
+    within : (words height n : ℕ) → n ≤ 2047 * (words * height) → n + words * height ≤ 32 * (64 * words * height + 64)
+    within words height n few = omega arith
+
+-- without the one count more
 pub row-paid : (width height n : ℕ) → n ≤ 2048 * (words_of_row width * height) → n ≤ 32 * price_of_bitmap width height
 unfolding price_of_bitmap
 row-paid width height n few = within (words_of_row width) height n few

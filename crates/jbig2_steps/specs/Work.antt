@@ -22,6 +22,10 @@ Paid old new = budget new ≤ budget old
 abbrev pub CountsWithin : ℕ → Counts → Counts → Type 0
 CountsWithin units old new = sum_of_counts new ≤ sum_of_counts old + 32 * units
 
+-- the same, and this many counts more: those of a bitmap that is made before
+abbrev pub CountsBeside : ℕ → ℕ → Counts → Counts → Type 0
+CountsBeside more units old new = sum_of_counts new + more ≤ sum_of_counts old + 32 * units
+
 -- what was counted is at most what the units that were left pay for: this is the limit of work
 abbrev pub IsWithinLimit : {L : Type 0} → Work L → Work L → Type 0
 IsWithinLimit old new = CountsWithin old.left old.steps new.steps
@@ -29,6 +33,9 @@ IsWithinLimit old new = CountsWithin old.left old.steps new.steps
 -- ---- prices
 abbrev pub words_of_row : ℕ → ℕ  -- how many words of 64 columns a row has, at least one
 words_of_row width = max 1 ((width + 63) / 64)
+
+unfoldable pub paid_words : ℕ → ℕ → ℕ  -- for how many words a bitmap of this size is paid
+paid_words width height = words_of_row width * height
 
 unfoldable pub price_of_bitmap : ℕ → ℕ → ℕ
 price_of_bitmap width height = 64 * words_of_row width * height + 64
