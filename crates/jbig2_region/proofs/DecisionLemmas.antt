@@ -76,8 +76,8 @@ decided-region coding loads w h y input start before after empty some all none c
   decisions = λ _.
       rw (decisions-by-rows coding w h input start empty)
       (subst (λ (n : ℕ). after.decisions ≡ before.decisions + (n * row_decisions coding.row_context + decided_rows coding w h input n start)) all counted.total);
-  run_tests = ap (λ (t : ℕ × ℕ × ℕ). t.0) untouched;
+  run_tests = ap (λ (t : ℕ × ℕ × ℕ × ℕ). t.0) untouched;
   words = subst (λ (n : ℕ). after.words ≤ before.words + n * w) all words;
   loads = subst (λ (n : ℕ). after.loads ≤ before.loads + n * loads) all loaded;
-  lanes = record { groups = ap (λ (t : ℕ × ℕ × ℕ). t.1) untouched; pixels = ap (λ (t : ℕ × ℕ × ℕ). t.2) untouched };
+  lanes = record { groups = ap (λ (t : ℕ × ℕ × ℕ × ℕ). t.1) untouched; pixels = ap (λ (t : ℕ × ℕ × ℕ × ℕ). t.2) untouched; cleared = ap (λ (t : ℕ × ℕ × ℕ × ℕ). t.3) untouched };
 }

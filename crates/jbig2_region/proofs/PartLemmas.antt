@@ -13,8 +13,8 @@ use Rattle.jbig2_base.specs.Counts.{Counts, WritesWithin, most_words, overlap}
 use Rattle.jbig2_base.specs.Grid.{Grid, blank}
 use Rattle.jbig2_base.proofs.Prices.{most_words-few, written-counted}
 use Rattle.jbig2_coder.specs.Coder.{Coder, Context, Registers, initial_registers, is_within}
-use Rattle.jbig2_steps.specs.Work.{price_of_bitmap, sum_of_counts, words_of_row}
-use Rattle.jbig2_steps.proofs.WorkLemmas.{row-paid}
+use Rattle.jbig2_steps.specs.Work.{paid_words, price_of_bitmap, sum_of_counts, words_of_row}
+use Rattle.jbig2_steps.proofs.WorkLemmas.{room-paid}
 use Rattle.jbig2_region.specs.Raster.{Coding, Source, fresh_contexts, no_pixels, source}
 use Rattle.jbig2_region.specs.Refinement.{Reference, is_far, offset, reference_of, refined_decoded, refined_grid, refinement_coding}
 use Rattle.jbig2_region.specs.RefinementHeader.{IsRefinement, RefinementHeader}
@@ -126,10 +126,10 @@ overlap-room : (page source : ℕ) (x : ℤ) → overlap page source x ≤ page
 overlap-room page source (pos x) = omega arith
 overlap-room page source (negsuc x) = omega arith
 
-thrice : (n height words : ℕ) → n ≤ height * (3 * words) → 3 * n ≤ 2048 * (words * height)
+thrice : (n height words : ℕ) → n ≤ height * (3 * words) → 3 * n ≤ 2047 * (words * height)
 thrice n height words few = omega arith
 
-pub covered-paid : (page source : Grid) (x y : ℤ) (old new : Counts) → WritesWithin (overlap page.height source.height y * most_words (overlap page.width source.width x)) old new → sum_of_counts new ≤ sum_of_counts old + 32 * price_of_bitmap page.width page.height
+pub covered-paid : (page source : Grid) (x y : ℤ) (old new : Counts) → WritesWithin (overlap page.height source.height y * most_words (overlap page.width source.width x)) old new → sum_of_counts new + paid_words page.width page.height ≤ sum_of_counts old + 32 * price_of_bitmap page.width page.height
 covered-paid page source x y old new written =
     let rows = overlap page.height source.height y in
     let words = most_words (overlap page.width source.width x) in
@@ -137,7 +137,7 @@ covered-paid page source x y old new written =
     let high : rows * words ≤ page.height * words = mul-le-mul_right words (overlap-room page.height source.height y) in
     let wide : page.height * words ≤ page.height * (3 * words_of_row page.width) = mul-le-mul_left page.height few in
     let all : rows * words ≤ page.height * (3 * words_of_row page.width) = omega (arith, high, wide) in
-    let paid : 3 * (rows * words) ≤ 32 * price_of_bitmap page.width page.height = row-paid page.width page.height (3 * (rows * words)) (thrice (rows * words) page.height (words_of_row page.width) all) in
+    let paid : 3 * (rows * words) + paid_words page.width page.height ≤ 32 * price_of_bitmap page.width page.height = room-paid page.width page.height (3 * (rows * words)) (thrice (rows * words) page.height (words_of_row page.width) all) in
     let more : sum_of_counts new ≤ sum_of_counts old + 3 * (rows * words) = written-counted (rows * words) old new written in
     omega (arith, more, paid)
 

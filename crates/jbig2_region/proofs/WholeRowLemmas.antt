@@ -123,8 +123,8 @@ rows-counted coding each g0 d0 s0 c0 y p g d s c few has =
     let rest = has.rows.rest in
     record {
       decisions = omega (arith, decided, at-most y g0.height (g0.width + 1) few);
-      run_tests = ap (λ (t : ℕ × ℕ × ℕ). t.0) rest;
+      run_tests = ap (λ (t : ℕ × ℕ × ℕ × ℕ). t.0) rest;
       words = omega (arith, has.words, at-most y g0.height g0.width few);
       loads = omega (arith, has.loads, at-most y g0.height (g0.width * each) few);
-      lanes = record { groups = ap (λ (t : ℕ × ℕ × ℕ). t.1) rest; pixels = ap (λ (t : ℕ × ℕ × ℕ). t.2) rest };
+      lanes = record { groups = ap (λ (t : ℕ × ℕ × ℕ × ℕ). t.1) rest; pixels = ap (λ (t : ℕ × ℕ × ℕ × ℕ). t.2) rest; cleared = ap (λ (t : ℕ × ℕ × ℕ × ℕ). t.3) rest };
     }

@@ -2,7 +2,7 @@
 -- is coded, what it is decoded from, and the counts before and after it.
 use Rattle.std.specs.Prelude.{◌≡◌, ℕ, zero, suc, ◌+◌, ◌-◌, ◌*◌, ◌/◌, ◌%◌, ◌≤◌, ◌==◌, Bool, false, true, not, ◌&&◌, ◌||◌}
 use Rattle.std.specs.Prelude.{nat_lt, if◌then◌else◌, List, ◌++◌, length, replicate, slice_index_or, is_none, Option}
-use Rattle.jbig2_base.specs.Counts.{Counts, KeepsLanes}
+use Rattle.jbig2_base.specs.Counts.{Counts, KeepsLanes, bitmap_made}
 use Rattle.jbig2_base.specs.Grid.{bit_number, same_colour, Grid}
 use Rattle.jbig2_coder.specs.Coder.{fresh, all_quiet, initial_registers}
 use Rattle.jbig2_region.specs.Generic.{context_at, number_of, is_skipped}
@@ -12,8 +12,12 @@ use Rattle.jbig2_region.specs.Refinement.{reference_of, refinement_coding}
 use Rattle.jbig2_region.specs.RefinementHeader.{RefinementHeader}
 use Rattle.jbig2_region.specs.RefinementTemplates.{is_nominal, refinement_bits}
 use Rattle.jbig2_region.specs.RegionInfo.{PlacedRegion}
+use Rattle.jbig2_region.specs.declared.region_info.RegionSegmentInfo.{RegionSegmentInfo}
 use Rattle.jbig2_region.specs.declared.template.AdaptiveTemplatePixel.{AdaptiveTemplatePixel}
 use Rattle.jbig2_region.specs.declared.template.RefinementTemplate.{RefinementTemplate}
+
+abbrev pub region_made : RegionSegmentInfo → Counts → Counts  -- the counts after the bitmap of a region is made
+region_made info = bitmap_made info.width info.height
 
 unfoldable pub how_many : (ℕ → Bool) → ℕ → ℕ  -- how many of the first n places of a raster have a property
 how_many has zero = 0

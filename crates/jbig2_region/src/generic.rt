@@ -1,12 +1,13 @@
 //! Reads and decodes generic regions (T.88, 6.2 and 7.4.6).
 ghost use Rattle.std.specs.Prelude.{◌≡◌, ◌≤◌, ◌^◌, length, max, OnErr, OnOk, Ok, true, false};
-ghost use Rattle.jbig2_steps.specs.Work.{CountsWithin};
+ghost use Rattle.jbig2_steps.specs.Work.{CountsBeside, CountsWithin, paid_words};
 ghost use Rattle.jbig2_base.specs.Results.{Gives, Leaves};
 ghost use Rattle.jbig2_base.specs.Counts.{KeepsLanes};
 ghost use Rattle.jbig2_region.specs.Generic.{contexts_after, generic_result, generic_decoded, refused_grid};
 ghost use Rattle.jbig2_region.specs.RegionInfo.{IsWhiteFor};
 ghost use Rattle.jbig2_region.specs.inner.RegionViews.{region_view};
 ghost use Rattle.jbig2_region.specs.GenericSteps.{CountsGeneric, price_of_region};
+ghost use Rattle.jbig2_region.specs.Steps.{region_made};
 ghost use Rattle.jbig2_region.specs.GenericHeader.{IsParsed};
 ghost use Rattle.jbig2_region.specs.inner.GenericViews.{header_view};
 ghost use Rattle.jbig2_region.specs.WholeRows.{whole_generic_rows};
@@ -30,7 +31,7 @@ use std::sync::ledger::Ledger;
 /// Decodes a region (T.88, 6.2) into a white bitmap of its size. The contexts begin fresh, whatever
 /// `contexts` held. Afterwards `contexts` holds them as the region leaves them. MMR data does not change
 /// them, even if it is refused. The counts are within the price of a bitmap of this size and a unit for
-/// each coded byte. With nominal adaptive pixels a run of eight likely symbols takes no decision. A
+/// each coded byte, which also pays for making the bitmap. With nominal adaptive pixels a run of eight likely symbols takes no decision. A
 /// refusal takes no step, except with MMR data. MMR data counts no group of lanes and no single pixel.
 ///
 /// Returns `OutOfMemory` if there is no memory for the contexts, or in strict mode
@@ -51,7 +52,9 @@ pub fn decode_into<A: Allocator, B: Allocator, L: Ledger>(
     ensures steps { OnOk result (CountsGeneric (header_view header.now) steps.old steps.new) }
     ensures stopped { header.now.mmr ≡ false → OnErr result (steps.new ≡ steps.old) }
     ensures lanes { header.now.mmr ≡ true → KeepsLanes steps.old steps.new }
-    ensures paid { CountsWithin (price_of_region (header_view header.now)) steps.old steps.new }
+    ensures paid { let info = header.now.region_info in
+        CountsBeside (paid_words info.width info.height)
+        (price_of_region (header_view header.now)) steps.old steps.new }
 {
     if header.mmr {
         mmr::decode(bitmap, header.bytes, header.strict, steps)?;
@@ -85,13 +88,16 @@ pub fn decode<A: Allocator, B: Allocator, L: Ledger>(
     ensures value { Gives region_view result (generic_decoded (header_view header.now)) }
     ensures contexts { Leaves result contexts.new.items
         (contexts_after (header_view header.now) contexts.old.items) }
-    ensures steps { OnOk result (CountsGeneric (header_view header.now) steps.old steps.new) }
-    ensures stopped { header.now.mmr ≡ false → OnErr result (steps.new ≡ steps.old) }
-    ensures lanes { header.now.mmr ≡ true → KeepsLanes steps.old steps.new }
+    ensures steps { OnOk result (CountsGeneric (header_view header.now)
+        (region_made header.now.region_info steps.old) steps.new) }
+    ensures stopped { header.now.mmr ≡ false → OnErr result
+        (steps.new ≡ region_made header.now.region_info steps.old) }
+    ensures lanes { header.now.mmr ≡ true → KeepsLanes
+        (region_made header.now.region_info steps.old) steps.new }
     ensures paid { CountsWithin (price_of_region (header_view header.now)) steps.old steps.new }
 {
     let region_info = &header.region_info;
-    let mut bitmap = Bitmap::new(alloc, region_info.width, region_info.height)?;
+    let mut bitmap = Bitmap::new(alloc, region_info.width, region_info.height, steps)?;
     decode_into(header, &mut bitmap, contexts, steps)?;
     Ok(DecodedRegion::new(region_info, bitmap))
 }
@@ -117,7 +123,7 @@ pub fn whole_rows<A: Allocator, B: Allocator, L: Ledger>(
     if region_info.width == 0 {
         return Ok(region_info.height);
     }
-    let mut bitmap = Bitmap::new(alloc, region_info.width, region_info.height)?;
+    let mut bitmap = Bitmap::new(alloc, region_info.width, region_info.height, steps)?;
     if header.mmr {
         return Ok(mmr::count_rows(&mut bitmap, header.bytes, steps));
     }

@@ -1,11 +1,11 @@
 //! Reads and decodes refinement regions (T.88, 6.3 and 7.4.7).
 ghost use Rattle.std.specs.Prelude.{◌≡◌, OnErr, OnOk};
-ghost use Rattle.jbig2_steps.specs.Work.{CountsWithin, price_of_bitmap};
+ghost use Rattle.jbig2_steps.specs.Work.{CountsBeside, CountsWithin, paid_words, price_of_bitmap};
 ghost use Rattle.jbig2_base.specs.Results.{Returns, Gives, Leaves};
 ghost use Rattle.jbig2_region.specs.RegionInfo.{IsWhiteFor};
 ghost use Rattle.jbig2_region.specs.inner.RegionViews.{region_view};
 ghost use Rattle.jbig2_region.specs.Refinement.{is_far, is_smaller, offset, refined_result, refined_contexts, refined_decoded};
-ghost use Rattle.jbig2_region.specs.Steps.{CountsRefined};
+ghost use Rattle.jbig2_region.specs.Steps.{CountsRefined, region_made};
 ghost use Rattle.jbig2_region.specs.RefinementHeader.{IsRefinement};
 ghost use Rattle.jbig2_region.specs.inner.RefinedViews.{header_view};
 ghost use Rattle.jbig2_base.specs.Causes.{HasCause};
@@ -82,7 +82,8 @@ fn offset<B: Allocator>(
 /// Returns `RegionError::InvalidDimension` if the reference is narrower or lower than the region,
 /// `OverflowError::ReferenceOffset` if a place of either is 2^31 or more, or `OutOfMemory` if there
 /// is no memory for the contexts. An error leaves the bitmap as it was, and the contexts too unless
-/// memory ran out. It takes no step. The counts are within the price of a bitmap of this size.
+/// memory ran out. It takes no step. The counts are within the price of a bitmap of this size, which
+/// also pays for making it.
 pub fn decode_into<A: Allocator, B: Allocator, C: Allocator, L: Ledger>(
     header: &GenericRefinementRegionHeader<'_>,
     reference: &DecodedRegion<B>,
@@ -101,7 +102,8 @@ pub fn decode_into<A: Allocator, B: Allocator, C: Allocator, L: Ledger>(
         (CountsRefined (header_view header.now) (region_view reference.now) steps.old steps.new) }
     ensures stopped { OnErr result (steps.new ≡ steps.old) }
     ensures paid { let info = header.now.region_info in
-        CountsWithin (price_of_bitmap info.width info.height) steps.old steps.new }
+        CountsBeside (paid_words info.width info.height)
+        (price_of_bitmap info.width info.height) steps.old steps.new }
 {
     let region_info = &header.region_info;
     let (dx, dy) = offset(reference, region_info)?;
@@ -142,13 +144,15 @@ pub fn decode<A: Allocator, B: Allocator, C: Allocator, L: Ledger>(
     ensures contexts { Leaves result contexts.new.items
         (refined_contexts (header_view header.now) (region_view reference.now) contexts.old.items) }
     ensures steps { OnOk result
-        (CountsRefined (header_view header.now) (region_view reference.now) steps.old steps.new) }
-    ensures stopped { OnErr result (steps.new ≡ steps.old) }
+        (CountsRefined (header_view header.now) (region_view reference.now)
+        (region_made header.now.region_info steps.old) steps.new) }
+    ensures stopped { OnErr result
+        (steps.new ≡ region_made header.now.region_info steps.old) }
     ensures paid { let info = header.now.region_info in
         CountsWithin (price_of_bitmap info.width info.height) steps.old steps.new }
 {
     let region_info = &header.region_info;
-    let mut bitmap = Bitmap::new(alloc, region_info.width, region_info.height)?;
+    let mut bitmap = Bitmap::new(alloc, region_info.width, region_info.height, steps)?;
     decode_into(header, reference, &mut bitmap, contexts, steps)?;
     Ok(DecodedRegion::new(region_info, bitmap))
 }

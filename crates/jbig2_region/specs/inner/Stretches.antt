@@ -5,8 +5,9 @@ use Rattle.jbig2_region.specs.Raster.{Coding}
 use Rattle.jbig2_region.specs.inner.DecodedPixels.{DecodesPart, CountsPart}
 use Rattle.jbig2_region.specs.inner.RegionStates.{CountedRegion, without_counts}
 
-abbrev pub rest_of : Counts → ℕ × ℕ × ℕ  -- what no pixel of a raster counts: run tests, groups of lanes, single pixels
-rest_of c = (c.run_tests, c.groups, c.pixels)
+-- what no pixel of a raster counts: run tests, groups of lanes, single pixels and cleared words
+abbrev pub rest_of : Counts → ℕ × ℕ × ℕ × ℕ
+rest_of c = (c.run_tests, c.groups, c.pixels, c.cleared)
 
 -- The n pixels of row y from column x on are decoded, and their decisions are counted. The bitmap keeps its size, and
 -- the coder keeps its bytes.

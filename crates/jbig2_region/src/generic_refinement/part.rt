@@ -47,7 +47,7 @@ fn whole_rows<A: Allocator, B: Allocator, C: Allocator, L: Ledger>(
         dx,
         dy,
     };
-    let mut bitmap = Bitmap::new(alloc, region_info.width, region_info.height)?;
+    let mut bitmap = Bitmap::new(alloc, region_info.width, region_info.height, steps)?;
     fresh_contexts(contexts, header.template.context_bits())?;
     let mut decoder = ArithmeticDecoder::new(header.bytes);
     Ok(count_refined_rows(
@@ -86,7 +86,7 @@ pub fn decode_part<A: Allocator + Clone, B: Allocator, C: Allocator, L: Ledger>(
     let place = offset(reference, region_info)?;
     let rows = whole_rows(alloc.clone()?, header, reference, place, contexts, steps)?;
     let (width, height) = (region_info.width, region_info.height);
-    let mut bitmap = Bitmap::new(alloc.clone()?, width, height)?;
+    let mut bitmap = Bitmap::new(alloc.clone()?, width, height, steps)?;
     let (dx, dy) = place;
     bitmap.combine(
         &reference.bitmap,

@@ -1,3 +1,4 @@
+use Rattle.jbig2_steps.proofs.WorkLemmas.{room-paid}
 use Rattle.std.proofs.Common.{◌≡◌, ℕ, ◌+◌, ◌*◌, Bool, List, Result, sym, ap, ◌∙◌, length, drop, arith}
 use Rattle.jbig2_region.specs.inner.GenericViews.{header_view}
 use Rattle.jbig2_region.specs.Generic.{coding_of, generic_region}
@@ -8,12 +9,13 @@ use Rattle.jbig2_region.specs.Templates.{context_bits, template_pixels}
 use Rattle.jbig2_region.specs.inner.PixelArrays.{is_extended}
 use Rattle.jbig2_region.specs.declared.template.AdaptiveTemplatePixel.{AdaptiveTemplatePixel}
 use Rattle.jbig2_base.proofs.Causes.{same-ok}
+use Rattle.jbig2_base.proofs.MadeLemmas.{words-same}
 use Rattle.jbig2_base.proofs.Prices.{price-same}
 use Rattle.jbig2_base.specs.Results.{Returns}
 use Rattle.jbig2_base.specs.Counts.{Counts, KeepsLanes, words_of}
 use Rattle.jbig2_base.specs.Grid.{Grid}
 use Rattle.jbig2_base.specs.declared.error.DecodeError.{DecodeError}
-use Rattle.jbig2_steps.specs.Work.{CountsWithin, price_of_bitmap}
+use Rattle.jbig2_steps.specs.Work.{CountsBeside, paid_words, price_of_bitmap}
 use Rattle.jbig2_mmr.proofs.Prices.{decode-paid}
 use Rattle.jbig2_mmr.specs.Steps.{MovesWithin, bytes_taken}
 use Rattle.jbig2_mmr.specs.T6.{mmr_rows}
@@ -55,10 +57,12 @@ returns-clause-paid g c =
     omega (arith, within)
 
 -- MMR data
-decoded-paid : (result : Result ℕ DecodeError) (info : RegionSegmentInfo) (old new : Grid) (strict : Bool) (bytes : List ℕ) (before after : Counts) → IsWhiteFor info old → Returns (λ used. record { grid = new; used = used }) result (mmr_rows strict old.width old.height bytes) → KeepsLanes before after → MovesWithin (3 * (words_of old + 8 * bytes_taken result (length bytes))) before after → CountsWithin (price_of_bitmap info.width info.height + length bytes) before after
+decoded-paid : (result : Result ℕ DecodeError) (info : RegionSegmentInfo) (old new : Grid) (strict : Bool) (bytes : List ℕ) (before after : Counts) → IsWhiteFor info old → Returns (λ used. record { grid = new; used = used }) result (mmr_rows strict old.width old.height bytes) → KeepsLanes before after → MovesWithin (3 * (words_of old + 8 * bytes_taken result (length bytes))) before after → CountsBeside (paid_words info.width info.height) (price_of_bitmap info.width info.height + length bytes) before after
 decoded-paid result info old new strict bytes before after white value lanes moves =
     let paid = decode-paid result old new strict bytes before after value lanes moves in
-    omega (arith, paid, price-same old.width info.width old.height info.height (ap (λ (g : Grid). g.width) white) (ap (λ (g : Grid). g.height) white))
+    let w : old.width ≡ info.width = ap (λ (g : Grid). g.width) white in
+    let h : old.height ≡ info.height = ap (λ (g : Grid). g.height) white in
+    omega (arith, paid, price-same old.width info.width old.height info.height w h, words-same old.width info.width old.height info.height w h)
 
 pub returns-then-header-clause-paid : goal.returns-then-header-clause-paid
 returns-then-header-clause-paid g c =
@@ -67,3 +71,8 @@ returns-then-header-clause-paid g c =
 pub returns-in_err-decode-clause-paid : goal.returns-in_err-decode-clause-paid
 returns-in_err-decode-clause-paid g c =
     decoded-paid c.decode.result c.args.header.now.region_info c.args.bitmap.now c.decode.new.bitmap c.args.header.now.strict c.args.header.now.bytes.now c.args.steps.now c.decode.new.steps c.requires.white c.decode.ensures.value c.decode.ensures.lanes c.decode.ensures.work
+
+pub returns-in_err-fresh_contexts-clause-paid : goal.returns-in_err-fresh_contexts-clause-paid
+returns-in_err-fresh_contexts-clause-paid g c =
+    let info = c.args.header.now.region_info in
+    omega (arith, room-paid info.width info.height 0 (omega arith))

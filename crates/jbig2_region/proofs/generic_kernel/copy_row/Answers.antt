@@ -41,7 +41,7 @@ loop-index-preserved g c =
       words = ap (λ (s : Counts). s.words) steps ∙ omega (arith, c.loop-index.invariant.words);
       decisions = ap (λ (s : Counts). s.decisions) steps ∙ c.loop-index.invariant.decisions;
       run_tests = ap (λ (s : Counts). s.run_tests) steps ∙ c.loop-index.invariant.run_tests;
-      lanes = record { groups = ap (λ (s : Counts). s.groups) steps ∙ c.loop-index.invariant.lanes.groups; pixels = ap (λ (s : Counts). s.pixels) steps ∙ c.loop-index.invariant.lanes.pixels };
+      lanes = record { groups = ap (λ (s : Counts). s.groups) steps ∙ c.loop-index.invariant.lanes.groups; pixels = ap (λ (s : Counts). s.pixels) steps ∙ c.loop-index.invariant.lanes.pixels; cleared = ap (λ (s : Counts). s.cleared) steps ∙ c.loop-index.invariant.lanes.cleared };
     }
 
 pub returns-clause-pixels : goal.returns-clause-pixels

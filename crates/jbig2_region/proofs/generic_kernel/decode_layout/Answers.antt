@@ -71,7 +71,7 @@ loop-y-preserved g c =
       run_tests = tests-next c.args.steps.now.run_tests c.loop-y.steps.run_tests c.decode_row.new.steps.run_tests (row_tests nominal w) c.loop-y.y c.loop-y.invariant.run_tests (subst (λ (n : ℕ). c.decode_row.new.steps.run_tests ≤ n + row_tests nominal w) same_tests tests);
       lanes =
           lanes-then c.args.steps.now c.loop-y.steps c.decode_row.new.steps c.loop-y.invariant.lanes
-          (lanes-then c.loop-y.steps c.begin_row-predicted.new.steps c.decode_row.new.steps (record { groups = ap (λ (s : Counts). s.groups) opening; pixels = ap (λ (s : Counts). s.pixels) opening }) c.decode_row.ensures.lanes);
+          (lanes-then c.loop-y.steps c.begin_row-predicted.new.steps c.decode_row.new.steps (record { groups = ap (λ (s : Counts). s.groups) opening; pixels = ap (λ (s : Counts). s.pixels) opening; cleared = ap (λ (s : Counts). s.cleared) opening }) c.decode_row.ensures.lanes);
       words = tests-next c.args.steps.now.words c.loop-y.steps.words c.decode_row.new.steps.words (row_words nominal w) c.loop-y.y c.loop-y.invariant.words (subst (λ (n : ℕ). c.decode_row.new.steps.words ≤ n + row_words nominal w) same_words written);
       loads =
           rw coded

@@ -1,4 +1,5 @@
-use Rattle.std.proofs.Common.{rules, ◌≡◌, ℕ, sym, ap, ◌∙◌, length, drop, to_z, of_z, w32}
+use Rattle.jbig2_steps.proofs.WorkLemmas.{room-paid}
+use Rattle.std.proofs.Common.{rules, ◌≡◌, ℕ, sym, ap, ◌∙◌, length, drop, to_z, of_z, w32, arith}
 use Rattle.std.proofs.lemmas.Int.{to_z-of_z}
 use mir.Val.{SFits}
 use Rattle.jbig2_region.specs.inner.RefinedViews.{header_view}
@@ -48,3 +49,13 @@ pub returns-clause-paid : goal.returns-clause-paid
 returns-clause-paid g c =
     let h = header_view c.args.header.now in
     decided-paid _ _ h.region_info.width h.region_info.height _ _ c.args.steps.now c.decode_bitmap.new.steps (refinement_loads-few h.template h.adaptive_template_pixels h.region_info.width) (returns-clause-steps g c)
+
+pub returns-in_err-fresh_contexts-clause-paid : goal.returns-in_err-fresh_contexts-clause-paid
+returns-in_err-fresh_contexts-clause-paid g c =
+    let info = c.args.header.now.region_info in
+    omega (arith, room-paid info.width info.height 0 (omega arith))
+
+pub returns-in_err-dx-clause-paid : goal.returns-in_err-dx-clause-paid
+returns-in_err-dx-clause-paid g c =
+    let info = c.args.header.now.region_info in
+    omega (arith, room-paid info.width info.height 0 (omega arith))

@@ -89,7 +89,7 @@ loop-y-preserved g c =
       loads = loaded ∙ c.push_row-pixels.ensures.loads ∙ c.loop-y.invariant.loads;
       lanes =
           lanes-then c.args.steps.now c.loop-y.steps c.store_pixels.new.steps c.loop-y.invariant.lanes
-          (lanes-then c.loop-y.steps c.push_row-pixels.new.steps c.store_pixels.new.steps c.push_row-pixels.ensures.lanes (record { groups = ap (λ (t : Counts). t.groups) c.store_pixels.ensures.steps; pixels = ap (λ (t : Counts). t.pixels) c.store_pixels.ensures.steps }));
+          (lanes-then c.loop-y.steps c.push_row-pixels.new.steps c.store_pixels.new.steps c.push_row-pixels.ensures.lanes (record { groups = ap (λ (t : Counts). t.groups) c.store_pixels.ensures.steps; pixels = ap (λ (t : Counts). t.pixels) c.store_pixels.ensures.steps; cleared = ap (λ (t : Counts). t.cleared) c.store_pixels.ensures.steps }));
       shows =
           c.windows_below-windows.ensures c.loop-y.bitmap c.store_pixels.new.self y (after ∙ wide) (subst (λ (q : Grid). SameAbove c.loop-y.bitmap q y) stored (stored-above c.loop-y.bitmap 0 y c.width-width.result pixels))
           (λ k few.

@@ -99,9 +99,9 @@ loop-group-preserved g c =
       words = omega (arith, next, c.div_ceil-group-end.ensures, c.min-bytes.ensures, ap (λ (s : Counts). s.words) c.words_after-after.ensures.steps, ap (λ (s : Counts). s.words) c.store_pixels.ensures.steps, c.push_group-pixels.ensures.words, c.loop-group.invariant.words);
       lanes =
           let shown : KeepsLanes c.loop-group.steps c.words_after-after.new.steps =
-          record { groups = ap (λ (s : Counts). s.groups) c.words_after-after.ensures.steps; pixels = ap (λ (s : Counts). s.pixels) c.words_after-after.ensures.steps } in
+          record { groups = ap (λ (s : Counts). s.groups) c.words_after-after.ensures.steps; pixels = ap (λ (s : Counts). s.pixels) c.words_after-after.ensures.steps; cleared = ap (λ (s : Counts). s.cleared) c.words_after-after.ensures.steps } in
           let kept : KeepsLanes c.push_group-pixels.new.steps stored =
-          record { groups = ap (λ (s : Counts). s.groups) c.store_pixels.ensures.steps; pixels = ap (λ (s : Counts). s.pixels) c.store_pixels.ensures.steps } in
+          record { groups = ap (λ (s : Counts). s.groups) c.store_pixels.ensures.steps; pixels = ap (λ (s : Counts). s.pixels) c.store_pixels.ensures.steps; cleared = ap (λ (s : Counts). s.cleared) c.store_pixels.ensures.steps } in
           lanes-then c.words_at-here.new.steps c.loop-group.steps stored c.loop-group.invariant.lanes
           (lanes-then c.loop-group.steps c.words_after-after.new.steps stored shown (lanes-then c.words_after-after.new.steps c.push_group-pixels.new.steps stored c.push_group-pixels.ensures.lanes kept));
     }

@@ -51,6 +51,6 @@ loop-offset-preserved g c =
       decisions = ap (λ (s : Counts). s.decisions) steps ∙ omega (arith, c.loop-offset.invariant.decisions);
       words = ap (λ (s : Counts). s.words) steps ∙ omega (arith, c.loop-offset.invariant.words);
       run_tests = ap (λ (s : Counts). s.run_tests) steps ∙ c.loop-offset.invariant.run_tests;
-      lanes = record { groups = ap (λ (s : Counts). s.groups) steps ∙ c.loop-offset.invariant.lanes.groups; pixels = ap (λ (s : Counts). s.pixels) steps ∙ c.loop-offset.invariant.lanes.pixels };
+      lanes = record { groups = ap (λ (s : Counts). s.groups) steps ∙ c.loop-offset.invariant.lanes.groups; pixels = ap (λ (s : Counts). s.pixels) steps ∙ c.loop-offset.invariant.lanes.pixels; cleared = ap (λ (s : Counts). s.cleared) steps ∙ c.loop-offset.invariant.lanes.cleared };
       loads = ap (λ (s : Counts). s.loads) steps ∙ omega (arith, c.loop-offset.invariant.loads);
     }

@@ -51,4 +51,5 @@ pub returns-clause-lanes : goal.returns-clause-lanes
 returns-clause-lanes g c = record {
   groups = ap (λ (t : Counts). t.groups) c.store_pixels.ensures.steps ∙ ap (λ (t : Counts). t.groups) c.loop-offset.invariant.steps ∙ ap (λ (t : Counts). t.groups) c.mask_at-mask.ensures.steps ∙ ap (λ (t : Counts). t.groups) c.windows_at-windows.ensures.steps;
   pixels = ap (λ (t : Counts). t.pixels) c.store_pixels.ensures.steps ∙ ap (λ (t : Counts). t.pixels) c.loop-offset.invariant.steps ∙ ap (λ (t : Counts). t.pixels) c.mask_at-mask.ensures.steps ∙ ap (λ (t : Counts). t.pixels) c.windows_at-windows.ensures.steps;
+  cleared = ap (λ (t : Counts). t.cleared) c.store_pixels.ensures.steps ∙ ap (λ (t : Counts). t.cleared) c.loop-offset.invariant.steps ∙ ap (λ (t : Counts). t.cleared) c.mask_at-mask.ensures.steps ∙ ap (λ (t : Counts). t.cleared) c.windows_at-windows.ensures.steps;
 }

@@ -52,4 +52,4 @@ returns-clause-region g c =
 pub returns-clause-steps : goal.returns-clause-steps
 returns-clause-steps g c =
     skipping-region (nominal_pixels c.args.neighbours) (skip_of c.args.skip) c.args.bitmap.now.width c.args.bitmap.now.height c.loop-y.y c.args.decoder.now.bytes (no_pixels c.args.decoder.now.registers c.args.contexts.now) c.args.steps.now c.loop-y.steps
-    (omega arith) refl refl c.loop-y.invariant.rows.decisions (ap (λ (t : ℕ × ℕ × ℕ). t.0) c.loop-y.invariant.rows.rest) c.loop-y.invariant.words c.loop-y.invariant.loads c.loop-y.invariant.lanes
+    (omega arith) refl refl c.loop-y.invariant.rows.decisions (ap (λ (t : ℕ × ℕ × ℕ × ℕ). t.0) c.loop-y.invariant.rows.rest) c.loop-y.invariant.words c.loop-y.invariant.loads c.loop-y.invariant.lanes
