@@ -10,7 +10,7 @@ use Rattle.jbig2_steps.specs.declared.work.Work.{Work}
 use Rattle.jbig2_page.specs.Files.{ReadFile, of_page}
 use Rattle.jbig2_page.specs.Names.{KeptGlobals}
 use Rattle.jbig2_page.specs.SharedWork.{PaysShared, shared_count}
-use Rattle.hayro_jbig2.specs.Context.{Context, IsLeft, LeavesOf, units_of}
+use Rattle.hayro_jbig2.specs.Context.{Context, IsLeft, LeavesDrawn, LeavesOf, units_of}
 use Rattle.hayro_jbig2.specs.WorkLimit.{Limit, Takes, TakesShared, after_call}
 
 -- what a call takes from a limit, by what its counter was worth
@@ -37,6 +37,17 @@ limit-taken-shared (Err e) (Ok book) limit after old new is none left paid = tt
 limit-taken-shared read (Err e) limit after old new is none left paid = tt
 
 -- what a page leaves of its context's limit, by what its counter was worth
+pub left-by : {L : Type 0} (counted units : ℕ) (before after : Context) (old new : Work L) → IsLeft new before after → old.steps ≡ no_steps → old.left ≡ units_of before.work_limit → budget new + 32 * units ≤ budget old + counted → LeavesDrawn counted units before.work_limit after
+unfolding budget
+left-by {L} counted units before after old new is none left paid =
+    let nothing : sum_of_counts old.steps ≡ 0 = ap (λ (s : Counts). sum_of_counts s) none in
+    let within : sum_of_counts new.steps + 32 * (new.left + units) ≤ 32 * units_of before.work_limit + counted = omega (arith, nothing, left, paid) in
+    subst (λ (c : Context). LeavesDrawn counted units before.work_limit c) (sym is) (by before.work_limit within)
+  where
+    by : (limit : Option ℕ) → sum_of_counts new.steps + 32 * (new.left + units) ≤ 32 * units_of limit + counted → LeavesDrawn counted units limit (record { drawing = after.drawing; holds_page = after.holds_page; work_limit = limit; work_left = option_map (λ _. new.left) limit; steps = sum_of_counts new.steps })
+    by (Some most) within = within
+    by None within = tt
+
 pub left-of : {L : Type 0} (units : ℕ) (before after : Context) (old new : Work L) → IsLeft new before after → old.steps ≡ no_steps → old.left ≡ units_of before.work_limit → budget new + 32 * units ≤ budget old → LeavesOf units before.work_limit after
 unfolding budget
 left-of {L} units before after old new is none left paid =
@@ -49,6 +60,6 @@ left-of {L} units before after old new is none left paid =
     by None within = tt
 
 -- the same of a page that was drawn, which took at least this price twice
-pub left-drawn : {L T E : Type 0} (price : ℕ) (result : Result T E) (before after : Context) (old new : Work L) → IsLeft new before after → old.steps ≡ no_steps → old.left ≡ units_of before.work_limit → IfOk result (λ _. budget new + 64 * price ≤ budget old) → IfOk result (λ _. LeavesOf (2 * price) before.work_limit after)
-left-drawn price (Ok x) before after old new is none left paid = left-of (2 * price) before after old new is none left (omega (arith, paid))
-left-drawn price (Err e) before after old new is none left paid = tt
+pub left-drawn : {L T E : Type 0} (counted price : ℕ) (result : Result T E) (before after : Context) (old new : Work L) → IsLeft new before after → old.steps ≡ no_steps → old.left ≡ units_of before.work_limit → IfOk result (λ _. budget new + 64 * price ≤ budget old + counted) → IfOk result (λ _. LeavesDrawn counted (2 * price) before.work_limit after)
+left-drawn counted price (Ok x) before after old new is none left paid = left-by counted (2 * price) before after old new is none left (omega (arith, paid))
+left-drawn counted price (Err e) before after old new is none left paid = tt

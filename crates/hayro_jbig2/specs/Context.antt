@@ -44,6 +44,15 @@ LeavesOf units limit c = of limit c.work_left
     of None None = Unit {0}
     of _ _ = ⊥
 
+-- The same of a page that was drawn: this many of the steps that it counted are paid for by those units.
+abbrev pub LeavesDrawn : ℕ → ℕ → Option ℕ → Context → Type 0
+LeavesDrawn counted units limit c = of limit c.work_left
+  where
+    of : Option ℕ → Option ℕ → Type 0
+    of (Some most) (Some left) = c.steps + 32 * (left + units) ≤ 32 * most + counted
+    of None None = Unit {0}
+    of _ _ = ⊥
+
 abbrev pub after_page : {L : Type 0} → Work L → Context → Context  -- after a page with this counter
 after_page work c =
     record c { work_left = option_map (λ _. work.left) c.work_limit; steps = sum_of_counts work.steps }

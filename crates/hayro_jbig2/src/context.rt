@@ -63,7 +63,7 @@ impl<A: Allocator> Model for DecoderContext<A> {
 pub(crate) fn work_within<L: Ledger>(limit: Option<u64>, blank: Blank) -> Work<L>
     requires name { blank.name ≡ L.name }
     requires parts { blank.parts ≡ L.parts }
-    requires enough { blank.parts ≡ 6 }
+    requires enough { blank.parts ≡ 7 }
     ensures steps { result.steps ≡ no_steps }
     ensures left { result.left ≡ units_of limit }
 {
@@ -151,7 +151,7 @@ impl<A: Allocator> DecoderContext<A> {
     pub fn new_work<L: Ledger>(&self, blank: Blank) -> Work<L>
         requires name { blank.name ≡ L.name }
         requires parts { blank.parts ≡ L.parts }
-        requires enough { blank.parts ≡ 6 }
+        requires enough { blank.parts ≡ 7 }
         ensures steps { result.steps ≡ no_steps }
         ensures left { result.left ≡ units_of self.now.work_limit }
     {

@@ -54,14 +54,14 @@ impl<'c, A: Allocator> DrawnPage<'c, A> {
         requires { place + length buf.old ≤ length self.now }
         ensures { buf.new ≡ take (length buf.old) (drop place self.now) }
     {
-        self.read_counted::<Brand>(place, buf, Blank::new(6));
+        self.read_counted::<Brand>(place, buf, Blank::new(7));
     }
 
     fn read_counted<L: Ledger>(&self, place: usize, buf: &mut [u8], blank: Blank)
         requires inside { place + length buf.old ≤ length self.now }
         requires name { blank.name ≡ L.name }
         requires parts { blank.parts ≡ L.parts }
-        requires enough { blank.parts ≡ 6 }
+        requires enough { blank.parts ≡ 7 }
         ensures { buf.new ≡ take (length buf.old) (drop place self.now) }
     {
         if let Some(rows) = &self.rows {

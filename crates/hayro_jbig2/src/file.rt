@@ -125,7 +125,7 @@ impl<'a, A: Allocator + Clone> File<'a, A> {
         ensures taken { let read = segments_at reading bytes.now in
             IfOk result (λ file. TakesShared read file work.old work.new) }
     {
-        match read_counted::<A, Brand>(alloc, bytes, reading, work, Blank::new(6)) {
+        match read_counted::<A, Brand>(alloc, bytes, reading, work, Blank::new(7)) {
             Ok(content) => Ok(File::of_content(content)),
             Err(error) => Err(error),
         }
@@ -142,7 +142,7 @@ fn read_counted<'a, A: Allocator + Clone, L: Ledger>(
 ) -> Result<FileContent<'a, A>>
     requires name { blank.name ≡ L.name }
     requires parts { blank.parts ≡ L.parts }
-    requires enough { blank.parts ≡ 6 }
+    requires enough { blank.parts ≡ 7 }
     ensures value { Gives (λ file. file) result (book_at reading bytes.now) }
     ensures causes { HasCauseOrNoMemory result (BreaksBook reading bytes.now) }
     ensures errors { IfErr result IsReturned }

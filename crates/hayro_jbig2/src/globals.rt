@@ -114,7 +114,7 @@ impl<A: Allocator + Clone> Globals<A> {
         ensures taken { IfOk (sorted_segments reading bytes.now)
             (λ segments. IfOk result (λ _. Takes (1024 * length segments) work.old work.new)) }
     {
-        let content = read_counted::<A, Brand>(alloc, bytes, reading, work, Blank::new(6))?;
+        let content = read_counted::<A, Brand>(alloc, bytes, reading, work, Blank::new(7))?;
         Ok(Globals { content })
     }
 }
@@ -129,7 +129,7 @@ fn read_counted<A: Allocator + Clone, L: Ledger>(
 ) -> Result<GlobalsContent<A>>
     requires name { blank.name ≡ L.name }
     requires parts { blank.parts ≡ L.parts }
-    requires enough { blank.parts ≡ 6 }
+    requires enough { blank.parts ≡ 7 }
     ensures value { Gives (λ globals. globals) result (globals_at reading bytes.now) }
     ensures errors { IfErr result IsReturned }
     ensures limit { Takes 0 limit.old limit.new }

@@ -54,7 +54,7 @@ impl WorkLimit {
     pub(crate) fn counter<L: Ledger>(&self, blank: Blank) -> Work<L>
         requires name { blank.name ≡ L.name }
         requires parts { blank.parts ≡ L.parts }
-        requires enough { blank.parts ≡ 6 }
+        requires enough { blank.parts ≡ 7 }
         ensures steps { result.steps ≡ no_steps }
         ensures left { result.left ≡ self.now.left }
     {

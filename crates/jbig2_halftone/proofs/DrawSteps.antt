@@ -13,10 +13,10 @@ use Rattle.jbig2_halftone.specs.inner.FunctionResults.{StopsCells}
 use Rattle.std.proofs.Math.Nat.{mul-le-mul_left}
 
 pub draws-none : (old : Counts) → WritesWithin 0 old old
-draws-none old = record { words = omega arith; loads = omega arith; decisions = refl; run_tests = refl; groups = refl; pixels = refl }
+draws-none old = record { words = omega arith; loads = omega arith; decisions = refl; run_tests = refl; groups = refl; pixels = refl; cleared = refl }
 
 pub draws-nothing : (n : ℕ) (old : Counts) → WritesWithin n old old
-draws-nothing n old = record { words = omega arith; loads = omega arith; decisions = refl; run_tests = refl; groups = refl; pixels = refl }
+draws-nothing n old = record { words = omega arith; loads = omega arith; decisions = refl; run_tests = refl; groups = refl; pixels = refl; cleared = refl }
 
 -- more words may be written than were
 draws-within : (most more : ℕ) (old new : Counts) → most ≤ more → WritesWithin most old new → WritesWithin more old new
@@ -27,6 +27,7 @@ draws-within most more old new less draws = record {
   run_tests = draws.run_tests;
   groups = draws.groups;
   pixels = draws.pixels;
+  cleared = draws.cleared;
 }
 
 -- one part after another
@@ -38,6 +39,7 @@ draws-then first second old mid new before after = record {
   run_tests = after.run_tests ∙ before.run_tests;
   groups = after.groups ∙ before.groups;
   pixels = after.pixels ∙ before.pixels;
+  cleared = after.cleared ∙ before.cleared;
 }
 
 -- ---- cells
@@ -124,10 +126,11 @@ mask-more cells n old mid new before one =
     let more : old.words + (cells + n) + 1 ≡ old.words + (cells + (n + 1)) = omega arith in
     one ∙ ap (λ (c : Counts). let made : Counts = record c { words = c.words + 1 } in made) before ∙ rw more refl
 
-pub no-mask : (old : Counts) → old ≡ record old { words = old.words + 0 }
+pub no-mask : (old : Counts) → old ≡ record old { words = old.words + 0; cleared = old.cleared + 0 }
 no-mask old =
     let none : old.words + 0 ≡ old.words = omega arith in
-    rw none refl
+    let kept : old.cleared + 0 ≡ old.cleared = omega arith in
+    rw (none, kept) refl
 
 -- ---- whole regions
 pub on-ok : {X E : Type 0} (result : Result X E) (P Q : Type 0) → (P → Q) → OnOk result P → OnOk result Q

@@ -1,11 +1,12 @@
 -- What the planes of an image take.
-use Rattle.std.proofs.Common.{◌≡◌, ℕ, zero, suc, ◌+◌, ◌-◌, ◌*◌, ◌/◌, ◌%◌, ◌<◌, ◌≤◌, Bool, true, false, not, List, drop, length, Option, None, Some, add-one, add-mul, refl, sym, ap, subst, ◌∙◌, arith}
+use Rattle.std.proofs.Common.{◌≡◌, ℕ, zero, suc, ◌+◌, ◌-◌, ◌*◌, ◌/◌, ◌%◌, ◌<◌, ◌≤◌, Bool, true, false, not, List, drop, length, Option, None, Some, add-one, add-mul, ltb, refl, sym, ap, subst, ◌∙◌, arith}
 use Rattle.std.specs.Borrow.{Bor}
-use Rattle.std.specs.Prelude.{is_some}
+use Rattle.std.specs.Prelude.{if◌then◌else◌, is_some, ◌||◌}
 use Rattle.std.proofs.Math.Nat.{mul-le-mul_left, mul-le-mul_right}
 use Rattle.std.proofs.lemmas.List.{length-drop}
-use Rattle.jbig2_base.specs.Counts.{Counts, KeepsLanes, words_of}
+use Rattle.jbig2_base.specs.Counts.{Counts, bitmap_made, words_cleared, words_made, words_of}
 use Rattle.jbig2_base.specs.Grid.{Grid, blank}
+use Rattle.jbig2_base.proofs.CountLemmas.{cleared-none}
 use Rattle.jbig2_coder.specs.Coder.{Coder, Context, Registers}
 use Rattle.jbig2_mmr.specs.Steps.{MovesWithin}
 use Rattle.jbig2_region.specs.Generic.{coding_of}
@@ -119,10 +120,10 @@ taken-none p steps =
     let rows : p.height * 0 ≡ 0 = omega arith in
     record { groups = rw rows (omega arith); pixels = rw rows (omega arith) }
 
-pub taken-more : (p : GrayScale) (i : ℕ) (old mid read new : Counts) → TakesLanes p i old mid → KeepsLanes mid read → new ≡ after_lane_rows p.height p.width read → TakesLanes p (i + 1) old new
-taken-more p i old mid read new before stays taken = record {
-  groups = rw (rows p.height i (p.width / 8)) (omega (arith, before.groups, stays.groups, ap (λ (c : Counts). c.groups) taken));
-  pixels = rw (rows p.height i (p.width % 8)) (omega (arith, before.pixels, stays.pixels, ap (λ (c : Counts). c.pixels) taken));
+pub taken-more : (p : GrayScale) (i : ℕ) (old mid read new : Counts) → TakesLanes p i old mid → read.groups ≡ mid.groups → read.pixels ≡ mid.pixels → new ≡ after_lane_rows p.height p.width read → TakesLanes p (i + 1) old new
+taken-more p i old mid read new before groups pixels taken = record {
+  groups = rw (rows p.height i (p.width / 8)) (omega (arith, before.groups, groups, ap (λ (c : Counts). c.groups) taken));
+  pixels = rw (rows p.height i (p.width % 8)) (omega (arith, before.pixels, pixels, ap (λ (c : Counts). c.pixels) taken));
 }
   where
     rows : (h i v : ℕ) → h * (i + 1) * v ≡ h * i * v + h * v
@@ -131,8 +132,33 @@ taken-more p i old mid read new before stays taken = record {
         rw sum (add-mul (h * i) h v)
 
 -- a plane that is read and not taken
-pub taken-kept : (p : GrayScale) (i : ℕ) (old mid new : Counts) → TakesLanes p i old mid → KeepsLanes mid new → TakesLanes p i old new
-taken-kept p i old mid new before stays = record { groups = stays.groups ∙ before.groups; pixels = stays.pixels ∙ before.pixels }
+pub taken-kept : (p : GrayScale) (i : ℕ) (old mid new : Counts) → TakesLanes p i old mid → new.groups ≡ mid.groups → new.pixels ≡ mid.pixels → TakesLanes p i old new
+taken-kept p i old mid new before groups pixels = record { groups = groups ∙ before.groups; pixels = pixels ∙ before.pixels }
+
+-- a plane that is made
+pub taken-made : (n : ℕ) (p : GrayScale) (i : ℕ) (old mid made : Counts) → made ≡ words_cleared n mid → TakesLanes p i old mid → TakesLanes p i old made
+taken-made n p i old mid made is before = taken-kept p i old mid made before (ap (λ (c : Counts). c.groups) is) (ap (λ (c : Counts). c.pixels) is)
+
+-- the cleared words of no more planes than there are
+pub cleared-most : (i bits n old mid new : ℕ) → i + 1 ≤ bits → mid ≡ old + i * n → new ≡ mid + n → new ≤ old + bits * n
+cleared-most i bits n old mid new few before more =
+    let all : (i + 1) * n ≤ bits * n = mul-le-mul_right n few in
+    omega (arith, before, more, all, add-mul i 1 n)
+
+pub cleared-some : (i bits n old mid : ℕ) → i ≤ bits → mid ≡ old + i * n → mid ≤ old + bits * n
+cleared-some i bits n old mid few before =
+    let all : i * n ≤ bits * n = mul-le-mul_right n few in
+    omega (arith, before, all)
+
+-- one plane more
+pub cleared-more : (i n old mid new : ℕ) → mid ≡ old + i * n → new ≡ mid + n → new ≡ old + (i + 1) * n
+cleared-more i n old mid new before more = omega (arith, before, more, add-mul i 1 n)
+
+pub cleared-all : (i bits n old mid : ℕ) → i ≡ bits → mid ≡ old + i * n → mid ≡ old + bits * n
+cleared-all i bits n old mid all before = before ∙ ap (λ (k : ℕ). old + k * n) all
+
+pub cleared-begin : (n old : ℕ) → old ≡ old + 0 * n
+cleared-begin n old = omega arith
 
 -- ---- planes by the coder
 pub counts-begin : (p : GrayScale) (bytes : List ℕ) (steps : Counts) → CountsCoded p bytes 0 steps steps
@@ -143,7 +169,43 @@ pub counts-more : (p : GrayScale) (bytes : List ℕ) (i : ℕ) (plane : Grid) (c
 counts-more p bytes i plane coder states old mid read new white after before one taken = record {
   plain = λ none. planes-next p bytes i plane coder states old mid read new white after (before.plain none) (one.plain none) taken;
   masked = λ some. masked-more p i old mid read new (before.masked some) (subst (λ (g : Grid). CountsSkipping p.skip_mask g.width g.height mid read) white (one.masked some)) taken;
-  lanes = taken-more p i old mid read new before.lanes one.lanes taken;
+  lanes = taken-more p i old mid read new before.lanes one.lanes.groups one.lanes.pixels taken;
+}
+
+-- a plane that is made takes no other step
+no-words : (w h : ℕ) → w * h ≡ 0 → words_made w h ≡ 0
+unfolding words_made
+no-words w h none = either (ltb 65535 w || ltb 65535 h)
+  where
+    empty : (w h : ℕ) → w * h ≡ 0 → (w + 63) / 64 * h ≡ 0
+    empty zero h none = omega arith
+    empty (suc k) zero none = omega arith
+    empty (suc k) (suc l) none = absurd (omega arith)
+
+    either : (b : Bool) → (if b then 0 else (w + 63) / 64 * h) ≡ 0
+    either true = refl
+    either false = empty w h none
+
+pub counts-made : (p : GrayScale) (bytes : List ℕ) (i : ℕ) (old mid made : Counts) → made ≡ bitmap_made p.width p.height mid → CountsCoded p bytes i old mid → CountsCoded p bytes i old made
+counts-made p bytes i old mid made is before = record {
+  plain = λ none.
+      let b = before.plain none in
+      record {
+        empty = λ product. is ∙ sym (cleared-none mid (words_made p.width p.height) (no-words p.width p.height product)) ∙ b.empty product;
+        decisions = λ some. ap (λ (c : Counts). c.decisions + 8 * plane_runs p bytes i) is ∙ b.decisions some;
+        run_tests = omega (arith, b.run_tests, ap (λ (c : Counts). c.run_tests) is);
+        words = omega (arith, b.words, ap (λ (c : Counts). c.words) is);
+        loads = omega (arith, b.loads, ap (λ (c : Counts). c.loads) is);
+      };
+  masked = λ some.
+      let b = before.masked some in
+      record {
+        decisions = ap (λ (c : Counts). c.decisions) is ∙ b.decisions;
+        run_tests = ap (λ (c : Counts). c.run_tests) is ∙ b.run_tests;
+        words = omega (arith, b.words, ap (λ (c : Counts). c.words) is);
+        loads = omega (arith, b.loads, ap (λ (c : Counts). c.loads) is);
+      };
+  lanes = taken-made (words_made p.width p.height) p i old mid made is before.lanes;
 }
 
 -- nothing moved
@@ -160,6 +222,15 @@ mmr-begin p all steps = record { moves = omega arith; decisions = refl; run_test
 
 pub mmr-start : (p : GrayScale) (all : ℕ) (steps : Counts) → MovesByMmr (words_of_plane p) 0 all all 0 steps steps
 mmr-start p all steps = record { moves = omega arith; decisions = refl; run_tests = refl }
+
+-- a plane that is made, before or after
+pub moves-made : (n words i all left loads : ℕ) (old mid made : Counts) → made ≡ words_cleared n mid → MovesByMmr words i all left loads old mid → MovesByMmr words i all left loads old made
+moves-made n words i all left loads old mid made is before = subst (λ (s : Counts). MovesByMmr words i all left loads old s) (sym is) (record { moves = before.moves; decisions = before.decisions; run_tests = before.run_tests })
+
+pub moves-before : (n words i all left loads : ℕ) (old made new : Counts) → made ≡ words_cleared n old → MovesByMmr words i all left loads made new → MovesByMmr words i all left loads old new
+moves-before n words i all left loads old made new is after =
+    let here = subst (λ (s : Counts). MovesByMmr words i all left loads s new) is after in
+    record { moves = here.moves; decisions = here.decisions; run_tests = here.run_tests }
 
 -- one more, of the bytes that are left
 pub mmr-then : (words i all left rest loads : ℕ) (old mid new : Counts) → MovesByMmr words i all left loads old mid → MovesByMmr words 1 left rest 0 mid new → MovesByMmr words (i + 1) all rest loads old new
@@ -198,9 +269,9 @@ pub mmr-stopped : (p : GrayScale) (bytes : List ℕ) (i left : ℕ) (old new : C
 mmr-stopped p bytes i left old new few counts lanes = (i, (few, mmr-some p bytes i left i old new few counts lanes))
 
 -- a plane that is refused isn't taken
-pub mmr-refused-after : (p : GrayScale) (bytes : List ℕ) (i left : ℕ) (old mid new : Counts) → i < p.bits_per_pixel → MovesByMmr (words_of_plane p) i (length bytes) left (i * taking_loads p) old mid → TakesLanes p i old mid → MovesByMmr (words_of_plane p) 1 left 0 0 mid new → KeepsLanes mid new → StopsMmr p bytes old new
-mmr-refused-after p bytes i left old mid new more counts lanes one stays =
-    (i, (omega arith, mmr-some p bytes (i + 1) 0 i old new (omega arith) (mmr-then (words_of_plane p) i (length bytes) left 0 (i * taking_loads p) old mid new counts one) (taken-kept p i old mid new lanes stays)))
+pub mmr-refused-after : (p : GrayScale) (bytes : List ℕ) (i left : ℕ) (old mid new : Counts) → i < p.bits_per_pixel → MovesByMmr (words_of_plane p) i (length bytes) left (i * taking_loads p) old mid → TakesLanes p i old mid → MovesByMmr (words_of_plane p) 1 left 0 0 mid new → new.groups ≡ mid.groups → new.pixels ≡ mid.pixels → StopsMmr p bytes old new
+mmr-refused-after p bytes i left old mid new more counts lanes one groups pixels =
+    (i, (omega arith, mmr-some p bytes (i + 1) 0 i old new (omega arith) (mmr-then (words_of_plane p) i (length bytes) left 0 (i * taking_loads p) old mid new counts one) (taken-kept p i old mid new lanes groups pixels)))
 
 -- one plane
 mmr-words : (p : GrayScale) (white : Grid) → white ≡ blank p.width p.height false → words_of white ≡ words_of_plane p

@@ -3,7 +3,7 @@ use Rattle.std.proofs.Common.{inl, inr, ◌≡◌, ℕ, ◌+◌, ◌*◌, ◌/�
 use Rattle.std.specs.List.{All}
 use Rattle.std.proofs.Math.Nat.{mul-le-mul_left}
 use Rattle.std.proofs.lemmas.List.FromFn.{get_or-map-range_with_len, map-range_with_len_more, length-map-range_with_len}
-use Rattle.jbig2_base.specs.Counts.{Counts, KeepsLanes, words_copied}
+use Rattle.jbig2_base.specs.Counts.{Counts, KeepsLanes, words_cleared, words_copied, words_made}
 use Rattle.jbig2_base.specs.Grid.{Grid, blank, blank_or_overflow}
 use Rattle.jbig2_base.specs.declared.error.DecodeError.{DecodeError}
 use Rattle.jbig2_base.proofs.CountLemmas.{written-none}
@@ -17,8 +17,8 @@ use Rattle.jbig2_region.specs.declared.template.Template.{Template}
 use Rattle.jbig2_region.specs.declared.template.Template.TheVariants.{Template0, Template1, Template2, Template3}
 use Rattle.jbig2_halftone.specs.PatternHeader.{HasSize, PatternHeader}
 use Rattle.jbig2_halftone.specs.Patterns.{collective_header, collective_pixels, patterns_of}
-use Rattle.jbig2_halftone.specs.Steps.{StopsDictionary, after_patterns}
-use Rattle.jbig2_halftone.specs.inner.FunctionResults.{StopsCut, pattern_of}
+use Rattle.jbig2_halftone.specs.Steps.{StopsDictionary, TakesNoLanes, after_patterns, collective_made}
+use Rattle.jbig2_halftone.specs.inner.FunctionResults.{StopsCut, pattern_of, patterns_cut}
 
 -- the adaptive pixels of the collective bitmap, taken of an array of four
 pub collective_view : (mmr : Bool) (template : Template) (width : ℕ) → pixels_view mmr template (Regular (left width 0 ∷ drop 1 (nominal_adaptive_pixels Template0))) ≡ collective_pixels mmr template width
@@ -69,13 +69,27 @@ cut-sized collective w h n items e =
 clash : (b : Bool) → b ≡ true → b ≡ false → ⊥
 clash b is other = cc
 
--- a collective bitmap that is refused: without MMR no step was taken
-pub collective-stops : (h : PatternHeader) (old new : Counts) → (h.mmr ≡ false → new ≡ old) → StopsDictionary h old new
+-- no pattern yet
+pub none-cut : (made cut words cleared : ℕ) (s : Counts) → made ≡ 0 → cut ≡ 0 → s ≡ patterns_cut made cut cleared words s
+none-cut made cut words cleared s e f =
+    let few : s.words ≡ s.words + cut * words = zero-times cut words s.words f in
+    let read : s.loads ≡ s.loads + cut * words = zero-times cut words s.loads f in
+    let kept : s.cleared ≡ s.cleared + made * cleared = zero-times made cleared s.cleared e in
+    λ i. record s { loads = read i; words = few i; cleared = kept i }
+  where
+    zero-times : (k n m : ℕ) → k ≡ 0 → m ≡ m + k * n
+    zero-times k n m none = rw none (omega arith)
+
+-- a collective bitmap that is refused: without MMR no step was taken but for making it
+pub collective-stops : (h : PatternHeader) (old new : Counts) → (h.mmr ≡ false → new ≡ collective_made h old) → StopsDictionary h old new
 collective-stops h old new none = by_mmr h.mmr refl
   where
     by_mmr : (b : Bool) → h.mmr ≡ b → StopsDictionary h old new
-    by_mmr true mmr = inr (0, (omega arith, (new, ((λ coded. absurd (clash h.mmr mmr coded)), written-none new _ _ (omega arith) (omega arith)))))
-    by_mmr false coded = inl (none coded)
+    by_mmr true mmr = inr (inr (0, (omega arith, (0, (omega arith, (new, ((λ coded. absurd (clash h.mmr mmr coded)), cut-none h new)))))))
+    by_mmr false coded = inr (inl (none coded))
+
+    cut-none : (h : PatternHeader) (s : Counts) → s ≡ after_patterns h 0 0 s
+    cut-none h s = none-cut 0 0 ((h.pattern_width + 63) / 64 * h.pattern_height) (words_made h.pattern_width h.pattern_height) s refl refl
 
 pub refused-lanes : (h : PatternHeader) (old new : Counts) → (h.mmr ≡ true → KeepsLanes old new) → (h.mmr ≡ false → new ≡ old) → KeepsLanes old new
 refused-lanes h old new mmr none = by_mmr h.mmr refl
@@ -84,24 +98,53 @@ refused-lanes h old new mmr none = by_mmr h.mmr refl
     by_mmr true is = mmr is
     by_mmr false coded = subst (λ (s : Counts). KeepsLanes old s) (sym (none coded)) (lanes-none old)
 
+-- no lanes but for a bitmap that is made
+pub takes-none : (n : ℕ) (old new : Counts) → KeepsLanes (words_cleared n old) new → TakesNoLanes old new
+takes-none n old new keeps = record { groups = keeps.groups; pixels = keeps.pixels }
+
 -- patterns that are cut out of it
-pub cut-lanes : (n : ℕ) (old mid new : Counts) → KeepsLanes old mid → new ≡ words_copied n mid → KeepsLanes old new
-cut-lanes n old mid new before cut =
-    lanes-then old mid new before (record { groups = ap (λ (c : Counts). c.groups) cut; pixels = ap (λ (c : Counts). c.pixels) cut })
+pub cut-lanes : (made cut cleared words m : ℕ) (old mid new : Counts) → KeepsLanes (words_cleared m old) mid → new ≡ patterns_cut made cut cleared words mid → TakesNoLanes old new
+cut-lanes made cut cleared words m old mid new before copied = record {
+  groups = ap (λ (c : Counts). c.groups) copied ∙ before.groups;
+  pixels = ap (λ (c : Counts). c.pixels) copied ∙ before.pixels;
+}
 
 -- the sides of a pattern, as the header has them
-pub cut-counts : (h : PatternHeader) (cut w rows : ℕ) (old new : Counts) → w ≡ h.pattern_width → rows ≡ h.pattern_height → new ≡ words_copied (cut * ((w + 63) / 64 * rows)) old → new ≡ after_patterns h cut old
-cut-counts h cut w rows old new wide high counts =
+pub cut-counts : (h : PatternHeader) (made cut w rows : ℕ) (old new : Counts) → w ≡ h.pattern_width → rows ≡ h.pattern_height → new ≡ patterns_cut made cut (words_made w rows) ((w + 63) / 64 * rows) old → new ≡ after_patterns h made cut old
+cut-counts h made cut w rows old new wide high counts =
     counts
-    ∙ ap (λ (n : ℕ). words_copied (cut * ((n + 63) / 64 * rows)) old) wide
-    ∙ ap (λ (n : ℕ). words_copied (cut * ((h.pattern_width + 63) / 64 * n)) old) high
+    ∙ ap (λ (n : ℕ). patterns_cut made cut (words_made n rows) ((n + 63) / 64 * rows) old) wide
+    ∙ ap (λ (n : ℕ). patterns_cut made cut (words_made h.pattern_width n) ((h.pattern_width + 63) / 64 * n) old) high
 
 -- some of them
-pub dictionary-stops : (h : PatternHeader) (w rows : ℕ) (old mid new : Counts) → w ≡ h.pattern_width → rows ≡ h.pattern_height → CountsGeneric (collective_header h) old mid → StopsCut (h.gray_max + 1) ((w + 63) / 64 * rows) mid new → StopsDictionary h old new
-dictionary-stops h w rows old mid new wide high counts (cut, (few, copied)) = inr (cut, (few, (mid, (counts, cut-counts h cut w rows mid new wide high copied))))
+pub dictionary-stops : (h : PatternHeader) (w rows : ℕ) (old mid new : Counts) → w ≡ h.pattern_width → rows ≡ h.pattern_height → CountsGeneric (collective_header h) (collective_made h old) mid → StopsCut (h.gray_max + 1) (words_made w rows) ((w + 63) / 64 * rows) mid new → StopsDictionary h old new
+dictionary-stops h w rows old mid new wide high counts (made, (fewer, (cut, (few, copied)))) = inr (inr (made, (fewer, (cut, (few, (mid, (counts, cut-counts h made cut w rows mid new wide high copied)))))))
 
-pub stops-lanes : (count words : ℕ) (old mid new : Counts) → KeepsLanes old mid → StopsCut count words mid new → KeepsLanes old new
-stops-lanes count words old mid new before (cut, (few, copied)) = cut-lanes (cut * words) old mid new before copied
+pub stops-lanes : (count cleared words m : ℕ) (old mid new : Counts) → KeepsLanes (words_cleared m old) mid → StopsCut count cleared words mid new → TakesNoLanes old new
+stops-lanes count cleared words m old mid new before (made, (fewer, (cut, (few, copied)))) = cut-lanes made cut cleared words m old mid new before copied
 
-pub cut-some : (count words cut : ℕ) (old new : Counts) → cut ≤ count → new ≡ words_copied (cut * words) old → StopsCut count words old new
-cut-some count words cut old new few copied = (cut, (few, copied))
+-- one more is made, and then cut
+pub cut-made : (made cut k words cleared : ℕ) (s t u : Counts) → t ≡ patterns_cut made cut cleared words s → u ≡ words_cleared cleared t → k ≡ made + 1 → u ≡ patterns_cut k cut cleared words s
+cut-made made cut k words cleared s t u before more e =
+    more
+    ∙ ap (λ (c : Counts). words_cleared cleared c) before
+    ∙ (let kept : s.cleared + made * cleared + cleared ≡ s.cleared + k * cleared = one-more made k cleared s.cleared e in
+    λ i. record s { loads = s.loads + cut * words; words = s.words + cut * words; cleared = kept i })
+  where
+    one-more : (i k n m : ℕ) → k ≡ i + 1 → m + i * n + n ≡ m + k * n
+    one-more i k n m e = rw e (omega arith)
+
+pub cut-more : (made cut k l words cleared : ℕ) (s t u : Counts) → t ≡ patterns_cut made cut cleared words s → u ≡ words_copied words (words_cleared cleared t) → k ≡ made + 1 → l ≡ cut + 1 → u ≡ patterns_cut k l cleared words s
+cut-more made cut k l words cleared s t u before more e f =
+    let few : s.words + cut * words + words ≡ s.words + l * words = one-more cut l words s.words f in
+    let read : s.loads + cut * words + words ≡ s.loads + l * words = one-more cut l words s.loads f in
+    let kept : s.cleared + made * cleared + cleared ≡ s.cleared + k * cleared = one-more made k cleared s.cleared e in
+    more
+    ∙ ap (λ (c : Counts). words_copied words (words_cleared cleared c)) before
+    ∙ (λ i. record s { loads = read i; words = few i; cleared = kept i })
+  where
+    one-more : (i k n m : ℕ) → k ≡ i + 1 → m + i * n + n ≡ m + k * n
+    one-more i k n m e = rw e (omega arith)
+
+pub cut-some : (count cleared words made cut : ℕ) (old new : Counts) → made ≤ count → cut ≤ count → new ≡ patterns_cut made cut cleared words old → StopsCut count cleared words old new
+cut-some count cleared words made cut old new fewer few copied = (made, (fewer, (cut, (few, copied))))

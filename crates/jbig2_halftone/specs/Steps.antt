@@ -1,16 +1,17 @@
 -- What the step bounds of gray-scale images, halftone regions and pattern dictionaries count (our own rule): planes
 -- that are read, values that are taken from them in lanes of eight pixels, patterns that are drawn, and patterns that
 -- are cut out. Each `Counts..` takes an image, a region or a dictionary, and the counts before and after it. `Stops..`
--- is the same for one that is refused: until then it did no more than a part of what `Counts..` counts.
+-- is the same for one that is refused: until then it did no more than a part of what `Counts..` counts. The cleared words
+-- are not among them, since a bitmap is made before it is read: `cleared_by_planes` and `cleared_by_cells` have those.
 use Rattle.std.specs.Prelude.{ℕ, zero, suc, ◌≡◌, ◌≤◌, ◌+◌, ◌*◌, ◌/◌, ◌%◌, true, false, if◌then◌else◌, List, length}
 use Rattle.std.specs.Prelude.{None, is_some, ◌⊎◌}
 use Rattle.jbig2_steps.specs.Work.{price_of_bitmap}
-use Rattle.jbig2_base.specs.Counts.{WritesWithin, overlap, most_words, words_copied, Counts}
+use Rattle.jbig2_base.specs.Counts.{WritesWithin, bitmap_made, overlap, most_words, words_cleared, words_copied, words_made, Counts}
 use Rattle.jbig2_mmr.specs.Steps.{MovesWithin}
 use Rattle.jbig2_region.specs.Generic.{coding_of}
 use Rattle.jbig2_region.specs.GenericSteps.{CountsGeneric}
 use Rattle.jbig2_region.specs.Raster.{no_pixels}
-use Rattle.jbig2_region.specs.Steps.{coded_runs, row_loads, row_tests, row_words, kept_pixels, skipping_loads}
+use Rattle.jbig2_region.specs.Steps.{coded_runs, region_made, row_loads, row_tests, row_words, kept_pixels, skipping_loads}
 use Rattle.jbig2_region.specs.Steps.{skipping_words}
 use Rattle.jbig2_region.specs.Templates.{template_pixels, nominal_adaptive_pixels}
 use Rattle.jbig2_halftone.specs.GrayScale.{GrayScale, after_planes}
@@ -32,6 +33,9 @@ module _ (p : GrayScale) where
 
   abbrev pub words_of_plane : ℕ  -- the number of words of 64 pixels in a plane
   words_of_plane = (p.width + 63) / 64 * p.height
+
+  abbrev pub cleared_by_planes : ℕ  -- the cleared words of all planes: each is a bitmap of its own
+  cleared_by_planes = p.bits_per_pixel * words_made p.width p.height
 
   -- the loads of a plane that is taken into the values: one for each whole eight pixels of a row, and for each other one
   abbrev pub taking_loads : ℕ
@@ -100,11 +104,20 @@ module _ (h : HalftoneHeader) (d : Patterns) where
   words_of_cells k zero = 0
   words_of_cells k (suc n) = words_of_cells k n + cell_words (k + n)
 
-  -- a word is written for each cell of the skip mask, where there is one
+  abbrev pub cleared_by_mask : ℕ  -- the cleared words of the skip mask, where there is one
+  cleared_by_mask =
+      let grid = h.grid_position_and_size in
+      if is_some (skip_mask h d) then words_made grid.width grid.height else 0
+
+  abbrev pub cleared_by_cells : ℕ  -- those of the skip mask and of all planes
+  cleared_by_cells = cleared_by_mask + cleared_by_planes (gray_params h d)
+
+  -- a skip mask is made, where there is one, and a word is written for each of its cells
   abbrev pub after_mask : Counts → Counts
   after_mask before =
       let cells = h.grid_position_and_size.height * h.grid_position_and_size.width in
-      record before { words = before.words + (if is_some (skip_mask h d) then cells else 0) }
+      let words = if is_some (skip_mask h d) then cells else 0 in
+      record before { words = before.words + words; cleared = before.cleared + cleared_by_mask }
 
   -- after the mask, planes are read and taken; then cells are drawn, two loads for each word
   abbrev pub CountsDrawn : ℕ → ℕ → Counts → Counts → Type 0
@@ -119,32 +132,46 @@ module _ (h : HalftoneHeader) (d : Patterns) where
   CountsHalftone before after =
       CountsDrawn (gray_params h d).bits_per_pixel (gray_params h d).bits_per_pixel before after
 
-  -- a region that is refused: no step, or at most all planes and all cells
+  -- a region that is refused: no step but cleared words, or at most all planes and all cells
   abbrev pub StopsHalftone : Counts → Counts → Type 0
   StopsHalftone before after =
-      (after ≡ before)
+      ((words : ℕ) × (after ≡ words_cleared words before))
       ⊎ ((count : ℕ) × ((count ≤ (gray_params h d).bits_per_pixel)
       × ((taken : ℕ) × ((taken ≤ count) × CountsDrawn count taken before after))))
 
 module _ (h : PatternHeader) where
-  -- this many patterns are cut out of their collective bitmap: a load and a word for each of their words
-  abbrev pub after_patterns : ℕ → Counts → Counts
-  after_patterns count = words_copied (count * ((h.pattern_width + 63) / 64 * h.pattern_height))
+  -- bitmaps for `made` patterns are made, and `count` are cut out of their collective bitmap: a load and a word for each
+  -- of their words
+  abbrev pub after_patterns : ℕ → ℕ → Counts → Counts
+  after_patterns made count before =
+      words_copied (count * ((h.pattern_width + 63) / 64 * h.pattern_height))
+      (words_cleared (made * words_made h.pattern_width h.pattern_height) before)
 
-  -- a collective bitmap, a generic region, and this many patterns that are cut out of it
-  abbrev pub CountsCut : ℕ → Counts → Counts → Type 0
-  CountsCut count before after =
+  abbrev pub collective_made : Counts → Counts  -- the bitmap of a collective bitmap is made
+  collective_made = region_made (collective_header h).region_info
+
+  -- a collective bitmap, a generic region, and patterns that are cut out of it
+  abbrev pub CountsCut : ℕ → ℕ → Counts → Counts → Type 0
+  CountsCut made count before after =
       (collective : Counts)
-      × (CountsGeneric (collective_header h) before collective × (after ≡ after_patterns count collective))
+      × (CountsGeneric (collective_header h) (collective_made before) collective
+      × (after ≡ after_patterns made count collective))
 
   -- a dictionary: all patterns
   abbrev pub CountsDictionary : Counts → Counts → Type 0
-  CountsDictionary before after = CountsCut (h.gray_max + 1) before after
+  CountsDictionary before after = CountsCut (h.gray_max + 1) (h.gray_max + 1) before after
 
-  -- a dictionary that is refused: no step, or at most all patterns
+  -- a dictionary that is refused: no step, its collective bitmap alone, or at most all patterns
   abbrev pub StopsDictionary : Counts → Counts → Type 0
   StopsDictionary before after =
-      (after ≡ before) ⊎ ((count : ℕ) × ((count ≤ h.gray_max + 1) × CountsCut count before after))
+      (after ≡ before) ⊎ ((after ≡ collective_made before)
+      ⊎ ((made : ℕ) × ((made ≤ h.gray_max + 1)
+      × ((count : ℕ) × ((count ≤ h.gray_max + 1) × CountsCut made count before after)))))
+
+-- no group of lanes and no single pixel is counted
+pub record TakesNoLanes (before after : Counts) : Type 0 where
+  pub groups : after.groups ≡ before.groups
+  pub pixels : after.pixels ≡ before.pixels
 
 -- ---- prices: the units that pay for what is counted, whatever the result
 -- an image: a bitmap of its size for each plane, and a unit for each byte

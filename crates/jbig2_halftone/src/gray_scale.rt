@@ -1,9 +1,9 @@
 //! Gray-scale images (T.88, Annex C).
-ghost use Rattle.std.specs.Prelude.{◌≡◌, ◌≤◌, [], Ok, OnOk, OnErr};
+ghost use Rattle.std.specs.Prelude.{◌≡◌, ◌+◌, ◌≤◌, [], Ok, OnOk, OnErr};
 ghost use Rattle.jbig2_steps.specs.Work.{CountsWithin};
 ghost use Rattle.jbig2_base.specs.Results.{Gives, Leaves};
 ghost use Rattle.jbig2_halftone.specs.GrayScale.{gray_values, gray_scale_image, gray_contexts, GrayScale};
-ghost use Rattle.jbig2_halftone.specs.Steps.{CountsImage, CountsLanes, StopsImage, price_of_image};
+ghost use Rattle.jbig2_halftone.specs.Steps.{CountsImage, CountsLanes, StopsImage, cleared_by_planes, price_of_image};
 ghost use Rattle.jbig2_halftone.specs.inner.HalftoneViews.{gray_view};
 ghost use Rattle.jbig2_base.specs.Causes.{HasCauseOrNoMemory};
 ghost use Rattle.jbig2_halftone.specs.Causes.{BreaksGrayScale};
@@ -61,7 +61,7 @@ fn zeros<A: Allocator>(alloc: A, width: u32, height: u32) -> Result<Vec<u32, A>>
 /// With 0 bits for each pixel, it reads nothing and every value is 0, whatever the size. The contexts begin fresh,
 /// whatever `contexts` held. Afterwards `contexts` holds what the last plane leaves. MMR data and a side that is
 /// refused do not change it. After an error, no more steps were taken than some of the highest planes take, or all.
-/// One plane is kept at a time, beside the values.
+/// One plane is kept at a time, beside the values. Each plane's bitmap counts its words as cleared.
 ///
 /// Returns `OverflowError::BitmapDimension` for a side above 65535 with at least 1 bit for each pixel; in strict mode
 /// `RegionError::InvalidMmrData` where MMR data has a fault or lacks a row; `OutOfMemory`. Only after this last error
@@ -82,6 +82,10 @@ pub fn decode_gray_scale_image<M: Allocator, A: Allocator + Clone, B: Allocator,
     ensures stopped { OnErr result
         (StopsImage (gray_view params.now) bytes.now steps.old steps.new) }
     ensures lanes { OnOk result (CountsLanes (gray_view params.now) steps.old steps.new) }
+    ensures cleared { OnOk result (steps.new.cleared
+        ≡ steps.old.cleared + cleared_by_planes (gray_view params.now)) }
+    ensures most { steps.new.cleared
+        ≤ steps.old.cleared + cleared_by_planes (gray_view params.now) }
     ensures no_planes { params.now.bits_per_pixel ≡ 0 → steps.new ≡ steps.old }
     ensures paid { let price = price_of_image (gray_view params.now) bytes.now in
         CountsWithin price steps.old steps.new }

@@ -1,9 +1,9 @@
 //! Halftone regions (T.88, 6.6 and 7.4.5): draws a pattern for each cell of a grid.
 ghost use Rattle.std.specs.Prelude.{◌≡◌, ◌+◌, ◌*◌, ◌<◌, ◌≤◌, length, false, ◌⊎◌, IfErr, IfOk, OnErr, OnOk, FitsSigned, Ok};
 ghost use Rattle.std.specs.Int.{w32, int_shr};
-ghost use Rattle.jbig2_steps.specs.Work.{CountsWithin};
+ghost use Rattle.jbig2_steps.specs.Work.{CountsWithin, price_of_bitmap};
 ghost use Rattle.jbig2_base.specs.Results.{Returns, Gives, Leaves};
-ghost use Rattle.jbig2_base.specs.Counts.{WritesWithin, most_words, overlap};
+ghost use Rattle.jbig2_base.specs.Counts.{WritesWithin, bitmap_made, most_words, overlap, words_cleared, words_made};
 ghost use Rattle.jbig2_base.specs.Combination.{combined_grid};
 ghost use Rattle.jbig2_base.specs.Grid.{blank, max_side};
 ghost use Rattle.jbig2_region.specs.inner.RegionViews.{region_view, skip_of};
@@ -14,7 +14,8 @@ ghost use Rattle.jbig2_halftone.specs.HalftoneHeader.{HalftoneHeader};
 ghost use Rattle.jbig2_halftone.specs.inner.HalftoneHeaderViews.{header_view};
 ghost use Rattle.jbig2_halftone.specs.PatternHeader.{HasSize};
 ghost use Rattle.jbig2_halftone.specs.inner.DictionaryViews.{dictionary_view};
-ghost use Rattle.jbig2_halftone.specs.Steps.{CountsImage, CountsHalftone, StopsHalftone, after_mask, words_of_cells, price_of_halftone};
+ghost use Rattle.jbig2_halftone.specs.Steps.{CountsImage, CountsHalftone, StopsHalftone, after_mask, cleared_by_cells, cleared_by_mask, words_of_cells, price_of_halftone};
+ghost use Rattle.jbig2_region.specs.Steps.{region_made};
 ghost use Rattle.jbig2_halftone.specs.inner.CellPlaces.{x_of, y_of};
 ghost use Rattle.jbig2_halftone.specs.inner.FunctionResults.{skip_grid, StopsCells};
 ghost use Rattle.jbig2_base.specs.Causes.{HasCauseOrNoMemory};
@@ -51,14 +52,15 @@ fn skip_bitmap<D: Allocator, A: Allocator, L: Ledger>(
     requires rows { header.now.grid_position_and_size.height ≤ max_side }
     ensures value { Gives (λ skip. skip) result
         (Ok (skip_grid (header_view header.now) (dictionary_view dictionary.now))) }
-    ensures steps { OnOk result (steps.new ≡ record steps.old {
-      words = steps.old.words
-          + header.now.grid_position_and_size.height * header.now.grid_position_and_size.width;
-    }) }
-    ensures stopped { OnErr result (steps.new ≡ steps.old) }
+    ensures steps { let grid = header.now.grid_position_and_size in
+        OnOk result (steps.new ≡ record (bitmap_made grid.width grid.height steps.old) {
+          words = steps.old.words + grid.height * grid.width;
+        }) }
+    ensures stopped { let grid = header.now.grid_position_and_size in
+        OnErr result (steps.new ≡ bitmap_made grid.width grid.height steps.old) }
 {
     let grid = &header.grid_position_and_size;
-    let mut skip = Bitmap::new(alloc, grid.width, grid.height)?;
+    let mut skip = Bitmap::new(alloc, grid.width, grid.height, steps)?;
     let room = &header.region_info;
     let (width, height) = (dictionary.pattern_width, dictionary.pattern_height);
     let x_vector = header.grid_vector.x_vector;
@@ -222,7 +224,8 @@ fn skip_mask<D: Allocator, A: Allocator, L: Ledger>(
         (Ok (skip_mask (header_view header.now) (dictionary_view dictionary.now))) }
     ensures steps { OnOk result (steps.new ≡
         after_mask (header_view header.now) (dictionary_view dictionary.now) steps.old) }
-    ensures stopped { OnErr result (steps.new ≡ steps.old) }
+    ensures stopped { OnErr result (steps.new ≡ words_cleared
+        (cleared_by_mask (header_view header.now) (dictionary_view dictionary.now)) steps.old) }
 {
     if header.flags.enable_skip && !header.flags.mmr {
         return Ok(Some(skip_bitmap(alloc, header, dictionary, steps)?));
@@ -277,6 +280,10 @@ fn read_cells<D: Allocator, A: Allocator + Clone, B: Allocator, L: Ledger>(
         steps.new) }
     ensures stopped { OnErr result
         (StopsCells (header_view header.now) (dictionary_view dictionary.now) steps.old steps.new) }
+    ensures cleared { OnOk result (steps.new.cleared ≡ steps.old.cleared
+        + cleared_by_cells (header_view header.now) (dictionary_view dictionary.now)) }
+    ensures most { steps.new.cleared ≤ steps.old.cleared
+        + cleared_by_cells (header_view header.now) (dictionary_view dictionary.now) }
 {
     let skip = skip_mask(alloc.clone()?, header, dictionary, steps)?;
     let params = cell_params(header, dictionary, skip.as_ref());
@@ -287,6 +294,7 @@ fn read_cells<D: Allocator, A: Allocator + Clone, B: Allocator, L: Ledger>(
 /// begin fresh, whatever `contexts` held. Afterwards `contexts` holds what the gray-scale image leaves, also where a
 /// value is refused. MMR data does not change it. Every error except `RegionError::GrayScaleOutOfRange` leaves the
 /// bitmap as it was. After an error, no more steps were taken than for a region that is drawn whole.
+/// The words of the skip mask and of the planes count as cleared.
 ///
 /// Returns `RegionError::InvalidMmrData` in strict mode where MMR data has a fault or lacks a row;
 /// `RegionError::GrayScaleOutOfRange` in strict mode for a value that has no pattern, also where the cell lies outside;
@@ -319,6 +327,10 @@ pub fn decode_into<D: Allocator, M: Allocator, A: Allocator + Clone, B: Allocato
         (dictionary_view dictionary.now) steps.old steps.new) }
     ensures stopped { OnErr result (StopsHalftone (header_view header.now)
         (dictionary_view dictionary.now) steps.old steps.new) }
+    ensures cleared { OnOk result (steps.new.cleared ≡ steps.old.cleared
+        + cleared_by_cells (header_view header.now) (dictionary_view dictionary.now)) }
+    ensures most { steps.new.cleared ≤ steps.old.cleared
+        + cleared_by_cells (header_view header.now) (dictionary_view dictionary.now) }
     ensures paid { CountsWithin (price_of_halftone (header_view header.now)
         (dictionary_view dictionary.now)) steps.old steps.new }
 {
@@ -351,11 +363,18 @@ pub fn decode<D: Allocator, A: Allocator + Clone, B: Allocator, L: Ledger>(
         (decoded_contexts (header_view header.now) (dictionary_view dictionary.now)
         contexts.old.items) }
     ensures steps { OnOk result (CountsHalftone (header_view header.now)
-        (dictionary_view dictionary.now) steps.old steps.new) }
-    ensures stopped { OnErr result (StopsHalftone (header_view header.now)
-        (dictionary_view dictionary.now) steps.old steps.new) }
-    ensures paid { CountsWithin (price_of_halftone (header_view header.now)
-        (dictionary_view dictionary.now)) steps.old steps.new }
+        (dictionary_view dictionary.now) (region_made header.now.region_info steps.old) steps.new) }
+    ensures stopped { OnErr result ((steps.new ≡ steps.old) ⊎ StopsHalftone (header_view header.now)
+        (dictionary_view dictionary.now) (region_made header.now.region_info steps.old) steps.new) }
+    ensures cleared { let info = header.now.region_info in
+        OnOk result (steps.new.cleared ≡ (region_made info steps.old).cleared
+        + cleared_by_cells (header_view header.now) (dictionary_view dictionary.now)) }
+    ensures most { let info = header.now.region_info in
+        steps.new.cleared ≤ (region_made info steps.old).cleared
+        + cleared_by_cells (header_view header.now) (dictionary_view dictionary.now) }
+    ensures paid { let info = header.now.region_info in
+        CountsWithin (price_of_halftone (header_view header.now) (dictionary_view dictionary.now)
+        + price_of_bitmap info.width info.height) steps.old steps.new }
 {
     let region_info = &header.region_info;
     let mut bitmap = Bitmap::new_with(
@@ -363,6 +382,7 @@ pub fn decode<D: Allocator, A: Allocator + Clone, B: Allocator, L: Ledger>(
         region_info.width,
         region_info.height,
         header.flags.initial_pixel_color,
+        steps,
     )?;
     decode_into(alloc, header, dictionary, &mut bitmap, contexts, steps)?;
     Ok(DecodedRegion::new(region_info, bitmap))

@@ -4,7 +4,7 @@ ghost use Rattle.jbig2_steps.specs.Work.{CountsWithin};
 ghost use Rattle.jbig2_base.specs.Bits.{start_of};
 ghost use Rattle.jbig2_base.specs.Grid.{max_side};
 ghost use Rattle.jbig2_base.specs.Results.{Returns, Gives, Leaves};
-ghost use Rattle.jbig2_base.specs.Counts.{KeepsLanes, words_copied};
+ghost use Rattle.jbig2_base.specs.Counts.{KeepsLanes, bitmap_made, words_copied, words_made};
 ghost use Rattle.jbig2_region.specs.Generic.{generic_result, contexts_after};
 ghost use Rattle.jbig2_region.specs.GenericSteps.{CountsGeneric, price_of_region};
 ghost use Rattle.jbig2_region.specs.Templates.{left, nominal_adaptive_pixels};
@@ -14,8 +14,8 @@ ghost use Rattle.jbig2_halftone.specs.PatternHeader.{side_at, pattern_header_at}
 ghost use Rattle.jbig2_halftone.specs.Patterns.{collective_width, collective_header, patterns_of, patterns_decoded, dictionary_contexts};
 ghost use Rattle.jbig2_halftone.specs.inner.DictionaryViews.{dictionary_view};
 ghost use Rattle.jbig2_halftone.specs.inner.PatternViews.{header_view};
-ghost use Rattle.jbig2_halftone.specs.inner.FunctionResults.{pattern_of, StopsCut};
-ghost use Rattle.jbig2_halftone.specs.Steps.{CountsDictionary, StopsDictionary, price_of_patterns};
+ghost use Rattle.jbig2_halftone.specs.inner.FunctionResults.{pattern_of, patterns_cut, StopsCut};
+ghost use Rattle.jbig2_halftone.specs.Steps.{CountsDictionary, StopsDictionary, TakesNoLanes, collective_made, price_of_patterns};
 ghost use Rattle.jbig2_base.specs.Causes.{HasCause, HasCauseOrNoMemory};
 ghost use Rattle.jbig2_halftone.specs.Causes.{BreaksPatternHeader, BreaksPatterns};
 
@@ -127,8 +127,9 @@ fn cut_pattern<A: Allocator, L: Ledger>(
     ensures value { Gives (λ pattern. pattern) result
         (Ok (pattern_of collective.now width height k)) }
     ensures steps { OnOk result
-        (steps.new ≡ words_copied ((width + 63) / 64 * height) steps.old) }
-    ensures stopped { OnErr result (steps.new ≡ steps.old) }
+        (steps.new ≡ words_copied ((width + 63) / 64 * height)
+        (bitmap_made width height steps.old)) }
+    ensures stopped { OnErr result (steps.new ≡ bitmap_made width height steps.old) }
 {
     let area = Area {
         left: k * width,
@@ -154,9 +155,10 @@ fn cut_patterns<A: Allocator + Clone, L: Ledger>(
     ensures value { Gives (λ patterns. patterns.items) result
         (Ok (patterns_of collective.now width height count)) }
     ensures steps { OnOk result
-        (steps.new ≡ words_copied (count * ((width + 63) / 64 * height)) steps.old) }
-    ensures stopped { OnErr result
-        (StopsCut count ((width + 63) / 64 * height) steps.old steps.new) }
+        (steps.new ≡ patterns_cut count count (words_made width height)
+        ((width + 63) / 64 * height) steps.old) }
+    ensures stopped { OnErr result (StopsCut count (words_made width height)
+        ((width + 63) / 64 * height) steps.old steps.new) }
 {
     let mut patterns = Vec::new(alloc.clone()?);
     for k in 0..count {
@@ -180,10 +182,11 @@ fn decode_collective<A: Allocator, B: Allocator, L: Ledger>(
         (generic_result (collective_header (header_view header.now))) }
     ensures contexts { Leaves result contexts.new.items
         (contexts_after (collective_header (header_view header.now)) contexts.old.items) }
-    ensures steps { OnOk result
-        (CountsGeneric (collective_header (header_view header.now)) steps.old steps.new) }
-    ensures stopped { header.now.mmr ≡ false → OnErr result (steps.new ≡ steps.old) }
-    ensures lanes { KeepsLanes steps.old steps.new }
+    ensures steps { OnOk result (CountsGeneric (collective_header (header_view header.now))
+        (collective_made (header_view header.now) steps.old) steps.new) }
+    ensures stopped { header.now.mmr ≡ false → OnErr result
+        (steps.new ≡ collective_made (header_view header.now) steps.old) }
+    ensures lanes { KeepsLanes (collective_made (header_view header.now) steps.old) steps.new }
     ensures paid { CountsWithin (price_of_region (collective_header (header_view header.now)))
         steps.old steps.new }
 {
@@ -203,14 +206,14 @@ fn decode_collective<A: Allocator, B: Allocator, L: Ledger>(
         bytes: header.bytes,
         strict: header.strict,
     };
-    let mut collective = Bitmap::new(alloc, region_info.width, region_info.height)?;
+    let mut collective = Bitmap::new(alloc, region_info.width, region_info.height, steps)?;
     generic::decode_into(&generic_header, &mut collective, contexts, steps)?;
     Ok(collective)
 }
 
 /// Decodes a pattern dictionary (T.88, 6.7). The contexts begin fresh, whatever `contexts` held. Afterwards `contexts`
 /// holds what the collective bitmap leaves. MMR data and a bitmap that is too wide do not change it. Each word of a
-/// pattern is loaded once and written once. After an error, no more steps were taken than for a dictionary that is
+/// pattern is loaded once and written once. The words of the collective bitmap and of the patterns count as cleared. After an error, no more steps were taken than for a dictionary that is
 /// decoded whole.
 ///
 /// Returns `OverflowError::BitmapDimension` where the patterns side by side have more than 65535 columns; in strict
@@ -232,7 +235,7 @@ pub fn decode<A: Allocator + Clone, B: Allocator, L: Ledger>(
         (CountsDictionary (header_view header.now) steps.old steps.new) }
     ensures stopped { OnErr result
         (StopsDictionary (header_view header.now) steps.old steps.new) }
-    ensures lanes { KeepsLanes steps.old steps.new }
+    ensures lanes { TakesNoLanes steps.old steps.new }
     ensures paid { CountsWithin (price_of_patterns (header_view header.now)) steps.old steps.new }
     ensures causes { HasCauseOrNoMemory result (BreaksPatterns (header_view header.now)) }
 {

@@ -249,7 +249,7 @@ fn left_after_each<L: Ledger>(
 fn left_by_page<L: Ledger>(alloc: Global, units: u64, blank: Blank) -> Result<[u64; 3]>
     requires name { blank.name ≡ L.name }
     requires parts { blank.parts ≡ L.parts }
-    requires enough { blank.parts ≡ 6 }
+    requires enough { blank.parts ≡ 7 }
 {
     let bytes = bytes_of(alloc, "P")?;
     let page = Page::new_embedded(alloc, &bytes, None, &LENIENT)?;
@@ -260,7 +260,7 @@ fn left_by_page<L: Ledger>(alloc: Global, units: u64, blank: Blank) -> Result<[u
 
 /// The same for 10,000 units.
 fn left_of_10_000(alloc: Global) -> Result<[u64; 3]> {
-    left_by_page::<Brand>(alloc, 10_000, Blank::new(6))
+    left_by_page::<Brand>(alloc, 10_000, Blank::new(7))
 }
 
 /// A segment takes 1024 units, and a page two bitmaps of 128 units (`docs/FORMAT.md` 12.6).

@@ -174,7 +174,7 @@ fn case_holds<A: Allocator + Clone>(
         Case::File(case) => file_holds(alloc, case, context),
         Case::Salvage(case) => salvage_holds(alloc, case, context),
         Case::StaysWhite(x, y) => stays_white(alloc, *x, *y),
-        Case::WidePatterns => wide_patterns_hold::<A, Brand>(alloc, Blank::new(6)),
+        Case::WidePatterns => wide_patterns_hold::<A, Brand>(alloc, Blank::new(7)),
     }
 }
 

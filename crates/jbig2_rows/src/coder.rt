@@ -53,14 +53,14 @@ pub fn coder_holds<A: Allocator + Clone>(alloc: &A, case: &CoderCase) -> Result<
             let Some(bytes) = bytes_of(alloc, bytes)? else {
                 return Ok(false);
             };
-            Ok(readings_hold::<Brand>(Blank::new(6), &bytes, readings))
+            Ok(readings_hold::<Brand>(Blank::new(7), &bytes, readings))
         }
         CoderCase::Encoded { list, bytes } => is_encoded_as(alloc, list, bytes),
         CoderCase::Decoded { bytes, list } => {
             let Some(bytes) = bytes_of(alloc, bytes)? else {
                 return Ok(false);
             };
-            list_is_read::<A, Brand>(alloc, Blank::new(6), &bytes, list)
+            list_is_read::<A, Brand>(alloc, Blank::new(7), &bytes, list)
         }
         CoderCase::ReadBack { decisions, bytes } => {
             let list = list_of(alloc, decisions)?;
@@ -97,13 +97,13 @@ fn is_encoded_as<A: Allocator + Clone>(
 /// is `DecodeError::OutOfMemory`.
 pub fn is_read_back<A: Allocator + Clone>(alloc: &A, list: &[(u16, bool)]) -> Result<bool> {
     let bytes = encode_list(alloc.clone()?, list)?;
-    list_is_read::<A, Brand>(alloc, Blank::new(6), &bytes, list)
+    list_is_read::<A, Brand>(alloc, Blank::new(7), &bytes, list)
 }
 
 fn readings_hold<L: Ledger>(blank: Blank, bytes: &[u8], readings: &[Reading]) -> bool
     requires name { blank.name ≡ L.name }
     requires parts { blank.parts ≡ L.parts }
-    requires enough { blank.parts ≡ 6 }
+    requires enough { blank.parts ≡ 7 }
 {
     let mut steps = Steps::<L>::new(Permit::grant(), blank);
     let mut decoder = ArithmeticDecoder::new(bytes);
@@ -154,7 +154,7 @@ fn list_is_read<A: Allocator + Clone, L: Ledger>(
 ) -> Result<bool>
     requires name { blank.name ≡ L.name }
     requires parts { blank.parts ≡ L.parts }
-    requires enough { blank.parts ≡ 6 }
+    requires enough { blank.parts ≡ 7 }
 {
     let mut steps = Steps::<L>::new(Permit::grant(), blank);
     let mut contexts = Vec::new(alloc.clone()?);

@@ -38,7 +38,7 @@ pub fn mmr_holds<A: Allocator + Clone>(alloc: &A, case: &MmrCase) -> Result<bool
     };
     for strict in [true, false] {
         if case.modes.has(strict) {
-            if !data_holds::<A, Brand>(alloc, Blank::new(6), case, &bytes, strict)? {
+            if !data_holds::<A, Brand>(alloc, Blank::new(7), case, &bytes, strict)? {
                 return Ok(false);
             }
         }
@@ -56,10 +56,10 @@ fn data_holds<A: Allocator + Clone, L: Ledger>(
 ) -> Result<bool>
     requires name { blank.name ≡ L.name }
     requires parts { blank.parts ≡ L.parts }
-    requires enough { blank.parts ≡ 6 }
+    requires enough { blank.parts ≡ 7 }
 {
     let mut steps = Steps::<L>::new(Permit::grant(), blank);
-    let mut bitmap = match Bitmap::new(alloc.clone()?, case.width, case.height) {
+    let mut bitmap = match Bitmap::new(alloc.clone()?, case.width, case.height, &mut steps) {
         Ok(bitmap) => bitmap,
         Err(error) => return refused_as(error, None),
     };

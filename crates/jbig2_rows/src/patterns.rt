@@ -28,7 +28,7 @@ fn context_of(x: u32) -> u16 {
 pub fn wide_patterns_hold<A: Allocator + Clone, L: Ledger>(alloc: &A, blank: Blank) -> Result<bool>
     requires name { blank.name ≡ L.name }
     requires parts { blank.parts ≡ L.parts }
-    requires enough { blank.parts ≡ 6 }
+    requires enough { blank.parts ≡ 7 }
 {
     let mut list = Vec::new(alloc.clone()?);
     for x in 0..400 {

@@ -86,11 +86,11 @@ fn read_raw_rows<A: Allocator, L: Ledger>(
 {
     let bytes = raw_bytes(width, height, reader)?;
     if width == 0 {
-        let empty = Bitmap::new_wide(alloc, width, height)?;
+        let empty = Bitmap::new_wide(alloc, width, height, &mut work.steps)?;
         return Ok(empty);
     }
     work.pay_bitmap(width, height)?;
-    let mut bitmap = Bitmap::new_wide(alloc, width, height)?;
+    let mut bitmap = Bitmap::new_wide(alloc, width, height, &mut work.steps)?;
     for y in 0..height {
         fill_row(bytes, y, &mut bitmap, &mut work.steps);
     }
@@ -117,7 +117,7 @@ fn read_mmr_rows<A: Allocator, L: Ledger>(
     // Some codes may give no pixel.
     work.pay(size as u64)?;
     work.pay_bitmap(sides.width, sides.height)?;
-    let mut bitmap = Bitmap::new_wide(alloc, sides.width, sides.height)?;
+    let mut bitmap = Bitmap::new_wide(alloc, sides.width, sides.height, &mut work.steps)?;
     mmr::decode(&mut bitmap, bytes, strict, &mut work.steps)?;
     Ok(bitmap)
 }

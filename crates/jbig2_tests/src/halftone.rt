@@ -118,7 +118,7 @@ fn shows_shades<L: Ledger>(
 fn first_that_differs<L: Ledger>(alloc: Global, blank: Blank) -> Result<usize>
     requires name { blank.name ≡ L.name }
     requires parts { blank.parts ≡ L.parts }
-    requires enough { blank.parts ≡ 6 }
+    requires enough { blank.parts ≡ 7 }
 {
     let mut steps: Steps<L> = Steps::new(Permit::grant(), blank);
     for (index, case) in CASES.iter().enumerate() {
@@ -132,9 +132,9 @@ fn first_that_differs<L: Ledger>(alloc: Global, blank: Blank) -> Result<usize>
 
 #[test]
 fn halftones_of_the_example(rt: HostRuntime) {
-    let mut index = first_that_differs::<Brand>(rt.alloc(), Blank::new(6));
+    let mut index = first_that_differs::<Brand>(rt.alloc(), Blank::new(7));
     if index == Err(DecodeError::OutOfMemory) {
-        index = first_that_differs::<Brand>(rt.alloc(), Blank::new(6));
+        index = first_that_differs::<Brand>(rt.alloc(), Blank::new(7));
     }
     assert!(rt; index == Ok(CASES.len()));
 }

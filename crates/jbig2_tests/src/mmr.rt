@@ -315,11 +315,11 @@ fn are_read_as<L: Ledger>(
 ) -> Result<bool>
     requires name { blank.name ≡ L.name }
     requires parts { blank.parts ≡ L.parts }
-    requires enough { blank.parts ≡ 6 }
+    requires enough { blank.parts ≡ 7 }
 {
     let mut steps = Steps::<L>::new(Permit::grant(), blank);
     let height = u32::try_from(whites.len()).unwrap_or(0);
-    let mut bitmap = Bitmap::new(alloc, width, height)?;
+    let mut bitmap = Bitmap::new(alloc, width, height, &mut steps)?;
     let byte_count = decode(&mut bitmap, bytes, true, &mut steps)?;
     Ok(byte_count == bytes.len() && are_rows(&bitmap, whites, &mut steps))
 }
@@ -327,7 +327,7 @@ fn are_read_as<L: Ledger>(
 /// Whether rows of these white runs are read back.
 fn are_read_back(alloc: Global, width: u32, whites: &[u32]) -> Result<bool> {
     let bytes = code_rows(alloc, width, whites)?;
-    are_read_as::<Brand>(alloc, Blank::new(6), width, &bytes, whites)
+    are_read_as::<Brand>(alloc, Blank::new(7), width, &bytes, whites)
 }
 
 /// The lengths from 0 to this one.

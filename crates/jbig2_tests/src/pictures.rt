@@ -48,7 +48,7 @@ pub fn bitmap_of<L: Ledger>(
     let width = picture.first().map_or(0, |row| row.len());
     let width = u32::try_from(width).unwrap_or(0);
     let height = u32::try_from(picture.len()).unwrap_or(0);
-    let mut bitmap = Bitmap::new(alloc, width, height)?;
+    let mut bitmap = Bitmap::new(alloc, width, height, steps)?;
     for (y, row) in (0..height).zip(picture) {
         for (x, pixel) in (0..width).zip(row.bytes()) {
             bitmap.set_pixel(x, y, pixel == b'#', steps);

@@ -11,7 +11,7 @@ use std::sync::ledger::{Blank, Ledger};
 fn each_step<L: Ledger>(blank: Blank)
     requires name { blank.name ≡ L.name }
     requires parts { blank.parts ≡ L.parts }
-    requires enough { blank.parts ≡ 6 }
+    requires enough { blank.parts ≡ 7 }
 {
     let mut steps: Steps<L> = Steps::new(Permit::grant(), blank);
     steps.load();
@@ -21,13 +21,14 @@ fn each_step<L: Ledger>(blank: Blank)
     steps.run_test();
     steps.group();
     steps.pixel();
+    steps.clear(3);
 }
 
 /// The units that are left of this many, after payments that are accepted and after one that is refused.
 fn units_left<L: Ledger>(blank: Blank, units: u64) -> [u64; 5]
     requires name { blank.name ≡ L.name }
     requires parts { blank.parts ≡ L.parts }
-    requires enough { blank.parts ≡ 6 }
+    requires enough { blank.parts ≡ 7 }
 {
     let mut work: Work<L> = Work::within(Permit::grant(), blank, units);
     let mut left = [work.left; 5];
@@ -50,7 +51,7 @@ fn units_left<L: Ledger>(blank: Blank, units: u64) -> [u64; 5]
 fn is_unlimited<L: Ledger>(blank: Blank) -> bool
     requires name { blank.name ≡ L.name }
     requires parts { blank.parts ≡ L.parts }
-    requires enough { blank.parts ≡ 6 }
+    requires enough { blank.parts ≡ 7 }
 {
     let work: Work<L> = Work::new(Permit::grant(), blank);
     work.left == u64::MAX
@@ -58,8 +59,8 @@ fn is_unlimited<L: Ledger>(blank: Blank) -> bool
 
 #[test]
 fn steps_are_counted(rt: HostRuntime) {
-    each_step::<Brand>(Blank::new(6));
-    assert!(rt; is_unlimited::<Brand>(Blank::new(6)));
+    each_step::<Brand>(Blank::new(7));
+    assert!(rt; is_unlimited::<Brand>(Blank::new(7)));
 }
 
 /// Prices of `docs/FORMAT.md`, 12.6: a row of 65 columns costs two words of 64, a row of none or one column costs one
@@ -72,6 +73,6 @@ fn work_is_paid_for(rt: HostRuntime) {
         price_of_bitmap(64, 0),
     ];
     assert!(rt; prices == [448, 384, 64]);
-    let left = units_left::<Brand>(Blank::new(6), 1000);
+    let left = units_left::<Brand>(Blank::new(7), 1000);
     assert!(rt; left == [1000, 700, 252, 124, 0]);
 }

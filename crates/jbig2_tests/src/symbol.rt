@@ -150,7 +150,7 @@ fn exports_symbols<L: Ledger>(
 fn first_that_differs<L: Ledger>(alloc: Global, blank: Blank) -> Result<usize>
     requires name { blank.name ≡ L.name }
     requires parts { blank.parts ≡ L.parts }
-    requires enough { blank.parts ≡ 6 }
+    requires enough { blank.parts ≡ 7 }
 {
     let mut work: Work<L> = Work::new(Permit::grant(), blank);
     for (index, case) in CASES.iter().enumerate() {
@@ -164,9 +164,9 @@ fn first_that_differs<L: Ledger>(alloc: Global, blank: Blank) -> Result<usize>
 
 #[test]
 fn symbols_of_the_example(rt: HostRuntime) {
-    let mut index = first_that_differs::<Brand>(rt.alloc(), Blank::new(6));
+    let mut index = first_that_differs::<Brand>(rt.alloc(), Blank::new(7));
     if index == Err(DecodeError::OutOfMemory) {
-        index = first_that_differs::<Brand>(rt.alloc(), Blank::new(6));
+        index = first_that_differs::<Brand>(rt.alloc(), Blank::new(7));
     }
     assert!(rt; index == Ok(CASES.len()));
 }
@@ -175,7 +175,7 @@ fn symbols_of_the_example(rt: HostRuntime) {
 fn contexts_go_on<L: Ledger>(alloc: Global, blank: Blank) -> Result<bool>
     requires name { blank.name ≡ L.name }
     requires parts { blank.parts ≡ L.parts }
-    requires enough { blank.parts ≡ 6 }
+    requires enough { blank.parts ≡ 7 }
 {
     let mut work: Work<L> = Work::new(Permit::grant(), blank);
     let first = dictionary_of(alloc, KEEPS_CONTEXTS, &[], None, &mut work)?;
@@ -189,9 +189,9 @@ fn contexts_go_on<L: Ledger>(alloc: Global, blank: Blank) -> Result<bool>
 
 #[test]
 fn contexts_that_are_kept(rt: HostRuntime) {
-    let mut go_on = contexts_go_on::<Brand>(rt.alloc(), Blank::new(6));
+    let mut go_on = contexts_go_on::<Brand>(rt.alloc(), Blank::new(7));
     if go_on == Err(DecodeError::OutOfMemory) {
-        go_on = contexts_go_on::<Brand>(rt.alloc(), Blank::new(6));
+        go_on = contexts_go_on::<Brand>(rt.alloc(), Blank::new(7));
     }
     assert!(rt; go_on == Ok(true));
 }

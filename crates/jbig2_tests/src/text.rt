@@ -87,7 +87,7 @@ fn holds<L: Ledger>(alloc: Global, case: &Case, work: &mut Work<L>) -> Result<bo
 fn first_that_differs<L: Ledger>(alloc: Global, blank: Blank) -> Result<usize>
     requires name { blank.name ≡ L.name }
     requires parts { blank.parts ≡ L.parts }
-    requires enough { blank.parts ≡ 6 }
+    requires enough { blank.parts ≡ 7 }
 {
     let mut work: Work<L> = Work::new(Permit::grant(), blank);
     for (index, case) in CASES.iter().enumerate() {
@@ -100,9 +100,9 @@ fn first_that_differs<L: Ledger>(alloc: Global, blank: Blank) -> Result<usize>
 
 #[test]
 fn words_of_the_example(rt: HostRuntime) {
-    let mut index = first_that_differs::<Brand>(rt.alloc(), Blank::new(6));
+    let mut index = first_that_differs::<Brand>(rt.alloc(), Blank::new(7));
     if index == Err(DecodeError::OutOfMemory) {
-        index = first_that_differs::<Brand>(rt.alloc(), Blank::new(6));
+        index = first_that_differs::<Brand>(rt.alloc(), Blank::new(7));
     }
     assert!(rt; index == Ok(CASES.len()));
 }
@@ -126,7 +126,7 @@ fn header_of_the_example(rt: HostRuntime) {
 fn coded_numbers<L: Ledger>(alloc: Global, blank: Blank) -> Result<[i64; 3]>
     requires name { blank.name ≡ L.name }
     requires parts { blank.parts ≡ L.parts }
-    requires enough { blank.parts ≡ 6 }
+    requires enough { blank.parts ≡ 7 }
 {
     let mut work: Work<L> = Work::new(Permit::grant(), blank);
     let mut readings = CodedReadings::new(alloc, EXAMPLE, 5)?;
@@ -152,7 +152,7 @@ fn numbers_by_tables(alloc: Global) -> Result<[i32; 3]> {
 
 /// Whether all numbers are those of Annexes A and B.
 fn numbers_hold(alloc: Global) -> Result<bool> {
-    let by_coder = coded_numbers::<Brand>(alloc, Blank::new(6))?;
+    let by_coder = coded_numbers::<Brand>(alloc, Blank::new(7))?;
     let by_tables = numbers_by_tables(alloc)?;
     Ok(by_coder == [1, -2, 3] && by_tables == [-3, 1, 5])
 }

@@ -1,8 +1,8 @@
 //! The instances of a text region (T.88, 6.4.5). Each is drawn as soon as it is read.
-ghost use Rattle.std.specs.Prelude.{◌≡◌, ◌*◌, ◌≤◌, nat_lt, option_map, OnErr};
+ghost use Rattle.std.specs.Prelude.{◌≡◌, ◌+◌, ◌*◌, ◌≤◌, nat_lt, option_map, OnErr};
 ghost use Rattle.jbig2_base.specs.Results.{Gives};
 ghost use Rattle.jbig2_base.specs.Grid.{blank};
-ghost use Rattle.jbig2_steps.specs.Work.{Paid, PaidBut};
+ghost use Rattle.jbig2_steps.specs.Work.{Paid, PaidBut, paid_words};
 ghost use Rattle.jbig2_text.specs.Paying.{number_steps};
 ghost use Rattle.jbig2_text.specs.Text.{with_symbol, with_instance, after_instances, text_region};
 ghost use Rattle.jbig2_text.specs.inner.FunctionResults.{KeepsSize, reaching, some_strips, strips, with_last, with_next_instance};
@@ -246,11 +246,12 @@ pub fn draw_instances_by<R: ReadInstances, A: Allocator + Clone, L: Ledger>(
     ensures same { let black = params.now.flags.default_pixel in
         region.old ≡ blank region.old.width region.old.height black
         → OnErr result (region.new ≡ region.old) }
-    ensures paid { PaidBut (number_steps 1) work.old work.new }
+    ensures paid { let words = paid_words region.old.width region.old.height in
+        PaidBut (number_steps 1 + words) work.old work.new }
 {
     let drawn = draw_instances(readings, refining, params, region, work);
     if drawn.is_err() {
-        region.fill(params.flags.default_pixel);
+        region.fill(params.flags.default_pixel, &mut work.steps);
     }
     drawn
 }

@@ -1,10 +1,10 @@
 //! Text regions (T.88, 6.4 and 7.4.3): reads the instances of symbols and draws them.
 #![tactic(auto)]
 
-ghost use Rattle.std.specs.Prelude.{◌≡◌, ◌≤◌, ◌^◌, length, Ok, OnErr};
+ghost use Rattle.std.specs.Prelude.{◌≡◌, ◌+◌, ◌≤◌, ◌^◌, length, Ok, OnErr};
 ghost use Rattle.jbig2_base.specs.Results.{Returns, Gives};
 ghost use Rattle.jbig2_base.specs.Grid.{blank};
-ghost use Rattle.jbig2_steps.specs.Work.{Paid, PaidBut};
+ghost use Rattle.jbig2_steps.specs.Work.{Paid, PaidBut, paid_words};
 ghost use Rattle.jbig2_text.specs.SymbolCodes.{max_symbols};
 ghost use Rattle.jbig2_text.specs.Paying.{number_steps};
 ghost use Rattle.jbig2_region.specs.inner.RegionViews.{region_view};
@@ -148,7 +148,8 @@ fn decode_by<R: ReadInstances, A: Allocator + Clone, L: Ledger>(
     ensures same { let info = header.now.region_info in
         bitmap.old ≡ blank info.width info.height header.now.flags.default_pixel
         → OnErr result (bitmap.new ≡ bitmap.old) }
-    ensures paid { PaidBut (number_steps 1) work.old work.new }
+    ensures paid { let words = paid_words bitmap.old.width bitmap.old.height in
+        PaidBut (number_steps 1 + words) work.old work.new }
 {
     let mut refining = refining_of(alloc, header)?;
     let params = params_of(header, symbols);
@@ -189,7 +190,8 @@ pub fn decode_into<A: Allocator + Clone, L: Ledger>(
     ensures causes { let customs = customs_view referred_tables.now in
         HasCauseOrNoMemory result
         (BreaksTextRegion (header_view header.now) (symbols_view symbols.now) customs) }
-    ensures paid { PaidBut (number_steps 1) work.old work.new }
+    ensures paid { let info = header.now.region_info in
+        PaidBut (number_steps 1 + paid_words info.width info.height) work.old work.new }
 {
     match &header.coding {
         TextRegionCoding::Arithmetic => {
@@ -237,6 +239,7 @@ pub fn decode<A: Allocator + Clone, L: Ledger>(
         region_info.width,
         region_info.height,
         header.flags.default_pixel,
+        &mut work.steps,
     )?;
     decode_into(
         alloc,

@@ -3,8 +3,8 @@ ghost use Rattle.std.specs.Prelude.{◌≡◌, ◌*◌, ◌≤◌, false};
 ghost use Rattle.jbig2_base.specs.Results.{Returns};
 ghost use Rattle.jbig2_base.specs.Grid.{blank, max_side};
 ghost use Rattle.jbig2_region.specs.inner.RefinementViews.{reference_view};
-ghost use Rattle.jbig2_steps.specs.Work.{PaidBut, price_of_bitmap};
-ghost use Rattle.jbig2_text.specs.Paying.{number_steps};
+ghost use Rattle.jbig2_steps.specs.Work.{PaidBut, paid_words, price_of_bitmap};
+ghost use Rattle.jbig2_text.specs.Paying.{PaidBeside, number_steps};
 ghost use Rattle.jbig2_text.specs.Text.{Readings};
 
 use crate::refining::Refining;
@@ -100,8 +100,8 @@ pub trait ReadInstances {
             let from = reference_view reference.now in
             let meant = readings.refined from width height refining.old (state self.old) in
             Returns (λ _. (bitmap.new, refining.new, state self.new)) result meant }
-        ensures paid { PaidBut (32 * price_of_bitmap bitmap.old.width bitmap.old.height)
-            work.old work.new };
+        ensures paid { PaidBeside (paid_words bitmap.old.width bitmap.old.height)
+            (32 * price_of_bitmap bitmap.old.width bitmap.old.height) work.old work.new };
 
     /// Whether what was read so far lies within the data.
     fn is_within_data(&self) -> bool

@@ -3,7 +3,7 @@ ghost use Rattle.std.specs.Prelude.{◌≡◌, ◌+◌, ◌*◌, ◌≤◌, ◌�
 ghost use Rattle.jbig2_base.specs.Results.{Returns, Gives};
 ghost use Rattle.jbig2_base.specs.Grid.{blank, blank_or_overflow, max_side};
 ghost use Rattle.jbig2_base.specs.declared.error.DecodeError.TheVariants.{OutOfMemory};
-ghost use Rattle.jbig2_steps.specs.Work.{Paid, PaidBut, price_of_bitmap, budget};
+ghost use Rattle.jbig2_steps.specs.Work.{Paid, PaidBut, paid_words, price_of_bitmap, budget};
 ghost use Rattle.jbig2_text.specs.Paying.{number_steps};
 ghost use Rattle.jbig2_text.specs.Text.{refinement_deltas, refined_outline, refined_symbol};
 ghost use Rattle.jbig2_text.specs.inner.TextViews.{list_view};
@@ -77,7 +77,8 @@ fn outline_of<A: Allocator>(from: &Bitmap<A>, deltas: &RefinementDeltas) -> Resu
     })
 }
 
-/// A white bitmap for a symbol. The size is checked first, so that a refused size takes no work.
+/// A white bitmap for a symbol. The size is checked first, so that a refused size takes no work. The price is
+/// taken before the words of the bitmap are counted.
 pub fn new_symbol<A: Allocator, L: Ledger>(
     alloc: A,
     width: u32,
@@ -91,13 +92,13 @@ pub fn new_symbol<A: Allocator, L: Ledger>(
     ensures rows { IfOk result (λ b. b.height ≤ max_side) }
     ensures white { IfOk result (λ b. b ≡ blank b.width b.height false) }
     ensures paid { Paid work.old work.new }
-    ensures taken { IfOk result
-        (λ b. budget work.new + 32 * price_of_bitmap b.width b.height ≤ budget work.old) }
+    ensures taken { IfOk result (λ b. budget work.new + 32 * price_of_bitmap b.width b.height
+        ≤ budget work.old + paid_words b.width b.height) }
     ensures untaken { IfErr result (λ e. (e ≡ OutOfMemory) ⊎ (budget work.new ≡ budget work.old)) }
 {
     check_sides(width, height)?;
     work.pay_bitmap(width, height)?;
-    Bitmap::new(alloc, width, height)
+    Bitmap::new(alloc, width, height, &mut work.steps)
 }
 
 /// Reads a symbol that is refined from that of the id.

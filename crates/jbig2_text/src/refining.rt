@@ -5,7 +5,8 @@ ghost use Rattle.jbig2_base.specs.Grid.{blank, max_side};
 ghost use Rattle.jbig2_region.specs.RefinementTemplates.{refinement_bits};
 ghost use Rattle.jbig2_region.specs.inner.PixelArrays.{two_pixels, pixel_array};
 ghost use Rattle.jbig2_region.specs.inner.RefinementViews.{reference_view};
-ghost use Rattle.jbig2_steps.specs.Work.{PaidBut, price_of_bitmap};
+ghost use Rattle.jbig2_steps.specs.Work.{paid_words, price_of_bitmap};
+ghost use Rattle.jbig2_text.specs.Paying.{PaidBeside};
 ghost use Rattle.jbig2_text.specs.Refining.{refined_with};
 ghost use Rattle.jbig2_text.specs.inner.TextViews.{some_pixels};
 ghost use Rattle.jbig2_text.specs.inner.FunctionResults.{fresh_refining, refining_by};
@@ -131,8 +132,8 @@ impl<A: Allocator> Refining<A> {
         ensures value { let from = reference_view reference.now in
             refined_with self.old from bitmap.old.width bitmap.old.height decoder.old
             ≡ record { grid = bitmap.new; coder = decoder.new; refining = self.new } }
-        ensures paid { PaidBut (32 * price_of_bitmap bitmap.old.width bitmap.old.height)
-            work.old work.new }
+        ensures paid { PaidBeside (paid_words bitmap.old.width bitmap.old.height)
+            (32 * price_of_bitmap bitmap.old.width bitmap.old.height) work.old work.new }
     {
         refine_by(
             self.template,
@@ -181,8 +182,8 @@ fn refine_by<A: Allocator, L: Ledger>(
         let from = reference_view reference.now in
         let refined = refined_with f from bitmap.old.width bitmap.old.height decoder.old in
         contexts.new ≡ refined.refining.contexts }
-    ensures paid { PaidBut (32 * price_of_bitmap bitmap.old.width bitmap.old.height)
-        work.old work.new }
+    ensures paid { PaidBeside (paid_words bitmap.old.width bitmap.old.height)
+        (32 * price_of_bitmap bitmap.old.width bitmap.old.height) work.old work.new }
 {
     let adaptive = two_of(pixels);
     decode_bitmap(

@@ -142,7 +142,13 @@ fn count_from_start<R: ReadInstances, A: Allocator + Clone, L: Ledger>(
     let info = &header.region_info;
     work.pay_bitmap(info.width, info.height)?;
     let black = header.flags.default_pixel;
-    let mut region = Bitmap::new_with(alloc.clone()?, info.width, info.height, black)?;
+    let mut region = Bitmap::new_with(
+        alloc.clone()?,
+        info.width,
+        info.height,
+        black,
+        &mut work.steps,
+    )?;
     let mut refining = refining_of(alloc, header)?;
     let params = params_of(header, symbols);
     count_by(readings, &mut refining, &params, &mut region, work)

@@ -94,7 +94,7 @@ fn bitmap_of<L: Ledger>(
     let width = picture.first().map_or(0, |row| row.len());
     let width = u32::try_from(width).unwrap_or(0);
     let height = u32::try_from(picture.len()).unwrap_or(0);
-    let mut bitmap = Bitmap::new(alloc, width, height).map_err(|_| WriteError::OutOfMemory)?;
+    let mut bitmap = Bitmap::new(alloc, width, height, steps).map_err(|_| WriteError::OutOfMemory)?;
     for (y, row) in (0..height).zip(picture) {
         for (x, pixel) in (0..width).zip(row.bytes()) {
             bitmap.set_pixel(x, y, pixel == b'#', steps);
@@ -122,7 +122,7 @@ fn is_written<L: Ledger>(
 fn first_that_differs<L: Ledger>(alloc: Global, blank: Blank) -> Result<usize, WriteError>
     requires name { blank.name ≡ L.name }
     requires parts { blank.parts ≡ L.parts }
-    requires enough { blank.parts ≡ 6 }
+    requires enough { blank.parts ≡ 7 }
 {
     let mut steps: Steps<L> = Steps::new(Permit::grant(), blank);
     for (index, case) in CASES.iter().enumerate() {
@@ -135,9 +135,9 @@ fn first_that_differs<L: Ledger>(alloc: Global, blank: Blank) -> Result<usize, W
 
 #[test]
 fn pages_are_those_of_another_encoder(rt: HostRuntime) {
-    let mut index = first_that_differs::<Brand>(rt.alloc(), Blank::new(6));
+    let mut index = first_that_differs::<Brand>(rt.alloc(), Blank::new(7));
     if index == Err(WriteError::OutOfMemory) {
-        index = first_that_differs::<Brand>(rt.alloc(), Blank::new(6));
+        index = first_that_differs::<Brand>(rt.alloc(), Blank::new(7));
     }
     assert!(rt; index == Ok(CASES.len()));
 }

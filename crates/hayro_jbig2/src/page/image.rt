@@ -40,7 +40,7 @@ impl<'a, A: Allocator + Clone> Page<'a, A> {
         ensures taken { let page = self.now.initial_page in
             IfOk result (λ _. Takes (price_of_bitmap page.width page.height) work.old work.new) }
     {
-        self.read_counted::<Brand>(Form::Image, buf, work, Blank::new(6))
+        self.read_counted::<Brand>(Form::Image, buf, work, Blank::new(7))
     }
 
     /// Writes the page in this form, by a counter that may take what is left of the limit.
@@ -55,7 +55,7 @@ impl<'a, A: Allocator + Clone> Page<'a, A> {
             length buf.old ≡ size_in form page.width page.height }
         requires name { blank.name ≡ L.name }
         requires parts { blank.parts ≡ L.parts }
-        requires enough { blank.parts ≡ 6 }
+        requires enough { blank.parts ≡ 7 }
         ensures value { Gives (λ _. buf.new) result (bytes_of_page form self.now) }
         ensures unchanged { OnErr result (buf.new ≡ buf.old) }
         ensures errors { IfErr result IsReturned }
@@ -113,6 +113,6 @@ impl<'a, A: Allocator + Clone> Page<'a, A> {
         ensures taken { let page = self.now.initial_page in
             IfOk result (λ _. Takes (price_of_bitmap page.width page.height) work.old work.new) }
     {
-        self.read_counted::<Brand>(Form::Packed, buf, work, Blank::new(6))
+        self.read_counted::<Brand>(Form::Packed, buf, work, Blank::new(7))
     }
 }

@@ -2,11 +2,11 @@
 ghost use Rattle.std.specs.Prelude.{◌≡◌, ◌+◌, ◌*◌, ◌≤◌, Ok, IfErr, IfOk};
 ghost use Rattle.jbig2_base.specs.Results.{Gives};
 ghost use Rattle.jbig2_page.specs.Calls.{Decodes, IsCountable};
-ghost use Rattle.hayro_jbig2.specs.Context.{HoldsPage, IsLeft, IsWithin, LeavesOf};
+ghost use Rattle.hayro_jbig2.specs.Context.{HoldsPage, IsLeft, IsWithin, LeavesDrawn, LeavesOf};
 ghost use Rattle.jbig2_page.specs.Image.{packed_of_page};
 ghost use Rattle.jbig2_page.specs.Page.{drawing_of_page, grid_of_page};
 ghost use Rattle.jbig2_page.specs.Returned.{IsReturned};
-ghost use Rattle.jbig2_steps.specs.Work.{IsWithinLimit, Paid, price_of_bitmap, budget};
+ghost use Rattle.jbig2_steps.specs.Work.{IsWithinLimit, Paid, paid_words, price_of_bitmap, budget};
 
 use crate::context::DecoderContext;
 use crate::drawn_page::DrawnPage;
@@ -59,16 +59,17 @@ impl<'a, A: Allocator + Clone> Page<'a, A> {
         ensures left { LeavesOf 0 context.old.work_limit context.new }
         ensures taken { let page = self.now.initial_page in
             let price = 2 * price_of_bitmap page.width page.height in
-            IfOk result (λ _. LeavesOf price context.old.work_limit context.new) }
+            let words = paid_words page.width page.height in
+            IfOk result (λ _. LeavesDrawn words price context.old.work_limit context.new) }
         ensures errors { IfErr result IsReturned }
     {
-        self.draw_counted::<Brand>(context, Blank::new(6))
+        self.draw_counted::<Brand>(context, Blank::new(7))
     }
 
     fn draw_counted<L: Ledger>(&self, context: &mut DecoderContext<A>, blank: Blank) -> Result<()>
         requires name { blank.name ≡ L.name }
         requires parts { blank.parts ≡ L.parts }
-        requires enough { blank.parts ≡ 6 }
+        requires enough { blank.parts ≡ 7 }
         ensures drawing { Gives (λ _. context.new.drawing) result (drawing_of_page self.now) }
         ensures page { HoldsPage result context.new }
         ensures errors { IfErr result IsReturned }
@@ -77,7 +78,8 @@ impl<'a, A: Allocator + Clone> Page<'a, A> {
         ensures left { LeavesOf 0 context.old.work_limit context.new }
         ensures taken { let page = self.now.initial_page in
             let price = 2 * price_of_bitmap page.width page.height in
-            IfOk result (λ _. LeavesOf price context.old.work_limit context.new) }
+            let words = paid_words page.width page.height in
+            IfOk result (λ _. LeavesDrawn words price context.old.work_limit context.new) }
     {
         let mut work = context.new_work::<L>(blank);
         self.draw_within(context, &mut work)
@@ -100,7 +102,8 @@ impl<'a, A: Allocator + Clone> Page<'a, A> {
         ensures paid { Paid work.old work.new }
         ensures ahead { let page = self.now.initial_page in
             let price = price_of_bitmap page.width page.height in
-            IfOk result (λ _. budget work.new + 64 * price ≤ budget work.old) }
+            IfOk result (λ _. budget work.new + 64 * price
+            ≤ budget work.old + paid_words page.width page.height) }
     {
         let drawn = self.content.draw_onto(&mut context.canvas, work);
         context.holds_page = drawn.is_ok();
@@ -129,7 +132,7 @@ impl<'a, A: Allocator + Clone> Page<'a, A> {
         ensures errors { D.conduct.refusals decoder.new ≡ D.conduct.refusals decoder.old
             → IfErr result IsReturned }
     {
-        self.decode_counted::<D, Brand>(decoder, context, Blank::new(6))
+        self.decode_counted::<D, Brand>(decoder, context, Blank::new(7))
     }
 
     fn decode_counted<D: Decoder, L: Ledger>(
@@ -141,7 +144,7 @@ impl<'a, A: Allocator + Clone> Page<'a, A> {
         requires countable { IsCountable D.conduct decoder.old }
         requires name { blank.name ≡ L.name }
         requires parts { blank.parts ≡ L.parts }
-        requires enough { blank.parts ≡ 6 }
+        requires enough { blank.parts ≡ 7 }
         ensures calls { Decodes D.conduct (grid_of_page self.now) result decoder.old decoder.new }
         ensures drawing { IfOk result (λ _. drawing_of_page self.now ≡ Ok context.new.drawing) }
         ensures page { HoldsPage result context.new }

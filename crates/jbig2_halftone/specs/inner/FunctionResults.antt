@@ -2,7 +2,7 @@
 use Rattle.std.specs.Prelude.{ℕ, ◌≡◌, ◌≤◌, ◌+◌, ◌*◌, ◌/◌, ◌%◌, Bool, true, false, ◌||◌, if◌then◌else◌, List, map, None}
 use Rattle.std.specs.Prelude.{is_some, length, ◌⊎◌, Result, Ok}
 use Rattle.std.specs.List.{range_with_len}
-use Rattle.jbig2_base.specs.Counts.{Counts, KeepsLanes, words_copied}
+use Rattle.jbig2_base.specs.Counts.{Counts, KeepsLanes, words_cleared, words_copied, words_made}
 use Rattle.jbig2_base.specs.Results.{◌>>=◌}
 use Rattle.jbig2_base.specs.Grid.{Grid, grid_of, part_of}
 use Rattle.jbig2_base.specs.declared.error.DecodeError.{DecodeError}
@@ -29,9 +29,14 @@ abbrev pub pattern_of : Grid → ℕ → ℕ → ℕ → Grid
 pattern_of collective width height k =
     part_of collective (record { left = k * width; top = 0; width = width; height = height })
 
+-- bitmaps for this many patterns were made, of `cleared` words, and this many were cut out, of `words` words
+abbrev pub patterns_cut : ℕ → ℕ → ℕ → ℕ → Counts → Counts
+patterns_cut made cut cleared words before = words_copied (cut * words) (words_cleared (made * cleared) before)
+
 -- some of this many patterns were cut out, or all
-abbrev pub StopsCut : ℕ → ℕ → Counts → Counts → Type 0
-StopsCut count words before after = (cut : ℕ) × ((cut ≤ count) × (after ≡ words_copied (cut * words) before))
+abbrev pub StopsCut : ℕ → ℕ → ℕ → Counts → Counts → Type 0
+StopsCut count cleared words before after =
+    (made : ℕ) × ((made ≤ count) × ((cut : ℕ) × ((cut ≤ count) × (after ≡ patterns_cut made cut cleared words before))))
 
 -- ---- planes
 module _ (p : GrayScale) where
@@ -132,10 +137,10 @@ pub record MovesByMmr (words count all left loads : ℕ) (before after : Counts)
   pub decisions : after.decisions ≡ before.decisions
   pub run_tests : after.run_tests ≡ before.run_tests
 
--- a region whose cells can't be read: no step, or the mask and some planes
+-- a region whose cells can't be read: no step but cleared words, or the mask and some planes
 abbrev pub StopsCells : HalftoneHeader → Patterns → Counts → Counts → Type 0
 StopsCells h d before after =
-    (after ≡ before) ⊎ StopsImage (gray_params h d) h.bytes (after_mask h d before) after
+    ((words : ℕ) × (after ≡ words_cleared words before)) ⊎ StopsImage (gray_params h d) h.bytes (after_mask h d before) after
 
 -- this many rows of w pixels, taken from planes: one load for each group of eight lanes and for each single pixel
 abbrev pub after_lane_rows : ℕ → ℕ → Counts → Counts

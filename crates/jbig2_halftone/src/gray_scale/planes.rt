@@ -1,13 +1,13 @@
 //! The coded planes of a gray-scale image, the highest first (T.88, C.5).
-ghost use Rattle.std.specs.Prelude.{◌≡◌, ◌^◌, ◌≤◌, [], false, length, IfOk, OnOk, OnErr};
+ghost use Rattle.std.specs.Prelude.{◌≡◌, ◌+◌, ◌*◌, ◌^◌, ◌≤◌, [], false, length, IfOk, OnOk, OnErr};
 ghost use Rattle.jbig2_base.specs.Results.{Gives, Leaves};
-ghost use Rattle.jbig2_base.specs.Counts.{KeepsLanes};
+ghost use Rattle.jbig2_base.specs.Counts.{KeepsLanes, bitmap_made, words_made};
 ghost use Rattle.jbig2_base.specs.Grid.{blank, max_side};
 ghost use Rattle.jbig2_region.specs.Raster.{fresh_contexts, no_pixels};
 ghost use Rattle.jbig2_region.specs.Templates.{context_bits};
 ghost use Rattle.jbig2_region.specs.inner.RegionStates.{DecodesRegion, region_state};
 ghost use Rattle.jbig2_halftone.specs.GrayScale.{after_planes, gray_values, image_is_too_large, mmr_plane, planes_of};
-ghost use Rattle.jbig2_halftone.specs.Steps.{CountsImage, StopsImage, words_of_plane};
+ghost use Rattle.jbig2_halftone.specs.Steps.{CountsImage, StopsImage, cleared_by_planes, words_of_plane};
 ghost use Rattle.jbig2_halftone.specs.inner.HalftoneViews.{gray_view};
 ghost use Rattle.jbig2_halftone.specs.inner.FunctionResults.{plane_coding, planes_by_coder, planes_by_mmr, planes_contexts, values_of, CountsCoded, CountsMmr, CountsOne, MovesByMmr, StopsCoded, StopsMmr};
 
@@ -90,11 +90,15 @@ fn add_coded_planes<M: Allocator, A: Allocator + Clone, L: Ledger>(
         params.now.bits_per_pixel steps.old steps.new) }
     ensures stopped { OnErr result
         (StopsCoded (gray_view params.now) bytes.now steps.old steps.new) }
+    ensures cleared { OnOk result (steps.new.cleared
+        ≡ steps.old.cleared + cleared_by_planes (gray_view params.now)) }
+    ensures most { steps.new.cleared
+        ≤ steps.old.cleared + cleared_by_planes (gray_view params.now) }
     ensures no_planes { params.now.bits_per_pixel ≡ 0 → steps.new ≡ steps.old }
 {
     let mut decoder = ArithmeticDecoder::new(bytes);
     for _ in 0..params.bits_per_pixel {
-        let mut plane = Bitmap::new(alloc.clone()?, params.width, params.height)?;
+        let mut plane = Bitmap::new(alloc.clone()?, params.width, params.height, steps)?;
         decode_plane(params, &mut plane, &mut decoder, contexts, steps);
         add_plane(&plane, values, steps);
     }
@@ -116,9 +120,10 @@ pub(crate) fn read_mmr_plane<'a, M: Allocator, A: Allocator, L: Ledger>(
         (length bytes.now) (length read.1.now) 0 steps.old steps.new) }
     ensures stopped { OnErr result (MovesByMmr (words_of_plane (gray_view params.now)) 1
         (length bytes.now) 0 0 steps.old steps.new) }
-    ensures lanes { KeepsLanes steps.old steps.new }
+    ensures lanes { KeepsLanes (bitmap_made params.now.width params.now.height steps.old)
+        steps.new }
 {
-    let mut plane = Bitmap::new(alloc, params.width, params.height)?;
+    let mut plane = Bitmap::new(alloc, params.width, params.height, steps)?;
     let used = match mmr::decode(&mut plane, bytes, params.strict, steps) {
         Ok(used) => used,
         Err(error) => return Err(error),
@@ -144,6 +149,10 @@ fn add_mmr_planes<M: Allocator, A: Allocator + Clone, L: Ledger>(
         params.now.bits_per_pixel steps.old steps.new) }
     ensures stopped { OnErr result
         (StopsMmr (gray_view params.now) bytes.now steps.old steps.new) }
+    ensures cleared { OnOk result (steps.new.cleared
+        ≡ steps.old.cleared + cleared_by_planes (gray_view params.now)) }
+    ensures most { steps.new.cleared
+        ≤ steps.old.cleared + cleared_by_planes (gray_view params.now) }
     ensures no_planes { params.now.bits_per_pixel ≡ 0 → steps.new ≡ steps.old }
 {
     let mut rest = bytes;
@@ -180,6 +189,10 @@ pub fn add_planes<M: Allocator, A: Allocator + Clone, B: Allocator, L: Ledger>(
         steps.old steps.new) }
     ensures stopped { OnErr result
         (StopsImage (gray_view params.now) bytes.now steps.old steps.new) }
+    ensures cleared { OnOk result (steps.new.cleared
+        ≡ steps.old.cleared + cleared_by_planes (gray_view params.now)) }
+    ensures most { steps.new.cleared
+        ≤ steps.old.cleared + cleared_by_planes (gray_view params.now) }
     ensures no_planes { params.now.bits_per_pixel ≡ 0 → steps.new ≡ steps.old }
 {
     if params.use_mmr {

@@ -43,10 +43,10 @@ fn count_coded_rows<M: Allocator, A: Allocator + Clone, L: Ledger>(
 {
     let mut decoder = ArithmeticDecoder::new(bytes);
     for _ in 0..params.bits_per_pixel - 1 {
-        let mut plane = Bitmap::new(alloc.clone()?, params.width, params.height)?;
+        let mut plane = Bitmap::new(alloc.clone()?, params.width, params.height, steps)?;
         decode_plane(params, &mut plane, &mut decoder, contexts, steps);
     }
-    let mut last = Bitmap::new(alloc, params.width, params.height)?;
+    let mut last = Bitmap::new(alloc, params.width, params.height, steps)?;
     let rows = count_regular_rows(
         params.template,
         false,
@@ -85,7 +85,7 @@ fn count_mmr_rows<M: Allocator, A: Allocator + Clone, L: Ledger>(
         };
         rest = others;
     }
-    let mut last = Bitmap::new(alloc, params.width, params.height)?;
+    let mut last = Bitmap::new(alloc, params.width, params.height, steps)?;
     Ok(mmr::count_rows(&mut last, rest, steps))
 }
 

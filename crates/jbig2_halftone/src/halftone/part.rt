@@ -1,6 +1,6 @@
 //! Halftone regions whose data is cut off (our own rule).
-ghost use Rattle.std.specs.Prelude.{◌≡◌, ◌≤◌, ◌*◌, ◌^◌, false, length, max, Ok, OnOk};
-ghost use Rattle.jbig2_steps.specs.Work.{CountsWithin};
+ghost use Rattle.std.specs.Prelude.{◌≡◌, ◌≤◌, ◌+◌, ◌*◌, ◌^◌, false, length, max, Ok, OnOk};
+ghost use Rattle.jbig2_steps.specs.Work.{CountsWithin, price_of_bitmap};
 ghost use Rattle.jbig2_base.specs.Grid.{max_side};
 ghost use Rattle.jbig2_base.specs.Results.{Gives};
 ghost use Rattle.jbig2_region.specs.inner.RegionViews.{region_view};
@@ -49,7 +49,8 @@ fn whole_rows<D: Allocator, A: Allocator + Clone, B: Allocator, L: Ledger>(
 /// own rule). Draws the cells of the whole rows of the grid: those that are whole in the last plane of
 /// the gray-scale image (T.88, Annex C). The rest keeps the region's initial colour. Faulty MMR data
 /// and values without a pattern are not refused, whatever the header says. The contexts begin fresh,
-/// and `contexts` then hold any state. The counts are within twice the price of a region.
+/// and `contexts` then hold any state. The counts are within twice the price of a region, and that
+/// of a bitmap of its size.
 ///
 /// Returns `OverflowError::BitmapDimension` for a side above 65535 pixels, or `OutOfMemory` if there
 /// is no memory for the bitmap, the skipped cells, a plane, the values or the contexts.
@@ -67,8 +68,10 @@ pub fn decode_part<D: Allocator, A: Allocator + Clone, B: Allocator, L: Ledger>(
         (halftone_part (header_view header.now) (dictionary_view dictionary.now)) }
     ensures few { OnOk result
         (length contexts.new.items ≤ max (length contexts.old.items) (2 ^ 16)) }
-    ensures paid { CountsWithin (2 * price_of_halftone (header_view header.now)
-        (dictionary_view dictionary.now)) steps.old steps.new }
+    ensures paid { let info = header.now.region_info in
+        CountsWithin (2 * price_of_halftone (header_view header.now)
+        (dictionary_view dictionary.now) + price_of_bitmap info.width info.height)
+        steps.old steps.new }
 {
     let region_info = &header.region_info;
     let mut bitmap = Bitmap::new_with(
@@ -76,6 +79,7 @@ pub fn decode_part<D: Allocator, A: Allocator + Clone, B: Allocator, L: Ledger>(
         region_info.width,
         region_info.height,
         header.flags.initial_pixel_color,
+        steps,
     )?;
     let lenient = HalftoneRegionHeader {
         strict: false,

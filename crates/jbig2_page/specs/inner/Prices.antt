@@ -1,7 +1,7 @@
 -- What a region costs once its header is read and what it refers to is found, and what decoding it counts (our own
 -- rule).
-use Rattle.std.specs.Prelude.{ℕ, ◌*◌, length}
-use Rattle.jbig2_steps.specs.Work.{price_of_bitmap}
+use Rattle.std.specs.Prelude.{ℕ, ◌+◌, ◌*◌, length}
+use Rattle.jbig2_steps.specs.Work.{paid_words, price_of_bitmap}
 use Rattle.jbig2_region.specs.GenericSteps.{price_of_region}
 use Rattle.jbig2_halftone.specs.Steps.{price_of_halftone}
 use Rattle.jbig2_halftone.specs.inner.DictionaryViews.{dictionary_view}
@@ -30,11 +30,16 @@ price_besides (Part region) = 0
 abbrev pub price_of_info : {A : Type 0} → ParsedRegion A → ℕ
 price_of_info r = price_of_bitmap (info_of r).width (info_of r).height
 
--- The most that decoding counts for a region before it is paid for. A text region pays for its instances itself.
+abbrev pub words_of_info : {A : Type 0} → ParsedRegion A → ℕ  -- the words of a bitmap of a region's size
+words_of_info r = paid_words (info_of r).width (info_of r).height
+
+-- The most that decoding counts for a region before it is paid for, and making its bitmap. A text region pays for its
+-- instances itself, and after an error its bitmap is filled again.
 abbrev pub counts_of : {A : Type 0} → ParsedRegion A → ℕ
-counts_of (Text header referred) = number_steps 1
+counts_of (Text header referred) = number_steps 1 + 2 * words_of_info (Text header referred)
 counts_of (Halftone header patterns) =
     32 * price_of_halftone (halftones.header_view header) (dictionary_view patterns.now)
+    + words_of_info (Halftone header patterns)
 counts_of (Generic header) = 32 * price_of_region (generics.header_view header)
 counts_of (Refinement header reference) = 32 * price_of_bitmap header.region_info.width header.region_info.height
 counts_of (PageRefinement header area) = 32 * price_of_bitmap header.region_info.width header.region_info.height

@@ -8,7 +8,7 @@ ghost use Rattle.jbig2_region.specs.inner.RegionViews.{region_view};
 ghost use Rattle.jbig2_page.specs.Image.{packed_of};
 ghost use Rattle.jbig2_page.specs.Page.{blank_page, empty_drawing, passing, with_cut_off, with_drawn_region, with_region};
 ghost use Rattle.jbig2_page.specs.inner.WholePages.{IsBlankPage};
-ghost use Rattle.jbig2_steps.specs.Work.{PaidBut, price_of_bitmap};
+ghost use Rattle.jbig2_steps.specs.Work.{PaidBut, paid_words, price_of_bitmap};
 
 use crate::drawing::drawn_rows::DrawnRows;
 use crate::drawing::passed_over::PassedOver;
@@ -124,16 +124,23 @@ impl<A: Allocator> Canvas<A> {
         DrawnRows::new(&self.bitmap, self.is_white())
     }
 
-    /// Begins a page. Nothing is left of an earlier one.
-    pub(crate) fn begin(&mut self, initial_page: &InitialPage) -> Result<()>
+    /// Begins a page. Nothing is left of an earlier one. The words of the page count as cleared.
+    pub(crate) fn begin<L: Ledger>(
+        &mut self,
+        initial_page: &InitialPage,
+        work: &mut Work<L>,
+    ) -> Result<()>
         requires width { initial_page.now.width ≤ max_side }
         requires height { initial_page.now.height ≤ max_side }
-        ensures { Gives (λ _. self.new) result (Ok (blank_page initial_page.now)) }
+        ensures value { Gives (λ _. self.new) result (Ok (blank_page initial_page.now)) }
+        ensures paid { let page = initial_page.now in
+            PaidBut (paid_words page.width page.height) work.old work.new }
     {
         self.bitmap.reinitialize(
             initial_page.width,
             initial_page.height,
             initial_page.default_pixel,
+            &mut work.steps,
         )?;
         self.default_pixel = initial_page.default_pixel;
         self.regions.clear();

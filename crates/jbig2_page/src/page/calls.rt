@@ -4,7 +4,7 @@ ghost use Rattle.jbig2_base.specs.Grid.{Grid};
 ghost use Rattle.jbig2_base.specs.Bits.{bit};
 ghost use Rattle.jbig2_page.specs.Calls.{row_of, singles, line_calls, calls_of, IsCountable, Sends};
 ghost use Rattle.jbig2_page.specs.inner.RunViews.{bytes_of_run, run_of, IsColourOf, IsRunAt};
-ghost use Rattle.jbig2_steps.specs.Work.{CountsWithin, sum_of_counts, price_of_bitmap};
+ghost use Rattle.jbig2_steps.specs.Work.{CountsBeside, paid_words, sum_of_counts, price_of_bitmap};
 
 use crate::page::decoder::Decoder;
 use jbig2_base::bitmap::Bitmap;
@@ -153,7 +153,8 @@ pub(crate) fn push_bitmap<A: Allocator, D: Decoder, L: Ledger>(
     requires { IsCountable D.conduct decoder.old }
     ensures calls { Sends D.conduct (calls_of bitmap.now) result decoder.old decoder.new }
     ensures paid { let page = bitmap.now in
-        CountsWithin (price_of_bitmap page.width page.height) steps.old steps.new }
+        CountsBeside (paid_words page.width page.height)
+        (price_of_bitmap page.width page.height) steps.old steps.new }
 {
     for y in 0..bitmap.height() {
         match push_row(bitmap, y, decoder, steps) {

@@ -4,7 +4,7 @@ ghost use Rattle.jbig2_base.specs.Grid.{max_side};
 ghost use Rattle.jbig2_base.specs.Bits.{bit};
 ghost use Rattle.jbig2_page.specs.Image.{image_of, shade};
 ghost use Rattle.jbig2_page.specs.inner.BufferBytes.{Fills};
-ghost use Rattle.jbig2_steps.specs.Work.{CountsWithin, price_of_bitmap};
+ghost use Rattle.jbig2_steps.specs.Work.{CountsBeside, paid_words, price_of_bitmap};
 
 use crate::drawing::packed::next_place;
 use crate::page::calls::pixel_of;
@@ -48,7 +48,8 @@ pub(crate) fn write_image<A: Allocator, L: Ledger>(
     requires sized { length buf.old ≡ initial_page.now.width * initial_page.now.height }
     ensures value { buf.new ≡ image_of initial_page.now.width initial_page.now.height bitmap.now }
     ensures paid { let page = initial_page.now in
-        CountsWithin (price_of_bitmap page.width page.height) steps.old steps.new }
+        CountsBeside (paid_words page.width page.height)
+        (price_of_bitmap page.width page.height) steps.old steps.new }
 {
     let width = initial_page.width as usize;
     let (mut place, mut x, mut y) = (0, 0, 0);

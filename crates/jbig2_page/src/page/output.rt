@@ -8,7 +8,7 @@ ghost use Rattle.jbig2_page.specs.Forms.{bytes_of_page, size_in};
 ghost use Rattle.jbig2_page.specs.Image.{image_of_page, packed_of_page, packed_size};
 ghost use Rattle.jbig2_page.specs.Page.{drawing_of_page, drawing_with, grid_of_page};
 ghost use Rattle.jbig2_page.specs.Returned.{IsReturned};
-ghost use Rattle.jbig2_steps.specs.Work.{IsWithinLimit, Paid, price_of_bitmap, budget};
+ghost use Rattle.jbig2_steps.specs.Work.{IsWithinLimit, Paid, paid_words, price_of_bitmap, budget};
 
 use crate::drawing::Drawer;
 use crate::drawing::canvas::Canvas;
@@ -113,7 +113,7 @@ impl<'a, A: Allocator + Clone> PageContent<'a, A> {
     }
 
     /// Draws the page onto a canvas, which earlier pages may have used. The work of handing the page out is paid here
-    /// too.
+    /// too. Of what is paid only the cleared words of the page are counted.
     ///
     /// Returns the first fault of a segment that lenient reading does not pass over.
     pub fn draw_onto<L: Ledger>(&self, canvas: &mut Canvas<A>, work: &mut Work<L>) -> Result<()>
@@ -123,7 +123,8 @@ impl<'a, A: Allocator + Clone> PageContent<'a, A> {
         ensures paid { Paid work.old work.new }
         ensures ahead { let page = self.now.initial_page in
             let price = price_of_bitmap page.width page.height in
-            IfOk result (λ _. budget work.new + 64 * price ≤ budget work.old) }
+            IfOk result (λ _. budget work.new + 64 * price
+            ≤ budget work.old + paid_words page.width page.height) }
     {
         let _globals = &self.globals;
         self.draw_with_globals(canvas, work)
@@ -136,7 +137,8 @@ impl<'a, A: Allocator + Clone> PageContent<'a, A> {
         ensures paid { Paid work.old work.new }
         ensures ahead { let page = self.now.initial_page in
             let price = price_of_bitmap page.width page.height in
-            IfOk result (λ _. budget work.new + 64 * price ≤ budget work.old) }
+            IfOk result (λ _. budget work.new + 64 * price
+            ≤ budget work.old + paid_words page.width page.height) }
     {
         let _globals = &self.globals;
         let mut canvas = Canvas::new(self.allocator().clone()?)?;
@@ -150,7 +152,8 @@ impl<'a, A: Allocator + Clone> PageContent<'a, A> {
         ensures paid { Paid work.old work.new }
         ensures ahead { let page = self.now.initial_page in
             let price = price_of_bitmap page.width page.height in
-            IfOk result (λ _. budget work.new + 64 * price ≤ budget work.old) }
+            IfOk result (λ _. budget work.new + 64 * price
+            ≤ budget work.old + paid_words page.width page.height) }
     {
         match &self.globals {
             Ok(Some(globals)) => self.draw_with(globals.names(), canvas, work),
@@ -174,12 +177,13 @@ impl<'a, A: Allocator + Clone> PageContent<'a, A> {
         ensures paid { Paid work.old work.new }
         ensures ahead { let page = self.now.initial_page in
             let price = price_of_bitmap page.width page.height in
-            IfOk result (λ _. budget work.new + 64 * price ≤ budget work.old) }
+            IfOk result (λ _. budget work.new + 64 * price
+            ≤ budget work.old + paid_words page.width page.height) }
     {
         let page = &self.initial_page;
         // One bitmap for clearing the page, one for handing it out.
         work.pay_bitmaps(2, page.width, page.height)?;
-        canvas.begin(page)?;
+        canvas.begin(page, work)?;
         let drawer = Drawer {
             reading: self.reading,
             globals,

@@ -6,8 +6,9 @@ ghost use Rattle.jbig2_base.specs.Grid.{blank};
 ghost use Rattle.jbig2_region.specs.inner.RegionViews.{region_view};
 ghost use Rattle.jbig2_page.specs.Page.{Drawing, with_drawn_region};
 ghost use Rattle.jbig2_page.specs.inner.ParsedRegions.{IsDecodable, placed_region, region_grid, info_of, initial_of};
-ghost use Rattle.jbig2_page.specs.inner.Prices.{counts_of, price_besides, price_of_info};
-ghost use Rattle.jbig2_steps.specs.Work.{Paid, PaidBut, price_of_bitmap, budget};
+ghost use Rattle.jbig2_page.specs.inner.Prices.{counts_of, price_besides, price_of_info, words_of_info};
+ghost use Rattle.jbig2_steps.specs.Work.{Paid, price_of_bitmap, budget};
+ghost use Rattle.jbig2_text.specs.Paying.{PaidBeside};
 
 use crate::kept::referred::ReferredSegments;
 use crate::region::halftone::pay_cells;
@@ -168,7 +169,7 @@ impl<'a, 'n, 'r, A: Allocator + Clone> ParsedRegion<'a, 'n, 'r, A> {
         requires coloured { let info = info_of self.now in
             bitmap.old ≡ blank info.width info.height (initial_of self.now) }
         ensures value { Gives (λ _. bitmap.new) result (region_grid self.now) }
-        ensures paid { PaidBut (counts_of self.now) work.old work.new }
+        ensures paid { PaidBeside (words_of_info self.now) (counts_of self.now) work.old work.new }
     {
         let (alloc, tables) = (&workspace.alloc, &workspace.standard_tables);
         let decoded = self.decode_by(alloc, tables, &mut workspace.contexts, bitmap, work);
@@ -189,7 +190,7 @@ impl<'a, 'n, 'r, A: Allocator + Clone> ParsedRegion<'a, 'n, 'r, A> {
         requires coloured { let info = info_of self.now in
             bitmap.old ≡ blank info.width info.height (initial_of self.now) }
         ensures value { Gives (λ _. bitmap.new) result (region_grid self.now) }
-        ensures paid { PaidBut (counts_of self.now) work.old work.new }
+        ensures paid { PaidBeside (words_of_info self.now) (counts_of self.now) work.old work.new }
     {
         match self {
             ParsedRegion::Text { header, referred } => jbig2_text::decode_into(
@@ -287,7 +288,13 @@ impl<'a, 'n, 'r, A: Allocator + Clone> ParsedRegion<'a, 'n, 'r, A> {
         check_sides(info.width, info.height)?;
         self.pay_bitmaps(2, work)?;
         let alloc = workspace.alloc.clone()?;
-        let mut bitmap = Bitmap::new_with(alloc, info.width, info.height, self.initial_pixel())?;
+        let mut bitmap = Bitmap::new_with(
+            alloc,
+            info.width,
+            info.height,
+            self.initial_pixel(),
+            &mut work.steps,
+        )?;
         self.decode_into(&mut bitmap, workspace, work)?;
         Ok(DecodedRegion::new(&info, bitmap))
     }

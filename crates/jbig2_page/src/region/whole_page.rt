@@ -64,7 +64,12 @@ impl<'a, 'n, 'r, A: Allocator + Clone> ParsedRegion<'a, 'n, 'r, A> {
             Ok(()) => Ok(()),
             Err(error) => {
                 let info = self.region_info();
-                page.reinitialize(info.width, info.height, self.initial_pixel())?;
+                page.reinitialize(
+                    info.width,
+                    info.height,
+                    self.initial_pixel(),
+                    &mut work.steps,
+                )?;
                 Err(error)
             }
         }

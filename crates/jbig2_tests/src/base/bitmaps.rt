@@ -41,7 +41,7 @@ fn speckle<L: Ledger>(
     seed: u32,
     steps: &mut Steps<L>,
 ) -> Result<()> {
-    bitmap.reinitialize(width, HEIGHT, false)?;
+    bitmap.reinitialize(width, HEIGHT, false, steps)?;
     for y in 0..HEIGHT {
         for x in 0..width {
             bitmap.set_pixel(x, y, is_black(seed, x, y), steps);
@@ -135,7 +135,7 @@ fn each_width_agrees<L: Ledger>(
 ) -> Result<bool>
     requires name { blank.name ≡ L.name }
     requires parts { blank.parts ≡ L.parts }
-    requires enough { blank.parts ≡ 6 }
+    requires enough { blank.parts ≡ 7 }
 {
     let mut steps: Steps<L> = Steps::new(Permit::grant(), blank);
     for width in WIDTHS {
@@ -152,9 +152,9 @@ fn each_width_agrees<L: Ledger>(
 fn combinations_agree_with_a_copy_by_pixels(rt: HostRuntime) {
     let mut page = Bitmap::new_empty(rt.alloc());
     let mut source = Bitmap::new_empty(rt.alloc());
-    let mut agree = each_width_agrees::<Brand>(&mut page, &mut source, Blank::new(6));
+    let mut agree = each_width_agrees::<Brand>(&mut page, &mut source, Blank::new(7));
     if agree == Err(DecodeError::OutOfMemory) {
-        agree = each_width_agrees::<Brand>(&mut page, &mut source, Blank::new(6));
+        agree = each_width_agrees::<Brand>(&mut page, &mut source, Blank::new(7));
     }
     assert!(rt; agree == Ok(true));
 }

@@ -41,7 +41,7 @@ fn integers_hold<L: Ledger>(
 ) -> Result<bool>
     requires name { blank.name ≡ L.name }
     requires parts { blank.parts ≡ L.parts }
-    requires enough { blank.parts ≡ 6 }
+    requires enough { blank.parts ≡ 7 }
 {
     let mut steps = Steps::<L>::new(Permit::grant(), blank);
     let mut decoder = ArithmeticDecoder::new(bytes);
@@ -58,7 +58,7 @@ fn integers_hold<L: Ledger>(
 fn ids_hold<L: Ledger>(alloc: Global, blank: Blank) -> Result<bool>
     requires name { blank.name ≡ L.name }
     requires parts { blank.parts ≡ L.parts }
-    requires enough { blank.parts ≡ 6 }
+    requires enough { blank.parts ≡ 7 }
 {
     let mut steps = Steps::<L>::new(Permit::grant(), blank);
     let mut decoder = ArithmeticDecoder::new(EXAMPLE);
@@ -74,11 +74,11 @@ fn ids_hold<L: Ledger>(alloc: Global, blank: Blank) -> Result<bool>
 /// Whether all integers and ids are as expected.
 fn annex_a_holds(alloc: Global) -> Result<bool> {
     for (bytes, numbers) in &INTEGERS {
-        if !integers_hold::<Brand>(alloc, Blank::new(6), bytes, numbers)? {
+        if !integers_hold::<Brand>(alloc, Blank::new(7), bytes, numbers)? {
             return Ok(false);
         }
     }
-    ids_hold::<Brand>(alloc, Blank::new(6))
+    ids_hold::<Brand>(alloc, Blank::new(7))
 }
 
 #[test]

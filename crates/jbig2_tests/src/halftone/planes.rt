@@ -61,17 +61,17 @@ fn values_hold<L: Ledger>(
 fn image_holds<L: Ledger>(alloc: Global, blank: Blank, bytes: &[u8]) -> Result<bool>
     requires name { blank.name ≡ L.name }
     requires parts { blank.parts ≡ L.parts }
-    requires enough { blank.parts ≡ 6 }
+    requires enough { blank.parts ≡ 7 }
 {
     let mut steps: Steps<L> = Steps::new(Permit::grant(), blank);
-    let mut skip = Bitmap::new(alloc, 3, 2)?;
+    let mut skip = Bitmap::new(alloc, 3, 2, &mut steps)?;
     skip.set_pixel(1, 1, true, &mut steps);
     values_hold(alloc, bytes, &skip, &mut steps)
 }
 
 fn planes_hold(alloc: Global) -> Result<bool> {
     let bytes = encode_list(alloc, PLANES)?;
-    image_holds::<Brand>(alloc, Blank::new(6), &bytes)
+    image_holds::<Brand>(alloc, Blank::new(7), &bytes)
 }
 
 #[test]

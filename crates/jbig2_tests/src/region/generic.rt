@@ -52,7 +52,7 @@ fn draws_frame<L: Ledger>(alloc: Global, data: &[u8], steps: &mut Steps<L>) -> R
 fn frames_hold<L: Ledger>(alloc: Global, blank: Blank) -> Result<bool>
     requires name { blank.name ≡ L.name }
     requires parts { blank.parts ≡ L.parts }
-    requires enough { blank.parts ≡ 6 }
+    requires enough { blank.parts ≡ 7 }
 {
     let mut steps: Steps<L> = Steps::new(Permit::grant(), blank);
     Ok(draws_frame(alloc, MMR, &mut steps)? && draws_frame(alloc, ARITHMETIC, &mut steps)?)
@@ -60,9 +60,9 @@ fn frames_hold<L: Ledger>(alloc: Global, blank: Blank) -> Result<bool>
 
 #[test]
 fn frames_of_the_example(rt: HostRuntime) {
-    let mut hold = frames_hold::<Brand>(rt.alloc(), Blank::new(6));
+    let mut hold = frames_hold::<Brand>(rt.alloc(), Blank::new(7));
     if hold == Err(DecodeError::OutOfMemory) {
-        hold = frames_hold::<Brand>(rt.alloc(), Blank::new(6));
+        hold = frames_hold::<Brand>(rt.alloc(), Blank::new(7));
     }
     assert!(rt; hold == Ok(true));
 }

@@ -23,7 +23,7 @@ const BYTES: [u8; 9] = [0x93, 0x95, 0x65, 0x0C, 0xF9, 0x38, 0x0B, 0x8E, 0xDB];
 
 /// A bitmap of 8 by 3 pixels.
 fn reference<L: Ledger>(alloc: Global, steps: &mut Steps<L>) -> Result<Bitmap<Global>> {
-    let mut bitmap = Bitmap::new(alloc, 8, 3)?;
+    let mut bitmap = Bitmap::new(alloc, 8, 3, steps)?;
     bitmap.store_pixels(0, 0, 8, 0b11110000, steps);
     bitmap.store_pixels(0, 1, 8, 0b00111100, steps);
     bitmap.store_pixels(0, 2, 8, 0b00000111, steps);
@@ -153,7 +153,7 @@ fn is_refined<L: Ledger>(
 fn first_that_differs<L: Ledger>(alloc: Global, blank: Blank) -> Result<usize>
     requires name { blank.name ≡ L.name }
     requires parts { blank.parts ≡ L.parts }
-    requires enough { blank.parts ≡ 6 }
+    requires enough { blank.parts ≡ 7 }
 {
     let mut steps: Steps<L> = Steps::new(Permit::grant(), blank);
     let mut from = DecodedRegion {
@@ -173,9 +173,9 @@ fn first_that_differs<L: Ledger>(alloc: Global, blank: Blank) -> Result<usize>
 
 #[test]
 fn refinements(rt: HostRuntime) {
-    let mut index = first_that_differs::<Brand>(rt.alloc(), Blank::new(6));
+    let mut index = first_that_differs::<Brand>(rt.alloc(), Blank::new(7));
     if index == Err(DecodeError::OutOfMemory) {
-        index = first_that_differs::<Brand>(rt.alloc(), Blank::new(6));
+        index = first_that_differs::<Brand>(rt.alloc(), Blank::new(7));
     }
     assert!(rt; index == Ok(CASES.len()));
 }
@@ -191,7 +191,7 @@ fn next_refinement<L: Ledger>(
     requires { length contexts.old ≡ 2 ^ refinement_bits Template1 }
 {
     let unused = AdaptiveTemplatePixel { x: 0, y: 0 };
-    let mut bitmap = Bitmap::new(alloc, 8, 3)?;
+    let mut bitmap = Bitmap::new(alloc, 8, 3, steps)?;
     decode_bitmap(
         RefinementTemplate::Template1,
         false,
@@ -223,7 +223,7 @@ fn one_after_the_other<L: Ledger>(
 fn coders_hold<L: Ledger>(alloc: Global, blank: Blank) -> Result<bool>
     requires name { blank.name ≡ L.name }
     requires parts { blank.parts ≡ L.parts }
-    requires enough { blank.parts ≡ 6 }
+    requires enough { blank.parts ≡ 7 }
 {
     let mut steps: Steps<L> = Steps::new(Permit::grant(), blank);
     let bitmap = reference(alloc, &mut steps)?;
@@ -242,9 +242,9 @@ fn coders_hold<L: Ledger>(alloc: Global, blank: Blank) -> Result<bool>
 
 #[test]
 fn coders_go_on(rt: HostRuntime) {
-    let mut hold = coders_hold::<Brand>(rt.alloc(), Blank::new(6));
+    let mut hold = coders_hold::<Brand>(rt.alloc(), Blank::new(7));
     if hold == Err(DecodeError::OutOfMemory) {
-        hold = coders_hold::<Brand>(rt.alloc(), Blank::new(6));
+        hold = coders_hold::<Brand>(rt.alloc(), Blank::new(7));
     }
     assert!(rt; hold == Ok(true));
 }

@@ -43,13 +43,13 @@ unfolding gray_scale_image
 returns-in_err-values-clause-causes g c = gray_scale_cause (gray_view c.args.params.now) c.args.bytes.now _ (search rules)
 
 pub returns-in_err-add_planes-clause-paid : goal.returns-in_err-add_planes-clause-paid
-returns-in_err-add_planes-clause-paid g c = image-stops-paid (gray_view c.args.params.now) c.args.bytes.now c.args.steps.now c.add_planes.new.steps c.in_err-add_planes.ensures.stopped
+returns-in_err-add_planes-clause-paid g c = image-stops-paid (gray_view c.args.params.now) c.args.bytes.now c.args.steps.now c.add_planes.new.steps c.in_err-add_planes.ensures.stopped c.add_planes.ensures.most
 
 pub returns-in_err-add_planes-clause-causes : goal.returns-in_err-add_planes-clause-causes
 returns-in_err-add_planes-clause-causes g c = gray_scale_cause (gray_view c.args.params.now) c.args.bytes.now _ (err-gives _ _ _ (returns-in_err-add_planes-clause-value g c))
 
 pub returns-clause-paid : goal.returns-clause-paid
-returns-clause-paid g c = image-paid (gray_view c.args.params.now) c.args.bytes.now c.args.steps.now c.add_planes.new.steps c.in_ok-add_planes.ensures.steps
+returns-clause-paid g c = image-paid (gray_view c.args.params.now) c.args.bytes.now c.args.steps.now c.add_planes.new.steps c.in_ok-add_planes.ensures.steps c.add_planes.ensures.most
 
 pub returns-clause-lanes : goal.returns-clause-lanes
 returns-clause-lanes g c = image-lanes (gray_view c.args.params.now) c.args.bytes.now c.args.steps.now c.add_planes.new.steps c.in_ok-add_planes.ensures.steps

@@ -1,10 +1,11 @@
-use Rattle.std.proofs.Common.{◌≡◌, List, ℕ, length, Err, inl, inr, ⊎_elim, sym, ap, ◌∙◌}
+use Rattle.std.proofs.Common.{◌≡◌, ◌+◌, ◌≤◌, List, ℕ, length, Err, inl, inr, ⊎_elim, sym, ap, ◌∙◌, arith}
 use Rattle.jbig2_base.specs.declared.error.DecodeError.TheVariants.{OutOfMemory}
 use Rattle.jbig2_halftone.specs.GrayScale.{gray_scale_image}
 use Rattle.jbig2_halftone.specs.Halftone.{cells_drawn, gray_params, halftone_result}
 use Rattle.jbig2_halftone.specs.HalftoneHeader.{HalftoneHeader}
 use Rattle.jbig2_halftone.specs.inner.HalftoneHeaderViews.{header_view}
 use Rattle.jbig2_halftone.specs.Patterns.{Patterns}
+use Rattle.jbig2_halftone.specs.Steps.{cleared_by_cells}
 use Rattle.jbig2_halftone.specs.inner.DictionaryViews.{dictionary_view}
 use Rattle.jbig2_base.proofs.CauseSteps.{err-gives}
 use Rattle.jbig2_halftone.proofs.CausesOfRegions.{halftone_cause}
@@ -34,7 +35,7 @@ pub returns-in-Err-clause-stopped : goal.returns-in-Err-clause-stopped
 returns-in-Err-clause-stopped g c = cells-stop (header_view c.args.header.now) (dictionary_view c.args.dictionary.now) c.args.steps.now c.read_cells.new.steps c.in-Err.ensures.stopped
 
 pub returns-in-Err-clause-paid : goal.returns-in-Err-clause-paid
-returns-in-Err-clause-paid g c = halftone-stops-paid (header_view c.args.header.now) (dictionary_view c.args.dictionary.now) c.args.steps.now c.read_cells.new.steps (returns-in-Err-clause-stopped g c)
+returns-in-Err-clause-paid g c = halftone-stops-paid (header_view c.args.header.now) (dictionary_view c.args.dictionary.now) c.args.steps.now c.read_cells.new.steps (returns-in-Err-clause-stopped g c) c.read_cells.ensures.most
 
 pub returns-in-Err-clause-lenient : goal.returns-in-Err-clause-lenient
 returns-in-Err-clause-lenient g c = λ lenient. memory-alone (λ (done : Unit {0}). c.args.bitmap.now) (Err c.in-Err.error) (header_view c.args.header.now) (dictionary_view c.args.dictionary.now) c.requires.columns c.requires.rows lenient (returns-in-Err-clause-value g c)
@@ -51,6 +52,7 @@ returns g c =
     let given = answers-gives (λ _. c.draw_rows.new.bitmap) c.draw_rows.result _ _ (made ∙ same) c.draw_rows.ensures.value in
     let steps = on-all c.draw_rows.result _ (region-steps h d c.args.steps.now c.read_cells.new.steps c.draw_rows.new.steps c.in-Ok.ensures.steps c.draw_rows.ensures.steps) in
     let stopped = on-any c.draw_rows.result _ (region-stops h d c.args.steps.now c.read_cells.new.steps c.draw_rows.new.steps c.in-Ok.ensures.steps c.draw_rows.ensures.steps) in
+    let most : c.draw_rows.new.steps.cleared ≤ c.args.steps.now.cleared + cleared_by_cells h d = omega (arith, c.draw_rows.ensures.steps.cleared, c.read_cells.ensures.most) in
     record {
       value = given;
       bitmap = refused-or c.draw_rows.result _ _ c.draw_rows.ensures.refused;
@@ -59,5 +61,7 @@ returns g c =
       causes = halftone_cause h d c.draw_rows.result (err-gives (λ _. c.draw_rows.new.bitmap) c.draw_rows.result (halftone_result h d) given);
       steps = steps;
       stopped = stopped;
-      paid = halftone-paid c.draw_rows.result h d c.args.steps.now c.draw_rows.new.steps steps stopped;
+      cleared = on-all c.draw_rows.result _ (c.draw_rows.ensures.steps.cleared ∙ c.in-Ok.ensures.cleared);
+      most = most;
+      paid = halftone-paid c.draw_rows.result h d c.args.steps.now c.draw_rows.new.steps steps stopped most;
     }

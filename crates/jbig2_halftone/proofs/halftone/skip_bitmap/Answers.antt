@@ -1,5 +1,5 @@
 use Rattle.std.proofs.Common.{◌≡◌, ◌+◌, ◌*◌, ◌<◌, ℕ, rules, Ok, false, ap, ◌∙◌, arith}
-use Rattle.jbig2_base.specs.Counts.{Counts}
+use Rattle.jbig2_base.specs.Counts.{Counts, bitmap_made}
 use Rattle.jbig2_base.specs.Grid.{Grid}
 use Rattle.jbig2_halftone.specs.HalftoneHeader.{HalftoneHeader}
 use Rattle.jbig2_halftone.specs.inner.HalftoneHeaderViews.{header_view}
@@ -18,8 +18,8 @@ loop-m-init g c =
     record {
       x = c.first_place-first.ensures.x;
       y = c.first_place-first.ensures.y;
-      skips = skips-start h d h.grid_position_and_size.width h.grid_position_and_size.height c.in_ok-skip.skip (blank-made h.grid_position_and_size.width h.grid_position_and_size.height false c.in_ok-skip.skip c.requires.columns c.requires.rows c.in_ok-skip.ensures);
-      counts = mask-start h.grid_position_and_size.width c.args.steps.now;
+      skips = skips-start h d h.grid_position_and_size.width h.grid_position_and_size.height c.in_ok-skip.skip (blank-made h.grid_position_and_size.width h.grid_position_and_size.height false c.in_ok-skip.skip c.requires.columns c.requires.rows c.in_ok-skip.ensures.value);
+      counts = c.new.ensures.steps ∙ mask-start h.grid_position_and_size.width (bitmap_made c.args.header.now.grid_position_and_size.width c.args.header.now.grid_position_and_size.height c.args.steps.now);
     }
 
 pub next_in_row-place-requires-clause-x : goal.next_in_row-place-requires-clause-x
@@ -45,7 +45,7 @@ loop-n-preserved g c =
       x = right-x h.grid_position_and_size.horizontal_offset c.loop-n.place.x c.next_in_row-place.result.x c.loop-m.m c.loop-n.n h.grid_vector.y_vector h.grid_vector.x_vector c.loop-n.invariant.x c.next_in_row-place.ensures.x;
       y = right-y h.grid_position_and_size.vertical_offset c.loop-n.place.y c.next_in_row-place.result.y c.loop-m.m c.loop-n.n h.grid_vector.x_vector h.grid_vector.y_vector c.loop-n.invariant.y c.next_in_row-place.ensures.y;
       skips = skips-next h d h.grid_position_and_size.width h.grid_position_and_size.height c.loop-m.m c.loop-n.n c.loop-n.skip c.set_pixel.new.self c.lies_outside-outside.result (omega arith) (omega arith) c.loop-n.invariant.skips outside c.set_pixel.ensures.value;
-      counts = mask-more (c.loop-m.m * h.grid_position_and_size.width) c.loop-n.n c.args.steps.now c.loop-n.steps c.set_pixel.new.steps c.loop-n.invariant.counts c.set_pixel.ensures.steps;
+      counts = mask-more (c.loop-m.m * h.grid_position_and_size.width) c.loop-n.n (bitmap_made c.args.header.now.grid_position_and_size.width c.args.header.now.grid_position_and_size.height c.args.steps.now) c.loop-n.steps c.set_pixel.new.steps c.loop-n.invariant.counts c.set_pixel.ensures.steps;
     }
 
 pub next_row-first-requires-clause-x : goal.next_row-first-requires-clause-x
@@ -73,7 +73,7 @@ loop-m-preserved g c =
       x = below-x h.grid_position_and_size.horizontal_offset c.loop-m.first.x c.next_row-first.result.x c.loop-m.m h.grid_vector.y_vector h.grid_vector.x_vector c.loop-m.invariant.x c.next_row-first.ensures.x;
       y = below-y h.grid_position_and_size.vertical_offset c.loop-m.first.y c.next_row-first.result.y c.loop-m.m h.grid_vector.x_vector h.grid_vector.y_vector c.loop-m.invariant.y c.next_row-first.ensures.y;
       skips = c.loop-n.invariant.skips ∙ ap (λ (k : ℕ). so_far h.grid_position_and_size.width h.grid_position_and_size.height (skips h d h.grid_position_and_size.width k)) row;
-      counts = c.loop-n.invariant.counts ∙ ap (λ (k : ℕ). let made : Counts = record c.args.steps.now { words = c.args.steps.now.words + k } in made) row;
+      counts = c.loop-n.invariant.counts ∙ ap (λ (k : ℕ). let made : Counts = record (bitmap_made c.args.header.now.grid_position_and_size.width c.args.header.now.grid_position_and_size.height c.args.steps.now) { words = c.args.steps.now.words + k } in made) row;
     }
 
 pub returns-clause-value : goal.returns-clause-value
@@ -86,4 +86,4 @@ pub returns-clause-steps : goal.returns-clause-steps
 returns-clause-steps g c =
     let h : HalftoneHeader = header_view c.args.header.now in
     let last : c.loop-m.m ≡ h.grid_position_and_size.height = omega arith in
-    c.loop-m.invariant.counts ∙ ap (λ (m : ℕ). let made : Counts = record c.args.steps.now { words = c.args.steps.now.words + m * h.grid_position_and_size.width } in made) last
+    c.loop-m.invariant.counts ∙ ap (λ (m : ℕ). let made : Counts = record (bitmap_made c.args.header.now.grid_position_and_size.width c.args.header.now.grid_position_and_size.height c.args.steps.now) { words = c.args.steps.now.words + m * h.grid_position_and_size.width } in made) last

@@ -3,7 +3,7 @@ use Rattle.jbig2_halftone.specs.inner.PatternViews.{header_view}
 use Rattle.jbig2_halftone.specs.Patterns.{patterns_decoded}
 use Rattle.jbig2_halftone.proofs.CausesOfRegions.{pattern_cause}
 use Rattle.jbig2_halftone.proofs.DrawSteps.{on-any}
-use Rattle.jbig2_halftone.proofs.PatternLemmas.{collective-stops, cut-counts, cut-lanes, cut-length, cut-sized, dictionary-stops, few-patterns, stops-lanes}
+use Rattle.jbig2_halftone.proofs.PatternLemmas.{takes-none, collective-stops, cut-counts, cut-lanes, cut-length, cut-sized, dictionary-stops, few-patterns, stops-lanes}
 use Rattle.jbig2_halftone.proofs.Prices.{collective-paid, cut-paid, cut-stops-paid}
 use Rattle.jbig2_halftone.proofs.pattern.decode.Goals as goal
 
@@ -24,13 +24,13 @@ pub returns-in_err-patterns-clause-stopped : goal.returns-in_err-patterns-clause
 returns-in_err-patterns-clause-stopped g c = on-any c.from_residual-in_err-patterns.result _ (dictionary-stops (header_view c.args.header.now) c.from-width.result c.from-height.result c.args.steps.now c.decode_collective.new.steps c.cut_patterns.new.steps c.from-width.ensures c.from-height.ensures c.in_ok-collective.ensures.steps c.in_err-patterns.ensures.stopped)
 
 pub returns-in_err-patterns-clause-lanes : goal.returns-in_err-patterns-clause-lanes
-returns-in_err-patterns-clause-lanes g c = stops-lanes _ _ c.args.steps.now c.decode_collective.new.steps c.cut_patterns.new.steps c.decode_collective.ensures.lanes c.in_err-patterns.ensures.stopped
+returns-in_err-patterns-clause-lanes g c = stops-lanes _ _ _ _ c.args.steps.now c.decode_collective.new.steps c.cut_patterns.new.steps c.decode_collective.ensures.lanes c.in_err-patterns.ensures.stopped
 
 pub returns-clause-steps : goal.returns-clause-steps
-returns-clause-steps g c = (c.decode_collective.new.steps, (c.in_ok-collective.ensures.steps, cut-counts (header_view c.args.header.now) (c.args.header.now.num_patterns + 1) c.from-width.result c.from-height.result _ _ c.from-width.ensures c.from-height.ensures c.in_ok-patterns.ensures.steps))
+returns-clause-steps g c = (c.decode_collective.new.steps, (c.in_ok-collective.ensures.steps, cut-counts (header_view c.args.header.now) (c.args.header.now.num_patterns + 1) (c.args.header.now.num_patterns + 1) c.from-width.result c.from-height.result _ _ c.from-width.ensures c.from-height.ensures c.in_ok-patterns.ensures.steps))
 
 pub returns-clause-lanes : goal.returns-clause-lanes
-returns-clause-lanes g c = cut-lanes _ c.args.steps.now c.decode_collective.new.steps c.cut_patterns.new.steps c.decode_collective.ensures.lanes c.in_ok-patterns.ensures.steps
+returns-clause-lanes g c = cut-lanes _ _ _ _ _ c.args.steps.now c.decode_collective.new.steps c.cut_patterns.new.steps c.decode_collective.ensures.lanes c.in_ok-patterns.ensures.steps
 
 pub returns-in_err-collective-clause-paid : goal.returns-in_err-collective-clause-paid
 returns-in_err-collective-clause-paid g c = collective-paid (header_view c.args.header.now) c.args.steps.now c.decode_collective.new.steps c.decode_collective.ensures.paid
@@ -39,7 +39,7 @@ pub returns-in_err-patterns-clause-paid : goal.returns-in_err-patterns-clause-pa
 returns-in_err-patterns-clause-paid g c = cut-stops-paid (header_view c.args.header.now) c.from-width.result c.from-height.result c.args.steps.now c.decode_collective.new.steps c.cut_patterns.new.steps c.from-width.ensures c.from-height.ensures c.decode_collective.ensures.paid c.in_err-patterns.ensures.stopped
 
 pub returns-clause-paid : goal.returns-clause-paid
-returns-clause-paid g c = cut-paid (header_view c.args.header.now) (c.args.header.now.num_patterns + 1) c.from-width.result c.from-height.result c.args.steps.now c.decode_collective.new.steps c.cut_patterns.new.steps c.from-width.ensures c.from-height.ensures (omega arith) c.decode_collective.ensures.paid c.in_ok-patterns.ensures.steps
+returns-clause-paid g c = cut-paid (header_view c.args.header.now) (c.args.header.now.num_patterns + 1) (c.args.header.now.num_patterns + 1) c.from-width.result c.from-height.result c.args.steps.now c.decode_collective.new.steps c.cut_patterns.new.steps c.from-width.ensures c.from-height.ensures (omega arith) (omega arith) c.decode_collective.ensures.paid c.in_ok-patterns.ensures.steps
 
 pub returns-then-columns-from-clause-causes : goal.returns-then-columns-from-clause-causes
 unfolding patterns_decoded
@@ -59,3 +59,6 @@ returns-in_err-patterns-clause-causes g c = pattern_cause (header_view c.args.he
 
 pub returns-clause-causes : goal.returns-clause-causes
 returns-clause-causes g c = pattern_cause (header_view c.args.header.now) _ tt
+
+pub returns-in_err-collective-clause-lanes : goal.returns-in_err-collective-clause-lanes
+returns-in_err-collective-clause-lanes g c = takes-none _ c.args.steps.now c.decode_collective.new.steps c.decode_collective.ensures.lanes

@@ -2,8 +2,7 @@ use Rattle.std.proofs.Common.{◌+◌, List, [], ◌∷◌, drop, get_or, length
 use Rattle.jbig2_base.specs.Grid.{Grid, part_of}
 use Rattle.jbig2_symbol.specs.SymbolBitmaps.{symbol_cut, symbols_cut}
 use Rattle.jbig2_symbol.specs.inner.SymbolViews.{symbols_after}
-use Rattle.jbig2_steps.proofs.WorkLemmas.{kept-worth}
-use Rattle.jbig2_symbol.proofs.PayingLemmas.{copy-paid}
+use Rattle.jbig2_symbol.proofs.PayingLemmas.{copy-paid, unmade-paid}
 use Rattle.jbig2_symbol.proofs.CutLemmas.{cut-all, cut-fault, cut-next, sum-next}
 use Rattle.jbig2_symbol.proofs.bitmaps.cut_symbols.Goals as goal
 
@@ -28,7 +27,7 @@ loop-width-preserved g c = record {
 }
 
 pub returns-in-Err-clause-paid : goal.returns-in-Err-clause-paid
-returns-in-Err-clause-paid g c = omega (arith, kept-worth c.pay_bitmap.new.self c.part.new.steps c.in-Err.ensures.refused, c.in_ok-pay_bitmap.ensures.taken, c.loop-width.invariant.paid)
+returns-in-Err-clause-paid g c = omega (arith, unmade-paid c.loop-width.work c.pay_bitmap.new.self c.part.new.steps (get_or c.args.widths.now c.loop-width.width-index 0) c.args.height c.in_ok-pay_bitmap.ensures.taken c.in-Err.ensures.refused, c.loop-width.invariant.paid)
 
 pub returns-in_err-push-clause-paid : goal.returns-in_err-push-clause-paid
 returns-in_err-push-clause-paid g c = omega (arith, copy-paid c.loop-width.work c.pay_bitmap.new.self c.part.new.steps (part_of c.args.collective.now (record { left = c.loop-width.left; top = 0; width = get_or c.args.widths.now c.loop-width.width-index 0; height = c.args.height })) _ _ refl refl c.in_ok-pay_bitmap.ensures.taken c.in-Ok.ensures.steps, c.loop-width.invariant.paid)

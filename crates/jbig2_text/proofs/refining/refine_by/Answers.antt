@@ -5,7 +5,7 @@ use Rattle.jbig2_region.specs.declared.template.AdaptiveTemplatePixel.{AdaptiveT
 use Rattle.jbig2_region.specs.inner.RegionStates.{DecodesRegion, region_state}
 use Rattle.jbig2_region.specs.inner.RefinementViews.{reference_view}
 use Rattle.jbig2_region.proofs.Prices.{decided-paid, refinement_loads-few}
-use Rattle.jbig2_steps.proofs.WorkLemmas.{counts-worth}
+use Rattle.jbig2_text.proofs.PayingLemmas.{beside-worth}
 use Rattle.jbig2_text.specs.{Refining.{Refining}, inner.TextViews.{some_pixels}}
 use Rattle.jbig2_text.proofs.RefiningLemmas.{coder-is, filled-holds}
 use Rattle.jbig2_text.proofs.refining.refine_by.Goals as goal
@@ -33,5 +33,5 @@ returns-clause-contexts g c =
 
 pub returns-clause-paid : goal.returns-clause-paid
 returns-clause-paid g c =
-    counts-worth c.args.work.now c.decode_bitmap.new.steps _
+    beside-worth c.args.work.now c.decode_bitmap.new.steps _ _
     (decided-paid _ _ _ _ _ _ _ _ (refinement_loads-few c.args.template (two_pixels c.args.template c.two_of-adaptive.result) c.args.bitmap.now.width) c.decode_bitmap.ensures.steps)

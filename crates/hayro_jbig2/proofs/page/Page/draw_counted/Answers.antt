@@ -1,5 +1,5 @@
 use Rattle.std.proofs.Common.{arith}
-use Rattle.jbig2_steps.specs.Work.{price_of_bitmap}
+use Rattle.jbig2_steps.specs.Work.{paid_words, price_of_bitmap}
 use Rattle.hayro_jbig2.proofs.Limits.{left-drawn, left-of}
 use Rattle.hayro_jbig2.proofs.page.Page.draw_counted.Goals as goal
 
@@ -11,5 +11,5 @@ returns-clause-left g c =
 pub returns-clause-taken : goal.returns-clause-taken
 returns-clause-taken g c =
     let page = c.args.self.now.initial_page in
-    left-drawn (price_of_bitmap page.width page.height) c.draw_within.result c.args.context.now c.draw_within.new.context c.new_work-work.result c.draw_within.new.work c.draw_within.ensures.left c.new_work-work.ensures.steps c.new_work-work.ensures.left
+    left-drawn (paid_words page.width page.height) (price_of_bitmap page.width page.height) c.draw_within.result c.args.context.now c.draw_within.new.context c.new_work-work.result c.draw_within.new.work c.draw_within.ensures.left c.new_work-work.ensures.steps c.new_work-work.ensures.left
     c.draw_within.ensures.ahead

@@ -1,4 +1,5 @@
-use Rattle.std.proofs.Common.{◌≡◌}
+use Rattle.std.proofs.Common.{◌≡◌, ◌+◌, ◌*◌}
+use Rattle.jbig2_base.specs.Counts.{words_made}
 use Rattle.jbig2_halftone.specs.GrayScale.{gray_values}
 use Rattle.jbig2_halftone.specs.inner.HalftoneViews.{gray_view}
 use Rattle.jbig2_halftone.specs.inner.FunctionResults.{CountsCoded, coded_planes}
@@ -12,4 +13,5 @@ invariant-loop g l = record {
   values : l.values ≡ gray_values l.params.width l.params.height (coded_planes (gray_view l.params) l.bytes l.counter);
   counts : CountsCoded (gray_view l.params) l.bytes l.counter l.fn.steps l.steps;
   none : NoneYet l.counter l.fn.steps l.steps;
+  cleared : l.steps.cleared ≡ l.fn.steps.cleared + l.counter * words_made l.params.width l.params.height;
 }

@@ -1,4 +1,5 @@
-use Rattle.std.proofs.Common.{length, ◌*◌}
+use Rattle.std.proofs.Common.{◌≡◌, length, ◌+◌, ◌*◌}
+use Rattle.jbig2_base.specs.Counts.{words_made}
 use Rattle.jbig2_halftone.specs.Steps.{TakesLanes, taking_loads, words_of_plane}
 use Rattle.jbig2_halftone.specs.inner.FunctionResults.{MovesByMmr}
 use Rattle.jbig2_halftone.specs.inner.HalftoneViews.{gray_view}
@@ -12,4 +13,5 @@ invariant-loop g l = record {
   work : MovesByMmr (words_of_plane (gray_view l.params)) l.counter (length l.bytes) (length l.rest) (l.counter * taking_loads (gray_view l.params)) l.fn.steps l.steps;
   lanes : TakesLanes (gray_view l.params) l.counter l.fn.steps l.steps;
   none : NoneYet l.counter l.fn.steps l.steps;
+  cleared : l.steps.cleared ≡ l.fn.steps.cleared + l.counter * words_made l.params.width l.params.height;
 }

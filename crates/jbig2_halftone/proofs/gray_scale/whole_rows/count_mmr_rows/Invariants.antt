@@ -1,4 +1,5 @@
-use Rattle.std.proofs.Common.{◌≡◌, length}
+use Rattle.std.proofs.Common.{◌≡◌, ◌+◌, ◌*◌, length}
+use Rattle.jbig2_base.specs.Counts.{words_made}
 use Rattle.jbig2_halftone.specs.Steps.{TakesLanes, words_of_plane}
 use Rattle.jbig2_halftone.specs.WholeCells.{mmr_left}
 use Rattle.jbig2_halftone.specs.inner.FunctionResults.{MovesByMmr}
@@ -10,4 +11,5 @@ invariant-loop g l = record {
   rest : l.rest ≡ mmr_left (gray_view l.params) l.bytes l.counter;
   work : MovesByMmr (words_of_plane (gray_view l.params)) l.counter (length l.bytes) (length l.rest) 0 l.fn.steps l.steps;
   lanes : TakesLanes (gray_view l.params) 0 l.fn.steps l.steps;
+  cleared : l.steps.cleared ≡ l.fn.steps.cleared + l.counter * words_made l.params.width l.params.height;
 }

@@ -1,4 +1,5 @@
 use Rattle.std.proofs.Common.{◌≤◌, ◌∙◌, sym, arith}
+use Rattle.jbig2_base.proofs.MadeLemmas.{made-paid}
 use Rattle.jbig2_halftone.specs.GrayScale.{GrayScale}
 use Rattle.jbig2_halftone.specs.Halftone.{gray_params}
 use Rattle.jbig2_halftone.specs.HalftoneHeader.{HalftoneHeader}
@@ -13,7 +14,8 @@ pub returns-in_err-values-clause-paid : goal.returns-in_err-values-clause-paid
 returns-in_err-values-clause-paid g c =
     let h : HalftoneHeader = lenient_of (header_view c.args.header.now) in
     let d : Patterns = dictionary_view c.args.dictionary.now in
-    unread-paid h d c.args.steps.now c.whole_rows.new.steps c.read_cells.new.steps c.in_ok-rows.ensures.paid c.in_err-values.ensures.stopped
+    let info = c.args.header.now.region_info in
+    omega (arith, made-paid info.width info.height c.args.steps.now c.new_with.new.steps c.new_with.ensures.steps, unread-paid h d c.new_with.new.steps c.whole_rows.new.steps c.read_cells.new.steps c.in_ok-rows.ensures.paid c.in_err-values.ensures.stopped c.read_cells.ensures.most)
 
 pub slice_bounds-drawn-end : goal.slice_bounds-drawn-end
 slice_bounds-drawn-end g c =
@@ -39,7 +41,8 @@ returns-in_err-draw_rows-clause-paid g c =
     let h : HalftoneHeader = lenient_of (header_view c.args.header.now) in
     let d : Patterns = dictionary_view c.args.dictionary.now in
     let few = rows-few (gray_params h d) h.bytes c.in_ok-rows.rows c.in_ok-rows.ensures.value in
-    part-paid h d c.in_ok-rows.rows c.args.steps.now c.whole_rows.new.steps c.read_cells.new.steps c.draw_rows.new.steps few c.in_ok-rows.ensures.paid c.in_ok-values.ensures.steps c.draw_rows.ensures.steps
+    let info = c.args.header.now.region_info in
+    omega (arith, made-paid info.width info.height c.args.steps.now c.new_with.new.steps c.new_with.ensures.steps, part-paid h d c.in_ok-rows.rows c.new_with.new.steps c.whole_rows.new.steps c.read_cells.new.steps c.draw_rows.new.steps few c.in_ok-rows.ensures.paid c.in_ok-values.ensures.steps c.read_cells.ensures.most c.draw_rows.ensures.steps)
 
 pub returns-clause-few : goal.returns-clause-few
 returns-clause-few g c =
@@ -52,4 +55,20 @@ returns-clause-paid g c =
     let h : HalftoneHeader = lenient_of (header_view c.args.header.now) in
     let d : Patterns = dictionary_view c.args.dictionary.now in
     let few = rows-few (gray_params h d) h.bytes c.in_ok-rows.rows c.in_ok-rows.ensures.value in
-    part-paid h d c.in_ok-rows.rows c.args.steps.now c.whole_rows.new.steps c.read_cells.new.steps c.draw_rows.new.steps few c.in_ok-rows.ensures.paid c.in_ok-values.ensures.steps c.draw_rows.ensures.steps
+    let info = c.args.header.now.region_info in
+    omega (arith, made-paid info.width info.height c.args.steps.now c.new_with.new.steps c.new_with.ensures.steps, part-paid h d c.in_ok-rows.rows c.new_with.new.steps c.whole_rows.new.steps c.read_cells.new.steps c.draw_rows.new.steps few c.in_ok-rows.ensures.paid c.in_ok-values.ensures.steps c.read_cells.ensures.most c.draw_rows.ensures.steps)
+
+pub returns-in_err-bitmap-clause-paid : goal.returns-in_err-bitmap-clause-paid
+returns-in_err-bitmap-clause-paid g c =
+    let info = c.args.header.now.region_info in
+    omega (arith, made-paid info.width info.height c.args.steps.now c.new_with.new.steps c.new_with.ensures.steps)
+
+pub returns-in_err-clone-2-clause-paid : goal.returns-in_err-clone-2-clause-paid
+returns-in_err-clone-2-clause-paid g c =
+    let info = c.args.header.now.region_info in
+    omega (arith, made-paid info.width info.height c.args.steps.now c.new_with.new.steps c.new_with.ensures.steps)
+
+pub returns-in_err-rows-clause-paid : goal.returns-in_err-rows-clause-paid
+returns-in_err-rows-clause-paid g c =
+    let info = c.args.header.now.region_info in
+    omega (arith, made-paid info.width info.height c.args.steps.now c.new_with.new.steps c.new_with.ensures.steps, c.whole_rows.ensures.paid)

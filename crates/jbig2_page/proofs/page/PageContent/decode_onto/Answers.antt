@@ -6,6 +6,7 @@ use Rattle.jbig2_page.specs.Causes.{IsFromInput}
 use Rattle.jbig2_page.specs.Page.{ReadPage}
 use Rattle.jbig2_page.proofs.DrawingFromInput.{decoded-returned}
 use Rattle.jbig2_page.proofs.DrawnPages.{sent, unsent}
+use Rattle.jbig2_text.proofs.PayingLemmas.{twice-paid}
 use Rattle.jbig2_page.proofs.Paying.{counts-paid, page-price}
 use Rattle.jbig2_page.proofs.page.PageContent.decode_onto.Goals as goal
 
@@ -18,7 +19,8 @@ returns-in-Err-clause-calls g c = unsent g.D.Decoder.conduct c.args.self.now c.i
 pub returns-in-Ok-clause-paid : goal.returns-in-Ok-clause-paid
 returns-in-Ok-clause-paid g c =
     let same = page-price c.args.self.now c.draw_onto.new.canvas c.page.result.now c.in-Ok.ensures.drawing c.page.ensures in
-    counts-paid c.args.work.now c.draw_onto.new.work c.push_bitmap.new.steps _ (omega (arith, c.in-Ok.ensures.ahead, same)) c.push_bitmap.ensures.paid
+    let page = c.args.self.now.initial_page in
+    counts-paid c.args.work.now c.draw_onto.new.work c.push_bitmap.new.steps _ (omega (arith, c.in-Ok.ensures.ahead, same, twice-paid page.width page.height)) (omega (arith, c.push_bitmap.ensures.paid))
 
 pub returns-in-Ok-clause-limit : goal.returns-in-Ok-clause-limit
 returns-in-Ok-clause-limit g c = paid-limit c.args.work.now _ (returns-in-Ok-clause-paid g c)

@@ -6,8 +6,9 @@ use Rattle.jbig2_page.specs.Image.{packed_of_page}
 use Rattle.jbig2_page.proofs.DrawnPages.{packed-drawn, packed-refused}
 use Rattle.jbig2_page.proofs.PackedRows.{page-size}
 use Rattle.jbig2_page.proofs.Paying.{bytes-paid, counts-paid}
-use Rattle.jbig2_steps.proofs.WorkLemmas.{counts-worth, paid-limit}
-use Rattle.jbig2_steps.specs.Work.{CountsWithin, price_of_bitmap, sum_of_counts}
+use Rattle.jbig2_steps.proofs.WorkLemmas.{paid-limit}
+use Rattle.jbig2_text.proofs.PayingLemmas.{beside-worth, twice-paid}
+use Rattle.jbig2_steps.specs.Work.{CountsBeside, paid_words, price_of_bitmap, sum_of_counts}
 use Rattle.jbig2_page.proofs.page.PageContent.read_packed.Goals as goal
 
 pub read_at-requires : goal.read_at-requires
@@ -35,14 +36,14 @@ returns-in_err-canvas-clause-value g c =
 pub returns-clause-paid : goal.returns-clause-paid
 returns-clause-paid g c =
     let page = c.args.self.now.initial_page in
-    let counts : CountsWithin (price_of_bitmap page.width page.height) c.draw_new_canvas.new.work.steps c.read_at.new.steps = bytes-paid page.width page.height (length c.args.buf.now) (sum_of_counts c.draw_new_canvas.new.work.steps) (sum_of_counts c.read_at.new.steps) c.requires c.read_at.ensures.steps in
-    counts-paid c.args.work.now c.draw_new_canvas.new.work c.read_at.new.steps _ (omega (arith, c.in_ok-canvas.ensures.ahead)) counts
+    let counts : CountsBeside (paid_words page.width page.height) (price_of_bitmap page.width page.height) c.draw_new_canvas.new.work.steps c.read_at.new.steps = bytes-paid page.width page.height (length c.args.buf.now) (sum_of_counts c.draw_new_canvas.new.work.steps) (sum_of_counts c.read_at.new.steps) c.requires c.read_at.ensures.steps in
+    counts-paid c.args.work.now c.draw_new_canvas.new.work c.read_at.new.steps _ (omega (arith, c.in_ok-canvas.ensures.ahead, twice-paid page.width page.height)) (omega (arith, counts))
 
 pub returns-clause-taken : goal.returns-clause-taken
 returns-clause-taken g c =
     let page = c.args.self.now.initial_page in
-    let counts : CountsWithin (price_of_bitmap page.width page.height) c.draw_new_canvas.new.work.steps c.read_at.new.steps = bytes-paid page.width page.height (length c.args.buf.now) (sum_of_counts c.draw_new_canvas.new.work.steps) (sum_of_counts c.read_at.new.steps) c.requires c.read_at.ensures.steps in
-    let counted = counts-worth c.draw_new_canvas.new.work c.read_at.new.steps _ counts in
+    let counts : CountsBeside (paid_words page.width page.height) (price_of_bitmap page.width page.height) c.draw_new_canvas.new.work.steps c.read_at.new.steps = bytes-paid page.width page.height (length c.args.buf.now) (sum_of_counts c.draw_new_canvas.new.work.steps) (sum_of_counts c.read_at.new.steps) c.requires c.read_at.ensures.steps in
+    let counted = beside-worth c.draw_new_canvas.new.work c.read_at.new.steps _ _ counts in
     omega (arith, c.in_ok-canvas.ensures.ahead, counted)
 
 pub returns-clause-limit : goal.returns-clause-limit

@@ -1,5 +1,6 @@
 use Rattle.std.proofs.Common.{[], arith, inl}
 use Rattle.std.proofs.lemmas.Result.{err_from_is_err_and}
+use Rattle.jbig2_base.proofs.MadeLemmas.{made-paid}
 use Rattle.jbig2_base.proofs.Prices.{copied-paid}
 use Rattle.jbig2_base.specs.Grid.{Grid}
 use Rattle.jbig2_steps.proofs.WorkLemmas.{counts-worth}
@@ -17,4 +18,9 @@ returns-clause-value g c = area-made c.args.page.now _ c.args.region_info.now c.
 pub returns-clause-paid : goal.returns-clause-paid
 returns-clause-paid g c =
     let part : Grid = record { width = c.args.region_info.now.width; height = c.args.region_info.now.height; pixels = [] } in
-    counts-worth c.args.work.now c.part.new.steps _ (copied-paid part c.args.work.now.steps c.part.new.steps c.in_ok-part.ensures.steps)
+    counts-worth c.args.work.now c.part.new.steps _ (omega (arith, copied-paid part c.args.work.now.steps c.part.new.steps c.in_ok-part.ensures.steps))
+
+pub returns-in_err-part-clause-paid : goal.returns-in_err-part-clause-paid
+returns-in_err-part-clause-paid g c =
+    let info = c.args.region_info.now in
+    counts-worth c.args.work.now c.part.new.steps _ (made-paid info.width info.height c.args.work.now.steps c.part.new.steps c.in_err-part.ensures.refused)

@@ -1,6 +1,6 @@
 use Rattle.std.proofs.Common.{◌*◌, List, take, false, ap, arith, rules, ◌∙◌}
 use Rattle.jbig2_steps.specs.Work.{price_of_bitmap}
-use Rattle.jbig2_steps.proofs.WorkLemmas.{counts-worth}
+use Rattle.jbig2_text.proofs.PayingLemmas.{beside-worth}
 use Rattle.jbig2_region.specs.Generic.{coding_of}
 use Rattle.jbig2_region.specs.Raster.{Coding}
 use Rattle.jbig2_region.specs.Templates.{adaptive_pixel_count, template_pixels}
@@ -25,5 +25,5 @@ returns-clause-paid g c =
     let pixels : List AdaptiveTemplatePixel = take (adaptive_pixel_count false false template) c.symbol_pixels.result in
     let coding : Coding = coding_of false template (template_pixels false template pixels) in
     let within = coded-paid false template pixels coding b.width b.height _ _ c.new_symbol.new.work.steps c.decode_coded.new.steps c.decode_coded.ensures.steps in
-    let more = counts-worth c.new_symbol.new.work c.decode_coded.new.steps (32 * price_of_bitmap b.width b.height) within in
+    let more = beside-worth c.new_symbol.new.work c.decode_coded.new.steps _ (32 * price_of_bitmap b.width b.height) within in
     omega (arith, more, c.in_ok-bitmap.ensures.taken)

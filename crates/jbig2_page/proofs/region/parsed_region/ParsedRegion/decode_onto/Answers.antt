@@ -3,12 +3,13 @@ use Rattle.std.proofs.lemmas.Result.{err_from_is_err_and}
 use Rattle.jbig2_base.specs.declared.error.DecodeError.TheVariants.{OutOfMemory}
 use Rattle.jbig2_region.specs.declared.region_info.RegionSegmentInfo.{RegionSegmentInfo}
 use Rattle.jbig2_steps.specs.Work.{budget}
-use Rattle.jbig2_page.proofs.Paying.{blank-memory, placed-paid}
+use Rattle.jbig2_text.proofs.PayingLemmas.{made-worth}
+use Rattle.jbig2_page.proofs.Paying.{blank-memory, info-words, placed-paid}
 use Rattle.jbig2_page.proofs.region.parsed_region.ParsedRegion.decode_onto.Goals as goal
 
 pub returns-in-Ok-clause-paid : goal.returns-in-Ok-clause-paid
 returns-in-Ok-clause-paid g c =
-    placed-paid c.args.self (budget c.args.work.now) (budget c.pay_bitmaps.new.work) (budget c.decode_into.new.work) c.in_ok-pay_bitmaps.ensures.taken c.decode_into.ensures.paid
+    omega (arith, placed-paid c.args.self (budget c.args.work.now) (budget c.pay_bitmaps.new.work) (budget c.decode_into.new.work) c.in_ok-pay_bitmaps.ensures.taken c.decode_into.ensures.paid)
 
 pub returns-in_err-reinitialize-in-Err-clause-value : goal.returns-in_err-reinitialize-in-Err-clause-value
 returns-in_err-reinitialize-in-Err-clause-value g c =
@@ -21,8 +22,8 @@ returns-in_err-reinitialize-in-Err-clause-value g c =
 
 pub returns-in_err-reinitialize-in-Err-clause-paid : goal.returns-in_err-reinitialize-in-Err-clause-paid
 returns-in_err-reinitialize-in-Err-clause-paid g c =
-    placed-paid c.args.self (budget c.args.work.now) (budget c.pay_bitmaps.new.work) (budget c.decode_into.new.work) c.in_ok-pay_bitmaps.ensures.taken c.decode_into.ensures.paid
+    omega (arith, placed-paid c.args.self (budget c.args.work.now) (budget c.pay_bitmaps.new.work) (budget c.decode_into.new.work) c.in_ok-pay_bitmaps.ensures.taken c.decode_into.ensures.paid, made-worth c.decode_into.new.work c.region_info-info.result.width c.region_info-info.result.height c.reinitialize.new.steps c.reinitialize.ensures.steps, info-words c.args.self c.region_info-info.result c.region_info-info.ensures)
 
 pub returns-clause-paid : goal.returns-clause-paid
 returns-clause-paid g c =
-    placed-paid c.args.self (budget c.args.work.now) (budget c.pay_bitmaps.new.work) (budget c.decode_into.new.work) c.in_ok-pay_bitmaps.ensures.taken c.decode_into.ensures.paid
+    omega (arith, placed-paid c.args.self (budget c.args.work.now) (budget c.pay_bitmaps.new.work) (budget c.decode_into.new.work) c.in_ok-pay_bitmaps.ensures.taken c.decode_into.ensures.paid, made-worth c.decode_into.new.work c.region_info-info.result.width c.region_info-info.result.height c.reinitialize.new.steps c.reinitialize.ensures.steps, info-words c.args.self c.region_info-info.result c.region_info-info.ensures)
