@@ -84,12 +84,12 @@ none-cut made cut words cleared s e f =
 pub collective-stops : (h : PatternHeader) (old new : Counts) → (h.mmr ≡ false → new ≡ collective_made h old) → StopsDictionary h old new
 collective-stops h old new none = by_mmr h.mmr refl
   where
+    cut-none : (h : PatternHeader) (s : Counts) → s ≡ after_patterns h 0 0 s
+    cut-none h s = none-cut 0 0 ((h.pattern_width + 63) / 64 * h.pattern_height) (words_made h.pattern_width h.pattern_height) s refl refl
+
     by_mmr : (b : Bool) → h.mmr ≡ b → StopsDictionary h old new
     by_mmr true mmr = inr (inr (0, (omega arith, (0, (omega arith, (new, ((λ coded. absurd (clash h.mmr mmr coded)), cut-none h new)))))))
     by_mmr false coded = inr (inl (none coded))
-
-    cut-none : (h : PatternHeader) (s : Counts) → s ≡ after_patterns h 0 0 s
-    cut-none h s = none-cut 0 0 ((h.pattern_width + 63) / 64 * h.pattern_height) (words_made h.pattern_width h.pattern_height) s refl refl
 
 pub refused-lanes : (h : PatternHeader) (old new : Counts) → (h.mmr ≡ true → KeepsLanes old new) → (h.mmr ≡ false → new ≡ old) → KeepsLanes old new
 refused-lanes h old new mmr none = by_mmr h.mmr refl

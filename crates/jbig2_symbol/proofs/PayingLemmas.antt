@@ -2,16 +2,16 @@
 use Rattle.std.specs.Prelude.{if◌then◌else◌}
 use Rattle.std.proofs.Common.{Bool, true, false, ltb, refl, ◌≡◌, ℕ, ◌+◌, ◌*◌, ◌/◌, ◌≤◌, List, length, Ok, sym, ap, ◌∙◌, arith}
 use Rattle.std.proofs.lemmas.List.{length-take-le}
-use Rattle.std.proofs.Math.Nat.{mul-le-mul_left}
+use Rattle.std.proofs.Math.Nat.{mul-le-mul_left, mul-le-mul_right}
 use Rattle.jbig2_base.specs.Counts.{Counts, WritesWithin, bitmap_made, wide_words_made, words_cleared, words_copied, words_of}
 use Rattle.jbig2_base.specs.Fields.{bytes_at}
 use Rattle.jbig2_base.specs.Grid.{Grid}
 use Rattle.jbig2_base.proofs.Causes.{bytes-there}
 use Rattle.jbig2_base.proofs.MadeLemmas.{cleared-counted, made-paid, wide-made-counted}
 use Rattle.jbig2_base.proofs.Prices.{copied-paid, price-same, written-counted}
-use Rattle.jbig2_steps.specs.Work.{Paid, PaidBut, paid_words, price_of_bitmap, words_of_row, budget}
+use Rattle.jbig2_steps.specs.Work.{Paid, PaidBut, paid_words, price_of_bitmap, sum_of_counts, words_of_row, budget}
 use Rattle.jbig2_steps.specs.declared.work.Work.{Work}
-use Rattle.jbig2_steps.proofs.WorkLemmas.{counts-worth, room-paid}
+use Rattle.jbig2_steps.proofs.WorkLemmas.{counts-worth, room-paid, row-paid}
 
 -- ---- rows that are not coded
 -- the words of a row
@@ -42,6 +42,18 @@ bytes-many n bytes part rest is =
 pub copy-paid : {L : Type 0} (old paid : Work L) (steps : Counts) (g : Grid) (w h : ℕ) → w ≡ g.width → h ≡ g.height → budget paid + 32 * price_of_bitmap w h ≡ budget old → steps ≡ words_copied (words_of g) (bitmap_made g.width g.height paid.steps) → Paid old (record paid { steps = steps })
 copy-paid {L} old paid steps g w h wide high taken copied =
     let more : budget (record paid { steps = steps }) ≤ budget paid + 32 * price_of_bitmap g.width g.height = counts-worth paid steps (32 * price_of_bitmap g.width g.height) (copied-paid g paid.steps steps copied) in
+    omega (arith, more, taken, price-same w g.width h g.height wide high)
+
+-- a copy in new memory, which needs no cleared words
+doubled-few : (n words height : ℕ) → n ≤ words * height → 2 * n ≤ 2048 * (words * height)
+doubled-few n words height few = omega arith
+
+pub duplicate-paid : {L : Type 0} (old paid : Work L) (steps : Counts) (g : Grid) (w h : ℕ) → w ≡ g.width → h ≡ g.height → budget paid + 32 * price_of_bitmap w h ≡ budget old → steps ≡ words_copied (words_of g) paid.steps → Paid old (record paid { steps = steps })
+duplicate-paid {L} old paid steps g w h wide high taken copied =
+    let few : words_of g ≤ words_of_row g.width * g.height = mul-le-mul_right g.height (omega arith) in
+    let price : 2 * words_of g ≤ 32 * price_of_bitmap g.width g.height = row-paid g.width g.height (2 * words_of g) (doubled-few (words_of g) (words_of_row g.width) g.height few) in
+    let counted : sum_of_counts steps ≡ sum_of_counts paid.steps + 2 * words_of g = ap (λ (c : Counts). sum_of_counts c) copied ∙ omega arith in
+    let more : budget (record paid { steps = steps }) ≤ budget paid + 32 * price_of_bitmap g.width g.height = counts-worth paid steps (32 * price_of_bitmap g.width g.height) (omega (arith, counted, price)) in
     omega (arith, more, taken, price-same w g.width h g.height wide high)
 
 -- one for which there is no memory

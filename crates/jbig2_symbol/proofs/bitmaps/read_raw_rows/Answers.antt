@@ -31,8 +31,8 @@ returns-clause-value g c = raw-made c.args.width c.args.height c.loop-y.y c.loop
 pub returns-clause-paid : goal.returns-clause-paid
 returns-clause-paid g c =
     let all : c.loop-y.y ≡ c.args.height = omega arith in
-    let rows = subst (λ (n : ℕ). budget c.loop-y.work ≤ budget (record c.pay_bitmap.new.self { steps = c.new_wide-bitmap.new.steps }) + 3 * (n * ((c.args.width + 7) / 8))) all c.loop-y.invariant.paid in
-    omega (arith, rows, wide-worth c.pay_bitmap.new.self c.args.width c.args.height c.new_wide-bitmap.new.steps c.new_wide-bitmap.ensures.steps, raw-paid c.args.width c.args.height, c.in_ok-pay_bitmap.ensures.taken)
+    let rows = subst (λ (n : ℕ). budget c.loop-y.work ≤ budget (record c.pay_bitmap.new.self { steps = c.new_wide-2.new.steps }) + 3 * (n * ((c.args.width + 7) / 8))) all c.loop-y.invariant.paid in
+    omega (arith, rows, wide-worth c.pay_bitmap.new.self c.args.width c.args.height c.new_wide-2.new.steps c.new_wide-2.ensures.steps, raw-paid c.args.width c.args.height, c.in_ok-pay_bitmap.ensures.taken)
 
 pub returns-then-width-eq0-clause-paid : goal.returns-then-width-eq0-clause-paid
 returns-then-width-eq0-clause-paid g c = empty-worth c.args.work.now c.args.width c.args.height c.new_wide.new.steps c.if-width-eq0.true c.new_wide.ensures.steps
@@ -41,4 +41,4 @@ pub returns-in_err-empty-clause-paid : goal.returns-in_err-empty-clause-paid
 returns-in_err-empty-clause-paid g c = empty-worth c.args.work.now c.args.width c.args.height c.new_wide.new.steps c.if-width-eq0.true c.new_wide.ensures.steps
 
 pub returns-in_err-bitmap-clause-paid : goal.returns-in_err-bitmap-clause-paid
-returns-in_err-bitmap-clause-paid g c = omega (arith, wide-worth c.pay_bitmap.new.self c.args.width c.args.height c.new_wide-bitmap.new.steps c.new_wide-bitmap.ensures.steps, raw-paid c.args.width c.args.height, c.in_ok-pay_bitmap.ensures.taken)
+returns-in_err-bitmap-clause-paid g c = omega (arith, wide-worth c.pay_bitmap.new.self c.args.width c.args.height c.new_wide-2.new.steps c.new_wide-2.ensures.steps, raw-paid c.args.width c.args.height, c.in_ok-pay_bitmap.ensures.taken)

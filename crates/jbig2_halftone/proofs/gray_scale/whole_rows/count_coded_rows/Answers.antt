@@ -35,7 +35,7 @@ pub returns-in_err-plane-clause-paid : goal.returns-in_err-plane-clause-paid
 returns-in_err-plane-clause-paid g c = plane-made-paid c.args.params.now.width c.args.params.now.height c.loop.counter c.args.params.now.bits_per_pixel c.args.steps.now c.loop.steps c.new.new.steps (omega arith) c.loop.invariant.paid c.new.ensures.steps
 
 pub returns-in_err-last-clause-paid : goal.returns-in_err-last-clause-paid
-returns-in_err-last-clause-paid g c = plane-made-paid c.args.params.now.width c.args.params.now.height c.loop.counter c.args.params.now.bits_per_pixel c.args.steps.now c.loop.steps c.new-last.new.steps (omega arith) c.loop.invariant.paid c.new-last.ensures.steps
+returns-in_err-last-clause-paid g c = plane-made-paid c.args.params.now.width c.args.params.now.height c.loop.counter c.args.params.now.bits_per_pixel c.args.steps.now c.loop.steps c.new-2.new.steps (omega arith) c.loop.invariant.paid c.new-2.ensures.steps
 
 pub returns-clause-value : goal.returns-clause-value
 returns-clause-value g c =
@@ -49,5 +49,5 @@ pub returns-clause-paid : goal.returns-clause-paid
 returns-clause-paid g c =
     let p : GrayScale = gray_view c.args.params.now in
     let white = blank-made p.width p.height false c.in_ok-last.last c.requires.columns c.requires.rows c.in_ok-last.ensures.value in
-    last-paid p c.loop.counter c.in_ok-last.last c.args.steps.now c.loop.steps c.new-last.new.steps c.count_regular_rows-rows.new.steps white (omega arith) c.loop.invariant.paid c.new-last.ensures.steps
-    (whole-rows-paid p.template c.in_ok-last.last.width c.in_ok-last.last.height c.loop.decoder.bytes (no_pixels c.loop.decoder.registers c.loop.contexts) c.new-last.new.steps c.count_regular_rows-rows.new.steps c.count_regular_rows-rows.ensures.steps)
+    last-paid p c.loop.counter c.in_ok-last.last c.args.steps.now c.loop.steps c.new-2.new.steps c.count_regular_rows-rows.new.steps white (omega arith) c.loop.invariant.paid c.new-2.ensures.steps
+    (whole-rows-paid p.template c.in_ok-last.last.width c.in_ok-last.last.height c.loop.decoder.bytes (no_pixels c.loop.decoder.registers c.loop.contexts) c.new-2.new.steps c.count_regular_rows-rows.new.steps c.count_regular_rows-rows.ensures.steps)
