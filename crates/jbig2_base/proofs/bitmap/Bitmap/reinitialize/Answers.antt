@@ -11,9 +11,10 @@ returns-clause-causes g c = memory-alone (BreaksSides c.args.width c.args.height
 
 pub returns-then-width-gt-MAX_DIMENSION-clause-steps : goal.returns-then-width-gt-MAX_DIMENSION-clause-steps
 returns-then-width-gt-MAX_DIMENSION-clause-steps g c =
-    elim c.then-width-gt-MAX_DIMENSION.branch
-    [ then-width-gt-MAX_DIMENSION-via-then-width-gt-MAX_DIMENSION w ↦ made-too_wide c.args.width c.args.height c.args.steps.now w.if-width-gt-MAX_DIMENSION.true
-    | then-width-gt-MAX_DIMENSION-via-else-width-gt-MAX_DIMENSION+then-height-gt-MAX_DIMENSION w ↦ made-too_high c.args.width c.args.height c.args.steps.now w.if-height-gt-MAX_DIMENSION.true ]
+    elim c.then-width-gt-MAX_DIMENSION.branch [
+      | then-width-gt-MAX_DIMENSION-via-then-width-gt-MAX_DIMENSION w ↦ made-too_wide c.args.width c.args.height c.args.steps.now w.if-width-gt-MAX_DIMENSION.true
+      | then-width-gt-MAX_DIMENSION-via-else-width-gt-MAX_DIMENSION+then-height-gt-MAX_DIMENSION w ↦ made-too_high c.args.width c.args.height c.args.steps.now w.if-height-gt-MAX_DIMENSION.true
+    ]
 
 pub returns-clause-steps : goal.returns-clause-steps
 returns-clause-steps g c = made-here c.args.width c.args.height c.args.steps.now c.refill.new.steps c.if-width-gt-MAX_DIMENSION.false c.if-height-gt-MAX_DIMENSION.false c.refill.ensures.steps
