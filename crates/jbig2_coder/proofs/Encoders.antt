@@ -1,15 +1,18 @@
 -- The paths through the encoder.
-use Rattle.std.proofs.Common.{◌≡◌, ℕ, zero, suc, ◌+◌, ◌-◌, ◌*◌, ◌%◌, ◌^◌, ◌<◌, ◌≤◌, Bool, true, false, not, cond, eqb, List, [], ◌∷◌, ◌++◌, reverse, refl, sym, ap, ◌∙◌, arith, ⊎_elim}
+use Rattle.std.proofs.Common.{◌≡◌, ℕ, zero, suc, ◌+◌, ◌-◌, ◌*◌, ◌%◌, ◌^◌, ◌<◌, ◌≤◌, Bool, true, false, not, cond, eqb, List, [], ◌∷◌, ◌++◌, reverse, refl, sym, ap, subst, ◌∙◌, arith, ⊎_elim}
 use mathlib.Core.Bool.{beq}
-use Rattle.std.proofs.Math.Nat.{pow-suc, mul-le-mul_right}
+use Rattle.std.proofs.Math.Nat.{pow-suc, pow-le-pow_right, mul-le-mul_left, mul-le-mul_right}
+use Rattle.std.proofs.lemmas.Nat.{pow-add}
 use Rattle.std.proofs.lemmas.Bool.{cases_lt}
 use Rattle.std.proofs.lemmas.List.{reverse-append, reverse-reverse}
 use Rattle.std.proofs.lemmas.Bool.Decides.{nat_tests}
 use Rattle.jbig2_coder.specs.Table.{row_of}
 use Rattle.jbig2_coder.specs.Coder.{Context, likely_next, unlikely_next}
 use Rattle.jbig2_coder.specs.Encoder.{Writer, Coding, eight_bits_out, seven_bits_out, byte_out, shift_once, renorme, narrowed_likely, narrowed_unlikely, narrowed_interval, encoding, set_bits, flush_coder, is_full, with_marker}
-use Rattle.jbig2_coder.specs.inner.EncoderViews.{writer_of}
+use Rattle.jbig2_coder.specs.inner.EncoderViews.{writer_of, shifted_registers, HasRoom}
 use Rattle.jbig2_coder.specs.declared.mq.encoder.CodeRegister.{CodeRegister}
+use Rattle.jbig2_coder.specs.declared.mq.encoder.Registers.{Registers}
+use Rattle.jbig2_coder.proofs.Renorm.{batch-room}
 
 -- BYTEOUT
 pub byte_out-none : (c : ℕ) (out : List ℕ) → out ≡ [] → byte_out c out ≡ eight_bits_out c out
@@ -104,6 +107,43 @@ renormed-enough (suc n) a w h =
 
 pub renormed-turn : (a : ℕ) (w : Writer) → 1 ≤ a → a < 0x8000 → renorme 15 a w ≡ renorme 15 (2 * a) (shift_once w)
 renormed-turn a w some half = renormed-step 14 a w half ∙ sym (renormed-enough 14 (2 * a) (shift_once w) (omega arith))
+
+-- several shifts at once, if no byte goes out
+shifted-once : (w : Writer) (k : ℕ) → suc k < w.wait → shift_once w ≡ record { register = 2 * w.register; wait = w.wait - 1; out = w.out }
+unfolding shift_once
+shifted-once w k h = grind (arith, nat_tests)
+
+pub renormed-batch : (k n a : ℕ) (w : Writer) → k ≤ n → k < w.wait → a * 2 ^ k < 2 ^ 16 → 0x8000 ≤ a * 2 ^ k
+    → renorme n a w ≡ record { range = a * 2 ^ k; writer = record { register = w.register * 2 ^ k; wait = w.wait - k; out = w.out } }
+renormed-batch zero n a w few fits below normal =
+    let range : a ≡ a * 2 ^ 0 = omega arith in
+    let register : w.register ≡ w.register * 2 ^ 0 = omega arith in
+    let wait : w.wait ≡ w.wait - 0 = omega arith in
+    renormed-stop n a w (omega arith)
+    ∙ (λ j. record { range = range j; writer = record { register = register j; wait = wait j; out = w.out } })
+renormed-batch (suc k) zero a w few fits below normal = absurd (omega (arith, few))
+renormed-batch (suc k) (suc n) a w few fits below normal =
+    let v : Writer = record { register = 2 * w.register; wait = w.wait - 1; out = w.out } in
+    let range : 2 * a * 2 ^ k ≡ a * 2 ^ suc k = rw (pow-suc 2 k) (omega arith) in
+    let register : 2 * w.register * 2 ^ k ≡ w.register * 2 ^ suc k = rw (pow-suc 2 k) (omega arith) in
+    let wait : w.wait - 1 - k ≡ w.wait - suc k = omega arith in
+    renormed-step n a w (batch-room a k below)
+    ∙ ap (λ (u : Writer). renorme n (2 * a) u) (shifted-once w k fits)
+    ∙ renormed-batch k n (2 * a) v (omega (arith, few)) (omega (arith, fits)) (omega (arith, below, range)) (omega (arith, normal, range))
+    ∙ (λ j. record { range = range j; writer = record { register = register j; wait = wait j; out = w.out } })
+
+-- C with its interval keeps its room
+pub shifted-room : (r : Registers) (k : ℕ) → k < r.code.ct → HasRoom r.a r.code → HasRoom (shifted_registers k r).a (shifted_registers k r).code
+shifted-room r k few h =
+    let split : 2 ^ r.code.ct ≡ 2 ^ k * 2 ^ (r.code.ct - k) = ap (λ (n : ℕ). 2 ^ n) (omega arith) ∙ pow-add 2 k (r.code.ct - k) in
+    let room : (r.code.c + r.a) * (2 ^ k * 2 ^ (r.code.ct - k)) ≤ 9 * 2 ^ 24 = subst (λ (n : ℕ). (r.code.c + r.a) * n ≤ 9 * 2 ^ 24) split h.room in
+    record { some = omega arith; few = omega (arith, h.few); room = omega (arith, room) }
+
+pub shifted-fits : (r : Registers) (k : ℕ) → k < r.code.ct → HasRoom r.a r.code → r.code.c * 2 ^ k ≡ r.code.c * 2 ^ k % 2 ^ 32
+shifted-fits r k few h =
+    let p : 2 ^ k ≤ 2 ^ r.code.ct = pow-le-pow_right (omega arith) (omega arith) in
+    let q : (r.code.c + r.a) * 2 ^ k ≤ (r.code.c + r.a) * 2 ^ r.code.ct = mul-le-mul_left (r.code.c + r.a) p in
+    omega (arith, q, h.room)
 
 -- a decision, by what it makes of A, C and its context
 pub encoding-quiet : (s : Coding) (x y : Context) (d : Bool) (a c : ℕ)

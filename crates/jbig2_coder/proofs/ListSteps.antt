@@ -1,14 +1,15 @@
 -- Lists of decisions, one entry at a time.
-use Rattle.std.proofs.Common.{◌≡◌, ℕ, suc, ◌+◌, ◌<◌, ◌≤◌, Bool, true, false, cond, List, [], ◌∷◌, ◌++◌, length, append_assoc, Result, Ok, get_or, set, drop, refl, sym, ap, subst, ◌∙◌, arith, ⊎_elim, get_or-set_other, get_or-set_same, eqb}
+use Rattle.std.proofs.Common.{◌≡◌, ℕ, suc, ◌+◌, ◌<◌, ◌≤◌, Bool, true, false, cond, List, [], ◌∷◌, ◌++◌, length, append_assoc, Result, Ok, get_or, set, take, drop, refl, sym, ap, subst, ◌∙◌, arith, ⊎_elim, get_or-set_other, get_or-set_same, eqb}
 use Rattle.std.proofs.Math.Seq.{drop-cons}
 use Rattle.std.proofs.lemmas.Bool.{cases_lt, cases_eq, cond-true, cond-false, eq-eqb, ne_eqb}
-use Rattle.std.proofs.lemmas.List.{get_or_past, get_or_default, drop_all, append-nil}
+use Rattle.std.proofs.lemmas.List.{get_or_past, get_or_default, drop_all, append-nil, take_all}
+use Rattle.std.proofs.lemmas.Grind.{take_at_read}
 use Rattle.jbig2_base.specs.declared.error.DecodeError.{DecodeError}
 use Rattle.jbig2_base.specs.Results.{Gives}
 use Rattle.jbig2_base.specs.Grid.{bit_number}
 use Rattle.jbig2_coder.specs.Coder.{Coder, Context, Decision, Registers, fresh, decision, initial_registers}
-use Rattle.jbig2_coder.specs.Encoder.{Coding, initial_coding, encoding, flush_coder, with_marker, with_context, encode_from, encoded_bytes, decoded_from, read_back}
-use Rattle.jbig2_coder.specs.inner.EncoderViews.{Contexts, all_fresh, contexts_of}
+use Rattle.jbig2_coder.specs.Encoder.{Coding, CodingInContexts, Codes, HasCoded, initial_coding, encoding, flush_coder, with_marker, with_context, contexts_of, encode_from, encoded_bytes, decoded_from, read_back}
+use Rattle.jbig2_coder.specs.inner.EncoderViews.{Contexts, all_fresh}
 
 pub contexts_of-fresh : (known : List Context) → ((k : ℕ) → k < length known → get_or known k fresh ≡ fresh) → contexts_of known ≡ all_fresh
 unfolding contexts_of
@@ -80,19 +81,6 @@ decoded_from-more d e known asked i k n x y out more h ek hk ex value coder cont
     ∙ ap (λ (b : Bool). (out ++ b ∷ []) ++ rest) (digit-bit next.symbol n value)
     ∙ (λ j. sym pushed j ++ decoded_from (sym coder j).bytes (sym coder j).registers (contexts_of (set known k (sym context j))) (drop (place j) asked))
 
--- one turn of the code that writes a list
-pub encode_from-more : (s t : Coding) (known : List Context) (entries : List (ℕ × Bool)) (i k : ℕ) (x y : Context)
-    → i < length entries → k ≡ (get_or entries i (0, false)).0 → k < length known → x ≡ get_or known k x
-    → t ≡ (encoding x (get_or entries i (0, false)).1 s).coding
-    → y ≡ (encoding x (get_or entries i (0, false)).1 s).context
-    → encode_from s (contexts_of known) (drop i entries) ≡ encode_from t (contexts_of (set known k y)) (drop (i + 1) entries)
-encode_from-more s t known entries i k x y h ek hk ex coding context =
-    let entry : ℕ × Bool = get_or entries i (0, false) in
-    let place : suc i ≡ i + 1 = omega arith in
-    encode_from-step s known (drop i entries) (drop (suc i) entries) entry x (drop-cons entries i (0, false) h) (omega arith)
-    (ap (λ (m : ℕ). get_or known m fresh) (sym ek) ∙ get_or_default known k fresh x hk ∙ sym ex)
-    ∙ (λ j. encode_from (sym coding j) (contexts_of (set known (sym ek j) (sym context j))) (drop (place j) entries))
-
 -- the loop that reads a list: before its first turn, and after its last
 pub decoded-begin : (d : Coder) (bytes : List ℕ) (known : List Context) (asked : List ℕ) (out : List Bool)
     → d.bytes ≡ bytes → d.registers ≡ initial_registers bytes → contexts_of known ≡ all_fresh → out ≡ []
@@ -110,21 +98,44 @@ pub decoded-done : (d : Coder) (bytes asked : List ℕ) (contexts : Contexts) (i
 decoded-done d bytes asked contexts i out e h =
     e ∙ ap (λ (ys : List Bool). out ++ ys) (decoded_from-end d contexts (drop i asked) (drop_all i asked h)) ∙ append-nil out
 
--- the loop that writes one
-pub encode_from-begin : (s : Coding) (known : List Context) (entries : List (ℕ × Bool)) → s ≡ initial_coding → contexts_of known ≡ all_fresh
-    → encode_from initial_coding all_fresh entries ≡ encode_from s (contexts_of known) entries
-encode_from-begin s known entries e fresh_ones = λ j. encode_from (sym e j) (sym fresh_ones j) entries
+-- the encoder of a list: before the first decision, after one more, and at the end
+pub coded-none : (s : CodingInContexts) → s.coding ≡ initial_coding → contexts_of s.contexts ≡ all_fresh → HasCoded s []
+unfolding HasCoded
+coded-none s e fresh_ones = λ rest j. encode_from (sym e j) (sym fresh_ones j) rest
 
-encode_from-end : (s : Coding) (contexts : Contexts) (entries : List (ℕ × Bool)) → entries ≡ [] → encode_from s contexts entries ≡ s
+pub coded-more : (s t : CodingInContexts) (number k : ℕ) (decision : Bool) (x y : Context) → k ≡ number → k < length s.contexts → x ≡ get_or s.contexts k x
+    → t.coding ≡ (encoding x decision s.coding).coding → y ≡ (encoding x decision s.coding).context → t.contexts ≡ set s.contexts k y
+    → Codes s t ((number, decision) ∷ [])
+unfolding HasCoded
+coded-more s t number k decision x y is_k inside ex coding context known =
+    subst (λ (n : ℕ). Codes s t ((n, decision) ∷ [])) is_k
+    (λ list has rest.
+    ap (λ (entries : List (ℕ × Bool)). encode_from initial_coding all_fresh entries) (append_assoc list ((k, decision) ∷ []) rest)
+    ∙ has ((k, decision) ∷ rest)
+    ∙ encode_from-step s.coding s.contexts ((k, decision) ∷ rest) rest (k, decision) x refl inside (get_or_default s.contexts k fresh x inside ∙ sym ex)
+    ∙ (λ j. encode_from (sym coding j) (contexts_of (set s.contexts k (sym context j))) rest)
+    ∙ ap (λ (contexts : List Context). encode_from t.coding (contexts_of contexts) rest) (sym known))
+
+encode_from-none : (s : Coding) (contexts : Contexts) → encode_from s contexts [] ≡ s
 unfolding encode_from
-encode_from-end s contexts entries e = rw e refl
+encode_from-none s contexts = refl
 
-pub encoded-done : (s : Coding) (contexts : Contexts) (entries : List (ℕ × Bool)) (i : ℕ)
-    → encode_from initial_coding all_fresh entries ≡ encode_from s contexts (drop i entries) → length entries ≤ i
-    → with_marker (flush_coder s).out ≡ encoded_bytes entries
-unfolding encoded_bytes
-encoded-done s contexts entries i e h =
-    ap (λ (t : Coding). with_marker (flush_coder t).out) (sym (e ∙ encode_from-end s contexts (drop i entries) (drop_all i entries h)))
+pub coded-bytes : (s : CodingInContexts) (list : List (ℕ × Bool)) → HasCoded s list → with_marker (flush_coder s.coding).out ≡ encoded_bytes list
+unfolding encoded_bytes HasCoded
+coded-bytes s list has =
+    let all : encode_from initial_coding all_fresh list ≡ s.coding =
+    ap (λ (entries : List (ℕ × Bool)). encode_from initial_coding all_fresh entries) (sym (append-nil list))
+    ∙ has [] ∙ encode_from-none s.coding (contexts_of s.contexts) in
+    ap (λ (t : Coding). with_marker (flush_coder t).out) (sym all)
+
+-- the loop that adds a list's decisions
+pub coded-next : (s t : CodingInContexts) (entries : List (ℕ × Bool)) (i : ℕ) → i < length entries
+    → HasCoded s (take i entries) → Codes s t (get_or entries i (0, false) ∷ []) → HasCoded t (take (i + 1) entries)
+coded-next s t entries i inside has codes =
+    subst (λ (list : List (ℕ × Bool)). HasCoded t list) (sym (take_at_read entries i (0, false) inside).1) (codes (take i entries) has)
+
+pub coded-all : (s : CodingInContexts) (entries : List (ℕ × Bool)) (i : ℕ) → length entries ≤ i → HasCoded s (take i entries) → HasCoded s entries
+coded-all s entries i h has = subst (λ (list : List (ℕ × Bool)). HasCoded s list) (take_all i entries h) has
 
 pub same_ok : {X : Type 0} (x y : X) → x ≡ y → ◌≡◌ {A = Result X DecodeError} (Ok x) (Ok y)
 same_ok {X = X} x y e = ap (λ (z : X). let r : Result X DecodeError = Ok z in r) e

@@ -2,7 +2,7 @@
 -- bytes so far, and gives the next ones. FLUSH ends the bytes. Then come whole lists of decisions, and the law that the
 -- decoder of `Coder` reads them back.
 use Rattle.std.specs.Prelude.{ℕ, suc, zero, ◌+◌, ◌-◌, ◌*◌, ◌/◌, ◌%◌, ◌^◌, Bool, true, false, not, if◌then◌else◌, ◌==◌}
-use Rattle.std.specs.Prelude.{nat_lt, nat_le, List, [], ◌∷◌, reverse, map, ◌≡◌}
+use Rattle.std.specs.Prelude.{nat_lt, nat_le, List, [], ◌∷◌, ◌++◌, reverse, map, slice_index_or, ◌≡◌}
 use Rattle.jbig2_coder.specs.Table.{row_of}
 use Rattle.jbig2_coder.specs.Coder.{Context, likely_next, unlikely_next, Registers, fresh, decision, initial_registers}
 
@@ -105,6 +105,21 @@ encode_from s contexts ((k, decision) ∷ entries) =
 
 unfoldable pub encoded_bytes : List (ℕ × Bool) → List ℕ  -- the bytes of a list of (context, decision)
 encoded_bytes entries = with_marker (flush_coder (encode_from initial_coding (λ _. fresh) entries)).out
+
+abbrev pub CodingInContexts : Type 0  -- an encoder, and the contexts that it knows
+CodingInContexts = record { coding : Coding; contexts : List Context }
+
+unfoldable pub contexts_of : List Context → (ℕ → Context)  -- the contexts of a list; all others are fresh
+contexts_of known = λ k. slice_index_or known k fresh
+
+-- `s` has coded this list: whatever decisions follow, they are coded as in one list with these
+unfoldable pub HasCoded : CodingInContexts → List (ℕ × Bool) → Type 0
+HasCoded s list =
+    (rest : List (ℕ × Bool)) → encode_from initial_coding (λ _. fresh) (list ++ rest) ≡ encode_from s.coding (contexts_of s.contexts) rest
+
+-- `new` has coded these decisions after those of `old`
+abbrev pub Codes : CodingInContexts → CodingInContexts → List (ℕ × Bool) → Type 0
+Codes old new more = (list : List (ℕ × Bool)) → HasCoded old list → HasCoded new (list ++ more)
 
 unfoldable pub decoded_from : List ℕ → Registers → (ℕ → Context) → List ℕ → List Bool  -- the decisions that are read
 decoded_from bytes registers contexts [] = []

@@ -1,16 +1,17 @@
 //! Writes and reads whole lists of decisions by the arithmetic coder (T.88, Annexes E and G).
 
-ghost use Rattle.std.specs.Prelude.{◌≡◌, ◌+◌, length, vec_len, IfOk, IfErr, OnOk, Ok};
+ghost use Rattle.std.specs.Prelude.{◌≡◌, ℕ, ◌+◌, Bool, List, [], ◌∷◌, length, vec_len, IfOk, IfErr, OnOk, Ok};
 ghost use Rattle.jbig2_base.specs.Results.{Gives};
 ghost use Rattle.jbig2_base.specs.declared.error.DecodeError.TheVariants.{OutOfMemory};
-ghost use Rattle.jbig2_coder.specs.Encoder.{encoded_bytes, read_back, DecodesBack};
-ghost use Rattle.jbig2_coder.specs.inner.EncoderViews.{contexts_of, all_fresh};
+ghost use Rattle.jbig2_coder.specs.Encoder.{contexts_of, encoded_bytes, read_back, Codes, DecodesBack, HasCoded};
+ghost use Rattle.jbig2_coder.specs.inner.EncoderViews.{all_fresh};
 
 use crate::arithmetic_decoder::{ArithmeticDecoder, ArithmeticDecoderContext};
 use crate::mq::encoder::ArithmeticEncoder;
 use jbig2_base::bitmap::steps::Steps;
 use jbig2_base::error::Result;
 use std::alloc::Allocator;
+use std::marker::Model;
 use std::sync::ledger::Ledger;
 
 mod encoder;
@@ -28,6 +29,71 @@ fn fresh_contexts<A: Allocator>(alloc: A) -> Result<Vec<ArithmeticDecoderContext
     Ok(contexts)
 }
 
+/// Takes decisions one by one, each with the number of its context, and gives the bytes of their
+/// list (T.88, E.2).
+/// Every context is fresh before the first decision.
+#[derive(Drop)]
+pub struct ListEncoder<A: Allocator> {
+    contexts: Vec<ArithmeticDecoderContext, A>,
+    encoder: ArithmeticEncoder<A>,
+}
+
+impl<A: Allocator> Model for ListEncoder<A> {
+    ghost use Rattle.std.specs.Prelude.{◌≡◌, ◌^◌, vec_len};
+    ghost use Rattle.jbig2_coder.specs.Encoder.{CodingInContexts};
+
+    ghost Value = { CodingInContexts };
+
+    ghost view = { λ s. record { coding = s.encoder; contexts = s.contexts.items } };
+
+    ghost invariant = { λ s. vec_len s.contexts ≡ 2 ^ 16 };
+}
+
+impl<A: Allocator + Clone> ListEncoder<A> {
+    /// An encoder that has no decision yet.
+    ///
+    /// Returns `OutOfMemory` if memory is refused.
+    pub fn new(alloc: A) -> Result<Self>
+        ensures coded { IfOk result (λ encoder. HasCoded encoder []) }
+        ensures err { IfErr result (λ e. e ≡ OutOfMemory) }
+    {
+        let contexts = fresh_contexts(alloc.clone()?)?;
+        Ok(ListEncoder {
+            contexts,
+            encoder: ArithmeticEncoder::new(alloc),
+        })
+    }
+}
+
+impl<A: Allocator> ListEncoder<A> {
+    /// Adds one decision, in the context of this number.
+    ///
+    /// Returns `OutOfMemory` if memory is refused. Then the bytes of the list are lost.
+    #[inline(always)]
+    pub fn push(&mut self, context: u16, decision: bool) -> Result<()>
+        ensures coded { OnOk result (Codes self.old self.new ((context, decision) ∷ [])) }
+        ensures err { IfErr result (λ e. e ≡ OutOfMemory) }
+    {
+        self.encoder
+            .encode(&mut self.contexts[usize::from(context)], decision)?;
+        Ok(())
+    }
+
+    /// The bytes of the list.
+    ///
+    /// Returns `OutOfMemory` if memory is refused.
+    pub fn finish(self) -> Result<Vec<u8, A>>
+        ensures bytes { (list : List (ℕ × Bool)) → HasCoded self list
+            → Gives (λ v. v.items) result (Ok (encoded_bytes list)) }
+    {
+        let ListEncoder {
+            contexts: _,
+            encoder,
+        } = self;
+        encoder.finish()
+    }
+}
+
 /// The bytes of a list of decisions, each with the number of its context (T.88, E.2). Every context
 /// is fresh before the first decision.
 ///
@@ -35,10 +101,9 @@ fn fresh_contexts<A: Allocator>(alloc: A) -> Result<Vec<ArithmeticDecoderContext
 pub fn encode_list<A: Allocator + Clone>(alloc: A, list: &[(u16, bool)]) -> Result<Vec<u8, A>>
     ensures { Gives (λ v. v.items) result (Ok (encoded_bytes list.now)) }
 {
-    let mut contexts = fresh_contexts(alloc.clone()?)?;
-    let mut encoder = ArithmeticEncoder::new(alloc);
+    let mut encoder = ListEncoder::new(alloc)?;
     for (number, decision) in list {
-        encoder.encode(&mut contexts[usize::from(*number)], *decision)?;
+        encoder.push(*number, *decision)?;
     }
     encoder.finish()
 }

@@ -1,5 +1,5 @@
--- The encoder of the code, as the encoder of the definitions, and a list of contexts, as a function of their numbers.
-use Rattle.std.specs.Prelude.{ℕ, ◌+◌, ◌*◌, ◌^◌, ◌<◌, ◌≤◌, List, reverse, slice_index_or}
+-- The encoder of the code, as the encoder of the definitions.
+use Rattle.std.specs.Prelude.{ℕ, ◌+◌, ◌-◌, ◌*◌, ◌^◌, ◌<◌, ◌≤◌, List, reverse}
 use Rattle.jbig2_coder.specs.Coder.{Context, fresh}
 use Rattle.jbig2_coder.specs.Encoder.{Writer, Coding}
 use Rattle.jbig2_coder.specs.declared.mq.encoder.CodeRegister.{CodeRegister}
@@ -10,6 +10,10 @@ writer_of bytes code = record { register = code.c; wait = code.ct; out = reverse
 
 abbrev pub coding_of : List ℕ → Registers → Coding
 coding_of bytes registers = record { range = registers.a; writer = writer_of bytes registers.code }
+
+abbrev pub shifted_registers : ℕ → Registers → Registers  -- A and C shifted by so many bits at once
+shifted_registers shifts r =
+    record { a = r.a * 2 ^ shifts; code = record { c = r.code.c * 2 ^ shifts; ct = r.code.ct - shifts } }
 
 -- When the next byte goes out, C fits in it, with at most one carry.
 pub record HasRoom (a : ℕ) (code : CodeRegister) : Type 0 where
@@ -33,7 +37,3 @@ Contexts = ℕ → Context
 
 abbrev pub all_fresh : Contexts
 all_fresh = λ _. fresh
-
--- the contexts of a list; all others are fresh
-unfoldable pub contexts_of : List Context → Contexts
-contexts_of known = λ k. slice_index_or known k fresh

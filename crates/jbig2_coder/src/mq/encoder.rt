@@ -1,11 +1,11 @@
 //! The arithmetic encoder (T.88, E.2).
 
 ghost use Rattle.std.specs.Prelude.{◌≡◌, ℕ, ◌+◌, ◌-◌, ◌*◌, ◌/◌, ◌%◌, ◌^◌, ◌<◌, ◌≤◌, ◌∷◌, [], reverse, vec_len, IfOk, IfErr, OnOk, Ok, MatchOption, drop};
-ghost use Rattle.std.specs.Bool.{OnFalse};
+ghost use Rattle.std.specs.Bool.{OnFalse, OnTrue};
 ghost use Rattle.jbig2_base.specs.Results.{Gives};
 ghost use Rattle.jbig2_base.specs.declared.error.DecodeError.TheVariants.{OutOfMemory};
 ghost use Rattle.jbig2_coder.specs.Encoder.{initial_coding, eight_bits_out, seven_bits_out, byte_out, shift_once, renorme, narrowed_interval, encoding, set_bits, flush_coder, is_full, with_marker};
-ghost use Rattle.jbig2_coder.specs.inner.EncoderViews.{writer_of, coding_of, HasRoom};
+ghost use Rattle.jbig2_coder.specs.inner.EncoderViews.{writer_of, coding_of, shifted_registers, HasRoom};
 
 use crate::arithmetic_decoder::ArithmeticDecoderContext;
 use crate::arithmetic_decoder::qe_table::state_at;
@@ -124,8 +124,12 @@ fn shift<A: Allocator>(bytes: &mut Vec<u8, A>, registers: Registers) -> Result<R
     Ok(Registers { a, code })
 }
 
-/// Shifts until A has its top bit again, and gives the registers then (RENORME, E.2.6).
-fn renormalize<A: Allocator>(bytes: &mut Vec<u8, A>, registers: Registers) -> Result<Registers>
+/// Shifts A and C bit by bit until A has its top bit again. Few decisions fill a byte, so it is a function of its own.
+#[inline(never)]
+fn renormalize_by_turns<A: Allocator>(
+    bytes: &mut Vec<u8, A>,
+    registers: Registers,
+) -> Result<Registers>
     requires some { 1 ≤ registers.a }
     requires below { registers.a < 0x10000 }
     requires room { HasRoom registers.a registers.code }
@@ -143,8 +147,47 @@ fn renormalize<A: Allocator>(bytes: &mut Vec<u8, A>, registers: Registers) -> Re
     Ok(registers)
 }
 
+/// A and C shifted by so many bits at once, if no byte goes out.
+#[inline(always)]
+fn shifted(registers: Registers, shifts: u32) -> Registers
+    requires few { shifts < registers.code.ct }
+    requires below { registers.a * 2 ^ shifts < 0x10000 }
+    requires room { HasRoom registers.a registers.code }
+    ensures value { result ≡ shifted_registers shifts registers }
+    ensures room { HasRoom result.a result.code }
+{
+    Registers {
+        a: registers.a << shifts,
+        code: CodeRegister {
+            c: registers.code.c << shifts,
+            ct: registers.code.ct - shifts,
+        },
+    }
+}
+
+/// Shifts until A has its top bit again, and gives the registers then (RENORME, E.2.6).
+#[inline(always)]
+fn renormalize<A: Allocator>(bytes: &mut Vec<u8, A>, registers: Registers) -> Result<Registers>
+    requires some { 1 ≤ registers.a }
+    requires half { registers.a < 0x8000 }
+    requires room { HasRoom registers.a registers.code }
+    ensures value { IfOk result (λ r. coding_of bytes.new.items r
+        ≡ renorme 15 registers.a (writer_of bytes.old.items registers.code)) }
+    ensures err { IfErr result (λ e. e ≡ OutOfMemory) }
+    ensures normal { IfOk result (λ r. 0x8000 ≤ r.a) }
+    ensures below { IfOk result (λ r. r.a < 0x10000) }
+    ensures room { IfOk result (λ r. HasRoom r.a r.code) }
+{
+    let shifts = registers.a.leading_zeros() - 16;
+    if shifts < registers.code.ct {
+        return Ok(shifted(registers, shifts));
+    }
+    renormalize_by_turns(bytes, registers)
+}
+
 /// Narrows the interval to the part of `decision`, and returns whether it must be renormalized
 /// (CODEMPS and CODELPS, E.2.4).
+#[inline(always)]
 fn narrow(registers: &mut Registers, context: &mut ArithmeticDecoderContext, decision: bool) -> bool
     requires normal { 0x8000 ≤ registers.old.a }
     requires below { registers.old.a < 0x10000 }
@@ -162,6 +205,7 @@ fn narrow(registers: &mut Registers, context: &mut ArithmeticDecoderContext, dec
     ensures within { registers.new.code.c + registers.new.a
         ≤ registers.old.code.c + registers.old.a }
     ensures normal { OnFalse result (0x8000 ≤ registers.new.a) }
+    ensures half { OnTrue result (registers.new.a < 0x8000) }
 {
     let qe = state_at(context.state).qe;
     let rest = registers.a - qe;
@@ -260,6 +304,7 @@ impl<A: Allocator> ArithmeticEncoder<A> {
 
     /// Codes one decision in `context`, and changes `context` (ENCODE, E.2.2).
     #[tactic(auto, unfolding(crate::specs::Encoder::encoding))]
+    #[inline(always)]
     pub fn encode(&mut self, context: &mut ArithmeticDecoderContext, decision: bool) -> Result<()>
         ensures value { OnOk result (self.new ≡ (encoding context.old decision self.old).coding) }
         ensures context { OnOk result

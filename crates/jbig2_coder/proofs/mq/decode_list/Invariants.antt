@@ -1,6 +1,5 @@
 use Rattle.std.proofs.Common.{◌≡◌, ◌+◌, ◌^◌, ◌++◌, drop, length}
-use Rattle.jbig2_coder.specs.Encoder.{read_back, decoded_from}
-use Rattle.jbig2_coder.specs.inner.EncoderViews.{contexts_of}
+use Rattle.jbig2_coder.specs.Encoder.{contexts_of, read_back, decoded_from}
 use Rattle.jbig2_coder.proofs.mq.decode_list.Given as goal
 
 abbrev pub invariant-loop-number : goal.invariant-loop-number

@@ -1,7 +1,7 @@
 use Rattle.std.proofs.Common.{◌≡◌, ◌-◌, ◌<◌, ◌≤◌}
 use Rattle.jbig2_coder.specs.Encoder.{renorme}
 use Rattle.jbig2_coder.specs.inner.EncoderViews.{writer_of, HasRoom}
-use Rattle.jbig2_coder.proofs.mq.encoder.renormalize.Given as goal
+use Rattle.jbig2_coder.proofs.mq.encoder.renormalize_by_turns.Given as goal
 
 abbrev pub invariant-loop-registers : goal.invariant-loop-registers
 invariant-loop-registers g l = record {
