@@ -1,7 +1,8 @@
 -- What a region costs once its header is read and what it refers to is found, and what decoding it counts (our own
 -- rule).
-use Rattle.std.specs.Prelude.{ℕ, ◌+◌, ◌*◌, length}
-use Rattle.jbig2_steps.specs.Work.{paid_words, price_of_bitmap}
+use Rattle.std.specs.Prelude.{ℕ, ◌+◌, ◌*◌, ◌≡◌, length}
+use Rattle.jbig2_steps.specs.Work.{budget, paid_words, price_of_bitmap}
+use Rattle.jbig2_steps.specs.declared.work.Work.{Work}
 use Rattle.jbig2_region.specs.GenericSteps.{price_of_region}
 use Rattle.jbig2_halftone.specs.Steps.{price_of_halftone}
 use Rattle.jbig2_halftone.specs.inner.DictionaryViews.{dictionary_view}
@@ -13,12 +14,13 @@ use Rattle.jbig2_page.specs.inner.ParsedRegions.{info_of}
 use Rattle.jbig2_region.specs.inner.GenericViews as generics
 use Rattle.jbig2_halftone.specs.inner.HalftoneHeaderViews as halftones
 
-abbrev pub price_of_symbols : ℕ → ℕ  -- of symbols that a segment refers to
-price_of_symbols count = 16 * count
+-- of each symbol that a list has more
+abbrev pub PaysForSymbols : {L : Type 0} → ℕ → ℕ → Work L → Work L → Type 0
+PaysForSymbols before after old new = budget new + 32 * (16 * after) ≡ budget old + 32 * (16 * before)
 
 -- the units of a region, without those of the bitmaps of its size
 abbrev pub price_besides : {A : Type 0} → ParsedRegion A → ℕ
-price_besides (Text header referred) = price_of_symbols (length referred.symbols)
+price_besides (Text header referred) = 0
 price_besides (Halftone header patterns) =
     price_of_halftone (halftones.header_view header) (dictionary_view patterns.now)
 price_besides (Generic header) = length header.bytes.now

@@ -42,10 +42,9 @@ fn decode_symbols<A: Allocator + Clone, L: Ledger>(
     ensures paid { Paid work.old work.new }
 {
     let numbers = &segment.header.referred_to_segments;
-    let referred = gather_referred(workspace.alloc.clone()?, lookup, numbers)?;
+    let referred = gather_referred(workspace.alloc.clone()?, lookup, numbers, work)?;
     let mut reader = Reader::new(segment.bytes);
     let header = jbig2_symbol::parse(&mut reader, lookup.strict)?;
-    referred.pay_symbols(work)?;
     work.pay(u64::from(header.num_new_symbols) * NEW_SYMBOL)?;
     jbig2_symbol::decode(
         workspace.alloc.clone()?,

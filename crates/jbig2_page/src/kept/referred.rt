@@ -5,8 +5,8 @@ ghost use Rattle.jbig2_base.specs.Causes.{HasCauseOrNoMemory};
 ghost use Rattle.jbig2_page.specs.Causes.{BreaksReferred};
 ghost use Rattle.jbig2_page.specs.Names.{with_dictionary, with_table, with_number, with_numbers, referred_by};
 ghost use Rattle.jbig2_page.specs.inner.KeptViews.{found_value, symbols_view};
-ghost use Rattle.jbig2_page.specs.inner.Prices.{price_of_symbols};
-ghost use Rattle.jbig2_steps.specs.Work.{Paid, budget};
+ghost use Rattle.jbig2_page.specs.inner.Prices.{PaysForSymbols};
+ghost use Rattle.jbig2_steps.specs.Work.{Paid};
 
 use crate::kept::names::Lookup;
 use jbig2_base::bitmap::Bitmap;
@@ -18,7 +18,7 @@ use std::alloc::Allocator;
 use std::marker::Model;
 use std::sync::ledger::Ledger;
 
-/// The work of a symbol that is referred to.
+/// The work of a symbol that is referred to: of its place on a list, and of a code for it.
 const SYMBOL: u64 = 16;
 
 /// The most symbols that a segment may refer to.
@@ -75,13 +75,23 @@ fn push_symbols<'a, A: Allocator>(
 }
 
 impl<'a, A: Allocator> ReferredSegments<'a, A> {
-    fn add_dictionary(&mut self, dictionary: &'a SymbolDictionary<A>) -> Result<()>
-        ensures { Gives (λ _. self.new) result
+    /// Adds the symbols of a dictionary, and takes their work first.
+    fn add_dictionary<L: Ledger>(
+        &mut self,
+        dictionary: &'a SymbolDictionary<A>,
+        work: &mut Work<L>,
+    ) -> Result<()>
+        ensures value { Gives (λ _. self.new) result
             (with_dictionary (symbols_view dictionary.now) self.old) }
+        ensures paid { Paid work.old work.new }
+        ensures taken { OnOk result
+            (PaysForSymbols (length self.old.symbols) (length self.new.symbols) work.old work.new) }
     {
-        if dictionary.exported_symbols.len() > MAX_SYMBOLS - self.symbols.len() {
+        let count = dictionary.exported_symbols.len();
+        if count > MAX_SYMBOLS - self.symbols.len() {
             return Err(OverflowError::SymbolCount.into());
         }
+        work.pay(count as u64 * SYMBOL)?;
         push_symbols(&mut self.symbols, &dictionary.exported_symbols)?;
         self.retained_contexts = dictionary.retained_contexts.as_ref();
         Ok(())
@@ -103,45 +113,45 @@ impl<'a, A: Allocator> ReferredSegments<'a, A> {
     }
 
     /// Adds what one number names: a symbol dictionary, or else a table.
-    fn add_number(&mut self, lookup: &Lookup<'a, A>, number: u32) -> Result<()>
-        ensures { Gives (λ _. self.new) result
+    fn add_number<L: Ledger>(
+        &mut self,
+        lookup: &Lookup<'a, A>,
+        number: u32,
+        work: &mut Work<L>,
+    ) -> Result<()>
+        ensures value { Gives (λ _. self.new) result
             (with_number lookup.now.strict lookup.now.own.now lookup.now.globals.now number
             self.old) }
+        ensures paid { Paid work.old work.new }
+        ensures taken { OnOk result
+            (PaysForSymbols (length self.old.symbols) (length self.new.symbols) work.old work.new) }
     {
         if let Some(dictionary) = lookup.symbols(number) {
-            return self.add_dictionary(dictionary);
+            return self.add_dictionary(dictionary, work);
         }
         self.add_table(lookup.strict, lookup.table(number))
     }
 }
 
-impl<A: Allocator> ReferredSegments<'_, A> {
-    /// Takes the work of the symbols that are referred to: of their list, and of codes for them.
-    pub(crate) fn pay_symbols<L: Ledger>(&self, work: &mut Work<L>) -> Result<()>
-        ensures memory { IfErr result (λ e. e ≡ DecodeError.OutOfMemory) }
-        ensures paid { Paid work.old work.new }
-        ensures taken { let price = price_of_symbols (length self.now.symbols) in
-            IfOk result (λ _. budget work.new + 32 * price ≡ budget work.old) }
-    {
-        work.pay((self.symbols.len() as u64).saturating_mul(SYMBOL))?;
-        Ok(())
-    }
-}
-
-/// What a segment refers to: each number names a symbol dictionary, or else a custom table.
+/// What a segment refers to: each number names a symbol dictionary, or else a custom table. The work of symbols is
+/// taken before they are listed.
 ///
 /// Returns `OverflowError::SymbolCount` for more than 2^20 symbols together. Strict reading refuses
 /// a number that names neither.
 #[tactic(auto, using(crate::proofs::SegmentCauses::referred_cause))]
-pub(crate) fn gather_referred<'a, A: Allocator + Clone>(
+pub(crate) fn gather_referred<'a, A: Allocator + Clone, L: Ledger>(
     alloc: A,
     lookup: &Lookup<'a, A>,
     numbers: &[u32],
+    work: &mut Work<L>,
 ) -> Result<ReferredSegments<'a, A>>
     ensures value { Gives (λ referred. referred) result
         (referred_by lookup.now.strict lookup.now.own.now lookup.now.globals.now numbers.now) }
     ensures causes { HasCauseOrNoMemory result (BreaksReferred lookup.now.strict lookup.now.own.now
         lookup.now.globals.now numbers.now) }
+    ensures paid { Paid work.old work.new }
+    ensures taken { IfOk result
+        (λ referred. PaysForSymbols 0 (length referred.symbols) work.old work.new) }
 {
     let mut referred = ReferredSegments {
         symbols: Vec::new(alloc.clone()?),
@@ -149,7 +159,7 @@ pub(crate) fn gather_referred<'a, A: Allocator + Clone>(
         retained_contexts: None,
     };
     for number in numbers {
-        match referred.add_number(lookup, *number) {
+        match referred.add_number(lookup, *number, work) {
             Ok(()) => {}
             Err(error) => return Err(error),
         }

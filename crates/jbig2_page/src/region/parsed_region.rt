@@ -128,7 +128,8 @@ impl<'a, 'n, 'r, A: Allocator + Clone> ParsedRegion<'a, 'n, 'r, A> {
         }
     }
 
-    /// Takes the work of a region, without the bitmaps of its size: that of its symbols, its cells or its coded bytes.
+    /// Takes the work of a region, without the bitmaps of its size: that of its cells or its coded bytes. Symbols
+    /// are paid when they are listed.
     fn pay_besides<L: Ledger>(&self, work: &mut Work<L>) -> Result<()>
         ensures memory { IfErr result (λ e. e ≡ DecodeError.OutOfMemory) }
         ensures paid { Paid work.old work.new }
@@ -136,7 +137,7 @@ impl<'a, 'n, 'r, A: Allocator + Clone> ParsedRegion<'a, 'n, 'r, A> {
             (λ _. budget work.new + 32 * price_besides self.now ≡ budget work.old) }
     {
         match self {
-            ParsedRegion::Text { referred, .. } => referred.pay_symbols(work),
+            ParsedRegion::Text { .. } => Ok(()),
             ParsedRegion::Halftone { header, patterns } => pay_cells(header, patterns, work),
             ParsedRegion::Generic { header } => Ok(work.pay(header.bytes.len() as u64)?),
             ParsedRegion::Refinement { .. } => Ok(()),

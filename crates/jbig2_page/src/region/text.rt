@@ -66,7 +66,7 @@ pub(crate) fn parse_text<'a, 'n, 'r, A: Allocator + Clone, L: Ledger>(
 {
     let lookup = &references.names;
     let numbers = &segment.header.referred_to_segments;
-    let referred = gather_referred(workspace.alloc.clone()?, lookup, numbers)?;
+    let referred = gather_referred(workspace.alloc.clone()?, lookup, numbers, work)?;
     let mut reader = Reader::new(segment.bytes);
     let count = referred.symbols.len() as u32;
     let header = jbig2_text::parse(workspace.alloc.clone()?, &mut reader, count, lookup.strict)?;

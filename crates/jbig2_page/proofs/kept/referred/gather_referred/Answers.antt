@@ -12,10 +12,14 @@ numbers-first strict own shared numbers i r inside = at_drop_more (λ left. with
 pub loop-number-preserved : goal.loop-number-preserved
 loop-number-preserved g c =
     let i = c.loop-number.number-index in
-    sym
-    (numbers-first c.args.lookup.now.strict c.args.lookup.now.own.now c.args.lookup.now.globals.now c.args.numbers.now i c.loop-number.referred (omega arith)
-    ∙ ap (λ added. added >>= λ more. with_numbers c.args.lookup.now.strict c.args.lookup.now.own.now c.args.lookup.now.globals.now (drop (i + 1) c.args.numbers.now) more) c.in-Ok.ensures)
-    ∙ c.loop-number.invariant
+    record {
+      same =
+          sym
+          (numbers-first c.args.lookup.now.strict c.args.lookup.now.own.now c.args.lookup.now.globals.now c.args.numbers.now i c.loop-number.referred (omega arith)
+          ∙ ap (λ added. added >>= λ more. with_numbers c.args.lookup.now.strict c.args.lookup.now.own.now c.args.lookup.now.globals.now (drop (i + 1) c.args.numbers.now) more) c.in-Ok.ensures.value)
+          ∙ c.loop-number.invariant.same;
+      taken = omega (arith, c.in-Ok.ensures.taken, c.loop-number.invariant.taken);
+    }
 
 pub returns-in-Err-clause-value : goal.returns-in-Err-clause-value
 returns-in-Err-clause-value g c =
@@ -24,10 +28,10 @@ returns-in-Err-clause-value g c =
     (λ (memory : c.in-Err.error ≡ OutOfMemory). inl memory)
     (λ refused.
     inr
-    (sym c.loop-number.invariant
+    (sym c.loop-number.invariant.same
     ∙ numbers-first c.args.lookup.now.strict c.args.lookup.now.own.now c.args.lookup.now.globals.now c.args.numbers.now i c.loop-number.referred (omega arith)
     ∙ ap (λ added. added >>= λ more. with_numbers c.args.lookup.now.strict c.args.lookup.now.own.now c.args.lookup.now.globals.now (drop (i + 1) c.args.numbers.now) more) refused))
-    c.in-Err.ensures
+    c.in-Err.ensures.value
 
 pub returns-in-Err-clause-causes : goal.returns-in-Err-clause-causes
 returns-in-Err-clause-causes g c = referred_cause c.args.lookup.now.strict c.args.lookup.now.own.now c.args.lookup.now.globals.now c.args.numbers.now _ (returns-in-Err-clause-value g c)
