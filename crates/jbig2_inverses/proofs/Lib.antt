@@ -18,6 +18,7 @@ pub mod RegionInverse
 mod RegionWorked
 pub mod RowBits
 pub mod RowCodes
+pub mod RowCredits
 pub mod RowInverse
 pub mod RowLengths
 pub mod RowModes

@@ -1,6 +1,7 @@
 -- Regions that are coded pixel by pixel are read back.
-use Rattle.std.proofs.Common.{◌≡◌, ℕ, zero, suc, ◌+◌, ◌*◌, ◌/◌, ◌%◌, ◌<◌, ◌≤◌, eqb, Bool, true, false, cond, List, [], ◌∷◌, ◌++◌, length, get_or, set, Option, Some, None, refl, sym, ◌∙◌, ap, subst, arith, ⊎_elim, eq-eqb, ne_eqb, length-append}
+use Rattle.std.proofs.Common.{◌≡◌, ℕ, zero, suc, ◌+◌, ◌*◌, ◌/◌, ◌%◌, ◌<◌, ◌≤◌, eqb, Bool, true, false, cond, List, [], ◌∷◌, ◌++◌, length, get_or, set, Option, Some, None, refl, sym, ◌∙◌, ap, subst, arith, ⊎_elim, eq-eqb, eqb-true, ne_eqb, length-append}
 use Rattle.std.proofs.lemmas.Bool.{cond-true, cond-false, cond_both, cases_eq, cases_lt}
+use Rattle.std.proofs.Math.Nat.{mul-le-mul_right}
 use Rattle.std.proofs.lemmas.List.{length_push, get_or_append_left, get_or_at}
 use Rattle.std.proofs.lemmas.Nat.{div-mul-add, mod-mul-add, mul-add-lt, div-add-mod', mod_below}
 use Rattle.jbig2_base.specs.Grid.{grid_of, differ}
@@ -64,7 +65,7 @@ module _ (coding : Coding) (w h : ℕ) (pixels : ℕ → ℕ → Bool) (typical 
       ∙ ap (λ (a : ℕ). pixels a ((y * w + x) / w)) (mod-mul-add y w x left)
       ∙ ap (λ (b : ℕ). pixels x b) (div-mul-add y w x left)
 
-  -- at most two decisions for each pixel
+  -- at most one decision for each pixel, and one for each row that begins
   known-few : (o : Option Bool) (e : Entry) → length (known_or o e) ≤ 1
   known-few None e = omega arith
   known-few (Some c) e = omega arith
@@ -73,20 +74,30 @@ module _ (coding : Coding) (w h : ℕ) (pixels : ℕ → ℕ → Bool) (typical 
   ltp-few None n = omega arith
   ltp-few (Some k) n = omega arith
 
-  pub entries-few : (n : ℕ) → length (entries_before coding w h pixels typical base n) ≤ 2 * n
+  pub entries-few : (n rows : ℕ) → n ≤ w * rows → length (entries_before coding w h pixels typical base n) ≤ n + rows
   unfolding entries_before
-  entries-few zero = omega arith
-  entries-few (suc n) =
+  entries-few zero rows within = omega arith
+  entries-few (suc n) rows within =
+      let before = entries_before coding w h pixels typical base n in
       let row = row_entries coding w h pixels typical base n in
       let pixel = pixel_entries coding w h pixels typical base n in
       let none : List Entry = [] in
       let g = so_far w h (all n) in
-      let a = length-append (entries_before coding w h pixels typical base n) (row ++ pixel) in
+      let a = length-append before (row ++ pixel) in
       let b = length-append row pixel in
-      let c : length row ≤ 1 = cond_both (eqb (n % w) 0) (ltp_entries coding w h pixels typical base coding.row_context n) none (λ (es : List Entry). length es ≤ 1) (λ e. ltp-few coding.row_context n) (λ e. omega arith) in
+      let c : length before + length row ≤ n + rows = cond_both (eqb (n % w) 0) (ltp_entries coding w h pixels typical base coding.row_context n) none (λ (es : List Entry). length before + length es ≤ n + rows)
+      (λ e. let whole = div-add-mod' n w in
+      let starts : n ≤ w * (n / w) = let r = eqb-true (n % w) 0 e in omega (arith, whole, r) in
+      let few = entries-few n (n / w) starts in
+      let one = ltp-few coding.row_context n in
+      let less = fewer (n / w) rows w n (omega (arith, whole)) within in
+      omega (arith, few, one, less))
+      (λ e. let few = entries-few n rows (omega (arith, within)) in omega (arith, few)) in
       let d : length pixel ≤ 1 = known-few (coding.known (typical (n / w)) g (n % w) (n / w)) (base + coding.context g (n % w) (n / w), pixels (n % w) (n / w)) in
-      let ih = entries-few n in
-      omega (arith, a, b, c, d, ih)
+      omega (arith, a, b, c, d)
+    where
+      fewer : (i j w n : ℕ) → i * w ≤ n → suc n ≤ w * j → i < j
+      fewer i j w n low high = ⊎_elim (λ (less : i < j). less) (λ (more : j ≤ i). let least = mul-le-mul_right w more in absurd (omega (arith, least, low, high))) (cases_lt i j)
 
   grid-is : so_far w h (all (w * h)) ≡ grid_of w h pixels
   unfolding so_far

@@ -1,7 +1,10 @@
 -- Short segments, written by the definition.
 use Rattle.std.proofs.Common.{◌≡◌, true, false, [], ◌∷◌, Some, None, refl}
+use Rattle.std.specs.Prelude.{pos, negsuc}
 use Rattle.jbig2_base.specs.declared.bitmap.operator.CombinationOperator.TheVariants.{Or}
 use Rattle.jbig2_framing.specs.declared.segment.SegmentType.TheVariants.{EndOfPage}
+use Rattle.jbig2_region.specs.declared.template.Template.TheVariants.{Template3}
+use Rattle.jbig2_inverses.specs.GenericSegmentWriter.{generic_bytes, info_bytes}
 use Rattle.jbig2_inverses.specs.SegmentWriter.{segment_bytes, information_bytes}
 
 -- an end of page: number 2, type 49, a page association of four bytes, no data
@@ -22,3 +25,18 @@ page_of_64 : information_bytes (record {
     ≡ 0 ∷ 0 ∷ 0 ∷ 64 ∷ 0 ∷ 0 ∷ 0 ∷ 56 ∷ 0 ∷ 0 ∷ 0 ∷ 0 ∷ 0 ∷ 0 ∷ 0 ∷ 0 ∷ 1 ∷ 0 ∷ 0 ∷ []
 unfolding information_bytes
 page_of_64 = refl
+
+-- a region of 3 by 2 pixels at (4, 5), by template 3 with typical prediction and an adaptive pixel at (2, -1): its data
+generic_data : generic_bytes (record {
+  region_info = record { width = 3; height = 2; x_location = 4; y_location = 5; combination_operator = Or };
+  mmr = false;
+  template = Template3;
+  extended = false;
+  tpgdon = true;
+  adaptive_template_pixels = (record { x = pos 2; y = negsuc 0 }) ∷ [];
+  bytes = 0xFF ∷ 0xAC ∷ [];
+  strict = true;
+})
+    ≡ 0 ∷ 0 ∷ 0 ∷ 3 ∷ 0 ∷ 0 ∷ 0 ∷ 2 ∷ 0 ∷ 0 ∷ 0 ∷ 4 ∷ 0 ∷ 0 ∷ 0 ∷ 5 ∷ 0 ∷ 0x0E ∷ 2 ∷ 0xFF ∷ 0xFF ∷ 0xAC ∷ []
+unfolding generic_bytes info_bytes
+generic_data = refl

@@ -36,6 +36,7 @@ unfoldable pub window : ℕ → ℕ → (ℕ → Context) → List Context  -- t
 window base zero contexts = []
 window base (suc count) contexts = contexts base ∷ window (base + 1) count contexts
 
--- The encoder's data (E.2) is short: no decision takes more than fifteen shifts, and a byte takes at least seven.
+-- The encoder's data (E.2) is short. Decisions take at most six shifts on average, since one that takes more, up to
+-- fifteen, comes after likely ones that take fewer; and a byte takes at least seven.
 abbrev pub CodedDataIsShort : Type 0
-CodedDataIsShort = (entries : List Entry) → 7 * length (encoded_bytes entries) ≤ 15 * length entries + 40
+CodedDataIsShort = (entries : List Entry) → 7 * length (encoded_bytes entries) ≤ 6 * length entries + 40

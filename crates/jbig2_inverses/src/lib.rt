@@ -39,7 +39,8 @@ pub fn sequences_read_back()
     ensures { SequencesReadBack }
 {}
 
-/// The data of the encoder of E.2 is short: at most fifteen bits in bytes of seven for each decision, and 40 bits more.
+/// The data of the encoder of E.2 is short: at most six bits in bytes of seven for each decision on average, and 40 bits
+/// more. So a segment can state the length of any bitmap with sides up to 65535.
 pub fn coded_data_is_short()
     ensures { CodedDataIsShort }
 {}

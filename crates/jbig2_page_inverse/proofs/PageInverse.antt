@@ -269,15 +269,19 @@ by-mmr-short c w h pixels e columns rows =
     let most = bits-short w h columns rows in
     omega (arith, is, few, most)
 
-by-coder-short : (c : Choice) (w h : ℕ) (pixels : ℕ → ℕ → Bool) → c.mmr ≡ false → 7 * length (coded_bytes c w h pixels) ≤ 30 * (w * h) + 40
+area-few : (w h : ℕ) → w ≤ max_side → h ≤ max_side → w * h + h ≤ 65535 * 65536
+area-few w h columns rows = let most = mul-le h (w + 1) 65535 65536 rows (omega (arith, columns)) in omega (arith, most)
+
+pub by-coder-short : (c : Choice) (w h : ℕ) (pixels : ℕ → ℕ → Bool) → c.mmr ≡ false → w ≤ max_side → h ≤ max_side → 7 * length (coded_bytes c w h pixels) ≤ 6 * (65535 * 65536) + 40
 unfolding coded_bytes generic_entries
-by-coder-short c w h pixels e =
+by-coder-short c w h pixels e columns rows =
     let header = region_with c w h pixels false [] in
     let entries = generic_entries header pixels in
     let is = ap length (cond-false c.mmr (mmr_bytes c.end_of_block w h pixels) (encoded_bytes entries) e) in
     let few = coded_data_is_short entries in
-    let most = entries-few (generic_coding header) w h pixels (is_typical c.typical w pixels) 0 (w * h) in
-    omega (arith, is, few, most)
+    let most = entries-few (generic_coding header) w h pixels (is_typical c.typical w pixels) 0 (w * h) h (omega arith) in
+    let area = area-few w h columns rows in
+    omega (arith, is, few, most, area)
 
 adaptive-few : (mmr extended : Bool) (template : Template) → adaptive_pixel_count mmr extended template ≤ 12
 adaptive-few true extended template = omega arith
@@ -290,17 +294,17 @@ adaptive-few false false Template2 = omega arith
 adaptive-few false true Template3 = omega arith
 adaptive-few false false Template3 = omega arith
 
-data-short : (c : Choice) (w h : ℕ) (pixels : ℕ → ℕ → Bool) → IsChoice c → w ≤ max_side → h ≤ max_side → (c.mmr ≡ false → w * h ≤ 1000000000) → length (region_bytes c w h pixels) < 4294967295
-data-short c w h pixels is columns rows given =
+data-short : (c : Choice) (w h : ℕ) (pixels : ℕ → ℕ → Bool) → IsChoice c → w ≤ max_side → h ≤ max_side → length (region_bytes c w h pixels) < 4294967295
+data-short c w h pixels is columns rows =
     let size = length-region c w h pixels in
     let count = is.count in
     let twelve = adaptive-few c.mmr c.extended c.template in
     ⊎_elim
     (λ (e : c.mmr ≡ true). let few = by-mmr-short c w h pixels e columns rows in omega (arith, size, count, twelve, few))
-    (λ (e : c.mmr ≡ false). let few = by-coder-short c w h pixels e in let area = given e in omega (arith, size, count, twelve, few, area))
+    (λ (e : c.mmr ≡ false). let few = by-coder-short c w h pixels e columns rows in omega (arith, size, count, twelve, few))
     (cases_Bool c.mmr)
 
 pub pages_read_back : PagesReadBack
-pages_read_back reading globals c w h pixels is columns rows given =
-    let short = data-short c w h pixels is columns.1 rows.1 given in
+pages_read_back reading globals c w h pixels is columns rows =
+    let short = data-short c w h pixels is columns.1 rows.1 in
     (page reading globals c w h pixels is columns rows, page-is reading globals c w h pixels is columns rows short (never-cut (page_bytes c w h pixels) _ (segments-are Strict globals c w h pixels is columns rows short)), grid-is reading globals c w h pixels is columns rows)

@@ -96,10 +96,10 @@ module _ (c : Choice) (w h : ℕ) (pixels : ℕ → ℕ → Bool) where
   unfoldable pub page_bytes : List ℕ
   page_bytes = flat_map segment_bytes page_segments
 
--- Each bitmap is a page, in each mode and with any globals. A segment states the length of its data (7.2.7), so a
--- bitmap that the arithmetic coder codes has at most 10^9 pixels here. By MMR any sides will do.
+-- Each bitmap is a page, in each mode and with any globals. A segment states the length of its data in four bytes
+-- (7.2.7): no coding here takes more than that holds.
 abbrev pub PagesReadBack : Type 0
 PagesReadBack = (reading : Reading) (globals : Names) (c : Choice) (w h : ℕ) (pixels : ℕ → ℕ → Bool)
-    → IsChoice c → IsSide w → IsSide h → (c.mmr ≡ false → w * h ≤ 1000000000)
+    → IsChoice c → IsSide w → IsSide h
     → (page : ReadPage) × (page_from reading globals (page_bytes c w h pixels) ≡ Ok page)
     × (grid_of_page page ≡ Ok (grid_of w h pixels))

@@ -6,8 +6,7 @@ ghost use Rattle.jbig2_page_inverse.specs.PageWriter.{PagesReadBack};
 
 /// Each bitmap with sides of 1 to 65535 is a page: an embedded one, of page information and one immediate generic
 /// region, by each template with any adaptive pixels, with typical prediction and without, and by MMR. In each mode,
-/// and with any globals, the page that is read from these bytes is drawn as that bitmap. By the arithmetic coder the
-/// bitmap has at most 10^9 pixels, so that a segment can state the length of its data.
+/// and with any globals, the page that is read from these bytes is drawn as that bitmap.
 pub fn pages_read_back()
     ensures { PagesReadBack }
 {}
