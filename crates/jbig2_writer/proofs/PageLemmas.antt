@@ -1,7 +1,7 @@
 -- The parts that are written are a page, and the page reads back.
-use Rattle.std.proofs.Common.{◌≡◌, ℕ, ◌+◌, ◌*◌, ◌<◌, ◌≤◌, Bool, true, false, not, ◌&&◌, cond, nat_le, nat_lt, List, [], ◌++◌, length, Result, Ok, Err, MatchResult, IsErrAnd, IfOk, refl, sym, ◌∙◌, ap, subst, arith, append-nil, length-append}
+use Rattle.std.proofs.Common.{◌≡◌, ℕ, ◌+◌, ◌*◌, ◌<◌, ◌≤◌, Bool, true, false, ◌&&◌, cond, nat_le, List, [], ◌++◌, length, Result, Ok, Err, MatchResult, IsErrAnd, IfOk, refl, sym, ◌∙◌, ap, subst, arith, append-nil, length-append}
 use Rattle.std.specs.List.{flat_map}
-use Rattle.std.proofs.lemmas.Bool.{and_parts, not-false}
+use Rattle.std.proofs.lemmas.Bool.{and_parts}
 use Rattle.std.proofs.lemmas.Bool.Decides.{nat_tests}
 use Rattle.jbig2_base.specs.Results.{◌>>=◌}
 use Rattle.jbig2_base.specs.Results as base
@@ -18,17 +18,15 @@ use Rattle.jbig2_inverses.specs.CoderStates.{Entry}
 use Rattle.jbig2_inverses.specs.GenericSegmentWriter.{AreAdaptive, adaptive_bytes, generic_bytes, info_bytes}
 use Rattle.jbig2_inverses.specs.RegionWriter.{entries_before, generic_entries, is_typical}
 use Rattle.jbig2_inverses.specs.SegmentWriter.{information_bytes, segment_bytes}
-use Rattle.jbig2_inverses.proofs.CodedLength.{coded_data_is_short}
-use Rattle.jbig2_inverses.proofs.RegionInverse.{entries-few}
 use Rattle.jbig2_page.specs.Page.{IsSide, page_from}
 use Rattle.jbig2_page_inverse.specs.PageWriter.{IsChoice, coded_bytes, page_bytes, region_with}
-use Rattle.jbig2_page_inverse.proofs.PageInverse.{pages_read_back}
+use Rattle.jbig2_page_inverse.proofs.PageInverse.{by-coder-short, pages_read_back}
 use Rattle.jbig2_writer.specs.declared.settings.WriteSettings.{WriteSettings}
 use Rattle.jbig2_writer.specs.inner.Rows.{rows_decisions}
 use Rattle.jbig2_writer.specs.inner.Segments.{page_information, region_data, segment_of, segments_of}
-use Rattle.jbig2_writer.specs.Written.{ReadsBack, check_size, choice_of, is_side, max_pixels, written}
+use Rattle.jbig2_writer.specs.Written.{ReadsBack, check_size, choice_of, is_side, written}
 use Rattle.jbig2_writer.specs.declared.error.WriteError.{WriteError}
-use Rattle.jbig2_writer.specs.declared.error.WriteError.TheVariants.{InvalidSides, TooLarge}
+use Rattle.jbig2_writer.specs.declared.error.WriteError.TheVariants.{InvalidSides}
 use Rattle.jbig2_writer.proofs.EntryLemmas.{rows-are}
 
 -- ---- the coded bytes
@@ -55,14 +53,6 @@ mapped-bytes view (Err e) (Ok x) post made meant gives is same = absurd same
 mapped-bytes view (Err e) (Err d) post made meant gives is same = tt
 
 -- ---- their length
-coded-short : (s : WriteSettings) (w h : ℕ) (pixels : ℕ → ℕ → Bool) → 7 * length (coded_bytes (choice_of s) w h pixels) ≤ 30 * (w * h) + 40
-unfolding coded_bytes generic_entries
-coded-short s w h pixels =
-    let header = region_with (choice_of s) w h pixels false [] in
-    let few = coded_data_is_short (generic_entries header pixels) in
-    let most = entries-few (generic_coding header) w h pixels (is_typical s.typical w pixels) 0 (w * h) in
-    omega (arith, few, most)
-
 length-adaptive : (template : Template) → length (flat_map adaptive_bytes (nominal_adaptive_pixels template)) ≤ 8
 length-adaptive Template0 = omega arith
 length-adaptive Template1 = omega arith
@@ -91,25 +81,18 @@ information-short none bytes slice w h empty is same =
 pub record IsAllowed (w h : ℕ) : Type 0 where
   pub columns : IsSide w
   pub rows : IsSide h
-  pub few : w * h ≤ 1000000000
 
 side-is : (n : ℕ) → is_side n ≡ true → IsSide n
 side-is n e = let both = and_parts (nat_le 1 n) (nat_le n max_side) e in (grind (arith, nat_tests), grind (arith, nat_tests))
 
-abbrev by_tests : Bool → Bool → Result (Unit {0}) WriteError
-by_tests bad large = cond bad (Err InvalidSides) (cond large (Err TooLarge) (Ok tt))
-
-allowed-by : (bad large : Bool) (unit : Unit {0}) → by_tests bad large ≡ Ok unit → (bad ≡ false) × (large ≡ false)
-allowed-by true large unit e = absurd (cc)
-allowed-by false true unit e = absurd (cc)
-allowed-by false false unit e = (refl, refl)
+allowed-by : (good : Bool) (unit : Unit {0}) → cond good (Ok tt) (Err InvalidSides) ≡ Ok unit → good ≡ true
+allowed-by true unit e = refl
+allowed-by false unit e = absurd (cc)
 
 pub allowed : (w h : ℕ) (r : Result (Unit {0}) WriteError) (unit : Unit {0}) → r ≡ check_size w h → r ≡ Ok unit → IsAllowed w h
 allowed w h r unit is e =
-    let parts = allowed-by (not (is_side w && is_side h)) (nat_lt max_pixels (w * h)) unit (sym is ∙ e) in
-    let both : (is_side w && is_side h) ≡ true = not-false (is_side w && is_side h) parts.0 in
-    let sides = and_parts (is_side w) (is_side h) both in
-    record { columns = side-is w sides.0; rows = side-is h sides.1; few = grind (arith, nat_tests) }
+    let sides = and_parts (is_side w) (is_side h) (allowed-by (is_side w && is_side h) unit (sym is ∙ e)) in
+    record { columns = side-is w sides.0; rows = side-is h sides.1 }
 
 -- ---- the page
 page-is : (s : WriteSettings) (w h : ℕ) (pixels : ℕ → ℕ → Bool)
@@ -140,9 +123,10 @@ page-made s g w h bytes coded slice is_w is_h is_bytes is_slice is_coded =
 
 pub coded-fits : (s : WriteSettings) (g : Grid) (w h : ℕ) (coded slice : List ℕ) → w ≡ g.width → h ≡ g.height → IsAllowed w h → slice ≡ coded → coded ≡ coded_bytes (choice_of s) g.width g.height (pixel_at g) → length slice + 26 < 4294967296
 coded-fits s g w h coded slice is_w is_h is is_slice is_coded =
-    let short = coded-short s g.width g.height (pixel_at g) in
-    let few : g.width * g.height ≤ 1000000000 = subst (λ (n : ℕ). g.width * n ≤ 1000000000) is_h (subst (λ (n : ℕ). n * h ≤ 1000000000) is_w is.few) in
-    omega (arith, ap length (is_slice ∙ is_coded), short, few)
+    let columns : g.width ≤ max_side = subst (λ (n : ℕ). n ≤ max_side) is_w is.columns.1 in
+    let rows : g.height ≤ max_side = subst (λ (n : ℕ). n ≤ max_side) is_h is.rows.1 in
+    let short = by-coder-short (choice_of s) g.width g.height (pixel_at g) refl columns rows in
+    omega (arith, ap length (is_slice ∙ is_coded), short)
 
 pub given : (s : WriteSettings) (g : Grid) (w h : ℕ) (bytes : List ℕ) (r : Result (Unit {0}) WriteError) (unit : Unit {0}) → w ≡ g.width → h ≡ g.height → r ≡ check_size w h → r ≡ Ok unit → bytes ≡ page_bytes (choice_of s) g.width g.height (pixel_at g)
     → written s g ≡ Ok bytes
@@ -175,5 +159,5 @@ pub reads-back : (s : WriteSettings) (g : Grid) (w h : ℕ) (bytes : List ℕ) �
 reads-back s g w h bytes whole is_w is_h allows made reading globals =
     let turned : IsAllowed g.width h = subst (λ (n : ℕ). IsAllowed n h) is_w allows in
     let is : IsAllowed g.width g.height = subst (λ (n : ℕ). IsAllowed g.width n) is_h turned in
-    let read = pages_read_back reading globals (choice_of s) g.width g.height (pixel_at g) (choice-is s) is.columns is.rows (λ _. is.few) in
+    let read = pages_read_back reading globals (choice_of s) g.width g.height (pixel_at g) (choice-is s) is.columns is.rows in
     (read.0, ap (λ (l : List ℕ). page_from reading globals l) made ∙ read.1, read.2 ∙ ap (λ (h : Grid). Ok h) (sym whole))

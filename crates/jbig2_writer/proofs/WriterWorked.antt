@@ -11,7 +11,7 @@ use Rattle.jbig2_inverses.specs.GenericSegmentWriter.{generic_bytes, info_bytes}
 use Rattle.jbig2_inverses.specs.RegionWriter.{entries_before, generic_entries, pixels_before}
 use Rattle.jbig2_inverses.specs.SegmentWriter.{information_bytes, segment_bytes}
 use Rattle.jbig2_page_inverse.specs.PageWriter.{coded_bytes, page_bytes}
-use Rattle.jbig2_writer.specs.declared.error.WriteError.TheVariants.{InvalidSides, TooLarge}
+use Rattle.jbig2_writer.specs.declared.error.WriteError.TheVariants.{InvalidSides}
 use Rattle.jbig2_writer.specs.Written.{check_size, written}
 
 -- two black rows of one pixel, with typical prediction
@@ -37,8 +37,5 @@ no_columns = refl
 too_long : check_size 65536 1 ≡ Err InvalidSides
 too_long = refl
 
-too_large : check_size 65535 65535 ≡ Err TooLarge
-too_large = refl
-
-just_fits : check_size 20000 50000 ≡ Ok tt
+just_fits : check_size 65535 65535 ≡ Ok tt
 just_fits = refl

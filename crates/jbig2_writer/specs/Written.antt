@@ -1,6 +1,6 @@
 -- What is written for a bitmap: the bytes of an embedded page that holds it, or a refusal of its size. Then how the
 -- result of the writer compares with that, and what it is that the bytes read back.
-use Rattle.std.specs.Prelude.{◌≡◌, ℕ, ◌*◌, ◌&&◌, nat_le, nat_lt, false, Bool, not, if◌then◌else◌, List, Result, Ok, Err, ◌⊎◌}
+use Rattle.std.specs.Prelude.{◌≡◌, ℕ, ◌&&◌, nat_le, false, Bool, if◌then◌else◌, List, Result, Ok, Err, ◌⊎◌}
 use Rattle.jbig2_base.specs.Grid.{Grid, max_side, pixel_at}
 use Rattle.jbig2_base.specs.Results.{◌>>=◌}
 use Rattle.jbig2_framing.specs.declared.reading.Reading.{Reading}
@@ -9,7 +9,7 @@ use Rattle.jbig2_page.specs.Names.{Names}
 use Rattle.jbig2_page.specs.Page.{ReadPage, page_from, grid_of_page}
 use Rattle.jbig2_page_inverse.specs.PageWriter.{Choice, page_bytes}
 use Rattle.jbig2_writer.specs.declared.error.WriteError.{WriteError}
-use Rattle.jbig2_writer.specs.declared.error.WriteError.TheVariants.{InvalidSides, OutOfMemory, TooLarge}
+use Rattle.jbig2_writer.specs.declared.error.WriteError.TheVariants.{InvalidSides, OutOfMemory}
 use Rattle.jbig2_writer.specs.declared.settings.WriteSettings.{WriteSettings}
 
 -- by the arithmetic coder, with nominal adaptive pixels
@@ -26,14 +26,8 @@ choice_of s = record {
 abbrev pub is_side : ℕ → Bool
 is_side n = nat_le 1 n && nat_le n max_side
 
-abbrev pub max_pixels : ℕ  -- so many pixels at most, so that a segment can state the length of its data (7.2.7)
-max_pixels = 1000000000
-
 abbrev pub check_size : ℕ → ℕ → Result (Unit {0}) WriteError
-check_size width height =
-    if not (is_side width && is_side height) then Err InvalidSides
-    else if nat_lt max_pixels (width * height) then Err TooLarge
-    else Ok tt
+check_size width height = if is_side width && is_side height then Ok tt else Err InvalidSides
 
 -- the page that holds the bitmap; its sides are 1 to 65535
 abbrev pub written : WriteSettings → Grid → Result (List ℕ) WriteError

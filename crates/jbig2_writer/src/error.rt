@@ -11,9 +11,6 @@ pub enum WriteError {
     /// The width or the height is 0 or above 65535.
     #[error("a side of the bitmap is 0 or above 65535")]
     InvalidSides,
-    /// The bitmap has more than 1,000,000,000 pixels.
-    #[error("the bitmap has more than 1,000,000,000 pixels")]
-    TooLarge,
     /// A request for memory was refused.
     #[error("out of memory")]
     OutOfMemory,

@@ -10,5 +10,5 @@ mod segments;
 mod settings;
 
 pub use error::WriteError;
-pub use page::{MAX_PIXELS, write_page};
+pub use page::write_page;
 pub use settings::WriteSettings;

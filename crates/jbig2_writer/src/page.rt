@@ -15,9 +15,6 @@ use jbig2_coder::mq::encode_list;
 use std::alloc::{AllocError, Allocator};
 use std::sync::ledger::Ledger;
 
-/// The most pixels of a bitmap that is written, so that its segment can state the length of its data (7.2.7).
-pub const MAX_PIXELS: u64 = 1_000_000_000;
-
 /// The type of page information (7.3).
 const PAGE_INFORMATION: u8 = 48;
 
@@ -31,15 +28,12 @@ fn is_side(length: u32) -> bool
     1 <= length && length <= MAX_DIMENSION
 }
 
-/// Refuses a size that no page has, or one that is too large to be written.
+/// Refuses a size that no page has.
 fn check_size(width: u32, height: u32) -> Result<(), WriteError>
     ensures { result ≡ check_size width height }
 {
     if !(is_side(width) && is_side(height)) {
         return Err(WriteError::InvalidSides);
-    }
-    if u64::from(width) * u64::from(height) > MAX_PIXELS {
-        return Err(WriteError::TooLarge);
     }
     Ok(())
 }
@@ -89,8 +83,7 @@ fn page_segments<A: Allocator + Clone>(
 /// generic region of the page's size. The region is coded as `settings` say. The steps count loads of pixels, at most
 /// 19 for each pixel of the bitmap.
 ///
-/// Returns `InvalidSides` if a side is 0 or above 65535, `TooLarge` if there are more than 1,000,000,000 pixels, and
-/// `OutOfMemory` if memory is refused.
+/// Returns `InvalidSides` if a side is 0 or above 65535, and `OutOfMemory` if memory is refused.
 pub fn write_page<A: Allocator + Clone, B: Allocator, L: Ledger>(
     alloc: A,
     bitmap: &Bitmap<B>,
