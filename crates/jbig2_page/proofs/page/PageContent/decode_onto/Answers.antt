@@ -1,6 +1,7 @@
 use Rattle.std.proofs.Common.{arith}
 use Rattle.std.proofs.Common.{subst}
 use Rattle.std.specs.Prelude.{IfErr}
+use Rattle.jbig2_steps.specs.Work.{price_of_bitmap}
 use Rattle.jbig2_steps.proofs.WorkLemmas.{paid-limit}
 use Rattle.jbig2_page.specs.Causes.{IsFromInput}
 use Rattle.jbig2_page.specs.Page.{ReadPage}
@@ -20,7 +21,7 @@ pub returns-in-Ok-clause-paid : goal.returns-in-Ok-clause-paid
 returns-in-Ok-clause-paid g c =
     let same = page-price c.args.self.now c.draw_onto.new.canvas c.page.result.now c.in-Ok.ensures.drawing c.page.ensures in
     let page = c.args.self.now.initial_page in
-    counts-paid c.args.work.now c.draw_onto.new.work c.push_bitmap.new.steps _ (omega (arith, c.in-Ok.ensures.ahead, same, twice-paid page.width page.height)) (omega (arith, c.push_bitmap.ensures.paid))
+    counts-paid c.args.work.now c.draw_onto.new.work c.push_bitmap.new.steps (price_of_bitmap c.page.result.now.width c.page.result.now.height) (omega (arith, c.in-Ok.ensures.ahead, same, twice-paid page.width page.height)) (omega (arith, c.push_bitmap.ensures.paid))
 
 pub returns-in-Ok-clause-limit : goal.returns-in-Ok-clause-limit
 returns-in-Ok-clause-limit g c = paid-limit c.args.work.now _ (returns-in-Ok-clause-paid g c)

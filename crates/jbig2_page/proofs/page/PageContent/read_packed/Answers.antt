@@ -37,7 +37,7 @@ pub returns-clause-paid : goal.returns-clause-paid
 returns-clause-paid g c =
     let page = c.args.self.now.initial_page in
     let counts : CountsBeside (paid_words page.width page.height) (price_of_bitmap page.width page.height) c.draw_new_canvas.new.work.steps c.read_at.new.steps = bytes-paid page.width page.height (length c.args.buf.now) (sum_of_counts c.draw_new_canvas.new.work.steps) (sum_of_counts c.read_at.new.steps) c.requires c.read_at.ensures.steps in
-    counts-paid c.args.work.now c.draw_new_canvas.new.work c.read_at.new.steps _ (omega (arith, c.in_ok-canvas.ensures.ahead, twice-paid page.width page.height)) (omega (arith, counts))
+    counts-paid c.args.work.now c.draw_new_canvas.new.work c.read_at.new.steps (price_of_bitmap page.width page.height) (omega (arith, c.in_ok-canvas.ensures.ahead, twice-paid page.width page.height)) (omega (arith, counts))
 
 pub returns-clause-taken : goal.returns-clause-taken
 returns-clause-taken g c =
