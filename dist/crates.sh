@@ -3,9 +3,19 @@
 dist=$(cd -- "${BASH_SOURCE[0]%/*}" && pwd -P)
 root=${dist%/*}
 
-# The programs of which dist/ has texts, and the processors for which it has the library for C.
+# The programs of which dist/ has texts, and the processors for which it has the library for C. rt ci proves programs for the
+# first one.
 programs=(jbig2_decode jbig2_bench)
 processors=(x86_64 aarch64)
+
+# Prints the programs that have a text for a processor: jbig2-bench measures, and has one for the first alone.
+programs_for() {
+    if [ "$1" = "${processors[0]}" ]; then
+        echo "${programs[@]}"
+    else
+        echo jbig2_decode
+    fi
+}
 
 # The libraries that each crate names, those of the toolchain too.
 declare -A named=()
@@ -94,6 +104,12 @@ sums_of_crates() {
 print_sources() {
     list_crates "${programs[@]}" ${named[jbig2_c]}
     sums_of_crates "${crates[@]}" && sum_of_c
+}
+
+# And for what the programs for other processors than the first are made of.
+print_sources_elsewhere() {
+    list_crates $(for processor in "${processors[@]:1}"; do programs_for "$processor"; done)
+    sums_of_crates "${crates[@]}"
 }
 
 # And for what the library for C is made of.

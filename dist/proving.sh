@@ -1,4 +1,4 @@
-# Sourced after crates.sh by what needs the toolchain: c/prove, dist/renew, dist/check and ./test --sources.
+# Sourced after crates.sh by what needs the toolchain: c/prove, dist/prove-elsewhere, dist/renew, dist/check, ./test --sources.
 
 if ! command -v rt >/dev/null; then
     echo "$0 needs the toolchain, whose command rt is not on the PATH" >&2
@@ -91,6 +91,15 @@ build_crate() {
     done
     words+=(--antt-project "$kit/rattle/logic/antt-project.json" --logic-built "$kit/logic_built" --empty-contracts)
     rattle build "${words[@]}"
+}
+
+# Builds a program for a processor: build_object CRATE PROCESSOR OBJECT [OPTION ..].
+build_object() {
+    local crate=$1 processor=$2 object=$3
+    shift 3
+    cd -- "$root/crates/$crate"
+    build_crate "$crate" src/main.rt "$object" --target "$processor-unknown-linux-gnu" --links "$crate=" "$@" -- \
+        ${named[$crate]}
 }
 
 # Builds the crate for C, which c/lay-out laid out in the current folder: build_library PROCESSOR OBJECT [OPTION ..]. With
