@@ -19,24 +19,6 @@ use Rattle.jbig2_inverses.specs.RegionWriter.{pixels_before}
 use Rattle.jbig2_inverses.proofs.RegionInverse.{pixel-before}
 use Rattle.jbig2_writer.specs.inner.Rows.{places}
 
--- fifteen pixels make a number of fifteen bits
-pub context-half : (places : List AdaptiveTemplatePixel) (g : Grid) (x y k : ℕ) → length places ≤ 16 → 0 < k → context_at (drop k places) g x y < 32768
-context-half places g x y k few some =
-    let short : length (drop k places) ≤ 15 = omega (arith, length-drop k places) in
-    let below : 2 ^ length (drop k places) ≤ 2 ^ 15 = pow-le-pow_right (omega arith) short in
-    omega (arith, context-lt (drop k places) g x y)
-
-pub bit-few : (b : Bool) (n m : ℕ) → n ≡ m → m ≡ bit_number b → n ≤ 1
-bit-few true n m same e = omega (arith, same, e)
-bit-few false n m same e = omega (arith, same, e)
-
--- one pixel more
-pub context-more : (places : List AdaptiveTemplatePixel) (g : Grid) (x y left : ℕ) (p : AdaptiveTemplatePixel) (number bit byte : ℕ) → 0 < left → left ≤ length places → number ≡ context_at (drop left places) g x y → byte ≡ bit
-    → bit ≡ bit_number (pixel g (pos x +ℤ (get_or places (left - 1) p).x) (pos y +ℤ (get_or places (left - 1) p).y)) → 2 * number + byte ≡ context_at (drop (left - 1) places) g x y
-context-more places g x y left p number bit byte some few is_number same is_bit =
-    let next : left ≡ left - 1 + 1 = omega (arith, some) in
-    context-step places g x y (left - 1) p number byte (omega (arith, some, few)) (is_number ∙ ap (λ (k : ℕ). context_at (drop k places) g x y) next) (same ∙ is_bit)
-
 -- ---- contexts from the pixels so far
 abbrev pub all_earlier : List AdaptiveTemplatePixel → Bool  -- all places come before the pixel that is coded
 all_earlier [] = true

@@ -3,4 +3,5 @@ pub mod EntryLemmas
 pub mod PageLemmas
 pub mod RowLemmas
 pub mod SegmentLemmas
+pub mod WindowLemmas
 mod WriterWorked

@@ -38,19 +38,18 @@ entries-are s g wide =
     rows-are s g g.height wide
     ∙ ap (λ (n : ℕ). entries_before (generic_coding header) g.width g.height (pixel_at g) (is_typical s.typical g.width (pixel_at g)) 0 n) turned
 
-pub coded-is : (s : WriteSettings) (g : Grid) (decisions slice : List Entry) → 1 ≤ g.width → decisions ≡ rows_decisions s g g.height → slice ≡ decisions
-    → encoded_bytes slice ≡ coded_bytes (choice_of s) g.width g.height (pixel_at g)
+pub coded-is : (s : WriteSettings) (g : Grid) → 1 ≤ g.width → encoded_bytes (rows_decisions s g g.height) ≡ coded_bytes (choice_of s) g.width g.height (pixel_at g)
 unfolding coded_bytes
-coded-is s g decisions slice some are is = ap encoded_bytes (is ∙ are ∙ entries-are s g (omega (arith, some)))
+coded-is s g some = ap encoded_bytes (entries-are s g (omega (arith, some)))
 
 -- what the encoder gives, with its error changed
-pub mapped-bytes : {X D : Type 0} (view : X → List ℕ) (r : Result X DecodeError) (m : Result X D) (post : DecodeError → D → Type 0) (made meant : List ℕ) → base.Gives view r (Ok made) → made ≡ meant
+pub mapped-bytes : {X D : Type 0} (view : X → List ℕ) (r : Result X DecodeError) (m : Result X D) (post : DecodeError → D → Type 0) (made meant : List ℕ) → IfOk r (λ x. view x ≡ made) → made ≡ meant
     → MatchResult r (λ x. m ≡ Ok x) (λ e. IsErrAnd m (post e)) → IfOk m (λ x. view x ≡ meant)
-mapped-bytes {X = X} {D = D} view (Ok x) m post made meant gives is same =
+mapped-bytes {X = X} {D = D} view (Ok x) m post made meant given is same =
     let P : Result X D → Type 0 = λ q. IfOk q (λ y. view y ≡ meant) in
-    subst P (sym same) (sym (same-ok made (view x) gives) ∙ is)
-mapped-bytes view (Err e) (Ok x) post made meant gives is same = absurd same
-mapped-bytes view (Err e) (Err d) post made meant gives is same = tt
+    subst P (sym same) (given ∙ is)
+mapped-bytes view (Err e) (Ok x) post made meant given is same = absurd same
+mapped-bytes view (Err e) (Err d) post made meant given is same = tt
 
 -- ---- their length
 length-adaptive : (template : Template) → length (flat_map adaptive_bytes (nominal_adaptive_pixels template)) ≤ 8

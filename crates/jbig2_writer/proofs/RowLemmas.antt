@@ -1,50 +1,144 @@
--- The decisions of a row, as they are added one by one.
-use Rattle.std.proofs.Common.{◌≡◌, ℕ, zero, suc, ◌+◌, ◌<◌, Bool, true, false, cond, eqb, not, List, [], ◌∷◌, ◌++◌, refl, sym, ◌∙◌, ap, arith, add-one, append-nil, append_assoc, ⊎_elim}
+-- The decisions of a row, as they are coded one by one.
+use Rattle.std.proofs.Common.{◌≡◌, ℕ, zero, suc, ◌+◌, ◌-◌, ◌*◌, ◌^◌, ◌<◌, ◌≤◌, Bool, true, false, cond, not, List, [], ◌∷◌, ◌++◌, Result, Ok, Err, IfOk, refl, sym, ◌∙◌, ap, subst, arith, add-one, append-nil, append_assoc, ⊎_elim}
 use Rattle.std.specs.Bool.{beq}
-use Rattle.std.proofs.lemmas.Bool.{and_left, and_right, cases_eq}
-use Rattle.jbig2_base.specs.Grid.{Grid, bit_number, differ, pixel_at, same_colour}
+use Rattle.std.proofs.lemmas.Bool.{and_parts, cases_lt}
+use Rattle.jbig2_base.specs.Bits.{bit}
+use Rattle.jbig2_base.specs.Grid.{Grid, differ, pixel_at, same_colour}
+use Rattle.jbig2_base.specs.Results.{Gives}
+use Rattle.jbig2_base.specs.declared.error.DecodeError.{DecodeError}
+use Rattle.jbig2_base.proofs.GridLemmas.{pixel_at-right}
+use Rattle.jbig2_coder.specs.Encoder.{Codes, CodingInContexts, HasCoded}
 use Rattle.jbig2_region.specs.Generic.{context_at}
 use Rattle.jbig2_region.specs.Templates.{row_context}
 use Rattle.jbig2_region.specs.declared.template.AdaptiveTemplatePixel.{AdaptiveTemplatePixel}
+use Rattle.jbig2_region.specs.declared.template.Template.{Template}
+use Rattle.jbig2_region.specs.declared.template.Template.TheVariants.{Template0, Template1, Template2, Template3}
 use Rattle.jbig2_inverses.specs.CoderStates.{Entry}
 use Rattle.jbig2_inverses.specs.RegionWriter.{row_above, same_rows}
+use Rattle.jbig2_writer.specs.declared.neighbours.Neighbours.{Neighbours}
 use Rattle.jbig2_writer.specs.declared.settings.WriteSettings.{WriteSettings}
 use Rattle.jbig2_writer.specs.inner.Rows.{pixel_decisions, places, predicted_before, row_decisions, rows_decisions, typical_row}
+use Rattle.jbig2_writer.specs.inner.Windows.{GoesOn, IsNear, neighbour_pixels, neighbours_of}
+use Rattle.jbig2_writer.proofs.WindowLemmas.{same-words}
 
 -- ---- typical rows
-unlike : (a b : Bool) → (bit_number a ≡ bit_number b → ⊥) → same_colour a b ≡ false
-unlike true true o = absurd (o refl)
-unlike true false o = refl
-unlike false true o = refl
-unlike false false o = absurd (o refl)
+colours-same : (a b : Bool) → same_colour a b ≡ true → a ≡ b
+colours-same true true e = refl
+colours-same true false e = sym e
+colours-same false true e = e
+colours-same false false e = refl
 
-rows-unlike : (w x : ℕ) (one other : ℕ → Bool) → x < w → (bit_number (one x) ≡ bit_number (other x) → ⊥) → same_rows w one other ≡ false
-rows-unlike zero x one other inside o = absurd (omega (arith, inside))
-rows-unlike (suc n) x one other inside o = ⊎_elim
-    (λ (e : x ≡ n). and_left (same_colour (one n) (other n)) (same_rows n one other) (ap (λ (k : ℕ). same_colour (one k) (other k)) (sym e) ∙ unlike (one x) (other x) o))
-    (λ (before : x ≡ n → ⊥). and_right (same_colour (one n) (other n)) (same_rows n one other) (rows-unlike n x one other (omega (arith, inside, before)) o))
-    (cases_eq x n)
+same-colour : (a : Bool) → same_colour a a ≡ true
+same-colour true = refl
+same-colour false = refl
 
--- a pixel that differs from the one above it
-pub row-unlike : (g : Grid) (x y a b : ℕ) → x < g.width → a ≡ bit_number (pixel_at g x y) → b ≡ bit_number (row_above (pixel_at g) y x) → (a ≡ b → ⊥)
-    → false ≡ same_rows g.width (λ x. pixel_at g x y) (row_above (pixel_at g) y)
-row-unlike g x y a b inside is_a is_b o = sym (rows-unlike g.width x (λ x. pixel_at g x y) (row_above (pixel_at g) y) inside (λ e. o (is_a ∙ e ∙ sym is_b)))
+rows-each : (w x : ℕ) (one other : ℕ → Bool) → same_rows w one other ≡ true → x < w → one x ≡ other x
+rows-each zero x one other e inside = absurd (omega (arith, inside))
+rows-each (suc n) x one other e inside =
+    let both = and_parts (same_colour (one n) (other n)) (same_rows n one other) e in
+    ⊎_elim
+    (λ (before : x < n). rows-each n x one other both.1 before)
+    (λ (after : n ≤ x). let here : n ≡ x = omega (arith, inside, after) in subst (λ (k : ℕ). one k ≡ other k) here (colours-same (one n) (other n) both.0))
+    (cases_lt x n)
+
+rows-all : (w : ℕ) (one other : ℕ → Bool) → ((x : ℕ) → x < w → one x ≡ other x) → same_rows w one other ≡ true
+rows-all zero one other each = refl
+rows-all (suc n) one other each =
+    rw (each n (omega arith), same-colour (other n)) (rows-all n one other (λ x inside. each x (omega (arith, inside))))
+
+above-right : (g : Grid) (y x : ℕ) → g.width ≤ x → row_above (pixel_at g) y x ≡ false
+above-right g zero x right = refl
+above-right g (suc y) x right = pixel_at-right g x y right
+
+module _ (g : Grid) (y : ℕ) where
+  abbrev here : ℕ → Bool
+  here x = pixel_at g x y
+
+  abbrev above : ℕ → Bool
+  above = row_above (pixel_at g) y
+
+  -- rows of one colour, past their end too
+  each-same : same_rows g.width here above ≡ true → (x : ℕ) → here x ≡ above x
+  each-same e x = ⊎_elim
+      (λ (inside : x < g.width). rows-each g.width x here above e inside)
+      (λ (right : g.width ≤ x). pixel_at-right g x y right ∙ sym (above-right g y x right))
+      (cases_lt x g.width)
+
+  -- words of the two rows, from column x on
+  module _ (x a b : ℕ) (is_a : (k : ℕ) → k < 64 → bit a (63 - k) ≡ here (x + k)) (is_b : (k : ℕ) → k < 64 → bit b (63 - k) ≡ above (x + k)) where
+    -- words that differ
+    pub row-unlike : a < 2 ^ 64 → b < 2 ^ 64 → (a ≡ b → ⊥) → false ≡ same_rows g.width here above
+    row-unlike less_a less_b o = either (same_rows g.width here above) each-same
+      where
+        turned : (k : ℕ) → k < 64 → 63 - (63 - k) ≡ k
+        turned k inside = omega (arith, inside)
+
+        either : (r : Bool) → (r ≡ true → (x : ℕ) → here x ≡ above x) → false ≡ r
+        either false same = refl
+        either true same =
+            absurd (o (same-words 64 a b less_a less_b (λ k inside.
+            ap (λ (n : ℕ). bit a n) (sym (turned k inside)) ∙ is_a (63 - k) (omega (arith, inside)) ∙ same refl (x + (63 - k))
+            ∙ sym (is_b (63 - k) (omega (arith, inside))) ∙ ap (λ (n : ℕ). bit b n) (turned k inside))))
+
+    -- words that are equal
+    pub row-like : a ≡ b → (index : ℕ) → x ≡ index * 64 → ((i : ℕ) → i < index * 64 → here i ≡ above i) → (i : ℕ) → i < (index + 1) * 64 → here i ≡ above i
+    row-like same index is_x before i inside = ⊎_elim
+        (λ (left : i < index * 64). before i left)
+        (λ (right : index * 64 ≤ i).
+        let k : ℕ = i - x in
+        let place : x + k ≡ i = omega (arith, is_x, right) in
+        let few : k < 64 = omega (arith, is_x, inside) in
+        subst (λ (n : ℕ). here n ≡ above n) place (sym (is_a k few) ∙ ap (λ (n : ℕ). bit n (63 - k)) same ∙ is_b k few))
+        (cases_lt i (index * 64))
+
+  pub row-same : (n : ℕ) → g.width ≤ n → ((i : ℕ) → i < n → here i ≡ above i) → true ≡ same_rows g.width here above
+  row-same n all each = sym (rows-all g.width here above (λ i inside. each i (omega (arith, inside, all))))
 
 -- ---- the pixels of a row
-pub pixels-none : (xs : List Entry) (template : List AdaptiveTemplatePixel) (g : Grid) (y : ℕ) → xs ≡ xs ++ pixel_decisions template g y 0
-unfolding pixel_decisions
-pixels-none xs template g y = sym (append-nil xs)
+pub goes-nowhere : (s : CodingInContexts) (before after : List Entry) → before ≡ after → GoesOn s s before after
+goes-nowhere s before after e = λ list has. subst (λ (more : List Entry). HasCoded s (list ++ more)) e has
 
-pub pixels-more : (old xs new : List Entry) (template : List AdaptiveTemplatePixel) (g : Grid) (x y k n : ℕ) → xs ≡ old ++ pixel_decisions template g y x → k ≡ context_at template g x y → n ≡ bit_number (pixel_at g x y)
-    → new ≡ xs ++ (k, eqb n 1) ∷ [] → new ≡ old ++ pixel_decisions template g y (x + 1)
+goes-further : (s t u : CodingInContexts) (before middle after : List Entry) (e : Entry) → GoesOn s t before middle → Codes t u (e ∷ []) → after ≡ middle ++ e ∷ [] → GoesOn s u before after
+goes-further s t u before middle after e goes codes is = λ list has.
+    subst (λ (all : List Entry). HasCoded u all) (append_assoc list middle (e ∷ []) ∙ ap (λ (more : List Entry). list ++ more) (sym is)) (codes (list ++ middle) (goes list has))
+
+pub group-more : (s t u : CodingInContexts) (n : Neighbours) (g : Grid) (x y offset k : ℕ) (b : Bool)
+    → GoesOn s t (pixel_decisions (neighbour_pixels n) g y x) (pixel_decisions (neighbour_pixels n) g y (x + offset)) → Codes t u ((k, b) ∷ [])
+    → k ≡ context_at (neighbour_pixels n) g (x + offset) y → b ≡ pixel_at g (x + offset) y
+    → GoesOn s u (pixel_decisions (neighbour_pixels n) g y x) (pixel_decisions (neighbour_pixels n) g y (x + (offset + 1)))
 unfolding pixel_decisions
-pixels-more old xs new template g x y k n is_xs is_k is_n is_new = rw (add-one, is_new, is_xs, is_k, is_n, black-is (pixel_at g x y)) (append_assoc old (pixel_decisions template g y x) ((context_at template g x y, pixel_at g x y) ∷ []))
-  where
-    black-is : (b : Bool) → eqb (bit_number b) 1 ≡ b
-    black-is true = refl
-    black-is false = refl
+group-more s t u n g x y offset k b goes codes is_k is_b =
+    let next : x + (offset + 1) ≡ suc (x + offset) = omega arith in
+    let template : List AdaptiveTemplatePixel = neighbour_pixels n in
+    goes-further s t u (pixel_decisions template g y x) (pixel_decisions template g y (x + offset)) (pixel_decisions template g y (x + (offset + 1))) (k, b) goes codes
+    (ap (λ (m : ℕ). pixel_decisions template g y m) next ∙ (λ i. pixel_decisions template g y (x + offset) ++ (sym is_k i, sym is_b i) ∷ []))
+
+pub pixels-none : (s : CodingInContexts) (template : List AdaptiveTemplatePixel) (g : Grid) (y n : ℕ) → n ≡ 0 → Codes s s (pixel_decisions template g y n)
+unfolding pixel_decisions
+pixels-none s template g y n e = λ list has. rw (e, append-nil list) has
+
+pub pixels-more : (s t u : CodingInContexts) (template : List AdaptiveTemplatePixel) (g : Grid) (y m x x' n : ℕ) → m ≡ x → x' ≡ n → Codes s t (pixel_decisions template g y m)
+    → GoesOn t u (pixel_decisions template g y x) (pixel_decisions template g y x') → Codes s u (pixel_decisions template g y n)
+pixels-more s t u template g y m x x' n is_m is_n codes goes = λ list has.
+    subst (λ (k : ℕ). HasCoded u (list ++ pixel_decisions template g y k)) is_n
+    (goes list (subst (λ (k : ℕ). HasCoded t (list ++ pixel_decisions template g y k)) is_m (codes list has)))
+
+pub pixels-all : (s t : CodingInContexts) (template : List AdaptiveTemplatePixel) (g : Grid) (y m n : ℕ) → m ≡ n → Codes s t (pixel_decisions template g y m) → Codes s t (pixel_decisions template g y n)
+pixels-all s t template g y m n e codes = subst (λ (k : ℕ). Codes s t (pixel_decisions template g y k)) e codes
 
 -- ---- a row
+pub near : (template : Template) → IsNear (neighbours_of template)
+near Template0 = record { left = omega arith; above_reach = omega arith; above_count = omega arith; top_reach = omega arith; top_count = omega arith; few = omega arith }
+near Template1 = record { left = omega arith; above_reach = omega arith; above_count = omega arith; top_reach = omega arith; top_count = omega arith; few = omega arith }
+near Template2 = record { left = omega arith; above_reach = omega arith; above_count = omega arith; top_reach = omega arith; top_count = omega arith; few = omega arith }
+near Template3 = record { left = omega arith; above_reach = omega arith; above_count = omega arith; top_reach = omega arith; top_count = omega arith; few = omega arith }
+
+places-are : (template : Template) → neighbour_pixels (neighbours_of template) ≡ places template
+places-are Template0 = refl
+places-are Template1 = refl
+places-are Template2 = refl
+places-are Template3 = refl
+
 pub row-plain : (s : WriteSettings) (g : Grid) (y : ℕ) (p : Bool) → s.typical ≡ false → row_decisions s g y p ≡ pixel_decisions (places s.template) g y g.width
 unfolding row_decisions
 row-plain s g y p e = rw e refl
@@ -60,43 +154,55 @@ changes true false = refl
 changes false true = refl
 changes false false = refl
 
--- after the decisions of the rows before, those of a row that takes no decision SLTP
-pub row-uncoded : (old new : List Entry) (s : WriteSettings) (g : Grid) (y : ℕ) (p : Bool) (template : List AdaptiveTemplatePixel) → s.typical ≡ false → template ≡ places s.template
-    → new ≡ old ++ pixel_decisions template g y g.width → new ≡ old ++ row_decisions s g y p
-row-uncoded old new s g y p template e is_template is_new =
-    is_new ∙ ap (λ (t : List AdaptiveTemplatePixel). old ++ pixel_decisions t g y g.width) is_template ∙ ap (λ (row : List Entry). old ++ row) (sym (row-plain s g y p e))
+-- the pixels of a row, in the places of its template
+at-places : (s t : CodingInContexts) (st : WriteSettings) (g : Grid) (y : ℕ) (n : Neighbours) → n ≡ neighbours_of st.template
+    → Codes s t (pixel_decisions (neighbour_pixels n) g y g.width) → Codes s t (pixel_decisions (places st.template) g y g.width)
+at-places s t st g y n is_n codes =
+    subst (λ (template : List AdaptiveTemplatePixel). Codes s t (pixel_decisions template g y g.width)) (ap neighbour_pixels is_n ∙ places-are st.template) codes
 
--- those of a typical row
-pub row-predicted : (old new : List Entry) (s : WriteSettings) (g : Grid) (y k : ℕ) (p same : Bool) → s.typical ≡ true → same ≡ same_rows g.width (λ x. pixel_at g x y) (row_above (pixel_at g) y) → same ≡ true
-    → k ≡ row_context s.template → new ≡ old ++ (k, not (beq same p)) ∷ [] → new ≡ old ++ row_decisions s g y p
-row-predicted old new s g y k p same e is_same typical is_k is_new =
-    is_new ∙ ap (λ (n : ℕ). old ++ (n, not (beq same p)) ∷ []) is_k
-    ∙ ap (λ (b : Bool). old ++ (row_context s.template, not (beq b p)) ∷ []) typical
-    ∙ ap (λ (b : Bool). old ++ (row_context s.template, b) ∷ []) (changes true p)
-    ∙ ap (λ (row : List Entry). old ++ row) (sym (row-coded s g y p true e (sym is_same ∙ typical)))
+-- a row that takes no decision SLTP
+pub row-uncoded : (s t : CodingInContexts) (st : WriteSettings) (g : Grid) (y : ℕ) (p : Bool) (n : Neighbours) → st.typical ≡ false → n ≡ neighbours_of st.template
+    → Codes s t (pixel_decisions (neighbour_pixels n) g y g.width) → Codes s t (row_decisions st g y p)
+row-uncoded s t st g y p n e is_n codes = subst (λ (more : List Entry). Codes s t more) (sym (row-plain st g y p e)) (at-places s t st g y n is_n codes)
 
--- those of a row that is not typical
-pub row-read : (old begun new : List Entry) (s : WriteSettings) (g : Grid) (y k : ℕ) (p same : Bool) (template : List AdaptiveTemplatePixel) → s.typical ≡ true
-    → same ≡ same_rows g.width (λ x. pixel_at g x y) (row_above (pixel_at g) y) → same ≡ false
-    → k ≡ row_context s.template → template ≡ places s.template → begun ≡ old ++ (k, not (beq same p)) ∷ [] → new ≡ begun ++ pixel_decisions template g y g.width → new ≡ old ++ row_decisions s g y p
-row-read old begun new s g y k p same template e is_same other is_k is_template is_begun is_new =
-    let pixels : List Entry = pixel_decisions (places s.template) g y g.width in
-    is_new ∙ ap (λ (t : List AdaptiveTemplatePixel). begun ++ pixel_decisions t g y g.width) is_template
-    ∙ ap (λ (xs : List Entry). xs ++ pixels) is_begun
-    ∙ append_assoc old ((k, not (beq same p)) ∷ []) pixels
-    ∙ ap (λ (n : ℕ). old ++ (n, not (beq same p)) ∷ pixels) is_k
-    ∙ ap (λ (b : Bool). old ++ (row_context s.template, not (beq b p)) ∷ pixels) other
-    ∙ ap (λ (b : Bool). old ++ (row_context s.template, b) ∷ pixels) (changes false p)
-    ∙ ap (λ (row : List Entry). old ++ row) (sym (row-coded s g y p false e (sym is_same ∙ other)))
+-- the decision SLTP
+sltp : (s t : CodingInContexts) (k k' : ℕ) (p same same' : Bool) → k ≡ k' → same ≡ same' → Codes s t ((k, not (beq same p)) ∷ []) → Codes s t ((k', differ same' p) ∷ [])
+sltp s t k k' p same same' is_k is codes = subst (λ (e : Entry). Codes s t (e ∷ [])) (λ i. (is_k i, (ap (λ (b : Bool). not (beq b p)) is ∙ changes same' p) i)) codes
+
+-- a typical row
+pub row-predicted : (s t : CodingInContexts) (st : WriteSettings) (g : Grid) (y k : ℕ) (p same : Bool) → st.typical ≡ true → same ≡ same_rows g.width (λ x. pixel_at g x y) (row_above (pixel_at g) y) → same ≡ true
+    → k ≡ row_context st.template → Codes s t ((k, not (beq same p)) ∷ []) → Codes s t (row_decisions st g y p)
+row-predicted s t st g y k p same e is_same typical is_k codes =
+    subst (λ (more : List Entry). Codes s t more) (sym (row-coded st g y p true e (sym is_same ∙ typical))) (sltp s t k (row_context st.template) p same true is_k typical codes)
+
+-- a row that is not typical
+pub row-read : (s t u : CodingInContexts) (st : WriteSettings) (g : Grid) (y k : ℕ) (p same : Bool) (n : Neighbours) → st.typical ≡ true
+    → same ≡ same_rows g.width (λ x. pixel_at g x y) (row_above (pixel_at g) y) → same ≡ false → k ≡ row_context st.template → n ≡ neighbours_of st.template
+    → Codes s t ((k, not (beq same p)) ∷ []) → Codes t u (pixel_decisions (neighbour_pixels n) g y g.width) → Codes s u (row_decisions st g y p)
+row-read s t u st g y k p same n e is_same other is_k is_n opens codes =
+    let first : Entry = (row_context st.template, differ false p) in
+    let pixels : List Entry = pixel_decisions (places st.template) g y g.width in
+    subst (λ (more : List Entry). Codes s u more) (sym (row-coded st g y p false e (sym is_same ∙ other)))
+    (λ list has.
+    subst (λ (all : List Entry). HasCoded u all) (append_assoc list (first ∷ []) pixels)
+    (at-places t u st g y n is_n codes (list ++ first ∷ []) (sltp s t k (row_context st.template) p same false is_k other opens list has)))
 
 -- ---- the rows
-pub rows-none : (s : WriteSettings) (g : Grid) → [] ≡ rows_decisions s g 0
+pub rows-none : (encoder : CodingInContexts) (s : WriteSettings) (g : Grid) → HasCoded encoder [] → HasCoded encoder (rows_decisions s g 0)
 unfolding rows_decisions
-rows-none s g = refl
+rows-none encoder s g has = has
 
-pub rows-more : (xs new : List Entry) (s : WriteSettings) (g : Grid) (y : ℕ) (p : Bool) → xs ≡ rows_decisions s g y → p ≡ predicted_before s g y → new ≡ xs ++ row_decisions s g y p → new ≡ rows_decisions s g (y + 1)
+pub rows-more : (old new : CodingInContexts) (s : WriteSettings) (g : Grid) (y : ℕ) (p : Bool) → HasCoded old (rows_decisions s g y) → p ≡ predicted_before s g y → Codes old new (row_decisions s g y p) → HasCoded new (rows_decisions s g (y + 1))
 unfolding rows_decisions
-rows-more xs new s g y p is_xs is_p is_new = rw (add-one, is_new, is_xs, is_p) refl
+rows-more old new s g y p has is_p codes =
+    rw add-one (subst (λ (b : Bool). HasCoded new (rows_decisions s g y ++ row_decisions s g y b)) is_p (codes (rows_decisions s g y) has))
+
+pub gives-bytes : {X : Type 0} (view : X → List ℕ) (r : Result X DecodeError) (meant : List ℕ) → Gives view r (Ok meant) → IfOk r (λ x. view x ≡ meant)
+gives-bytes view (Ok x) meant given = sym (ok-same given)
+  where
+    ok-same : {a b : List ℕ} → ◌≡◌ {A = Result (List ℕ) DecodeError} (Ok a) (Ok b) → a ≡ b
+    ok-same e = cc
+gives-bytes view (Err e) meant given = tt
 
 pub predicted-next : (s : WriteSettings) (g : Grid) (y : ℕ) (t : Bool) → t ≡ typical_row s g y → t ≡ predicted_before s g (y + 1)
 predicted-next s g y t e = rw add-one e

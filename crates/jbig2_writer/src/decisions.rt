@@ -1,32 +1,39 @@
-//! The decisions of a generic region, each with the number of its context (T.88, 6.2.5).
-ghost use Rattle.std.specs.Prelude.{◌≡◌, ◌+◌, ◌*◌, ◌<◌, ◌≤◌, ◌++◌, length, IfOk, OnOk};
-ghost use Rattle.jbig2_base.specs.Grid.{bit_number, max_side, pixel_at};
+//! Codes the pixels of a generic region, each in its context (T.88, 6.2.5).
+ghost use Rattle.std.specs.Prelude.{◌≡◌, ℕ, ◌+◌, ◌-◌, ◌*◌, ◌/◌, ◌^◌, ◌<◌, ◌≤◌, IfOk, OnOk};
+ghost use Rattle.jbig2_base.specs.Grid.{max_side, pixel_at};
+ghost use Rattle.jbig2_base.specs.Bits.{bit};
+ghost use Rattle.jbig2_coder.specs.Encoder.{Codes, encoded_bytes};
 ghost use Rattle.jbig2_inverses.specs.RegionWriter.{row_above, same_rows};
 ghost use Rattle.jbig2_writer.specs.inner.Rows.{pixel_decisions, row_decisions, rows_decisions, typical_row};
+ghost use Rattle.jbig2_writer.specs.inner.Windows.{CodesGroup, IsNear, neighbour_pixels};
 
-use crate::context::{context_at, places, row_context};
+use crate::neighbours::{Neighbours, neighbours_of, row_context};
 use crate::settings::WriteSettings;
+use crate::windows::{Windows, windows_at};
 use jbig2_base::bitmap::Bitmap;
 use jbig2_base::bitmap::steps::Steps;
-use jbig2_region::template::AdaptiveTemplatePixel;
-use std::alloc::{AllocError, Allocator};
+use jbig2_base::error::Result;
+use jbig2_coder::mq::ListEncoder;
+use std::alloc::Allocator;
 use std::sync::ledger::Ledger;
 
-/// The pixel above column `x` of row `y`: 1 for black, and 0 above row 0.
-fn pixel_above<B: Allocator, L: Ledger>(
+/// The 64 pixels from column `x` on in the row above row `y`. Above row 0 all is white.
+fn pixels_above<B: Allocator, L: Ledger>(
     bitmap: &Bitmap<B>,
     x: u32,
     y: u32,
     steps: &mut Steps<L>,
-) -> u8
-    ensures value { result ≡ bit_number (row_above (pixel_at bitmap.now) y x) }
+) -> u64
+    ensures bits { (k : ℕ) → k < 64
+        → bit result (63 - k) ≡ row_above (pixel_at bitmap.now) y (x + k) }
+    ensures bound { result < 2 ^ 64 }
     ensures steps { steps.new ≡ record steps.old { loads = steps.new.loads } }
     ensures loads { steps.new.loads ≤ steps.old.loads + 1 }
 {
     if y == 0 {
         return 0;
     }
-    bitmap.get_pixel(x, y - 1, steps)
+    bitmap.load_pixels(x, y - 1, 64, steps)
 }
 
 /// Whether row `y` is as the row above it. Above row 0 all is white.
@@ -34,91 +41,112 @@ fn is_as_above<B: Allocator, L: Ledger>(bitmap: &Bitmap<B>, y: u32, steps: &mut 
     ensures value { result ≡ same_rows bitmap.now.width (λ x. pixel_at bitmap.now x y)
         (row_above (pixel_at bitmap.now) y) }
     ensures steps { steps.new ≡ record steps.old { loads = steps.new.loads } }
-    ensures loads { steps.new.loads ≤ steps.old.loads + 2 * bitmap.now.width }
+    ensures loads { steps.new.loads ≤ steps.old.loads + 2 * ((bitmap.now.width + 63) / 64) }
 {
     let width = bitmap.width();
-    for x in 0..width {
-        if bitmap.get_pixel(x, y, steps) != pixel_above(bitmap, x, y, steps) {
+    for index in 0..width.div_ceil(64) {
+        let x = index * 64;
+        let above = pixels_above(bitmap, x, y, steps);
+        if bitmap.load_pixels(x, y, 64, steps) != above {
             return false;
         }
     }
     true
 }
 
-/// Adds the decisions of the pixels of row `y`.
-fn push_pixels<A: Allocator, B: Allocator, L: Ledger>(
-    decisions: &mut Vec<(u16, bool), A>,
-    places: &[AdaptiveTemplatePixel],
-    bitmap: &Bitmap<B>,
-    y: u32,
-    steps: &mut Steps<L>,
-) -> Result<(), AllocError>
-    requires few { length places.now ≤ 16 }
-    requires row { y < 65536 }
-    requires columns { bitmap.now.width ≤ max_side }
-    ensures pixels { OnOk result (decisions.new.items
-        ≡ decisions.old.items ++ pixel_decisions places.now bitmap.now y bitmap.now.width) }
-    ensures steps { steps.new ≡ record steps.old { loads = steps.new.loads } }
-    ensures loads { steps.new.loads ≤ steps.old.loads + 17 * bitmap.now.width }
+/// Codes `count` pixels from the windows' column on.
+#[inline(always)]
+fn push_group<A: Allocator + Clone>(
+    encoder: &mut ListEncoder<A>,
+    neighbours: Neighbours,
+    windows: Windows,
+    count: u32,
+) -> Result<()>
+    requires near { IsNear neighbours }
+    requires few { count ≤ 32 }
+    ensures { OnOk result (CodesGroup neighbours windows count encoder.old encoder.new) }
 {
-    for x in 0..bitmap.width() {
-        let context = context_at(places, bitmap, x, y, steps);
-        let black = bitmap.get_pixel(x, y, steps) == 1;
-        decisions.push((context, black))?;
+    for offset in 0..count {
+        let context = windows.context(neighbours, offset);
+        encoder.push(context, windows.is_black(offset))?;
     }
     Ok(())
 }
 
-/// Adds the decisions of row `y`, and returns whether the row is typical. `predicted` is that of the row before it.
-fn push_row<A: Allocator, B: Allocator, L: Ledger>(
-    decisions: &mut Vec<(u16, bool), A>,
+/// Codes the pixels of row `y`.
+#[inline(always)]
+fn push_pixels<A: Allocator + Clone, B: Allocator, L: Ledger>(
+    encoder: &mut ListEncoder<A>,
+    neighbours: Neighbours,
+    bitmap: &Bitmap<B>,
+    y: u32,
+    steps: &mut Steps<L>,
+) -> Result<()>
+    requires near { IsNear neighbours }
+    requires columns { bitmap.now.width ≤ max_side }
+    ensures pixels { OnOk result (Codes encoder.old encoder.new
+        (pixel_decisions (neighbour_pixels neighbours) bitmap.now y bitmap.now.width)) }
+    ensures steps { steps.new ≡ record steps.old { loads = steps.new.loads } }
+    ensures loads { steps.new.loads ≤ steps.old.loads + 3 * ((bitmap.now.width + 31) / 32) }
+{
+    let width = bitmap.width();
+    for index in 0..width.div_ceil(32) {
+        let x = index * 32;
+        let count = (width - x).min(32);
+        let windows = windows_at(bitmap, x, y, steps);
+        push_group(encoder, neighbours, windows, count)?;
+    }
+    Ok(())
+}
+
+/// Codes row `y`, and returns whether the row is typical. `predicted` is that of the row before it.
+fn push_row<A: Allocator + Clone, B: Allocator, L: Ledger>(
+    encoder: &mut ListEncoder<A>,
     settings: &WriteSettings,
     bitmap: &Bitmap<B>,
     y: u32,
     predicted: bool,
     steps: &mut Steps<L>,
-) -> Result<bool, AllocError>
-    requires row { y < 65536 }
+) -> Result<bool>
     requires columns { bitmap.now.width ≤ max_side }
-    ensures row { OnOk result (decisions.new.items
-        ≡ decisions.old.items ++ row_decisions settings.now bitmap.now y predicted) }
+    ensures row { OnOk result
+        (Codes encoder.old encoder.new (row_decisions settings.now bitmap.now y predicted)) }
     ensures typical { IfOk result (λ typical. typical ≡ typical_row settings.now bitmap.now y) }
     ensures steps { steps.new ≡ record steps.old { loads = steps.new.loads } }
-    ensures loads { steps.new.loads ≤ steps.old.loads + 19 * bitmap.now.width }
+    ensures loads { steps.new.loads ≤ steps.old.loads + 5 * ((bitmap.now.width + 31) / 32) }
 {
-    let places = places(settings.template);
+    let neighbours = neighbours_of(settings.template);
     if !settings.typical {
-        push_pixels(decisions, places, bitmap, y, steps)?;
+        push_pixels(encoder, neighbours, bitmap, y, steps)?;
         return Ok(false);
     }
     let typical = is_as_above(bitmap, y, steps);
-    decisions.push((row_context(settings.template), typical != predicted))?;
+    encoder.push(row_context(settings.template), typical != predicted)?;
     if typical {
         return Ok(true);
     }
-    push_pixels(decisions, places, bitmap, y, steps)?;
+    push_pixels(encoder, neighbours, bitmap, y, steps)?;
     Ok(false)
 }
 
-/// The decisions of the whole bitmap, as a generic region.
-pub fn region_decisions<A: Allocator, B: Allocator, L: Ledger>(
+/// The coded bytes of the whole bitmap, as a generic region.
+pub fn coded_rows<A: Allocator + Clone, B: Allocator, L: Ledger>(
     alloc: A,
     bitmap: &Bitmap<B>,
     settings: &WriteSettings,
     steps: &mut Steps<L>,
-) -> Result<Vec<(u16, bool), A>, AllocError>
+) -> Result<Vec<u8, A>>
     requires columns { bitmap.now.width ≤ max_side }
-    requires rows { bitmap.now.height ≤ max_side }
-    ensures rows { IfOk result
-        (λ v. v.items ≡ rows_decisions settings.now bitmap.now bitmap.now.height) }
+    ensures bytes { IfOk result (λ v. v.items
+        ≡ encoded_bytes (rows_decisions settings.now bitmap.now bitmap.now.height)) }
     ensures steps { steps.new ≡ record steps.old { loads = steps.new.loads } }
     ensures loads { steps.new.loads
-        ≤ steps.old.loads + 19 * (bitmap.now.width * bitmap.now.height) }
+        ≤ steps.old.loads + 5 * ((bitmap.now.width + 31) / 32 * bitmap.now.height) }
 {
-    let mut decisions = Vec::new(alloc);
+    let mut encoder = ListEncoder::new(alloc)?;
     let mut predicted = false;
     for y in 0..bitmap.height() {
-        predicted = push_row(&mut decisions, settings, bitmap, y, predicted, steps)?;
+        predicted = push_row(&mut encoder, settings, bitmap, y, predicted, steps)?;
     }
-    Ok(decisions)
+    encoder.finish()
 }

@@ -2,12 +2,13 @@
 //! the page's size. By proof the definition of a page reads each bitmap back as it was.
 #![tactic(auto)]
 
-mod context;
 mod decisions;
 mod error;
+mod neighbours;
 mod page;
 mod segments;
 mod settings;
+mod windows;
 
 pub use error::WriteError;
 pub use page::write_page;

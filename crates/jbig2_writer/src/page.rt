@@ -1,17 +1,16 @@
 //! Writes a bitmap as an embedded page (T.88, D.3).
-ghost use Rattle.std.specs.Prelude.{◌≡◌, ◌+◌, ◌*◌, ◌^◌, ◌<◌, ◌≤◌, length, IfOk};
+ghost use Rattle.std.specs.Prelude.{◌≡◌, ◌+◌, ◌*◌, ◌/◌, ◌^◌, ◌<◌, ◌≤◌, length, IfOk};
 ghost use Rattle.jbig2_base.specs.Grid.{max_side, pixel_at};
 ghost use Rattle.jbig2_page_inverse.specs.PageWriter.{coded_bytes};
 ghost use Rattle.jbig2_writer.specs.inner.Segments.{segments_of};
 ghost use Rattle.jbig2_writer.specs.Written.{Gives, ReadsBack, check_size, choice_of, is_side, written};
 
-use crate::decisions::region_decisions;
+use crate::decisions::coded_rows;
 use crate::error::WriteError;
 use crate::segments::{push_information, push_region, push_segment};
 use crate::settings::WriteSettings;
 use jbig2_base::bitmap::steps::Steps;
 use jbig2_base::bitmap::{Bitmap, MAX_DIMENSION};
-use jbig2_coder::mq::encode_list;
 use std::alloc::{AllocError, Allocator};
 use std::sync::ledger::Ledger;
 
@@ -52,10 +51,9 @@ fn coded_region<A: Allocator + Clone, B: Allocator, L: Ledger>(
         (λ v. v.items ≡ coded_bytes (choice_of settings.now) g.width g.height (pixel_at g)) }
     ensures steps { steps.new ≡ record steps.old { loads = steps.new.loads } }
     ensures loads { steps.new.loads
-        ≤ steps.old.loads + 19 * (bitmap.now.width * bitmap.now.height) }
+        ≤ steps.old.loads + 5 * ((bitmap.now.width + 31) / 32 * bitmap.now.height) }
 {
-    let decisions = region_decisions(alloc.clone()?, bitmap, settings, steps)?;
-    encode_list(alloc, decisions.as_slice()).map_err(|_| AllocError)
+    coded_rows(alloc, bitmap, settings, steps).map_err(|_| AllocError)
 }
 
 /// The two segments of a page of this size, whose region has these coded bytes.
@@ -81,7 +79,7 @@ fn page_segments<A: Allocator + Clone>(
 
 /// Writes the bitmap as an embedded page (T.88, D.3), as a PDF file holds it: page information, and one immediate
 /// generic region of the page's size. The region is coded as `settings` say. The steps count loads of pixels, at most
-/// 19 for each pixel of the bitmap.
+/// five for 32 pixels of a row.
 ///
 /// Returns `InvalidSides` if a side is 0 or above 65535, and `OutOfMemory` if memory is refused.
 pub fn write_page<A: Allocator + Clone, B: Allocator, L: Ledger>(
@@ -95,7 +93,7 @@ pub fn write_page<A: Allocator + Clone, B: Allocator, L: Ledger>(
     ensures reads_back { IfOk result (λ v. ReadsBack v.items bitmap.now) }
     ensures steps { steps.new ≡ record steps.old { loads = steps.new.loads } }
     ensures loads { steps.new.loads
-        ≤ steps.old.loads + 19 * (bitmap.now.width * bitmap.now.height) }
+        ≤ steps.old.loads + 5 * ((bitmap.now.width + 31) / 32 * bitmap.now.height) }
 {
     let width = bitmap.width();
     let height = bitmap.height();

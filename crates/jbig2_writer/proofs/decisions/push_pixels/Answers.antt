@@ -1,22 +1,30 @@
-use Rattle.std.proofs.Common.{arith, rules, ◌≡◌, ◌+◌, ap}
-use Rattle.jbig2_base.specs.Counts.{Counts}
-use Rattle.jbig2_writer.proofs.RowLemmas.{pixels-none, pixels-more}
+use Rattle.std.proofs.Common.{◌≡◌, ◌+◌, ◌*◌, min, arith, rules}
+use Rattle.jbig2_writer.specs.inner.Windows.{neighbour_pixels}
+use Rattle.jbig2_writer.proofs.RowLemmas.{pixels-all, pixels-more, pixels-none}
 use Rattle.jbig2_writer.proofs.decisions.push_pixels.Goals as goal
 
-pub loop-x-init : goal.loop-x-init
-loop-x-init g c = record {
-  pixels = pixels-none c.args.decisions.now.items c.args.places.now c.args.bitmap.now c.args.y;
-  loads = omega arith;
-  steps = search rules;
-}
-
-pub loop-x-preserved : goal.loop-x-preserved
-loop-x-preserved g c =
-    let one : c.get_pixel-black.new.steps.loads ≡ c.context_at-context.new.steps.loads + 1 = ap (λ (t : Counts). t.loads) c.get_pixel-black.ensures.steps in
+pub loop-index-init : goal.loop-index-init
+loop-index-init g c =
+    let none : min 0 c.args.bitmap.now.width ≡ 0 = omega arith in
     record {
-      pixels =
-          pixels-more c.args.decisions.now.items c.loop-x.decisions.items c.push.new.self.items c.args.places.now c.args.bitmap.now c.loop-x.x c.args.y c.context_at-context.result c.get_pixel-black.result
-          c.loop-x.invariant.pixels c.context_at-context.ensures.value c.get_pixel-black.ensures.value c.in_ok-push.ensures.items;
+      pixels = pixels-none c.args.encoder.now (neighbour_pixels c.args.neighbours) c.args.bitmap.now c.args.y (min 0 c.args.bitmap.now.width) none;
       loads = omega arith;
       steps = search rules;
     }
+
+pub loop-index-preserved : goal.loop-index-preserved
+loop-index-preserved g c =
+    let here : min (c.loop-index.index * 32) c.args.bitmap.now.width ≡ c.loop-index.index * 32 = omega (arith, c.width-width.ensures.value, c.div_ceil-index-end.ensures) in
+    let next : c.loop-index.index * 32 + c.min-count.result ≡ min ((c.loop-index.index + 1) * 32) c.args.bitmap.now.width = omega (arith, c.width-width.ensures.value, c.div_ceil-index-end.ensures, c.min-count.ensures) in
+    record {
+      pixels =
+          pixels-more c.args.encoder.now c.loop-index.encoder c.push_group.new.encoder (neighbour_pixels c.args.neighbours) c.args.bitmap.now c.args.y (min (c.loop-index.index * 32) c.args.bitmap.now.width) (c.loop-index.index * 32) (c.loop-index.index * 32 + c.min-count.result) (min ((c.loop-index.index + 1) * 32) c.args.bitmap.now.width)
+          here next c.loop-index.invariant.pixels (c.in_ok-push_group.ensures c.args.bitmap.now (c.loop-index.index * 32) c.args.y c.windows_at-windows.ensures.value);
+      loads = omega (arith, c.loop-index.invariant.loads, c.windows_at-windows.ensures.loads);
+      steps = search rules;
+    }
+
+pub returns-clause-pixels : goal.returns-clause-pixels
+returns-clause-pixels g c =
+    let all : min (c.loop-index.index * 32) c.args.bitmap.now.width ≡ c.args.bitmap.now.width = omega (arith, c.width-width.ensures.value, c.div_ceil-index-end.ensures) in
+    pixels-all c.args.encoder.now c.loop-index.encoder (neighbour_pixels c.args.neighbours) c.args.bitmap.now c.args.y (min (c.loop-index.index * 32) c.args.bitmap.now.width) c.args.bitmap.now.width all c.loop-index.invariant.pixels

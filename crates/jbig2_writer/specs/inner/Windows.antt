@@ -1,0 +1,55 @@
+-- Rows in windows of 64 pixels, the pixels of a template that lie side by side in them, and what an encoder has coded.
+use Rattle.std.specs.Prelude.{ℕ, ◌+◌, ◌≤◌, ℤ, pos, negsuc, ◌-ℤ◌, List, ◌++◌}
+use Rattle.jbig2_base.specs.Grid.{Grid}
+use Rattle.jbig2_coder.specs.Encoder.{CodingInContexts, HasCoded}
+use Rattle.jbig2_region.specs.inner.Neighbours.{IsWindow, side_by_side}
+use Rattle.jbig2_region.specs.declared.template.AdaptiveTemplatePixel.{AdaptiveTemplatePixel}
+use Rattle.jbig2_region.specs.declared.template.Template.{Template}
+use Rattle.jbig2_region.specs.declared.template.Template.TheVariants.{Template0, Template1, Template2, Template3}
+use Rattle.jbig2_inverses.specs.CoderStates.{Entry}
+use Rattle.jbig2_writer.specs.declared.neighbours.Neighbours.{Neighbours}
+use Rattle.jbig2_writer.specs.declared.windows.Windows.{Windows}
+use Rattle.jbig2_writer.specs.inner.Rows.{pixel_decisions}
+
+abbrev pub around : ℕ → ℕ → ℕ → ℕ → ℕ → Neighbours
+around left above_reach above_count top_reach top_count = record {
+  left = left;
+  above = record { reach = above_reach; count = above_count };
+  top = record { reach = top_reach; count = top_count };
+}
+
+abbrev pub neighbours_of : Template → Neighbours  -- the pixels of a template with nominal adaptive pixels
+neighbours_of Template0 = around 4 3 7 2 5
+neighbours_of Template1 = around 3 3 6 2 4
+neighbours_of Template2 = around 2 2 5 1 3
+neighbours_of Template3 = around 4 2 6 0 0
+
+-- the same as a list of places, bit 0 of a context first
+abbrev pub neighbour_pixels : Neighbours → List AdaptiveTemplatePixel
+neighbour_pixels n =
+    side_by_side (negsuc 0) 0 n.left ++ (side_by_side (pos n.above.reach) 1 n.above.count ++ side_by_side (pos n.top.reach) 2 n.top.count)
+
+-- small enough for the windows
+pub record IsNear (n : Neighbours) : Type 0 where
+  pub left : n.left ≤ 4
+  pub above_reach : n.above.reach ≤ 3
+  pub above_count : n.above.count ≤ 7
+  pub top_reach : n.top.reach ≤ 3
+  pub top_count : n.top.count ≤ 7
+  pub few : n.left + (n.above.count + n.top.count) ≤ 16
+
+-- windows around column x of row y
+pub record Shows (g : Grid) (x y : ℕ) (w : Windows) : Type 0 where
+  pub row : IsWindow g x (pos y -ℤ pos 0) 64 w.row
+  pub above : IsWindow g x (pos y -ℤ pos 1) 64 w.above
+  pub top : IsWindow g x (pos y -ℤ pos 2) 64 w.top
+
+-- wherever `old` has coded the first decisions at last, `new` has coded the second in their place
+abbrev pub GoesOn : CodingInContexts → CodingInContexts → List Entry → List Entry → Type 0
+GoesOn old new before after = (list : List Entry) → HasCoded old (list ++ before) → HasCoded new (list ++ after)
+
+-- `count` pixels are coded, from the windows' column on
+abbrev pub CodesGroup : Neighbours → Windows → ℕ → CodingInContexts → CodingInContexts → Type 0
+CodesGroup n w count old new =
+    (g : Grid) (x y : ℕ) → Shows g x y w
+    → GoesOn old new (pixel_decisions (neighbour_pixels n) g y x) (pixel_decisions (neighbour_pixels n) g y (x + count))
