@@ -133,14 +133,15 @@ assemble_program() {
 
 # Why no text is taken: why_portable NAME.
 why_portable() {
+    local compile
     if [ "${HAYRO_JBIG2_PORTABLE:-}" = 1 ]; then
         echo "HAYRO_JBIG2_PORTABLE is 1"
     elif has_text "$1"; then
         echo "its text in dist/ needs the GNU C library (glibc) 2.33 or later"
     elif [ "$system" != Linux ] || [ ! -e "$dist/$processor/$1.s" ]; then
         echo "dist/ has no text of it for this computer ($system $processor)"
-    elif ! is_for_processor "$(compiler)"; then
-        echo "$(compiler) makes programs for another processor than $processor, or of 32 bits"
+    elif compile=$(compiler 2>/dev/null) && ! is_for_processor "$compile"; then
+        echo "$compile makes programs for another processor than $processor, or of 32 bits"
     else
         echo "this processor is below the level x86-64-v2"
     fi

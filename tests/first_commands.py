@@ -6,6 +6,7 @@ it. Takes seconds.
 usage: tests/first_commands.py [-v] [NAME ..]
 """
 import os
+import re
 import shutil
 import subprocess
 import tempfile
@@ -184,6 +185,17 @@ class Program(Case):
         self.assertEqual(status, 1)
         self.assertIn("no folder for it can be written", said)
 
+    def test_no_c_of_a_program(self):
+        """portable/ has jbig2-decode alone."""
+        with open(os.path.join(self.top, "crates.txt"), "a", encoding="utf-8") as file:
+            file.write("jbig2_bench:\n")
+        shutil.copytree(*(os.path.join(self.top, "crates", name) for name in ("jbig2_decode", "jbig2_bench")))
+        sums = '. dist/crates.sh && list_crates jbig2_bench && sums_of_crates "${crates[@]}" >>dist/SOURCES'
+        self.assertEqual(self.run_words("bash", "-c", sums)[0], 0)
+        status, said = self.run_words("dist/program", "jbig2-bench", HAYRO_JBIG2_PORTABLE="1")
+        self.assertEqual(status, 1)
+        self.assertIn("jbig2-bench: HAYRO_JBIG2_PORTABLE is 1, and portable/ has no C of it", said)
+
     def test_changed_sources(self):
         self.be("Linux", "riscv64")
         with open(os.path.join(self.top, "crates/jbig2_mmr/src/lib.rt"), "a", encoding="utf-8") as file:
@@ -195,6 +207,12 @@ class Program(Case):
 
 class Test(Case):
     """./test says what it lacks, and tries nothing."""
+
+    def test_what_it_runs_is_there(self):
+        with open(os.path.join(ROOT, "test"), encoding="utf-8") as file:
+            names = set(re.findall(r'"\$root/([\w./-]+)"', file.read()))
+        self.assertGreater(len(names), 10)
+        self.assertEqual([name for name in names if not os.path.exists(os.path.join(ROOT, name))], [])
 
     def assert_says(self, words):
         shutil.copy(os.path.join(ROOT, "test"), self.top)
