@@ -5,7 +5,8 @@
  *        unchanged NOTE FACTS  prints PROGRAM where NOTE has the lines FACTS and PROGRAM, then files as they are now, and
  *                              then an empty line
  *
- * Status 1 where they are not so, where a name has a line's end in it, or where the state of a file can't be known.
+ * The name glibc stands for that library's version, since another computer may have the same folder. Status 1 where
+ * they are not so, where a name has a line's end in it, or where the state of a file can't be known.
  */
 #define _XOPEN_SOURCE 700
 #define _DARWIN_C_SOURCE
@@ -16,6 +17,12 @@
 #include <string.h>
 #include <sys/stat.h>
 #include <unistd.h>
+
+#ifdef __GLIBC__
+#include <gnu/libc-version.h>
+#else
+#define gnu_get_libc_version() "none"
+#endif
 
 #ifdef __APPLE__
 #define st_mtim st_mtimespec
@@ -38,10 +45,14 @@ static bool has_line(FILE *file, int end, struct line *line) {
     return true;
 }
 
-/* The state of a file or folder. No archive sets its second time, that of the last change of any kind. False where nothing
- * is known of it but an error: it may change without another one. */
+/* The state of a file or folder, or the version of glibc. No archive sets its second time, that of the last change of any kind.
+ * False where nothing is known of it but an error: it may change without another one. */
 static bool describe(const char *name, char *text) {
     struct stat file;
+    if (strcmp(name, "glibc") == 0) {
+        snprintf(text, ROOM, "%s", gnu_get_libc_version());
+        return true;
+    }
     if (stat(name, &file) == 0) {
         snprintf(text, ROOM, "%lld %lld.%09ld %lld.%09ld", (long long)file.st_size, (long long)file.st_mtim.tv_sec,
                  (long)file.st_mtim.tv_nsec, (long long)file.st_ctim.tv_sec, (long)file.st_ctim.tv_nsec);

@@ -30,6 +30,8 @@ ssize_t __wrap_getdelim(char **line, size_t *room, int end, FILE *file) {
     return length;
 }
 """
+# Stands for another computer's C library.
+ANOTHER_LIBRARY = 'const char *gnu_get_libc_version(void) { return "2.99"; }\n'
 # A time before any build here.
 LONG_AGO = 1_500_000_000
 
@@ -229,9 +231,9 @@ class Notes(Case):
             file.write(f'#!/bin/sh\necho called >>{self.log}\nexec {shutil.which("sha256sum")} "$@"\n')
         os.chmod(self.sum, 0o755)
 
-    def sums_up(self):
+    def sums_up(self, **changed):
         """Whether a run, which goes well, sums anything up."""
-        self.assert_runs(PATH=f"{os.path.dirname(self.sum)}:{os.environ['PATH']}")
+        self.assert_runs(PATH=f"{os.path.dirname(self.sum)}:{os.environ['PATH']}", **changed)
         if not os.path.exists(self.log):
             return False
         os.remove(self.log)
@@ -287,6 +289,18 @@ class Notes(Case):
         self.assert_is_seen("dist/out/jbig2-decode.seen", os.remove)
         self.assert_is_seen("dist/out/unchanged", os.remove)
         self.assert_is_seen("dist/out/unchanged", lambda path: os.truncate(path, 1000))
+
+    def test_another_c_library(self):
+        """As a container has that shares the folder."""
+        source, library = (os.path.join(self.room, name) for name in ("another.c", "another.so"))
+        with open(source, "w", encoding="utf-8") as file:
+            file.write(ANOTHER_LIBRARY)
+        subprocess.run(["cc", "-shared", "-fPIC", source, "-o", library], check=True)
+        self.sums_up()
+        self.assertFalse(self.sums_up())
+        self.assertTrue(self.sums_up(LD_PRELOAD=library))
+        self.assertFalse(self.sums_up(LD_PRELOAD=library))
+        self.assertTrue(self.sums_up())
 
     def test_a_note_that_was_cut_off(self):
         self.assert_runs()
