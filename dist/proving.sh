@@ -97,7 +97,7 @@ build_crate() {
 build_object() {
     local crate=$1 processor=$2 object=$3
     shift 3
-    cd -- "$root/crates/$crate"
+    cd -- "$root/crates/$crate" || return
     build_crate "$crate" src/main.rt "$object" --target "$processor-unknown-linux-gnu" --links "$crate=" "$@" -- \
         ${named[$crate]}
 }
