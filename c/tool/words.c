@@ -195,8 +195,9 @@ static bool choose_format(struct words *words) {
     const char *name;
     if (words->has_format || !has_single_output(words, &name) || name == NULL)
         return true;
-    const char *slash = strrchr(name, '/'), *dot = strrchr(slash != NULL ? slash : name, '.');
-    if (dot == NULL || dot == name || dot[1] == '\0')
+    const char *slash = strrchr(name, '/'), *last = slash != NULL ? slash + 1 : name;
+    const char *dot = strrchr(last, '.');
+    if (dot == NULL || dot == last || dot[1] == '\0')
         return true;
     return read_format(words, dot + 1);
 }

@@ -162,6 +162,12 @@ class Output(Case):
                 self.assert_ends(self.run_here(EXAMPLE, "--force", *words), WHOLE)
                 self.assertEqual((self.room / words[-1]).stat().st_mode & 0o777, mode)
 
+    def test_a_dot_at_the_start_of_a_name_is_no_ending(self):
+        (self.room / "d").mkdir()
+        for name in ".hidden", "d/.hidden":
+            self.assert_ends(self.run_here(EXAMPLE, "-p", "1", "-o", name), WHOLE)
+            self.assertEqual(picture_of_png((self.room / name).read_bytes()), decoded(EXAMPLE, 0))
+
     def test_pages_in_one_file(self):
         self.assert_ends(self.run_here(EXAMPLE, "-o", "all.pbm"), WHOLE)
         self.assertEqual(pictures_of((self.room / "all.pbm").read_bytes()), MEANT)
