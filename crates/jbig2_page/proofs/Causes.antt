@@ -1,5 +1,5 @@
 -- Which rule is broken where a file is refused.
-use Rattle.std.proofs.Common.{◌≡◌, ◌≢◌, ◌⊎◌, ℕ, suc, Bool, true, false, not, ◌&&◌, ◌==◌, List, [], ◌∷◌, length, slice_get, Option, Some, None, Result, Ok, Err, refl, sym, ◌∙◌, arith}
+use Rattle.std.proofs.Common.{◌≡◌, ◌≢◌, ◌⊎◌, ℕ, suc, Bool, true, false, not, ◌&&◌, ◌==◌, List, [], ◌∷◌, length, slice_get, inl, inr, Option, Some, None, Result, Ok, Err, refl, sym, ◌∙◌, arith}
 use Rattle.std.proofs.lemmas.Bool.{and_parts, eq-eqb, eqb-true, false≢true, not-true}
 use Rattle.std.specs.Prelude.{Any, IfErr, IsTrue, option_map}
 use Rattle.jbig2_base.specs.Results.{refuse_if, some_or}
@@ -7,7 +7,8 @@ use Rattle.jbig2_framing.specs.PageInfo.{initial_page_of}
 use Rattle.jbig2_framing.specs.Reading.{is_salvaged, is_strict}
 use Rattle.jbig2_framing.specs.Segment.{SegmentView}
 use Rattle.jbig2_base.specs.Causes.{HasCause, HasCauseOrNoMemory}
-use Rattle.jbig2_framing.specs.Causes.{BreaksInitialPage}
+use Rattle.jbig2_framing.specs.Causes.{BreaksFileHeader, BreaksInitialPage}
+use Rattle.jbig2_framing.specs.File.{file_at, file_header_at, segments_by}
 use Rattle.jbig2_base.specs.declared.error.DecodeError.{DecodeError}
 use Rattle.jbig2_base.specs.declared.error.DecodeError.TheVariants as errors
 use Rattle.jbig2_base.specs.declared.error.FormatError.TheVariants as formats
@@ -19,13 +20,16 @@ use Rattle.jbig2_framing.specs.declared.reading.Reading.TheVariants as readings
 use Rattle.jbig2_base.proofs.FromInput.{IsFromInput}
 use Rattle.jbig2_base.proofs.CauseSteps.{call-cause, call-cause-or-memory}
 use Rattle.jbig2_base.proofs.Causes.{cause-next, cause-refused}
+use Rattle.jbig2_framing.proofs.FileHeaderCauses.{file_header_cause}
 use Rattle.jbig2_framing.proofs.InitialCauses.{initial_page_causes}
 use Rattle.jbig2_region.proofs.ResultCauses.{cause-if, cause-more}
-use Rattle.jbig2_symbol.proofs.ReadingCauses.{in-steps}
+use Rattle.jbig2_page.specs.ByteCauses.{BreaksSegments}
 use Rattle.jbig2_page.specs.Causes.{BreaksBook, BreaksFirstPage, BreaksPages}
 use Rattle.jbig2_page.specs.Files.{PageInFile, ReadFile, association_check, book_at, by_pages, ends_of, before_pages, pages_in_file, page_in_file, lacks_page, miscounts, needs_page, page_in, page_of, segments_at}
 use Rattle.jbig2_page.specs.Page.{ReadPage, beginning_of}
-use Rattle.jbig2_page.proofs.FromInput.{from_input-beginning}
+use Rattle.jbig2_page.proofs.ByteCauses.{in-segments}
+use Rattle.jbig2_page.proofs.ErrorSteps.{Refused, itself, more, refused-by, step, with-memory, without-memory}
+use Rattle.jbig2_page.proofs.FromInput.{from_input-beginning, from_input-book}
 use Rattle.jbig2_page.proofs.Salvaging.{left-out}
 
 -- ---- places
@@ -122,23 +126,35 @@ page-begins reading h ps (errors.Overflow e) kept some = (kept, some)
 page-begins reading h ps errors.Unsupported kept some = (kept, some)
 page-begins reading h ps errors.OutOfMemory kept some = (kept, some)
 
--- a step whose error is said elsewhere
-any-cause : {A : Type 0} (r : Result A DecodeError) → IfErr r (λ e. Unit {0})
-any-cause (Ok x) = tt
-any-cause (Err e) = tt
+file-header : (bytes : List ℕ) → Refused (file_header_at bytes) (BreaksFileHeader bytes)
+file-header bytes = refused-by (BreaksFileHeader bytes) (file_header_at bytes) (file_header_cause bytes (file_header_at bytes) (itself (file_header_at bytes)))
 
-file_causes : (reading : Reading) (bytes : List ℕ) → IfErr (book_at reading bytes) (BreaksBook reading bytes)
+file-segments : (reading : Reading) (bytes : List ℕ) → Refused (segments_at reading bytes) (BreaksBook reading bytes)
+unfolding segments_at file_at
+file-segments reading bytes =
+    let P : DecodeError → Type 0 = BreaksBook reading bytes in
+    step P P (file_at reading bytes) _
+    (step (BreaksFileHeader bytes) P (file_header_at bytes) _ (file-header bytes) (λ e no. inl no) (λ h h_is.
+    step (BreaksSegments h.0.organization reading h.1) P (segments_by h.0.organization reading h.1) _ (in-segments reading h.0.organization h.1) (λ e no. inr (inl (h, h_is, no))) (λ ps is. tt)))
+    (λ e no. no) (λ file is. tt)
+
+file-refused : (reading : Reading) (bytes : List ℕ) → Refused (book_at reading bytes) (BreaksBook reading bytes)
 unfolding book_at
-file_causes reading bytes =
-    in-steps (segments_at reading bytes) _ (λ e. Unit {0}) (λ file. BreaksPages reading file.0 file.1) (any-cause (segments_at reading bytes)) (λ file file_is.
+file-refused reading bytes =
+    step (BreaksBook reading bytes) (BreaksBook reading bytes) (segments_at reading bytes) _ (file-segments reading bytes) (λ e no. no) (λ file file_is.
     let P : DecodeError → Type 0 = BreaksPages reading file.0 file.1 in
     let wrong : Bool = miscounts file.0.number_of_pages (length (by_pages file.1)) in
-    cause-next P (association_check (is_strict reading) file.1) _ (associated-cause P (is_strict reading) file.1 (λ is some. (is, some))) (λ known known_is.
+    more P (BreaksBook reading bytes) _ (with-memory P _
+    (cause-next P (association_check (is_strict reading) file.1) _ (associated-cause P (is_strict reading) file.1 (λ is some. (is, some))) (λ known known_is.
     cause-next P (refuse_if (is_strict reading && wrong) (errors.Format formats.PageCountMismatch)) _ (cause-refused P (is_strict reading && wrong) (errors.Format formats.PageCountMismatch) (λ both.
     let parts = and_parts (is_strict reading) wrong both in
     let count = miscounted file.0.number_of_pages (length (by_pages file.1)) parts.1 in
     (parts.0, count.0, count.1, count.2))) (λ counted counted_is.
-    cause-next P (pages_in_file reading (by_pages file.1)) _ (each-cause P reading (by_pages file.1) (λ is some. (is, some)) (page-begins reading file.0 file.1)) (λ pages pages_is. tt))))
+    cause-next P (pages_in_file reading (by_pages file.1)) _ (each-cause P reading (by_pages file.1) (λ is some. (is, some)) (page-begins reading file.0 file.1)) (λ pages pages_is. tt)))))
+    (λ e no. inr (inr (file, file_is, no))))
+
+pub file_causes : (reading : Reading) (bytes : List ℕ) → IfErr (book_at reading bytes) (BreaksBook reading bytes)
+file_causes reading bytes = without-memory (BreaksBook reading bytes) (book_at reading bytes) (file-refused reading bytes) (from_input-book reading bytes)
 
 pub file_cause : {X : Type 0} (reading : Reading) (bytes : List ℕ) (r : Result X DecodeError) → IfErr r (λ e. (e ≡ errors.OutOfMemory) ⊎ (book_at reading bytes ≡ Err e)) → HasCauseOrNoMemory r (BreaksBook reading bytes)
 file_cause reading bytes r = call-cause-or-memory (BreaksBook reading bytes) (book_at reading bytes) r (file_causes reading bytes)

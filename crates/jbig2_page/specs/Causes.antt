@@ -5,8 +5,9 @@ use Rattle.std.specs.Prelude.{Some, option_and_then, unwrap_or, IfErr, IfOk}
 use Rattle.std.specs.List.{flat_map}
 use Rattle.std.specs.Int.{w32}
 use Rattle.std.specs.Option.{option_map_or}
-use Rattle.jbig2_base.specs.Causes.{InSteps, number_in}
-use Rattle.jbig2_framing.specs.Causes.{BreaksInitialPage}
+use Rattle.jbig2_base.specs.Causes.{number_in}
+use Rattle.jbig2_framing.specs.Causes.{BreaksFileHeader, BreaksInitialPage}
+use Rattle.jbig2_framing.specs.File.{file_header_at}
 use Rattle.jbig2_base.specs.Grid.{Grid}
 use Rattle.jbig2_framing.specs.Reading.{is_salvaged, is_strict}
 use Rattle.jbig2_framing.specs.Segment.{SegmentView}
@@ -28,6 +29,7 @@ use Rattle.jbig2_region.specs.RegionInfo.{PlacedRegion}
 use Rattle.jbig2_region.specs.RefinementHeader.{refinement_header_at}
 use Rattle.jbig2_text.specs.Causes.{After}
 use Rattle.jbig2_symbol.specs.SymbolHeader.{max_new_symbols}
+use Rattle.jbig2_page.specs.ByteCauses.{BreaksSegments}
 use Rattle.jbig2_page.specs.Files.{ReadFile, book_at, by_pages, ends_of, needs_page, segments_at}
 use Rattle.jbig2_page.specs.Names.{globals_at, Names, first_kept, kept_of}
 use Rattle.jbig2_page.specs.Page.{ReadPage, drawing_of_page, page_from}
@@ -48,10 +50,12 @@ BreaksPages reading h ps (Format InvalidEndOfPage) =
     IsTrue (is_strict reading) × Any (λ own. ends_of own ≢ 1) (by_pages ps)
 BreaksPages reading h ps e = IsFalse (is_salvaged reading e) × Any (λ own. BreaksInitialPage own e) (by_pages ps)
 
--- A file whose bytes hold a header and segments. Where they don't, the calls that read those say why.
+-- a file: its header, one of its segments, or what holds of all its pages
 abbrev pub BreaksBook : Reading → List ℕ → DecodeError → Type 0
 BreaksBook reading bytes e =
-    InSteps (segments_at reading bytes) (Unit {0}) (λ (header, segments). BreaksPages reading header segments e)
+    BreaksFileHeader bytes e
+    ⊎ After (file_header_at bytes) (λ (h, rest). BreaksSegments h.organization reading rest e)
+    ⊎ After (segments_at reading bytes) (λ (h, ps). BreaksPages reading h ps e)
 
 abbrev pub BreaksFirstPage : ReadFile → DecodeError → Type 0  -- the first page of a file that has none
 BreaksFirstPage book (Format MissingPageInfo) = book.pages ≡ []

@@ -1,3 +1,4 @@
+pub mod ByteCauses
 pub mod Calls
 pub mod Causes
 pub mod Files

@@ -34,7 +34,7 @@ pub record OrderChangesNothing : Type 0 where
       → sequential reading bytes ≡ Ok ps → sequential reading others ≡ Ok qs → IsReordered ps qs
       → HaveOneCutOff reading bytes others → globals_at reading bytes ≡ globals_at reading others
 
--- The drawing of a page depends only on its segments before the first end of page or end of file.
+-- The drawing of a page depends only on its size and its segments before the first end of page or end of file.
 abbrev pub EndOfPageEnds : Type 0
 EndOfPageEnds = (page : ReadPage) (ps others : List SegmentView) (end : SegmentView)
     → page.segments ≡ ps ++ end ∷ others → IsTrue (ends_page end.header.segment_type)

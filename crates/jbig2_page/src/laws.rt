@@ -57,7 +57,8 @@ pub fn packed_bits_are_bytes()
     ensures { PackedBitsAreBytes }
 {}
 
-/// What comes after the end of a page, or after the end of a file, changes nothing that is drawn.
+/// What comes after the end of a page, or after the end of a file, changes nothing that is drawn on a page of known
+/// size. It may change the size: stripes and page information count wherever they are.
 pub fn end_of_page_ends()
     ensures { EndOfPageEnds }
 {}

@@ -1,9 +1,6 @@
-pub mod ByteErrors
-pub mod ErrorSteps
 pub mod PageErrors
 pub mod PagePixels
 mod PageWorked
 pub mod SegmentErrors
 pub mod SegmentTypes
 pub mod SymbolErrors
-pub mod TextErrors

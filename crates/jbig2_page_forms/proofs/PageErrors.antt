@@ -1,35 +1,30 @@
 -- The errors of globals, pages and files have their causes.
 use Rattle.std.proofs.Common.{◌≡◌, ◌⊎◌, inl, inr, ℕ, eqb, Bool, true, false, if◌then◌else◌, List, [], ◌∷◌, ◌++◌, length, Option, None, Some, Result, Ok, Err, refl, sym, ◌∙◌, ap, subst, arith}
 use Rattle.std.specs.Prelude.{All, IfErr, IfOk, IsFalse, ◌&&◌}
-use Rattle.jbig2_base.specs.Causes.{InSteps}
 use Rattle.jbig2_base.specs.Results.{◌>>=◌, refuse_if}
 use Rattle.jbig2_base.specs.declared.error.DecodeError.{DecodeError}
 use Rattle.jbig2_base.specs.declared.error.DecodeError.TheVariants.{Format}
 use Rattle.jbig2_base.specs.declared.error.FormatError.TheVariants.{PageCountMismatch}
 use Rattle.jbig2_base.proofs.FromInput.{FromInput}
-use Rattle.jbig2_framing.specs.Causes.{BreaksFileHeader, BreaksInitialPageBy}
+use Rattle.jbig2_framing.specs.Causes.{BreaksInitialPageBy}
 use Rattle.jbig2_framing.specs.CutOff.{sequence_cut_off}
-use Rattle.jbig2_framing.specs.File.{file_at, file_header_at, segments_by}
 use Rattle.jbig2_framing.specs.PageInfo.{initial_page_by}
 use Rattle.jbig2_framing.specs.Reading.{is_salvaged, is_strict}
 use Rattle.jbig2_framing.specs.Segment.{SegmentView}
 use Rattle.jbig2_framing.specs.Sequential.{sequential, sorted_segments}
-use Rattle.jbig2_framing.specs.declared.file_header.FileHeader.{FileHeader}
 use Rattle.jbig2_framing.specs.declared.reading.Reading.{Reading}
-use Rattle.jbig2_framing.proofs.FileHeaderCauses.{file_header_cause}
 use Rattle.jbig2_framing.proofs.InitialCauses.{all-after, initial_page_by_cause}
 use Rattle.jbig2_text.specs.Causes.{After}
-use Rattle.jbig2_page.specs.Causes.{BreaksBook, BreaksPages}
+use Rattle.jbig2_page.specs.ByteCauses.{BreaksSequence}
 use Rattle.jbig2_page.specs.Files.{PageInFile, ReadFile, association_check, book_at, by_pages, miscounts, of_page, pages_in_file, segments_at, shared_by}
 use Rattle.jbig2_page.specs.Names.{KeptGlobals, Names, fault_of, globals_at, kept_by, no_names, nothing_shared, or_shared_without, shared_from}
 use Rattle.jbig2_page.specs.Page.{Drawing, ReadPage, beginning_of, blank_page, drawing_with, ends_page, known_height, or_left_out, or_told, page_from, page_segments, passing, segment_by, segment_on, segments_drawn, strict_fault}
-use Rattle.jbig2_page.proofs.Causes.{file_cause}
-use Rattle.jbig2_page.proofs.FromInput.{from_input-book, from_input-book_globals, from_input-drawing, from_input-embedded, from_input-globals}
-use Rattle.jbig2_page_forms.specs.ByteErrors.{BreaksSegments, BreaksSequence}
-use Rattle.jbig2_page_forms.specs.PageErrors.{BreaksFile, ErrorsHaveCauses, FaultySegment, FaultyShared}
+use Rattle.jbig2_page.proofs.ByteCauses.{in-sequence}
+use Rattle.jbig2_page.proofs.Causes.{file_causes}
+use Rattle.jbig2_page.proofs.ErrorSteps.{Refused, if-refused, itself, more, refused-by, step, without-memory}
+use Rattle.jbig2_page.proofs.FromInput.{from_input-book_globals, from_input-drawing, from_input-embedded, from_input-globals}
+use Rattle.jbig2_page_forms.specs.PageErrors.{ErrorsHaveCauses, FaultySegment, FaultyShared}
 use Rattle.jbig2_page_forms.specs.SegmentErrors.{BreaksKept, BreaksSegment}
-use Rattle.jbig2_page_forms.proofs.ByteErrors.{in-segments, in-sequence}
-use Rattle.jbig2_page_forms.proofs.ErrorSteps.{Refused, if-refused, itself, itself_or_memory, more, refused-by, refused-or, step, without-memory}
 use Rattle.jbig2_page_forms.proofs.SegmentErrors.{a-kept, a-segment}
 
 -- ---- a page's segments
@@ -162,31 +157,6 @@ module _ (reading : Reading) where
       let r = initial_page_by height ps in
       step (BreaksInitialPageBy height ps) P r _ (refused-by (BreaksInitialPageBy height ps) r (initial_page_by_cause height ps r (itself r))) (λ e no. inr (ps, is, no)) (λ page page_is. tt))
 
-  -- ---- a file
-  file-header : (bytes : List ℕ) → Refused (file_header_at bytes) (BreaksFileHeader bytes)
-  file-header bytes = refused-by (BreaksFileHeader bytes) (file_header_at bytes) (file_header_cause bytes (file_header_at bytes) (itself (file_header_at bytes)))
-
-  file-segments : (bytes : List ℕ) → Refused (segments_at reading bytes) (BreaksFile reading bytes)
-  unfolding segments_at file_at
-  file-segments bytes =
-      let P : DecodeError → Type 0 = BreaksFile reading bytes in
-      step P P (file_at reading bytes) _
-      (step (BreaksFileHeader bytes) P (file_header_at bytes) _ (file-header bytes) (λ e no. inl no) (λ h h_is.
-      step (BreaksSegments h.0.organization reading h.1) P (segments_by h.0.organization reading h.1) _ (in-segments reading h.0.organization h.1) (λ e no. inr (inl (h, h_is, no))) (λ ps is. tt)))
-      (λ e no. no) (λ file is. tt)
-
-  -- where a file's segments can be read, it is refused for what holds of its pages
-  book-on : (bytes : List ℕ) {A : Type 0} (s : Result (FileHeader × List SegmentView) DecodeError) (next : FileHeader × List SegmentView → Result A DecodeError) → segments_at reading bytes ≡ s
-      → Refused s (BreaksFile reading bytes) → Refused (s >>= next) (λ e. InSteps s (Unit {0}) (λ file. BreaksPages reading file.0 file.1 e)) → Refused (s >>= next) (BreaksFile reading bytes)
-  book-on bytes (Ok file) next is own law = more (BreaksPages reading file.0 file.1) (BreaksFile reading bytes) (next file) law (λ e no. inr (inr (file, is, no)))
-  book-on bytes (Err e) next is own law = own
-
-  file-refused : (bytes : List ℕ) → Refused (book_at reading bytes) (BreaksFile reading bytes)
-  unfolding book_at
-  file-refused bytes =
-      let r = book_at reading bytes in
-      book-on bytes (segments_at reading bytes) _ refl (file-segments bytes) (refused-or (BreaksBook reading bytes) r (file_cause reading bytes r (itself_or_memory r)))
-
   -- ---- the globals of a file
   abbrev FileGlobals : List ℕ → DecodeError → Type 0
   FileGlobals bytes e = After (segments_at reading bytes) (λ file. Shared (of_page 0 file.1) (nothing_shared None) e)
@@ -227,7 +197,7 @@ pub errors_have_causes : ErrorsHaveCauses
 errors_have_causes = record {
   globals = λ reading bytes. without-memory (GlobalsCause reading bytes) (globals_at reading bytes) (globals-refused reading bytes) (from_input-globals reading bytes);
   page = λ reading globals bytes. without-memory (PageCause reading bytes) (page_from reading globals bytes) (page-refused reading globals bytes) (from_input-embedded reading globals bytes);
-  file = λ reading bytes. without-memory (BreaksFile reading bytes) (book_at reading bytes) (file-refused reading bytes) (from_input-book reading bytes);
+  file = file_causes;
   file_globals = λ reading bytes.
       both-ok (λ book. Refused book.globals (FileGlobals reading bytes)) (λ book. FromInput book.globals) (λ book. IfErr book.globals (FileGlobals reading bytes)) (book_at reading bytes)
       (file_globals-refused reading bytes) (from_input-book_globals reading bytes) (λ book refused input. without-memory (FileGlobals reading bytes) book.globals refused input);

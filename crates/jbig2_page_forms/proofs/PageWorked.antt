@@ -10,7 +10,7 @@ use Rattle.jbig2_framing.specs.declared.reading.Reading.TheVariants.{Strict}
 use Rattle.jbig2_framing.specs.declared.segment.SegmentType.TheVariants.{Profiles}
 use Rattle.jbig2_region.specs.RegionInfo.{PlacedRegion}
 use Rattle.jbig2_page.specs.Names.{globals_at}
-use Rattle.jbig2_page_forms.specs.ByteErrors.{BreaksSequence}
+use Rattle.jbig2_page.specs.ByteCauses.{BreaksSequence}
 use Rattle.jbig2_page_forms.specs.PagePixels.{pixel_under}
 
 -- ---- pixels

@@ -38,10 +38,11 @@ use Rattle.jbig2_symbol.specs.Causes.{BreaksSymbolHeader}
 use Rattle.jbig2_symbol.specs.SymbolHeader.{symbol_header_at}
 use Rattle.jbig2_symbol.specs.Symbols.{symbols_decoded}
 use Rattle.jbig2_symbol.proofs.Causes.{symbol_header_cause}
-use Rattle.jbig2_text.specs.Causes.{BreaksTextHeader}
+use Rattle.jbig2_text.specs.Causes.{BreaksTextHeader, BreaksTextRegion}
 use Rattle.jbig2_text.specs.TextHeader.{TextHeader, text_header_at}
-use Rattle.jbig2_text.specs.TextRegion.{blank_region, region_by, text_decoded, text_result}
+use Rattle.jbig2_text.specs.TextRegion.{text_decoded, text_result}
 use Rattle.jbig2_text.proofs.CausesOfHeaders.{text_header_cause}
+use Rattle.jbig2_text.proofs.CausesOfRegions.{text_region_cause}
 use Rattle.jbig2_page.specs.Causes.{BreaksExtension, BreaksPatternReference, BreaksReferred, BreaksRefinement}
 use Rattle.jbig2_page.specs.Names.{Names, code_at, extension, kept_by, pattern_dictionary_at, referred_by, symbol_dictionary_at, with_code, with_patterns, with_symbols}
 use Rattle.jbig2_page.specs.Page.{Drawing, immediate, intermediate, segment_by, with_names}
@@ -49,11 +50,9 @@ use Rattle.jbig2_page.specs.Regions.{generic_at, halftone_at, is_partial, patter
 use Rattle.jbig2_page.proofs.SegmentCauses.{extension_cause, patterns_cause, referred_cause, refinement_cause}
 use Rattle.jbig2_page_forms.specs.SegmentErrors.{BreaksGeneric, BreaksHalftoneRegion, BreaksKept, BreaksPatternDictionary, BreaksSegment, BreaksSymbolDictionary, BreaksText}
 use Rattle.jbig2_page_forms.specs.SymbolErrors.{BreaksSymbols}
-use Rattle.jbig2_page_forms.proofs.ErrorSteps.{Refused, if-refused, itself, itself_or_memory, more, refusal, refused-by, refused-or, sides, step}
+use Rattle.jbig2_page.proofs.ErrorSteps.{Refused, if-refused, itself, itself_or_memory, more, refusal, refused-by, refused-or, sides, step}
 use Rattle.jbig2_page_forms.proofs.SegmentTypes.{of_type, shown, stored}
-use Rattle.jbig2_page_forms.specs.TextErrors.{BreaksTextBy}
 use Rattle.jbig2_page_forms.proofs.SymbolErrors.{dictionary}
-use Rattle.jbig2_page_forms.proofs.TextErrors.{a-text-by}
 
 module _ (strict : Bool) (own shared : Names) where
   referred : (numbers : List ℕ) → Refused (referred_by strict own shared numbers) (BreaksReferred strict own shared numbers)
@@ -73,13 +72,13 @@ module _ (strict : Bool) (own shared : Names) where
       more (BreaksSymbols h.0 x.symbols x.codes x.kept) P (symbols_decoded h.0 x.symbols x.codes x.kept) (dictionary h.0 x.symbols x.codes x.kept) (λ e no. inr (inr (x, x_is, (h, h_is, no))))))
 
   -- ---- text regions
-  text-decoded : (h : TextHeader) (symbols : List Grid) (customs : List (List Member)) → Refused (text_decoded h symbols customs) (λ e. BreaksSides h.region_info.width h.region_info.height e ⊎ BreaksTextBy h h.coding symbols customs e)
-  unfolding text_decoded text_result
+  text-decoded : (h : TextHeader) (symbols : List Grid) (customs : List (List Member)) → Refused (text_decoded h symbols customs) (λ e. BreaksSides h.region_info.width h.region_info.height e ⊎ BreaksTextRegion h symbols customs e)
+  unfolding text_decoded
   text-decoded h symbols customs =
-      let P : DecodeError → Type 0 = λ e. BreaksSides h.region_info.width h.region_info.height e ⊎ BreaksTextBy h h.coding symbols customs e in
-      let r = region_by h h.coding symbols customs (blank_region h) in
+      let P : DecodeError → Type 0 = λ e. BreaksSides h.region_info.width h.region_info.height e ⊎ BreaksTextRegion h symbols customs e in
+      let r = text_result h symbols customs in
       step (BreaksSides h.region_info.width h.region_info.height) P (check_sides h.region_info.width h.region_info.height) _ (sides h.region_info.width h.region_info.height) (λ e no. inl no) (λ fits is.
-      step (BreaksTextBy h h.coding symbols customs) P r _ (a-text-by h h.coding symbols customs) (λ e no. inr no) (λ g g_is. tt))
+      step (BreaksTextRegion h symbols customs) P r _ (refused-or (BreaksTextRegion h symbols customs) r (text_region_cause h symbols customs r (itself_or_memory r))) (λ e no. inr no) (λ g g_is. tt))
 
   a-text : (p : SegmentView) → Refused (text_at strict own shared p) (BreaksText strict own shared p)
   unfolding text_at
@@ -91,7 +90,7 @@ module _ (strict : Bool) (own shared : Names) where
       let H : DecodeError → Type 0 = BreaksTextHeader (length x.symbols) p.bytes in
       step H P header _ (refused-or H header (text_header_cause (length x.symbols) strict p.bytes header (itself_or_memory header))) (λ e no. inr (x, x_is, inl no)) (λ h h_is.
       let whole = with_whole_instances (is_partial p) h.0 x.symbols x.codes in
-      more (λ e. BreaksSides whole.region_info.width whole.region_info.height e ⊎ BreaksTextBy whole whole.coding x.symbols x.codes e) P (text_decoded whole x.symbols x.codes) (text-decoded whole x.symbols x.codes) (λ e no. inr (x, x_is, inr (h, h_is, no)))))
+      more (λ e. BreaksSides whole.region_info.width whole.region_info.height e ⊎ BreaksTextRegion whole x.symbols x.codes e) P (text_decoded whole x.symbols x.codes) (text-decoded whole x.symbols x.codes) (λ e no. inr (x, x_is, inr (h, h_is, no)))))
 
 -- ---- halftone regions
 abbrev Halftone : HalftoneHeader → Patterns → DecodeError → Type 0

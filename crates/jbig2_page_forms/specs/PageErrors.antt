@@ -4,28 +4,20 @@
 use Rattle.std.specs.Prelude.{◌≡◌, ◌⊎◌, ℕ, IsFalse, List, [], ◌∷◌, ◌++◌, All, None, Ok, Err, IfErr}
 use Rattle.std.specs.Prelude.{IfOk}
 use Rattle.jbig2_base.specs.declared.error.DecodeError.{DecodeError}
-use Rattle.jbig2_framing.specs.Causes.{BreaksFileHeader, BreaksInitialPageBy}
+use Rattle.jbig2_framing.specs.Causes.{BreaksInitialPageBy}
 use Rattle.jbig2_framing.specs.CutOff.{sequence_cut_off}
-use Rattle.jbig2_framing.specs.File.{file_header_at}
 use Rattle.jbig2_framing.specs.Reading.{is_strict}
 use Rattle.jbig2_framing.specs.Segment.{SegmentView}
 use Rattle.jbig2_framing.specs.Sequential.{sorted_segments}
 use Rattle.jbig2_framing.specs.declared.reading.Reading.{Reading}
 use Rattle.jbig2_text.specs.Causes.{After}
-use Rattle.jbig2_page.specs.Causes.{BreaksPages}
+use Rattle.jbig2_page.specs.ByteCauses.{BreaksSequence}
+use Rattle.jbig2_page.specs.Causes.{BreaksBook}
 use Rattle.jbig2_page.specs.Files.{book_at, of_page, segments_at}
 use Rattle.jbig2_page.specs.Names.{KeptGlobals, Names, globals_at, no_names, nothing_shared, shared_from}
 use Rattle.jbig2_page.specs.Page.{Drawing, ReadPage, blank_page, drawing_of_page, ends_page, known_height, page_from}
 use Rattle.jbig2_page.specs.Page.{page_segments, segments_drawn}
-use Rattle.jbig2_page_forms.specs.ByteErrors.{BreaksSegments, BreaksSequence}
 use Rattle.jbig2_page_forms.specs.SegmentErrors.{BreaksKept, BreaksSegment}
-
--- a file: its header, one of its segments, or what holds of all its pages
-abbrev pub BreaksFile : Reading → List ℕ → DecodeError → Type 0
-BreaksFile reading bytes e =
-    BreaksFileHeader bytes e
-    ⊎ After (file_header_at bytes) (λ (h, rest). BreaksSegments h.organization reading rest e)
-    ⊎ After (segments_at reading bytes) (λ (h, ps). BreaksPages reading h ps e)
 
 -- ---- segments as they are drawn or kept
 -- One of a page's segments breaks a rule, where those before it are drawn. None of them, nor this one, ends the page.
@@ -62,7 +54,7 @@ pub record ErrorsHaveCauses : Type 0 where
   pub page : (reading : Reading) (globals : Names) (bytes : List ℕ) → IfErr (page_from reading globals bytes) (λ e.
       ((k : ℕ) × BreaksSequence k reading bytes e)
       ⊎ After (page_segments reading bytes) (λ ps. BreaksInitialPageBy (known_height reading ps) ps e))
-  pub file : (reading : Reading) (bytes : List ℕ) → IfErr (book_at reading bytes) (BreaksFile reading bytes)
+  pub file : (reading : Reading) (bytes : List ℕ) → IfErr (book_at reading bytes) (BreaksBook reading bytes)
   pub file_globals : (reading : Reading) (bytes : List ℕ) → IfOk (book_at reading bytes) (λ book.
       IfErr book.globals (λ e. After (segments_at reading bytes) (λ (h, ps).
       FaultyShared reading (of_page 0 ps) (nothing_shared None) e)))

@@ -20,14 +20,13 @@ use Rattle.jbig2_region.specs.Causes.{BreaksGenericHeader}
 use Rattle.jbig2_region.specs.GenericHeader.{generic_header_at}
 use Rattle.jbig2_symbol.specs.Causes.{BreaksSymbolHeader}
 use Rattle.jbig2_symbol.specs.SymbolHeader.{symbol_header_at}
-use Rattle.jbig2_text.specs.Causes.{After, BreaksTextHeader}
+use Rattle.jbig2_text.specs.Causes.{After, BreaksTextHeader, BreaksTextRegion}
 use Rattle.jbig2_text.specs.TextHeader.{text_header_at}
 use Rattle.jbig2_page.specs.Causes.{BreaksExtension, BreaksPatternReference, BreaksReferred, BreaksRefinement}
 use Rattle.jbig2_page.specs.Names.{Names, referred_by}
 use Rattle.jbig2_page.specs.Page.{Drawing}
 use Rattle.jbig2_page.specs.Regions.{is_partial, patterns_for, with_whole_instances, with_whole_rows}
 use Rattle.jbig2_page_forms.specs.SymbolErrors.{BreaksSymbols}
-use Rattle.jbig2_page_forms.specs.TextErrors.{BreaksTextBy}
 
 module _ (strict : Bool) (own shared : Names) (p : SegmentView) (e : DecodeError) where
   -- a symbol dictionary (7.4.2): a number that it refers to, its header, or its data
@@ -48,7 +47,7 @@ module _ (strict : Bool) (own shared : Names) (p : SegmentView) (e : DecodeError
       ⊎ After (text_header_at (length referred.symbols) strict p.bytes) (λ (h, _).
       let header = with_whole_instances (is_partial p) h referred.symbols referred.codes in
       BreaksSides header.region_info.width header.region_info.height e
-      ⊎ BreaksTextBy header header.coding referred.symbols referred.codes e))
+      ⊎ BreaksTextRegion header referred.symbols referred.codes e))
 
   -- a halftone region (7.4.5): its pattern dictionary, its header, a side, or its values; a part is read leniently
   abbrev pub BreaksHalftoneRegion : Type 0

@@ -6,7 +6,7 @@ use Rattle.jbig2_base.specs.Results.{◌>>=◌, refuse_if}
 use Rattle.jbig2_base.specs.Bits.{Place, byte_boundary, start_of}
 use Rattle.jbig2_base.specs.Fields.{bytes_at}
 use Rattle.jbig2_base.specs.Grid.{Grid, wide_or_overflow}
-use Rattle.jbig2_base.specs.Causes.{HasCause, HasCauseOrNoMemory, IsOf}
+use Rattle.jbig2_base.specs.Causes.{HasCause, HasCauseOrNoMemory}
 use Rattle.jbig2_base.specs.declared.error.DecodeError.{DecodeError}
 use Rattle.jbig2_base.specs.declared.error.DecodeError.TheVariants as errors
 use Rattle.jbig2_base.specs.declared.error.HuffmanError.TheVariants.{UnexpectedOob}
@@ -18,14 +18,16 @@ use Rattle.jbig2_base.proofs.Causes.{bytes-there, cause-bytes, cause-next, cause
 use Rattle.jbig2_mmr.specs.Causes.{BreaksMmr}
 use Rattle.jbig2_mmr.specs.T6.{mmr_rows}
 use Rattle.jbig2_mmr.proofs.Causes.{cause-mmr}
+use Rattle.jbig2_text.specs.Causes.{BreaksValueAt}
 use Rattle.jbig2_text.specs.TextCoding.{in_band}
-use Rattle.jbig2_symbol.specs.Causes.{BreaksCollectiveBitmap, BreaksEmptyClass, BreaksHeightClass, BreaksSized, BreaksTallClass, IsNoSize}
+use Rattle.jbig2_symbol.specs.Causes.{BreaksCollectiveBitmap, BreaksEmptyClass, BreaksSized, BreaksTallClass}
+use Rattle.jbig2_symbol.specs.ClassCauses.{BreaksHeightClass, ClassCauses, ClassesHaveCauses, IsNoSize}
 use Rattle.jbig2_symbol.specs.HeightClasses.{empty_class, height_class, size_in_word}
 use Rattle.jbig2_symbol.specs.SymbolBitmaps.{collective_bitmap, mmr_bytes, raw_rows, raw_stride, rows_of_size}
 use Rattle.jbig2_symbol.specs.SymbolReading.{ClassReadings, SymbolInput, SymbolState, by_table, not_negative}
 use Rattle.jbig2_symbol.specs.inner.SymbolViews.{class_after, tall_class}
 use Rattle.jbig2_region.proofs.ResultCauses.{cause-if, cause-last, cause-more}
-use Rattle.jbig2_symbol.proofs.ReadingCauses.{in-steps, own-error, result-size}
+use Rattle.jbig2_symbol.proofs.ReadingCauses.{by-table, or-after, result-size}
 
 -- ---- collective bitmaps
 -- how many bytes its rows have
@@ -71,10 +73,10 @@ sized-cause d width height (Some (pos size)) after =
     let rows = rows_of_size d.header.strict size width height bytes in
     cause-next P rows _ (rows-cause d.header.strict size width height bytes) (λ grid grid_is. tt)
 
-collective_causes : (d : SymbolInput) (width height : ℕ) (s : SymbolState Place) → IfErr (collective_bitmap d width height s) (BreaksCollectiveBitmap d width height s)
+pub collective_causes : (d : SymbolInput) (width height : ℕ) (s : SymbolState Place) → IfErr (collective_bitmap d width height s) (BreaksCollectiveBitmap d width height s)
 unfolding collective_bitmap
 collective_causes d width height s =
-    in-steps (by_table d.tables.sizes s) _ (IsOf (by_table d.tables.sizes s)) (λ value. BreaksSized d.header.strict width height value.0 (byte_boundary value.1.coding).bytes) (own-error (by_table d.tables.sizes s)) (λ value value_is. sized-cause d width height value.0 value.1)
+    or-after (by_table d.tables.sizes s) _ (BreaksValueAt d.tables.sizes s.coding) (λ value. BreaksSized d.header.strict width height value.0 (byte_boundary value.1.coding).bytes) (by-table d.tables.sizes s) (λ value value_is. sized-cause d width height value.0 value.1)
 
 pub collective_cause : {X : Type 0} (d : SymbolInput) (width height : ℕ) (s : SymbolState Place) (r : Result X DecodeError) → IfErr r (λ e. (e ≡ errors.OutOfMemory) ⊎ (collective_bitmap d width height s ≡ Err e))
     → HasCauseOrNoMemory r (BreaksCollectiveBitmap d width height s)
@@ -92,7 +94,7 @@ tall_class_cause d width height s r tall =
     call-cause-or-memory (BreaksTallClass d width height s) (tall_class d width height s) r causes
 
 -- ---- a class of no symbol
-no-symbols : (count empty : ℕ) → IfErr (empty_class count empty) (BreaksEmptyClass count empty)
+pub no-symbols : (count empty : ℕ) → IfErr (empty_class count empty) (BreaksEmptyClass count empty)
 no-symbols count empty =
     let many : Bool = count == 0 && nat_le 1048576 empty in
     cause-refused (BreaksEmptyClass count empty) many (errors.Symbol symbols.Invalid) (λ is.
@@ -103,32 +105,33 @@ pub empty_class_cause : {X : Type 0} (count empty : ℕ) (r : Result X DecodeErr
 empty_class_cause count empty r = call-cause (BreaksEmptyClass count empty) (empty_class count empty) r (no-symbols count empty)
 
 -- ---- height classes
-abbrev BreaksClassAt : {S : Type 0} → ClassReadings S → SymbolInput → ℕ → ℕ → List Grid → Option ℤ → S → DecodeError → Type 0
-BreaksClassAt r d before empty new value s e =
-    ((e ≡ errors.Symbol symbols.UnexpectedOob) × (value ≡ None))
-    ⊎ ((difference : ℤ) × (value ≡ Some difference)
-    × (((e ≡ errors.Overflow BitmapDimension) × IsNoSize (pos before +ℤ difference))
-    ⊎ ((height : ℕ) × (pos before +ℤ difference ≡ pos height) × IsOf (r.class_of_height d height empty new s) e)))
+module _ {S : Type 0} (c : ClassCauses S) (r : ClassReadings S) (law : ClassesHaveCauses r c) (d : SymbolInput) (before empty : ℕ) (new : List Grid) where
+  abbrev BreaksClassAt : Option ℤ → S → DecodeError → Type 0
+  BreaksClassAt value s e =
+      ((e ≡ errors.Symbol symbols.UnexpectedOob) × (value ≡ None))
+      ⊎ ((difference : ℤ) × (value ≡ Some difference)
+      × (((e ≡ errors.Overflow BitmapDimension) × IsNoSize (pos before +ℤ difference))
+      ⊎ ((height : ℕ) × (pos before +ℤ difference ≡ pos height) × c.class_of_height d height empty new s e)))
 
-class-of : {S : Type 0} (r : ClassReadings S) (d : SymbolInput) (before empty : ℕ) (new : List Grid) (value : Option ℤ) (after : S)
-    → IfErr (in_band (errors.Symbol symbols.UnexpectedOob) value >>= λ difference. size_in_word (pos before +ℤ difference) >>= λ height. r.class_of_height d height empty new after >>= λ class. (let x : Result (ℕ × List Grid × S) DecodeError = Ok (height, class.0, class.1) in x)) (BreaksClassAt r d before empty new value after)
-class-of r d before empty new None after = inl (refl, refl)
-class-of {S} r d before empty new (Some difference) after =
-    let P : DecodeError → Type 0 = BreaksClassAt r d before empty new (Some difference) after in
-    let size : ℤ = pos before +ℤ difference in
-    cause-last P (λ (n : ℕ). size ≡ pos n) (size_in_word size) _ (result-size P size (λ no. inr (difference, refl, inl (refl, no)))) (λ height height_is.
-    cause-next P (r.class_of_height d height empty new after) _
-    (cause-more (IsOf (r.class_of_height d height empty new after)) P (r.class_of_height d height empty new after) (own-error (r.class_of_height d height empty new after)) (λ e no. inr (difference, refl, inr (height, height_is, no)))) (λ class class_is. tt))
+  class-of : (value : Option ℤ) (after : S)
+      → IfErr (in_band (errors.Symbol symbols.UnexpectedOob) value >>= λ difference. size_in_word (pos before +ℤ difference) >>= λ height. r.class_of_height d height empty new after >>= λ class. (let x : Result (ℕ × List Grid × S) DecodeError = Ok (height, class.0, class.1) in x)) (BreaksClassAt value after)
+  class-of None after = inl (refl, refl)
+  class-of (Some difference) after =
+      let P : DecodeError → Type 0 = BreaksClassAt (Some difference) after in
+      let size : ℤ = pos before +ℤ difference in
+      cause-last P (λ (n : ℕ). size ≡ pos n) (size_in_word size) _ (result-size P size (λ no. inr (difference, refl, inl (refl, no)))) (λ height height_is.
+      cause-next P (r.class_of_height d height empty new after) _
+      (cause-more (c.class_of_height d height empty new after) P (r.class_of_height d height empty new after) (law.class_of_height d height empty new after) (λ e no. inr (difference, refl, inr (height, height_is, no)))) (λ class class_is. tt))
 
-height_class_causes : {S : Type 0} (r : ClassReadings S) (d : SymbolInput) (before empty : ℕ) (new : List Grid) (s : S) → IfErr (height_class r d before empty new s) (BreaksHeightClass r d before empty new s)
-unfolding height_class
-height_class_causes r d before empty new s =
-    in-steps (r.height_difference d s) _ (IsOf (r.height_difference d s)) (λ value. BreaksClassAt r d before empty new value.0 value.1) (own-error (r.height_difference d s)) (λ value value_is. class-of r d before empty new value.0 value.1)
+  pub height_class_causes : (s : S) → IfErr (height_class r d before empty new s) (BreaksHeightClass c r d before empty new s)
+  unfolding height_class
+  height_class_causes s =
+      or-after (r.height_difference d s) _ (c.height_difference d s) (λ value. BreaksClassAt value.0 value.1) (law.height_difference d s) (λ value value_is. class-of value.0 value.1)
 
-pub height_class_cause : {X S : Type 0} (r : ClassReadings S) (d : SymbolInput) (before empty : ℕ) (new : List Grid) (s : S) (result : Result X DecodeError)
-    → IfErr result (λ e. (e ≡ errors.OutOfMemory) ⊎ (height_class r d before empty new s ≡ Err e)) → HasCauseOrNoMemory result (BreaksHeightClass r d before empty new s)
-height_class_cause r d before empty new s result =
-    call-cause-or-memory (BreaksHeightClass r d before empty new s) (height_class r d before empty new s) result (height_class_causes r d before empty new s)
+  pub height_class_cause : {X : Type 0} (s : S) (result : Result X DecodeError)
+      → IfErr result (λ e. (e ≡ errors.OutOfMemory) ⊎ (height_class r d before empty new s ≡ Err e)) → HasCauseOrNoMemory result (BreaksHeightClass c r d before empty new s)
+  height_class_cause s result =
+      call-cause-or-memory (BreaksHeightClass c r d before empty new s) (height_class r d before empty new s) result (height_class_causes s)
 
 -- the class's own error, of what it makes with the symbols before it
 pub class-error : {S : Type 0} (new : List Grid) (empty : ℕ) (result : Result (ℕ × List Grid × S) DecodeError) (e : DecodeError) → (e ≡ errors.OutOfMemory) ⊎ (class_after new empty result ≡ Err e)

@@ -4,12 +4,13 @@ pub mod Causes
 pub mod ClassCauses
 pub mod ClassLemmas
 pub mod CodedLemmas
+pub mod CodingCauses
 pub mod ConcatLemmas
 pub mod CutLemmas
 pub mod ExportErrors
 pub mod ExportLemmas
 pub mod ExportedLemmas
-mod IdCodes
+pub mod IdCodes
 pub mod JoinedLemmas
 pub mod MmrRows
 pub mod PayingLemmas

@@ -5,7 +5,8 @@ use Rattle.std.proofs.lemmas.Bool as tests
 use Rattle.std.specs.Prelude.{IfErr}
 use Rattle.jbig2_base.specs.Results.{◌>>=◌, refuse_if}
 use Rattle.jbig2_base.specs.Grid.{Grid, bit_number}
-use Rattle.jbig2_base.specs.Causes.{HasCause, HasCauseOrNoMemory, InSteps, IsOf}
+use Rattle.jbig2_base.specs.Bits.{Place, bits_left}
+use Rattle.jbig2_base.specs.Causes.{HasCause, HasCauseOrNoMemory}
 use Rattle.jbig2_base.proofs.CauseSteps.{call-cause, call-cause-or-memory}
 use Rattle.jbig2_base.specs.declared.error.DecodeError.{DecodeError}
 use Rattle.jbig2_base.specs.declared.error.DecodeError.TheVariants as errors
@@ -13,27 +14,26 @@ use Rattle.jbig2_base.specs.declared.error.HuffmanError.TheVariants as huffman
 use Rattle.jbig2_base.specs.declared.error.OverflowError.TheVariants.{BitmapDimension}
 use Rattle.jbig2_base.specs.declared.error.SymbolError.TheVariants as symbols
 use Rattle.jbig2_base.proofs.Causes.{cause-next, cause-refused}
-use Rattle.jbig2_coder.specs.PrefixCode.{Member}
+use Rattle.jbig2_coder.specs.PrefixCode.{Member, decoded_value}
+use Rattle.jbig2_text.specs.Causes.{After, BreaksValueAt}
+use Rattle.jbig2_text.proofs.Causes.{no-value}
 use Rattle.jbig2_text.specs.TextCoding.{in_band}
 use Rattle.jbig2_symbol.specs.SymbolBitmaps.{instance_count, some_instances}
-use Rattle.jbig2_symbol.specs.Causes.{BreaksContexts, BreaksCount, BreaksExports, BreaksNextWidth, BreaksRunAfter, BreaksRunValue, BreaksTables, IsNoSize, custom_count}
+use Rattle.jbig2_symbol.specs.Causes.{BreaksContexts, BreaksCount, BreaksTables, custom_count}
+use Rattle.jbig2_symbol.specs.ClassCauses.{BreaksExports, BreaksNextWidth, BreaksRunAfter, BreaksRunValue, BreaksWidthBy, ClassCauses, ClassesHaveCauses, IsNoSize, SymbolCauses, SymbolsHaveCauses}
 use Rattle.jbig2_symbol.specs.Symbols.{export_runs, exported_grids, exports, next_run, runs_from}
 use Rattle.jbig2_symbol.specs.HeightClasses.{next_width, size_in_word, width_by}
-use Rattle.jbig2_symbol.specs.SymbolReading.{BitmapContexts, ClassReadings, SymbolInput, SymbolReadings, first_contexts, is_refinement_template, is_template, not_negative, symbol_tables, table_for}
+use Rattle.jbig2_symbol.specs.SymbolReading.{BitmapContexts, ClassReadings, SymbolInput, SymbolReadings, SymbolState, by_table, first_contexts, is_refinement_template, is_template, not_negative, symbol_tables, table_for}
 use Rattle.jbig2_symbol.specs.declared.header.HuffmanTableSelection.{HuffmanTableSelection}
 use Rattle.jbig2_symbol.specs.declared.header.HuffmanTableSelection.TheVariants.{TableB1, TableB2, TableB3, TableB4, TableB5, UserSupplied}
 use Rattle.jbig2_region.proofs.ResultCauses.{IfResult, cause-if, cause-last, cause-more, result-if, result-refused}
 use Rattle.jbig2_symbol.specs.declared.header.SymbolDictionaryFlags.{SymbolDictionaryFlags}
 
 -- ---- steps
-pub in-steps : {A B : Type 0} (r : Result A DecodeError) (next : A → Result B DecodeError) (F : DecodeError → Type 0) (N : A → DecodeError → Type 0)
-    → IfErr r F → ((x : A) → r ≡ Ok x → IfErr (next x) (N x)) → IfErr (r >>= next) (λ e. InSteps r (F e) (λ x. N x e))
-in-steps (Ok x) next F N first rest = rest x refl
-in-steps (Err e) next F N first rest = first
-
-pub own-error : {A : Type 0} (r : Result A DecodeError) → IfErr r (IsOf r)
-own-error (Ok x) = tt
-own-error (Err e) = refl
+pub or-after : {A B : Type 0} (r : Result A DecodeError) (next : A → Result B DecodeError) (F : DecodeError → Type 0) (N : A → DecodeError → Type 0)
+    → IfErr r F → ((x : A) → r ≡ Ok x → IfErr (next x) (N x)) → IfErr (r >>= next) (λ e. F e ⊎ After r (λ x. N x e))
+or-after (Ok x) next F N first rest = cause-more (N x) (λ e. F e ⊎ After (Ok x) (λ y. N y e)) (next x) (rest x refl) (λ e why. inr (x, refl, why))
+or-after (Err e) next F N first rest = inl first
 
 pub cause-by : {A : Type 0} (r : Result A DecodeError) (P Q : DecodeError → Type 0) → IfErr r P → ((e : DecodeError) → r ≡ Err e → P e → Q e) → IfErr r Q
 cause-by (Ok x) P Q is why = tt
@@ -103,75 +103,65 @@ run-of empty left (Some (pos run)) after =
     (ap (λ (n : ℕ). Some (pos n)) (eqb-true run 0 both.0), leb-true 1048576 empty both.1))) (λ few few_is.
     cause-next P (refuse_if far (errors.Symbol symbols.OutOfRange)) _ (cause-refused P far (errors.Symbol symbols.OutOfRange) (λ is. (run, refl, tests.ltb-true left run is))) (λ within within_is. tt))
 
-abbrev BreaksRun : {S : Type 0} → ClassReadings S → SymbolInput → ℕ → ℕ → S → DecodeError → Type 0
-BreaksRun r d empty left s e = InSteps (r.export_run d s) (IsOf (r.export_run d s) e) (λ value. BreaksRunValue empty left value.0 e)
+module _ {S : Type 0} (c : ClassCauses S) (r : ClassReadings S) (law : ClassesHaveCauses r c) (d : SymbolInput) where
+  run-causes : (empty left : ℕ) (s : S) → IfErr (next_run r d empty left s) (BreaksRunAfter c r d 0 empty left s)
+  unfolding next_run
+  run-causes empty left s =
+      or-after (r.export_run d s) _ (c.export_run d s) (λ value. BreaksRunValue empty left value.0) (law.export_run d s) (λ value value_is. run-of empty left value.0 value.1)
 
-run-causes : {S : Type 0} (r : ClassReadings S) (d : SymbolInput) (empty left : ℕ) (s : S) → IfErr (next_run r d empty left s) (BreaksRun r d empty left s)
-unfolding next_run
-run-causes r d empty left s =
-    in-steps (r.export_run d s) _ (IsOf (r.export_run d s)) (λ value. BreaksRunValue empty left value.0) (own-error (r.export_run d s)) (λ value value_is. run-of empty left value.0 value.1)
+  abbrev Runs : ℕ → ℕ → S → DecodeError → Type 0
+  Runs empty left s e = (k : ℕ) × BreaksRunAfter c r d k empty left s e
 
-abbrev Runs : {S : Type 0} → ClassReadings S → SymbolInput → ℕ → ℕ → S → DecodeError → Type 0
-Runs r d empty left s e = (before : List ℕ) × BreaksRunAfter before r d empty left s e
+  runs-cause : (n empty left : ℕ) (s : S) → IfErr (runs_from r d n empty left s) (Runs empty left s)
+  unfolding runs_from
+  runs-cause zero empty left s = tt
+  runs-cause (suc n) empty left s =
+      let P : DecodeError → Type 0 = Runs empty left s in
+      cause-if P (left == 0) _ _ (λ whole. tt) (λ more.
+      cause-next P (next_run r d empty left s) _ (cause-more (BreaksRunAfter c r d 0 empty left s) P (next_run r d empty left s) (run-causes empty left s) (λ e broken. (0, broken))) (λ run run_is.
+      let others = runs_from r d n (empty + bit_number (run.0 == 0)) (left - run.0) run.1 in
+      let Q : DecodeError → Type 0 = Runs (empty + bit_number (run.0 == 0)) (left - run.0) run.1 in
+      cause-next P others _ (cause-more Q P others (runs-cause n (empty + bit_number (run.0 == 0)) (left - run.0) run.1) (λ e later. (suc later.0, (run, run_is, later.1)))) (λ all all_is. tt)))
 
-runs-later : {S : Type 0} (r : ClassReadings S) (d : SymbolInput) (empty left : ℕ) (s : S) (run : ℕ × S) (e : DecodeError) → next_run r d empty left s ≡ Ok run → Runs r d (empty + bit_number (run.0 == 0)) (left - run.0) run.1 e → Runs r d empty left s e
-runs-later r d empty left s run e is later =
-    let broken : BreaksRunAfter (run.0 ∷ later.0) r d empty left s e = (run.1, is, later.1) in
-    (run.0 ∷ later.0, broken)
+  exports_causes : (grids : List Grid) (s : S) → IfErr (exports r d grids s) (BreaksExports c r d grids s)
+  unfolding exports
+  exports_causes grids s =
+      let count = length grids in
+      or-after (export_runs r d count s) _ (Runs 0 count s) (λ runs e. (e ≡ errors.Symbol symbols.NoSymbols) × (length (exported_grids runs.0 grids) ≢ d.header.num_exported_symbols)) (runs-cause (count + 1048576) 0 count s) (λ runs runs_is.
+      let P : DecodeError → Type 0 = λ e. (e ≡ errors.Symbol symbols.NoSymbols) × (length (exported_grids runs.0 grids) ≢ d.header.num_exported_symbols) in
+      let other : Bool = not (length (exported_grids runs.0 grids) == d.header.num_exported_symbols) in
+      cause-next P (refuse_if other (errors.Symbol symbols.NoSymbols)) _ (cause-refused P other (errors.Symbol symbols.NoSymbols) (λ is. (refl, differ (length (exported_grids runs.0 grids)) d.header.num_exported_symbols is))) (λ right right_is. tt))
 
-runs-cause : {S : Type 0} (r : ClassReadings S) (d : SymbolInput) (n empty left : ℕ) (s : S) → IfErr (runs_from r d n empty left s) (Runs r d empty left s)
-unfolding runs_from
-runs-cause r d zero empty left s = tt
-runs-cause r d (suc n) empty left s =
-    let P : DecodeError → Type 0 = Runs r d empty left s in
-    cause-if P (left == 0) _ _ (λ whole. tt) (λ more.
-    cause-next P (next_run r d empty left s) _ (cause-more (BreaksRun r d empty left s) P (next_run r d empty left s) (run-causes r d empty left s) (λ e broken. ([], broken))) (λ run run_is.
-    let others = runs_from r d n (empty + bit_number (run.0 == 0)) (left - run.0) run.1 in
-    let Q : DecodeError → Type 0 = Runs r d (empty + bit_number (run.0 == 0)) (left - run.0) run.1 in
-    cause-next P others _ (cause-more Q P others (runs-cause r d n (empty + bit_number (run.0 == 0)) (left - run.0) run.1) (λ e later. runs-later r d empty left s run e run_is later)) (λ all all_is. tt)))
-
-exports_causes : {S : Type 0} (r : ClassReadings S) (d : SymbolInput) (grids : List Grid) (s : S) → IfErr (exports r d grids s) (BreaksExports r d grids s)
-unfolding exports
-exports_causes r d grids s =
-    let count = length grids in
-    in-steps (export_runs r d count s) _ (Runs r d 0 count s) (λ runs e. (e ≡ errors.Symbol symbols.NoSymbols) × (length (exported_grids runs.0 grids) ≢ d.header.num_exported_symbols)) (runs-cause r d (count + 1048576) 0 count s) (λ runs runs_is.
-    let P : DecodeError → Type 0 = λ e. (e ≡ errors.Symbol symbols.NoSymbols) × (length (exported_grids runs.0 grids) ≢ d.header.num_exported_symbols) in
-    let other : Bool = not (length (exported_grids runs.0 grids) == d.header.num_exported_symbols) in
-    cause-next P (refuse_if other (errors.Symbol symbols.NoSymbols)) _ (cause-refused P other (errors.Symbol symbols.NoSymbols) (λ is. (refl, differ (length (exported_grids runs.0 grids)) d.header.num_exported_symbols is))) (λ right right_is. tt))
-
-pub exports_cause : {X S : Type 0} (r : ClassReadings S) (d : SymbolInput) (grids : List Grid) (s : S) (result : Result X DecodeError) → IfErr result (λ e. (e ≡ errors.OutOfMemory) ⊎ (exports r d grids s ≡ Err e))
-    → HasCauseOrNoMemory result (BreaksExports r d grids s)
-exports_cause r d grids s result = call-cause-or-memory (BreaksExports r d grids s) (exports r d grids s) result (exports_causes r d grids s)
+  pub exports_cause : {X : Type 0} (grids : List Grid) (s : S) (result : Result X DecodeError) → IfErr result (λ e. (e ≡ errors.OutOfMemory) ⊎ (exports r d grids s ≡ Err e))
+      → HasCauseOrNoMemory result (BreaksExports c r d grids s)
+  exports_cause grids s result = call-cause-or-memory (BreaksExports c r d grids s) (exports r d grids s) result (exports_causes grids s)
 
 -- ---- widths and instances
 pub result-size : (P : DecodeError → Type 0) (z : ℤ) → (IsNoSize z → P (errors.Overflow BitmapDimension)) → IfResult (size_in_word z) P (λ n. z ≡ pos n)
 result-size P (pos n) why = result-if P (λ (m : ℕ). pos n ≡ pos m) (nat_lt n 4294967296) (Ok n) (Err (errors.Overflow BitmapDimension)) (λ fits. refl) (λ large. why (ltb-false n 4294967296 large))
 result-size P (negsuc n) why = why tt
 
-abbrev BreaksWidth : ℕ → ℕ → ℕ → Option ℤ → DecodeError → Type 0
-BreaksWidth room width total value e =
-    ((e ≡ errors.Symbol symbols.TooManySymbols) × (room ≡ 0) × (value ≢ None))
-    ⊎ ((e ≡ errors.Overflow BitmapDimension) × ((difference : ℤ) × (value ≡ Some difference) × (IsNoSize (pos width +ℤ difference) ⊎ IsNoSize (pos total +ℤ (pos width +ℤ difference)))))
-
-width-cause : (room width total : ℕ) (value : Option ℤ) → IfErr (width_by room width total value) (BreaksWidth room width total value)
+width-cause : (room width total : ℕ) (value : Option ℤ) → IfErr (width_by room width total value) (BreaksWidthBy room width total value)
 width-cause room width total None = tt
 width-cause room width total (Some difference) =
-    let P : DecodeError → Type 0 = BreaksWidth room width total (Some difference) in
+    let P : DecodeError → Type 0 = BreaksWidthBy room width total (Some difference) in
     let none : Bool = room == 0 in
     let next_width_is = pos width +ℤ difference in
     cause-last P (λ x. none ≡ false) (refuse_if none (errors.Symbol symbols.TooManySymbols)) _ (result-refused P none (errors.Symbol symbols.TooManySymbols) (λ is. inl (refl, eqb-true room 0 is, λ same. absurd (cc)))) (λ missing there.
     cause-last P (λ (n : ℕ). next_width_is ≡ pos n) (size_in_word next_width_is) _ (result-size P next_width_is (λ no. inr (refl, (difference, refl, inl no)))) (λ next is.
     cause-last P (λ (n : ℕ). pos total +ℤ pos next ≡ pos n) (size_in_word (pos total +ℤ pos next)) _ (result-size P (pos total +ℤ pos next) (λ no. inr (refl, (difference, refl, inr (subst (λ (z : ℤ). IsNoSize (pos total +ℤ z)) (sym is) no))))) (λ all all_is. tt)))
 
-widths_causes : {S : Type 0} (r : SymbolReadings S) (d : SymbolInput) (room width total : ℕ) (s : S) → IfErr (next_width r d room width total s) (BreaksNextWidth r d room width total s)
+pub widths_causes : {S : Type 0} (c : SymbolCauses S) (r : SymbolReadings S) → SymbolsHaveCauses r c → (d : SymbolInput) (room width total : ℕ) (s : S)
+    → IfErr (next_width r d room width total s) (BreaksNextWidth c r d room width total s)
 unfolding next_width
-widths_causes r d room width total s =
-    in-steps (r.width_difference d s) _ (IsOf (r.width_difference d s)) (λ value. BreaksWidth room width total value.0) (own-error (r.width_difference d s)) (λ value value_is.
-    cause-next (BreaksWidth room width total value.0) (width_by room width total value.0) _ (width-cause room width total value.0) (λ next next_is. tt))
+widths_causes c r law d room width total s =
+    or-after (r.width_difference d s) _ (c.width_difference d s) (λ value. BreaksWidthBy room width total value.0) (law.width_difference d s) (λ value value_is.
+    cause-next (BreaksWidthBy room width total value.0) (width_by room width total value.0) _ (width-cause room width total value.0) (λ next next_is. tt))
 
-pub widths_cause : {X S : Type 0} (r : SymbolReadings S) (d : SymbolInput) (room width total : ℕ) (s : S) (result : Result X DecodeError) → IfErr result (λ e. next_width r d room width total s ≡ Err e)
-    → HasCause result (BreaksNextWidth r d room width total s)
-widths_cause r d room width total s result = call-cause (BreaksNextWidth r d room width total s) (next_width r d room width total s) result (widths_causes r d room width total s)
+pub widths_cause : {X S : Type 0} (c : SymbolCauses S) (r : SymbolReadings S) → SymbolsHaveCauses r c → (d : SymbolInput) (room width total : ℕ) (s : S) (result : Result X DecodeError)
+    → IfErr result (λ e. next_width r d room width total s ≡ Err e) → HasCause result (BreaksNextWidth c r d room width total s)
+widths_cause c r law d room width total s result =
+    call-cause (BreaksNextWidth c r d room width total s) (next_width r d room width total s) result (widths_causes c r law d room width total s)
 
 count-cause : (value : Option ℤ) → IfErr (some_instances value) (BreaksCount value)
 count-cause None = refl
@@ -179,8 +169,13 @@ count-cause (Some (pos zero)) = inl refl
 count-cause (Some (pos (suc n))) = tt
 count-cause (Some (negsuc n)) = inr (n, refl)
 
-pub instance_count_causes : {S : Type 0} (reading : Result (Option ℤ × S) DecodeError) → IfErr (instance_count reading) (λ e. InSteps reading (IsOf reading e) (λ value. BreaksCount value.0 e))
+pub instance_count_causes : {S : Type 0} (F : DecodeError → Type 0) (reading : Result (Option ℤ × S) DecodeError) → IfErr reading F
+    → IfErr (instance_count reading) (λ e. F e ⊎ After reading (λ value. BreaksCount value.0 e))
 unfolding instance_count
-instance_count_causes reading =
-    in-steps reading _ (IsOf reading) (λ value. BreaksCount value.0) (own-error reading) (λ value value_is.
+instance_count_causes F reading law =
+    or-after reading _ F (λ value. BreaksCount value.0) law (λ value value_is.
     cause-next (BreaksCount value.0) (some_instances value.0) _ (count-cause value.0) (λ count count_is. tt))
+
+-- ---- values by a table
+pub by-table : (table : List Member) (s : SymbolState Place) → IfErr (by_table table s) (BreaksValueAt table s.coding)
+by-table table s = cause-next (BreaksValueAt table s.coding) (decoded_value table (bits_left s.coding)).result _ (no-value table s.coding) (λ value value_is. tt)

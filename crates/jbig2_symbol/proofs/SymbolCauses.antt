@@ -1,10 +1,10 @@
 -- Which rule is broken where a symbol of a dictionary is refused.
-use Rattle.std.proofs.Common.{◌≡◌, ◌⊎◌, inl, inr, ℕ, ◌==◌, ◌<◌, nat_lt, Bool, true, false, ◌||◌, max, List, length, Option, Result, Ok, Err, ℤ, refl}
+use Rattle.std.proofs.Common.{◌≡◌, ◌⊎◌, inl, inr, ℕ, ◌==◌, ◌<◌, nat_lt, Bool, true, false, ◌||◌, max, List, length, Result, Ok, Err, ℤ, refl}
 use Rattle.std.proofs.lemmas.Bool.{eqb-false, eqb-true, ltb-true}
 use Rattle.std.specs.Prelude.{IfErr}
 use Rattle.jbig2_base.specs.Results.{◌>>=◌}
-use Rattle.jbig2_base.specs.Bits.{Place, bits_left, bits_on}
-use Rattle.jbig2_base.specs.Causes.{BreaksSides, HasCauseOrNoMemory, InSteps, IsOf}
+use Rattle.jbig2_base.specs.Bits.{Place, bits_left}
+use Rattle.jbig2_base.specs.Causes.{BreaksSides, HasCauseOrNoMemory}
 use Rattle.jbig2_base.proofs.CauseSteps.{call-cause-or-memory}
 use Rattle.jbig2_base.specs.Fields.{end_of_bytes}
 use Rattle.jbig2_base.specs.Grid.{Grid, blank}
@@ -13,9 +13,8 @@ use Rattle.jbig2_base.specs.declared.error.DecodeError.TheVariants as errors
 use Rattle.jbig2_base.specs.declared.error.OverflowError.TheVariants.{BitmapDimension}
 use Rattle.jbig2_base.specs.declared.error.ParseError.TheVariants.{UnexpectedEof}
 use Rattle.jbig2_base.specs.declared.error.SymbolError.TheVariants.{OutOfRange}
-use Rattle.jbig2_coder.specs.PrefixCode.{Member, decoded_value}
 use Rattle.jbig2_coder.specs.declared.integer_procedures.IntegerProcedure.TheVariants.{Iaai}
-use Rattle.jbig2_text.specs.Causes.{After, BreaksInstances, ReadingsHaveCauses, NamesNone, ReadingCauses, RefusesValue, coder_causes, prefix_causes}
+use Rattle.jbig2_text.specs.Causes.{After, BreaksInstances, BreaksValueAt, ReadingsHaveCauses, NamesNone, ReadingCauses, coder_causes, prefix_causes}
 use Rattle.jbig2_text.specs.Refining.{Refining}
 use Rattle.jbig2_text.specs.Text.{Readings, TextParams, some_symbol, symbol_of, text_region}
 use Rattle.jbig2_text.specs.TextCoding.{CodedState, PrefixedState, by_coder, by_prefix_codes, next_id}
@@ -27,7 +26,7 @@ use Rattle.jbig2_text.proofs.CausesOfRegions.{all_instance_causes, by_coder-caus
 use Rattle.jbig2_text.proofs.Causes.{cause-bits}
 use Rattle.jbig2_region.proofs.ResultCauses.{cause-if, cause-more, cause-of}
 use Rattle.jbig2_base.proofs.Causes.{cause-next, cause-refused}
-use Rattle.jbig2_symbol.proofs.ReadingCauses.{instance_count_causes}
+use Rattle.jbig2_symbol.proofs.ReadingCauses.{by-table, instance_count_causes}
 
 -- ---- the sides
 either-of : (x y : Bool) → (x || y) ≡ true → (x ≡ true) ⊎ (y ≡ true)
@@ -41,7 +40,7 @@ too-long width height over = on (either-of (nat_lt 65535 width) (nat_lt 65535 he
     on (inl wide) = inl (ltb-true 65535 width wide)
     on (inr high) = inr (ltb-true 65535 height high)
 
-sides-cause : (width height : ℕ) → IfErr (fits_symbol width height) (BreaksSides width height)
+pub sides-cause : (width height : ℕ) → IfErr (fits_symbol width height) (BreaksSides width height)
 sides-cause width height =
     let large : Bool = nat_lt 65535 width || nat_lt 65535 height in
     cause-refused (BreaksSides width height) large (errors.Overflow BitmapDimension) (too-long width height)
@@ -80,21 +79,12 @@ cause-instances c r a alone lacks law p width height f s =
     cause-alone c r a P p.symbols id.0 width height f id.1 (λ e no. inl (eqb-true p.count 1 one, inr (id, id_is, no)))))
     (λ other. cause-together c r a P p width height f s (λ e no. inr (eqb-false p.count 1 other, no)))
 
--- what is broken in a step, or after it
-cause-count : {S : Type 0} (P : DecodeError → Type 0) (reading : Result (Option ℤ × S) DecodeError)
-    → ((e : DecodeError) → reading ≡ Err e → P e) → ((e : DecodeError) → After reading (λ value. BreaksCount value.0 e) → P e) → IfErr (instance_count reading) P
-unfolding instance_count
-cause-count {S} P reading refused broken = cause-more (λ e. InSteps reading (IsOf reading e) (λ value. BreaksCount value.0 e)) P (instance_count reading) (instance_count_causes reading) (λ e no. on reading (λ is. refused e is) (λ x. broken e x) no)
-  where
-    on : {e : DecodeError} (result : Result (Option ℤ × S) DecodeError) → (result ≡ Err e → P e) → (After result (λ value. BreaksCount value.0 e) → P e) → InSteps result (IsOf result e) (λ value. BreaksCount value.0 e) → P e
-    on (Ok value) refused broken why = broken (value, refl, why)
-    on (Err f) refused broken why = refused why
-
-coded_aggregate_causes : (d : SymbolInput) (new : List Grid) (width height : ℕ) (s : SymbolState CodedState) → IfErr (coded_aggregate d new width height s) (BreaksCodedAggregate d new width height s)
+pub coded_aggregate_causes : (d : SymbolInput) (new : List Grid) (width height : ℕ) (s : SymbolState CodedState) → IfErr (coded_aggregate d new width height s) (BreaksCodedAggregate d new width height s)
 unfolding coded_aggregate
 coded_aggregate_causes d new width height s =
     let P : DecodeError → Type 0 = BreaksCodedAggregate d new width height s in
-    cause-next P (instance_count (by_procedure Iaai s)) _ (cause-count P (by_procedure Iaai s) (λ e never. absurd cc) (λ e no. inl no)) (λ count count_is.
+    let reading = by_procedure Iaai s in
+    cause-next P (instance_count reading) _ (cause-more (λ e. ⊥ ⊎ After reading (λ value. BreaksCount value.0 e)) P (instance_count reading) (instance_count_causes (λ e. ⊥) reading tt) (λ e why. counted e why)) (λ count count_is.
     let p = aggregate_params d new count.0 in
     let refining = count.1.contexts.refining in
     let alone : CodedState → Result (ℤ × CodedState) DecodeError = λ c. Ok (next_id c) in
@@ -102,21 +92,15 @@ coded_aggregate_causes d new width height s =
     cause-next P (by_instances by_coder alone p width height refining count.1.coding) _
     (cause-more (BreaksByInstances coder_causes by_coder alone lacks p width height refining count.1.coding) P (by_instances by_coder alone p width height refining count.1.coding)
     (cause-instances coder_causes by_coder by_coder-causes alone lacks (λ c. tt) p width height refining count.1.coding) (λ e no. inr (count, count_is, no))) (λ symbol symbol_is. tt))
+  where
+    counted : {A B : Type 0} (e : DecodeError) → ⊥ ⊎ A → A ⊎ B
+    counted e (inl never) = absurd never
+    counted e (inr why) = inl why
 
 pub coded_aggregate_cause : {X : Type 0} (d : SymbolInput) (new : List Grid) (width height : ℕ) (s : SymbolState CodedState) (r : Result X DecodeError)
     → IfErr r (λ e. (e ≡ errors.OutOfMemory) ⊎ (coded_aggregate d new width height s ≡ Err e)) → HasCauseOrNoMemory r (BreaksCodedAggregate d new width height s)
 coded_aggregate_cause d new width height s r =
     call-cause-or-memory (BreaksCodedAggregate d new width height s) (coded_aggregate d new width height s) r (coded_aggregate_causes d new width height s)
-
-refused-value : (table : List Member) (s : SymbolState Place) (e : DecodeError) → by_table table s ≡ Err e → RefusesValue table (bits_left s.coding) e
-refused-value table s e = on (decoded_value table (bits_left s.coding)).result
-  where
-    after : SymbolState Place
-    after = record s { coding = bits_on (decoded_value table (bits_left s.coding)).taken s.coding }
-
-    on : (result : Result (Option ℤ) DecodeError) → (result >>= λ value. (let x : Result (Option ℤ × SymbolState Place) DecodeError = Ok (value, after) in x)) ≡ Err e → result ≡ Err e
-    on (Ok value) is = absurd cc
-    on (Err f) is = cc
 
 -- by prefix codes, the bits of the id are fewer than it has
 abbrev LacksId : ℕ → PrefixedState → DecodeError → Type 0
@@ -127,19 +111,24 @@ cause-plain_id bits s =
     let P : DecodeError → Type 0 = LacksId bits s in
     cause-next P _ _ (cause-next P _ _ (cause-bits P end_of_bytes bits s.place (λ short. (refl, short))) (λ n is. tt)) (λ n is. tt)
 
-prefixed_aggregate_causes : (d : SymbolInput) (new : List Grid) (width height : ℕ) (s : SymbolState Place) → IfErr (prefixed_aggregate d new width height s) (BreaksPrefixedAggregate d new width height s)
+pub prefixed_aggregate_causes : (d : SymbolInput) (new : List Grid) (width height : ℕ) (s : SymbolState Place) → IfErr (prefixed_aggregate d new width height s) (BreaksPrefixedAggregate d new width height s)
 unfolding prefixed_aggregate
 prefixed_aggregate_causes d new width height s =
     let P : DecodeError → Type 0 = BreaksPrefixedAggregate d new width height s in
     let reading = by_table d.tables.counts s in
     let bits : ℕ = max 1 (id_bits d.header (length d.symbols)) in
-    cause-next P (instance_count reading) _ (cause-count P reading (λ e is. inl (refused-value d.tables.counts s e is)) (λ e no. inr (inl no))) (λ count count_is.
+    let Counted : DecodeError → Type 0 = λ e. BreaksValueAt d.tables.counts s.coding e ⊎ After reading (λ value. BreaksCount value.0 e) in
+    cause-next P (instance_count reading) _ (cause-more Counted P (instance_count reading) (instance_count_causes (BreaksValueAt d.tables.counts s.coding) reading (by-table d.tables.counts s)) (λ e why. counted e why)) (λ count count_is.
     let p = aggregate_params d new count.0 in
     let refining = count.1.contexts.refining in
     let at = prefixed_at d count.1.coding in
     cause-next P (by_instances by_prefix_codes (plain_id bits) p width height refining at) _
     (cause-more (BreaksByInstances prefix_causes by_prefix_codes (plain_id bits) (LacksId bits) p width height refining at) P (by_instances by_prefix_codes (plain_id bits) p width height refining at)
     (cause-instances prefix_causes by_prefix_codes by_prefix_codes-causes (plain_id bits) (LacksId bits) (cause-plain_id bits) p width height refining at) (λ e no. inr (inr (count, count_is, no)))) (λ symbol symbol_is. tt))
+  where
+    counted : {A B C : Type 0} (e : DecodeError) → A ⊎ B → A ⊎ B ⊎ C
+    counted e (inl a) = inl a
+    counted e (inr b) = inr (inl b)
 
 pub prefixed_aggregate_cause : {X : Type 0} (d : SymbolInput) (new : List Grid) (width height : ℕ) (s : SymbolState Place) (r : Result X DecodeError)
     → IfErr r (λ e. (e ≡ errors.OutOfMemory) ⊎ (prefixed_aggregate d new width height s ≡ Err e)) → HasCauseOrNoMemory r (BreaksPrefixedAggregate d new width height s)

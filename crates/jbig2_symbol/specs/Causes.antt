@@ -1,34 +1,32 @@
 -- Which rule is broken where a symbol dictionary is refused (T.88, 6.5 and 7.4.2; docs/FORMAT.md, 11), one line for
--- each error. The function that refuses cites its predicate `Breaks..`. `IsOf` is an error that a reading gave.
-use Rattle.std.specs.Prelude.{◌≡◌, ◌≢◌, ◌⊎◌, ◌<◌, ◌≤◌, ℕ, ◌+◌, ◌-◌, ◌*◌, ◌/◌, ◌%◌, ◌==◌, max, ◌&&◌, Bool, false, IsTrue}
-use Rattle.std.specs.Prelude.{IsFalse, if◌then◌else◌, List, [], ◌∷◌, length, take, Option, Some, None, Result, Ok, ℤ}
-use Rattle.std.specs.Prelude.{pos, negsuc, ◌+ℤ◌}
+-- each error. The function that refuses cites its predicate `Breaks..`. Those of widths, classes and exports are in
+-- `ClassCauses`.
+use Rattle.std.specs.Prelude.{◌≡◌, ◌≢◌, ◌⊎◌, ◌<◌, ◌≤◌, ℕ, ◌+◌, ◌*◌, ◌/◌, ◌%◌, ◌==◌, max, ◌&&◌, Bool, false, IsTrue}
+use Rattle.std.specs.Prelude.{IsFalse, if◌then◌else◌, List, length, take, Option, Some, None, Result, Ok, ℤ, pos, negsuc}
 use Rattle.std.specs.Int.{w16, w32}
 use Rattle.jbig2_base.specs.Bits.{Place, byte_boundary, bits_left}
-use Rattle.jbig2_base.specs.Causes.{BreaksSides, InSteps, IsOf, number_in}
-use Rattle.jbig2_base.specs.Grid.{Grid, bit_number, blank, max_side}
+use Rattle.jbig2_base.specs.Causes.{BreaksSides, number_in}
+use Rattle.jbig2_base.specs.Grid.{Grid, blank, max_side}
 use Rattle.jbig2_base.specs.declared.error.DecodeError.{DecodeError}
 use Rattle.jbig2_base.specs.declared.error.OverflowError.TheVariants.{SymbolCount, BitmapDimension}
 use Rattle.jbig2_base.specs.declared.error.ParseError.TheVariants.{UnexpectedEof}
 use Rattle.jbig2_base.specs.declared.error.RegionError.TheVariants.{InvalidMmrData}
-use Rattle.jbig2_base.specs.declared.error.SymbolError.TheVariants.{Invalid, NoSymbols, OutOfRange, TooManySymbols}
-use Rattle.jbig2_base.specs.declared.error.SymbolError.TheVariants.{UnexpectedOob}
+use Rattle.jbig2_base.specs.declared.error.SymbolError.TheVariants.{Invalid, OutOfRange, UnexpectedOob}
 use Rattle.jbig2_base.specs.declared.error.TemplateError.TheVariants.{InvalidAtPixel}
 use Rattle.jbig2_coder.specs.PrefixCode.{Member}
 use Rattle.jbig2_coder.specs.declared.integer_procedures.IntegerProcedure.TheVariants.{Iaai}
 use Rattle.jbig2_mmr.specs.Causes.{BreaksMmr}
 use Rattle.jbig2_region.specs.Causes.{BreaksPixels}
 use Rattle.jbig2_region.specs.Templates.{adaptive_pixel_count, template_of}
-use Rattle.jbig2_text.specs.Causes.{After, BreaksInstances, NamesNone, ReadingCauses, RefusesValue, coder_causes}
+use Rattle.jbig2_text.specs.Causes.{After, BreaksInstances, BreaksValueAt, NamesNone, ReadingCauses, coder_causes}
 use Rattle.jbig2_text.specs.Causes.{prefix_causes}
 use Rattle.jbig2_text.specs.Refining.{Refining}
 use Rattle.jbig2_text.specs.Text.{Readings, TextParams}
 use Rattle.jbig2_text.specs.TextCoding.{CodedState, PrefixedState, by_coder, by_prefix_codes, next_id}
-use Rattle.jbig2_symbol.specs.Symbols.{export_runs, exported_grids, next_run}
 use Rattle.jbig2_symbol.specs.SymbolBitmaps.{aggregate_params, id_bits, instance_count, plain_id, prefixed_at}
 use Rattle.jbig2_symbol.specs.SymbolBitmaps.{raw_stride}
 use Rattle.jbig2_symbol.specs.SymbolHeader.{SymbolHeader, max_empty, max_new_symbols}
-use Rattle.jbig2_symbol.specs.SymbolReading.{BitmapContexts, ClassReadings, SymbolInput, SymbolReadings, SymbolState}
+use Rattle.jbig2_symbol.specs.SymbolReading.{BitmapContexts, SymbolInput, SymbolState}
 use Rattle.jbig2_symbol.specs.SymbolReading.{by_procedure, by_table, is_refinement_template, is_template}
 use Rattle.jbig2_symbol.specs.declared.header.HuffmanTableSelection.{HuffmanTableSelection}
 use Rattle.jbig2_symbol.specs.declared.header.HuffmanTableSelection.TheVariants.{UserSupplied}
@@ -80,40 +78,6 @@ BreaksContexts flags (Some contexts) (errors.Symbol Invalid) =
     ⊎ IsFalse (is_refinement_template contexts.refinement_template flags.refinement_template))
 BreaksContexts flags kept _ = ⊥
 
--- The value of a run (6.5.10), where `left` symbols are not covered yet and `empty` runs of length 0 came before.
-abbrev pub BreaksRunValue : ℕ → ℕ → Option ℤ → DecodeError → Type 0
-BreaksRunValue empty left value (errors.Huffman huffman.UnexpectedOob) = value ≡ None
-BreaksRunValue empty left value (errors.Huffman huffman.InvalidCode) = (n : ℕ) × (value ≡ Some (negsuc n))
-BreaksRunValue empty left value (errors.Symbol Invalid) = (value ≡ Some (pos 0)) × (max_empty ≤ empty)
-BreaksRunValue empty left value (errors.Symbol OutOfRange) = (run : ℕ) × (value ≡ Some (pos run)) × (left < run)
-BreaksRunValue empty left value _ = ⊥
-
--- the run after these runs, which were read
-abbrev pub BreaksRunAfter : {S : Type 0} → List ℕ → ClassReadings S → SymbolInput → ℕ → ℕ → S → DecodeError → Type 0
-BreaksRunAfter [] r d empty left s e =
-    InSteps (r.export_run d s) (IsOf (r.export_run d s) e) (λ (value, _). BreaksRunValue empty left value e)
-BreaksRunAfter {S} (run ∷ runs) r d empty left s e =
-    (after : S) × (next_run r d empty left s ≡ Ok (run, after))
-    × BreaksRunAfter runs r d (empty + bit_number (run == 0)) (left - run) after e
-
--- one of the runs is refused, or they export another number of symbols than the header says
-abbrev pub BreaksExports : {S : Type 0} → ClassReadings S → SymbolInput → List Grid → S → DecodeError → Type 0
-BreaksExports r d grids s e =
-    InSteps (export_runs r d (length grids) s) ((before : List ℕ) × BreaksRunAfter before r d 0 (length grids) s e)
-    (λ (runs, _). (e ≡ errors.Symbol NoSymbols) × (length (exported_grids runs grids) ≢ d.header.num_exported_symbols))
-
-abbrev pub IsNoSize : ℤ → Type 0  -- a number that isn't an unsigned number of 32 bits
-IsNoSize (pos n) = 4294967296 ≤ n
-IsNoSize (negsuc n) = Unit {0}
-
--- The difference of a width (6.5.7), after a symbol of this width and total. At most `room` more symbols may come.
-abbrev pub BreaksNextWidth : {S : Type 0} → SymbolReadings S → SymbolInput → ℕ → ℕ → ℕ → S → DecodeError → Type 0
-BreaksNextWidth r d room width total s e =
-    InSteps (r.width_difference d s) (IsOf (r.width_difference d s) e) (λ (value, _).
-    ((e ≡ errors.Symbol TooManySymbols) × (room ≡ 0) × (value ≢ None))
-    ⊎ ((e ≡ errors.Overflow BitmapDimension) × ((difference : ℤ) × (value ≡ Some difference)
-    × (IsNoSize (pos width +ℤ difference) ⊎ IsNoSize (pos total +ℤ (pos width +ℤ difference))))))
-
 -- the number of instances of a symbol (6.5.8.2.1): it is out of band, or below 1
 abbrev pub BreaksCount : Option ℤ → DecodeError → Type 0
 BreaksCount value (errors.Symbol UnexpectedOob) = value ≡ None
@@ -142,7 +106,7 @@ BreaksCodedAggregate d new width height s e =
 -- by prefix codes, where the id of a single instance may lack bits
 abbrev pub BreaksPrefixedAggregate : SymbolInput → List Grid → ℕ → ℕ → SymbolState Place → DecodeError → Type 0
 BreaksPrefixedAggregate d new width height s e =
-    RefusesValue d.tables.counts (bits_left s.coding) e
+    BreaksValueAt d.tables.counts s.coding e
     ⊎ After (by_table d.tables.counts s) (λ (value, _). BreaksCount value e)
     ⊎ After (instance_count (by_table d.tables.counts s)) (λ (count, after_count).
     let bits = max 1 (id_bits d.header (length d.symbols)) in
@@ -163,9 +127,11 @@ BreaksSized strict width height (Some (pos size)) bytes (errors.Region InvalidMm
     (size ≢ 0) × BreaksMmr strict width height (take size bytes) (errors.Region InvalidMmrData)
 BreaksSized strict width height (Some (pos size)) bytes _ = ⊥
 
+-- its size can't be read, or what comes after it breaks a rule
 abbrev pub BreaksCollectiveBitmap : SymbolInput → ℕ → ℕ → SymbolState Place → DecodeError → Type 0
 BreaksCollectiveBitmap d width height s e =
-    InSteps (by_table d.tables.sizes s) (IsOf (by_table d.tables.sizes s) e) (λ (value, after_value).
+    BreaksValueAt d.tables.sizes s.coding e
+    ⊎ After (by_table d.tables.sizes s) (λ (value, after_value).
     BreaksSized d.header.strict width height value (byte_boundary after_value.coding).bytes e)
 
 -- A class that is too high for its symbols: its collective bitmap is refused, or else the first symbol cut from it.
@@ -177,18 +143,6 @@ BreaksTallClass d width height s e =
 abbrev pub BreaksEmptyClass : ℕ → ℕ → DecodeError → Type 0
 BreaksEmptyClass count empty (errors.Symbol Invalid) = (count ≡ 0) × (max_empty ≤ empty)
 BreaksEmptyClass count empty _ = ⊥
-
--- A height class (6.5.6): the difference of its height is out of band, or the height isn't an unsigned number of 32
--- bits, or the symbols of the class are refused.
-abbrev pub BreaksHeightClass : {S : Type 0} → ClassReadings S → SymbolInput → ℕ → ℕ → List Grid → S → DecodeError
-    → Type 0
-BreaksHeightClass r d before empty new s e =
-    InSteps (r.height_difference d s) (IsOf (r.height_difference d s) e) (λ (value, after_value).
-    ((e ≡ errors.Symbol UnexpectedOob) × (value ≡ None))
-    ⊎ ((difference : ℤ) × (value ≡ Some difference)
-    × (((e ≡ errors.Overflow BitmapDimension) × IsNoSize (pos before +ℤ difference))
-    ⊎ ((height : ℕ) × (pos before +ℤ difference ≡ pos height)
-    × IsOf (r.class_of_height d height empty new after_value) e))))
 
 -- The codes of the ids are never crowded, so only memory can run out.
 abbrev pub BreaksIdCodes : SymbolHeader → ℕ → DecodeError → Type 0

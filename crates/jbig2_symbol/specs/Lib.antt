@@ -1,4 +1,5 @@
 pub mod Causes
+pub mod ClassCauses
 pub mod HeightClasses
 pub mod Paying
 pub mod SymbolBitmaps

@@ -4,7 +4,8 @@ ghost use Rattle.jbig2_base.specs.Results.{Returns, Gives};
 ghost use Rattle.jbig2_base.specs.Causes.{HasCause, HasCauseOrNoMemory};
 ghost use Rattle.jbig2_steps.specs.Work.{PaidBut};
 ghost use Rattle.jbig2_text.specs.Paying.{number_steps};
-ghost use Rattle.jbig2_symbol.specs.Causes.{BreaksEmptyClass, BreaksHeightClass};
+ghost use Rattle.jbig2_symbol.specs.Causes.{BreaksEmptyClass};
+ghost use Rattle.jbig2_symbol.specs.ClassCauses.{BreaksHeightClass, ClassesHaveCauses};
 ghost use Rattle.jbig2_symbol.specs.HeightClasses.{drawn_class, empty_class, height_class, new_symbols, symbols_from};
 ghost use Rattle.jbig2_symbol.specs.inner.ClassWork.{HasRoom, PaidButClass, PaysClass};
 ghost use Rattle.jbig2_symbol.specs.inner.SymbolViews.{concat, class_after, input_view, room_after};
@@ -129,8 +130,9 @@ fn read_height_class<R: ReadClasses<A>, A: Allocator + Clone, L: Ledger>(
         let before = symbols.old in
         let new = before.bitmaps.items in
         let state = R.state readings.old in
-        HasCauseOrNoMemory result
-        (BreaksHeightClass R.readings d before.height before.empty new state) }
+        let breaks = BreaksHeightClass R.causes R.readings d in
+        ClassesHaveCauses R.readings R.causes
+        → HasCauseOrNoMemory result (breaks before.height before.empty new state) }
     ensures few { OnOk result (symbols.new.empty ≤ symbols.old.empty + 1) }
     ensures paid { PaidButClass input.now symbols.old.bitmaps.items 0 work.old work.new }
     ensures exact { let before = symbols.old.bitmaps.items in

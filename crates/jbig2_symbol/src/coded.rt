@@ -147,6 +147,7 @@ impl<A: Allocator + Clone> CodedSymbols<'_, A> {
 
 impl<A: Allocator + Clone> ReadSymbols<A> for CodedSymbols<'_, A> {
     ghost use Rattle.jbig2_text.specs.TextCoding.{CodedState};
+    ghost use Rattle.jbig2_symbol.specs.ClassCauses.{coded_symbol_causes};
     ghost use Rattle.jbig2_symbol.specs.SymbolCoding.{symbols_by_coder};
     ghost use Rattle.jbig2_symbol.specs.SymbolReading.{SymbolState};
     ghost use Rattle.jbig2_symbol.specs.inner.SymbolViews.{coded_view};
@@ -156,6 +157,8 @@ impl<A: Allocator + Clone> ReadSymbols<A> for CodedSymbols<'_, A> {
     ghost state = { λ r. coded_view r };
 
     ghost readings = { symbols_by_coder };
+
+    ghost causes = { coded_symbol_causes };
 
     fn width_difference<L: Ledger>(
         &mut self,
@@ -182,6 +185,7 @@ impl<A: Allocator + Clone> ReadSymbols<A> for CodedSymbols<'_, A> {
 
 impl<A: Allocator + Clone> ReadClasses<A> for CodedSymbols<'_, A> {
     ghost use Rattle.jbig2_text.specs.TextCoding.{CodedState};
+    ghost use Rattle.jbig2_symbol.specs.ClassCauses.{coded_class_causes};
     ghost use Rattle.jbig2_symbol.specs.SymbolCoding.{classes_by_coder};
     ghost use Rattle.jbig2_symbol.specs.SymbolReading.{SymbolState};
     ghost use Rattle.jbig2_symbol.specs.inner.SymbolViews.{coded_view};
@@ -191,6 +195,8 @@ impl<A: Allocator + Clone> ReadClasses<A> for CodedSymbols<'_, A> {
     ghost state = { λ r. coded_view r };
 
     ghost readings = { classes_by_coder };
+
+    ghost causes = { coded_class_causes };
 
     fn height_difference<L: Ledger>(
         &mut self,

@@ -6,7 +6,7 @@ ghost use Rattle.jbig2_base.specs.Causes.{HasCauseOrNoMemory};
 ghost use Rattle.jbig2_steps.specs.Work.{Paid, PaidBut};
 ghost use Rattle.jbig2_text.specs.Paying.{number_steps};
 ghost use Rattle.jbig2_symbol.specs.SymbolHeader.{max_empty, max_new_symbols};
-ghost use Rattle.jbig2_symbol.specs.Causes.{BreaksExports};
+ghost use Rattle.jbig2_symbol.specs.ClassCauses.{BreaksExports, ClassesHaveCauses};
 ghost use Rattle.jbig2_symbol.specs.Symbols.{export_runs, exported_grids, exports, next_run};
 ghost use Rattle.jbig2_symbol.specs.inner.JoinedRuns.{joined_runs};
 ghost use Rattle.jbig2_symbol.specs.inner.SymbolViews.{all_symbols, input_view};
@@ -230,7 +230,9 @@ pub fn read_exports<R: ReadClasses<A>, A: Allocator + Clone, L: Ledger>(
         Gives (λ symbols. (symbols.items, R.state readings.new)) result meant }
     ensures causes { let d = input_view input.now in
         let all = all_symbols input.now.symbols.now new.items in
-        HasCauseOrNoMemory result (BreaksExports R.readings d all (R.state readings.old)) }
+        let s = R.state readings.old in
+        ClassesHaveCauses R.readings R.causes
+        → HasCauseOrNoMemory result (BreaksExports R.causes R.readings d all s) }
     ensures paid { Paid work.old work.new }
 {
     let count = input.symbols.len() as u64 + new.len() as u64;

@@ -21,6 +21,7 @@ pub mod dictionary;
 pub mod exports;
 pub mod header;
 pub mod input;
+pub mod laws;
 pub mod prefixed;
 pub mod readings;
 pub mod tables;

@@ -257,6 +257,7 @@ impl<'a, A: Allocator + Clone> PrefixedSymbols<'a, A> {
 
 impl<A: Allocator + Clone> ReadSymbols<A> for PrefixedSymbols<'_, A> {
     ghost use Rattle.jbig2_base.specs.Bits.{Place};
+    ghost use Rattle.jbig2_symbol.specs.ClassCauses.{prefixed_symbol_causes};
     ghost use Rattle.jbig2_symbol.specs.SymbolCoding.{symbols_by_prefix_codes};
     ghost use Rattle.jbig2_symbol.specs.SymbolReading.{SymbolState};
     ghost use Rattle.jbig2_symbol.specs.inner.SymbolViews.{prefixed_view};
@@ -266,6 +267,8 @@ impl<A: Allocator + Clone> ReadSymbols<A> for PrefixedSymbols<'_, A> {
     ghost state = { λ r. prefixed_view r };
 
     ghost readings = { symbols_by_prefix_codes };
+
+    ghost causes = { prefixed_symbol_causes };
 
     fn width_difference<L: Ledger>(
         &mut self,
@@ -288,6 +291,7 @@ impl<A: Allocator + Clone> ReadSymbols<A> for PrefixedSymbols<'_, A> {
 
 impl<A: Allocator + Clone> ReadClasses<A> for PrefixedSymbols<'_, A> {
     ghost use Rattle.jbig2_base.specs.Bits.{Place};
+    ghost use Rattle.jbig2_symbol.specs.ClassCauses.{prefixed_class_causes};
     ghost use Rattle.jbig2_symbol.specs.SymbolCoding.{classes_by_prefix_codes};
     ghost use Rattle.jbig2_symbol.specs.SymbolReading.{SymbolState};
     ghost use Rattle.jbig2_symbol.specs.inner.SymbolViews.{prefixed_view};
@@ -297,6 +301,8 @@ impl<A: Allocator + Clone> ReadClasses<A> for PrefixedSymbols<'_, A> {
     ghost state = { λ r. prefixed_view r };
 
     ghost readings = { classes_by_prefix_codes };
+
+    ghost causes = { prefixed_class_causes };
 
     fn height_difference<L: Ledger>(
         &mut self,

@@ -3,6 +3,7 @@ ghost use Rattle.std.specs.Prelude.{◌+◌, ◌*◌, ◌≤◌, length, OnOk};
 ghost use Rattle.jbig2_base.specs.Results.{Returns, Gives};
 ghost use Rattle.jbig2_steps.specs.Work.{PaidBut};
 ghost use Rattle.jbig2_text.specs.Paying.{number_steps};
+ghost use Rattle.jbig2_symbol.specs.ClassCauses.{ClassCauses, SymbolCauses};
 ghost use Rattle.jbig2_symbol.specs.SymbolReading.{ClassReadings, SymbolReadings};
 ghost use Rattle.jbig2_symbol.specs.inner.ClassWork.{HasRoom, PaidButClass, PaysClass};
 ghost use Rattle.jbig2_symbol.specs.inner.SymbolViews.{concat, input_view};
@@ -31,6 +32,8 @@ pub trait ReadSymbols<A: Allocator + Clone> {
     ghost state: { Self → State };
 
     ghost readings: { SymbolReadings State };
+
+    ghost causes: { SymbolCauses State };
 
     /// Reads a symbol's difference in width. Out of band ends a height class (T.88, 6.5.7).
     fn width_difference<L: Ledger>(
@@ -67,6 +70,8 @@ pub trait ReadClasses<A: Allocator + Clone> {
     ghost state: { Self → State };
 
     ghost readings: { ClassReadings State };
+
+    ghost causes: { ClassCauses State };
 
     /// Reads a height class's difference in height, or out of band (T.88, 6.5.6).
     fn height_difference<L: Ledger>(

@@ -4,7 +4,7 @@ ghost use Rattle.jbig2_base.specs.Results.{Returns, Gives};
 ghost use Rattle.jbig2_base.specs.Causes.{HasCause};
 ghost use Rattle.jbig2_steps.specs.Work.{PaidBut};
 ghost use Rattle.jbig2_text.specs.Paying.{number_steps};
-ghost use Rattle.jbig2_symbol.specs.Causes.{BreaksNextWidth};
+ghost use Rattle.jbig2_symbol.specs.ClassCauses.{BreaksNextWidth, SymbolsHaveCauses};
 ghost use Rattle.jbig2_symbol.specs.HeightClasses.{next_width, size_in_word, width_by, widths_from};
 ghost use Rattle.jbig2_symbol.specs.inner.SymbolViews.{IsNextWidth, input_view, with_total};
 
@@ -90,7 +90,7 @@ impl RunningWidths {
     }
 
     /// Reads the next width of the class; `None` ends it.
-    #[tactic(auto, using(crate::proofs::ReadingCauses::widths_cause), unfolding(crate::specs::HeightClasses::next_width))]
+    #[tactic(auto, unfolding(crate::specs::HeightClasses::next_width))]
     pub fn read_next<R: ReadSymbols<A>, A: Allocator + Clone, L: Ledger>(
         &mut self,
         input: &SymbolInput<'_, A>,
@@ -106,8 +106,9 @@ impl RunningWidths {
         ensures causes { let d = input_view input.now in
             let before = self.old in
             let state = R.state readings.old in
-            HasCause result
-            (BreaksNextWidth R.readings d before.left before.width before.total state) }
+            let breaks = BreaksNextWidth R.causes R.readings d in
+            SymbolsHaveCauses R.readings R.causes
+            → HasCause result (breaks before.left before.width before.total state) }
         ensures next_width { IfOk result (λ next. IsNextWidth self.old next self.new) }
         ensures paid { PaidBut (number_steps 1) work.old work.new }
     {

@@ -1,5 +1,5 @@
 -- Which rule the input breaks where the codes of the ids are refused.
-use Rattle.std.proofs.Common.{◌≡◌, inl, inr, ℕ, zero, suc, ◌+◌, ◌-◌, ◌<◌, eqb, ltb, false, List, [], ◌∷◌, ◌++◌, length, get_or, Option, Some, None, Result, Ok, Err, refl, ◌∙◌, ap, arith, ℤ, pos, negsuc}
+use Rattle.std.proofs.Common.{◌≡◌, inl, inr, ℕ, zero, suc, ◌+◌, ◌-◌, ◌<◌, eqb, ltb, false, List, [], ◌∷◌, ◌++◌, length, drop, get_or, if◌then◌else◌, Option, Some, None, Result, Ok, Err, refl, ◌∙◌, ap, arith, ℤ, pos, negsuc}
 use Rattle.std.specs.Prelude.{◌⊎◌, IfErr, slice_get}
 use Rattle.std.proofs.lemmas.Option.{slice_get-get_or}
 use Rattle.std.proofs.lemmas.Bool.{cond_both, cond-true, eqb-true, eqb-false, ltb-true, ltb-false}
@@ -7,15 +7,17 @@ use Rattle.jbig2_base.specs.Results.{◌>>=◌, refuse_if, some_or}
 use Rattle.jbig2_base.specs.Bits.{Place, bits_left, bits_next, start_of}
 use Rattle.jbig2_base.specs.Fields.{bits_at}
 use Rattle.jbig2_base.specs.declared.error.DecodeError.{DecodeError}
-use Rattle.jbig2_base.specs.declared.error.DecodeError.TheVariants.{OutOfMemory}
+use Rattle.jbig2_base.specs.declared.error.DecodeError.TheVariants.{Huffman, OutOfMemory}
+use Rattle.jbig2_base.specs.declared.error.HuffmanError.TheVariants.{UnexpectedOob}
 use Rattle.jbig2_base.proofs.Causes.{cause-next}
-use Rattle.jbig2_coder.specs.Causes.{AreCrowded}
-use Rattle.jbig2_coder.specs.PrefixCode.{Member, decoded_value, no_oob, table_of}
-use Rattle.jbig2_coder.proofs.Causes.{table-cause}
-use Rattle.jbig2_text.specs.Causes.{After, BreaksRun, BreaksSymbolCodes, RefusesNumber}
+use Rattle.jbig2_coder.specs.Causes.{AreCrowded, BreaksCode, BreaksRange}
+use Rattle.jbig2_coder.specs.PrefixCode.{CodeReading, Member, decoded_value, no_oob, read_code, table_of, value_by}
+use Rattle.jbig2_coder.specs.declared.huffman_table.line.TableLine.{TableLine}
+use Rattle.jbig2_coder.proofs.Causes.{code_cause, number_cause, range_cause, table-cause}
+use Rattle.jbig2_text.specs.Causes.{After, BreaksNumberAt, BreaksRun, BreaksSymbolCodes, BreaksValueAt}
 use Rattle.jbig2_text.specs.SymbolCodes.{invalid_code, lines_from, next_runcode, with_last_repeated, run_at, runcodes_at, runs_at, short_lengths, symbol_codes_at, symbol_codes_from, symbol_lengths_at, value_at}
-use Rattle.jbig2_region.proofs.ResultCauses.{cause-if, cause-last, result-of, result-next, result-refused}
-use Rattle.jbig2_base.specs.Causes.{HasCauseOrNoMemory}
+use Rattle.jbig2_region.proofs.ResultCauses.{cause-if, cause-last, cause-more, result-of, result-next, result-refused}
+use Rattle.jbig2_base.specs.Causes.{HasCause, HasCauseOrNoMemory}
 use Rattle.jbig2_base.proofs.CauseSteps.{call-cause-or-memory}
 
 -- ---- bits and codes
@@ -30,8 +32,62 @@ cause-bits P e count p why =
     let Q : Option ℕ → Type 0 = λ n. IfErr (some_or e n) P in
     cause-next P (some_or e (bits_next count bits)) _ (cond_both (ltb (length bits) count) None _ Q (λ short. why (ltb-true (length bits) count short)) (λ there. tt)) (λ n is. tt)
 
-pub cause-value : (P : DecodeError → Type 0) (table : List Member) (p : Place) → ((e : DecodeError) → RefusesNumber table p e → P e) → IfErr (value_at table p) P
-cause-value P table p why = cause-next P (no_oob (decoded_value table (bits_left p)).result) _ (own-error P (no_oob (decoded_value table (bits_left p)).result) why) (λ n is. tt)
+no-number : (table : List Member) (p : Place) → IfErr (no_oob (decoded_value table (bits_left p)).result) (BreaksNumberAt table p)
+unfolding HasCause
+no-number table p = let number = no_oob (decoded_value table (bits_left p)).result in number_cause table p number (own-error (λ e. number ≡ Err e) number (λ e is. is))
+
+pub cause-value : (P : DecodeError → Type 0) (table : List Member) (p : Place) → ((e : DecodeError) → BreaksNumberAt table p e → P e) → IfErr (value_at table p) P
+cause-value P table p why =
+    let number = no_oob (decoded_value table (bits_left p)).result in
+    cause-next P number _ (cause-more (BreaksNumberAt table p) P number (no-number table p) why) (λ n is. tt)
+
+-- No value is refused because it is out of band.
+abbrev InBand : DecodeError → Type 0
+InBand (Huffman UnexpectedOob) = ⊥
+InBand _ = Unit {0}
+
+code-in-band : (table : List Member) (bits : List ℕ) (e : DecodeError) → BreaksCode table bits e → InBand e
+code-in-band table bits (Huffman UnexpectedOob) why = why
+code-in-band table bits _ why = tt
+
+range-in-band : (line : TableLine) (bits : List ℕ) (e : DecodeError) → BreaksRange line bits e → InBand e
+range-in-band line bits (Huffman UnexpectedOob) why = why
+range-in-band line bits _ why = tt
+
+value-in-band : (table : List Member) (p : Place) → IfErr (decoded_value table (bits_left p)).result InBand
+unfolding HasCause decoded_value
+value-in-band table p = by code.result (cause-more (BreaksCode table bits) InBand code.result (code_cause table p code.result (own-error (λ e. code.result ≡ Err e) code.result (λ e is. is))) (code-in-band table bits))
+  where
+    bits : List ℕ
+    bits = bits_left p
+
+    code : CodeReading TableLine
+    code = read_code table bits
+
+    by : (r : Result TableLine DecodeError) → IfErr r InBand
+        → let reading : CodeReading (Option ℤ) = elim r [
+          | Ok line ↦ let value = value_by line (bits_next line.range_length (drop code.taken bits)) in
+              let extra = if line.is_out_of_band then 0 else line.range_length in
+              record { result = (if line.is_out_of_band then Ok None else value); taken = code.taken + extra }
+          | Err e ↦ record { result = Err e; taken = code.taken }
+        ] in IfErr reading.result InBand
+    by (Err e) law = law
+    by (Ok line) law =
+        let rest = drop code.taken bits in
+        let value = value_by line (bits_next line.range_length rest) in
+        cond_both line.is_out_of_band (Ok None) value (λ (r : Result (Option ℤ) DecodeError). IfErr r InBand) (λ out. tt)
+        (λ inside. cause-more (BreaksRange line rest) InBand value (range_cause line rest value (own-error (λ e. value ≡ Err e) value (λ e is. is))) (range-in-band line rest))
+
+as-value : (table : List Member) (p : Place) (e : DecodeError) → InBand e → BreaksNumberAt table p e → BreaksValueAt table p e
+as-value table p (Huffman UnexpectedOob) none why = absurd none
+as-value table p _ none why = why
+
+pub no-value : (table : List Member) (p : Place) → IfErr (decoded_value table (bits_left p)).result (BreaksValueAt table p)
+no-value table p = by (decoded_value table (bits_left p)).result (value-in-band table p) (no-number table p)
+  where
+    by : (r : Result (Option ℤ) DecodeError) → IfErr r InBand → IfErr (no_oob r) (BreaksNumberAt table p) → IfErr r (BreaksValueAt table p)
+    by (Ok value) inside why = tt
+    by (Err e) inside why = as-value table p e inside why
 
 -- ---- the runcodes' lengths
 cause-short : (P : DecodeError → Type 0) (count : ℕ) (so_far : List ℕ) (p : Place)
@@ -72,7 +128,7 @@ cause-run P (pos code) so_far p why =
     above code a b c = omega (arith, ltb-false code 32 a, eqb-false code 32 b, eqb-false code 33 c)
 
 cause-runs : (P : DecodeError → Type 0) (most count : ℕ) (runcodes : List Member) (so_far : List ℕ) (p : Place)
-    → ((k : ℕ) (e : DecodeError) → After (runs_at k count runcodes so_far p) (λ lens. (length lens.0 < count) × RefusesNumber runcodes lens.1 e) → P e)
+    → ((k : ℕ) (e : DecodeError) → After (runs_at k count runcodes so_far p) (λ lens. (length lens.0 < count) × BreaksNumberAt runcodes lens.1 e) → P e)
     → ((k : ℕ) → After (runs_at k count runcodes so_far p) (λ lens. (length lens.0 < count) × After (value_at runcodes lens.1) (λ code. BreaksRun code.0 lens.0 code.1)) → P invalid_code)
     → IfErr (runs_at most count runcodes so_far p) P
 unfolding runs_at

@@ -3,7 +3,7 @@ use Rattle.std.proofs.Common.{◌≡◌, ◌⊎◌, inl, inr, ℕ, zero, suc, �
 use Rattle.std.specs.Prelude.{IfErr, ◌-ℤ◌}
 use Rattle.std.proofs.lemmas.Bool.{cond-true, eqb-false, eqb-true, lt-ltb, ltb-true}
 use Rattle.jbig2_base.specs.Results.{◌>>=◌, refuse_if}
-use Rattle.jbig2_base.specs.Bits.{Place, byte_boundary, bits_left}
+use Rattle.jbig2_base.specs.Bits.{Place, byte_boundary}
 use Rattle.jbig2_base.specs.Fields.{bytes_at, end_of_bytes}
 use Rattle.jbig2_base.specs.Grid.{Grid}
 use Rattle.jbig2_base.specs.declared.error.DecodeError.{DecodeError}
@@ -11,13 +11,13 @@ use Rattle.jbig2_base.specs.declared.error.DecodeError.TheVariants.{Huffman, Out
 use Rattle.jbig2_base.specs.declared.error.HuffmanError.TheVariants.{InvalidSelection, MissingTables}
 use Rattle.jbig2_base.specs.declared.error.SymbolError.TheVariants.{TooManyInstances, UnexpectedOob}
 use Rattle.jbig2_base.proofs.Causes.{cause-bytes, cause-next, cause-refused}
-use Rattle.jbig2_coder.specs.PrefixCode.{Member, decoded_value}
+use Rattle.jbig2_coder.specs.PrefixCode.{Member}
 use Rattle.jbig2_coder.specs.Tables.{next_custom}
 use Rattle.jbig2_coder.specs.declared.integer_procedures.IntegerProcedure.{IntegerProcedure}
 use Rattle.jbig2_coder.specs.declared.integer_procedures.IntegerProcedure.TheVariants.{Iari}
 use Rattle.jbig2_region.specs.Refinement.{Reference}
 use Rattle.jbig2_text.specs.SymbolCodes.{invalid_code, value_at}
-use Rattle.jbig2_text.specs.Causes.{After, RefusesNumber, BreaksInstance, BreaksInstances, BreaksStrip, ReadingsHaveCauses, ReadingCauses, BreaksRegionBy, BreaksTextRegion, BreaksTextTables, HasNoMeaning, IsOutOfBand, LacksBytes, RefusesValue, coder_causes, customs_if, prefix_causes}
+use Rattle.jbig2_text.specs.Causes.{After, BreaksNumberAt, BreaksInstance, BreaksInstances, BreaksStrip, ReadingsHaveCauses, ReadingCauses, BreaksRegionBy, BreaksTextRegion, BreaksTextTables, HasNoMeaning, IsOutOfBand, LacksBytes, coder_causes, customs_if, prefix_causes}
 use Rattle.jbig2_text.specs.Refining.{Refining}
 use Rattle.jbig2_text.specs.Text.{TextState, Readings, TextParams, after_instances, coordinate, next_cursor, strip_start, strip_delta, text_region, with_instance}
 use Rattle.jbig2_text.specs.declared.cursor.Cursor.{Cursor}
@@ -25,7 +25,7 @@ use Rattle.jbig2_text.specs.inner.FunctionResults.{end_of_strip, reaching, some_
 use Rattle.jbig2_text.specs.TextCoding.{CodedState, PrefixedState, by_coder, by_prefix_codes, in_band, next_integer, number_by_coder, prefixed_refined, prefixed_value, sized_bytes}
 use Rattle.jbig2_text.specs.TextHeader.{ArithmeticCoding, HuffmanCoding, NumberCoding, TextHeader}
 use Rattle.jbig2_text.specs.TextRegion.{blank_region, coder_of, one_of_three, one_of_two, prefix_codes_of, refining_of, region_by, region_from, text_result, text_params, text_tables}
-use Rattle.jbig2_text.proofs.Causes.{cause-bits, cause-value, own-error}
+use Rattle.jbig2_text.proofs.Causes.{cause-bits, cause-value, no-value}
 use Rattle.jbig2_text.proofs.CausesOfInstances.{instance_causes}
 use Rattle.jbig2_text.proofs.CausesOfText.{BreaksMove, cause-delta, cause-move, cause-strip, result-word}
 use Rattle.jbig2_region.proofs.ResultCauses.{IfResult, cause-if, cause-last, cause-more, result-if}
@@ -169,9 +169,9 @@ by_coder-causes = record {
   refined = λ from width height f s. tt;
 }
 
-cause-prefixed : (table : List Member) (s : PrefixedState) → IfErr (prefixed_value table s) (RefusesNumber table s.place)
+cause-prefixed : (table : List Member) (s : PrefixedState) → IfErr (prefixed_value table s) (BreaksNumberAt table s.place)
 cause-prefixed table s =
-    let P : DecodeError → Type 0 = RefusesNumber table s.place in
+    let P : DecodeError → Type 0 = BreaksNumberAt table s.place in
     cause-next P (value_at table s.place) _ (cause-value P table s.place (λ e no. no)) (λ n is. tt)
 
 cause-bytes_of : (size : ℤ) (p : Place) → IfErr (sized_bytes size p) (LacksBytes size p)
@@ -188,7 +188,7 @@ pub by_prefix_codes-causes : ReadingsHaveCauses by_prefix_codes prefix_causes
 by_prefix_codes-causes = record {
   delta_t = λ s. cause-prefixed _ s;
   first_s = λ s. cause-prefixed _ s;
-  delta_s = λ s. own-error (RefusesValue s.tables.delta_s (bits_left s.place)) (decoded_value s.tables.delta_s (bits_left s.place)).result (λ e no. no);
+  delta_s = λ s. no-value s.tables.delta_s s.place;
   t_bits = λ log s. cause-next (prefix_causes.t_bits log s) _ _ (cause-next (prefix_causes.t_bits log s) _ _ (cause-bits (prefix_causes.t_bits log s) invalid_code log s.place (λ short. (refl, short))) (λ n is. tt)) (λ n is. tt);
   id = λ s. cause-prefixed _ s;
   is_refined = λ s. cause-next (prefix_causes.is_refined s) _ _ (cause-next (prefix_causes.is_refined s) _ _ (cause-bits (prefix_causes.is_refined s) end_of_bytes 1 s.place (λ short. (refl, short))) (λ n is. tt)) (λ n is. tt);

@@ -18,8 +18,8 @@ use Rattle.jbig2_base.specs.declared.error.OverflowError.TheVariants.{ReferenceO
 use Rattle.jbig2_base.specs.declared.error.SymbolError.TheVariants.{InvalidStripDelta, OutOfRange, TooManyInstances}
 use Rattle.jbig2_base.specs.declared.error.SymbolError.TheVariants.{UnexpectedOob}
 use Rattle.jbig2_base.specs.Grid.{Grid, max_side}
-use Rattle.jbig2_coder.specs.Causes.{AreCrowded, LeavesWord}
-use Rattle.jbig2_coder.specs.PrefixCode.{Member, decoded_value, no_oob}
+use Rattle.jbig2_coder.specs.Causes.{AreCrowded, BreaksNumber, BreaksValue, LeavesWord}
+use Rattle.jbig2_coder.specs.PrefixCode.{Member}
 use Rattle.jbig2_coder.specs.declared.integer_procedures.IntegerProcedure.{IntegerProcedure}
 use Rattle.jbig2_coder.specs.declared.integer_procedures.IntegerProcedure.TheVariants.{Iadt, Iafs, Iait, Iardh, Iardw}
 use Rattle.jbig2_coder.specs.declared.integer_procedures.IntegerProcedure.TheVariants.{Iardx, Iardy, Iari}
@@ -40,9 +40,13 @@ use Rattle.jbig2_region.specs.Refinement.{Reference}
 abbrev pub After : {A : Type 0} → Result A DecodeError → (A → Type 0) → Type 0
 After {A} r P = (x : A) × (r ≡ Ok x) × P x
 
--- a table of prefix codes gives this error at this place, where a number must come
-abbrev pub RefusesNumber : List Member → Place → DecodeError → Type 0
-RefusesNumber table p e = no_oob (decoded_value table (bits_left p)).result ≡ Err e
+-- No value can be read there by this table (B.4), not even out of band: no code begins the bits, or bits are missing, or
+-- the value doesn't fit.
+abbrev pub BreaksValueAt : List Member → Place → DecodeError → Type 0
+BreaksValueAt table p e = BreaksValue table (bits_left p) e
+
+abbrev pub BreaksNumberAt : List Member → Place → DecodeError → Type 0  -- the same where no value may be out of band
+BreaksNumberAt table p e = BreaksNumber table (bits_left p) e
 
 -- ---- the codes of the ids (7.4.3.1.7)
 -- A runcode whose bits are missing: two after 32, three after 33, seven after 34. Or 32, which has no length to repeat.
@@ -71,7 +75,7 @@ BreaksSymbolCodes count p e =
     ⊎ After (runcodes_at p) (λ (runcodes, after_runcodes).
     After (runs_at count count runcodes [] after_runcodes) (λ (lens, _).
     (count < length lens) ⊎ AreCrowded (lines_from 0 lens)))))
-    ⊎ ARun count p (λ runcodes so_far q. RefusesNumber runcodes q e)
+    ⊎ ARun count p (λ runcodes so_far q. BreaksNumberAt runcodes q e)
 
 -- ---- the header
 -- The flags are at byte 17. With prefix codes two bytes of table numbers follow. Where symbols are refined with
@@ -267,10 +271,6 @@ coder_causes = record {
 }
 
 -- ---- prefix codes
--- a table gives this error at the beginning of these bits, where a number or out of band must come
-abbrev pub RefusesValue : List Member → List ℕ → DecodeError → Type 0
-RefusesValue table bits e = (decoded_value table bits).result ≡ Err e
-
 abbrev pub LacksBits : DecodeError → ℕ → PrefixedState → DecodeError → Type 0  -- fewer bits than this are left
 LacksBits error count s e = (e ≡ error) × (length (bits_left s.place) < count)
 
@@ -282,18 +282,18 @@ LacksBytes (negsuc size) p e = e ≡ Parse UnexpectedEof
 -- for a refined symbol: the size of its bytes is refused, or bytes are missing
 abbrev pub prefix_causes : ReadingCauses PrefixedState
 prefix_causes = record {
-  delta_t = λ s. RefusesNumber s.tables.delta_t s.place;
-  first_s = λ s. RefusesNumber s.tables.first_s s.place;
-  delta_s = λ s. RefusesValue s.tables.delta_s (bits_left s.place);
+  delta_t = λ s. BreaksNumberAt s.tables.delta_t s.place;
+  first_s = λ s. BreaksNumberAt s.tables.first_s s.place;
+  delta_s = λ s. BreaksValueAt s.tables.delta_s s.place;
   t_bits = LacksBits (Huffman InvalidCode);
-  id = λ s. RefusesNumber s.ids s.place;
+  id = λ s. BreaksNumberAt s.ids s.place;
   is_refined = LacksBits (Parse UnexpectedEof) 1;
-  width_delta = λ s. RefusesNumber s.tables.refinement_width s.place;
-  height_delta = λ s. RefusesNumber s.tables.refinement_height s.place;
-  x_delta = λ s. RefusesNumber s.tables.refinement_x s.place;
-  y_delta = λ s. RefusesNumber s.tables.refinement_y s.place;
+  width_delta = λ s. BreaksNumberAt s.tables.refinement_width s.place;
+  height_delta = λ s. BreaksNumberAt s.tables.refinement_height s.place;
+  x_delta = λ s. BreaksNumberAt s.tables.refinement_x s.place;
+  y_delta = λ s. BreaksNumberAt s.tables.refinement_y s.place;
   refined = λ s e.
-      RefusesNumber s.tables.refinement_size s.place e
+      BreaksNumberAt s.tables.refinement_size s.place e
       ⊎ After (value_at s.tables.refinement_size s.place) (λ (size, rest). LacksBytes size rest e);
 }
 

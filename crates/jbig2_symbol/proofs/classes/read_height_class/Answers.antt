@@ -9,22 +9,22 @@ use Rattle.jbig2_symbol.proofs.classes.read_height_class.Goals as goal
 pub returns-in_err-pay-clause-causes : goal.returns-in_err-pay-clause-causes
 unfolding height_class
 returns-in_err-pay-clause-causes g c =
-    height_class_cause g.R.ReadClasses.readings (input_view c.args.input.now) c.args.symbols.now.height c.args.symbols.now.empty c.args.symbols.now.bitmaps.items (g.R.ReadClasses.state c.args.readings.now) _ (search rules)
+    λ law. height_class_cause g.R.ReadClasses.causes g.R.ReadClasses.readings law (input_view c.args.input.now) c.args.symbols.now.height c.args.symbols.now.empty c.args.symbols.now.bitmaps.items (g.R.ReadClasses.state c.args.readings.now) _ (search rules)
 
 pub returns-in_err-difference-clause-causes : goal.returns-in_err-difference-clause-causes
 unfolding height_class
 returns-in_err-difference-clause-causes g c =
-    height_class_cause g.R.ReadClasses.readings (input_view c.args.input.now) c.args.symbols.now.height c.args.symbols.now.empty c.args.symbols.now.bitmaps.items (g.R.ReadClasses.state c.args.readings.now) _ (search rules)
+    λ law. height_class_cause g.R.ReadClasses.causes g.R.ReadClasses.readings law (input_view c.args.input.now) c.args.symbols.now.height c.args.symbols.now.empty c.args.symbols.now.bitmaps.items (g.R.ReadClasses.state c.args.readings.now) _ (search rules)
 
 pub returns-in_default-clause-causes : goal.returns-in_default-clause-causes
 unfolding height_class
 returns-in_default-clause-causes g c =
-    height_class_cause g.R.ReadClasses.readings (input_view c.args.input.now) c.args.symbols.now.height c.args.symbols.now.empty c.args.symbols.now.bitmaps.items (g.R.ReadClasses.state c.args.readings.now) _ (search rules)
+    λ law. height_class_cause g.R.ReadClasses.causes g.R.ReadClasses.readings law (input_view c.args.input.now) c.args.symbols.now.height c.args.symbols.now.empty c.args.symbols.now.bitmaps.items (g.R.ReadClasses.state c.args.readings.now) _ (search rules)
 
 pub returns-in_err-height-clause-causes : goal.returns-in_err-height-clause-causes
 unfolding height_class
 returns-in_err-height-clause-causes g c =
-    height_class_cause g.R.ReadClasses.readings (input_view c.args.input.now) c.args.symbols.now.height c.args.symbols.now.empty c.args.symbols.now.bitmaps.items (g.R.ReadClasses.state c.args.readings.now) _ (search rules)
+    λ law. height_class_cause g.R.ReadClasses.causes g.R.ReadClasses.readings law (input_view c.args.input.now) c.args.symbols.now.height c.args.symbols.now.empty c.args.symbols.now.bitmaps.items (g.R.ReadClasses.state c.args.readings.now) _ (search rules)
 
 pub returns-in-Err-clause-value : goal.returns-in-Err-clause-value
 returns-in-Err-clause-value g c =
@@ -37,8 +37,8 @@ returns-in-Err-clause-causes g c =
     let new = c.args.symbols.now.bitmaps.items in
     let empty = c.args.symbols.now.empty in
     let s = g.R.ReadClasses.state c.args.readings.now in
-    height_class_cause r d c.args.symbols.now.height empty new s _ (class-error new empty (height_class r d c.args.symbols.now.height empty new s) c.in-Err.error (returns-in-Err-clause-value g c))
+    λ law. height_class_cause g.R.ReadClasses.causes r law d c.args.symbols.now.height empty new s _ (class-error new empty (height_class r d c.args.symbols.now.height empty new s) c.in-Err.error (returns-in-Err-clause-value g c))
 
 pub returns-clause-causes : goal.returns-clause-causes
 returns-clause-causes g c =
-    height_class_cause g.R.ReadClasses.readings (input_view c.args.input.now) c.args.symbols.now.height c.args.symbols.now.empty c.args.symbols.now.bitmaps.items (g.R.ReadClasses.state c.args.readings.now) _ tt
+    λ law. height_class_cause g.R.ReadClasses.causes g.R.ReadClasses.readings law (input_view c.args.input.now) c.args.symbols.now.height c.args.symbols.now.empty c.args.symbols.now.bitmaps.items (g.R.ReadClasses.state c.args.readings.now) _ tt

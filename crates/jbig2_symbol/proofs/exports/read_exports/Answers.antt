@@ -8,7 +8,7 @@ use Rattle.jbig2_symbol.proofs.exports.read_exports.Goals as goal
 pub returns-in_err-clone-clause-causes : goal.returns-in_err-clone-clause-causes
 returns-in_err-clone-clause-causes g c =
     let r = g.R.ReadClasses in
-    exports_cause r.readings (input_view c.args.input.now) (all_symbols c.args.input.now.symbols.now c.args.new.items) (r.state c.args.readings.now) _ (search rules)
+    λ law. exports_cause r.causes r.readings law (input_view c.args.input.now) (all_symbols c.args.input.now.symbols.now c.args.new.items) (r.state c.args.readings.now) _ (search rules)
 
 pub returns-in_err-runs-clause-value : goal.returns-in_err-runs-clause-value
 returns-in_err-runs-clause-value g c =
@@ -22,13 +22,13 @@ returns-in_err-runs-clause-causes g c =
     let d = input_view c.args.input.now in
     let s = r.state c.args.readings.now in
     let e = err_from_is_err_and c.from_residual-in_err-runs.result c.from_residual-in_err-runs.ensures.1 in
-    rw (e.1, e.2) (exports_cause r.readings d (all_symbols c.args.input.now.symbols.now c.args.new.items) s (Err c.in_err-runs.field-0.0)
+    rw (e.1, e.2) (λ law. exports_cause r.causes r.readings law d (all_symbols c.args.input.now.symbols.now c.args.new.items) s (Err c.in_err-runs.field-0.0)
     (exports-unread r.readings d c.args.input.now.symbols.now c.args.new.items _ s c.in_err-runs.field-0.0 (omega (arith, c.len.ensures)) c.in_err-runs.ensures.value))
 
 pub returns-in_err-exported-clause-causes : goal.returns-in_err-exported-clause-causes
 returns-in_err-exported-clause-causes g c =
     let r = g.R.ReadClasses in
-    exports_cause r.readings (input_view c.args.input.now) (all_symbols c.args.input.now.symbols.now c.args.new.items) (r.state c.args.readings.now) _ (search rules)
+    λ law. exports_cause r.causes r.readings law (input_view c.args.input.now) (all_symbols c.args.input.now.symbols.now c.args.new.items) (r.state c.args.readings.now) _ (search rules)
 
 pub returns-then-len-input-clause-value : goal.returns-then-len-input-clause-value
 returns-then-len-input-clause-value g c =
@@ -41,7 +41,7 @@ returns-then-len-input-clause-value g c =
 pub returns-then-len-input-clause-causes : goal.returns-then-len-input-clause-causes
 returns-then-len-input-clause-causes g c =
     let r = g.R.ReadClasses in
-    exports_cause r.readings (input_view c.args.input.now) (all_symbols c.args.input.now.symbols.now c.args.new.items) (r.state c.args.readings.now) _ (returns-then-len-input-clause-value g c)
+    λ law. exports_cause r.causes r.readings law (input_view c.args.input.now) (all_symbols c.args.input.now.symbols.now c.args.new.items) (r.state c.args.readings.now) _ (returns-then-len-input-clause-value g c)
 
 pub returns-clause-value : goal.returns-clause-value
 returns-clause-value g c =
@@ -52,4 +52,4 @@ returns-clause-value g c =
 pub returns-clause-causes : goal.returns-clause-causes
 returns-clause-causes g c =
     let r = g.R.ReadClasses in
-    exports_cause r.readings (input_view c.args.input.now) (all_symbols c.args.input.now.symbols.now c.args.new.items) (r.state c.args.readings.now) _ tt
+    λ law. exports_cause r.causes r.readings law (input_view c.args.input.now) (all_symbols c.args.input.now.symbols.now c.args.new.items) (r.state c.args.readings.now) _ tt

@@ -2,15 +2,13 @@
 -- step; at the end it is ruled out.
 use Rattle.std.proofs.Common.{◌≡◌, ◌⊎◌, inl, inr, ℕ, Bool, true, false, cond, Result, Ok, Err, refl, subst}
 use Rattle.std.specs.Prelude.{IfErr}
-use Rattle.std.proofs.lemmas.Result.{IfErr-at_err}
 use Rattle.jbig2_base.specs.Results.{◌>>=◌, refuse_if}
-use Rattle.jbig2_base.specs.Causes.{BreaksSides, HasCause, HasCauseOrNoMemory, InSteps, IsOf}
+use Rattle.jbig2_base.specs.Causes.{BreaksSides, HasCause, HasCauseOrNoMemory}
 use Rattle.jbig2_base.specs.Grid.{blank, blank_or_overflow, check_sides}
 use Rattle.jbig2_base.specs.declared.error.DecodeError.{DecodeError}
 use Rattle.jbig2_base.specs.declared.error.DecodeError.TheVariants.{OutOfMemory}
 use Rattle.jbig2_base.proofs.BitmapCauses.{blank_cause}
 use Rattle.jbig2_base.proofs.FromInput.{FromInput, IsFromInput}
-use Rattle.jbig2_text.specs.Causes.{After}
 
 abbrev pub OrMemory : (DecodeError → Type 0) → DecodeError → Type 0
 OrMemory P e = (e ≡ OutOfMemory) ⊎ P e
@@ -75,19 +73,3 @@ last-dropped P x (Err e) is = is
 
 pub sides : (w h : ℕ) → Refused (check_sides w h) (BreaksSides w h)
 sides w h = last-dropped (BreaksSides w h) (blank w h false) (check_sides w h) (refused-or (BreaksSides w h) (blank_or_overflow w h false) (blank_cause w h (blank_or_overflow w h false) (itself_or_memory (blank_or_overflow w h false))))
-
--- ---- a reading, where its own error has a law
-own-first : {A : Type 0} (F : DecodeError → Type 0) (N : A → DecodeError → Type 0) (e : DecodeError) (r : Result A DecodeError) → OrMemory F e → OrMemory (λ e. F e ⊎ After r (λ x. N x e)) e
-own-first F N e r (inl memory) = inl memory
-own-first F N e r (inr why) = inr (inl why)
-
-pub reading-at : {A : Type 0} (F : DecodeError → Type 0) (N : A → DecodeError → Type 0) (e : DecodeError) (r : Result A DecodeError)
-    → Refused r F → InSteps r (IsOf r e) (λ x. N x e) → OrMemory (λ e. F e ⊎ After r (λ x. N x e)) e
-reading-at F N e (Ok x) law why = inr (inr (x, refl, why))
-reading-at F N e (Err f) law why = own-first F N e (Err f) (IfErr-at_err (OrMemory F) why law)
-
-pub reading : {A B : Type 0} (F : DecodeError → Type 0) (N : A → DecodeError → Type 0) (r : Result A DecodeError) (s : Result B DecodeError)
-    → Refused r F → Refused s (λ e. InSteps r (IsOf r e) (λ x. N x e)) → Refused s (λ e. F e ⊎ After r (λ x. N x e))
-reading F N r (Ok x) law is = tt
-reading F N r (Err e) law (inl memory) = inl memory
-reading F N r (Err e) law (inr why) = reading-at F N e r law why
