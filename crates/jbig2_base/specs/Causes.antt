@@ -1,7 +1,7 @@
 -- The rule that the bytes break where a call refuses them (docs/FORMAT.md), one line for each error. A predicate
 -- `Breaks..` takes the bytes and an error. The function that refuses states by `HasCause` that its error has that
 -- cause.
-use Rattle.std.specs.Prelude.{◌≡◌, ◌<◌, ◌≤◌, ◌*◌, ◌⊎◌, ℕ, List, take, drop, Result, Ok, Err, IfErr}
+use Rattle.std.specs.Prelude.{◌≡◌, ◌<◌, ◌≤◌, ◌*◌, ◌⊎◌, ℕ, List, take, drop, Result, IfErr}
 use Rattle.std.specs.Int.{Width, byte_len, from_be_bytes}
 use Rattle.jbig2_base.specs.Grid.{max_side}
 use Rattle.jbig2_base.specs.declared.error.DecodeError.{DecodeError}
@@ -19,15 +19,6 @@ HasCauseOrNoMemory result Breaks = IfErr result (λ e. (e ≡ OutOfMemory) ⊎ B
 
 abbrev pub number_in : Width → ℕ → List ℕ → ℕ  -- the number at this byte, high byte first
 number_in w place bytes = from_be_bytes w (take (byte_len w) (drop place bytes))
-
--- the error of a step; the step's own law says which rule is broken
-abbrev pub IsOf : {A : Type 0} → Result A DecodeError → DecodeError → Type 0
-IsOf step e = step ≡ Err e
-
--- What is broken in the first of two steps, or in the next one if the first has a value.
-abbrev pub InSteps : {A : Type 0} → Result A DecodeError → Type 0 → (A → Type 0) → Type 0
-InSteps (Err e) first next = first
-InSteps (Ok x) first next = next x
 
 abbrev pub BreaksOperator : ℕ → DecodeError → Type 0  -- a combination operator (7.4.1.5)
 BreaksOperator n (Region InvalidCombinationOperator) = 5 ≤ n
