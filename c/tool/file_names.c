@@ -41,7 +41,7 @@ static int digits_of(size_t number) {
 /* The last part of an input's name without its ending. */
 static void add_stem(struct text *text, const char *name) {
     const char *slash = strrchr(name, '/'), *base = slash != NULL ? slash + 1 : name, *dot = strrchr(base, '.');
-    if (strcmp(name, "standard input") == 0)
+    if (name == standard_input)
         base = "stdin";
     add_bytes(text, base, dot != NULL && dot > base ? (size_t)(dot - base) : strlen(base));
 }

@@ -10,6 +10,8 @@
 #include <stdlib.h>
 #include <string.h>
 
+const char standard_input[] = "standard input";
+
 bool read_input(const char *name, struct bytes *bytes) {
     bool is_standard = strcmp(name, "-") == 0;
     FILE *file = is_standard ? stdin : fopen(name, "rb");

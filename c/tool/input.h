@@ -11,6 +11,9 @@ struct bytes {
     size_t length;
 };
 
+/* What messages call standard input. A file may have this name too, so who wants to know compares the addresses. */
+extern const char standard_input[];
+
 /* Reads a file, or standard input where its name is "-". False with errno set where it can't be read. */
 bool read_input(const char *name, struct bytes *bytes);
 void free_bytes(struct bytes *bytes);

@@ -7,7 +7,7 @@
 #include <errno.h>
 #include <string.h>
 
-static const char *shown_name(const char *name) { return strcmp(name, "-") == 0 ? "standard input" : name; }
+static const char *shown_name(const char *name) { return strcmp(name, "-") == 0 ? standard_input : name; }
 
 static bool read_or_say(const char *name, struct bytes *bytes, struct text *messages) {
     bool is_read = read_input(name, bytes);
@@ -34,7 +34,7 @@ bool open_inputs(struct inputs *inputs, const struct words *words, struct text *
         take_for_all(inputs, bytes);
         return true;
     }
-    add_text(messages, "%s: this is %s, not globals\n", words->globals, name_of_kind(kind, &bytes));
+    add_text(messages, "%s: this is %s, not globals\n", shown_name(words->globals), name_of_kind(kind, &bytes));
     free_bytes(&bytes);
     return false;
 }

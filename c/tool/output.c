@@ -52,13 +52,6 @@ static char *target_of(const char *name) {
     return memcpy(room_for(size), name, size);
 }
 
-/* A file that is overwritten may be its owner's alone. */
-static void keep_mode(const struct output *output) {
-    struct stat found;
-    if (output->file != NULL && output->temporary != NULL && stat(output->target, &found) == 0)
-        fchmod(fileno(output->file), found.st_mode & 0777);
-}
-
 static FILE *open_file(struct output *output) {
     const char *name = output->name;
     struct stat found;
@@ -82,7 +75,6 @@ bool open_output(struct output *output, const char *name, enum format format, bo
     output->file = open_file(output);
     if (output->file == NULL)
         return fail(output, reason, NULL);
-    keep_mode(output);
     if (format != FORMAT_TIFF)
         return true;
     if (output->temporary == NULL && (output->tiff_bytes = tmpfile()) == NULL)

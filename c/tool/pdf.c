@@ -52,7 +52,7 @@ static void add_warning(qpdf_data qpdf, struct text *text) {
     for (bool is_first = true; qpdf_more_warnings(qpdf); is_first = false) {
         qpdf_error warning = qpdf_next_warning(qpdf);
         if (is_first)
-            add_text(text, "%s", detail_of(qpdf, warning));
+            add_text(text, "%s%s", text->length > 0 ? "; " : "", detail_of(qpdf, warning));
     }
 }
 

@@ -109,11 +109,14 @@ class Help(unittest.TestCase):
 
 class Loading(unittest.TestCase):
     def test_a_processor_without_the_features_is_refused(self):
-        flags = "fpu sse2 pni popcnt sse4_1 sse4_2 ssse3 avx"
+        flags = "fpu sse2 pni popcnt sse4_1 sse4_2 ssse3 cx16 lahf_lm avx"
         for lacking, features in (
             ("", flags),
             ("sse4_2", flags.replace("sse4_2 ", "")),
             ("popcnt, ssse3", flags.replace("ssse3 ", "").replace("popcnt ", "")),
+            # glibc's loader refuses the library there.
+            ("cx16", flags.replace("cx16 ", "")),
+            ("lahf_lm", flags.replace("lahf_lm ", "")),
         ):
             text = f"processor\t: 0\nflags\t\t: {features}\nbugs\t\t:\n\nprocessor\t: 1\nflags\t\t: fpu\n"
             self.assertEqual(_processor.missing_features(text), lacking)

@@ -111,7 +111,6 @@ def goes_on(browser, folder):
     browser.drop([slow])
     set_seconds(browser, 1000)
     browser.drop([good])
-    browser.wait_for('document.querySelector("#note").textContent.startsWith("slow.jb2 is being decoded.")')
     look("a slow file", slow, "page 1 of 1: stopped, since a page took more than 1 seconds")
     browser.drop([slow, good])
     # The good file is shown while the slow one runs, which can be stopped then.
@@ -129,7 +128,8 @@ def set_seconds(browser, seconds):
 def clears(browser, slow, good):
     """What is wrong where all is cleared away while a file runs and another waits: a later file has to be shown all the same."""
     browser.drop([slow, slow])
-    browser.wait_for('document.querySelector("#note").textContent.startsWith("slow.jb2 is being decoded.")')
+    # After two seconds the second one is decoded beside the first.
+    browser.wait_for('/^slow.jb2.* being decoded/.test(document.querySelector("#note").textContent)')
     browser.evaluate('document.querySelector("#clear").click()')
     browser.wait_for('document.querySelector("#stop-all").disabled')
     drop(browser, [good])

@@ -1,7 +1,8 @@
 """What all browsers of the tests have in common."""
 import json
 
-SECONDS = 120
+# Longer than all takes on a busy computer.
+SECONDS = 600
 
 
 class Driven:

@@ -9,6 +9,7 @@ import tempfile
 import time
 import zlib
 
+from driven import SECONDS
 from page import drop, set_checked, shown
 
 # The page of the suite's file is drawn by one segment; without its last bytes it is blank.
@@ -174,11 +175,10 @@ def saved(browser, file):
         browser.save_to(folder)
         browser.evaluate('document.querySelectorAll("figcaption button")[1].click()')
         path = pathlib.Path(folder, f"{file.stem}-page-2.png")
-        for _ in range(400):
-            if path.exists() and path.stat().st_size > 0:
-                break
+        end = time.monotonic() + SECONDS
+        while not (path.exists() and path.stat().st_size > 0) and time.monotonic() < end:
             time.sleep(0.05)
-        else:
+        if not path.exists():
             return [f"no PNG file was saved, but {[other.name for other in path.parent.iterdir()]}"]
         size, rows = read_png(path.read_bytes())
     black = browser.evaluate(
@@ -207,8 +207,10 @@ def not_saved(browser):
         """(() => { const whole = CompressionStream;
           self.CompressionStream = class { constructor() { throw new Error("no room"); } };
           document.querySelector("figcaption button").click();
-          setTimeout(() => (self.CompressionStream = whole), 1000); })()"""
+          self.CompressionStream = whole; })()"""
     )
-    time.sleep(2)
-    caption = browser.evaluate("document.querySelector('figcaption').textContent")
-    return [] if caption.endswith("Not saved: no room.") else ["nothing says that a page was not saved"]
+    try:
+        browser.wait_for("document.querySelector('figcaption').textContent.endsWith('Not saved: no room.')")
+    except RuntimeError as error:
+        return [f"nothing says that a page was not saved: {error}"]
+    return []

@@ -7,7 +7,9 @@
 import { FileQueue } from "../queue.js";
 
 const FILES = 5;
-const OPTIONS = { seconds: 60 };
+// Longer than all takes on a busy computer.
+const OPTIONS = { seconds: 1000 };
+const MOST_TRIES = 12_000;
 let first = null;
 let alive = 0;
 
@@ -70,7 +72,7 @@ async function besideSlowFiles(slow, quick) {
 /** Waits until a condition holds. */
 async function until(condition, text) {
   for (let tries = 0; !condition(); tries++) {
-    if (tries === 600) return console.log(`queue: no end: ${text}`);
+    if (tries === MOST_TRIES) return console.log(`queue: no end: ${text}`);
     await new Promise((resolve) => setTimeout(resolve, 50));
   }
 }

@@ -1,12 +1,16 @@
 /* Linked in between the command and the library (-Wl,--wrap): counts how often globals are decoded and embedded pages
  * read, and says so at the end. It stops the program where a call gets a null pointer in place of bytes, which the
- * library doesn't take, or a limit of work above that of the largest page. Where NO_WORDS is set, the program begins without any word, not even its name: older kernels let
+ * library doesn't take, or a limit of work above that of the largest page, and where a file is closed to others only after
+ * they could open it. Where NO_WORDS is set, the program begins without any word, not even its name: older kernels let
  * a caller do so. */
+#define _POSIX_C_SOURCE 200809L
+
 #include "hayro_jbig2.h"
 
 #include <pthread.h>
 #include <stdio.h>
 #include <stdlib.h>
+#include <sys/stat.h>
 
 #define MOST_WORK (UINT64_C(100) * 65535 * 65535)
 
@@ -42,6 +46,16 @@ uint32_t __wrap_hayro_jbig2_page_new(const hayro_jbig2_memory *memory, bool stri
         abort();
     add_one(&pages_count);
     return __real_hayro_jbig2_page_new(memory, strict, globals, stream, stream_length, page);
+}
+
+int __real_fchmod(int descriptor, mode_t mode);
+int __wrap_fchmod(int descriptor, mode_t mode);
+
+int __wrap_fchmod(int descriptor, mode_t mode) {
+    struct stat before;
+    if (fstat(descriptor, &before) == 0 && before.st_mode & 077 & ~mode)
+        abort();
+    return __real_fchmod(descriptor, mode);
 }
 
 int __real_main(int count, char **all);

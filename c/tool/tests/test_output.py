@@ -10,7 +10,7 @@ import struct
 import subprocess
 import unittest
 
-from support import BOOK, EXAMPLE, HAS_TIFF, NOT_DONE, PATIENCE, TOOL, WHOLE, Case
+from support import BOOK, COUNTED, EXAMPLE, HAS_TIFF, NOT_DONE, PATIENCE, TOOL, WHOLE, Case
 from support import chunks_of, decoded, picture_of_png, pictures_of, wait_until
 
 MEANT = [decoded(EXAMPLE, index) for index in range(3)]
@@ -161,6 +161,11 @@ class Output(Case):
                 self.made(b"mine", words[-1]).chmod(mode)
                 self.assert_ends(self.run_here(EXAMPLE, "--force", *words), WHOLE)
                 self.assertEqual((self.room / words[-1]).stat().st_mode & 0o777, mode)
+
+    def test_nobody_else_can_open_what_takes_the_place_of_a_file_of_its_owner(self):
+        self.made(b"mine", "a.png").chmod(0o600)
+        ended = self.run_here(EXAMPLE, "-p", "1", "-o", "a.png", "--force", program=COUNTED)
+        self.assertEqual((ended.status, (self.room / "a.png").stat().st_mode & 0o777), (WHOLE, 0o600), ended.errors)
 
     def test_a_dot_at_the_start_of_a_name_is_no_ending(self):
         (self.room / "d").mkdir()
@@ -336,7 +341,8 @@ class Output(Case):
         self.assertEqual(shown_on_terminal([*words, "-q"], self.room), "")
 
     def test_the_stem_of_hidden_and_odd_names(self):
-        for name, stem in {".jb2": ".jb2", "a.b.jb2": "a.b", "plain": "plain", "a\nb": "a\nb"}.items():
+        odd = {".jb2": ".jb2", "a.b.jb2": "a.b", "plain": "plain", "a\nb": "a\nb", "standard input": "standard input"}
+        for name, stem in odd.items():
             self.made(BOOK, name)
             self.assert_ends(self.run_here(name, "-p", "1"), WHOLE)
             self.assertIn(f"{stem}-1.png", self.files())

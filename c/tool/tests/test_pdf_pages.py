@@ -80,7 +80,10 @@ class PdfPages(Case):
         ])
         self.assertEqual(self.listed(data, INCOMPLETE), [(1, "5 0")])
         ended = self.run_here("scan.pdf")
-        self.assert_ends(ended, INCOMPLETE, "the PDF file is damaged: a part of its tree of pages is there twice")
+        self.assert_ends(ended, INCOMPLETE, "the PDF file is damaged: a part of its tree of pages is there twice\n")
+        self.made(data.replace(b"startxref", b""), "scan.pdf")
+        texts = "is there twice; ", "scan.pdf: the PDF file is damaged: a part of its tree of pages"
+        self.assert_ends(self.run_here("scan.pdf", "--force"), INCOMPLETE, *texts)
 
     def test_another_page_that_is_referred_to_is_no_part_of_a_page(self):
         image = "/Resources << /XObject << /A {} 0 R >> /More {} >>"

@@ -104,6 +104,8 @@ class Words(Case):
         pdf = self.made(b"%PDF-1.4\n", "scan.pdf")
         self.assert_ends(self.run_here("-g", pdf, self.made(BOOK)), NOT_DONE, "this is a PDF file, not globals")
         self.assert_ends(self.run_here("-g", EXAMPLE, self.made(BOOK)), NOT_DONE, "this is a JBIG2 file, not globals")
+        ended = self.run_here("-g", "-", self.made(BOOK), input=BOOK)
+        self.assert_ends(ended, NOT_DONE, "standard input: this is a JBIG2 file, not globals")
 
     def test_without_libraries(self):
         scan = self.made(BOOK)

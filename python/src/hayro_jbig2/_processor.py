@@ -4,12 +4,12 @@ from __future__ import annotations
 
 import platform
 
-# What a compiler uses of the level x86-64-v2, by the names of /proc/cpuinfo.
-_NEEDED = {"pni", "popcnt", "sse4_1", "sse4_2", "ssse3"}
+# The level x86-64-v2, by the names of /proc/cpuinfo. The text doesn't use all of it, but glibc's loader asks for all.
+_NEEDED = {"cx16", "lahf_lm", "pni", "popcnt", "sse4_1", "sse4_2", "ssse3"}
 
 
 def check_processor() -> None:
-    """Raises ImportError where the text for x86-64 would end the process by an illegal instruction."""
+    """Raises ImportError where the text for x86-64 is not loaded, or would end the process by an illegal instruction."""
     missing = missing_here()
     if missing:
         raise ImportError(f"hayro_jbig2 needs a processor of the level x86-64-v2, and this one lacks {missing}")
