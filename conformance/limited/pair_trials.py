@@ -6,7 +6,8 @@ from collections.abc import Callable
 from conformance.runner.embedding import Embedded
 
 from .library import NO_LIMIT, OK, Context, Library, Made, Page
-from .pairs import Pair, all_pairs, rows
+from .pairs import Pair, all_pairs
+from .prices import rows
 from .trials import Found, least
 
 

@@ -4,9 +4,6 @@ says. So a price that is lower than its row, and one that isn't paid, both show.
 from __future__ import annotations
 
 import dataclasses
-import functools
-import pathlib
-import re
 from collections.abc import Iterator, Sequence
 
 from conformance.runner.embedding import Embedded
@@ -20,18 +17,10 @@ from jbig2_encoder.prefix import custom_table, table_data
 from jbig2_encoder.refinement import RefinementForm, refinement_data
 from jbig2_encoder.text import Instance, Settings, Strip, Text, TextForm, text_data
 
-FORMAT = pathlib.Path(__file__).resolve().parents[2] / "docs" / "FORMAT.md"
+from .prices import BITMAP, BYTES, CLASS, COPIED, CUT_OFF, DICTIONARY, INSTANCE, NEW, NUMBER, REFERRED, RUN, SEGMENT
+from .prices import TABLE_BYTE, WORD, bitmap, price
+
 PROFILES = 52
-# Names of rows.
-BITMAP, WORD, COPIED = "a bitmap", "a word of a bitmap", "an exported symbol that is copied"
-SEGMENT = "each segment of the globals, or of the page before its end"
-NUMBER = "a number that a segment refers to"
-BYTES = "a generic region, a halftone, a pattern dictionary"
-CUT_OFF = "a generic or text region that is cut off (12.7)"
-REFERRED = "a symbol that a text region or dictionary refers to"
-INSTANCE = "an instance of a text region"
-DICTIONARY, NEW = "a symbol dictionary", "a new symbol that a dictionary states"
-TABLE_BYTE, CLASS, RUN = "a byte of a custom table", "a height class", "an export run"
 # A segment: its type, its data, and the numbers that it refers to. The page information is number 0.
 Part = tuple[int, bytes, Sequence[int]]
 # The bytes before the coded ones: with those of the region information, 17.
@@ -48,24 +37,6 @@ class Pair:
     more: Embedded
     units: int
     salvaged: bool = False
-
-
-@functools.cache
-def rows() -> dict[str, int | None]:
-    """The rows of the table: the number of each, where it has one."""
-    section = FORMAT.read_text("utf-8").split("### 12.6 ")[1].split("\n### ")[0]
-    found = re.findall(r"(?m)^\| ([^|]+) \| (?:(\d+)\b)?[^|]* \|$", section)[1:]
-    return {name: int(number) if number else None for name, number in found}
-
-
-def price(row: str) -> int:
-    """The number of a row."""
-    return rows()[row]
-
-
-def bitmap(width: int, height: int = 1) -> int:
-    """What a bitmap costs."""
-    return price(BITMAP) + price(WORD) * max(1, (width + 63) // 64) * height
 
 
 def page(*parts: Part, size: tuple[int, int] = (200, 4), cut: int = 0) -> Embedded:

@@ -2,7 +2,8 @@
 import unittest
 
 from conformance.limited.bounds import Bound
-from conformance.limited.pairs import all_pairs, bitmap, price, rows
+from conformance.limited.pairs import all_pairs
+from conformance.limited.prices import bitmap, price, rows
 from conformance.limited.repeated import referred, repeated
 from conformance.limited.subjects import forms_of
 from conformance.limited.trials import SMALL, SPREAD, Taken, least, limits_below
