@@ -12,6 +12,7 @@ from conformance.suite.case import COLUMNS, EMBEDDED, PICTURE, Written
 from jbig2_encoder.fields import field
 from jbig2_encoder.framing import SYMBOL_DICTIONARY, TABLE, page_information, segment
 
+from .prices import DICTIONARY, SEGMENT, TABLE_BYTE, bitmap, price
 from .repeated import repeated
 
 PROFILES = 52
@@ -71,16 +72,16 @@ def made_up() -> Iterator[Subject]:
     page, lines, many = segment(0, 48, page_information(8, 1)), 1 << 16, 1025
     table = bytes(5) + lines.to_bytes(4, "big") + bytes(lines // 4 + 1)
     dictionary = field("flags", 2, 2) + bytes.fromhex("03FFFDFF02FEFEFE FFFFFFFF") + bytes(8)
-    for name, kind, data, times, price in (
-        ("a table of many lines", TABLE, table, 1, 64 * len(table)),
-        ("symbol dictionaries without symbols", SYMBOL_DICTIONARY, dictionary, many, 4096),
+    for name, kind, data, times, more in (
+        ("a table of many lines", TABLE, table, 1, price(TABLE_BYTE) * len(table)),
+        ("symbol dictionaries without symbols", SYMBOL_DICTIONARY, dictionary, many, price(DICTIONARY)),
         ("segments without data", PROFILES, b"", many, 0),
         ("a table without data", TABLE, b"", 1, 0),
     ):
         own, shared = (b"".join(segment(1 + at, kind, data, page=page) for at in range(times)) for page in (1, 0))
-        # Two bitmaps of one word, and the segments, of which the page's information is one.
-        alone = 2 * (64 + 64) + 1024
-        units = alone + (1024 + price) * times
+        # The page's information is a segment, too.
+        alone = 2 * bitmap(8) + price(SEGMENT)
+        units = alone + (price(SEGMENT) + more) * times
         whole = Embedded(page + own)
         yield Subject(name, whole, units=units)
         yield Subject(f"{name}, shared", Embedded(page, shared), units=alone)

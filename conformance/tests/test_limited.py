@@ -2,6 +2,8 @@
 import unittest
 
 from conformance.limited.bounds import Bound
+from conformance.limited.pairs import all_pairs
+from conformance.limited.prices import bitmap, price, rows
 from conformance.limited.repeated import referred, repeated
 from conformance.limited.subjects import forms_of
 from conformance.limited.trials import SMALL, SPREAD, Taken, least, limits_below
@@ -51,6 +53,15 @@ class LimitedTest(unittest.TestCase):
         bound = Bound(10, 3, 7)
         self.assertEqual(bound.most([Taken("less", 1, 3, 0), Taken("more", 4, 51, 2)]), (5, "more"))
         self.assertEqual(bound.most([])[0], 0)
+
+    def test_each_row_of_the_prices_has_a_pair(self):
+        self.assertEqual(rows().keys(), {pair.row for pair in all_pairs()})
+        self.assertTrue(all(pair.units > 0 and pair.less != pair.more for pair in all_pairs()))
+
+    def test_a_bitmap_is_priced_by_words(self):
+        word = price("a word of a bitmap")
+        for size, words in ((0, 1), 1), ((64, 3), 3), ((65, 2), 4), ((65, 0), 0):
+            self.assertEqual(bitmap(*size), price("a bitmap") + words * word)
 
 
 if __name__ == "__main__":

@@ -7,6 +7,7 @@ use Rattle.jbig2_framing.specs.declared.file_header.FileHeader.{FileHeader}
 use Rattle.jbig2_steps.specs.Counts.{Counts, no_steps}
 use Rattle.jbig2_steps.specs.Work.{sum_of_counts, budget}
 use Rattle.jbig2_steps.specs.declared.work.Work.{Work}
+use Rattle.jbig2_steps.specs.declared.prices.TheConstants as prices
 use Rattle.jbig2_page.specs.Files.{ReadFile, of_page}
 use Rattle.jbig2_page.specs.Names.{KeptGlobals}
 use Rattle.jbig2_page.specs.SharedWork.{PaysShared, shared_count}
@@ -32,7 +33,7 @@ limit-taken-each count (Err e) result limit after old new is none left paid = tt
 
 -- the same of a file
 pub limit-taken-shared : {L E : Type 0} (read : Result (FileHeader × List SegmentView) DecodeError) (result : Result ReadFile E) (limit after : Limit) (old new : Work L) → after ≡ after_call new limit → old.steps ≡ no_steps → old.left ≡ limit.left → IfOk result (λ book. PaysShared read book old new) → IfOk result (λ book. TakesShared read book limit after)
-limit-taken-shared (Ok file) (Ok book) limit after old new is none left paid = limit-taken-by book.globals limit after old new (1024 * shared_count book.pages (of_page 0 file.1)) is none left paid
+limit-taken-shared (Ok file) (Ok book) limit after old new is none left paid = limit-taken-by book.globals limit after old new (prices.SEGMENT * shared_count book.pages (of_page 0 file.1)) is none left paid
 limit-taken-shared (Err e) (Ok book) limit after old new is none left paid = tt
 limit-taken-shared read (Err e) limit after old new is none left paid = tt
 

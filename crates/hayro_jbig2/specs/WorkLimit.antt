@@ -6,6 +6,7 @@ use Rattle.jbig2_base.specs.declared.error.DecodeError.{DecodeError}
 use Rattle.jbig2_framing.specs.declared.file_header.FileHeader.{FileHeader}
 use Rattle.jbig2_steps.specs.Work.{sum_of_counts}
 use Rattle.jbig2_steps.specs.declared.work.Work.{Work}
+use Rattle.jbig2_steps.specs.declared.prices.TheConstants as prices
 use Rattle.hayro_jbig2.specs.Context.{units_of}
 use Rattle.jbig2_page.specs.Files.{ReadFile, of_page}
 use Rattle.jbig2_page.specs.SharedWork.{shared_count}
@@ -29,8 +30,8 @@ abbrev pub after_call : {L : Type 0} → Work L → Limit → Limit  -- after a 
 after_call work limit = record limit { left = work.left; steps = limit.steps + sum_of_counts work.steps }
 
 -- ---- files
--- Opening a file with these segments took at least 1024 units for each one that is decoded, if none of them fails.
+-- Opening a file with these segments took at least the price of each one that is decoded, if none of them fails.
 abbrev pub TakesShared : Result (FileHeader × List SegmentView) DecodeError → ReadFile → Limit → Limit → Type 0
 TakesShared file book old new =
     IfOk file (λ (header, segments).
-    IfOk book.globals (λ shared. Takes (1024 * shared_count book.pages (of_page 0 segments)) old new))
+    IfOk book.globals (λ shared. Takes (prices.SEGMENT * shared_count book.pages (of_page 0 segments)) old new))

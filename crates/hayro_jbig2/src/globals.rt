@@ -10,6 +10,7 @@ ghost use Rattle.jbig2_page.specs.Names.{globals_at};
 ghost use Rattle.jbig2_page.specs.Returned.{IsReturned};
 ghost use Rattle.jbig2_page.specs.inner.KeptViews.{found_value};
 ghost use Rattle.jbig2_page.specs.inner.PageViews.{given_names};
+ghost use Rattle.jbig2_steps.specs.declared.prices.TheConstants as prices;
 
 use crate::settings::DecodeSettings;
 use crate::work_limit::WorkLimit;
@@ -88,7 +89,7 @@ impl<A: Allocator + Clone> Globals<A> {
         ensures errors { IfErr result IsReturned }
         ensures limit { Takes 0 work.old work.new }
         ensures taken { IfOk (sorted_segments (reading_of settings.now.strict) bytes.now)
-            (λ segments. IfOk result (λ _. Takes (1024 * length segments) work.old work.new)) }
+            (λ segments. IfOk result (λ _. Takes (prices.SEGMENT * length segments) work.old work.new)) }
     {
         Globals::read(alloc, bytes, settings.reading(), work)
     }
@@ -101,7 +102,7 @@ impl<A: Allocator + Clone> Globals<A> {
         ensures memory { IfErr result (λ e. e ≡ OutOfMemory) }
         ensures limit { Takes 0 work.old work.new }
         ensures taken { IfOk (sorted_segments Salvage bytes.now)
-            (λ segments. IfOk result (λ _. Takes (1024 * length segments) work.old work.new)) }
+            (λ segments. IfOk result (λ _. Takes (prices.SEGMENT * length segments) work.old work.new)) }
     {
         Globals::read(alloc, bytes, Reading::Salvage, work)
     }
@@ -112,7 +113,7 @@ impl<A: Allocator + Clone> Globals<A> {
         ensures errors { IfErr result IsReturned }
         ensures limit { Takes 0 work.old work.new }
         ensures taken { IfOk (sorted_segments reading bytes.now)
-            (λ segments. IfOk result (λ _. Takes (1024 * length segments) work.old work.new)) }
+            (λ segments. IfOk result (λ _. Takes (prices.SEGMENT * length segments) work.old work.new)) }
     {
         let content = read_counted::<A, Brand>(alloc, bytes, reading, work, Blank::new(7))?;
         Ok(Globals { content })
@@ -134,7 +135,7 @@ fn read_counted<A: Allocator + Clone, L: Ledger>(
     ensures errors { IfErr result IsReturned }
     ensures limit { Takes 0 limit.old limit.new }
     ensures taken { IfOk (sorted_segments reading bytes.now)
-        (λ segments. IfOk result (λ _. Takes (1024 * length segments) limit.old limit.new)) }
+        (λ segments. IfOk result (λ _. Takes (prices.SEGMENT * length segments) limit.old limit.new)) }
 {
     let mut work = limit.counter::<L>(blank);
     let read = GlobalsContent::read(alloc, bytes, reading, &mut work);

@@ -3,6 +3,7 @@ use Rattle.std.specs.Prelude.{ℕ, ◌+◌, ◌*◌, ◌^◌, ◌-◌, List, [],
 use Rattle.jbig2_framing.specs.Segment.{SegmentView}
 use Rattle.jbig2_framing.specs.declared.segment.SegmentType.{SegmentType}
 use Rattle.jbig2_framing.specs.declared.segment.SegmentType.TheVariants as types
+use Rattle.jbig2_steps.specs.declared.prices.TheConstants as prices
 use Rattle.jbig2_page.specs.Names.{Names}
 use Rattle.jbig2_page.specs.Page.{ends_page}
 
@@ -13,16 +14,16 @@ capped n = min n (2 ^ 64 - 1)
 abbrev pub names_count : Names → ℕ
 names_count names = length names.symbols + length names.codes + length names.patterns
 
--- a custom table costs 64 units for each of its bytes, the contexts of a symbol dictionary 4096
+-- a custom table is paid for by the byte, a symbol dictionary once
 abbrev pub price_of_type : SegmentType → ℕ → ℕ
-price_of_type types.Tables bytes = bytes * 64
-price_of_type types.SymbolDictionary bytes = 4096
+price_of_type types.Tables bytes = bytes * prices.TABLE_BYTE
+price_of_type types.SymbolDictionary bytes = prices.SYMBOL_DICTIONARY
 price_of_type kind bytes = 0
 
--- each segment costs 1024 units, and each number that it refers to 64 and one for each value that is kept
+-- each segment has a price, and each number that it refers to has one and one unit for each value that is kept
 abbrev pub price_of_segment : ℕ → SegmentView → ℕ
 price_of_segment kept s =
-    capped (length s.header.referred_to_segments * (kept + 64) + 1024
+    capped (length s.header.referred_to_segments * (kept + prices.REFERENCE) + prices.SEGMENT
     + price_of_type s.header.segment_type (length s.bytes))
 
 -- how many segments a page pays for: those before its end

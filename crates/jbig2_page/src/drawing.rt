@@ -11,6 +11,7 @@ ghost use Rattle.jbig2_page.specs.inner.KeptViews.{kept_values};
 ghost use Rattle.jbig2_page.specs.inner.ParsedRegions.{drawing_of};
 ghost use Rattle.jbig2_page.specs.Prices.{capped, drawn_count, price_of_segment, price_of_type};
 ghost use Rattle.jbig2_steps.specs.Work.{Paid, budget};
+ghost use Rattle.jbig2_steps.specs.declared.prices.TheConstants as prices;
 
 pub mod canvas;
 pub(crate) mod dictionaries;
@@ -31,20 +32,9 @@ use jbig2_base::error::{DecodeError, Result};
 use jbig2_framing::reading::Reading;
 use jbig2_framing::segment::{Segment, SegmentType};
 use jbig2_region::generic::DecodedRegion;
+use jbig2_steps::prices;
 use std::alloc::Allocator;
 use std::sync::ledger::Ledger;
-
-/// The work of a segment besides what it draws or keeps.
-const SEGMENT: u64 = 1024;
-
-/// The work of a number that a segment refers to, besides the search through what is kept.
-const REFERENCE: u64 = 64;
-
-/// The work of each byte of a custom table, which may hold four lines.
-const TABLE_BYTE: u64 = 64;
-
-/// The work of the contexts of a symbol dictionary.
-const CONTEXTS: u64 = 4096;
 
 /// What is needed to draw all segments of a page.
 #[derive(Drop)]
@@ -65,8 +55,8 @@ fn price_of_type(kind: SegmentType, length: usize) -> u64
     ensures { result ≡ capped (price_of_type kind length) }
 {
     match kind {
-        SegmentType::Tables => (length as u64).saturating_mul(TABLE_BYTE),
-        SegmentType::SymbolDictionary => CONTEXTS,
+        SegmentType::Tables => (length as u64).saturating_mul(prices::TABLE_BYTE),
+        SegmentType::SymbolDictionary => prices::SYMBOL_DICTIONARY,
         SegmentType::IntermediateTextRegion
         | SegmentType::ImmediateTextRegion
         | SegmentType::ImmediateLosslessTextRegion
@@ -93,9 +83,9 @@ fn price_of_type(kind: SegmentType, length: usize) -> u64
 
 /// The work of the numbers that a segment refers to, where `kept` is how many values a number may name.
 fn price_of_references(numbers: usize, kept: usize) -> u64
-    ensures { result ≡ capped (numbers * (kept + 64)) }
+    ensures { result ≡ capped (numbers * (kept + prices.REFERENCE)) }
 {
-    let each = (kept as u64).saturating_add(REFERENCE);
+    let each = (kept as u64).saturating_add(prices::REFERENCE);
     (numbers as u64).saturating_mul(each)
 }
 
@@ -107,12 +97,12 @@ pub(crate) fn pay_segment<A: Allocator, L: Ledger>(
 ) -> Result<()>
     ensures memory { IfErr result (λ e. e ≡ OutOfMemory) }
     ensures paid { Paid work.old work.new }
-    ensures taken { IfOk result (λ _. budget work.new + 32 * 1024 ≤ budget work.old) }
+    ensures taken { IfOk result (λ _. budget work.new + 32 * prices.SEGMENT ≤ budget work.old) }
     ensures price { let price = price_of_segment kept (segment_view segment.now) in
         IfOk result (λ _. budget work.new + 32 * price ≡ budget work.old) }
 {
     let numbers = segment.header.referred_to_segments.len();
-    let units = price_of_references(numbers, kept).saturating_add(SEGMENT);
+    let units = price_of_references(numbers, kept).saturating_add(prices::SEGMENT);
     let kind = segment.header.segment_type;
     work.pay(units.saturating_add(price_of_type(kind, segment.bytes.len())))?;
     Ok(())
@@ -132,7 +122,7 @@ impl<'a, A: Allocator + Clone> Drawer<'a, A> {
             canvas.old) }
         ensures paid { Paid work.old work.new }
         ensures taken { let count = drawn_count (segment_views segments.now) in
-            IfOk result (λ _. budget work.new + 32 * (1024 * count) ≤ budget work.old) }
+            IfOk result (λ _. budget work.new + 32 * (prices.SEGMENT * count) ≤ budget work.old) }
         ensures few { OnOk result (canvas.new.passed_over.count ≤ length segments.now) }
     {
         for segment in segments {

@@ -11,6 +11,7 @@ ghost use Rattle.jbig2_page.specs.Causes.{BreaksBook, IsFromInput};
 ghost use Rattle.jbig2_page.specs.SharedWork.{PaysShared, shared_count};
 ghost use Rattle.jbig2_base.specs.Causes.{HasCauseOrNoMemory};
 ghost use Rattle.jbig2_steps.specs.Work.{Paid, budget};
+ghost use Rattle.jbig2_steps.specs.declared.prices.TheConstants as prices;
 
 mod segments_by_page;
 
@@ -274,7 +275,7 @@ fn kept_globals<A: Allocator + Clone, L: Ledger>(
         (Ok (shared_by reading pages.now (segment_views shared.now))) }
     ensures paid { Paid work.old work.new }
     ensures taken { IfOk result (λ kept. IfOk kept (λ _. budget work.new
-        + 32 * (1024 * shared_count pages.now (segment_views shared.now)) ≤ budget work.old)) }
+        + 32 * (prices.SEGMENT * shared_count pages.now (segment_views shared.now)) ≤ budget work.old)) }
 {
     if pages.is_empty() {
         return Ok(Ok(GlobalsContent::empty(alloc, None)?));

@@ -9,6 +9,7 @@ ghost use Rattle.jbig2_page.specs.Names.{fault_of, globals_at, shared_from, kept
 ghost use Rattle.jbig2_page.specs.Returned.{IsReturned};
 ghost use Rattle.jbig2_page.specs.inner.KeptViews.{found_value};
 ghost use Rattle.jbig2_steps.specs.Work.{IsWithinLimit, Paid, budget};
+ghost use Rattle.jbig2_steps.specs.declared.prices.TheConstants as prices;
 
 use crate::drawing::dictionaries::{extension, keep_patterns, keep_symbols, keep_table, unlisted};
 use crate::drawing::passed_over::PassedOver;
@@ -104,7 +105,7 @@ impl<A: Allocator + Clone> GlobalsContent<A> {
         ensures paid { Paid work.old work.new }
         ensures limit { IsWithinLimit work.old work.new }
         ensures taken { IfOk (sorted_segments reading bytes.now) (λ segments. IfOk result
-            (λ _. budget work.new + 32 * (1024 * length segments) ≤ budget work.old)) }
+            (λ _. budget work.new + 32 * (prices.SEGMENT * length segments) ≤ budget work.old)) }
     {
         let mut list = parse_segments_sequential(alloc.clone()?, bytes, reading)?;
         sort_segments(&mut list.segments)?;
@@ -124,7 +125,7 @@ impl<A: Allocator + Clone> GlobalsContent<A> {
         ensures paid { Paid work.old work.new }
         ensures limit { IsWithinLimit work.old work.new }
         ensures taken { IfOk result
-            (λ _. budget work.new + 32 * (1024 * length segments.now) ≤ budget work.old) }
+            (λ _. budget work.new + 32 * (prices.SEGMENT * length segments.now) ≤ budget work.old) }
     {
         let mut globals = GlobalsContent::empty(alloc.clone()?, cut_off)?;
         let mut workspace = Workspace::new(alloc)?;

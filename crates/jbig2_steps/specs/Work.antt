@@ -4,6 +4,7 @@
 use Rattle.std.specs.Prelude.{ℕ, ◌+◌, ◌*◌, ◌/◌, ◌≤◌, max}
 use Rattle.jbig2_steps.specs.Counts.{Counts}
 use Rattle.jbig2_steps.specs.declared.work.Work.{Work}
+use Rattle.jbig2_steps.specs.declared.prices.TheConstants as prices
 
 abbrev pub sum_of_counts : Counts → ℕ  -- the sum of all counts
 sum_of_counts c = c.loads + c.words + c.decisions + c.run_tests + c.groups + c.pixels + c.cleared
@@ -38,4 +39,4 @@ unfoldable pub paid_words : ℕ → ℕ → ℕ  -- for how many words a bitmap 
 paid_words width height = words_of_row width * height
 
 unfoldable pub price_of_bitmap : ℕ → ℕ → ℕ
-price_of_bitmap width height = 64 * words_of_row width * height + 64
+price_of_bitmap width height = prices.BITMAP_WORD * words_of_row width * height + prices.BITMAP

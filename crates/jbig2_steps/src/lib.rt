@@ -2,6 +2,7 @@
 //! `Work` is a counter together with the units of work that are left.
 #![tactic(auto)]
 
+pub mod prices;
 pub mod work;
 
 pub use crate::work::Work;

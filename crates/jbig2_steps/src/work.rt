@@ -3,7 +3,7 @@ ghost use Rattle.std.specs.Prelude.{◌≡◌, ◌+◌, ◌*◌, ◌≤◌, IfOk
 ghost use Rattle.jbig2_steps.specs.Counts.{no_steps};
 ghost use Rattle.jbig2_steps.specs.Work.{price_of_bitmap, budget};
 
-use crate::Steps;
+use crate::{Steps, prices};
 use jbig2_permit::Permit;
 use std::alloc::AllocError;
 use std::sync::ledger::{Blank, Ledger};
@@ -23,8 +23,8 @@ pub struct Work<L: Ledger> {
 pub fn price_of_bitmap(width: u32, height: u32) -> u64
     ensures { result ≡ price_of_bitmap width height }
 {
-    let row = u64::from(width.div_ceil(64).max(1)) * 64;
-    row * u64::from(height) + 64
+    let row = u64::from(width.div_ceil(64).max(1)) * prices::BITMAP_WORD;
+    row * u64::from(height) + prices::BITMAP
 }
 
 impl<L: Ledger> Work<L> {

@@ -17,14 +17,12 @@ use crate::widths::{RunningWidths, next_size};
 use jbig2_base::bitmap::Bitmap;
 use jbig2_base::bitmap::steps::Work;
 use jbig2_base::error::{Result, SymbolError};
+use jbig2_steps::prices;
 use std::alloc::Allocator;
 use std::sync::ledger::Ledger;
 
 /// The most height classes without a symbol.
 const MAX_EMPTY: u32 = 1 << 20;
-
-/// The work of a height class, without its symbols.
-const CLASS: u64 = 256;
 
 /// The new symbols of a dictionary so far.
 #[derive(Drop)]
@@ -139,7 +137,7 @@ fn read_height_class<R: ReadClasses<A>, A: Allocator + Clone, L: Ledger>(
         let after = symbols.new.bitmaps.items in
         OnOk result (PaysClass input.now before after 0 work.old work.new) }
 {
-    work.pay(CLASS)?;
+    work.pay(prices::HEIGHT_CLASS)?;
     let Some(difference) = readings.height_difference(input, work)? else {
         return Err(SymbolError::UnexpectedOob.into());
     };

@@ -16,14 +16,12 @@ use crate::readings::ReadClasses;
 use jbig2_base::bitmap::Bitmap;
 use jbig2_base::bitmap::steps::Work;
 use jbig2_base::error::{HuffmanError, Result, SymbolError};
+use jbig2_steps::prices;
 use std::alloc::Allocator;
 use std::sync::ledger::Ledger;
 
 /// The most runs of length 0.
 const MAX_EMPTY: u32 = 1 << 20;
-
-/// The work of reading a run.
-const RUN: u64 = 64;
 
 /// Reads a run, where `left` symbols are not covered yet and `empty` runs of length 0 came before.
 #[tactic(auto, unfolding(crate::specs::Symbols::next_run))]
@@ -88,7 +86,7 @@ pub fn read_runs<R: ReadClasses<A>, M: Allocator, A: Allocator + Clone, L: Ledge
         if left == 0 {
             break;
         }
-        work.pay(RUN)?;
+        work.pay(prices::EXPORT_RUN)?;
         let run = match read_run(input, empty, left, readings, work) {
             Ok(run) => run,
             Err(error) => return Err(error),

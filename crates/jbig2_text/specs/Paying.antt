@@ -1,5 +1,5 @@
 -- What the instances of a text region may cost (our own rule). All their numbers are paid for before the first is read,
--- at 256 units for each instance. Drawing an instance is paid for before it is drawn.
+-- by the price of each instance. Drawing an instance is paid for before it is drawn.
 use Rattle.std.specs.Prelude.{ℕ, ◌+◌, ◌*◌, ◌≤◌}
 use Rattle.jbig2_steps.specs.Work.{budget}
 use Rattle.jbig2_steps.specs.declared.work.Work.{Work}

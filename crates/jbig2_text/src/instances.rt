@@ -19,11 +19,9 @@ use crate::symbols::{InstanceSymbol, TextParams, read_symbol};
 use jbig2_base::bitmap::Bitmap;
 use jbig2_base::bitmap::steps::Work;
 use jbig2_base::error::{Result, SymbolError};
+use jbig2_steps::prices;
 use std::alloc::Allocator;
 use std::sync::ledger::Ledger;
-
-/// The work of an instance, without the pixels of its symbol.
-pub(crate) const INSTANCE: u64 = 256;
 
 /// How many instances there may be for each byte of a segment.
 pub(crate) const INSTANCES_PER_BYTE: usize = 32;
@@ -192,7 +190,7 @@ fn draw_strips<R: ReadInstances, A: Allocator + Clone, L: Ledger>(
     if params.num_instances == 0 {
         return Ok(());
     }
-    work.pay(u64::from(params.num_instances) * INSTANCE)?;
+    work.pay(u64::from(params.num_instances) * prices::INSTANCE)?;
     draw_some_strips(readings, refining, params, strip_t, region, work)
 }
 

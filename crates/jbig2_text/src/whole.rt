@@ -12,7 +12,7 @@ ghost use Rattle.jbig2_text.specs.inner.TextViews.{header_view, params_view, sym
 
 use crate::cursor::Cursor;
 use crate::header::{TextRegionCoding, TextRegionFlags, TextRegionHeader};
-use crate::instances::{INSTANCE, INSTANCES_PER_BYTE, draw_instance, is_too_many};
+use crate::instances::{INSTANCES_PER_BYTE, draw_instance, is_too_many};
 use crate::readings::ReadInstances;
 use crate::refining::Refining;
 use crate::strips::{begin_strip, move_on, read_strip_delta};
@@ -23,6 +23,7 @@ use jbig2_base::bitmap::steps::Work;
 use jbig2_base::error::{DecodeError, Result};
 use jbig2_coder::huffman_table::{HuffmanTable, StandardHuffmanTables};
 use jbig2_region::decoded_region::check_sides;
+use jbig2_steps::prices;
 use std::alloc::Allocator;
 use std::sync::ledger::Ledger;
 
@@ -114,7 +115,7 @@ fn count_by<R: ReadInstances, A: Allocator + Clone, L: Ledger>(
     if most == 0 {
         return Ok(0);
     }
-    work.pay(u64::from(most) * INSTANCE)?;
+    work.pay(u64::from(most) * prices::INSTANCE)?;
     let first = match find_first(readings, &params.flags, work) {
         Ok(first) => first,
         Err(error) => return count_at_error(error, 0),

@@ -3,6 +3,7 @@
 use Rattle.std.specs.Prelude.{ℕ, ◌+◌, ◌*◌, ◌≡◌, length}
 use Rattle.jbig2_steps.specs.Work.{budget, paid_words, price_of_bitmap}
 use Rattle.jbig2_steps.specs.declared.work.Work.{Work}
+use Rattle.jbig2_steps.specs.declared.prices.TheConstants as prices
 use Rattle.jbig2_region.specs.GenericSteps.{price_of_region}
 use Rattle.jbig2_halftone.specs.Steps.{price_of_halftone}
 use Rattle.jbig2_halftone.specs.inner.DictionaryViews.{dictionary_view}
@@ -16,7 +17,8 @@ use Rattle.jbig2_halftone.specs.inner.HalftoneHeaderViews as halftones
 
 -- of each symbol that a list has more
 abbrev pub PaysForSymbols : {L : Type 0} → ℕ → ℕ → Work L → Work L → Type 0
-PaysForSymbols before after old new = budget new + 32 * (16 * after) ≡ budget old + 32 * (16 * before)
+PaysForSymbols before after old new =
+    budget new + 32 * (prices.REFERRED_SYMBOL * after) ≡ budget old + 32 * (prices.REFERRED_SYMBOL * before)
 
 -- the units of a region, without those of the bitmaps of its size
 abbrev pub price_besides : {A : Type 0} → ParsedRegion A → ℕ

@@ -21,12 +21,10 @@ use jbig2_base::reader::Reader;
 use jbig2_coder::huffman_table::HuffmanTable;
 use jbig2_framing::segment::Segment;
 use jbig2_halftone::pattern::{self, PatternDictionary, PatternDictionaryHeader};
+use jbig2_steps::prices;
 use jbig2_symbol::SymbolDictionary;
 use std::alloc::Allocator;
 use std::sync::ledger::Ledger;
-
-/// The work of a new symbol besides its bitmap.
-const NEW_SYMBOL: u64 = 16;
 
 /// Decodes a symbol dictionary (T.88, 7.4.2), after what it refers to.
 #[tactic(auto, unfolding(crate::specs::Names::symbol_dictionary_at))]
@@ -45,7 +43,7 @@ fn decode_symbols<A: Allocator + Clone, L: Ledger>(
     let referred = gather_referred(workspace.alloc.clone()?, lookup, numbers, work)?;
     let mut reader = Reader::new(segment.bytes);
     let header = jbig2_symbol::parse(&mut reader, lookup.strict)?;
-    work.pay(u64::from(header.num_new_symbols) * NEW_SYMBOL)?;
+    work.pay(u64::from(header.num_new_symbols) * prices::NEW_SYMBOL)?;
     jbig2_symbol::decode(
         workspace.alloc.clone()?,
         &header,

@@ -13,13 +13,11 @@ use jbig2_base::bitmap::Bitmap;
 use jbig2_base::bitmap::steps::Work;
 use jbig2_base::error::{DecodeError, OverflowError, Result, SegmentError};
 use jbig2_coder::huffman_table::HuffmanTable;
+use jbig2_steps::prices;
 use jbig2_symbol::{RetainedContexts, SymbolDictionary};
 use std::alloc::Allocator;
 use std::marker::Model;
 use std::sync::ledger::Ledger;
-
-/// The work of a symbol that is referred to: of its place on a list, and of a code for it.
-const SYMBOL: u64 = 16;
 
 /// The most symbols that a segment may refer to.
 const MAX_SYMBOLS: usize = 1 << 20;
@@ -91,7 +89,7 @@ impl<'a, A: Allocator> ReferredSegments<'a, A> {
         if count > MAX_SYMBOLS - self.symbols.len() {
             return Err(OverflowError::SymbolCount.into());
         }
-        work.pay(count as u64 * SYMBOL)?;
+        work.pay(count as u64 * prices::REFERRED_SYMBOL)?;
         push_symbols(&mut self.symbols, &dictionary.exported_symbols)?;
         self.retained_contexts = dictionary.retained_contexts.as_ref();
         Ok(())
