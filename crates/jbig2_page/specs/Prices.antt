@@ -20,7 +20,7 @@ price_of_type types.Tables bytes = bytes * prices.TABLE_BYTE
 price_of_type types.SymbolDictionary bytes = prices.SYMBOL_DICTIONARY
 price_of_type kind bytes = 0
 
--- each segment has a price, and each number that it refers to has one and one unit for each value that is kept
+-- each segment costs its price, and each number that it refers to its own and one unit for each value that is kept
 abbrev pub price_of_segment : ℕ → SegmentView → ℕ
 price_of_segment kept s =
     capped (length s.header.referred_to_segments * (kept + prices.REFERENCE) + prices.SEGMENT
