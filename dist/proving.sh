@@ -5,6 +5,7 @@ if ! command -v rt >/dev/null; then
     exit 1
 fi
 kit=$(dirname -- "$(rt doc)")
+kit_name=$(rt version)
 toolchain=$kit/toolchain
 
 # Where a library is built: one of the workspace, or else of the toolchain.
@@ -16,12 +17,12 @@ rlib_of() {
     fi
 }
 
-# What a library was made of, and what was made.
+# By which toolchain a library was made, of what, and what was made.
 note_of_library() {
-    sums_of_crates "$1" && sha256sum <"$(rlib_of "$1")/format"
+    echo "$kit_name" && sums_of_crates "$1" && sha256sum <"$(rlib_of "$1")/format"
 }
 
-# Whether the crates' libraries are as this script noted them: of these sources, and not made anew since.
+# Whether the crates' libraries are as this script noted them: by this toolchain, of these sources, and not made anew since.
 are_noted() {
     local name
     for name in "${crates[@]}"; do
@@ -30,13 +31,14 @@ are_noted() {
     done
 }
 
-# Whether the gate left them, after the last change of their sources. Its libraries have no stamp by which rt lib could
+# Whether the gate left them, after the last change of their sources, and after the toolchain came here. Its libraries have no stamp by which rt lib could
 # tell, and their files are as old as the run that proved them first; their folders are of the last run.
 are_of_gate() {
     local name rlib
     for name in "${crates[@]}"; do
         rlib=$(rlib_of "$name")
         [ -e "$rlib/format" ] && [ ! -e "$rlib/../stamp" ] && is_newer "$rlib" "$name" || return 1
+        [ -z "$(find -H "$kit/bin/rattle" -cnewer "$rlib")" ] || return 1
     done
 }
 

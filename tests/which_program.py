@@ -219,6 +219,29 @@ class Updates(Case):
         self.assert_runs()
 
 
+class Toolchains(Case):
+    def test_what_another_toolchain_proved_is_proved_anew(self):
+        """The note of what was proved names the toolchain. That here proves nothing, so who begins to prove fails."""
+        programs = os.path.join(self.room, "bin")
+        for folder in programs, self.path("c", "source"):
+            os.mkdir(folder)
+        rt = os.path.join(programs, "rt")
+        with open(rt, "w", encoding="utf-8") as file:
+            file.write(f'#!/bin/sh\ncase $1 in version) echo "$NAME" ;; doc) echo {programs}/doc ;; *) exit 1 ;; esac\n')
+        os.chmod(rt, 0o755)
+        parts = {"c/prove": ("print_sources_of_c", "c/out"), "dist/prove-elsewhere": ("print_sources_elsewhere", "dist/out")}
+        for script, (printer, out) in parts.items():
+            words = ["bash", "-c", f". dist/crates.sh && {printer}"]
+            sources = subprocess.run(words, cwd=self.top, capture_output=True, text=True, check=True).stdout
+            os.makedirs(self.path(out, "proved"), exist_ok=True)
+            with open(self.path(out, "proved", "SOURCES"), "w", encoding="utf-8") as file:
+                file.write(f"toolchain the first\n{sources}")
+            for name, is_proved in ("the first", True), ("the second", False):
+                variables = {**os.environ, "PATH": f"{programs}:{os.environ['PATH']}", "NAME": name}
+                ended = subprocess.run([self.path(script)], env=variables, capture_output=True, text=True, check=False)
+                self.assertEqual(ended.returncode == 0, is_proved, (script, name, ended.stderr))
+
+
 class Notes(Case):
     """What is noted, so that the next run sums up nothing, and what makes a run sum it all up again."""
 

@@ -4,6 +4,9 @@ _hayro_jbig2() {
     local options="--output --format --force --pages --strict --salvage --globals --password --work --memory --jobs
         --json --quiet --help --version"
     COMPREPLY=()
+    # Of --format=png bash makes three words.
+    [ "$word" != = ] || word=
+    [ "$before" != = ] || before=${COMP_WORDS[COMP_CWORD - 2]}
     case $before in
     -f | --format)
         mapfile -t COMPREPLY < <(compgen -W "png pbm tiff" -- "$word")
