@@ -5,11 +5,12 @@
 mod decisions;
 mod error;
 mod neighbours;
+mod packed;
 mod page;
 mod segments;
 mod settings;
 mod windows;
 
 pub use error::WriteError;
-pub use page::write_page;
+pub use page::{write_packed, write_page};
 pub use settings::WriteSettings;

@@ -2,11 +2,14 @@
 ghost use Rattle.std.specs.Prelude.{◌≡◌, ◌+◌, ◌*◌, ◌/◌, ◌^◌, ◌<◌, ◌≤◌, length, IfOk};
 ghost use Rattle.jbig2_base.specs.Grid.{max_side, pixel_at};
 ghost use Rattle.jbig2_page_inverse.specs.PageWriter.{coded_bytes};
+ghost use Rattle.jbig2_page.specs.Image.{packed_size};
+ghost use Rattle.jbig2_writer.specs.Packed.{packed_grid};
 ghost use Rattle.jbig2_writer.specs.inner.Segments.{segments_of};
 ghost use Rattle.jbig2_writer.specs.Written.{Gives, ReadsBack, check_size, choice_of, is_side, written};
 
 use crate::decisions::coded_rows;
 use crate::error::WriteError;
+use crate::packed::bitmap_of_rows;
 use crate::segments::{push_information, push_region, push_segment};
 use crate::settings::WriteSettings;
 use jbig2_base::bitmap::steps::Steps;
@@ -101,4 +104,32 @@ pub fn write_page<A: Allocator + Clone, B: Allocator, L: Ledger>(
     let coded = coded_region(alloc.clone()?, bitmap, settings, steps)?;
     let bytes = page_segments(alloc, width, height, settings, &coded)?;
     Ok(bytes)
+}
+
+/// Writes packed rows as an embedded page. They are as PBM files have them: a bit for each pixel, 1 for black, the
+/// leftmost in the highest bit of its byte, and whole bytes for each row.
+///
+/// Returns what `write_page` returns of their bitmap.
+pub fn write_packed<A: Allocator + Clone, L: Ledger>(
+    alloc: A,
+    rows: &[u8],
+    width: u32,
+    height: u32,
+    settings: &WriteSettings,
+    steps: &mut Steps<L>,
+) -> Result<Vec<u8, A>, WriteError>
+    requires size { length rows.now ≡ packed_size width height }
+    ensures bytes { Gives (λ v. v.items) result
+        (written settings.now (packed_grid width height rows.now)) }
+    ensures reads_back { IfOk result (λ v. ReadsBack v.items (packed_grid width height rows.now)) }
+    ensures steps { steps.new
+        ≡ record steps.old { loads = steps.new.loads; words = steps.new.words } }
+    ensures loads { steps.new.loads ≤ steps.old.loads + 5 * ((width + 31) / 32 * height) }
+    ensures words { steps.new.words ≤ steps.old.words + (width + 63) / 64 * height }
+{
+    check_size(width, height)?;
+    let Ok(bitmap) = bitmap_of_rows(alloc.clone()?, rows, width, height, steps) else {
+        return Err(WriteError::OutOfMemory);
+    };
+    write_page(alloc, &bitmap, settings, steps)
 }
