@@ -1,10 +1,11 @@
 -- Bits of bytes that are joined, and rows that are written from them.
-use Rattle.std.proofs.Common.{◌≡◌, ℕ, ◌+◌, ◌-◌, ◌*◌, ◌/◌, ◌%◌, ◌^◌, ◌<◌, ◌≤◌, Bool, false, List, length, get_or, min, Result, Ok, Err, IfOk, sym, ◌∙◌, ap, arith, ⊎_elim}
+use Rattle.std.proofs.Common.{◌≡◌, ℕ, ◌+◌, ◌-◌, ◌*◌, ◌/◌, ◌%◌, ◌^◌, ◌<◌, ◌≤◌, Bool, true, false, cond, ◌||◌, nat_lt, List, get_or, min, Result, Ok, sym, ◌∙◌, ap, arith, ⊎_elim}
 use Rattle.std.proofs.Math.Nat.{pow-le-pow_right, mul-le-mul_right}
 use Rattle.std.proofs.lemmas.Bool.{cases_lt}
 use Rattle.std.proofs.lemmas.Nat.{pow-add}
 use Rattle.jbig2_base.specs.Bits.{bit}
-use Rattle.jbig2_base.specs.Grid.{Grid, blank, blank_or_overflow}
+use Rattle.jbig2_base.specs.Counts.{words_made}
+use Rattle.jbig2_base.specs.Grid.{Grid, blank, blank_or_overflow, max_side}
 use Rattle.jbig2_base.specs.Results.{Gives}
 use Rattle.jbig2_base.specs.Writes.{with_pixels}
 use Rattle.jbig2_base.specs.declared.error.DecodeError.{DecodeError}
@@ -87,3 +88,12 @@ word-written rows w h y word count pixels before after above inside few reads is
 
 pub made-white : {X : Type 0} (view : X → Grid) (r : Result X DecodeError) (x : X) (w h : ℕ) → r ≡ Ok x → Gives view r (blank_or_overflow w h false) → view x ≡ blank w h false
 made-white view r x w h is given = (white-made w h false (view x) (rw is at given)).1
+
+-- the words that a bitmap is made with
+pub made-few : (w h : ℕ) → words_made w h ≤ (w + 63) / 64 * h
+unfolding words_made
+made-few w h = by (nat_lt max_side w || nat_lt max_side h)
+  where
+    by : (b : Bool) → cond b 0 ((w + 63) / 64 * h) ≤ (w + 63) / 64 * h
+    by true = omega arith
+    by false = omega arith

@@ -67,10 +67,12 @@ pub fn bitmap_of_rows<A: Allocator, L: Ledger>(
     requires size { length rows.now ≡ packed_size width height }
     requires columns { width ≤ max_side }
     ensures value { IfOk result (λ bitmap. bitmap ≡ packed_grid width height rows.now) }
-    ensures steps { steps.new ≡ record steps.old { words = steps.new.words } }
+    ensures steps { steps.new
+        ≡ record steps.old { words = steps.new.words; cleared = steps.new.cleared } }
     ensures words { steps.new.words ≤ steps.old.words + (width + 63) / 64 * height }
+    ensures cleared { steps.new.cleared ≤ steps.old.cleared + (width + 63) / 64 * height }
 {
-    let mut bitmap = Bitmap::new(alloc, width, height)?;
+    let mut bitmap = Bitmap::new(alloc, width, height, steps)?;
     for y in 0..height {
         write_row(rows, y, &mut bitmap, steps);
     }

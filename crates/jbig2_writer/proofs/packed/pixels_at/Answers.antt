@@ -1,4 +1,4 @@
-use Rattle.std.proofs.Common.{◌≡◌, ℕ, ◌+◌, ◌-◌, ◌*◌, ◌/◌, ◌^◌, ◌<◌, subst, arith, rules}
+use Rattle.std.proofs.Common.{◌≡◌, ℕ, ◌-◌, ◌*◌, ◌/◌, ◌^◌, ◌<◌, subst, arith, rules}
 use Rattle.jbig2_base.specs.Bits.{bit}
 use Rattle.jbig2_writer.proofs.PackedLemmas.{bits_from, byte-bound, byte-more, byte-room, bytes-cut}
 use Rattle.jbig2_writer.proofs.packed.pixels_at.Goals as goal
