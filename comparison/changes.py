@@ -1,7 +1,7 @@
 """Documents in which one field is written as another value: 0, 1, a limit, one past it, a flag turned, out of band."""
 import random
 
-from small_documents import small_document
+from comparison.small_documents import small_document
 from jbig2_encoder import fields
 
 # How many runs are made of a document.

@@ -1,7 +1,6 @@
-#!/usr/bin/env python3
 """Draws random pages with ./jbig2-decode and with jbig2dec, and compares the pictures.
 
-usage: comparison/compare.py [COUNT [SEED]]
+usage: python3 -m comparison.compare [COUNT [SEED]]
 
 Any bytes are data of the arithmetic coder, so a page of random regions needs no encoder. jbig2dec is
 Artifex's decoder, of the Debian package jbig2dec.
@@ -12,10 +11,10 @@ import subprocess
 import sys
 import tempfile
 
-from root import ROOT
-from jbig2_encoder.generic import NOMINAL
+from comparison.root import ROOT
 from jbig2_encoder.fields import number, pairs
 from jbig2_encoder.framing import HEADER, page_information, region_information, segment
+from jbig2_encoder.generic import NOMINAL
 from jbig2_encoder.pictures import pixels
 
 

@@ -3,9 +3,9 @@ import dataclasses
 import os
 import random
 
-from compare import random_file
-from root import ROOT
-from symbols import random_document
+from comparison.compare import random_file
+from comparison.root import ROOT
+from comparison.symbols import random_document
 from conformance.runner.segments import cut, in_random_access
 from jbig2_encoder.bitmap import Bitmap
 from jbig2_encoder.document import Document

@@ -3,15 +3,15 @@
 A bitmap there has a word of 4 bytes for each 32 pixels of a row. What needs decoding is left out: prefix tables, and the bitmaps
 of symbols and of refined instances, if these are not counted. So is what the crate asks for after a segment that may have failed.
 """
-from model.answers import Fault, Refused, TooMuch, refuse_if
-from model.bitmap import refuse_large
-from model.bits import Reader
-from model.page import (
+from comparison.model.answers import Fault, Refused, TooMuch, refuse_if
+from comparison.model.bitmap import refuse_large
+from comparison.model.bits import Reader
+from comparison.model.page import (
     END_OF_FILE, END_OF_PAGE, EXTENSION, GENERIC, HALFTONE, INTERMEDIATE, KEPT, PATTERNS, REGIONS, SYMBOLS, TABLES, TEXT,
 )
-from model.prefix import custom_table
-from model.regions import Halftone, adaptive_pixels, refinement_pixels, region_information, text_region
-from model.symbols import Dictionary, DictionaryReader, code_length
+from comparison.model.prefix import custom_table
+from comparison.model.regions import Halftone, adaptive_pixels, refinement_pixels, region_information, text_region
+from comparison.model.symbols import Dictionary, DictionaryReader, code_length
 
 # The bytes of a bitmap without its pixels, of a reference to one, of a number, and of the contexts of coded integers.
 STRUCT, REFERENCE, NUMBER, INTEGERS = 48, 8, 4, 512

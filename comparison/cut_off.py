@@ -1,4 +1,3 @@
-#!/usr/bin/env python3
 """Cuts pages off at random places, and compares the rows that are shown of them here, by Poppler and by jbig2dec.
 
     cut_off.py [--suite] [--count COUNT] [--seed SEED] [--thrice] [--list] [FILE.jb2 ..]
@@ -23,7 +22,7 @@ import subprocess
 import sys
 import tempfile
 
-from root import ROOT
+from comparison.root import ROOT
 from conformance.runner.embedding import Embedded, embedded_page, pdf_of
 from conformance.runner.pictures import NoPicture, Picture, pictures_of
 from conformance.runner.segments import PAGE_INFORMATION, Segment, sequential

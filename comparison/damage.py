@@ -1,7 +1,6 @@
-#!/usr/bin/env python3
 """Damages files at random, and runs the built jbig2-decode on them under limits of time and memory.
 
-usage: comparison/damage.py [--count COUNT] [--first FIRST] [--seed SEED] [--seconds S] [--memory MIB] [FILE ...]
+usage: python3 -m comparison.damage [--count COUNT] [--first FIRST] [--seed SEED] [--seconds S] [--memory MIB] [FILE ...]
 
 Without files it takes a corpus of its own. Each run has a number, and depends on it, the seed and the files alone: runs FIRST
 to FIRST + COUNT - 1 are made. So after a stop `--first` goes on with the number that was printed last, and two cores share the
@@ -17,10 +16,10 @@ import sys
 import tempfile
 import time
 
-from compare import kept, our_picture, their_picture
-from corpus import given_corpus, own_corpus
-from limited import MOST_OUTPUT, Runner
-from root import ROOT
+from comparison.compare import kept, our_picture, their_picture
+from comparison.corpus import given_corpus, own_corpus
+from comparison.limited import MOST_OUTPUT, Runner
+from comparison.root import ROOT
 from conformance.runner.segments import parts_of
 from jbig2_encoder.pictures import pixels
 

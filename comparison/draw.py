@@ -1,13 +1,11 @@
-#!/usr/bin/env python3
 """Draws a page of a file by the model, as `jbig2-decode pbm` does, with the same errors; slowly.
 
-usage: comparison/draw.py [--strict] FILE INDEX
+usage: python3 -m comparison.draw [--strict] FILE INDEX
 """
 import sys
 
-from root import ROOT  # noqa: F401  (puts the package on Python's path)
-from model.answers import Refused, Work
-from model.page import page_of_file
+from comparison.model.answers import Refused, Work
+from comparison.model.page import page_of_file
 
 
 def main():

@@ -4,9 +4,8 @@ import os
 import signal
 import subprocess
 
-import root  # noqa: F401
 from c.bindings import loaded
-from limited import Runner
+from comparison.limited import Runner
 
 LONGEST = 60
 OTHER_FAULTS = "no answer"

@@ -1,8 +1,7 @@
-#!/usr/bin/env python3
 """Makes small files in which one field has another value, and compares what jbig2-decode makes of them with a model.
 
-usage: comparison/fields.py [--count COUNT] [--first FIRST] [--seed SEED] [--library FILE] [--write FILE]
-       comparison/fields.py --again FILE .. [--library FILE]
+usage: python3 -m comparison.fields [--count COUNT] [--first FIRST] [--seed SEED] [--library FILE] [--write FILE]
+       python3 -m comparison.fields --again FILE .. [--library FILE]
 
 The encoder hands each field that it writes to this script: headers' flags, sizes, counts and references, coded integers
 and ids, code lengths and what tables say. One of them is written as 0, 1, a limit, one past it, or with a flag turned;
@@ -23,12 +22,12 @@ import sys
 import tempfile
 import time
 
-from changes import RUNS_OF_DOCUMENT, Changes
-from compare import kept
-from damage import built_program
-from drawing import Library, Program
-from model.answers import Refused, TooMuch
-from model.page import page_of_file
+from comparison.changes import RUNS_OF_DOCUMENT, Changes
+from comparison.compare import kept
+from comparison.damage import built_program
+from comparison.drawing import Library, Program
+from comparison.model.answers import Refused, TooMuch
+from comparison.model.page import page_of_file
 
 REPORT = 5000
 DRAWN = "drawn "

@@ -4,8 +4,6 @@ from __future__ import annotations
 
 import dataclasses
 from collections.abc import Callable
-
-import root  # noqa: F401
 from conformance.runner.segments import END_OF_FILE, END_OF_PAGE, END_OF_STRIPE, PAGE_INFORMATION, CutOff, Segment
 from conformance.runner.segments import header_at, header_length, pages_of, segments_of_file
 

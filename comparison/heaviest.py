@@ -1,7 +1,6 @@
-#!/usr/bin/env python3
 """Makes small files that take long, times the built jbig2-decode on them, and prints how long the largest would take.
 
-usage: comparison/heaviest.py [SIDE [NAME ...]]
+usage: python3 -m comparison.heaviest [SIDE [NAME ...]]
 
 Regions, grids and symbols are SIDE pixels wide and high (4096). The work of each file grows by the square of SIDE, or of SIDE
 times a count that its line names. So the time at SIDE 65535, the most that is decoded, is printed beside it. PROGRAM may name a
@@ -10,8 +9,8 @@ built jbig2-decode. Status 0 means that each run ended by itself.
 import sys
 import tempfile
 
-from damage import built_program
-from limited import Runner
+from comparison.damage import built_program
+from comparison.limited import Runner
 from jbig2_encoder.arithmetic import ArithmeticEncoder, Procedures
 from jbig2_encoder.fields import number
 from jbig2_encoder.framing import HEADER, page_information, region_information, segment

@@ -1,7 +1,6 @@
-#!/usr/bin/env python3
 """Cuts files and damages their segments' headers, and looks whether each incomplete page says so.
 
-usage: comparison/incomplete.py [COUNT [SEED]]
+usage: python3 -m comparison.incomplete [COUNT [SEED]]
 
 A file is cut off, or the header of one of its segments has another number, type, length, page or reference; half of the files
 have two such faults. Each page is decoded strictly, leniently and in salvage by the Python package. A page that lenient reading
@@ -15,9 +14,9 @@ import sys
 
 import hayro_jbig2
 
-from compare import kept
-from corpus import own_corpus
-from forgiven import reasons_of
+from comparison.compare import kept
+from comparison.corpus import own_corpus
+from comparison.forgiven import reasons_of
 from conformance.runner.segments import CutOff, header_at
 
 SIZE_OF_CORPUS = 400

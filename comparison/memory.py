@@ -1,8 +1,8 @@
-#!/usr/bin/env python3
 """Measures the most memory that drawing files takes here, beside the least that the crate hayro-jbig2 0.4.0 needs for them.
 
-usage: comparison/memory.py [--strict] [--seconds S] [--memory MIB] [--decisions N] [FILE ..]
-       comparison/memory.py [--strict] [--seconds S] [--memory MIB] [--decisions N] --damaged COUNT [--first FIRST] [--seed SEED]
+usage: python3 -m comparison.memory [--strict] [--seconds S] [--memory MIB] [--decisions N] [FILE ..]
+       python3 -m comparison.memory [--strict] [--seconds S] [--memory MIB] [--decisions N]
+           --damaged COUNT [--first FIRST] [--seed SEED]
 
 Files have a file header. --damaged makes files as comparison/damage.py does, those of its runs FIRST to FIRST + COUNT - 1.
 All pages of a file are drawn in one context by the library for C, which asks comparison/peak.c for memory; that counts the
@@ -20,15 +20,15 @@ import subprocess
 import sys
 import tempfile
 
-from compare import kept
-from corpus import own_corpus
-from crate_memory import Walk, bitmap_bytes
-from damage import SIZE_OF_CORPUS, damaged
-from limited import Runner
-from model.answers import Refused, TooMuch, Work
-from model.bitmap import Bitmap
-from model.page import END_OF_FILE, END_OF_PAGE, KEPT, Drawing, File, Names, page_size
-from root import ROOT
+from comparison.compare import kept
+from comparison.corpus import own_corpus
+from comparison.crate_memory import Walk, bitmap_bytes
+from comparison.damage import SIZE_OF_CORPUS, damaged
+from comparison.limited import Runner
+from comparison.model.answers import Refused, TooMuch, Work
+from comparison.model.bitmap import Bitmap
+from comparison.model.page import END_OF_FILE, END_OF_PAGE, KEPT, Drawing, File, Names, page_size
+from comparison.root import ROOT
 
 ALLOWED = 1 << 16
 # The decisions for which symbols are decoded in Python, and the pixels for each of them.

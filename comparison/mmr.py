@@ -1,7 +1,6 @@
-#!/usr/bin/env python3
 """Has libtiff code random pictures by T.6, and compares what ./jbig2-decode makes of the data with the pictures.
 
-usage: comparison/mmr.py [COUNT [SEED]]
+usage: python3 -m comparison.mmr [COUNT [SEED]]
 
 The programs ppm2tiff and tiffcp are of the Debian package libtiff-tools.
 """
@@ -12,7 +11,7 @@ import subprocess
 import sys
 import tempfile
 
-from compare import our_picture, settings
+from comparison.compare import our_picture, settings
 from jbig2_encoder.framing import HEADER, page_information, region_information, segment
 from jbig2_encoder.pictures import pixels
 

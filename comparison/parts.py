@@ -1,8 +1,7 @@
-#!/usr/bin/env python3
 """Cuts made-up pages off at random places or gives them faults, and compares what the Python package draws of them, leniently
 and in salvage, with a model.
 
-usage: comparison/parts.py [COUNT [SEED]]
+usage: python3 -m comparison.parts [COUNT [SEED]]
 
 The pages have regions of all kinds, in files or embedded; comparison/model reads them too. Half of them end in one larger
 region, and are cut off in its data. A third have faults in their segments, and half of these are whole. Compared are the
@@ -19,13 +18,13 @@ import sys
 
 import hayro_jbig2
 
-from compare import coded, kept, settings
-from made_up import altered, random_symbol
-from model import salvage
-from model.answers import Refused, TooMuch, Work
-from model.page import read_embedded, read_file
-from small_documents import INTERMEDIATE, LOSSLESS, Author, random_bitmap, random_generic, random_refinement
-from symbols import random_document
+from comparison.compare import coded, kept, settings
+from comparison.made_up import altered, random_symbol
+from comparison.model import salvage
+from comparison.model.answers import Refused, TooMuch, Work
+from comparison.model.page import read_embedded, read_file
+from comparison.small_documents import INTERMEDIATE, LOSSLESS, Author, random_bitmap, random_generic, random_refinement
+from comparison.symbols import random_document
 from jbig2_encoder.bitmap import REPLACE, XOR, Bitmap
 from jbig2_encoder.document import Document, Segment
 from jbig2_encoder.framing import GENERIC, HALFTONE, HEADER, PAGE, PATTERN_DICTIONARY, REFINEMENT

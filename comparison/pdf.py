@@ -1,4 +1,3 @@
-#!/usr/bin/env python3
 """Puts the pages of JBIG2 files into PDF files, draws these by the command hayro-jbig2, and compares the bitmaps with
 those that jbig2dec draws of the files themselves. It reports where Poppler draws another bitmap of the PDF file.
 
@@ -13,7 +12,7 @@ import subprocess
 import sys
 import tempfile
 
-from root import ROOT
+from comparison.root import ROOT
 from conformance.runner.embedding import embedded_page, image_of
 from conformance.runner.pdf import pdf_of
 from conformance.runner.pictures import pictures_of

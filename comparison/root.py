@@ -1,6 +1,4 @@
-"""The repository's root, which is put on Python's path: import this before `jbig2_encoder`, which is there."""
+"""The repository's root."""
 import os
-import sys
 
 ROOT = os.path.dirname(os.path.dirname(os.path.abspath(__file__)))
-sys.path.insert(1, ROOT)

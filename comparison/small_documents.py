@@ -1,9 +1,8 @@
 """Small documents of every kind of segment, for `fields.py`: each is made of a number alone, with few pixels."""
 import random
 
-from root import ROOT  # noqa: F401  (puts the package on Python's path)
-from made_up import Form, altered, random_dictionary, random_pixels, random_refinement_pixels
-from made_up import random_symbol, random_text
+from comparison.made_up import Form, altered, random_dictionary, random_pixels, random_refinement_pixels
+from comparison.made_up import random_symbol, random_text
 from jbig2_encoder import framing
 from jbig2_encoder.bitmap import Bitmap
 from jbig2_encoder.document import Document

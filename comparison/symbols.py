@@ -1,7 +1,6 @@
-#!/usr/bin/env python3
 """Makes up documents of symbols and text, and compares what is drawn of them with the expected picture and with jbig2dec.
 
-usage: comparison/symbols.py [COUNT [SEED]]
+usage: python3 -m comparison.symbols [COUNT [SEED]]
 
 Each document is made by the encoder in jbig2_encoder, which knows the picture. KINDS may name some of `coder prefix
 refined aggregates tables`, the forms that jbig2dec draws too, and `more`, which it does not: that is compared with the
@@ -13,8 +12,8 @@ import random
 import sys
 import tempfile
 
-from compare import kept, our_picture, settings, their_picture
-from made_up import Form, random_dictionary, random_text
+from comparison.compare import kept, our_picture, settings, their_picture
+from comparison.made_up import Form, random_dictionary, random_text
 from jbig2_encoder.document import Document
 from jbig2_encoder.framing import SYMBOL_DICTIONARY, TABLE
 from jbig2_encoder.pictures import pixels

@@ -7,7 +7,7 @@
  * It takes the words of jbig2-decode, so that the scripts here run it in its place:
  *
  *     c/build && cc -Ic comparison/within.c c/out/libhayro_jbig2.a -o within
- *     PROGRAM=$PWD/within comparison/heaviest.py
+ *     PROGRAM=$PWD/within python3 -m comparison.heaviest
  */
 #include "hayro_jbig2.h"
 

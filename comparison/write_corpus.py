@@ -1,12 +1,11 @@
-#!/usr/bin/env python3
 """Writes made-up files of all kinds into a folder, as 000.jb2, 001.jb2 and so on, for tests of the library's callers.
 
-usage: comparison/write_corpus.py FOLDER [COUNT [SEED]]
+usage: python3 -m comparison.write_corpus FOLDER [COUNT [SEED]]
 """
 import os
 import sys
 
-from corpus import own_corpus
+from comparison.corpus import own_corpus
 
 
 def main():

@@ -5,6 +5,7 @@ import struct
 
 from jbig2_encoder.bitmap import Bitmap
 from jbig2_encoder.dictionary import HeightClass, NewSymbol, SymbolDictionary, dictionary_data
+from jbig2_encoder.framing import segment
 from jbig2_encoder.text import Instance, Settings, Strip, Text, TextForm, text_data
 
 TABLE = os.path.join(os.path.dirname(os.path.abspath(__file__)), "most-bytes.tsv")
@@ -23,12 +24,6 @@ def table():
 def write_table(counts):
     with open(TABLE, "w", encoding="ascii") as file:
         file.writelines(f"{name}\t{most}\n" for name, most in counts.items())
-
-
-def segment(number, kind, data, referred=()):
-    """A segment of page 1, with its header (T.88, 7.2)."""
-    numbers = bytes(referred)
-    return struct.pack(">IBB", number, kind, len(numbers) << 5) + numbers + struct.pack(">BI", 1, len(data)) + data
 
 
 def page_information():

@@ -1,7 +1,6 @@
-#!/usr/bin/env python3
 """Runs jbig2-decode as a user does: each command on files of all kinds, its faults, its statuses, and its output's.
 
-usage: tests/commands.py [-v] [NAME ..]
+usage: python3 -m tests.commands [-v] [NAME ..]
 
 PROGRAM may name the program; else it is the one that ./jbig2-decode runs. What pages show is tried by conformance/ and
 comparison/.
@@ -12,7 +11,7 @@ import subprocess
 import tempfile
 import unittest
 
-from files import COLOURED, CUT_OFF, HEADER, ROOT, bitmap, example, file_of, page_segments, striped
+from tests.files import COLOURED, CUT_OFF, HEADER, ROOT, bitmap, example, file_of, page_segments, striped
 
 PROGRAM = os.environ.get("PROGRAM") or subprocess.run(
     [os.path.join(ROOT, "dist", "program"), "jbig2-decode"], check=True, stdout=subprocess.PIPE, text=True

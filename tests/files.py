@@ -1,16 +1,13 @@
 """JBIG2 files made up for the tests, and what is to be drawn of them."""
 import os
 import re
-import sys
 
-ROOT = os.path.dirname(os.path.dirname(os.path.abspath(__file__)))
-sys.path.insert(1, ROOT)
-
-from jbig2_encoder.framing import (  # noqa: E402
+from jbig2_encoder.framing import (
     END_OF_FILE, END_OF_PAGE, EXTENSION, GENERIC, HEADER, PAGE, page_information, region_information, segment, segment_header
 )
-from jbig2_encoder.t6 import HORIZONTAL, VERTICAL, run_code  # noqa: E402
+from jbig2_encoder.t6 import HORIZONTAL, VERTICAL, run_code
 
+ROOT = os.path.dirname(os.path.dirname(os.path.abspath(__file__)))
 # A segment whose data are cut off, and one of which a decoder has to know what it says (7.4.14).
 CUT_OFF = segment_header(1, GENERIC, 17)
 COLOURED = segment(1, EXTENSION, (0x80000000).to_bytes(4, "big"))

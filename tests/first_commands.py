@@ -1,9 +1,8 @@
-#!/usr/bin/env python3
 """Runs the first commands of a small copy of the repository as on other computers: another processor or system, an older
 processor, another C library, no compiler, no toolchain. The compiler only notes what it is to compile: portable/test compiles
 it. Takes seconds.
 
-usage: tests/first_commands.py [-v] [NAME ..]
+usage: python3 -m tests.first_commands [-v] [NAME ..]
 """
 import os
 import re
@@ -12,8 +11,8 @@ import subprocess
 import tempfile
 import unittest
 
-from files import ROOT
-from which_program import copy_repository
+from tests.files import ROOT
+from tests.which_program import copy_repository
 
 TOOLS = (
     "bash env readlink find cmp sha256sum sort xargs cut grep cat mkdir mktemp head rm mv cp chmod printf tr sed dirname "

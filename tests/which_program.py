@@ -1,7 +1,6 @@
-#!/usr/bin/env python3
 """Runs ./jbig2-decode of a small copy of the repository: which program it takes after updates, what it says without one.
 
-usage: tests/which_program.py [-v] [NAME ..]
+usage: python3 -m tests.which_program [-v] [NAME ..]
 """
 import os
 import shutil
@@ -9,7 +8,7 @@ import subprocess
 import tempfile
 import unittest
 
-from files import ROOT
+from tests.files import ROOT
 
 USAGE = "usage: jbig2-decode "
 PROCESSOR = os.uname().machine

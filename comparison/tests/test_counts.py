@@ -1,9 +1,9 @@
 """What lenient reading and salvage forgive counts, by the model: what strict reading refuses a segment for."""
 import unittest
 
-from model import salvage
-from model.answers import Fault, Refused
-from model.page import read_embedded, read_file
+from comparison.model import salvage
+from comparison.model.answers import Fault, Refused
+from comparison.model.page import read_embedded, read_file
 from jbig2_encoder.framing import HEADER, page_information, region_information, segment
 
 AREA = region_information(8, 1)

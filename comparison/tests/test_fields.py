@@ -7,10 +7,10 @@ import tempfile
 import unittest
 import unittest.mock
 
-from changes import Changes, values_for
-from fields import Run, both_answers, compare_all, difference, made_runs, meant_by_model, options_of, written_runs
-from model.page import page_of_file
-from small_documents import small_document
+from comparison.changes import Changes, values_for
+from comparison.fields import Run, both_answers, compare_all, difference, made_runs, meant_by_model, options_of, written_runs
+from comparison.model.page import page_of_file
+from comparison.small_documents import small_document
 
 
 class Echo:

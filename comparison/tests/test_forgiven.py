@@ -2,9 +2,9 @@
 import dataclasses
 import unittest
 
-import forgiven
-from model.answers import Refused
-from model.page import page_of_file
+from comparison import forgiven
+from comparison.model.answers import Refused
+from comparison.model.page import page_of_file
 from jbig2_encoder.framing import HEADER, page_information, region_information, segment
 
 PAGE = segment(0, 48, page_information(8, 4))

@@ -2,13 +2,13 @@
 import random
 import unittest
 
-from corpus import EXAMPLE
-from model.answers import Fault, Refused, TooMuch, Work
-from model.bits import Reader
-from model.coder import Coder
-from model.page import embedded_page, page_of_file
-from model.prefix import STANDARD, custom_table
-from symbols import random_document
+from comparison.corpus import EXAMPLE
+from comparison.model.answers import Fault, Refused, TooMuch, Work
+from comparison.model.bits import Reader
+from comparison.model.coder import Coder
+from comparison.model.page import embedded_page, page_of_file
+from comparison.model.prefix import STANDARD, custom_table
+from comparison.symbols import random_document
 from jbig2_encoder.framing import HEADER, page_information, region_information, segment
 
 # The test sequence of T.88, H.2.

@@ -4,12 +4,12 @@ import itertools
 import random
 import unittest
 
-from model.answers import Fault, Refused, Work
-from model.coder import Coder
-from model.generic import NOMINAL, Generic
-from model.page import page_of_file as read_page
-from model.salvage import embedded_page, page_of_file
-from symbols import random_document
+from comparison.model.answers import Fault, Refused, Work
+from comparison.model.coder import Coder
+from comparison.model.generic import NOMINAL, Generic
+from comparison.model.page import page_of_file as read_page
+from comparison.model.salvage import embedded_page, page_of_file
+from comparison.symbols import random_document
 from jbig2_encoder.bitmap import REPLACE, Bitmap
 from jbig2_encoder.document import Document
 from jbig2_encoder.framing import GENERIC, HALFTONE, HEADER, PATTERN_DICTIONARY, REFINEMENT

@@ -1,7 +1,5 @@
 """The whole command over a small suite: tables, files that it writes, and mistakes of the call in words."""
 import contextlib
-import importlib.machinery
-import importlib.util
 import io
 import pathlib
 import sys
@@ -9,14 +7,11 @@ import tempfile
 import typing
 import unittest
 
-from conformance.runner.decoders import ROOT
+from conformance.runner import command
 from conformance.runner.manifest import read_manifest
 from conformance.runner.pictures import of_numbers
 from conformance.tests.small_suite import CROSS, write_manifest, written
 
-LOADER = importlib.machinery.SourceFileLoader("conformance_run", str(ROOT / "conformance" / "run"))
-RUN = importlib.util.module_from_spec(importlib.util.spec_from_loader(LOADER.name, LOADER))
-LOADER.exec_module(RUN)
 # A decoder that always draws the same.
 DRAW = f"open(__import__('sys').argv[2], 'wb').write({of_numbers(list(CROSS), 9).pbm!r})"
 
@@ -33,7 +28,7 @@ def ended_of(words: tuple[str, ...]) -> Ended:
     """Runs the command in this process: Python takes long to start."""
     with contextlib.redirect_stdout(io.StringIO()) as out, contextlib.redirect_stderr(io.StringIO()) as errors:
         try:
-            status = RUN.main(list(words))
+            status = command.main(list(words))
         except SystemExit as end:
             status = end.code
     return Ended(status, out.getvalue(), errors.getvalue())

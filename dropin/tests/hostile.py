@@ -1,4 +1,3 @@
-#!/usr/bin/env python3
 """Has mutool, gs and jbig2dec draw streams and files that are cut off, empty, damaged or no JBIG2 at all.
 
     hostile.py SUITE [--count COUNT] [--seed SEED]
@@ -19,8 +18,6 @@ import random
 import sys
 import tempfile
 
-from peers import LENIENT, LIMITS, OURS, PEERS, SYSTEM, UNLIMITED, Library, Peer, pictures_by
-
 from conformance.runner.damage import damaged
 from conformance.runner.decoders import own_program
 from conformance.runner.limits import Ended, run
@@ -28,6 +25,7 @@ from conformance.runner.manifest import Sample
 from conformance.runner.pdf import Image
 from conformance.runner.pictures import NoPicture, Picture, pictures_of
 from conformance.runner.samples import image_of_sample, rich_sample, samples_of
+from dropin.tests.peers import LENIENT, LIMITS, OURS, PEERS, SYSTEM, UNLIMITED, Library, Peer, pictures_by
 
 SOME_PEERS = [peer for peer in PEERS if peer.name in ("mutool draw", "gs")]
 LIMITS_OF_MEMORY = [*range(0, 20000, 500), *range(20000, 200000, 20000), 1 << 30]

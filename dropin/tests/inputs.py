@@ -1,4 +1,3 @@
-#!/usr/bin/env python3
 """Writes the inputs of the C program `calls` and of the runs in Valgrind into a folder.
 
     inputs.py SUITE FOLDER
@@ -10,8 +9,6 @@ from __future__ import annotations
 
 import argparse
 import pathlib
-
-import root  # noqa: F401
 
 from conformance.runner.pdf import pdf_of
 from conformance.runner.samples import image_of_sample, rich_sample, samples_of

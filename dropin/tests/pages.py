@@ -1,4 +1,3 @@
-#!/usr/bin/env python3
 """Has mutool, gs and jbig2dec draw the pages of the conformance suite over this library, and compares them with the
 expected pictures.
 
@@ -15,11 +14,10 @@ import pathlib
 import sys
 import tempfile
 
-from peers import OURS, PEERS, SYSTEM, Library, pictures_by, pictures_by_program, pictures_of_file
-
 from conformance.runner.manifest import Entry, Sample
 from conformance.runner.pictures import Picture
 from conformance.runner.samples import image_of_sample, samples_of
+from dropin.tests.peers import OURS, PEERS, SYSTEM, Library, pictures_by, pictures_by_program, pictures_of_file
 
 PAGES_IN_A_PDF = 100
 IN_FILES = "mutool draw, files of several pages"

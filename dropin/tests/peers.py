@@ -6,11 +6,10 @@ import pathlib
 import shlex
 import shutil
 
-from root import ROOT
-
 from conformance.runner.limits import Ended, Limits, run
 from conformance.runner.pdf import Image, pdf_of
 from conformance.runner.pictures import NoPicture, Picture, pictures_of
+from dropin.tests.root import ROOT
 
 # Four times as long may pass, on a machine that does other things too.
 LIMITS = Limits(seconds=60, memory=4 << 30)

@@ -1,6 +1,4 @@
-"""The repository's root, which is put on Python's path: import this before `conformance`, which is there."""
+"""The repository's root."""
 import pathlib
-import sys
 
 ROOT = pathlib.Path(__file__).resolve().parents[2]
-sys.path.insert(1, str(ROOT))

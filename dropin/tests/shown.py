@@ -1,4 +1,3 @@
-#!/usr/bin/env python3
 """Has mutool and gs draw damaged pages over this library and over the system's, and compares both with the picture of the
 undamaged page.
 
@@ -22,16 +21,16 @@ import random
 import sys
 import tempfile
 
-from hostile import SOME_PEERS, Stream
-from pages import wrong_in_pdf
-from peers import OURS, PEERS, SYSTEM, Library, Peer, pictures_by
-
 from conformance.runner.damage import damaged
 from conformance.runner.embedding import embedded_page, image_of
 from conformance.runner.pdf import Image
 from conformance.runner.pictures import Picture, pictures_of
 from conformance.runner.samples import image_of_sample, samples_of
 from conformance.runner.segments import END_OF_FILE, END_OF_PAGE, PAGE_INFORMATION, UNKNOWN_LENGTH, sequential
+from dropin.tests.hostile import SOME_PEERS, Stream
+from dropin.tests.pages import wrong_in_pdf
+from dropin.tests.peers import OURS, PEERS, SYSTEM, Library, Peer, pictures_by
+from jbig2_encoder.framing import segment
 
 SYMBOLS, TEXT, PATTERNS, HALFTONE = 0, 6, 16, 22
 # What begins the data of each region here: 8 by 1 pixels at the origin.
@@ -56,23 +55,16 @@ class Whole:
     picture: Picture
 
 
-def segment(number: int, kind: int, refers: list[int], data: bytes, page: int = 1) -> bytes:
-    """The bytes of a segment that refers to at most four others."""
-    size = 1 if number <= 256 else 2 if number <= 65536 else 4
-    references = bytes([len(refers) << 5]) + b"".join(other.to_bytes(size, "big") for other in refers)
-    return number.to_bytes(4, "big") + bytes([kind]) + references + bytes([page]) + len(data).to_bytes(4, "big") + data
-
-
 def with_a_bad_dictionary(chance: random.Random, image: Image) -> Image:
     """A dictionary that is refused and a region that needs it: in front of all regions, or after them."""
     own = sequential(image.stream)
     number = 1 + max([part.number for part in own + sequential(image.shared)], default=0)
     if chance.random() < 0.5:
-        dictionary = segment(number, SYMBOLS, [], chance.choice(BAD_SYMBOLS))
-        region = segment(number + 1, TEXT, [number], ONE_SYMBOL)
+        dictionary = segment(number, SYMBOLS, chance.choice(BAD_SYMBOLS))
+        region = segment(number + 1, TEXT, ONE_SYMBOL, [number])
     else:
-        dictionary = segment(number, PATTERNS, [], chance.choice(BAD_PATTERNS))
-        region = segment(number + 1, HALFTONE, [number], ONE_PATTERN)
+        dictionary = segment(number, PATTERNS, chance.choice(BAD_PATTERNS))
+        region = segment(number + 1, HALFTONE, ONE_PATTERN, [number])
     parts = [part.on_page(part.page) for part in own if part.kind not in (END_OF_PAGE, END_OF_FILE)]
     place = chance.choice((1, len(parts)))
     return dataclasses.replace(image, stream=b"".join(parts[:place] + [dictionary, region] + parts[place:]))
@@ -86,7 +78,7 @@ def with_bytes_after_it(chance: random.Random, image: Image) -> Image:
 
 def with_bad_globals(chance: random.Random, image: Image) -> Image:
     """Globals that are refused, after those that the page needs."""
-    bad = chance.choice((*AFTER_A_STREAM, *(segment(200, SYMBOLS, [], data, 0) for data in BAD_SYMBOLS)))
+    bad = chance.choice((*AFTER_A_STREAM, *(segment(200, SYMBOLS, data, page=0) for data in BAD_SYMBOLS)))
     return dataclasses.replace(image, shared=image.shared + bad)
 
 

@@ -2,13 +2,10 @@
 
 import os
 import pathlib
-import sys
 import unittest
 from unittest import mock
 
-sys.path.insert(0, str(pathlib.Path(__file__).resolve().parents[1] / "backend"))
-
-import hayro_jbig2_build as build  # noqa: E402
+import hayro_jbig2_build as build
 
 
 def on(system, processor, older=False, **variables):

@@ -3,25 +3,21 @@
 from __future__ import annotations
 
 import itertools
-import sys
 import unittest
 
 import hayro_jbig2
-from pages import ROOT
-
-sys.path[1:1] = [str(ROOT), str(ROOT / "comparison")]
-from conformance.suite.drawing import changed, dots, page_picture, shapes  # noqa: E402
-from conformance.suite.texts import refined_text  # noqa: E402
-from conformance.suite.typesetting import WORDS, Alphabet, Layout, put_dictionary, set_words, text_bitmap  # noqa: E402
-from jbig2_encoder.bitmap import REPLACE  # noqa: E402
-from jbig2_encoder.document import Document  # noqa: E402
-from jbig2_encoder.framing import GENERIC, HALFTONE, PATTERN_DICTIONARY, REFINEMENT, TEXT  # noqa: E402
-from jbig2_encoder.generic import GenericForm, generic_data  # noqa: E402
-from jbig2_encoder.halftone import Grid, HalftoneForm, draw_halftone, halftone_data, pattern_data  # noqa: E402
-from jbig2_encoder.refinement import NOMINAL, RefinementForm, refinement_data  # noqa: E402
-from jbig2_encoder.text import Settings, TextForm, text_data  # noqa: E402
-from model.answers import Work  # noqa: E402
-from model.salvage import embedded_page, page_of_file  # noqa: E402
+from conformance.suite.drawing import changed, dots, page_picture, shapes
+from conformance.suite.texts import refined_text
+from conformance.suite.typesetting import WORDS, Alphabet, Layout, put_dictionary, set_words, text_bitmap
+from jbig2_encoder.bitmap import REPLACE
+from jbig2_encoder.document import Document
+from jbig2_encoder.framing import GENERIC, HALFTONE, PATTERN_DICTIONARY, REFINEMENT, TEXT
+from jbig2_encoder.generic import GenericForm, generic_data
+from jbig2_encoder.halftone import Grid, HalftoneForm, draw_halftone, halftone_data, pattern_data
+from jbig2_encoder.refinement import NOMINAL, RefinementForm, refinement_data
+from jbig2_encoder.text import Settings, TextForm, text_data
+from comparison.model.answers import Work
+from comparison.model.salvage import embedded_page, page_of_file
 
 SIZE = (80, 40)
 INFORMATION = 17  # the bytes of a region's information

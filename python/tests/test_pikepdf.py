@@ -6,7 +6,6 @@ import contextlib
 import io
 import os
 import pathlib
-import sys
 import unittest
 from unittest import mock
 
@@ -14,12 +13,11 @@ import pikepdf
 from pikepdf import jbig2
 
 import hayro_jbig2.pikepdf
-from pages import GLOBALS, HEADER, ROOT, TEXT
+from pages import GLOBALS, HEADER, TEXT
 from test_limits import PATTERNS, WIDE
 
-sys.path.insert(1, str(ROOT))
-from conformance.runner import pdf  # noqa: E402
-from conformance.runner.embedding import embedded_page, image_of  # noqa: E402
+from conformance.runner import pdf
+from conformance.runner.embedding import embedded_page, image_of
 
 
 # A dictionary that refers to a number of segments for which there is no code.

@@ -16,13 +16,11 @@ import subprocess
 import sys
 import tempfile
 
+from conformance.runner.embedding import Embedded, embedded_page, file_of
+from conformance.runner.segments import pages_of, segments_of_file
+from write_pdf import pdf_of_images
+
 ROOT = pathlib.Path(__file__).resolve().parents[2]
-sys.path.insert(1, str(ROOT))
-
-from conformance.runner.embedding import Embedded, embedded_page, file_of  # noqa: E402
-from conformance.runner.segments import pages_of, segments_of_file  # noqa: E402
-from write_pdf import pdf_of_images  # noqa: E402
-
 READINGS = {"lenient": [], "strict": ["--strict"]}
 IMAGES_IN_A_FILE = 50
 # Writes a PDF file anew with streams of objects.

@@ -8,16 +8,14 @@ import re
 import resource
 import struct
 import subprocess
-import sys
 import tempfile
 import time
 import unittest
 import zlib
 
-ROOT = pathlib.Path(__file__).resolve().parents[3]
-sys.path.insert(1, str(ROOT))
+from conformance.runner.pictures import Picture, of_numbers, pictures_of
 
-from conformance.runner.pictures import Picture, of_numbers, pictures_of  # noqa: E402
+ROOT = pathlib.Path(__file__).resolve().parents[3]
 
 # The builds, by c/tool/test: the usual one, one with sanitizers, one that counts calls, one without libraries.
 TOOL = os.environ["TOOL"]

@@ -5,12 +5,10 @@ write_pdf.py FILE
 import pathlib
 import sys
 
+from conformance.runner.embedding import embedded_page, image_of
+from conformance.runner.pdf import pdf_of
+
 ROOT = pathlib.Path(__file__).resolve().parents[3]
-sys.path.insert(1, str(ROOT))
-
-from conformance.runner.embedding import embedded_page, image_of  # noqa: E402
-from conformance.runner.pdf import pdf_of  # noqa: E402
-
 BOOK = (ROOT / "crates" / "jbig2_decode" / "data" / "t88-h1.jb2").read_bytes()
 images = [image_of(embedded_page(BOOK, index)) for index in (1, 1, 2, 0)]
 pathlib.Path(sys.argv[1]).write_bytes(pdf_of(images))
