@@ -87,7 +87,7 @@ enum hayro_jbig2_answer {
     HAYRO_JBIG2_REGION_INVALID_MMR_DATA = 23,
     HAYRO_JBIG2_REGION_GRAY_SCALE_OUT_OF_RANGE = 24,
 
-    HAYRO_JBIG2_TEMPLATE_INVALID = 25, /* returned by hayro_jbig2_written_new alone */
+    HAYRO_JBIG2_TEMPLATE_INVALID = 25, /* never returned */
     HAYRO_JBIG2_TEMPLATE_INVALID_AT_PIXEL = 26,
 
     HAYRO_JBIG2_SYMBOL_NO_SYMBOLS = 27,
@@ -117,7 +117,9 @@ enum hayro_jbig2_answer {
     /* No unit of the limit of work is left, so what needs more was refused. */
     HAYRO_JBIG2_WORK_LIMIT = 103,
     /* A width or a height of 0 or above 65535, which no page that is written has. */
-    HAYRO_JBIG2_INVALID_SIDES = 104
+    HAYRO_JBIG2_INVALID_SIDES = 104,
+    /* No template has this number. */
+    HAYRO_JBIG2_NO_SUCH_TEMPLATE = 105
 };
 
 /* How many pages a file has. */
@@ -339,7 +341,7 @@ typedef struct hayro_jbig2_write_settings {
 } hayro_jbig2_write_settings;
 
 /* Writes packed rows as an embedded page, the bytes of a /JBIG2Decode stream that has no globals. A handle holds them.
- * Returns HAYRO_JBIG2_TEMPLATE_INVALID, HAYRO_JBIG2_OTHER_SIZE where rows_length is not that of the width and the height,
+ * Returns HAYRO_JBIG2_NO_SUCH_TEMPLATE, HAYRO_JBIG2_OTHER_SIZE where rows_length is not that of the width and the height,
  * or HAYRO_JBIG2_INVALID_SIDES, by the first of these that is so. */
 uint32_t hayro_jbig2_written_new(const hayro_jbig2_memory *memory, const uint8_t *rows, size_t rows_length,
                                  uint32_t width, uint32_t height, const hayro_jbig2_write_settings *settings,

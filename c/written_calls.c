@@ -46,10 +46,15 @@ static void reads_back(uint32_t width, uint32_t height, unsigned kind, const hay
     uint32_t read_width = 0, read_height = 0;
     CHECK(hayro_jbig2_written_new(NULL, rows, size, width, height, settings, &written) == HAYRO_JBIG2_OK);
     size_t length = take_bytes(written);
-    CHECK(hayro_jbig2_embedded_size(true, written_bytes, length, &read_width, &read_height) == HAYRO_JBIG2_OK);
-    CHECK(read_width == width && read_height == height);
     memset(decoded, 0xA5, sizeof decoded);
-    CHECK(hayro_jbig2_embedded_packed(true, NULL, 0, written_bytes, length, decoded, size) == HAYRO_JBIG2_OK);
+    if (settings->whole_file) {
+        CHECK(hayro_jbig2_page_size(true, written_bytes, length, 0, &read_width, &read_height) == HAYRO_JBIG2_OK);
+        CHECK(hayro_jbig2_page_packed(true, written_bytes, length, 0, decoded, size) == HAYRO_JBIG2_OK);
+    } else {
+        CHECK(hayro_jbig2_embedded_size(true, written_bytes, length, &read_width, &read_height) == HAYRO_JBIG2_OK);
+        CHECK(hayro_jbig2_embedded_packed(true, NULL, 0, written_bytes, length, decoded, size) == HAYRO_JBIG2_OK);
+    }
+    CHECK(read_width == width && read_height == height);
     clear_ends(width, height);
     CHECK(memcmp(decoded, rows, size) == 0);
 }
@@ -57,9 +62,27 @@ static void reads_back(uint32_t width, uint32_t height, unsigned kind, const hay
 static void reads_all_back(void) {
     static const uint32_t sides[] = {1, 2, 7, 8, 9, 31, 32, 33, 63, 64, 65, 130};
     enum { COUNT = sizeof sides / sizeof *sides };
-    for (unsigned i = 0; i < COUNT * COUNT * 8; i++) {
-        hayro_jbig2_write_settings settings = {.template_number = i % 4, .typical = i / 4 % 2};
-        reads_back(sides[i / 8 % COUNT], sides[i / 8 / COUNT], i % 3, &settings);
+    for (unsigned i = 0; i < COUNT * COUNT * 16; i++) {
+        hayro_jbig2_write_settings settings = {
+            .template_number = i % 4, .typical = i / 4 % 2, .whole_file = i / 8 % 2};
+        reads_back(sides[i / 16 % COUNT], sides[i / 16 / COUNT], i % 3, &settings);
+    }
+}
+
+/* Where page information states the resolution, after the header of its segment, the width and the height. */
+static void states_the_resolution(void) {
+    static const uint8_t numbers[] = {0x01, 0x02, 0x03, 0x04, 0xFF, 0xFE, 0xFD, 0xFC};
+    enum { FILE_HEADER = 13, PLACE = 22 };
+    for (int whole_file = 0; whole_file < 2; whole_file++) {
+        const hayro_jbig2_write_settings settings = {
+            .x_resolution = 0x01020304, .y_resolution = 0xFFFEFDFC, .whole_file = whole_file};
+        hayro_jbig2_written *written = NULL;
+        size_t count = 9;
+        CHECK(hayro_jbig2_written_new(NULL, rows, 1, 8, 1, &settings, &written) == HAYRO_JBIG2_OK);
+        size_t length = take_bytes(written);
+        CHECK(memcmp(written_bytes + PLACE + whole_file * FILE_HEADER, numbers, sizeof numbers) == 0);
+        uint32_t answer = hayro_jbig2_page_count(true, written_bytes, length, &count);
+        CHECK(whole_file ? answer == HAYRO_JBIG2_OK && count == 1 : answer == HAYRO_JBIG2_FORMAT_INVALID_HEADER);
     }
 }
 
@@ -99,7 +122,7 @@ static void refuses_faults(void) {
         CHECK(hayro_jbig2_written_new(NULL, many, cases[i].length, width, height, &settings, &written) ==
               cases[i].answer);
         CHECK(hayro_jbig2_written_new(NULL, many, cases[i].length, width, height, &other, &written) ==
-              HAYRO_JBIG2_TEMPLATE_INVALID);
+              HAYRO_JBIG2_NO_SUCH_TEMPLATE);
         CHECK(written == NULL);
     }
     hayro_jbig2_written_free(NULL);
@@ -157,6 +180,7 @@ static void uses_the_callers_memory(void) {
 
 int main(void) {
     reads_all_back();
+    states_the_resolution();
     writes_what_another_encoder_does();
     refuses_faults();
     refuses_other_handles();

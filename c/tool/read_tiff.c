@@ -112,17 +112,21 @@ bool read_tiff(const struct bytes *bytes, struct bilevels *images, struct text *
     TIFFSetWarningHandler(NULL);
     TIFF *tiff = TIFFClientOpen("picture.tiff", "rm", &place, give_bytes, take_none, go_to, close_nothing, size_of,
                                 NULL, NULL);
-    bool is_read = tiff != NULL;
-    if (tiff == NULL)
-        add_text(reason, "the TIFF file is damaged");
-    for (bool is_more = is_read; is_more; is_more = is_read && TIFFReadDirectory(tiff) == 1) {
+    bool is_there = tiff != NULL, is_read = false;
+    while (is_there) {
         struct bilevel image = {.width = 0};
-        is_read = read_page(tiff, &image, reason);
-        if (is_read)
-            add_bilevel(images, &image);
-        else
+        if (!read_page(tiff, &image, reason)) {
             free(image.rows);
+            break;
+        }
+        add_bilevel(images, &image);
+        is_read = TIFFLastDirectory(tiff) != 0;
+        if (is_read)
+            break;
+        is_there = TIFFReadDirectory(tiff) == 1;
     }
+    if (!is_there)
+        add_text(reason, "the TIFF file is damaged");
     if (tiff != NULL)
         TIFFClose(tiff);
     return is_read;
