@@ -63,8 +63,7 @@ static void reads_all_back(void) {
     static const uint32_t sides[] = {1, 2, 7, 8, 9, 31, 32, 33, 63, 64, 65, 130};
     enum { COUNT = sizeof sides / sizeof *sides };
     for (unsigned i = 0; i < COUNT * COUNT * 16; i++) {
-        hayro_jbig2_write_settings settings = {
-            .template_number = i % 4, .typical = i / 4 % 2, .whole_file = i / 8 % 2};
+        hayro_jbig2_write_settings settings = {.template_number = i % 4, .typical = i / 4 % 2, .whole_file = i / 8 % 2};
         reads_back(sides[i / 16 % COUNT], sides[i / 16 / COUNT], i % 3, &settings);
     }
 }
@@ -109,10 +108,14 @@ static void refuses_faults(void) {
         size_t length;
         uint32_t answer;
     } cases[] = {
-        {8, 2, 1, HAYRO_JBIG2_OTHER_SIZE},       {8, 2, 3, HAYRO_JBIG2_OTHER_SIZE},
-        {9, 2, 2, HAYRO_JBIG2_OTHER_SIZE},       {UINT32_MAX, UINT32_MAX, 16, HAYRO_JBIG2_OTHER_SIZE},
-        {0, 0, 0, HAYRO_JBIG2_INVALID_SIDES},    {0, 70000, 0, HAYRO_JBIG2_INVALID_SIDES},
-        {8, 0, 0, HAYRO_JBIG2_INVALID_SIDES},    {65536, 1, 8192, HAYRO_JBIG2_INVALID_SIDES},
+        {8, 2, 1, HAYRO_JBIG2_OTHER_SIZE},
+        {8, 2, 3, HAYRO_JBIG2_OTHER_SIZE},
+        {9, 2, 2, HAYRO_JBIG2_OTHER_SIZE},
+        {UINT32_MAX, UINT32_MAX, 16, HAYRO_JBIG2_OTHER_SIZE},
+        {0, 0, 0, HAYRO_JBIG2_INVALID_SIDES},
+        {0, 70000, 0, HAYRO_JBIG2_INVALID_SIDES},
+        {8, 0, 0, HAYRO_JBIG2_INVALID_SIDES},
+        {65536, 1, 8192, HAYRO_JBIG2_INVALID_SIDES},
         {1, 65536, 65536, HAYRO_JBIG2_INVALID_SIDES},
     };
     static uint8_t many[65536];

@@ -3,10 +3,10 @@
 
     written.py [--count COUNT] [--seed SEED] [--scans FOLDER] [--tool PROGRAM] [--no-suite]
 
-Written are the pictures of the conformance suite, the pages of the JBIG2, PDF and PBM files of a folder, and made-up ones, each as a
-JBIG2 file, by one of the settings, and as a page of a PDF file. The files are read by `hayro-jbig2`, in strict reading, and by
-jbig2dec; the PDF files by `hayro-jbig2`, Poppler (pdfimages) and pdf.js (libjs-pdf and Node). Says which reader is not here.
-Needs make; without --tool it builds the command.
+Written are the pictures of the conformance suite, the pages of the JBIG2, PDF and PBM files of a folder, and made-up
+ones, each as a JBIG2 file, by one of the settings, and as a page of a PDF file. The files are read by `hayro-jbig2`, in
+strict reading, and by jbig2dec; the PDF files by `hayro-jbig2`, Poppler (pdfimages) and pdf.js (libjs-pdf and Node). Says
+which reader is not here. Needs make; without --tool it builds the command.
 """
 import argparse
 import collections

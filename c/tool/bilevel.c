@@ -58,8 +58,7 @@ bool read_bilevels(const struct bytes *bytes, struct bilevels *images, struct te
         {"P1", 2, read_pbm},      {"P4", 2, read_pbm},
     };
     for (size_t i = 0; i < sizeof formats / sizeof *formats; i++)
-        if (bytes->length >= formats[i].length &&
-            memcmp(bytes->at, formats[i].beginning, formats[i].length) == 0)
+        if (bytes->length >= formats[i].length && memcmp(bytes->at, formats[i].beginning, formats[i].length) == 0)
             return formats[i].read(bytes, images, reason);
     enum kind kind = kind_of(bytes);
     add_text(reason, "this is %s; write takes PNG, TIFF and PBM (P1 or P4)", name_of_kind(kind, bytes));

@@ -59,10 +59,11 @@ bool add_pdf_page(struct pdf_writer *pdf, const struct bilevel *image, const str
     begin_object(pdf);
     is_put = is_put && put(pdf, "%zu 0 obj\n<< /Length %d >>\nstream\n%sendstream\nendobj\n", page + 1, length, shown);
     begin_object(pdf);
-    is_put = is_put && put(pdf,
-                           "%zu 0 obj\n<< /Type /XObject /Subtype /Image /Width %" PRIu32 " /Height %" PRIu32
-                           "\n/ColorSpace /DeviceGray /BitsPerComponent 1 /Filter /JBIG2Decode /Length %zu >>\nstream\n",
-                           page + 2, image->width, image->height, stream->length);
+    is_put =
+        is_put && put(pdf,
+                      "%zu 0 obj\n<< /Type /XObject /Subtype /Image /Width %" PRIu32 " /Height %" PRIu32
+                      "\n/ColorSpace /DeviceGray /BitsPerComponent 1 /Filter /JBIG2Decode /Length %zu >>\nstream\n",
+                      page + 2, image->width, image->height, stream->length);
     return is_put && put_bytes(pdf, stream) && put(pdf, "\nendstream\nendobj\n");
 }
 

@@ -110,8 +110,8 @@ bool read_tiff(const struct bytes *bytes, struct bilevels *images, struct text *
     struct place place = {bytes, 0};
     TIFFSetErrorHandler(NULL);
     TIFFSetWarningHandler(NULL);
-    TIFF *tiff = TIFFClientOpen("picture.tiff", "rm", &place, give_bytes, take_none, go_to, close_nothing, size_of,
-                                NULL, NULL);
+    TIFF *tiff =
+        TIFFClientOpen("picture.tiff", "rm", &place, give_bytes, take_none, go_to, close_nothing, size_of, NULL, NULL);
     bool is_there = tiff != NULL, is_read = false;
     while (is_there) {
         struct bilevel image = {.width = 0};

@@ -17,16 +17,26 @@ enum { MOST_JOBS = 256 };
 enum { FORCE = 256, STRICTLY, SALVAGED, PASSWORD, WORK, MEMORY, JSON, TEMPLATE, TYPICAL, NOT_TYPICAL, EMBEDDED, DPI };
 
 static const struct option options[] = {
-    {"output", required_argument, NULL, 'o'}, {"format", required_argument, NULL, 'f'},
-    {"pages", required_argument, NULL, 'p'},  {"globals", required_argument, NULL, 'g'},
-    {"jobs", required_argument, NULL, 'j'},   {"quiet", no_argument, NULL, 'q'},
-    {"help", no_argument, NULL, 'h'},         {"version", no_argument, NULL, 'V'},
-    {"force", no_argument, NULL, FORCE},      {"strict", no_argument, NULL, STRICTLY},
-    {"salvage", no_argument, NULL, SALVAGED}, {"password", required_argument, NULL, PASSWORD},
-    {"work", required_argument, NULL, WORK},  {"memory", required_argument, NULL, MEMORY},
-    {"json", no_argument, NULL, JSON},        {"template", required_argument, NULL, TEMPLATE},
-    {"typical", no_argument, NULL, TYPICAL},  {"no-typical", no_argument, NULL, NOT_TYPICAL},
-    {"embedded", no_argument, NULL, EMBEDDED}, {"dpi", required_argument, NULL, DPI},
+    {"output", required_argument, NULL, 'o'},
+    {"format", required_argument, NULL, 'f'},
+    {"pages", required_argument, NULL, 'p'},
+    {"globals", required_argument, NULL, 'g'},
+    {"jobs", required_argument, NULL, 'j'},
+    {"quiet", no_argument, NULL, 'q'},
+    {"help", no_argument, NULL, 'h'},
+    {"version", no_argument, NULL, 'V'},
+    {"force", no_argument, NULL, FORCE},
+    {"strict", no_argument, NULL, STRICTLY},
+    {"salvage", no_argument, NULL, SALVAGED},
+    {"password", required_argument, NULL, PASSWORD},
+    {"work", required_argument, NULL, WORK},
+    {"memory", required_argument, NULL, MEMORY},
+    {"json", no_argument, NULL, JSON},
+    {"template", required_argument, NULL, TEMPLATE},
+    {"typical", no_argument, NULL, TYPICAL},
+    {"no-typical", no_argument, NULL, NOT_TYPICAL},
+    {"embedded", no_argument, NULL, EMBEDDED},
+    {"dpi", required_argument, NULL, DPI},
     {NULL, 0, NULL, 0},
 };
 
@@ -96,7 +106,7 @@ static bool read_format(struct words *words, const char *name) {
     static const struct {
         const char *name;
         enum format format;
-    } names[] = {{"png", FORMAT_PNG}, {"pbm", FORMAT_PBM}, {"tiff", FORMAT_TIFF}, {"tif", FORMAT_TIFF},
+    } names[] = {{"png", FORMAT_PNG},   {"pbm", FORMAT_PBM},     {"tiff", FORMAT_TIFF},     {"tif", FORMAT_TIFF},
                  {"jb2", FORMAT_JBIG2}, {"jbig2", FORMAT_JBIG2}, {"jb2e", FORMAT_EMBEDDED}, {"pdf", FORMAT_PDF}};
     words->has_format = false;
     for (size_t i = 0; i < sizeof names / sizeof *names; i++)

@@ -28,7 +28,7 @@ struct words {
     uint32_t resolution; /* of what is written, in pixels for each metre; 0 where each picture's is taken */
     unsigned jobs;
     bool is_embedded; /* what is written */
-    uint64_t given; /* which options were given, by their places in the list */
+    uint64_t given;   /* which options were given, by their places in the list */
 };
 
 /* What is to be done after the words were read. */

@@ -116,8 +116,7 @@ static void name_input(const char *name, struct text *reason) {
     free_text(&fault);
 }
 
-static bool read_images(const struct writing *writing, const char *name, struct bilevels *images,
-                        struct text *reason) {
+static bool read_images(const struct writing *writing, const char *name, struct bilevels *images, struct text *reason) {
     struct bytes bytes = {NULL, 0};
     bool is_read = read_input(name, &bytes);
     if (!is_read)
