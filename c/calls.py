@@ -15,6 +15,7 @@ HERE = os.path.dirname(os.path.abspath(__file__))
 CRATES = os.path.join(os.path.dirname(HERE), "crates")
 DATA = os.path.join(CRATES, "jbig2_decode", "data")
 PageInfo, PassedOver, LeftOut = (STRUCTURES[name] for name in ("page_info", "passed_over", "left_out"))
+WriteSettings = STRUCTURES["write_settings"]
 failures = []
 checks = 0
 
@@ -117,6 +118,20 @@ def pages_by_handles(library, book, is_salvaged):
     return pages
 
 
+def written_of(library, page):
+    """A file of one page, of width, height and rows."""
+    width, height, rows = page
+    settings, written = WriteSettings(1, 11811, 11811, True, True), ctypes.c_void_p()
+    answer = library.hayro_jbig2_written_new(
+        None, rows, len(rows), width, height, ctypes.byref(settings), ctypes.byref(written)
+    )
+    check(answer == 0 and written.value is not None, "a page is written")
+    book = ctypes.create_string_buffer(library.hayro_jbig2_written_length(written))
+    check(library.hayro_jbig2_written_bytes(written, book, len(book)) == 0, "what was written is copied")
+    library.hayro_jbig2_written_free(written)
+    return book.raw
+
+
 def compare_pages(library, example):
     """The pages by both ways of calling, and what the example prints."""
     name = os.path.join(DATA, "t88-h1.jb2")
@@ -126,6 +141,8 @@ def compare_pages(library, example):
     check(len(pages) == 3, "the file has three pages")
     check(pages_by_handles(library, book, False) == pages, "the pages are the same by handles")
     check(pages_by_handles(library, book, True) == pages, "the pages are the same in salvage")
+    for page in pages:
+        check(pages_by_bytes(library, written_of(library, page)) == [page], "a page is the same that was written")
     printed = subprocess.run([example, name], stdout=subprocess.PIPE)
     wanted = b"".join(b"P4\n%d %d\n" % (width, height) + rows for width, height, rows in pages)
     check(printed.returncode == 0 and printed.stdout == wanted, "the example prints the pages")

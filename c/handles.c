@@ -53,3 +53,5 @@ void hayro_jbig2_context_free(hayro_jbig2_context *context) { release(context); 
 void hayro_jbig2_page_free(hayro_jbig2_page *page) { release(page); }
 
 void hayro_jbig2_file_free(hayro_jbig2_file *file) { release(file); }
+
+void hayro_jbig2_written_free(hayro_jbig2_written *written) { release(written); }

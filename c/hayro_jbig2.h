@@ -115,7 +115,11 @@ enum hayro_jbig2_answer {
     /* A handle holds something of another kind than the call wants. */
     HAYRO_JBIG2_OTHER_HANDLE = 102,
     /* No unit of the limit of work is left, so what needs more was refused. */
-    HAYRO_JBIG2_WORK_LIMIT = 103
+    HAYRO_JBIG2_WORK_LIMIT = 103,
+    /* A width or a height of 0 or above 65535, which no page that is written has. */
+    HAYRO_JBIG2_INVALID_SIDES = 104,
+    /* No template has this number. */
+    HAYRO_JBIG2_NO_SUCH_TEMPLATE = 105
 };
 
 /* How many pages a file has. */
@@ -323,6 +327,29 @@ typedef struct hayro_jbig2_region_info {
 } hayro_jbig2_region_info;
 
 uint32_t hayro_jbig2_region_get_info(const uint8_t *bytes, size_t length, hayro_jbig2_region_info *info);
+
+/* Writing: the other way, from packed rows to a page. The page is page information and one generic region, coded by the
+ * arithmetic coder. By proof each reading, with any globals, decodes it to the rows that were given, without a pixel lost;
+ * bits past the width are passed over. */
+typedef struct hayro_jbig2_written hayro_jbig2_written;
+
+typedef struct hayro_jbig2_write_settings {
+    uint32_t template_number;            /* 0 to 3: which pixels predict a pixel (GBTEMPLATE) */
+    uint32_t x_resolution, y_resolution; /* pixels for each metre; 0: not stated */
+    bool typical;                        /* a row that is as the one above it takes one decision (TPGDON) */
+    bool whole_file;                     /* a JBIG2 file of one page, or else an embedded page */
+} hayro_jbig2_write_settings;
+
+/* Writes packed rows as an embedded page, the bytes of a /JBIG2Decode stream that has no globals. A handle holds them.
+ * Returns HAYRO_JBIG2_NO_SUCH_TEMPLATE, HAYRO_JBIG2_OTHER_SIZE where rows_length is not that of the width and the height,
+ * or HAYRO_JBIG2_INVALID_SIDES, by the first of these that is so. */
+uint32_t hayro_jbig2_written_new(const hayro_jbig2_memory *memory, const uint8_t *rows, size_t rows_length,
+                                 uint32_t width, uint32_t height, const hayro_jbig2_write_settings *settings,
+                                 hayro_jbig2_written **written);
+size_t hayro_jbig2_written_length(hayro_jbig2_written *written);
+/* Copies all bytes. HAYRO_JBIG2_OTHER_SIZE where there are not `length` of them. */
+uint32_t hayro_jbig2_written_bytes(hayro_jbig2_written *written, uint8_t *bytes, size_t length);
+void hayro_jbig2_written_free(hayro_jbig2_written *written);
 
 /* A text for what a call returned, never null and never to be freed. This call and
  * hayro_jbig2_version are written in C. */

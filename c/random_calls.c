@@ -11,7 +11,7 @@
 
 /* Each thread makes so many rounds of calls at least: on a busy machine a second is over before the first. */
 enum { SLOTS = 24, MOST_FILES = 4096, FILE_HEADER = 13, FEWEST_ROUNDS = 20 };
-enum kind { GLOBALS, CONTEXT, PAGE, BOOK };
+enum kind { GLOBALS, CONTEXT, PAGE, BOOK, WRITTEN, KINDS };
 
 /* A handle, or none. Each has the address of a pointer that the library fills. */
 struct slot {
@@ -23,6 +23,7 @@ struct slot {
         hayro_jbig2_context *context;
         hayro_jbig2_page *page;
         hayro_jbig2_file *book;
+        hayro_jbig2_written *written;
     };
     uint8_t *bytes; /* what a file borrows */
 };
@@ -192,6 +193,45 @@ static void make_book(void) {
     expect_new(made, answer, true);
 }
 
+/* Writes a picture of a file's bytes, now and then of a size or by settings that are refused. */
+static void make_written(void) {
+    struct slot *made = new_slot(WRITTEN);
+    if (made == NULL)
+        return;
+    struct input input = any_input(true);
+    const hayro_jbig2_write_settings settings = {
+        .template_number = (uint32_t)below(one_in(8) ? 6 : 4),
+        .x_resolution = (uint32_t)below(UINT32_MAX),
+        .y_resolution = (uint32_t)below(UINT32_MAX),
+        .typical = one_in(2),
+        .whole_file = one_in(2),
+    };
+    uint32_t width = (uint32_t)below(200), height = (uint32_t)(input.length / ((width + 7) / 8 + 1));
+    size_t size = (size_t)(width + 7) / 8 * height, other = one_in(8) ? below(input.length + 1) : size;
+    uint32_t answer =
+        hayro_jbig2_written_new(any_memory(), input.bytes, other, width, height, &settings, &made->written);
+    CHECK((answer == HAYRO_JBIG2_NO_SUCH_TEMPLATE) == (settings.template_number > 3));
+    CHECK((answer == HAYRO_JBIG2_OTHER_SIZE) == (settings.template_number <= 3 && other != size));
+    expect_new(made, answer, true);
+    free(input.bytes);
+}
+
+static void read_written(void) {
+    struct slot *slot = any_slot(WRITTEN);
+    if (slot == NULL)
+        return;
+    bool is_right = slot->kind == WRITTEN;
+    size_t length = hayro_jbig2_written_length(slot->written), wanted = one_in(8) ? below(200) : length;
+    CHECK(is_right ? length > 0 : length == 0);
+    uint8_t *bytes = malloc(wanted + 1);
+    CHECK(bytes != NULL);
+    uint32_t answer = hayro_jbig2_written_bytes(slot->written, bytes, wanted);
+    expect(answer, is_right);
+    CHECK((answer == HAYRO_JBIG2_OTHER_SIZE) == (is_right && wanted != length));
+    free(bytes);
+    let_go(slot);
+}
+
 static void draw(void) {
     struct slot *context = any_slot(CONTEXT), *drawn = any_slot(one_in(2) ? PAGE : BOOK);
     if (context != NULL && drawn != NULL) {
@@ -263,6 +303,8 @@ static void free_slot(struct slot *slot) {
         hayro_jbig2_context_free(slot->context);
     else if (slot->kind == PAGE)
         hayro_jbig2_page_free(slot->page);
+    else if (slot->kind == WRITTEN)
+        hayro_jbig2_written_free(slot->written);
     else
         hayro_jbig2_file_free(slot->book);
     free(slot->bytes);
@@ -271,7 +313,7 @@ static void free_slot(struct slot *slot) {
 }
 
 static void free_any(void) {
-    struct slot *slot = any_slot((enum kind)below(4));
+    struct slot *slot = any_slot((enum kind)below(KINDS));
     if (slot != NULL)
         free_slot(slot);
     hayro_jbig2_page_free(NULL);
@@ -306,8 +348,9 @@ static void call_on_bytes(void) {
 }
 
 static void act(void) {
-    static void (*const acts[])(void) = {make_globals, share_globals, make_context, make_page, make_book,     draw,
-                                         draw,         read_context,  read_source,  free_any,  call_on_bytes, free_any};
+    static void (*const acts[])(void) = {make_globals, share_globals, make_context, make_page,    make_book,
+                                         draw,         draw,          read_context, read_source,  free_any,
+                                         make_written, read_written,  free_any,     call_on_bytes};
     acts[below(sizeof acts / sizeof *acts)]();
 }
 

@@ -58,6 +58,10 @@ const char *hayro_jbig2_error_text(uint32_t answer) {
         return "handle of another kind";
     case HAYRO_JBIG2_WORK_LIMIT:
         return "the limit of work is reached";
+    case HAYRO_JBIG2_INVALID_SIDES:
+        return "a side of the bitmap is 0 or above 65535";
+    case HAYRO_JBIG2_NO_SUCH_TEMPLATE:
+        return "no such template";
     default:
         return "no answer of this library";
     }

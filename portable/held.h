@@ -4,7 +4,7 @@
 
 #include "instance.h"
 
-enum kind { HOLDS_GLOBALS = 1, HOLDS_PAGE, HOLDS_FILE, HOLDS_CONTEXT };
+enum kind { HOLDS_GLOBALS = 1, HOLDS_PAGE, HOLDS_FILE, HOLDS_CONTEXT, HOLDS_WRITTEN };
 
 /* What each handle begins with. */
 struct handle {
@@ -18,6 +18,7 @@ struct held {
     struct instance instance;
     uint64_t value, context, numbers;
     size_t page_count; /* of a file */
+    size_t length;     /* of what was written */
 };
 
 struct context {

@@ -21,13 +21,14 @@ const CALLED: [&str; 2] = ["jbig2_c_take", "jbig2_c_give_back"];
 
 /// The largest file of the C: in the repository, and in a packaged crate. The others are beside it.
 const MODULES: [&str; 2] = ["../portable/hayro_jbig2_module.c", "portable/hayro_jbig2_module.c"];
-const PORTABLE_FILES: [&str; 8] = [
+const PORTABLE_FILES: [&str; 9] = [
     "hayro_jbig2_module.c",
     "instance.c",
     "handles.c",
     "drawing.c",
     "bytes.c",
     "segments.c",
+    "written.c",
     "../c/handles.c",
     "../c/texts.c",
 ];

@@ -46,4 +46,6 @@ export const ERRORS = {
   101: ["NO_SUCH_PAGE", "no such page"],
   102: ["OTHER_HANDLE", "handle of another kind"],
   103: ["WORK_LIMIT", "the limit of work is reached"],
+  104: ["INVALID_SIDES", "a side of the bitmap is 0 or above 65535"],
+  105: ["NO_SUCH_TEMPLATE", "no such template"],
 };

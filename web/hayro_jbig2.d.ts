@@ -86,6 +86,18 @@ export interface DecodeOptions extends ReadingOptions {
   page?: number;
 }
 
+export interface EncodeOptions {
+  /** Which pixels predict a pixel: 0, which is the default, to 3. */
+  template?: number;
+  /** Whether a row that is as the one above it takes one decision. It is so by default. */
+  typical?: boolean;
+  /** Pixels for each metre; 0 states none. */
+  xResolution?: number;
+  yResolution?: number;
+  /** A file of one page is written, and not an embedded page. */
+  file?: boolean;
+}
+
 /** Whether bytes begin as a JBIG2 file does. Other bytes are those of an embedded page, as PDF has them. */
 export function isFile(source: Bytes): boolean;
 
@@ -145,4 +157,9 @@ export class Decoder {
    * @throws {WorkLimitReached | Jbig2Error | TypeError}
    */
   decode(bytes: Bytes, options?: DecodeOptions): DecodedPage;
+  /**
+   * Writes packed rows, as `DecodedPage.rows` has them, as an embedded page or a file.
+   * @throws {Jbig2Error | TypeError}
+   */
+  encode(rows: Bytes, width: number, height: number, options?: EncodeOptions): Uint8Array;
 }

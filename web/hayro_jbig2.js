@@ -10,6 +10,7 @@ import { DecodedPage } from "./decoded_page.js";
 import { Heap } from "./heap.js";
 import { Jbig2Error, OUT_OF_MEMORY, WORK_LIMIT, WorkLimitReached, orOutOfMemory } from "./jbig2_error.js";
 import { OpenFile, OpenGlobals } from "./opened.js";
+import { checkSides, settingsOf } from "./writing.js";
 
 export { DecodedPage, Jbig2Error, OpenFile, OpenGlobals, WorkLimitReached };
 
@@ -210,6 +211,26 @@ export class Decoder {
     });
   }
 
+  /**
+   * Writes packed rows, as `DecodedPage.rows` has them, as an embedded page, or with `file` as a file. Bits past the width
+   * are passed over. Decoding gives the picture back, without a pixel lost.
+   *
+   * `template`, from 0 to 3, says which pixels predict a pixel. With `typical` a row that is as the one above it takes
+   * one decision. `xResolution` and `yResolution` are in pixels for each metre; 0 states none.
+   * @returns {Uint8Array}
+   * @throws {Jbig2Error} INVALID_SIDES, OTHER_SIZE, NO_SUCH_TEMPLATE or OUT_OF_MEMORY
+   */
+  encode(rows, width, height, options = {}) {
+    checkSides(width, height);
+    return this.#with([bytesOf(rows), settingsOf(options)], 0, ([packed, [settings]]) => {
+      const written = this.#made(Infinity, "hayro_jbig2_written_new", ...packed, width, height, settings);
+      return this.#held(written, (written) => {
+        const size = Number(this.#run("hayro_jbig2_written_length", written));
+        return this.#copied(size, (place) => ["hayro_jbig2_written_bytes", written, place, BigInt(size)]);
+      });
+    });
+  }
+
   /** A handle of a file, or of globals as they stand. */
   #newShared(kind, stream, { strict, salvage, workLimit }) {
     const limit = workLimit ?? SHARED_WORK;
@@ -290,8 +311,13 @@ export class Decoder {
   /** The packed rows of the page that was drawn last in a context. */
   #rows(context, width, height) {
     const size = Math.ceil(width / 8) * height;
+    return this.#copied(size, (place) => ["hayro_jbig2_context_rows", context, 0n, place, BigInt(size)]);
+  }
+
+  /** What a call of these words writes into room of this size. */
+  #copied(size, words) {
     return this.#with([], size, (_, place) => {
-      this.#call(Infinity, "hayro_jbig2_context_rows", context, 0n, place, BigInt(size));
+      this.#call(Infinity, ...words(place));
       return orOutOfMemory(() => new Uint8Array(this.#exports.memory.buffer).slice(Number(place), Number(place) + size));
     });
   }

@@ -4,6 +4,7 @@ import { ERRORS } from "./errors.js";
 
 export const OUT_OF_MEMORY = 41;
 export const WORK_LIMIT = 103;
+export const INVALID_SIDES = 104;
 
 /** Why a page is not decoded: `number` and `error` as in hayro_jbig2.h, and its text, or another one, as `message`. */
 export class Jbig2Error extends Error {

@@ -46,15 +46,29 @@ static void add_stem(struct text *text, const char *name) {
     add_bytes(text, base, dot != NULL && dot > base ? (size_t)(dot - base) : strlen(base));
 }
 
-char *file_name_of_page(const struct words *words, const struct document *document, size_t index) {
-    const struct image *image = &document->images[index];
+/* The folder that -o names, and the input's stem. */
+static struct text beginning_of_name(const struct words *words, const char *input) {
     const char *folder = words->output;
     struct text name = {NULL, 0, 0};
     if (folder != NULL)
         add_bytes(&name, folder, strlen(folder));
     if (folder != NULL && folder[strlen(folder) - 1] != '/')
         add_text(&name, "/");
-    add_stem(&name, document->name);
+    add_stem(&name, input);
+    return name;
+}
+
+char *file_name_of_picture(const struct words *words, const char *input, size_t number, size_t all) {
+    struct text name = beginning_of_name(words, input);
+    if (all > 1)
+        add_text(&name, "-%0*zu", digits_of(all), number);
+    add_text(&name, ".%s", name_of_format(words->format));
+    return name.at;
+}
+
+char *file_name_of_page(const struct words *words, const struct document *document, size_t index) {
+    const struct image *image = &document->images[index];
+    struct text name = beginning_of_name(words, document->name);
     if (document->count > 1)
         add_text(&name, "-%0*zu", digits_of(document->pages), image->page);
     if (image->all > 1)

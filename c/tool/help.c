@@ -10,6 +10,7 @@
 void print_help(void) {
     fputs("usage: " PROGRAM " [OPTION ..] FILE ..          draws the pages of JBIG2 and PDF files\n"
           "       " PROGRAM " info [OPTION ..] FILE ..     lists pages and segments, and what is wrong where\n"
+          "       " PROGRAM " write [OPTION ..] PICTURE .. writes pages of black and white pictures\n"
           "\n"
           "FILE is a JBIG2 file, a PDF file, or an embedded page as PDF files have it; - is standard input.\n"
           "Globals serve the embedded page that is named before them. Globals that are named first serve all.\n"
@@ -35,6 +36,14 @@ void print_help(void) {
           "      --memory SIZE     for the decoder, for each page at once: bytes, or with K, M or G\n"
           "  -j, --jobs N          pages at once; by default one for each processor\n"
           "\n"
+          "Writing (a PICTURE is a PNG, TIFF or PBM file of black and white alone; it is read back as it was):\n"
+          "  -o, --output FILE     a JBIG2 file of one page, or FILE.pdf: a page for each picture\n"
+          "                        without -o: NAME.jb2 in this folder\n"
+          "  -f, --format FORMAT   jb2, jb2e (an embedded page, as PDF files have it; so does --embedded) or pdf\n"
+          "      --template N      which pixels predict a pixel: 0, the usual way, to 3\n"
+          "      --no-typical      codes each row, also one that is as the row above it\n"
+          "      --dpi N           pixels for each inch, in place of what a picture states\n"
+          "\n"
           "      --json            info: for programs\n"
           "  -q, --quiet           no progress and no notes\n"
           "  -h, --help            -V, --version\n"
@@ -47,7 +56,9 @@ void print_help(void) {
           "  " PROGRAM " scan.pdf -o pages/                 each JBIG2 image of a PDF file\n"
           "  " PROGRAM " scan.pdf -o scan.tiff --pages 1-3  three pages in one file\n"
           "  " PROGRAM " page.jb2e page.jb2g -o - --format pbm\n"
-          "  " PROGRAM " info scan.pdf\n",
+          "  " PROGRAM " info scan.pdf\n"
+          "  " PROGRAM " write scan.png -o scan.jb2\n"
+          "  " PROGRAM " write page-*.tiff -o scan.pdf\n",
           stdout);
 }
 
@@ -63,7 +74,7 @@ void print_version(void) {
     printf("decoder: libhayro_jbig2 %s\n", hayro_jbig2_version());
     printf("reads: JBIG2 (ITU-T T.88) in files of its own, embedded pages\n");
     print_library("reads PDF", "libqpdf", pdf_library_version());
-    printf("writes: PBM (P4)\n");
+    printf("writes: PBM (P4), JBIG2, PDF\n");
     print_library("writes PNG", "libpng", version_of_format(FORMAT_PNG));
     print_library("writes TIFF (T.6)", "libtiff", version_of_format(FORMAT_TIFF));
 }

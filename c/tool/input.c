@@ -12,6 +12,8 @@
 
 const char standard_input[] = "standard input";
 
+const char *shown_name(const char *name) { return strcmp(name, "-") == 0 ? standard_input : name; }
+
 bool read_input(const char *name, struct bytes *bytes) {
     bool is_standard = strcmp(name, "-") == 0;
     FILE *file = is_standard ? stdin : fopen(name, "rb");

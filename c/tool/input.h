@@ -13,6 +13,8 @@ struct bytes {
 
 /* What messages call standard input. A file may have this name too, so who wants to know compares the addresses. */
 extern const char standard_input[];
+/* An input as messages name it: standard input for "-". */
+const char *shown_name(const char *name);
 
 /* Reads a file, or standard input where its name is "-". False with errno set where it can't be read. */
 bool read_input(const char *name, struct bytes *bytes);

@@ -7,8 +7,6 @@
 #include <errno.h>
 #include <string.h>
 
-static const char *shown_name(const char *name) { return strcmp(name, "-") == 0 ? standard_input : name; }
-
 static bool read_or_say(const char *name, struct bytes *bytes, struct text *messages) {
     bool is_read = read_input(name, bytes);
     if (!is_read)

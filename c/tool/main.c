@@ -3,6 +3,7 @@
 #include "info.h"
 #include "jobs.h"
 #include "temporary.h"
+#include "write.h"
 
 #include <errno.h>
 #include <fcntl.h>
@@ -26,6 +27,17 @@ static void hold_standard_streams(void) {
             open("/dev/null", modes[i]);
 }
 
+static enum status do_command(const struct words *words) {
+    switch (words->command) {
+    case INFO:
+        return print_info(words);
+    case WRITE:
+        return write_all(words);
+    default:
+        return draw_all(words);
+    }
+}
+
 int main(int count, char **all) {
     static char room[1 << 12];
     struct words words;
@@ -35,9 +47,9 @@ int main(int count, char **all) {
     enum request request = read_words(&words, count, all);
     if (request == GO_ON) {
         watch_for_signals();
-        enum status status = words.is_info ? print_info(&words) : draw_all(&words);
+        enum status status = do_command(&words);
         free_words(&words);
-        return words.is_info ? end_with(status) : status;
+        return words.command == INFO ? end_with(status) : status;
     }
     free_words(&words);
     return end_with(request == STOP_WELL ? ALL_WHOLE : WRONG_WORDS);

@@ -25,6 +25,8 @@ static bool fail(const struct output *output, struct text *reason, const char *w
     return fail_by_name(output->name != NULL ? output->name : "standard output", reason, why);
 }
 
+bool fail_by_system(const struct output *output, struct text *reason) { return fail(output, reason, NULL); }
+
 /* TIFF for an output that has no places is written to another file first. */
 static bool fail_to_write(const struct output *output, struct text *reason) {
     bool is_beside = output->format == FORMAT_TIFF && output->temporary == NULL;
@@ -96,8 +98,15 @@ bool add_picture(struct output *output, const struct picture *picture, struct te
     case FORMAT_TIFF:
         is_added = add_tiff_page(output->tiff, picture, reason);
         break;
+    default:
+        break;
     }
     return is_added || fail_to_write(output, reason);
+}
+
+bool add_stream(struct output *output, const struct bytes *stream, struct text *reason) {
+    errno = 0;
+    return fwrite(stream->at, 1, stream->length, output->file) == stream->length || fail_by_system(output, reason);
 }
 
 static bool copy_all(FILE *from, FILE *to) {

@@ -2,6 +2,7 @@
 #ifndef HAYRO_TOOL_OUTPUT_H
 #define HAYRO_TOOL_OUTPUT_H
 
+#include "input.h"
 #include "picture.h"
 
 struct output {
@@ -21,6 +22,9 @@ bool is_overwritten(const char *name);
 /* Each returns false with a reason, "page.png: No space left on device", and then the output is to be abandoned. */
 bool open_output(struct output *output, const char *name, enum format format, bool is_forced, struct text *reason);
 bool add_picture(struct output *output, const struct picture *picture, struct text *reason);
+bool add_stream(struct output *output, const struct bytes *stream, struct text *reason);
+/* Adds what errno says, and returns false. */
+bool fail_by_system(const struct output *output, struct text *reason);
 /* Gives the file its name. The output is closed in any case. */
 bool finish_output(struct output *output, struct text *reason);
 void abandon_output(struct output *output);

@@ -17,9 +17,11 @@ uint32_t rows_at_once(const struct picture *picture) {
 }
 
 const char *name_of_format(enum format format) {
-    static const char *const names[] = {"png", "pbm", "tiff"};
+    static const char *const names[] = {"png", "pbm", "tiff", "jb2", "jb2e", "pdf"};
     return names[format];
 }
+
+bool is_drawn_format(enum format format) { return format <= FORMAT_TIFF; }
 
 const char *version_of_format(enum format format) {
     switch (format) {

@@ -21,8 +21,10 @@ bool read_rows(const struct picture *picture, uint32_t first, uint32_t count, ui
 /* How many rows a writer takes at once, about 64 KiB. */
 uint32_t rows_at_once(const struct picture *picture);
 
-enum format { FORMAT_PNG, FORMAT_PBM, FORMAT_TIFF };
+/* What pages are drawn as, and what `write` makes: a JBIG2 file, an embedded page, a PDF file. */
+enum format { FORMAT_PNG, FORMAT_PBM, FORMAT_TIFF, FORMAT_JBIG2, FORMAT_EMBEDDED, FORMAT_PDF };
 
+bool is_drawn_format(enum format format);
 /* "png" and so on. */
 const char *name_of_format(enum format format);
 /* The version of the library that writes the format, "" where it needs none, NULL where it was built without. */

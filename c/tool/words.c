@@ -14,17 +14,30 @@
 #include <unistd.h>
 
 enum { MOST_JOBS = 256 };
-enum { FORCE = 256, STRICTLY, SALVAGED, PASSWORD, WORK, MEMORY, JSON };
+enum { FORCE = 256, STRICTLY, SALVAGED, PASSWORD, WORK, MEMORY, JSON, TEMPLATE, TYPICAL, NOT_TYPICAL, EMBEDDED, DPI };
 
 static const struct option options[] = {
-    {"output", required_argument, NULL, 'o'}, {"format", required_argument, NULL, 'f'},
-    {"pages", required_argument, NULL, 'p'},  {"globals", required_argument, NULL, 'g'},
-    {"jobs", required_argument, NULL, 'j'},   {"quiet", no_argument, NULL, 'q'},
-    {"help", no_argument, NULL, 'h'},         {"version", no_argument, NULL, 'V'},
-    {"force", no_argument, NULL, FORCE},      {"strict", no_argument, NULL, STRICTLY},
-    {"salvage", no_argument, NULL, SALVAGED}, {"password", required_argument, NULL, PASSWORD},
-    {"work", required_argument, NULL, WORK},  {"memory", required_argument, NULL, MEMORY},
-    {"json", no_argument, NULL, JSON},        {NULL, 0, NULL, 0},
+    {"output", required_argument, NULL, 'o'},
+    {"format", required_argument, NULL, 'f'},
+    {"pages", required_argument, NULL, 'p'},
+    {"globals", required_argument, NULL, 'g'},
+    {"jobs", required_argument, NULL, 'j'},
+    {"quiet", no_argument, NULL, 'q'},
+    {"help", no_argument, NULL, 'h'},
+    {"version", no_argument, NULL, 'V'},
+    {"force", no_argument, NULL, FORCE},
+    {"strict", no_argument, NULL, STRICTLY},
+    {"salvage", no_argument, NULL, SALVAGED},
+    {"password", required_argument, NULL, PASSWORD},
+    {"work", required_argument, NULL, WORK},
+    {"memory", required_argument, NULL, MEMORY},
+    {"json", no_argument, NULL, JSON},
+    {"template", required_argument, NULL, TEMPLATE},
+    {"typical", no_argument, NULL, TYPICAL},
+    {"no-typical", no_argument, NULL, NOT_TYPICAL},
+    {"embedded", no_argument, NULL, EMBEDDED},
+    {"dpi", required_argument, NULL, DPI},
+    {NULL, 0, NULL, 0},
 };
 
 /* A whole number of decimal digits at `*at`, which moves after it. */
@@ -93,7 +106,8 @@ static bool read_format(struct words *words, const char *name) {
     static const struct {
         const char *name;
         enum format format;
-    } names[] = {{"png", FORMAT_PNG}, {"pbm", FORMAT_PBM}, {"tiff", FORMAT_TIFF}, {"tif", FORMAT_TIFF}};
+    } names[] = {{"png", FORMAT_PNG},   {"pbm", FORMAT_PBM},     {"tiff", FORMAT_TIFF},     {"tif", FORMAT_TIFF},
+                 {"jb2", FORMAT_JBIG2}, {"jbig2", FORMAT_JBIG2}, {"jb2e", FORMAT_EMBEDDED}, {"pdf", FORMAT_PDF}};
     words->has_format = false;
     for (size_t i = 0; i < sizeof names / sizeof *names; i++)
         if (strcmp(name, names[i].name) == 0) {
@@ -107,6 +121,22 @@ static bool set_way(struct words *words, enum way way) {
     bool is_other = words->reading.way != LENIENT && words->reading.way != way;
     words->reading.way = way;
     return !is_other;
+}
+
+static bool read_template(struct words *words, const char *at) {
+    uint64_t number;
+    bool is_number = read_number(&at, &number) && *at == '\0' && number <= 3;
+    words->writing.template_number = is_number ? (uint32_t)number : 0;
+    return is_number;
+}
+
+/* Pixels for each inch, as pixels for each metre. */
+static bool read_dpi(struct words *words, const char *at) {
+    enum { MOST = 100000000 };
+    uint64_t number;
+    bool is_number = read_number(&at, &number) && *at == '\0' && number >= 1 && number <= MOST;
+    words->resolution = is_number ? (uint32_t)((number * 10000 + 127) / 254) : 0;
+    return is_number;
 }
 
 /* False where the option's own word is wrong. */
@@ -139,6 +169,17 @@ static bool take_option(struct words *words, int option, const char *word) {
         return read_work(&words->reading, word);
     case MEMORY:
         return read_size(word, &words->reading.memory);
+    case TEMPLATE:
+        return read_template(words, word);
+    case TYPICAL:
+    case NOT_TYPICAL:
+        words->writing.typical = option == TYPICAL;
+        return true;
+    case EMBEDDED:
+        words->is_embedded = true;
+        return true;
+    case DPI:
+        return read_dpi(words, word);
     default:
         return words->is_json = true;
     }
@@ -168,6 +209,45 @@ static enum request wrong_option(const char *word) {
     return wrong(what, NULL);
 }
 
+static void note_option(struct words *words, int option) {
+    for (size_t i = 0; options[i].name != NULL; i++)
+        if (options[i].val == option)
+            words->given |= (uint64_t)1 << i;
+}
+
+/* Whether `write` has an option, and whether another command has. */
+static bool belongs_to(int option, bool is_write) {
+    switch (option) {
+    case 'o':
+    case 'f':
+    case 'q':
+    case FORCE:
+        return true;
+    case TEMPLATE:
+    case TYPICAL:
+    case NOT_TYPICAL:
+    case EMBEDDED:
+    case DPI:
+        return is_write;
+    default:
+        return !is_write;
+    }
+}
+
+/* The name of an option that was given and belongs to other commands, or NULL. */
+static const char *foreign_option(const struct words *words) {
+    for (size_t i = 0; options[i].name != NULL; i++)
+        if ((words->given >> i & 1) != 0 && !belongs_to(options[i].val, words->command == WRITE))
+            return options[i].name;
+    return NULL;
+}
+
+static enum request wrong_command(const struct words *words) {
+    char what[40];
+    snprintf(what, sizeof what, "--%s is for", foreign_option(words));
+    return wrong(what, words->command == WRITE ? "reading, not for write" : "the command write");
+}
+
 static enum request read_options(struct words *words, int count, char **all) {
     int option;
     opterr = 0;
@@ -180,6 +260,7 @@ static enum request read_options(struct words *words, int count, char **all) {
             return wrong("a word is missing after", all[optind - 1]);
         if (option == '?')
             return wrong_option(all[optind - 1]);
+        note_option(words, option);
         if (!take_option(words, option, optarg)) {
             char what[40];
             snprintf(what, sizeof what, "wrong word for --%s:", name_of_option(option));
@@ -202,6 +283,24 @@ static bool choose_format(struct words *words) {
     return read_format(words, dot + 1);
 }
 
+/* `write` makes a JBIG2 file, if nothing else says otherwise. */
+static enum request check_format(struct words *words) {
+    bool is_write = words->command == WRITE;
+    if (!choose_format(words))
+        return wrong("no format for the ending of (or give --format)", words->output);
+    if (is_write && !words->has_format)
+        words->format = FORMAT_JBIG2;
+    if (is_drawn_format(words->format) && is_write)
+        return wrong("write makes JBIG2 and PDF files, not", name_of_format(words->format));
+    if (!is_drawn_format(words->format) && !is_write)
+        return wrong("the command write makes files of", name_of_format(words->format));
+    if (words->is_embedded && words->format == FORMAT_PDF)
+        return wrong("--embedded is not for PDF", NULL);
+    if (words->is_embedded)
+        words->format = FORMAT_EMBEDDED;
+    return GO_ON;
+}
+
 static enum request check_words(struct words *words) {
     size_t standard_inputs = words->globals != NULL && strcmp(words->globals, "-") == 0;
     if (words->input_count == 0)
@@ -210,28 +309,32 @@ static enum request check_words(struct words *words) {
         standard_inputs += strcmp(words->inputs[i], "-") == 0;
     if (standard_inputs > 1)
         return wrong("standard input can be read once", NULL);
-    if (words->is_info && (words->output != NULL || words->has_format))
+    if (words->command == INFO && (words->output != NULL || words->has_format))
         return wrong("info writes to standard output", NULL);
-    if (!words->is_info && words->is_json)
+    if (words->command != INFO && words->is_json)
         return wrong("--json is for info", NULL);
+    if (foreign_option(words) != NULL)
+        return wrong_command(words);
     if (words->output == NULL && words->input_count == 1 && strcmp(words->inputs[0], "-") == 0)
         words->output = "-";
-    if (!choose_format(words))
-        return wrong("no format for the ending of (or give --format)", words->output);
+    enum request request = check_format(words);
+    if (request != GO_ON)
+        return request;
     bool is_terminal =
-        !words->is_info && words->output != NULL && strcmp(words->output, "-") == 0 && isatty(STDOUT_FILENO);
+        words->command != INFO && words->output != NULL && strcmp(words->output, "-") == 0 && isatty(STDOUT_FILENO);
     return is_terminal ? wrong("no picture is written to a terminal: give -o FILE", NULL) : GO_ON;
 }
 
 enum request read_words(struct words *words, int count, char **all) {
-    *words = (struct words){.reading = {.way = LENIENT, .memory = SIZE_MAX}, .password = NULL};
+    *words = (struct words){.reading = {.way = LENIENT, .memory = SIZE_MAX}, .writing = {.typical = true}};
     enum request request = read_options(words, count, all);
     if (request != GO_ON)
         return request;
     /* Without even a name, the place after it is past the end. */
     int first = optind < count ? optind : count;
-    words->is_info = first < count && strcmp(all[first], "info") == 0;
-    first += words->is_info;
+    const char *command = first < count ? all[first] : "";
+    words->command = strcmp(command, "info") == 0 ? INFO : strcmp(command, "write") == 0 ? WRITE : DRAW;
+    first += words->command != DRAW;
     words->inputs = all + first;
     words->input_count = (size_t)(count - first);
     if (words->jobs == 0) {

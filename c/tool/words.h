@@ -9,8 +9,11 @@ struct range {
     size_t first, last; /* from 1 */
 };
 
+enum command { DRAW, INFO, WRITE };
+
 struct words {
-    bool is_info, is_json;
+    enum command command;
+    bool is_json;
     char **inputs;
     size_t input_count;
     const char *globals, *password;
@@ -21,7 +24,11 @@ struct words {
     size_t range_count;
     bool is_forced, is_quiet;
     struct reading reading;
+    hayro_jbig2_write_settings writing;
+    uint32_t resolution; /* of what is written, in pixels for each metre; 0 where each picture's is taken */
     unsigned jobs;
+    bool is_embedded; /* what is written */
+    uint64_t given;   /* which options were given, by their places in the list */
 };
 
 /* What is to be done after the words were read. */

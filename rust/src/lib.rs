@@ -53,6 +53,7 @@ extern crate alloc;
 
 mod context;
 mod decoder;
+mod encode;
 mod error;
 mod file;
 mod globals;
@@ -70,6 +71,7 @@ mod work;
 
 pub use context::DecoderContext;
 pub use decoder::Decoder;
+pub use encode::{EncodeError, EncodeSettings, Template, encode};
 pub use error::{
     DecodeError, FormatError, HuffmanError, OverflowError, ParseError, RegionError, Result, SegmentError, SymbolError,
     TemplateError,

@@ -33,6 +33,9 @@ export async function asPdfJs(data: Uint8Array): Promise<Uint8ClampedArray> {
   return image.width > 0 ? image.parse(data) : image.parseChunks([{ data, start: 0, end: data.length }]);
 }
 
+export const again = (decoder: Decoder, { rows, width, height }: DecodedPage): Uint8Array =>
+  decoder.encode(rows, width, height, { template: 1, typical: false, xResolution: 11811, yResolution: 11811, file: true });
+
 export async function refused(decoder: Decoder): Promise<void> {
   // @ts-expect-error: a text is no bytes.
   decoder.decode("page.jb2");

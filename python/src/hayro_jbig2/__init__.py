@@ -34,6 +34,7 @@ what anyone may have sent looks at the size first, and limits the memory of the 
 """
 
 from ._decode import Globals, decode, pages, sizes
+from ._encode import encode
 from ._library import Size
 from ._page import LeftOut, Page, PassedOver, PassedSegment
 from .errors import DecodeError as DecodeError
@@ -63,6 +64,7 @@ __all__ = [
     "PassedSegment",
     "Size",
     "decode",
+    "encode",
     "pages",
     "sizes",
 ]

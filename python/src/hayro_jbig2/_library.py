@@ -62,6 +62,11 @@ class _LeftOut(Structure):
     ]
 
 
+class _WriteSettings(Structure):
+    _fields_ = [(name, c_uint32) for name in ("template_number", "x_resolution", "y_resolution")]
+    _fields_ += [("typical", c_bool), ("whole_file", c_bool)]
+
+
 class Reading(enum.Enum):
     """How bytes are read."""
 
@@ -120,6 +125,10 @@ def _load() -> ctypes.CDLL:
         "file_get_info": (c_void_p, c_size_t, POINTER(_Info)),
         "file_draw": (c_void_p, c_size_t, c_void_p),
         "file_free": (c_void_p,),
+        "written_new": (c_void_p, *data, c_uint32, c_uint32, POINTER(_WriteSettings), handle),
+        "written_length": (c_void_p,),
+        "written_bytes": (c_void_p, POINTER(c_uint8), c_size_t),
+        "written_free": (c_void_p,),
         "error_text": (c_uint32,),
     }
     for name, types in arguments.items():
@@ -127,6 +136,7 @@ def _load() -> ctypes.CDLL:
         call.argtypes = types
         call.restype = None if name.endswith("_free") else c_uint32
     library.hayro_jbig2_file_page_count.restype = c_size_t
+    library.hayro_jbig2_written_length.restype = c_size_t
     library.hayro_jbig2_error_text.restype = c_char_p
     return library
 
@@ -381,3 +391,14 @@ def globals_of(data: bytes, reading: Reading, limit: WorkLimit) -> Globals:
 def embedded_page(stream: bytes, globals: Globals | None, reading: Reading) -> EmbeddedPage:
     """The page of a stream."""
     return _without_line_end(lambda bytes: EmbeddedPage(bytes, globals, reading), stream)
+
+
+def written(rows: bytes, width: int, height: int, settings: tuple[int, int, int, bool, bool]) -> bytes:
+    """A page that is written. The rows have the size of these sides; the settings are those of the structure."""
+    with _Handle("written", rows, len(rows), width, height, _WriteSettings(*settings)) as handle:
+        try:
+            copy = bytearray(handle._call("length"))
+            _check(handle._call("bytes", byref(c_uint8.from_buffer(copy)), len(copy)))
+            return bytes(copy)
+        except MemoryError:
+            raise _error(_OUT_OF_MEMORY) from None

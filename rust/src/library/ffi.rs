@@ -4,6 +4,8 @@
 use core::ffi::c_void;
 use core::marker::{PhantomData, PhantomPinned};
 
+use crate::EncodeSettings;
+
 /// What only the library sees into.
 #[repr(C)]
 #[derive(Debug)]
@@ -20,6 +22,8 @@ pub(super) type Context = Opaque<super::Context>;
 pub(super) type Page = Opaque<super::Page>;
 /// `hayro_jbig2_file`
 pub(super) type File = Opaque<super::File<'static>>;
+/// `hayro_jbig2_written`
+pub(super) type Written = Opaque<EncodeSettings>;
 /// `hayro_jbig2_memory`
 pub(super) type Memory = Opaque<()>;
 
@@ -52,6 +56,16 @@ pub(super) struct LeftOut {
     pub(super) page_error: u32,
     pub(super) list_segment: u32,
     pub(super) list_error: u32,
+}
+
+/// `hayro_jbig2_write_settings`
+#[repr(C)]
+pub(super) struct WriteSettings {
+    pub(super) template_number: u32,
+    pub(super) x_resolution: u32,
+    pub(super) y_resolution: u32,
+    pub(super) typical: bool,
+    pub(super) whole_file: bool,
 }
 
 unsafe extern "C" {
@@ -146,6 +160,20 @@ unsafe extern "C" {
     pub(super) fn hayro_jbig2_file_get_info(file: *mut File, index: usize, info: *mut PageInfo) -> u32;
 
     pub(super) fn hayro_jbig2_file_draw(file: *mut File, index: usize, context: *mut Context) -> u32;
+
+    pub(super) fn hayro_jbig2_written_new(
+        memory: *const Memory,
+        rows: *const u8,
+        length: usize,
+        width: u32,
+        height: u32,
+        settings: *const WriteSettings,
+        written: *mut *mut Written,
+    ) -> u32;
+
+    pub(super) fn hayro_jbig2_written_length(written: *mut Written) -> usize;
+
+    pub(super) fn hayro_jbig2_written_bytes(written: *mut Written, bytes: *mut u8, length: usize) -> u32;
 
     /// Gives back a handle of any kind.
     pub(super) fn jbig2_c_release(handle: *mut c_void);

@@ -15,6 +15,7 @@ mod numbers;
 mod page;
 #[cfg(all(not(hayro_jbig2_portable), target_arch = "x86_64"))]
 mod processor;
+mod written;
 
 use core::ptr::{self, NonNull};
 
@@ -25,6 +26,7 @@ pub(crate) use ffi::PageInfo;
 pub(crate) use file::File;
 pub(crate) use globals::Globals;
 pub(crate) use page::Page;
+pub(crate) use written::written;
 
 #[cfg(all(not(hayro_jbig2_portable), target_arch = "x86_64"))]
 core::arch::global_asm!(include_str!(concat!(env!("OUT_DIR"), "/libhayro_jbig2.s")), options(att_syntax, raw));

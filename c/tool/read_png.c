@@ -1,0 +1,122 @@
+#include "platform.h"
+
+#include "bilevel.h"
+#include "picture.h"
+
+#ifdef HAVE_PNG
+
+#include <png.h>
+#include <stdlib.h>
+#include <string.h>
+
+/* A PNG file that is read. libpng returns from its errors by a jump, so all that is to be freed is here. */
+struct reading_png {
+    struct place {
+        const uint8_t *at;
+        size_t left;
+    } place;
+    struct text *reason;
+    struct bilevel image;
+    uint8_t *pixels;
+    png_bytep *rows;
+};
+
+static void note_error(png_structp png, png_const_charp message) {
+    struct reading_png *reading = png_get_error_ptr(png);
+    if (reading->reason->length == 0)
+        add_text(reading->reason, "%s", message);
+    png_longjmp(png, 1);
+}
+
+static void ignore_warning(png_structp png, png_const_charp message) { (void)png, (void)message; }
+
+static void give_bytes(png_structp png, png_bytep room, png_size_t count) {
+    struct place *place = png_get_io_ptr(png);
+    if (place->left < count)
+        png_error(png, "the PNG picture is cut off");
+    memcpy(room, place->at, count);
+    place->at += count;
+    place->left -= count;
+}
+
+/* Gray of any depth, or colours of a palette, whose pixels become bytes. */
+static void ask_for_shades(png_structp png, png_infop info) {
+    struct reading_png *reading = png_get_error_ptr(png);
+    int type = png_get_color_type(png, info);
+    bool is_clear = (type & PNG_COLOR_MASK_ALPHA) != 0 || png_get_valid(png, info, PNG_INFO_tRNS) != 0;
+    if (is_clear)
+        add_not_bilevel(reading->reason, "the picture has transparent pixels");
+    else if (type == PNG_COLOR_TYPE_RGB)
+        add_not_bilevel(reading->reason, "the picture has colours");
+    if (is_clear || type == PNG_COLOR_TYPE_RGB)
+        png_error(png, "");
+    png_set_expand(png);
+    png_set_interlace_handling(png);
+    png_read_update_info(png, info);
+}
+
+static void note_resolution(png_structp png, png_infop info, struct bilevel *image) {
+    png_uint_32 x = 0, y = 0;
+    int unit = PNG_RESOLUTION_UNKNOWN;
+    if (png_get_pHYs(png, info, &x, &y, &unit) != 0 && unit == PNG_RESOLUTION_METER) {
+        image->x_resolution = x;
+        image->y_resolution = y;
+    }
+}
+
+static void pack_rows(png_structp png, png_infop info, struct reading_png *reading) {
+    size_t size = png_get_rowbytes(png, info) / reading->image.width;
+    for (uint32_t y = 0; y < reading->image.height; y++)
+        if (!pack_row(&reading->image, y, reading->rows[y], size)) {
+            add_not_bilevel(reading->reason, size > 2 ? "the picture has colours" : "the picture has shades of gray");
+            png_error(png, "");
+        }
+}
+
+static bool read_by_libpng(png_structp png, png_infop info, struct reading_png *reading) {
+    struct bilevel *image = &reading->image;
+    if (setjmp(png_jmpbuf(png)))
+        return false;
+    png_set_read_fn(png, &reading->place, give_bytes);
+    png_read_info(png, info);
+    image->width = png_get_image_width(png, info);
+    image->height = png_get_image_height(png, info);
+    note_resolution(png, info, image);
+    if (!make_rows(image, reading->reason))
+        png_error(png, "");
+    ask_for_shades(png, info);
+    size_t size = png_get_rowbytes(png, info);
+    reading->pixels = room_for(size * image->height);
+    reading->rows = room_for(image->height * sizeof *reading->rows);
+    for (uint32_t y = 0; y < image->height; y++)
+        reading->rows[y] = reading->pixels + y * size;
+    png_read_image(png, reading->rows);
+    png_read_end(png, NULL);
+    pack_rows(png, info, reading);
+    return true;
+}
+
+bool read_png(const struct bytes *bytes, struct bilevels *images, struct text *reason) {
+    struct reading_png reading = {.place = {bytes->at, bytes->length}, .reason = reason};
+    png_structp png = png_create_read_struct(PNG_LIBPNG_VER_STRING, &reading, note_error, ignore_warning);
+    png_infop info = png != NULL ? png_create_info_struct(png) : NULL;
+    bool is_read = info != NULL && read_by_libpng(png, info, &reading);
+    if (is_read)
+        add_bilevel(images, &reading.image);
+    else
+        free(reading.image.rows);
+    free(reading.rows);
+    free(reading.pixels);
+    png_destroy_read_struct(&png, &info, NULL);
+    return is_read;
+}
+
+#else
+
+bool read_png(const struct bytes *bytes, struct bilevels *images, struct text *reason) {
+    (void)bytes, (void)images;
+    add_missing_package(reason, FORMAT_PNG);
+    return false;
+}
+
+#endif

@@ -1,0 +1,143 @@
+#include "platform.h"
+
+#include "bilevel.h"
+#include "picture.h"
+
+#ifdef HAVE_TIFF
+
+#include <stdlib.h>
+#include <string.h>
+#include <tiffio.h>
+
+/* The bytes of a TIFF file, as libtiff reads them. */
+struct place {
+    const struct bytes *bytes;
+    size_t at;
+};
+
+static tmsize_t give_bytes(thandle_t handle, void *room, tmsize_t count) {
+    struct place *place = handle;
+    size_t left = place->at < place->bytes->length ? place->bytes->length - place->at : 0;
+    size_t taken = (size_t)count < left ? (size_t)count : left;
+    memcpy(room, place->bytes->at + place->at, taken);
+    place->at += taken;
+    return (tmsize_t)taken;
+}
+
+static tmsize_t take_none(thandle_t handle, void *bytes, tmsize_t count) {
+    (void)handle, (void)bytes, (void)count;
+    return -1;
+}
+
+static toff_t go_to(thandle_t handle, toff_t offset, int from) {
+    struct place *place = handle;
+    place->at = (size_t)offset + (from == SEEK_CUR ? place->at : from == SEEK_END ? place->bytes->length : 0);
+    return place->at;
+}
+
+static int close_nothing(thandle_t handle) {
+    (void)handle;
+    return 0;
+}
+
+static toff_t size_of(thandle_t handle) { return ((struct place *)handle)->bytes->length; }
+
+static uint32_t resolution_of(TIFF *tiff, uint32_t tag) {
+    float number = 0;
+    uint16_t unit = RESUNIT_INCH;
+    TIFFGetFieldDefaulted(tiff, TIFFTAG_RESOLUTIONUNIT, &unit);
+    if (!TIFFGetField(tiff, tag, &number) || unit == RESUNIT_NONE)
+        return 0;
+    double each_metre = (double)number * (unit == RESUNIT_CENTIMETER ? 100 : 1 / 0.0254);
+    return each_metre >= 0.5 && each_metre < 4e9 ? (uint32_t)(each_metre + 0.5) : 0;
+}
+
+/* What of a page `write` doesn't take, or NULL. */
+static const char *fault_of(TIFF *tiff, uint16_t depth, uint16_t photometric) {
+    uint16_t samples = 1, orientation = ORIENTATION_TOPLEFT;
+    TIFFGetFieldDefaulted(tiff, TIFFTAG_SAMPLESPERPIXEL, &samples);
+    TIFFGetFieldDefaulted(tiff, TIFFTAG_ORIENTATION, &orientation);
+    bool is_gray = photometric == PHOTOMETRIC_MINISBLACK || photometric == PHOTOMETRIC_MINISWHITE;
+    if (samples != 1 || !is_gray)
+        return "the picture has colours";
+    if (depth != 1 && depth != 8)
+        return "its pixels have neither one bit nor eight";
+    if (TIFFIsTiled(tiff))
+        return "the picture is in tiles";
+    return orientation != ORIENTATION_TOPLEFT ? "the picture is turned (Orientation)" : NULL;
+}
+
+/* A row of bits or bytes, 0 for black unless the page is inverted. */
+static bool take_row(struct bilevel *image, uint32_t y, uint8_t *row, uint16_t depth, bool is_inverted) {
+    size_t size = bilevel_row_size(image);
+    if (depth == 1) {
+        for (size_t i = 0; i < size; i++)
+            image->rows[y * size + i] = is_inverted ? row[i] : (uint8_t)~row[i];
+        return true;
+    }
+    for (uint32_t x = 0; is_inverted && x < image->width; x++)
+        row[x] = (uint8_t)~row[x];
+    return pack_row(image, y, row, 1);
+}
+
+static bool read_rows_of(TIFF *tiff, struct bilevel *image, uint16_t depth, bool is_inverted, struct text *reason) {
+    uint8_t *row = room_for((size_t)TIFFScanlineSize(tiff));
+    for (uint32_t y = 0; y < image->height && reason->length == 0; y++)
+        if (TIFFReadScanline(tiff, row, y, 0) != 1)
+            add_text(reason, "the TIFF picture is damaged at row %lu", (unsigned long)y);
+        else if (!take_row(image, y, row, depth, is_inverted))
+            add_not_bilevel(reason, "the picture has shades of gray");
+    free(row);
+    return reason->length == 0;
+}
+
+static bool read_page(TIFF *tiff, struct bilevel *image, struct text *reason) {
+    uint16_t depth = 1, photometric = PHOTOMETRIC_MINISWHITE;
+    TIFFGetField(tiff, TIFFTAG_IMAGEWIDTH, &image->width);
+    TIFFGetField(tiff, TIFFTAG_IMAGELENGTH, &image->height);
+    TIFFGetFieldDefaulted(tiff, TIFFTAG_BITSPERSAMPLE, &depth);
+    TIFFGetField(tiff, TIFFTAG_PHOTOMETRIC, &photometric);
+    image->x_resolution = resolution_of(tiff, TIFFTAG_XRESOLUTION);
+    image->y_resolution = resolution_of(tiff, TIFFTAG_YRESOLUTION);
+    const char *fault = fault_of(tiff, depth, photometric);
+    if (fault != NULL)
+        add_not_bilevel(reason, fault);
+    return fault == NULL && make_rows(image, reason) &&
+           read_rows_of(tiff, image, depth, photometric == PHOTOMETRIC_MINISWHITE, reason);
+}
+
+bool read_tiff(const struct bytes *bytes, struct bilevels *images, struct text *reason) {
+    struct place place = {bytes, 0};
+    TIFFSetErrorHandler(NULL);
+    TIFFSetWarningHandler(NULL);
+    TIFF *tiff =
+        TIFFClientOpen("picture.tiff", "rm", &place, give_bytes, take_none, go_to, close_nothing, size_of, NULL, NULL);
+    bool is_there = tiff != NULL, is_read = false;
+    while (is_there) {
+        struct bilevel image = {.width = 0};
+        if (!read_page(tiff, &image, reason)) {
+            free(image.rows);
+            break;
+        }
+        add_bilevel(images, &image);
+        is_read = TIFFLastDirectory(tiff) != 0;
+        if (is_read)
+            break;
+        is_there = TIFFReadDirectory(tiff) == 1;
+    }
+    if (!is_there)
+        add_text(reason, "the TIFF file is damaged");
+    if (tiff != NULL)
+        TIFFClose(tiff);
+    return is_read;
+}
+
+#else
+
+bool read_tiff(const struct bytes *bytes, struct bilevels *images, struct text *reason) {
+    (void)bytes, (void)images;
+    add_missing_package(reason, FORMAT_TIFF);
+    return false;
+}
+
+#endif

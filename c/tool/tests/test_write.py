@@ -1,0 +1,258 @@
+"""The command `write`: pages and PDF files of pictures, which decode to these pictures again."""
+from __future__ import annotations
+
+import random
+import shutil
+import struct
+import subprocess
+import unittest
+import zlib
+
+from support import BARE, BOOK, HAS_PDF, HAS_PNG, HAS_TIFF, NOT_DONE, PNG, WHOLE, WRONG_WORDS
+from support import Case, Picture, of_numbers, pictures_of
+
+INCH = 0.0254
+
+
+def noise(width: int, height: int, seed: int = 1) -> Picture:
+    """A picture of lines that repeat now and then."""
+    chance = random.Random(seed)
+    rows = []
+    for _ in range(height):
+        rows.append(rows[-1] if rows and chance.random() < 0.5 else chance.getrandbits(width))
+    return of_numbers(rows, width)
+
+
+def p1(picture: Picture) -> bytes:
+    digits = ("".join("01"[pixel] for pixel in row) for row in pixels_of(picture))
+    return b"P1 # digits\n# and a comment\n%d\n%d\n" % (picture.width, picture.height) + "\n".join(digits).encode()
+
+
+def pixels_of(picture: Picture) -> list[list[int]]:
+    size = (picture.width + 7) // 8
+    rows = (picture.rows[y * size : (y + 1) * size] for y in range(picture.height))
+    return [[row[x // 8] >> (7 - x % 8) & 1 for x in range(picture.width)] for row in rows]
+
+
+def chunk(name: bytes, data: bytes) -> bytes:
+    return struct.pack(">I", len(data)) + name + data + struct.pack(">I", zlib.crc32(name + data))
+
+
+def png(picture: Picture, depth: int = 1, kind: int = 0, shades=(0, None), chunks: bytes = b"") -> bytes:
+    """A PNG picture of this depth and colour type, whose black and white samples these are."""
+    most = (1 << depth) - 1
+    black, white = shades[0], most if shades[1] is None else shades[1]
+    samples = {0: 1, 2: 3, 3: 1, 4: 2}[kind]
+    data = b""
+    for row in pixels_of(picture):
+        bits = "".join(f"{black if pixel else white:0{depth}b}" * samples for pixel in row)
+        bits += "0" * (-len(bits) % 8)
+        data += b"\0" + int(bits, 2).to_bytes(len(bits) // 8, "big")
+    header = struct.pack(">IIBBBBB", picture.width, picture.height, depth, kind, 0, 0, 0)
+    return PNG + chunk(b"IHDR", header) + chunks + chunk(b"IDAT", zlib.compress(data)) + chunk(b"IEND", b"")
+
+
+class Writing(Case):
+    def read_back(self, name: str) -> list[Picture]:
+        """The pages of what was written, by the command itself, which draws what the proved program does."""
+        self.assert_ends(self.run_here(name, "--strict", "-f", "pbm", "-o", "back.pbm", "--force"), WHOLE)
+        return pictures_of((self.room / "back.pbm").read_bytes())
+
+    def test_pages_read_back(self):
+        for number, (width, height) in enumerate([(1, 1), (7, 3), (64, 64), (65, 9), (200, 77)]):
+            picture = noise(width, height, number)
+            self.made(picture.pbm, "scan.pbm")
+            for words in ["-o", "scan.jb2"], ["-o", "scan.jb2e"], ["-o", "page.jb2", "--embedded"]:
+                for options in [], ["--template", str(number % 4)], ["--no-typical"], ["--typical"]:
+                    with self.subTest(width=width, words=words, options=options):
+                        self.assert_ends(self.run_here("write", "scan.pbm", *words, *options, "--force"), WHOLE)
+                        self.assertEqual(self.read_back(words[1]), [picture])
+
+    def test_what_is_written(self):
+        self.made(noise(30, 20).pbm, "scan.pbm")
+        self.assert_ends(self.run_here("write", "scan.pbm"), WHOLE)
+        self.assert_ends(self.run_here("write", "scan.pbm", "-o", "page.jb2e"), WHOLE)
+        file, page = (self.room / "scan.jb2").read_bytes(), (self.room / "page.jb2e").read_bytes()
+        self.assertTrue(file.startswith(b"\x97JB2\r\n\x1a\n\x01\x00\x00\x00\x01" + page))
+
+    def test_other_readers(self):
+        picture = noise(70, 50)
+        self.made(picture.pbm, "scan.pbm")
+        self.assert_ends(self.run_here("write", "scan.pbm", "-o", "scan.jb2"), WHOLE)
+        self.assert_ends(self.run_here("write", "scan.pbm", "scan.pbm", "-o", "scan.pdf"), WHOLE)
+        readers = {
+            "jbig2dec": (["-t", "pbm", "-o", "read.pbm", "scan.jb2"], ["read.pbm"]),
+            "pdfimages": (["scan.pdf", "image"], ["image-000.pbm", "image-001.pbm"]),
+            "gs": (["-q", "-dSAFER", "-dNOPAUSE", "-dBATCH", "-sDEVICE=pbmraw", "-r300", "-o", "gs-%d.pbm", "scan.pdf"],
+                   ["gs-1.pbm", "gs-2.pbm"]),
+            "mutool": (["draw", "-q", "-r", "300", "-o", "mu-%d.pbm", "scan.pdf"], ["mu-1.pbm", "mu-2.pbm"]),
+        }
+        for reader, (words, names) in readers.items():
+            if shutil.which(reader) is None:
+                print(f"skipped: {reader}, which is not installed")
+                continue
+            with self.subTest(reader):
+                subprocess.run([reader, *words], cwd=self.room, check=True, stdout=subprocess.DEVNULL)
+                for name in names:
+                    self.assertEqual(pictures_of((self.room / name).read_bytes()), [picture])
+
+    def test_pdf_pages(self):
+        pictures = [noise(31 + number, 20, number) for number in range(12)]
+        names = [f"{number}.pbm" for number in range(12)]
+        for name, picture in zip(names, pictures):
+            self.made(picture.pbm, name)
+        self.assert_ends(self.run_here("write", *names, "-o", "all.pdf", "--dpi", "200"), WHOLE)
+        data = (self.room / "all.pdf").read_bytes()
+        self.assertIn(b"/MediaBox [0 0 11.1600 7.2000]", data)
+        self.assertIn(b"/Count 12 ", data)
+        if HAS_PDF:
+            self.assertEqual(self.read_back("all.pdf"), pictures)
+        if shutil.which("qpdf"):
+            checked = subprocess.run(["qpdf", "--check", "all.pdf"], cwd=self.room, capture_output=True, check=False)
+            self.assertEqual((checked.returncode, checked.stderr), (0, b""))
+
+    def test_resolution(self):
+        picture = noise(30, 20)
+        self.made(picture.pbm, "scan.pbm")
+        for dpi, number in (72, 2835), (300, 11811), (1200, 47244):
+            self.assert_ends(self.run_here("write", "scan.pbm", "-o", "a.jb2e", "--dpi", str(dpi), "--force"), WHOLE)
+            stated = struct.unpack(">II", (self.room / "a.jb2e").read_bytes()[22:30])
+            self.assertEqual((stated, round(dpi / INCH)), ((number, number), number))
+        if HAS_PNG:
+            self.made(png(picture, chunks=chunk(b"pHYs", struct.pack(">IIB", 7874, 3937, 1))), "scan.png")
+            self.assert_ends(self.run_here("write", "scan.png", "-o", "a.jb2e", "--force"), WHOLE)
+            self.assertEqual(struct.unpack(">II", (self.room / "a.jb2e").read_bytes()[22:30]), (7874, 3937))
+            self.assert_ends(self.run_here("write", "scan.png", "-o", "a.pdf"), WHOLE)
+            self.assertIn(b"/MediaBox [0 0 10.8000 14.4000]", (self.room / "a.pdf").read_bytes())
+
+    def test_pbm_forms(self):
+        picture = noise(37, 9)
+        for name, data in {"digits": p1(picture), "two": picture.pbm + picture.pbm}.items():
+            self.made(data, f"{name}.pbm")
+            self.assert_ends(self.run_here("write", f"{name}.pbm", "-o", f"{name}.pdf"), WHOLE)
+            if HAS_PDF:
+                self.assertEqual(self.read_back(f"{name}.pdf"), [picture] * (1 + (name == "two")))
+        for data in b"P4\n8 8\n1234567", b"P4\n8\n", b"P1\n2 2\n0 1 0", b"P1\n2 2\n0 1 0 2", b"P4 8 1\nx P5":
+            self.made(data, "bad.pbm")
+            self.assert_ends(self.run_here("write", "bad.pbm", "-o", "bad.jb2"), NOT_DONE, "bad.pbm: ")
+        for sides in b"0 8", b"8 0", b"65536 1", b"1 65536", b"99999999999999999999 1":
+            self.made(b"P4 " + sides + b"\n" + bytes(70000), "bad.pbm")
+            self.assert_ends(self.run_here("write", "bad.pbm", "-o", "bad.jb2"), NOT_DONE, "a page has 1 to 65535")
+        self.assertNotIn("bad.jb2", self.files())
+
+    @unittest.skipUnless(HAS_PNG, "built without libpng")
+    def test_png_forms(self):
+        picture = noise(37, 9)
+        palette = chunk(b"PLTE", bytes([0, 0, 0, 255, 255, 255]))
+        good = {
+            **{f"depth {depth}": png(picture, depth) for depth in (1, 2, 4, 8, 16)},
+            "a palette": png(picture, 1, 3, chunks=palette),
+            "a palette of 8 bits": png(picture, 8, 3, (0, 1), palette),
+        }
+        bad = {
+            "shades of gray": png(picture, 8, 0, (0, 254)),
+            "gray": png(picture, 16, 0, (0, 0xFFFE)),
+            "colours": png(picture, 8, 2),
+            "transparent": png(picture, 8, 4),
+            "has colours": png(picture, 1, 3, chunks=chunk(b"PLTE", bytes([0, 0, 0, 255, 255, 254]))),
+            "transparent pixels": png(picture, 1, 0, chunks=chunk(b"tRNS", b"\0\0")),
+            "": png(picture)[:-30],
+        }
+        for name, data in good.items():
+            with self.subTest(name):
+                self.made(data, "scan.png")
+                self.assert_ends(self.run_here("write", "scan.png", "-o", "scan.jb2", "--force"), WHOLE)
+                self.assertEqual(self.read_back("scan.jb2"), [picture])
+        for text, data in bad.items():
+            with self.subTest(text):
+                self.made(data, "bad.png")
+                self.assert_ends(self.run_here("write", "bad.png", "-o", "bad.jb2"), NOT_DONE, "bad.png: ", text)
+        self.assertNotIn("bad.jb2", self.files())
+
+    @unittest.skipUnless(HAS_TIFF, "built without libtiff")
+    def test_tiff(self):
+        pictures = [noise(37, 9, 2), noise(64, 5, 3), noise(8, 8, 4)]
+        self.made(b"".join(picture.pbm for picture in pictures), "all.pbm")
+        self.assert_ends(self.run_here("write", "all.pbm", "-o", "pages/"), WHOLE)
+        self.assert_ends(self.run_here("pages/all-1.jb2", "pages/all-2.jb2", "pages/all-3.jb2", "-o", "all.tiff"), WHOLE)
+        self.assert_ends(self.run_here("write", "all.tiff", "-o", "again/", "-f", "jb2e"), WHOLE)
+        for number, picture in enumerate(pictures, 1):
+            self.assertEqual(self.read_back(f"again/all-{number}.jb2e"), [picture])
+        for short in range(8, 400, 37):
+            self.made((self.room / "all.tiff").read_bytes()[:short], "bad.tiff")
+            self.assertEqual(self.run_here("write", "bad.tiff", "-o", "bad.pdf").status, NOT_DONE)
+        self.assertNotIn("bad.pdf", self.files())
+
+    def test_several(self):
+        picture = noise(20, 20)
+        self.made(picture.pbm, "a.pbm")
+        self.made(picture.pbm * 2, "b.pbm")
+        said = "name a PDF file or a folder for several"
+        self.assert_ends(self.run_here("write", "a.pbm", "b.pbm", "-o", "c.jb2"), NOT_DONE, said)
+        self.assert_ends(self.run_here("write", "b.pbm", "-o", "c.jb2"), NOT_DONE, said)
+        self.assert_ends(self.run_here("write", "a.pbm", "b.pbm", "-o", "c/"), WHOLE)
+        self.assertEqual(sorted(path.name for path in (self.room / "c").iterdir()), ["a.jb2", "b-1.jb2", "b-2.jb2"])
+        self.assert_ends(self.run_here("write", "a.pbm", "./a.pbm", "-o", "d/"), NOT_DONE, "another of this run")
+        # A PDF file that lacks pages doesn't appear.
+        self.assert_ends(self.run_here("write", "a.pbm", "none.pbm", "b.pbm", "-o", "c.pdf"), NOT_DONE, "none.pbm: ")
+        self.assertNotIn("c.pdf", self.files())
+
+    def test_nothing_is_overwritten(self):
+        self.made(noise(20, 20).pbm, "a.pbm")
+        for name in "a.jb2", "a.pdf":
+            self.made(b"mine", name)
+            self.assert_ends(self.run_here("write", "a.pbm", "-o", name), NOT_DONE, "--force overwrites it")
+            self.assertEqual((self.room / name).read_bytes(), b"mine")
+            self.assert_ends(self.run_here("write", "a.pbm", "-o", name, "--force"), WHOLE)
+            self.assertNotEqual((self.room / name).read_bytes(), b"mine")
+
+    def test_standard_streams(self):
+        picture = noise(20, 20)
+        ended = self.run_here("write", "-", input=picture.pbm)
+        self.assertEqual((ended.status, ended.errors), (WHOLE, ""))
+        (self.room / "a.jb2").write_bytes(ended.output)
+        self.assertEqual(self.read_back("a.jb2"), [picture])
+        ended = self.run_here("write", "-", "-f", "pdf", "-o", "-", input=picture.pbm)
+        self.assertTrue(ended.output.startswith(b"%PDF-1.4\n") and ended.output.endswith(b"%%EOF\n"))
+        ended = self.run_here("write", "-", "-o", "/dev/full", input=picture.pbm)
+        self.assertEqual((ended.status, ended.errors), (NOT_DONE, "hayro-jbig2: /dev/full: No space left on device\n"))
+        ended = self.run_here("write", "-", "-f", "pdf", "-o", "/dev/full", input=picture.pbm)
+        self.assertEqual((ended.status, ended.errors), (NOT_DONE, "hayro-jbig2: /dev/full: No space left on device\n"))
+
+    def test_other_inputs(self):
+        for name, data, said in ("a.jb2", BOOK, "a JBIG2 file"), ("a.txt", b"words\n", "text"), ("a", b"", "an empty file"):
+            self.made(data, name)
+            self.assert_ends(self.run_here("write", name, "-o", "b.jb2"), NOT_DONE, f"{name}: this is {said}; write takes")
+        self.assert_ends(self.run_here("write", "none.png", "-o", "b.jb2"), NOT_DONE, "none.png: No such file or directory")
+
+    def test_words(self):
+        self.made(noise(20, 20).pbm, "a.pbm")
+        wrong = {
+            "name a file": [],
+            "not png": ["a.pbm", "-o", "a.png"],
+            "no format for the ending of": ["a.pbm", "-o", "a.xyz"],
+            "wrong word for --template: 4": ["a.pbm", "--template", "4"],
+            "wrong word for --dpi: 0": ["a.pbm", "--dpi", "0"],
+            "--embedded is not for PDF": ["a.pbm", "--embedded", "-o", "a.pdf"],
+            "--salvage is for reading": ["a.pbm", "--salvage"],
+            "--pages is for reading": ["a.pbm", "--pages", "1"],
+            "--json is for info": ["a.pbm", "--json"],
+        }
+        for said, words in wrong.items():
+            with self.subTest(said):
+                self.assert_ends(self.run_here("write", *words), WRONG_WORDS, said)
+        for words in ["--dpi", "300"], ["--no-typical"], ["--template=1"], ["--embedded"]:
+            self.assert_ends(self.run_here("a.jb2", *words), WRONG_WORDS, "is for the command write")
+        self.assert_ends(self.run_here("a.jb2", "-o", "a.pdf"), WRONG_WORDS, "the command write makes files of pdf")
+
+    def test_without_libraries(self):
+        self.made(png(noise(20, 20)), "a.png")
+        self.made(b"II*\0", "a.tiff")
+        for name, library in ("a.png", "libpng"), ("a.tiff", "libtiff"):
+            ended = self.run_here("write", name, "-o", "b.jb2", program=BARE)
+            self.assertEqual(ended.status, NOT_DONE)
+            self.assertIn(f"needs {library}", ended.errors)
+
+
+if __name__ == "__main__":
+    unittest.main()

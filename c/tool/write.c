@@ -1,0 +1,177 @@
+#include "platform.h"
+
+#include "write.h"
+
+#include "bilevel.h"
+#include "file_names.h"
+#include "output.h"
+#include "pdf_writer.h"
+
+#include <errno.h>
+#include <stdlib.h>
+#include <string.h>
+
+/* What is written. A PDF file gets a page after the other. */
+struct writing {
+    const struct words *words;
+    const char *single_name; /* NULL: standard output, or a file for each image */
+    bool is_single;
+    struct names names;
+    struct output output;
+    struct pdf_writer pdf;
+    bool is_pdf_open;
+};
+
+static bool copy_written(hayro_jbig2_written *written, struct bytes *stream) {
+    stream->length = hayro_jbig2_written_length(written);
+    stream->at = room_for(stream->length);
+    bool is_copied = hayro_jbig2_written_bytes(written, stream->at, stream->length) == HAYRO_JBIG2_OK;
+    hayro_jbig2_written_free(written);
+    return is_copied;
+}
+
+/* The image as a page or a file. */
+static bool encode(const struct writing *writing, const struct bilevel *image, struct bytes *stream,
+                   struct text *reason) {
+    hayro_jbig2_write_settings settings = writing->words->writing;
+    hayro_jbig2_written *written = NULL;
+    settings.x_resolution = image->x_resolution;
+    settings.y_resolution = image->y_resolution;
+    settings.whole_file = writing->words->format == FORMAT_JBIG2;
+    uint32_t answer = hayro_jbig2_written_new(NULL, image->rows, bilevel_row_size(image) * image->height, image->width,
+                                              image->height, &settings, &written);
+    if (answer == HAYRO_JBIG2_OK && copy_written(written, stream))
+        return true;
+    add_text(reason, "%s", hayro_jbig2_error_text(answer));
+    return false;
+}
+
+static bool write_file(const struct writing *writing, const char *name, const struct bytes *stream,
+                       struct text *reason) {
+    struct output output;
+    const struct words *words = writing->words;
+    if (open_output(&output, name, words->format, words->is_forced, reason) && add_stream(&output, stream, reason))
+        return finish_output(&output, reason);
+    abandon_output(&output);
+    return false;
+}
+
+/* A file for each image, or the only image to the output that is named. */
+static bool write_own_file(struct writing *writing, const char *input, const struct bytes *stream, size_t index,
+                           size_t count, struct text *reason) {
+    if (writing->is_single)
+        return write_file(writing, writing->single_name, stream, reason);
+    char *name = file_name_of_picture(writing->words, shown_name(input), index + 1, count);
+    if (add_name(&writing->names, name))
+        return write_file(writing, name, stream, reason);
+    add_text(reason, "%s: picture %zu: another of this run has the name of its file", shown_name(input), index + 1);
+    return false;
+}
+
+static bool add_page(struct writing *writing, const struct bilevel *image, const struct bytes *stream,
+                     struct text *reason) {
+    const struct words *words = writing->words;
+    struct output *output = &writing->output;
+    if (!writing->is_pdf_open) {
+        if (!open_output(output, writing->single_name, FORMAT_PDF, words->is_forced, reason))
+            return false;
+        writing->pdf = (struct pdf_writer){.file = output->file};
+        writing->is_pdf_open = true;
+        if (!begin_pdf(&writing->pdf))
+            return fail_by_system(output, reason);
+    }
+    return add_pdf_page(&writing->pdf, image, stream) || fail_by_system(output, reason);
+}
+
+static bool write_image(struct writing *writing, const char *input, const struct bilevels *images, size_t index,
+                        struct text *reason) {
+    struct bilevel image = images->at[index];
+    struct bytes stream = {NULL, 0};
+    uint32_t resolution = writing->words->resolution;
+    if (resolution > 0)
+        image.x_resolution = image.y_resolution = resolution;
+    bool is_written = encode(writing, &image, &stream, reason);
+    if (is_written && writing->words->format == FORMAT_PDF)
+        is_written = add_page(writing, &image, &stream, reason);
+    else if (is_written)
+        is_written = write_own_file(writing, input, &stream, index, images->count, reason);
+    free_bytes(&stream);
+    return is_written;
+}
+
+/* A JBIG2 file that is written has one page. */
+static bool has_place_for(const struct writing *writing, const struct bilevels *images, struct text *reason) {
+    bool is_alone = images->count == 1 && writing->words->input_count == 1;
+    if (is_alone || !writing->is_single || writing->words->format == FORMAT_PDF)
+        return true;
+    add_text(reason, "a file that is written holds one page: name a PDF file or a folder for several");
+    return false;
+}
+
+/* Says which input has the fault. */
+static void name_input(const char *name, struct text *reason) {
+    struct text fault = *reason;
+    *reason = (struct text){NULL, 0, 0};
+    add_text(reason, "%s: %s", shown_name(name), fault.at);
+    free_text(&fault);
+}
+
+static bool read_images(const struct writing *writing, const char *name, struct bilevels *images, struct text *reason) {
+    struct bytes bytes = {NULL, 0};
+    bool is_read = read_input(name, &bytes);
+    if (!is_read)
+        add_text(reason, "%s", strerror(errno));
+    is_read = is_read && read_bilevels(&bytes, images, reason) && has_place_for(writing, images, reason);
+    if (!is_read)
+        name_input(name, reason);
+    free_bytes(&bytes);
+    return is_read;
+}
+
+static bool write_input(struct writing *writing, const char *name, struct text *reason) {
+    struct bilevels images = {NULL, 0};
+    bool is_written = read_images(writing, name, &images, reason);
+    for (size_t i = 0; i < images.count && is_written; i++)
+        is_written = write_image(writing, name, &images, i, reason);
+    free_bilevels(&images);
+    return is_written;
+}
+
+/* A PDF file that lacks pages doesn't appear. */
+static enum status finish_pdf(struct writing *writing, enum status status) {
+    struct text reason = {NULL, 0, 0};
+    if (!writing->is_pdf_open)
+        return status;
+    bool is_written = status == ALL_WHOLE;
+    if (is_written && !end_pdf(&writing->pdf))
+        is_written = fail_by_system(&writing->output, &reason);
+    free_pdf(&writing->pdf);
+    if (is_written)
+        is_written = finish_output(&writing->output, &reason);
+    else
+        abandon_output(&writing->output);
+    if (reason.length > 0)
+        complain("%s", reason.at);
+    free_text(&reason);
+    return is_written ? ALL_WHOLE : NOT_DONE;
+}
+
+enum status write_all(const struct words *words) {
+    struct writing writing = {.words = words};
+    struct text messages = {NULL, 0, 0};
+    enum status status = make_folder(words, &messages) ? ALL_WHOLE : NOT_DONE;
+    writing.is_single = has_single_output(words, &writing.single_name);
+    print_messages(&messages);
+    free_text(&messages);
+    for (size_t i = 0; i < words->input_count && (status == ALL_WHOLE || words->format != FORMAT_PDF); i++) {
+        const char *name = words->inputs[i];
+        struct text reason = {NULL, 0, 0};
+        if (!write_input(&writing, name, &reason)) {
+            complain("%s", reason.at);
+            status = NOT_DONE;
+        }
+        free_text(&reason);
+    }
+    free_names(&writing.names);
+    return finish_pdf(&writing, status);
+}
