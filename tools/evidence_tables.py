@@ -5,12 +5,13 @@ import re
 BLOCK = re.compile(r"(<!-- tools/evidence: (\w+) -->\n)(.*?)(<!-- end -->\n)", re.S)
 ROW = re.compile(r"(?:row (\S+)|(jbig2-\w+ .*)): (\d+) requests")
 PAIRS = 4
-# Stages that have a block of their own.
+# Stages that have a block of their own, which is written where all of their steps were run.
 OWN = ("pages", "refusals")
 
 
 def table(head, rows):
-    return ["| " + " | ".join(cells) + " |" for cells in (head, ["---"] * len(head), *rows)]
+    first, *others = ["| " + " | ".join(cells) + " |" for cells in (head, *rows)]
+    return [first, "|" + "---|" * len(head), *others]
 
 
 def pages(results, before):
@@ -48,11 +49,11 @@ def runs(stages):
                 rows.append([f"{stage}: {name}", str(result["seconds"]), figures[0].replace("|", "\\|")])
             else:
                 long += ["", f"{stage}, {name}, in {result['seconds']} s:", "", "```", *figures, "```"]
-    return [*table(["Step", "Seconds", "What it came to"], rows), *long] if rows else long
+    return [*table(["Step", "Seconds", "What it came to"], rows), *long] if rows else long[1:]
 
 
 def written(text, stages, commit):
-    """The document with these results of a commit. A block stays as it was where none of its steps was run."""
+    """The document with these results of a commit. A block stays as it was where it has no results."""
 
     def block(match):
         name, before = match[2], match[3]
