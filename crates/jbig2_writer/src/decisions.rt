@@ -54,9 +54,9 @@ fn is_as_above<B: Allocator, L: Ledger>(bitmap: &Bitmap<B>, y: u32, steps: &mut 
     true
 }
 
-/// Codes `count` pixels from the windows' column on.
+/// Codes `count` pixels from the windows' column on, each in its context.
 #[inline(always)]
-fn push_group<A: Allocator + Clone>(
+fn push_each<A: Allocator + Clone>(
     encoder: &mut ListEncoder<A>,
     neighbours: Neighbours,
     windows: Windows,
@@ -71,6 +71,29 @@ fn push_group<A: Allocator + Clone>(
         encoder.push(context, windows.is_black(offset))?;
     }
     Ok(())
+}
+
+/// Codes `count` pixels from the windows' column on. Where all is white, the compiler knows that each context is 0.
+#[inline(always)]
+fn push_group<A: Allocator + Clone>(
+    encoder: &mut ListEncoder<A>,
+    neighbours: Neighbours,
+    windows: Windows,
+    count: u32,
+) -> Result<()>
+    requires near { IsNear neighbours }
+    requires few { count ≤ 32 }
+    ensures { OnOk result (CodesGroup neighbours windows count encoder.old encoder.new) }
+{
+    if windows.row == 0 && windows.above == 0 && windows.top == 0 {
+        let white = Windows {
+            row: 0,
+            above: 0,
+            top: 0,
+        };
+        return push_each(encoder, neighbours, white, count);
+    }
+    push_each(encoder, neighbours, windows, count)
 }
 
 /// Codes the pixels of row `y`.

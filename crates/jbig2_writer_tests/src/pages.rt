@@ -1,11 +1,13 @@
-//! Tests `write_page` on small pictures. The expected bytes are those of another encoder.
+//! Tests the writer on small pictures. The expected bytes are those of another encoder.
 ghost use Rattle.std.specs.Prelude.{◌≡◌};
 
 use jbig2_base::bitmap::Bitmap;
 use jbig2_base::bitmap::steps::Steps;
 use jbig2_permit::Permit;
 use jbig2_region::template::Template;
-use jbig2_writer::{WriteError, WriteSettings, write_page};
+use jbig2_writer::{
+    WriteError, WriteSettings, write_file, write_packed, write_packed_file, write_page,
+};
 use std::alloc::Global;
 use std::marker::Brand;
 use std::sync::ledger::{Blank, Ledger};
@@ -32,30 +34,50 @@ const WIDE: Picture = &[
 /// One black pixel.
 const DOT: Picture = &["#"];
 
-/// A picture, how it is written, and the page.
+/// What comes before a page in a file: identification, flags, and the number of pages.
+const FILE_HEADER: [u8; 13] = [
+    0x97, 0x4A, 0x42, 0x32, 0x0D, 0x0A, 0x1A, 0x0A, 1, 0, 0, 0, 1,
+];
+
+/// What comes after it: an end of page and an end of file.
+const ENDS: [u8; 28] = [
+    0, 0, 0, 2, 0x71, 0, 0, 0, 0, 1, 0, 0, 0, 0, 0, 0, 0, 3, 0x73, 0, 0, 0, 0, 0, 0, 0, 0, 0,
+];
+
+/// A picture, also as packed rows, how it is written, and the page.
 struct Case {
-    template: Template,
-    typical: bool,
+    settings: WriteSettings,
     picture: Picture,
+    rows: &'static [u8],
     page: &'static [u8],
 }
 
 static CASES: [Case; 4] = [
     Case {
-        template: Template::Template0,
-        typical: true,
+        settings: WriteSettings {
+            template: Template::Template0,
+            typical: true,
+            x_resolution: Some(11811),
+            y_resolution: Some(5906),
+        },
         picture: P,
+        rows: &[0xF0, 0x88, 0x88, 0x88, 0xF0, 0x80, 0x80, 0x80],
         page: &[
-            0, 0, 0, 0, 0x70, 0, 0, 0, 0, 1, 0, 0, 0, 0x13, 0, 0, 0, 5, 0, 0, 0, 8, 0, 0, 0, 0, 0,
-            0, 0, 0, 1, 0, 0, 0, 0, 0, 1, 0x66, 0, 0, 0, 0, 1, 0, 0, 0, 0x20, 0, 0, 0, 5, 0, 0, 0,
-            8, 0, 0, 0, 0, 0, 0, 0, 0, 0, 8, 3, 0xFF, 0xFD, 0xFF, 2, 0xFE, 0xFE, 0xFE, 8, 0x2E, 4,
-            0xD7, 0xFF, 0xAC,
+            0, 0, 0, 0, 0x70, 0, 0, 0, 0, 1, 0, 0, 0, 0x13, 0, 0, 0, 5, 0, 0, 0, 8, 0, 0, 0x2E,
+            0x23, 0, 0, 0x17, 0x12, 1, 0, 0, 0, 0, 0, 1, 0x66, 0, 0, 0, 0, 1, 0, 0, 0, 0x20, 0, 0,
+            0, 5, 0, 0, 0, 8, 0, 0, 0, 0, 0, 0, 0, 0, 0, 8, 3, 0xFF, 0xFD, 0xFF, 2, 0xFE, 0xFE,
+            0xFE, 8, 0x2E, 4, 0xD7, 0xFF, 0xAC,
         ],
     },
     Case {
-        template: Template::Template1,
-        typical: false,
+        settings: WriteSettings {
+            template: Template::Template1,
+            typical: false,
+            x_resolution: None,
+            y_resolution: None,
+        },
         picture: SLOPE,
+        rows: &[0x80, 0x40, 0x20, 0x92],
         page: &[
             0, 0, 0, 0, 0x70, 0, 0, 0, 0, 1, 0, 0, 0, 0x13, 0, 0, 0, 8, 0, 0, 0, 4, 0, 0, 0, 0, 0,
             0, 0, 0, 1, 0, 0, 0, 0, 0, 1, 0x66, 0, 0, 0, 0, 1, 0, 0, 0, 0x1A, 0, 0, 0, 8, 0, 0, 0,
@@ -63,9 +85,17 @@ static CASES: [Case; 4] = [
         ],
     },
     Case {
-        template: Template::Template2,
-        typical: true,
+        settings: WriteSettings {
+            template: Template::Template2,
+            typical: true,
+            x_resolution: None,
+            y_resolution: None,
+        },
         picture: WIDE,
+        rows: &[
+            0, 0, 0, 0, 0, 0, 0, 0, 0, 0xFF, 0xFF, 0xFF, 0xFF, 0x80, 0, 0, 1, 0xFC, 0xFF, 0xFF,
+            0xFF, 0xFF, 0x80, 0, 0, 1, 0xFC, 0, 0, 0, 0, 0, 0, 0, 0, 0,
+        ],
         page: &[
             0, 0, 0, 0, 0x70, 0, 0, 0, 0, 1, 0, 0, 0, 0x13, 0, 0, 0, 0x46, 0, 0, 0, 4, 0, 0, 0, 0,
             0, 0, 0, 0, 1, 0, 0, 0, 0, 0, 1, 0x66, 0, 0, 0, 0, 1, 0, 0, 0, 0x1C, 0, 0, 0, 0x46, 0,
@@ -74,9 +104,14 @@ static CASES: [Case; 4] = [
         ],
     },
     Case {
-        template: Template::Template3,
-        typical: false,
+        settings: WriteSettings {
+            template: Template::Template3,
+            typical: false,
+            x_resolution: Some(0),
+            y_resolution: None,
+        },
         picture: DOT,
+        rows: &[0x80],
         page: &[
             0, 0, 0, 0, 0x70, 0, 0, 0, 0, 1, 0, 0, 0, 0x13, 0, 0, 0, 1, 0, 0, 0, 1, 0, 0, 0, 0, 0,
             0, 0, 0, 1, 0, 0, 0, 0, 0, 1, 0x66, 0, 0, 0, 0, 1, 0, 0, 0, 0x18, 0, 0, 0, 1, 0, 0, 0,
@@ -103,19 +138,44 @@ fn bitmap_of<L: Ledger>(
     Ok(bitmap)
 }
 
-/// Whether the page that is written is the expected one.
+/// A page in a file.
+fn file_of(alloc: Global, page: &[u8]) -> Result<Vec<u8>, WriteError> {
+    let mut file = Vec::new(alloc);
+    file.extend_from_slice(&FILE_HEADER)?;
+    file.extend_from_slice(page)?;
+    file.extend_from_slice(&ENDS)?;
+    Ok(file)
+}
+
+/// Whether the page and the file that are written of a bitmap are the expected ones.
 fn is_written<L: Ledger>(
     alloc: Global,
     case: &Case,
     steps: &mut Steps<L>,
 ) -> Result<bool, WriteError> {
     let bitmap = bitmap_of(alloc, case.picture, steps)?;
-    let settings = WriteSettings {
-        template: case.template,
-        typical: case.typical,
-    };
-    let page = write_page(alloc, &bitmap, &settings, steps)?;
-    Ok(page.as_slice() == case.page)
+    let page = write_page(alloc, &bitmap, &case.settings, steps)?;
+    let file = write_file(alloc, &bitmap, &case.settings, steps)?;
+    let expected = file_of(alloc, case.page)?;
+    Ok(page.as_slice() == case.page && file.as_slice() == expected.as_slice())
+}
+
+/// Whether those that are written of packed rows are the expected ones.
+fn is_written_of_rows<L: Ledger>(
+    alloc: Global,
+    case: &Case,
+    steps: &mut Steps<L>,
+) -> Result<bool, WriteError> {
+    let bitmap = bitmap_of(alloc, case.picture, steps)?;
+    let width = bitmap.width();
+    let height = bitmap.height();
+    if case.rows.len() as u64 != u64::from(width.div_ceil(8)) * u64::from(height) {
+        return Ok(false);
+    }
+    let page = write_packed(alloc, case.rows, width, height, &case.settings, steps)?;
+    let file = write_packed_file(alloc, case.rows, width, height, &case.settings, steps)?;
+    let expected = file_of(alloc, case.page)?;
+    Ok(page.as_slice() == case.page && file.as_slice() == expected.as_slice())
 }
 
 /// The index of the first case whose page is not the expected one, or else the number of cases.
@@ -126,7 +186,7 @@ fn first_that_differs<L: Ledger>(alloc: Global, blank: Blank) -> Result<usize, W
 {
     let mut steps: Steps<L> = Steps::new(Permit::grant(), blank);
     for (index, case) in CASES.iter().enumerate() {
-        if !is_written(alloc, case, &mut steps)? {
+        if !(is_written(alloc, case, &mut steps)? && is_written_of_rows(alloc, case, &mut steps)?) {
             return Ok(index);
         }
     }

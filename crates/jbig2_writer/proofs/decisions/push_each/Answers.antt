@@ -2,7 +2,7 @@ use Rattle.std.proofs.Common.{◌≡◌, ◌+◌, arith, ap}
 use Rattle.jbig2_writer.specs.inner.Rows.{pixel_decisions}
 use Rattle.jbig2_writer.specs.inner.Windows.{neighbour_pixels}
 use Rattle.jbig2_writer.proofs.RowLemmas.{goes-nowhere, group-more}
-use Rattle.jbig2_writer.proofs.decisions.push_group.Goals as goal
+use Rattle.jbig2_writer.proofs.decisions.push_each.Goals as goal
 
 pub loop-offset-init : goal.loop-offset-init
 loop-offset-init g c = λ grid x y shows.
