@@ -3,6 +3,8 @@ mod BitmapWorked
 pub mod CodedLength
 pub mod CoderStates
 pub mod Digits
+pub mod FileInverse
+mod FileWorked
 pub mod GenericInverse
 pub mod GenericSegmentInverse
 pub mod IntegerInverse

@@ -204,27 +204,46 @@ some-bytes : (p : SegmentView) (rest : List ℕ) → 11 ≤ length (segment_byte
 unfolding segment_bytes
 some-bytes p rest = omega arith
 
+-- the first one is read, and then what is left
+first-read : (p : SegmentView) (rest : List ℕ) (most : ℕ) (reading : Reading) → IsSegment (is_strict reading) p
+    → segments_in (suc most) reading (segment_bytes p ++ rest) ≡ goes_on reading (Ok (p, rest)) (segments_in most reading)
+unfolding segments_in
+first-read p rest most reading is =
+    let bytes = segment_bytes p ++ rest in
+    let strict = is_strict reading in
+    let none : Result (List SegmentView) DecodeError = Ok [] in
+    cond-false (eqb (length bytes) 0) none (goes_on reading (segment_at strict bytes) (segments_in most reading)) (ne_eqb (length bytes) 0 (λ e. omega (arith, e, some-bytes p rest)))
+    ∙ ap (λ (r : Result (SegmentView × List ℕ) DecodeError). goes_on reading r (segments_in most reading)) (segment-read strict p rest is)
+
+none-left : (most : ℕ) (reading : Reading) → segments_in most reading [] ≡ Ok []
+unfolding segments_in
+none-left zero reading = refl
+none-left (suc most) reading = refl
+
 reads : (ps : List SegmentView) (most : ℕ) (reading : Reading) → AreSegments (is_strict reading) ps → length (flat_map segment_bytes ps) ≤ most
     → segments_in most reading (flat_map segment_bytes ps) ≡ Ok ps
-unfolding segments_in
-reads [] zero reading are few = refl
-reads [] (suc most) reading are few = refl
+reads [] most reading are few = none-left most reading
 reads (p ∷ ps) zero reading are few = let some = some-bytes p (flat_map segment_bytes ps) in absurd (omega (arith, some, few))
-reads (p ∷ ps) (suc most) reading are few =
-    let others = flat_map segment_bytes ps in
-    let bytes = segment_bytes p ++ others in
-    let some = some-bytes p others in
+reads (p ∷ []) (suc most) reading are few =
+    let single : Result (List SegmentView) DecodeError = Ok (p ∷ []) in
+    let more : Result (List SegmentView) DecodeError → Result (List SegmentView) DecodeError = λ r. r >>= λ qs. Ok (p ∷ qs) in
+    first-read p [] most reading are
+    ∙ ap (λ (r : Result (List SegmentView) DecodeError). cond (is_end_of_file p.header.segment_type) single (more r)) (none-left most reading)
+    ∙ either (is_end_of_file p.header.segment_type)
+  where
+    either : (b : Bool) → cond b (let single : Result (List SegmentView) DecodeError = Ok (p ∷ []) in single) (Ok (p ∷ [])) ≡ Ok (p ∷ [])
+    either true = refl
+    either false = refl
+reads (p ∷ q ∷ ps) (suc most) reading are few =
+    let others = flat_map segment_bytes (q ∷ ps) in
     let size = length-append (segment_bytes p) others in
     let own = some-bytes p [] in
     let own_size = length-append (segment_bytes p) [] in
-    let strict = is_strict reading in
-    let none : Result (List SegmentView) DecodeError = Ok [] in
     let single : Result (List SegmentView) DecodeError = Ok (p ∷ []) in
     let more : Result (List SegmentView) DecodeError → Result (List SegmentView) DecodeError = λ r. r >>= λ qs. Ok (p ∷ qs) in
-    cond-false (eqb (length bytes) 0) none (goes_on reading (segment_at strict bytes) (segments_in most reading)) (ne_eqb (length bytes) 0 (λ e. omega (arith, e, some)))
-    ∙ ap (λ (r : Result (SegmentView × List ℕ) DecodeError). goes_on reading r (segments_in most reading)) (segment-read strict p others are.0)
-    ∙ cond-false (is_end_of_file p.header.segment_type) single (more (segments_in most reading others)) are.0.goes_on
-    ∙ ap more (reads ps most reading are.1 (omega (arith, few, size, own, own_size)))
+    first-read p others most reading are.0
+    ∙ cond-false (is_end_of_file p.header.segment_type) single (more (segments_in most reading others)) are.1
+    ∙ ap more (reads (q ∷ ps) most reading are.2 (omega (arith, few, size, own, own_size)))
 
 pub segments_read_back : SegmentsReadBack
 segments_read_back reading ps are = reads ps (length (flat_map segment_bytes ps)) reading are (omega arith)

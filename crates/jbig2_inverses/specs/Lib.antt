@@ -1,6 +1,7 @@
 pub mod BitmapWriter
 pub mod CoderStates
 pub mod Digits
+pub mod FileWriter
 pub mod GenericSegmentWriter
 pub mod IntegerWriter
 pub mod PrefixWriter

@@ -60,13 +60,15 @@ pub record IsSegment (strict : Bool) (p : SegmentView) : Type 0 where  -- what c
   pub no_references : p.header.referred_to_segments ≡ []
   pub data_length : p.header.data_length ≡ Some (length p.bytes)
   pub short : length p.bytes < 4294967295
-  pub goes_on : is_end_of_file p.header.segment_type ≡ false
 
+-- Only the last one may be an end of file (7.4.11).
 abbrev pub AreSegments : Bool → List SegmentView → Type 0
 AreSegments strict [] = Unit {0}
-AreSegments strict (p ∷ ps) = IsSegment strict p × AreSegments strict ps
+AreSegments strict (p ∷ []) = IsSegment strict p
+AreSegments strict (p ∷ q ∷ ps) =
+    IsSegment strict p × (is_end_of_file p.header.segment_type ≡ false) × AreSegments strict (q ∷ ps)
 
--- Segments one after the other (D.3) are read back, in each mode.
+-- Segments one after the other (D.1, D.3) are read back, in each mode.
 abbrev pub SegmentsReadBack : Type 0
 SegmentsReadBack = (reading : Reading) (ps : List SegmentView) → AreSegments (is_strict reading) ps
     → sequential reading (flat_map segment_bytes ps) ≡ Ok ps

@@ -4,6 +4,7 @@
 
 ghost use Rattle.jbig2_inverses.specs.BitmapWriter.{BitmapsAreShort, BitmapsReadBack};
 ghost use Rattle.jbig2_inverses.specs.CoderStates.{CodedDataIsShort};
+ghost use Rattle.jbig2_inverses.specs.FileWriter.{FilesReadBack};
 ghost use Rattle.jbig2_inverses.specs.GenericSegmentWriter.{GenericSegmentsReadBack};
 ghost use Rattle.jbig2_inverses.specs.IntegerWriter.{IntegersReadBack, SymbolIdsReadBack};
 ghost use Rattle.jbig2_inverses.specs.PrefixWriter.{PrefixCodesReadBack};
@@ -83,8 +84,8 @@ pub fn generic_segments_read_back()
     ensures { GenericSegmentsReadBack }
 {}
 
-/// Segments one after the other, as in embedded pages (T.88, D.3), are read back in each mode: segments of known length
-/// that refer to none and are no end of file.
+/// Segments one after the other, as in files (T.88, D.1) and embedded pages (D.3), are read back in each mode: segments of
+/// known length that refer to none. Only the last one may be an end of file.
 pub fn segments_read_back()
     ensures { SegmentsReadBack }
 {}
@@ -92,4 +93,10 @@ pub fn segments_read_back()
 /// Page information (T.88, 7.4.8) is read back.
 pub fn page_information_reads_back()
     ensures { PageInformationReadsBack }
+{}
+
+/// Files in sequential organisation (T.88, D.1 and D.4) are read back in each mode: each file header, and segments after
+/// it. The segments are sorted.
+pub fn files_read_back()
+    ensures { FilesReadBack }
 {}

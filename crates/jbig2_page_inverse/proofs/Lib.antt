@@ -1,2 +1,3 @@
+pub mod PageFileInverse
 pub mod PageInverse
 mod PageWorked

@@ -48,7 +48,7 @@ use Rattle.jbig2_inverses.proofs.RegionInverse.{entries-few}
 use Rattle.jbig2_inverses.proofs.GenericInverse.{generic_regions_read_back}
 use Rattle.jbig2_inverses.proofs.GenericSegmentInverse.{generic_segments_read_back, sides-fit}
 use Rattle.jbig2_inverses.proofs.SegmentInverse.{page_information_reads_back, segments_read_back}
-use Rattle.jbig2_page_inverse.specs.PageWriter.{Choice, IsChoice, region_with, coded_bytes, region_bytes, information, segment, page_bytes, PagesReadBack}
+use Rattle.jbig2_page_inverse.specs.PageWriter.{Choice, IsChoice, region_with, coded_bytes, region_bytes, information, resolution_of, segment, page_bytes, PagesReadBack}
 
 -- what is told of a cut changes no pixel
 grid-with-cut : (c : Option CutOff) (r : Result Drawing DecodeError) → ((r >>= λ d. Ok (with_cut_off c d)) >>= λ d. Ok d.grid) ≡ (r >>= λ d. Ok d.grid)
@@ -57,12 +57,12 @@ grid-with-cut None (Ok d) = refl
 grid-with-cut (Some at) (Ok d) = refl
 
 -- bytes whose list of segments doesn't end early have no part of one
-no-part-of : (reading : Reading) (bytes : List ℕ) → sequence_cut_off Lenient bytes ≡ None → part_of_list reading (sequence_partial reading bytes) ≡ []
+pub no-part-of : (reading : Reading) (bytes : List ℕ) → sequence_cut_off Lenient bytes ≡ None → part_of_list reading (sequence_partial reading bytes) ≡ []
 no-part-of Strict bytes whole = refl
 no-part-of Lenient bytes whole = refl
 no-part-of Salvage bytes whole = ap (λ (o : Option SegmentView). part_of_list Salvage o) (no-part bytes whole)
 
-never-cut : (bytes : List ℕ) (ps : List SegmentView) → sequential Strict bytes ≡ Ok ps → sequence_cut_off Lenient bytes ≡ None
+pub never-cut : (bytes : List ℕ) (ps : List SegmentView) → sequential Strict bytes ≡ Ok ps → sequence_cut_off Lenient bytes ≡ None
 never-cut bytes ps read = by (sequential Strict bytes) read (sequence-never-cut bytes) (sequence-cut-same bytes)
   where
     by : (r : Result (List SegmentView) DecodeError) → r ≡ Ok ps → IfOk r (λ qs. sequence_cut_off Strict bytes ≡ None) → IfOk r (λ qs. sequence_cut_off Strict bytes ≡ sequence_cut_off Lenient bytes) → sequence_cut_off Lenient bytes ≡ None
@@ -102,7 +102,7 @@ unfolding generic_bytes
 bytes-same c w h pixels strict bytes = refl
 
 module _ (reading : Reading) (globals : Names) (c : Choice) (w h : ℕ) (pixels : ℕ → ℕ → Bool) (is : IsChoice c) (columns : IsSide w) (rows : IsSide h) where
-  abbrev strict : Bool
+  abbrev pub strict : Bool
   strict = is_strict reading
 
   abbrev coded : List ℕ
@@ -111,14 +111,14 @@ module _ (reading : Reading) (globals : Names) (c : Choice) (w h : ℕ) (pixels 
   abbrev header : GenericHeader
   header = region_with c w h pixels strict coded
 
-  abbrev info : PageInformation
+  abbrev pub info : PageInformation
   info = information c w h pixels
 
-  abbrev first : SegmentView
-  first = segment c w h pixels 0 types.PageInformation (information_bytes info)
+  abbrev pub first : SegmentView
+  first = segment 0 1 types.PageInformation (information_bytes info)
 
-  abbrev second : SegmentView
-  second = segment c w h pixels 1 types.ImmediateGenericRegion (region_bytes c w h pixels)
+  abbrev pub second : SegmentView
+  second = segment 1 1 types.ImmediateGenericRegion (region_bytes c w h pixels)
 
   -- the region
   result-is : generic_result header ≡ Ok (grid_of w h pixels)
@@ -152,28 +152,19 @@ module _ (reading : Reading) (globals : Names) (c : Choice) (w h : ℕ) (pixels 
       ∙ ap placed result-is
 
   -- the page
-  abbrev initial : InitialPage
+  abbrev pub initial : InitialPage
   initial = record { number = 1; width = w; height = h; default_pixel = false }
 
-  beginning-is : beginning_of reading (first ∷ second ∷ []) ≡ Ok initial
-  unfolding beginning_of
-  beginning-is =
-      let known = known_height reading (first ∷ second ∷ []) in
-      let read : information_at (information_bytes info) ≡ Ok (info, []) = ap (λ (b : List ℕ). information_at b) (sym (append-nil (information_bytes info))) ∙ page_information_reads_back info (record {
+  information-is : information_at (information_bytes info) ≡ Ok (info, [])
+  information-is =
+      ap (λ (b : List ℕ). information_at b) (sym (append-nil (information_bytes info))) ∙ page_information_reads_back info (record {
         width = omega (arith, columns.1);
         height = omega (arith, rows.1);
-        x_resolution = tt;
-        y_resolution = tt;
+        x_resolution = is.x_resolution;
+        y_resolution = is.y_resolution;
         operator = or-replace;
         stripes = omega arith;
-      }) [] in
-      let unknown : Result ℕ DecodeError = refuse_if (eqb known 0) (Format UnknownPageHeight) >>= λ k. Ok known in
-      let stated : Result ℕ DecodeError = Ok h in
-      let made : Result InitialPage DecodeError = Ok initial in
-      ap (λ (r : Result (PageInformation × List ℕ) DecodeError). r >>= λ i. height_of i.0.height known >>= λ height. initial_page_with 1 i.0 height) read
-      ∙ ap (λ (r : Result ℕ DecodeError). r >>= λ height. initial_page_with 1 info height) (cond-false (eqb h 4294967295) unknown stated (ne_eqb h 4294967295 (λ e. omega (arith, e, rows.1))))
-      ∙ ap (λ (t : Bool). refuse_if t (Format EmptyPage) >>= λ some. check_sides w h >>= λ fits. made) (or_from (eqb w 0) (eqb h 0) (ne_eqb w 0 (λ e. omega (arith, e, columns.0))) (ne_eqb h 0 (λ e. omega (arith, e, rows.0))))
-      ∙ ap (λ (r : Result (Unit {0}) DecodeError). r >>= λ fits. made) (sides-fit w h columns.1 rows.1)
+      }) []
     where
       IsOr : CombinationOperator → Type 0
       IsOr Or = Unit {0}
@@ -182,37 +173,58 @@ module _ (reading : Reading) (globals : Names) (c : Choice) (w h : ℕ) (pixels 
       or-replace : Or ≡ Replace → ⊥
       or-replace e = subst IsOr e tt
 
+  pub beginning-is : (more : List SegmentView) → beginning_of reading (first ∷ second ∷ more) ≡ Ok initial
+  unfolding beginning_of
+  beginning-is more =
+      let known = known_height reading (first ∷ second ∷ more) in
+      let unknown : Result ℕ DecodeError = refuse_if (eqb known 0) (Format UnknownPageHeight) >>= λ k. Ok known in
+      let stated : Result ℕ DecodeError = Ok h in
+      let made : Result InitialPage DecodeError = Ok initial in
+      ap (λ (r : Result (PageInformation × List ℕ) DecodeError). r >>= λ i. height_of i.0.height known >>= λ height. initial_page_with 1 i.0 height) information-is
+      ∙ ap (λ (r : Result ℕ DecodeError). r >>= λ height. initial_page_with 1 info height) (cond-false (eqb h 4294967295) unknown stated (ne_eqb h 4294967295 (λ e. omega (arith, e, rows.1))))
+      ∙ ap (λ (t : Bool). refuse_if t (Format EmptyPage) >>= λ some. check_sides w h >>= λ fits. made) (or_from (eqb w 0) (eqb h 0) (ne_eqb w 0 (λ e. omega (arith, e, columns.0))) (ne_eqb h 0 (λ e. omega (arith, e, rows.0))))
+      ∙ ap (λ (r : Result (Unit {0}) DecodeError). r >>= λ fits. made) (sides-fit w h columns.1 rows.1)
+
+  pub resolution-is : (more : List SegmentView) → resolution_of (first ∷ second ∷ more) ≡ Ok (c.x_resolution, c.y_resolution)
+  resolution-is more =
+      ap (λ (r : Result (PageInformation × List ℕ) DecodeError). let told : Result (PageInformation × List ℕ) DecodeError → Result (Option ℕ × Option ℕ) DecodeError = λ q. q >>= λ i. Ok (i.0.x_resolution, i.0.y_resolution) in told r) information-is
+
+  pub first-written : IsSegment strict first
+  first-written = record {
+    number = omega arith;
+    page = omega arith;
+    known = and_right strict false refl;
+    no_references = refl;
+    data_length = refl;
+    short = omega (arith, length-information info);
+  }
+
+  pub second-written : length (region_bytes c w h pixels) < 4294967295 → IsSegment strict second
+  second-written short = record {
+    number = omega arith;
+    page = omega arith;
+    known = and_right strict false refl;
+    no_references = refl;
+    data_length = refl;
+    short = short;
+  }
+
   segments-are : length (region_bytes c w h pixels) < 4294967295 → sequential reading (page_bytes c w h pixels) ≡ Ok (first ∷ second ∷ [])
   unfolding page_bytes
-  segments-are short =
-      let one : IsSegment strict first = record {
-        number = omega arith;
-        page = omega arith;
-        known = and_right strict false refl;
-        no_references = refl;
-        data_length = refl;
-        short = omega (arith, length-information info);
-        goes_on = refl;
-      } in
-      let two : IsSegment strict second = record {
-        number = omega arith;
-        page = omega arith;
-        known = and_right strict false refl;
-        no_references = refl;
-        data_length = refl;
-        short = short;
-        goes_on = refl;
-      } in
-      segments_read_back reading (first ∷ second ∷ []) (one, (two, tt))
+  segments-are short = segments_read_back reading (first ∷ second ∷ []) (first-written, refl, second-written short)
 
-  abbrev page : ReadPage
-  page = record {
+  -- a page of these two segments and more
+  abbrev pub page-with : List SegmentView → Option CutOff → ReadPage
+  page-with more cut = record {
     reading = reading;
     initial_page = initial;
-    segments = first ∷ second ∷ [];
+    segments = first ∷ second ∷ more;
     globals = Ok globals;
-    cut_off = sequence_cut_off reading (page_bytes c w h pixels);
+    cut_off = cut;
   }
+
+  abbrev page : ReadPage
+  page = page-with [] (sequence_cut_off reading (page_bytes c w h pixels))
 
   page-is : length (region_bytes c w h pixels) < 4294967295 → sequence_cut_off Lenient (page_bytes c w h pixels) ≡ None → page_from reading globals (page_bytes c w h pixels) ≡ Ok page
   unfolding page_from
@@ -221,29 +233,35 @@ module _ (reading : Reading) (globals : Names) (c : Choice) (w h : ℕ) (pixels 
       let next : List SegmentView → Result ReadPage DecodeError = λ ps. beginning_of reading ps >>= λ i. Ok (record { reading = reading; initial_page = i; segments = ps; globals = Ok globals; cut_off = sequence_cut_off reading (page_bytes c w h pixels) }) in
       ap (λ (more : List SegmentView). (sequential reading (page_bytes c w h pixels) >>= λ ps. Ok (by_number (ps ++ more))) >>= next) (no-part-of reading (page_bytes c w h pixels) whole)
       ∙ ap (λ (r : Result (List SegmentView) DecodeError). (r >>= λ ps. Ok (by_number (ps ++ []))) >>= next) (segments-are short)
-      ∙ ap (λ (r : Result InitialPage DecodeError). r >>= λ i. Ok (made i)) beginning-is
+      ∙ ap (λ (r : Result InitialPage DecodeError). r >>= λ i. Ok (made i)) (beginning-is [])
 
 -- its drawing: page information draws nothing, and the region is drawn without a fault
-whole-segment : (c : Choice) (w h : ℕ) (pixels : ℕ → ℕ → Bool) (number : ℕ) (kind : SegmentType) (bytes : List ℕ) → is_partial (segment c w h pixels number kind bytes) ≡ false
-whole-segment c w h pixels number kind bytes = le-ltb (length bytes) (length bytes) (omega arith)
+whole-segment : (number page : ℕ) (kind : SegmentType) (bytes : List ℕ) → is_partial (segment number page kind bytes) ≡ false
+whole-segment number page kind bytes = le-ltb (length bytes) (length bytes) (omega arith)
 
 without-fault : (reading : Reading) (globals : Names) (p : SegmentView) (d e : Drawing) → is_partial p ≡ false → segment_by true globals p d ≡ Ok e → segment_on reading globals p d ≡ Ok e
 without-fault reading globals p d e whole is = rw (whole, is, segment-any (is_strict reading) globals p d e is) refl
 
-grid-is : (reading : Reading) (globals : Names) (c : Choice) (w h : ℕ) (pixels : ℕ → ℕ → Bool) (is : IsChoice c) (columns : IsSide w) (rows : IsSide h) → grid_of_page (page reading globals c w h pixels is columns rows) ≡ Ok (grid_of w h pixels)
+-- segments after these two that draw nothing
+abbrev pub DrawNothing : Reading → Names → List SegmentView → Type 0
+DrawNothing reading globals more = (d : Drawing) → segments_drawn reading globals more d ≡ Ok d
+
+pub grid-is : (reading : Reading) (globals : Names) (c : Choice) (w h : ℕ) (pixels : ℕ → ℕ → Bool) (is : IsChoice c) (columns : IsSide w) (rows : IsSide h) (more : List SegmentView) (cut : Option CutOff) → DrawNothing reading globals more
+    → grid_of_page (page-with reading globals c w h pixels is columns rows more cut) ≡ Ok (grid_of w h pixels)
 unfolding grid_of_page immediate
-grid-is reading globals c w h pixels is columns rows =
-    let whole = page reading globals c w h pixels is columns rows in
+grid-is reading globals c w h pixels is columns rows more cut nothing =
+    let whole = page-with reading globals c w h pixels is columns rows more cut in
     let d : Drawing = blank_page whole.initial_page in
-    let one : SegmentView = segment c w h pixels 0 types.PageInformation (information_bytes (information c w h pixels)) in
-    let two : SegmentView = segment c w h pixels 1 types.ImmediateGenericRegion (region_bytes c w h pixels) in
+    let one : SegmentView = segment 0 1 types.PageInformation (information_bytes (information c w h pixels)) in
+    let two : SegmentView = segment 1 1 types.ImmediateGenericRegion (region_bytes c w h pixels) in
     let e : Drawing = record d { grid = combined_grid Or d.grid (grid_of w h pixels) (pos 0) (pos 0); untouched = false } in
-    let first : segment_on reading globals one d ≡ Ok d = without-fault reading globals one d d (whole-segment c w h pixels 0 types.PageInformation (information_bytes (information c w h pixels))) refl in
+    let first : segment_on reading globals one d ≡ Ok d = without-fault reading globals one d d (whole-segment 0 1 types.PageInformation (information_bytes (information c w h pixels))) refl in
     let strictly : segment_by true globals two d ≡ Ok e = ap (λ (r : Result PlacedRegion DecodeError). or_passed_over true two d (with_drawn_region d r)) (region-is Strict globals c w h pixels is columns rows) in
-    let second : segment_on reading globals two d ≡ Ok e = without-fault reading globals two d e (whole-segment c w h pixels 1 types.ImmediateGenericRegion (region_bytes c w h pixels)) strictly in
+    let second : segment_on reading globals two d ≡ Ok e = without-fault reading globals two d e (whole-segment 1 1 types.ImmediateGenericRegion (region_bytes c w h pixels)) strictly in
     grid-with-cut whole.cut_off (segments_drawn reading globals whole.segments d)
-    ∙ ap (λ (r : Result Drawing DecodeError). (r >>= λ x. segments_drawn reading globals (two ∷ []) x) >>= λ x. Ok x.grid) first
-    ∙ ap (λ (r : Result Drawing DecodeError). (r >>= λ x. segments_drawn reading globals [] x) >>= λ x. Ok x.grid) second
+    ∙ ap (λ (r : Result Drawing DecodeError). (r >>= λ x. segments_drawn reading globals (two ∷ more) x) >>= λ x. Ok x.grid) first
+    ∙ ap (λ (r : Result Drawing DecodeError). (r >>= λ x. segments_drawn reading globals more x) >>= λ x. Ok x.grid) second
+    ∙ ap (λ (r : Result Drawing DecodeError). r >>= λ x. Ok x.grid) (nothing e)
     ∙ ap (λ (g : Grid). let r : Result Grid DecodeError = Ok g in r) (drawn w h pixels)
 
 -- ---- a segment can state the length
@@ -294,7 +312,7 @@ adaptive-few false false Template2 = omega arith
 adaptive-few false true Template3 = omega arith
 adaptive-few false false Template3 = omega arith
 
-data-short : (c : Choice) (w h : ℕ) (pixels : ℕ → ℕ → Bool) → IsChoice c → w ≤ max_side → h ≤ max_side → length (region_bytes c w h pixels) < 4294967295
+pub data-short : (c : Choice) (w h : ℕ) (pixels : ℕ → ℕ → Bool) → IsChoice c → w ≤ max_side → h ≤ max_side → length (region_bytes c w h pixels) < 4294967295
 data-short c w h pixels is columns rows =
     let size = length-region c w h pixels in
     let count = is.count in
@@ -307,4 +325,12 @@ data-short c w h pixels is columns rows =
 pub pages_read_back : PagesReadBack
 pages_read_back reading globals c w h pixels is columns rows =
     let short = data-short c w h pixels is columns.1 rows.1 in
-    (page reading globals c w h pixels is columns rows, page-is reading globals c w h pixels is columns rows short (never-cut (page_bytes c w h pixels) _ (segments-are Strict globals c w h pixels is columns rows short)), grid-is reading globals c w h pixels is columns rows)
+    let whole = never-cut (page_bytes c w h pixels) _ (segments-are Strict globals c w h pixels is columns rows short) in
+    let cut = sequence_cut_off reading (page_bytes c w h pixels) in (
+      page reading globals c w h pixels is columns rows,
+      page-is reading globals c w h pixels is columns rows short whole,
+      record {
+        drawn = grid-is reading globals c w h pixels is columns rows [] cut (λ d. refl);
+        resolution = resolution-is reading globals c w h pixels is columns rows [];
+      },
+    )

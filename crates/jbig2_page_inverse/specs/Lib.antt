@@ -1,1 +1,2 @@
+pub mod PageFile
 pub mod PageWriter

@@ -1,5 +1,6 @@
 pub mod ContextLemmas
 pub mod EntryLemmas
+pub mod PackedLemmas
 pub mod PageLemmas
 pub mod RowLemmas
 pub mod SegmentLemmas

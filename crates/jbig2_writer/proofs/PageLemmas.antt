@@ -1,12 +1,13 @@
--- The parts that are written are a page, and the page reads back.
-use Rattle.std.proofs.Common.{◌≡◌, ℕ, ◌+◌, ◌*◌, ◌<◌, ◌≤◌, Bool, true, false, ◌&&◌, cond, nat_le, List, [], ◌++◌, length, Result, Ok, Err, MatchResult, IsErrAnd, IfOk, refl, sym, ◌∙◌, ap, subst, arith, append-nil, length-append}
+-- The parts that are written are a page or a file, and both read back.
+use Rattle.std.proofs.Common.{◌≡◌, ℕ, zero, suc, ◌+◌, ◌*◌, ◌<◌, ◌≤◌, eqb, Bool, true, false, ◌&&◌, cond, nat_le, List, [], ◌++◌, length, Option, Some, None, Result, Ok, Err, MatchResult, IsErrAnd, IfOk, refl, sym, ◌∙◌, ap, subst, arith, append-nil, append_assoc, length-append, ne_eqb}
 use Rattle.std.specs.List.{flat_map}
-use Rattle.std.proofs.lemmas.Bool.{and_parts}
+use Rattle.std.proofs.lemmas.Bool.{and_parts, cond-false}
 use Rattle.std.proofs.lemmas.Bool.Decides.{nat_tests}
 use Rattle.jbig2_base.specs.Results.{◌>>=◌}
 use Rattle.jbig2_base.specs.Results as base
 use Rattle.jbig2_base.specs.declared.error.DecodeError.{DecodeError}
 use Rattle.jbig2_base.proofs.Causes.{same-ok}
+use Rattle.jbig2_base.specs.Bits.{nonzero}
 use Rattle.jbig2_base.specs.Grid.{Grid, max_side, pixel_at}
 use Rattle.jbig2_base.specs.Table.{IsTable}
 use Rattle.jbig2_coder.specs.Encoder.{encoded_bytes}
@@ -15,16 +16,20 @@ use Rattle.jbig2_region.specs.Templates.{nominal_adaptive_pixels, takes_extended
 use Rattle.jbig2_region.specs.declared.template.Template.{Template}
 use Rattle.jbig2_region.specs.declared.template.Template.TheVariants.{Template0, Template1, Template2, Template3}
 use Rattle.jbig2_inverses.specs.CoderStates.{Entry}
+use Rattle.jbig2_inverses.specs.FileWriter.{file_header_bytes}
 use Rattle.jbig2_inverses.specs.GenericSegmentWriter.{AreAdaptive, adaptive_bytes, generic_bytes, info_bytes}
 use Rattle.jbig2_inverses.specs.RegionWriter.{entries_before, generic_entries, is_typical}
-use Rattle.jbig2_inverses.specs.SegmentWriter.{information_bytes, segment_bytes}
+use Rattle.jbig2_inverses.specs.SegmentWriter.{IsResolution, information_bytes, number_or_0, segment_bytes}
+use Rattle.jbig2_page.specs.Files.{book_at}
 use Rattle.jbig2_page.specs.Page.{IsSide, page_from}
+use Rattle.jbig2_page_inverse.specs.PageFile.{file_header, page_file}
 use Rattle.jbig2_page_inverse.specs.PageWriter.{IsChoice, coded_bytes, page_bytes, region_with}
+use Rattle.jbig2_page_inverse.proofs.PageFileInverse.{page_files_read_back}
 use Rattle.jbig2_page_inverse.proofs.PageInverse.{by-coder-short, pages_read_back}
 use Rattle.jbig2_writer.specs.declared.settings.WriteSettings.{WriteSettings}
 use Rattle.jbig2_writer.specs.inner.Rows.{rows_decisions}
-use Rattle.jbig2_writer.specs.inner.Segments.{page_information, region_data, segment_of, segments_of}
-use Rattle.jbig2_writer.specs.Written.{ReadsBack, check_size, choice_of, is_side, written}
+use Rattle.jbig2_writer.specs.inner.Segments.{FitsResolution, file_of, information_of, page_information, region_data, segment_of, segments_of}
+use Rattle.jbig2_writer.specs.Written.{FileReadsBack, ReadsBack, check_size, choice_of, is_side}
 use Rattle.jbig2_writer.specs.declared.error.WriteError.{WriteError}
 use Rattle.jbig2_writer.specs.declared.error.WriteError.TheVariants.{InvalidSides}
 use Rattle.jbig2_writer.proofs.EntryLemmas.{rows-are}
@@ -69,11 +74,11 @@ region-short s w h none bytes coded slice empty is short same =
     let parts = length-append (flat_map adaptive_bytes (nominal_adaptive_pixels s.template)) coded in
     omega (arith, ap length all, size, parts, length-adaptive s.template, short)
 
-pub information-short : (none bytes slice : List ℕ) (w h : ℕ) → none ≡ [] → bytes ≡ none ++ page_information w h → slice ≡ bytes → length slice < 4294967296
+pub information-short : (none bytes slice : List ℕ) (w h x y : ℕ) → none ≡ [] → bytes ≡ none ++ page_information w h x y → slice ≡ bytes → length slice < 4294967296
 unfolding page_information
-information-short none bytes slice w h empty is same =
-    let all : slice ≡ page_information w h = same ∙ is ∙ ap (λ (l : List ℕ). l ++ page_information w h) empty in
-    let size : length (page_information w h) ≡ 19 = refl in
+information-short none bytes slice w h x y empty is same =
+    let all : slice ≡ page_information w h x y = same ∙ is ∙ ap (λ (l : List ℕ). l ++ page_information w h x y) empty in
+    let size : length (page_information w h x y) ≡ 19 = refl in
     omega (arith, ap length all, size)
 
 -- ---- the size
@@ -94,31 +99,77 @@ allowed w h r unit is e =
     record { columns = side-is w sides.0; rows = side-is h sides.1 }
 
 -- ---- the page
-page-is : (s : WriteSettings) (w h : ℕ) (pixels : ℕ → ℕ → Bool)
-    → page_bytes (choice_of s) w h pixels ≡ segment_of 0 48 (page_information w h) ++ (segment_of 1 38 (region_data s w h (coded_bytes (choice_of s) w h pixels)) ++ [])
-unfolding page_bytes segment_bytes segment_of information_bytes page_information generic_bytes
-page-is s w h pixels = refl
+number-back : (n : ℕ) → number_or_0 (nonzero n) ≡ n
+number-back zero = refl
+number-back (suc n) = ap number_or_0 (cond-false (eqb (suc n) 0) None (Some (suc n)) (ne_eqb (suc n) 0 (λ e. omega (arith, e))))
 
--- the two segments
-pub segments-made : (s : WriteSettings) (w h : ℕ) (start mid end no_information information first no_region region second coded : List ℕ) → start ≡ [] → no_information ≡ [] → no_region ≡ []
-    → information ≡ no_information ++ page_information w h → first ≡ information → region ≡ no_region ++ region_data s w h coded → second ≡ region
-    → mid ≡ start ++ segment_of 0 48 first → end ≡ mid ++ segment_of 1 38 second → end ≡ segments_of s w h coded
-segments-made s w h start mid end no_information information first no_region region second coded empty no_i no_r is_i is_first is_r is_second is_mid is_end =
-    let one : first ≡ page_information w h = is_first ∙ is_i ∙ ap (λ (l : List ℕ). l ++ page_information w h) no_i in
+-- page information with these numbers, and the region
+abbrev pub parts_of : WriteSettings → ℕ → ℕ → ℕ → ℕ → List ℕ → List ℕ → List ℕ
+parts_of s w h x y coded rest =
+    segment_of 0 48 1 (page_information w h x y) ++ (segment_of 1 38 1 (region_data s w h coded) ++ rest)
+
+page-is : (s : WriteSettings) (w h : ℕ) (pixels : ℕ → ℕ → Bool)
+    → page_bytes (choice_of s) w h pixels ≡ parts_of s w h (number_or_0 s.x_resolution) (number_or_0 s.y_resolution) (coded_bytes (choice_of s) w h pixels) []
+unfolding page_bytes segment_bytes segment_of information_bytes page_information generic_bytes
+page-is s w h pixels =
+    λ i. parts_of s w h (number-back (number_or_0 s.x_resolution) i) (number-back (number_or_0 s.y_resolution) i) (coded_bytes (choice_of s) w h pixels) []
+
+file-is : (s : WriteSettings) (w h : ℕ) (pixels : ℕ → ℕ → Bool)
+    → page_file (choice_of s) w h pixels ≡ file_header_bytes (file_header false) ++ parts_of s w h (number_or_0 s.x_resolution) (number_or_0 s.y_resolution) (coded_bytes (choice_of s) w h pixels) (segment_of 2 49 1 [] ++ (segment_of 3 51 0 [] ++ []))
+unfolding page_file segment_bytes segment_of information_bytes page_information generic_bytes
+file-is s w h pixels =
+    λ i. file_header_bytes (file_header false) ++ parts_of s w h (number-back (number_or_0 s.x_resolution) i) (number-back (number_or_0 s.y_resolution) i) (coded_bytes (choice_of s) w h pixels) (segment_of 2 49 1 [] ++ (segment_of 3 51 0 [] ++ []))
+
+-- the two segments, one after the other
+pub segments-added : (s : WriteSettings) (w h x y : ℕ) (old mid end no_information information first no_region region second coded : List ℕ) → x ≡ number_or_0 s.x_resolution → y ≡ number_or_0 s.y_resolution → no_information ≡ [] → no_region ≡ []
+    → information ≡ no_information ++ page_information w h x y → first ≡ information → region ≡ no_region ++ region_data s w h coded → second ≡ region
+    → mid ≡ old ++ segment_of 0 48 1 first → end ≡ mid ++ segment_of 1 38 1 second → end ≡ old ++ segments_of s w h coded
+segments-added s w h x y old mid end no_information information first no_region region second coded is_x is_y no_i no_r is_i is_first is_r is_second is_mid is_end =
+    let one : first ≡ information_of s w h = is_first ∙ is_i ∙ ap (λ (l : List ℕ). l ++ page_information w h x y) no_i ∙ (λ i. page_information w h (is_x i) (is_y i)) in
     let two : second ≡ region_data s w h coded = is_second ∙ is_r ∙ ap (λ (l : List ℕ). l ++ region_data s w h coded) no_r in
-    is_end ∙ ap (λ (l : List ℕ). l ++ segment_of 1 38 second) (is_mid ∙ ap (λ (l : List ℕ). l ++ segment_of 0 48 first) empty)
-    ∙ ap (λ (l : List ℕ). segment_of 0 48 l ++ segment_of 1 38 second) one
-    ∙ ap (λ (l : List ℕ). segment_of 0 48 (page_information w h) ++ segment_of 1 38 l) two
+    is_end ∙ ap (λ (l : List ℕ). l ++ segment_of 1 38 1 second) is_mid
+    ∙ append_assoc old (segment_of 0 48 1 first) (segment_of 1 38 1 second)
+    ∙ ap (λ (l : List ℕ). old ++ (segment_of 0 48 1 l ++ segment_of 1 38 1 second)) one
+    ∙ ap (λ (l : List ℕ). old ++ (segment_of 0 48 1 (information_of s w h) ++ segment_of 1 38 1 l)) two
+
+-- a file, part by part
+pub file-made : (s : WriteSettings) (w h : ℕ) (start front mid body end coded : List ℕ) → start ≡ [] → front ≡ start ++ file_header_bytes (file_header false) → mid ≡ front ++ segments_of s w h coded
+    → body ≡ mid ++ segment_of 2 49 1 [] → end ≡ body ++ segment_of 3 51 0 [] → end ≡ file_of s w h coded
+file-made s w h start front mid body end coded empty is_front is_mid is_body is_end =
+    let header : List ℕ = file_header_bytes (file_header false) in
+    let segments : List ℕ = segments_of s w h coded in
+    let page_end : List ℕ = segment_of 2 49 1 [] in
+    let file_end : List ℕ = segment_of 3 51 0 [] in
+    is_end ∙ ap (λ (l : List ℕ). l ++ file_end) (is_body ∙ ap (λ (l : List ℕ). l ++ page_end) (is_mid ∙ ap (λ (l : List ℕ). l ++ segments) (is_front ∙ ap (λ (l : List ℕ). l ++ header) empty)))
+    ∙ append_assoc (header ++ segments) page_end file_end
+    ∙ append_assoc header segments (page_end ++ file_end)
+
+-- the coded bytes, and the size of the bitmap
+coded-parts : (s : WriteSettings) (g : Grid) (w h : ℕ) (made : ℕ → ℕ → List ℕ → List ℕ) (coded slice : List ℕ) → w ≡ g.width → h ≡ g.height → slice ≡ coded → coded ≡ coded_bytes (choice_of s) g.width g.height (pixel_at g)
+    → made w h slice ≡ made g.width g.height (coded_bytes (choice_of s) g.width g.height (pixel_at g))
+coded-parts s g w h made coded slice is_w is_h is_slice is_coded = λ i. made (is_w i) (is_h i) ((is_slice ∙ is_coded) i)
 
 -- they are the page
 pub page-made : (s : WriteSettings) (g : Grid) (w h : ℕ) (bytes coded slice : List ℕ) → w ≡ g.width → h ≡ g.height → bytes ≡ segments_of s w h slice → slice ≡ coded → coded ≡ coded_bytes (choice_of s) g.width g.height (pixel_at g)
     → bytes ≡ page_bytes (choice_of s) g.width g.height (pixel_at g)
 page-made s g w h bytes coded slice is_w is_h is_bytes is_slice is_coded =
     let region : List ℕ = region_data s g.width g.height (coded_bytes (choice_of s) g.width g.height (pixel_at g)) in
-    is_bytes ∙ ap (λ (n : ℕ). segments_of s n h slice) is_w ∙ ap (λ (n : ℕ). segments_of s g.width n slice) is_h
-    ∙ ap (λ (l : List ℕ). segments_of s g.width g.height l) (is_slice ∙ is_coded)
-    ∙ ap (λ (l : List ℕ). segment_of 0 48 (page_information g.width g.height) ++ l) (sym (append-nil (segment_of 1 38 region)))
+    is_bytes ∙ coded-parts s g w h (segments_of s) coded slice is_w is_h is_slice is_coded
+    ∙ ap (λ (l : List ℕ). segment_of 0 48 1 (information_of s g.width g.height) ++ l) (sym (append-nil (segment_of 1 38 1 region)))
     ∙ sym (page-is s g.width g.height (pixel_at g))
+
+-- and the file
+pub file-written : (s : WriteSettings) (g : Grid) (w h : ℕ) (bytes coded slice : List ℕ) → w ≡ g.width → h ≡ g.height → bytes ≡ file_of s w h slice → slice ≡ coded → coded ≡ coded_bytes (choice_of s) g.width g.height (pixel_at g)
+    → bytes ≡ page_file (choice_of s) g.width g.height (pixel_at g)
+file-written s g w h bytes coded slice is_w is_h is_bytes is_slice is_coded =
+    let header : List ℕ = file_header_bytes (file_header false) in
+    let one : List ℕ = segment_of 0 48 1 (information_of s g.width g.height) in
+    let two : List ℕ = segment_of 1 38 1 (region_data s g.width g.height (coded_bytes (choice_of s) g.width g.height (pixel_at g))) in
+    let ends : List ℕ = segment_of 2 49 1 [] ++ segment_of 3 51 0 [] in
+    is_bytes ∙ coded-parts s g w h (file_of s) coded slice is_w is_h is_slice is_coded
+    ∙ ap (λ (l : List ℕ). header ++ l) (append_assoc one two ends)
+    ∙ ap (λ (l : List ℕ). header ++ (one ++ (two ++ (segment_of 2 49 1 [] ++ l)))) (sym (append-nil (segment_of 3 51 0 [])))
+    ∙ sym (file-is s g.width g.height (pixel_at g))
 
 pub coded-fits : (s : WriteSettings) (g : Grid) (w h : ℕ) (coded slice : List ℕ) → w ≡ g.width → h ≡ g.height → IsAllowed w h → slice ≡ coded → coded ≡ coded_bytes (choice_of s) g.width g.height (pixel_at g) → length slice + 26 < 4294967296
 coded-fits s g w h coded slice is_w is_h is is_slice is_coded =
@@ -127,17 +178,29 @@ coded-fits s g w h coded slice is_w is_h is is_slice is_coded =
     let short = by-coder-short (choice_of s) g.width g.height (pixel_at g) refl columns rows in
     omega (arith, ap length (is_slice ∙ is_coded), short)
 
-pub given : (s : WriteSettings) (g : Grid) (w h : ℕ) (bytes : List ℕ) (r : Result (Unit {0}) WriteError) (unit : Unit {0}) → w ≡ g.width → h ≡ g.height → r ≡ check_size w h → r ≡ Ok unit → bytes ≡ page_bytes (choice_of s) g.width g.height (pixel_at g)
-    → written s g ≡ Ok bytes
-given s g w h bytes r unit is_w is_h is_r ok made =
-    let page : List ℕ = page_bytes (choice_of s) g.width g.height (pixel_at g) in
-    let next : Result (Unit {0}) WriteError → Result (List ℕ) WriteError = λ q. q >>= λ _. Ok page in
+-- what is written for a bitmap of an allowed size
+pub given : (s : WriteSettings) (g : Grid) (w h : ℕ) (meant bytes : List ℕ) (r : Result (Unit {0}) WriteError) (unit : Unit {0}) → w ≡ g.width → h ≡ g.height → r ≡ check_size w h → r ≡ Ok unit → bytes ≡ meant
+    → (check_size g.width g.height >>= λ _. Ok meant) ≡ Ok bytes
+given s g w h meant bytes r unit is_w is_h is_r ok made =
+    let next : Result (Unit {0}) WriteError → Result (List ℕ) WriteError = λ q. q >>= λ _. Ok meant in
     ap next (ap (λ (n : ℕ). check_size n g.height) (sym is_w) ∙ ap (λ (n : ℕ). check_size w n) (sym is_h) ∙ sym is_r ∙ ok)
     ∙ ap (λ (l : List ℕ). Ok l) (sym made)
 
 -- ---- it reads back
-choice-is : (s : WriteSettings) → IsChoice (choice_of s)
-choice-is s = record { template = tt; extended = extended s.template; count = count s.template; pixels = pixels s.template }
+resolution-is : (n : ℕ) → n < 4294967296 → IsResolution (nonzero n)
+resolution-is zero small = tt
+resolution-is (suc n) small =
+    subst IsResolution (sym (cond-false (eqb (suc n) 0) None (Some (suc n)) (ne_eqb (suc n) 0 (λ e. omega (arith, e))))) (omega arith, omega (arith, small))
+
+choice-is : (s : WriteSettings) → FitsResolution s → IsChoice (choice_of s)
+choice-is s fits = record {
+  template = tt;
+  extended = extended s.template;
+  count = count s.template;
+  pixels = pixels s.template;
+  x_resolution = resolution-is (number_or_0 s.x_resolution) (omega (arith, fits.0));
+  y_resolution = resolution-is (number_or_0 s.y_resolution) (omega (arith, fits.1));
+}
   where
     extended : (t : Template) → takes_extended false false t ≡ false
     extended t = refl
@@ -154,9 +217,17 @@ choice-is s = record { template = tt; extended = extended s.template; count = co
     pixels Template2 = (refl, omega arith, omega arith, tt)
     pixels Template3 = (refl, omega arith, omega arith, tt)
 
-pub reads-back : (s : WriteSettings) (g : Grid) (w h : ℕ) (bytes : List ℕ) → IsTable g → w ≡ g.width → h ≡ g.height → IsAllowed w h → bytes ≡ page_bytes (choice_of s) g.width g.height (pixel_at g) → ReadsBack bytes g
-reads-back s g w h bytes whole is_w is_h allows made reading globals =
-    let turned : IsAllowed g.width h = subst (λ (n : ℕ). IsAllowed n h) is_w allows in
-    let is : IsAllowed g.width g.height = subst (λ (n : ℕ). IsAllowed g.width n) is_h turned in
-    let read = pages_read_back reading globals (choice_of s) g.width g.height (pixel_at g) (choice-is s) is.columns is.rows in
-    (read.0, ap (λ (l : List ℕ). page_from reading globals l) made ∙ read.1, read.2 ∙ ap (λ (h : Grid). Ok h) (sym whole))
+sides-are : (g : Grid) (w h : ℕ) → w ≡ g.width → h ≡ g.height → IsAllowed w h → IsAllowed g.width g.height
+sides-are g w h is_w is_h allows = subst (λ (n : ℕ). IsAllowed g.width n) is_h (subst (λ (n : ℕ). IsAllowed n h) is_w allows)
+
+pub reads-back : (s : WriteSettings) (g : Grid) (w h : ℕ) (bytes : List ℕ) → IsTable g → w ≡ g.width → h ≡ g.height → IsAllowed w h → FitsResolution s → bytes ≡ page_bytes (choice_of s) g.width g.height (pixel_at g) → ReadsBack s bytes g
+reads-back s g w h bytes whole is_w is_h allows fits made reading globals =
+    let is = sides-are g w h is_w is_h allows in
+    let read = pages_read_back reading globals (choice_of s) g.width g.height (pixel_at g) (choice-is s fits) is.columns is.rows in
+    (read.0, ap (λ (l : List ℕ). page_from reading globals l) made ∙ read.1, (read.2.drawn ∙ ap (λ (h : Grid). Ok h) (sym whole), read.2.resolution))
+
+pub file-reads-back : (s : WriteSettings) (g : Grid) (w h : ℕ) (bytes : List ℕ) → IsTable g → w ≡ g.width → h ≡ g.height → IsAllowed w h → FitsResolution s → bytes ≡ page_file (choice_of s) g.width g.height (pixel_at g) → FileReadsBack s bytes g
+file-reads-back s g w h bytes whole is_w is_h allows fits made reading =
+    let is = sides-are g w h is_w is_h allows in
+    let read = page_files_read_back reading (choice_of s) g.width g.height (pixel_at g) (choice-is s fits) is.columns is.rows in
+    (read.book, read.page, ap (λ (l : List ℕ). book_at reading l) made ∙ read.read, read.only, (read.shows.drawn ∙ ap (λ (h : Grid). Ok h) (sym whole), read.shows.resolution))

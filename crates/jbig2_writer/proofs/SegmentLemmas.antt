@@ -1,10 +1,12 @@
--- The bytes of segments, as they are added part by part.
-use Rattle.std.proofs.Common.{◌≡◌, ℕ, ◌+◌, ◌*◌, List, [], ◌∷◌, ◌++◌, length, refl, sym, ◌∙◌, ap, arith, append_assoc}
+-- The bytes of segments and of a file header, as they are added part by part.
+use Rattle.std.proofs.Common.{◌≡◌, ℕ, ◌+◌, ◌*◌, false, List, [], ◌∷◌, ◌++◌, length, refl, sym, ◌∙◌, ap, arith, append_assoc}
 use Rattle.std.specs.List.{flat_map}
 use Rattle.std.specs.Int.{w32, to_be_bytes}
 use Rattle.jbig2_base.specs.Grid.{bit_number}
 use Rattle.jbig2_region.specs.Templates.{nominal_adaptive_pixels}
+use Rattle.jbig2_inverses.specs.FileWriter.{file_header_bytes}
 use Rattle.jbig2_inverses.specs.GenericSegmentWriter.{adaptive_bytes, generic_bytes, info_bytes, template_number}
+use Rattle.jbig2_page_inverse.specs.PageFile.{file_header}
 use Rattle.jbig2_writer.specs.declared.settings.WriteSettings.{WriteSettings}
 use Rattle.jbig2_writer.specs.inner.Segments.{page_information, region_data, segment_of}
 
@@ -14,25 +16,29 @@ three old a b c ra rb rc is_a is_b is_c =
     is_c ∙ ap (λ (l : List ℕ). l ++ c) (is_b ∙ ap (λ (l : List ℕ). l ++ b) is_a)
     ∙ append_assoc (old ++ a) b c ∙ append_assoc old a (b ++ c)
 
-pub information-added : (old ra rb rc a b : List ℕ) (width height : ℕ) → a ≡ to_be_bytes w32 width → b ≡ to_be_bytes w32 height → ra ≡ old ++ a → rb ≡ ra ++ b
-    → rc ≡ rb ++ 0 ∷ 0 ∷ 0 ∷ 0 ∷ 0 ∷ 0 ∷ 0 ∷ 0 ∷ 1 ∷ 0 ∷ 0 ∷ [] → rc ≡ old ++ page_information width height
+pub information-added : (old ra rb rc rd re a b c d : List ℕ) (width height x y : ℕ) → a ≡ to_be_bytes w32 width → b ≡ to_be_bytes w32 height → c ≡ to_be_bytes w32 x → d ≡ to_be_bytes w32 y
+    → ra ≡ old ++ a → rb ≡ ra ++ b → rc ≡ rb ++ c → rd ≡ rc ++ d → re ≡ rd ++ 1 ∷ 0 ∷ 0 ∷ [] → re ≡ old ++ page_information width height x y
 unfolding page_information
-information-added old ra rb rc a b width height is_a is_b first second third =
-    let rest : List ℕ = 0 ∷ 0 ∷ 0 ∷ 0 ∷ 0 ∷ 0 ∷ 0 ∷ 0 ∷ 1 ∷ 0 ∷ 0 ∷ [] in
-    three old a b rest ra rb rc first second third
-    ∙ ap (λ (l : List ℕ). old ++ (l ++ (b ++ rest))) is_a
-    ∙ ap (λ (l : List ℕ). old ++ (to_be_bytes w32 width ++ (l ++ rest))) is_b
+information-added old ra rb rc rd re a b c d width height x y is_a is_b is_c is_d first second third fourth fifth =
+    let rest : List ℕ = 1 ∷ 0 ∷ 0 ∷ [] in
+    three rb c d rest rc rd re third fourth fifth
+    ∙ three old a b (c ++ (d ++ rest)) ra rb _ first second refl
+    ∙ (λ i. old ++ (is_a i ++ (is_b i ++ (is_c i ++ (is_d i ++ rest)))))
 
-pub segment-added : (old ra rb rc rd re a c d segment_data : List ℕ) (number kind size : ℕ) → a ≡ to_be_bytes w32 number → c ≡ to_be_bytes w32 1 → d ≡ to_be_bytes w32 size → size ≡ length segment_data
-    → ra ≡ old ++ a → rb ≡ ra ++ (kind + 64) ∷ 0 ∷ [] → rc ≡ rb ++ c → rd ≡ rc ++ d → re ≡ rd ++ segment_data → re ≡ old ++ segment_of number kind segment_data
+pub segment-added : (old ra rb rc rd re a c d segment_data : List ℕ) (number kind page size : ℕ) → a ≡ to_be_bytes w32 number → c ≡ to_be_bytes w32 page → d ≡ to_be_bytes w32 size → size ≡ length segment_data
+    → ra ≡ old ++ a → rb ≡ ra ++ (kind + 64) ∷ 0 ∷ [] → rc ≡ rb ++ c → rd ≡ rc ++ d → re ≡ rd ++ segment_data → re ≡ old ++ segment_of number kind page segment_data
 unfolding segment_of
-segment-added old ra rb rc rd re a c d segment_data number kind size is_a is_c is_d is_size first second third fourth fifth =
+segment-added old ra rb rc rd re a c d segment_data number kind page size is_a is_c is_d is_size first second third fourth fifth =
     let flags : List ℕ = (kind + 64) ∷ 0 ∷ [] in
     three rb c d segment_data rc rd re third fourth fifth
     ∙ ap (λ (l : List ℕ). rb ++ (l ++ (d ++ segment_data))) is_c
-    ∙ ap (λ (l : List ℕ). rb ++ (to_be_bytes w32 1 ++ (l ++ segment_data))) (is_d ∙ ap (λ (n : ℕ). to_be_bytes w32 n) is_size)
-    ∙ three old a flags (to_be_bytes w32 1 ++ (to_be_bytes w32 (length segment_data) ++ segment_data)) ra rb _ first second refl
-    ∙ ap (λ (l : List ℕ). old ++ (l ++ (flags ++ (to_be_bytes w32 1 ++ (to_be_bytes w32 (length segment_data) ++ segment_data))))) is_a
+    ∙ ap (λ (l : List ℕ). rb ++ (to_be_bytes w32 page ++ (l ++ segment_data))) (is_d ∙ ap (λ (n : ℕ). to_be_bytes w32 n) is_size)
+    ∙ three old a flags (to_be_bytes w32 page ++ (to_be_bytes w32 (length segment_data) ++ segment_data)) ra rb _ first second refl
+    ∙ ap (λ (l : List ℕ). old ++ (l ++ (flags ++ (to_be_bytes w32 page ++ (to_be_bytes w32 (length segment_data) ++ segment_data))))) is_a
+
+pub header-is : file_header_bytes (file_header false) ≡ 0x97 ∷ 0x4A ∷ 0x42 ∷ 0x32 ∷ 0x0D ∷ 0x0A ∷ 0x1A ∷ 0x0A ∷ 1 ∷ 0 ∷ 0 ∷ 0 ∷ 1 ∷ []
+unfolding file_header_bytes
+header-is = refl
 
 data-is : (s : WriteSettings) (width height flags : ℕ) (coded : List ℕ) → flags ≡ 2 * template_number s.template + 8 * bit_number s.typical
     → region_data s width height coded ≡ to_be_bytes w32 width ++ (to_be_bytes w32 height ++ ((0 ∷ 0 ∷ 0 ∷ 0 ∷ 0 ∷ 0 ∷ 0 ∷ 0 ∷ 0 ∷ []) ++ ((flags ∷ []) ++ (flat_map adaptive_bytes (nominal_adaptive_pixels s.template) ++ coded))))

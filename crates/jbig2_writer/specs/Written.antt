@@ -1,16 +1,24 @@
--- What is written for a bitmap: the bytes of an embedded page that holds it, or a refusal of its size. Then how the
--- result of the writer compares with that, and what it is that the bytes read back.
-use Rattle.std.specs.Prelude.{◌≡◌, ℕ, ◌&&◌, nat_le, false, Bool, if◌then◌else◌, List, Result, Ok, Err, ◌⊎◌}
+-- What is written for a bitmap: the bytes of an embedded page or of a file that holds it, or a refusal of its size. Then
+-- how the result of the writer compares with that, and what it is that the bytes read back.
+use Rattle.std.specs.Prelude.{◌≡◌, ℕ, ◌&&◌, nat_le, false, Bool, if◌then◌else◌, List, [], ◌∷◌, Option, Result, Ok, Err}
+use Rattle.std.specs.Prelude.{◌⊎◌}
+use Rattle.jbig2_base.specs.Bits.{nonzero}
 use Rattle.jbig2_base.specs.Grid.{Grid, max_side, pixel_at}
 use Rattle.jbig2_base.specs.Results.{◌>>=◌}
 use Rattle.jbig2_framing.specs.declared.reading.Reading.{Reading}
 use Rattle.jbig2_region.specs.Templates.{nominal_adaptive_pixels}
+use Rattle.jbig2_page.specs.Files.{ReadFile, book_at, pages_of}
 use Rattle.jbig2_page.specs.Names.{Names}
 use Rattle.jbig2_page.specs.Page.{ReadPage, page_from, grid_of_page}
-use Rattle.jbig2_page_inverse.specs.PageWriter.{Choice, page_bytes}
+use Rattle.jbig2_inverses.specs.SegmentWriter.{number_or_0}
+use Rattle.jbig2_page_inverse.specs.PageFile.{page_file}
+use Rattle.jbig2_page_inverse.specs.PageWriter.{Choice, page_bytes, resolution_of}
 use Rattle.jbig2_writer.specs.declared.error.WriteError.{WriteError}
 use Rattle.jbig2_writer.specs.declared.error.WriteError.TheVariants.{InvalidSides, OutOfMemory}
 use Rattle.jbig2_writer.specs.declared.settings.WriteSettings.{WriteSettings}
+
+abbrev pub stated : Option ℕ → Option ℕ  -- the resolution that is stated: 0 states none (7.4.8.3)
+stated resolution = nonzero (number_or_0 resolution)
 
 -- by the arithmetic coder, with nominal adaptive pixels
 abbrev pub choice_of : WriteSettings → Choice
@@ -21,6 +29,8 @@ choice_of s = record {
   extended = false;
   typical = s.typical;
   adaptive = nominal_adaptive_pixels s.template;
+  x_resolution = stated s.x_resolution;
+  y_resolution = stated s.y_resolution;
 }
 
 abbrev pub is_side : ℕ → Bool
@@ -33,12 +43,27 @@ check_size width height = if is_side width && is_side height then Ok tt else Err
 abbrev pub written : WriteSettings → Grid → Result (List ℕ) WriteError
 written s g = check_size g.width g.height >>= λ _. Ok (page_bytes (choice_of s) g.width g.height (pixel_at g))
 
+-- the file of this page
+abbrev pub written_file : WriteSettings → Grid → Result (List ℕ) WriteError
+written_file s g = check_size g.width g.height >>= λ _. Ok (page_file (choice_of s) g.width g.height (pixel_at g))
+
 -- The result of a call, seen by `view`, is what was meant, unless memory ran out.
 abbrev pub Gives : {X Y : Type 0} → (X → Y) → Result X WriteError → Result Y WriteError → Type 0
 Gives view (Ok x) meant = meant ≡ Ok (view x)
 Gives view (Err e) meant = (e ≡ OutOfMemory) ⊎ (meant ≡ Err e)
 
--- In each mode and with any globals, the bytes are a page, and it is drawn as this grid.
-abbrev pub ReadsBack : List ℕ → Grid → Type 0
-ReadsBack bytes g = (reading : Reading) (globals : Names)
-    → (page : ReadPage) × (page_from reading globals bytes ≡ Ok page) × (grid_of_page page ≡ Ok g)
+-- The page is drawn as this grid, and states the resolution of the settings.
+abbrev pub Shows : WriteSettings → Grid → ReadPage → Type 0
+Shows s g page =
+    (grid_of_page page ≡ Ok g) × (resolution_of page.segments ≡ Ok (stated s.x_resolution, stated s.y_resolution))
+
+-- In each mode and with any globals, the bytes are a page that shows this.
+abbrev pub ReadsBack : WriteSettings → List ℕ → Grid → Type 0
+ReadsBack s bytes g = (reading : Reading) (globals : Names)
+    → (page : ReadPage) × (page_from reading globals bytes ≡ Ok page) × Shows s g page
+
+-- In each mode the bytes are a file of one page, which shows this.
+abbrev pub FileReadsBack : WriteSettings → List ℕ → Grid → Type 0
+FileReadsBack s bytes g = (reading : Reading)
+    → (book : ReadFile) × (page : ReadPage) × (book_at reading bytes ≡ Ok book)
+    × (pages_of book ≡ page ∷ []) × Shows s g page

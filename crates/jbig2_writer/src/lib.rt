@@ -1,15 +1,19 @@
-//! Writes a bitmap as an embedded page of JBIG2 (ITU-T T.88): page information, and one immediate generic region of
-//! the page's size. By proof the definition of a page reads each bitmap back as it was.
+//! Writes a bitmap as an embedded page of JBIG2 (ITU-T T.88), or as a file of one page: page information, and one
+//! immediate generic region of the page's size. By proof the definitions of a page and of a file read each bitmap back
+//! as it was.
 #![tactic(auto)]
 
 mod decisions;
 mod error;
+mod file;
 mod neighbours;
+mod packed;
 mod page;
 mod segments;
 mod settings;
 mod windows;
 
 pub use error::WriteError;
-pub use page::write_page;
+pub use file::{write_file, write_packed_file};
+pub use page::{write_packed, write_page};
 pub use settings::WriteSettings;

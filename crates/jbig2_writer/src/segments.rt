@@ -1,8 +1,10 @@
-//! The segments of a page as bytes (T.88, 7.2, 7.4.6 and 7.4.8).
-ghost use Rattle.std.specs.Prelude.{◌≡◌, ◌+◌, ◌*◌, ◌^◌, ◌<◌, ◌++◌, length, OnOk};
+//! The segments of a page, and the header of a file, as bytes (T.88, 7.2, 7.4.6, 7.4.8 and D.4).
+ghost use Rattle.std.specs.Prelude.{◌≡◌, ◌+◌, ◌*◌, ◌^◌, ◌<◌, ◌++◌, false, length, OnOk};
 ghost use Rattle.std.specs.List.{flat_map};
 ghost use Rattle.jbig2_base.specs.Grid.{bit_number};
+ghost use Rattle.jbig2_inverses.specs.FileWriter.{file_header_bytes};
 ghost use Rattle.jbig2_inverses.specs.GenericSegmentWriter.{adaptive_bytes, template_number};
+ghost use Rattle.jbig2_page_inverse.specs.PageFile.{file_header};
 ghost use Rattle.jbig2_region.specs.Templates.{nominal_adaptive_pixels};
 ghost use Rattle.jbig2_writer.specs.inner.Segments.{page_information, region_data, segment_of};
 
@@ -10,19 +12,19 @@ use crate::settings::WriteSettings;
 use jbig2_region::template::Template;
 use std::alloc::{AllocError, Allocator};
 
-/// Adds a segment of this number and type (7.3) on page 1, which refers to no other.
+/// Adds a segment of this number and type (7.3), of this page, which refers to no other.
 pub fn push_segment<A: Allocator>(
     bytes: &mut Vec<u8, A>,
     number: u32,
     kind: u8,
+    page: u32,
     segment_data: &[u8],
 ) -> Result<(), AllocError>
     requires kind { kind < 64 }
     requires short { length segment_data.now < 2 ^ 32 }
     ensures { OnOk result
-        (bytes.new.items ≡ bytes.old.items ++ segment_of number kind segment_data.now) }
+        (bytes.new.items ≡ bytes.old.items ++ segment_of number kind page segment_data.now) }
 {
-    let page: u32 = 1;
     bytes.extend_from_slice(&number.to_be_bytes())?;
     bytes.extend_from_slice(&[kind + 64, 0])?;
     bytes.extend_from_slice(&page.to_be_bytes())?;
@@ -31,17 +33,22 @@ pub fn push_segment<A: Allocator>(
     Ok(())
 }
 
-/// Adds the data of page information: a lossless page of this size, which begins white, of no stated resolution.
+/// Adds the data of page information: a lossless page of this size and resolution, which begins white.
 pub fn push_information<A: Allocator>(
     bytes: &mut Vec<u8, A>,
     width: u32,
     height: u32,
+    x_resolution: u32,
+    y_resolution: u32,
 ) -> Result<(), AllocError>
-    ensures { OnOk result (bytes.new.items ≡ bytes.old.items ++ page_information width height) }
+    ensures { OnOk result (bytes.new.items
+        ≡ bytes.old.items ++ page_information width height x_resolution y_resolution) }
 {
     bytes.extend_from_slice(&width.to_be_bytes())?;
     bytes.extend_from_slice(&height.to_be_bytes())?;
-    bytes.extend_from_slice(&[0, 0, 0, 0, 0, 0, 0, 0, 1, 0, 0])?;
+    bytes.extend_from_slice(&x_resolution.to_be_bytes())?;
+    bytes.extend_from_slice(&y_resolution.to_be_bytes())?;
+    bytes.extend_from_slice(&[1, 0, 0])?;
     Ok(())
 }
 
@@ -94,5 +101,16 @@ pub fn push_region<A: Allocator>(
     bytes.push(region_flags(settings))?;
     bytes.extend_from_slice(adaptive_bytes(settings.template))?;
     bytes.extend_from_slice(coded)?;
+    Ok(())
+}
+
+/// Adds the header of a file of one page, in sequential organisation (D.4).
+pub fn push_file_header<A: Allocator>(bytes: &mut Vec<u8, A>) -> Result<(), AllocError>
+    ensures { OnOk result
+        (bytes.new.items ≡ bytes.old.items ++ file_header_bytes (file_header false)) }
+{
+    bytes.extend_from_slice(&[
+        0x97, 0x4A, 0x42, 0x32, 0x0D, 0x0A, 0x1A, 0x0A, 1, 0, 0, 0, 1,
+    ])?;
     Ok(())
 }
