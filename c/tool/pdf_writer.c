@@ -48,8 +48,10 @@ static struct points points_of(uint32_t pixels, uint32_t resolution) {
 bool begin_pdf(struct pdf_writer *pdf) { return put(pdf, "%%PDF-1.4\n%%\xE2\xE3\xCF\xD3\n"); }
 
 bool add_pdf_page(struct pdf_writer *pdf, const struct bilevel *image, const struct bytes *stream) {
-    struct points width = points_of(image->width, image->x_resolution);
-    struct points height = points_of(image->height, image->y_resolution);
+    /* One resolution alone says nothing of the picture's form. */
+    bool is_stated = image->x_resolution > 0 && image->y_resolution > 0;
+    struct points width = points_of(image->width, is_stated ? image->x_resolution : 0);
+    struct points height = points_of(image->height, is_stated ? image->y_resolution : 0);
     char shown[128];
     int length = snprintf(shown, sizeof shown, "q %s 0 0 %s 0 0 cm /Image Do Q\n", width.text, height.text);
     size_t page = begin_object(pdf);

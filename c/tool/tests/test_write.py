@@ -136,6 +136,9 @@ class Writing(Case):
             self.assertEqual(struct.unpack(">II", (self.room / "a.jb2e").read_bytes()[22:30]), (7874, 3937))
             self.assert_ends(self.run_here("write", "scan.png", "-o", "a.pdf"), WHOLE)
             self.assertIn(b"/MediaBox [0 0 10.8000 14.4000]", (self.room / "a.pdf").read_bytes())
+            self.made(png(picture, chunks=chunk(b"pHYs", struct.pack(">IIB", 7874, 0, 1))), "scan.png")
+            self.assert_ends(self.run_here("write", "scan.png", "-o", "a.pdf", "--force"), WHOLE)
+            self.assertIn(b"/MediaBox [0 0 7.2000 4.8000]", (self.room / "a.pdf").read_bytes())
 
     def test_pbm_forms(self):
         picture = noise(37, 9)
