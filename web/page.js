@@ -38,7 +38,8 @@ const queue = new FileQueue({
     stopAll.disabled = !isRunning;
     files.setAttribute("aria-busy", String(isRunning));
     const decoded = `${running.join(", ")} ${running.length === 1 ? "is" : "are"} being decoded.`;
-    const text = isRunning ? `${decoded}${waiting ? ` Files that wait: ${waiting}.` : ""}` : `${last} is done. ${summary()}`;
+    const done = sections.length > 0 ? `${last} is done. ${summary()}` : "";
+    const text = isRunning ? `${decoded}${waiting ? ` Files that wait: ${waiting}.` : ""}` : done;
     // A screen reader reads it again where it is set.
     if (note.textContent !== text) note.textContent = text;
   },

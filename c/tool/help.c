@@ -38,7 +38,7 @@ void print_help(void) {
           "\n"
           "Writing (a PICTURE is a PNG, TIFF or PBM file of black and white alone; it is read back as it was):\n"
           "  -o, --output FILE     a JBIG2 file of one page, or FILE.pdf: a page for each picture\n"
-          "                        without -o: NAME.jb2 in this folder\n"
+          "                        without -o: NAME.jb2 in this folder, NAME-1.jb2 .. of several pictures\n"
           "  -f, --format FORMAT   jb2, jb2e (an embedded page, as PDF files have it; so does --embedded) or pdf\n"
           "      --template N      which pixels predict a pixel: 0, the usual way, to 3\n"
           "      --no-typical      codes each row, also one that is as the row above it\n"

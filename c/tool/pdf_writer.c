@@ -31,7 +31,7 @@ static size_t begin_object(struct pdf_writer *pdf) {
     return FIRST_PAGE + pdf->count++;
 }
 
-/* A length in points, 1/72 inch, as a decimal fraction. */
+/* A length in points, 1/72 inch, as a decimal fraction that is above 0: readers take no page without a size. */
 struct points {
     char text[32];
 };
@@ -40,6 +40,7 @@ static struct points points_of(uint32_t pixels, uint32_t resolution) {
     struct points points;
     uint64_t divisor = resolution > 0 ? (uint64_t)resolution * 254 : (uint64_t)USUAL_RESOLUTION * 10000;
     uint64_t parts = ((uint64_t)pixels * 7200000000 + divisor / 2) / divisor;
+    parts = parts > 0 ? parts : 1;
     snprintf(points.text, sizeof points.text, "%" PRIu64 ".%04" PRIu64, parts / 10000, parts % 10000);
     return points;
 }
@@ -47,8 +48,10 @@ static struct points points_of(uint32_t pixels, uint32_t resolution) {
 bool begin_pdf(struct pdf_writer *pdf) { return put(pdf, "%%PDF-1.4\n%%\xE2\xE3\xCF\xD3\n"); }
 
 bool add_pdf_page(struct pdf_writer *pdf, const struct bilevel *image, const struct bytes *stream) {
-    struct points width = points_of(image->width, image->x_resolution);
-    struct points height = points_of(image->height, image->y_resolution);
+    /* One resolution alone says nothing of the picture's form. */
+    bool is_stated = image->x_resolution > 0 && image->y_resolution > 0;
+    struct points width = points_of(image->width, is_stated ? image->x_resolution : 0);
+    struct points height = points_of(image->height, is_stated ? image->y_resolution : 0);
     char shown[128];
     int length = snprintf(shown, sizeof shown, "q %s 0 0 %s 0 0 cm /Image Do Q\n", width.text, height.text);
     size_t page = begin_object(pdf);

@@ -36,7 +36,7 @@ const char *version_of_format(enum format format) {
 
 void add_missing_package(struct text *text, enum format format) {
     bool is_png = format == FORMAT_PNG;
-    add_text(text, "%s needs %s (Debian's %s), which this program was built without; --format pbm needs nothing",
+    add_text(text, "%s needs %s (Debian's %s), which this program was built without; PBM needs nothing",
              is_png ? "PNG" : "TIFF", is_png ? "libpng" : "libtiff", is_png ? "libpng-dev" : "libtiff-dev");
 }
 

@@ -19,7 +19,8 @@ static tmsize_t give_bytes(thandle_t handle, void *room, tmsize_t count) {
     struct place *place = handle;
     size_t left = place->at < place->bytes->length ? place->bytes->length - place->at : 0;
     size_t taken = (size_t)count < left ? (size_t)count : left;
-    memcpy(room, place->bytes->at + place->at, taken);
+    if (taken > 0)
+        memcpy(room, place->bytes->at + place->at, taken);
     place->at += taken;
     return (tmsize_t)taken;
 }
@@ -52,19 +53,21 @@ static uint32_t resolution_of(TIFF *tiff, uint32_t tag) {
     return each_metre >= 0.5 && each_metre < 4e9 ? (uint32_t)(each_metre + 0.5) : 0;
 }
 
-/* What of a page `write` doesn't take, or NULL. */
-static const char *fault_of(TIFF *tiff, uint16_t depth, uint16_t photometric) {
+/* False with a reason where `write` doesn't take a page. */
+static bool is_taken(TIFF *tiff, uint16_t depth, uint16_t photometric, struct text *reason) {
     uint16_t samples = 1, orientation = ORIENTATION_TOPLEFT;
     TIFFGetFieldDefaulted(tiff, TIFFTAG_SAMPLESPERPIXEL, &samples);
     TIFFGetFieldDefaulted(tiff, TIFFTAG_ORIENTATION, &orientation);
     bool is_gray = photometric == PHOTOMETRIC_MINISBLACK || photometric == PHOTOMETRIC_MINISWHITE;
     if (samples != 1 || !is_gray)
-        return "the picture has colours";
-    if (depth != 1 && depth != 8)
-        return "its pixels have neither one bit nor eight";
-    if (TIFFIsTiled(tiff))
-        return "the picture is in tiles";
-    return orientation != ORIENTATION_TOPLEFT ? "the picture is turned (Orientation)" : NULL;
+        add_not_bilevel(reason, "the picture has colours");
+    else if (depth != 1 && depth != 8)
+        add_not_bilevel(reason, "its pixels have neither one bit nor eight");
+    else if (TIFFIsTiled(tiff))
+        add_text(reason, "the picture is in tiles; write takes TIFF in strips alone");
+    else if (orientation != ORIENTATION_TOPLEFT)
+        add_text(reason, "the picture is turned (Orientation); write takes it upright alone");
+    return reason->length == 0;
 }
 
 /* A row of bits or bytes, 0 for black unless the page is inverted. */
@@ -99,10 +102,7 @@ static bool read_page(TIFF *tiff, struct bilevel *image, struct text *reason) {
     TIFFGetField(tiff, TIFFTAG_PHOTOMETRIC, &photometric);
     image->x_resolution = resolution_of(tiff, TIFFTAG_XRESOLUTION);
     image->y_resolution = resolution_of(tiff, TIFFTAG_YRESOLUTION);
-    const char *fault = fault_of(tiff, depth, photometric);
-    if (fault != NULL)
-        add_not_bilevel(reason, fault);
-    return fault == NULL && make_rows(image, reason) &&
+    return is_taken(tiff, depth, photometric, reason) && make_rows(image, reason) &&
            read_rows_of(tiff, image, depth, photometric == PHOTOMETRIC_MINISWHITE, reason);
 }
 

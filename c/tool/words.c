@@ -52,18 +52,23 @@ static bool read_number(const char **at, uint64_t *number) {
     return errno == 0;
 }
 
+/* SIZE_MAX stands for no last page. */
+static bool read_page_number(const char **at, uint64_t *number) {
+    return read_number(at, number) && *number >= 1 && *number < SIZE_MAX;
+}
+
 static bool read_range(const char **at, struct range *range) {
     uint64_t first, last;
-    if (!read_number(at, &first))
+    if (!read_page_number(at, &first))
         return false;
     last = first;
     if (**at == '-') {
         ++*at;
-        if (isdigit((unsigned char)**at) ? !read_number(at, &last) : (last = SIZE_MAX, false))
+        if (isdigit((unsigned char)**at) ? !read_page_number(at, &last) : (last = SIZE_MAX, false))
             return false;
     }
-    *range = (struct range){first > SIZE_MAX ? SIZE_MAX : first, last > SIZE_MAX ? SIZE_MAX : last};
-    return first >= 1 && first <= last;
+    *range = (struct range){first, last};
+    return first <= last;
 }
 
 static bool read_ranges(struct words *words, const char *at) {

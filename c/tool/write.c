@@ -11,7 +11,7 @@
 #include <stdlib.h>
 #include <string.h>
 
-/* What is written. A PDF file gets a page after the other. */
+/* What is written. A single PDF file gets a page after the other. */
 struct writing {
     const struct words *words;
     const char *single_name; /* NULL: standard output, or a file for each image */
@@ -46,24 +46,41 @@ static bool encode(const struct writing *writing, const struct bilevel *image, s
     return false;
 }
 
-static bool write_file(const struct writing *writing, const char *name, const struct bytes *stream,
-                       struct text *reason) {
+/* A PDF file of one page. */
+static bool add_pdf(struct output *output, const struct bilevel *image, const struct bytes *stream,
+                    struct text *reason) {
+    struct pdf_writer pdf = {.file = output->file};
+    bool is_written = begin_pdf(&pdf) && add_pdf_page(&pdf, image, stream) && end_pdf(&pdf);
+    if (!is_written)
+        fail_by_system(output, reason);
+    free_pdf(&pdf);
+    return is_written;
+}
+
+static bool add_all(struct output *output, const struct bilevel *image, const struct bytes *stream,
+                    struct text *reason) {
+    return output->format == FORMAT_PDF ? add_pdf(output, image, stream, reason) : add_stream(output, stream, reason);
+}
+
+static bool write_file(const struct writing *writing, const char *name, const struct bilevel *image,
+                       const struct bytes *stream, struct text *reason) {
     struct output output;
     const struct words *words = writing->words;
-    if (open_output(&output, name, words->format, words->is_forced, reason) && add_stream(&output, stream, reason))
+    if (open_output(&output, name, words->format, words->is_forced, reason) && add_all(&output, image, stream, reason))
         return finish_output(&output, reason);
     abandon_output(&output);
     return false;
 }
 
 /* A file for each image, or the only image to the output that is named. */
-static bool write_own_file(struct writing *writing, const char *input, const struct bytes *stream, size_t index,
-                           size_t count, struct text *reason) {
+static bool write_own_file(struct writing *writing, const char *input, const struct bilevels *images, size_t index,
+                           const struct bytes *stream, struct text *reason) {
+    const struct bilevel *image = &images->at[index];
     if (writing->is_single)
-        return write_file(writing, writing->single_name, stream, reason);
-    char *name = file_name_of_picture(writing->words, shown_name(input), index + 1, count);
+        return write_file(writing, writing->single_name, image, stream, reason);
+    char *name = file_name_of_picture(writing->words, shown_name(input), index + 1, images->count);
     if (add_name(&writing->names, name))
-        return write_file(writing, name, stream, reason);
+        return write_file(writing, name, image, stream, reason);
     add_text(reason, "%s: picture %zu: another of this run has the name of its file", shown_name(input), index + 1);
     return false;
 }
@@ -73,8 +90,10 @@ static bool add_page(struct writing *writing, const struct bilevel *image, const
     const struct words *words = writing->words;
     struct output *output = &writing->output;
     if (!writing->is_pdf_open) {
-        if (!open_output(output, writing->single_name, FORMAT_PDF, words->is_forced, reason))
+        if (!open_output(output, writing->single_name, FORMAT_PDF, words->is_forced, reason)) {
+            abandon_output(output);
             return false;
+        }
         writing->pdf = (struct pdf_writer){.file = output->file};
         writing->is_pdf_open = true;
         if (!begin_pdf(&writing->pdf))
@@ -83,18 +102,32 @@ static bool add_page(struct writing *writing, const struct bilevel *image, const
     return add_pdf_page(&writing->pdf, image, stream) || fail_by_system(output, reason);
 }
 
+/* Says which input has the fault. */
+static void name_input(const char *name, struct text *reason) {
+    struct text fault = *reason;
+    *reason = (struct text){NULL, 0, 0};
+    add_text(reason, "%s: %s", shown_name(name), fault.at);
+    free_text(&fault);
+}
+
+static bool is_one_pdf(const struct writing *writing) {
+    return writing->is_single && writing->words->format == FORMAT_PDF;
+}
+
 static bool write_image(struct writing *writing, const char *input, const struct bilevels *images, size_t index,
                         struct text *reason) {
-    struct bilevel image = images->at[index];
+    struct bilevel *image = &images->at[index];
     struct bytes stream = {NULL, 0};
     uint32_t resolution = writing->words->resolution;
     if (resolution > 0)
-        image.x_resolution = image.y_resolution = resolution;
-    bool is_written = encode(writing, &image, &stream, reason);
-    if (is_written && writing->words->format == FORMAT_PDF)
-        is_written = add_page(writing, &image, &stream, reason);
-    else if (is_written)
-        is_written = write_own_file(writing, input, &stream, index, images->count, reason);
+        image->x_resolution = image->y_resolution = resolution;
+    bool is_written = encode(writing, image, &stream, reason);
+    if (!is_written)
+        name_input(input, reason);
+    else if (is_one_pdf(writing))
+        is_written = add_page(writing, image, &stream, reason);
+    else
+        is_written = write_own_file(writing, input, images, index, &stream, reason);
     free_bytes(&stream);
     return is_written;
 }
@@ -106,14 +139,6 @@ static bool has_place_for(const struct writing *writing, const struct bilevels *
         return true;
     add_text(reason, "a file that is written holds one page: name a PDF file or a folder for several");
     return false;
-}
-
-/* Says which input has the fault. */
-static void name_input(const char *name, struct text *reason) {
-    struct text fault = *reason;
-    *reason = (struct text){NULL, 0, 0};
-    add_text(reason, "%s: %s", shown_name(name), fault.at);
-    free_text(&fault);
 }
 
 static bool read_images(const struct writing *writing, const char *name, struct bilevels *images, struct text *reason) {
@@ -163,7 +188,7 @@ enum status write_all(const struct words *words) {
     writing.is_single = has_single_output(words, &writing.single_name);
     print_messages(&messages);
     free_text(&messages);
-    for (size_t i = 0; i < words->input_count && (status == ALL_WHOLE || words->format != FORMAT_PDF); i++) {
+    for (size_t i = 0; i < words->input_count && (status == ALL_WHOLE || !is_one_pdf(&writing)); i++) {
         const char *name = words->inputs[i];
         struct text reason = {NULL, 0, 0};
         if (!write_input(&writing, name, &reason)) {

@@ -2,6 +2,7 @@
 
 from __future__ import annotations
 
+import math
 import random
 import struct
 import unittest
@@ -56,7 +57,7 @@ class Encoding(unittest.TestCase):
             coded = hayro_jbig2.encode(LETTER, 5, 8, resolution=resolution)
             self.assertEqual(struct.unpack(">II", coded[22:30]), numbers)
             self.compare(coded, 5, 8, LETTER)
-        for resolution in -1, 2**40, (300, -2):
+        for resolution in -1, 2**40, (300, -2), math.nan, math.inf:
             with self.assertRaises(ValueError):
                 hayro_jbig2.encode(LETTER, 5, 8, resolution=resolution)
 
@@ -79,9 +80,10 @@ class Images(unittest.TestCase):
     def setUp(self):
         try:
             from PIL import Image
+            from PIL.TiffImagePlugin import IFDRational
         except ImportError:
             self.skipTest("Pillow is not installed")
-        self.Image = Image
+        self.Image, self.Fraction = Image, IFDRational
 
     def test_images(self):
         page = hayro_jbig2.decode(EXAMPLE)
@@ -95,6 +97,13 @@ class Images(unittest.TestCase):
         image.info["dpi"] = (72, 600)
         self.assertEqual(struct.unpack(">II", hayro_jbig2.encode(image)[22:30]), (2835, 23622))
         self.assertEqual(struct.unpack(">II", hayro_jbig2.encode(image, resolution=300)[22:30]), (11811, 11811))
+
+    def test_an_image_may_state_nonsense(self):
+        image = self.Image.new("1", (5, 8))
+        # Pillow makes such a fraction of a TIFF picture's.
+        for dpi in (self.Fraction(1, 0), self.Fraction(0, 0)), (-1, 72), (math.inf, 72), (2**40, 72), 72j, "none":
+            image.info["dpi"] = dpi
+            self.assertEqual(hayro_jbig2.encode(image)[22:30], bytes(8), dpi)
 
     def test_others_are_refused(self):
         gray = self.Image.new("L", (5, 8), 1)

@@ -132,9 +132,11 @@ def clears(browser, slow, good):
     browser.wait_for('/^slow.jb2.* being decoded/.test(document.querySelector("#note").textContent)')
     browser.evaluate('document.querySelector("#clear").click()')
     browser.wait_for('document.querySelector("#stop-all").disabled')
+    note = browser.evaluate('document.querySelector("#note").textContent')
     drop(browser, [good])
     pages = shown(browser)
-    return [] if list(pages) == [good.name] and len(pages[good.name]) == 3 else [f"all is cleared away: {pages}"]
+    is_shown = note == "" and list(pages) == [good.name] and len(pages[good.name]) == 3
+    return [] if is_shown else [f"all is cleared away: {note!r}, {pages}"]
 
 
 def faults_from_a_folder(browser, folder):

@@ -85,6 +85,8 @@ class Words(Case):
                 self.assertEqual([name for name in self.files() if name.startswith(f"{numbers}")], expected)
                 self.assertEqual(ended.status, NOT_DONE if "7" in pages else WHOLE)
         self.assert_ends(self.run_here(EXAMPLE, "-p", "4"), NOT_DONE, "t88-h1.jb2: no page 4, the last is 3")
+        for pages in "2-18446744073709551615", "18446744073709551615", "2-18446744073709551616":
+            self.assert_ends(self.run_here(EXAMPLE, "-p", pages), WRONG_WORDS, f"wrong word for --pages: {pages}")
 
     def test_kinds_and_hints(self):
         for data, hint in {

@@ -8,7 +8,7 @@ import subprocess
 import unittest
 import zlib
 
-from support import BARE, BOOK, HAS_PDF, HAS_PNG, HAS_TIFF, NOT_DONE, PNG, WHOLE, WRONG_WORDS
+from support import BARE, BOOK, HAS_PDF, HAS_PNG, HAS_TIFF, NOT_DONE, PNG, SANITIZED, WHOLE, WRONG_WORDS
 from support import Case, Picture, of_numbers, pictures_of
 
 INCH = 0.0254
@@ -50,6 +50,18 @@ def png(picture: Picture, depth: int = 1, kind: int = 0, shades=(0, None), chunk
         data += b"\0" + int(bits, 2).to_bytes(len(bits) // 8, "big")
     header = struct.pack(">IIBBBBB", picture.width, picture.height, depth, kind, 0, 0, 0)
     return PNG + chunk(b"IHDR", header) + chunks + chunk(b"IDAT", zlib.compress(data)) + chunk(b"IEND", b"")
+
+
+def tiff(picture: Picture, **others: int) -> bytes:
+    """A TIFF picture of one bit for each pixel, with other numbers for some of its fields."""
+    fields = {"width": 256, "height": 257, "depth": 258, "coding": 259, "photometric": 262, "place": 273}
+    fields |= {"orientation": 274, "samples": 277, "strip": 278, "size": 279, "tile": 322, "tile_height": 323}
+    fields |= {"tile_place": 324, "tile_size": 325}
+    numbers = {"width": picture.width, "height": picture.height, "depth": 1, "coding": 1, "photometric": 0, "place": 8}
+    numbers |= {"samples": 1, "strip": picture.height, "size": len(picture.rows), **others}
+    listed = sorted((fields[name], number) for name, number in numbers.items())
+    data = b"II*\0" + struct.pack("<I", 8 + len(picture.rows)) + picture.rows + struct.pack("<H", len(listed))
+    return data + b"".join(struct.pack("<HHII", field, 4, 1, number) for field, number in listed) + bytes(4)
 
 
 class Writing(Case):
@@ -124,6 +136,9 @@ class Writing(Case):
             self.assertEqual(struct.unpack(">II", (self.room / "a.jb2e").read_bytes()[22:30]), (7874, 3937))
             self.assert_ends(self.run_here("write", "scan.png", "-o", "a.pdf"), WHOLE)
             self.assertIn(b"/MediaBox [0 0 10.8000 14.4000]", (self.room / "a.pdf").read_bytes())
+            self.made(png(picture, chunks=chunk(b"pHYs", struct.pack(">IIB", 7874, 0, 1))), "scan.png")
+            self.assert_ends(self.run_here("write", "scan.png", "-o", "a.pdf", "--force"), WHOLE)
+            self.assertIn(b"/MediaBox [0 0 7.2000 4.8000]", (self.room / "a.pdf").read_bytes())
 
     def test_pbm_forms(self):
         picture = noise(37, 9)
@@ -182,6 +197,48 @@ class Writing(Case):
             self.made((self.room / "all.tiff").read_bytes()[:short], "bad.tiff")
             self.assertEqual(self.run_here("write", "bad.tiff", "-o", "bad.pdf").status, NOT_DONE)
         self.assertNotIn("bad.pdf", self.files())
+
+    @unittest.skipUnless(HAS_TIFF, "built without libtiff")
+    def test_tiff_forms(self):
+        picture = noise(16, 16)
+        self.made(tiff(picture), "scan.tiff")
+        self.assert_ends(self.run_here("write", "scan.tiff"), WHOLE)
+        self.assertEqual(self.read_back("scan.jb2"), [picture])
+        tiles = {"tile": 16, "tile_height": 16, "tile_place": 8, "tile_size": 32}
+        not_bilevel = "; write takes black and white alone, so make it bi-level first\n"
+        bad = {
+            "the picture has colours" + not_bilevel: {"photometric": 2, "samples": 3},
+            "its pixels have neither one bit nor eight" + not_bilevel: {"depth": 4},
+            "the picture is in tiles; write takes TIFF in strips alone\n": tiles,
+            "the picture is turned (Orientation); write takes it upright alone\n": {"orientation": 6},
+        }
+        for text, numbers in bad.items():
+            with self.subTest(text):
+                self.made(tiff(picture, **numbers), "bad.tiff")
+                self.assert_ends(self.run_here("write", "bad.tiff"), NOT_DONE, f"bad.tiff: {text}")
+
+    def test_pdf_files_of_a_page(self):
+        picture = noise(20, 20)
+        self.made(picture.pbm, "a.pbm")
+        self.made(picture.pbm * 2, "b.pbm")
+        for words, folder in ([], ""), (["-o", "c/"], "c/"):
+            ended = self.run_here("write", "a.pbm", "b.pbm", "-f", "pdf", *words)
+            self.assertEqual((ended.status, ended.output, ended.errors), (WHOLE, b"", ""))
+            for name in "a", "b-1", "b-2":
+                self.assertIn(b"/Count 1 ", (self.room / f"{folder}{name}.pdf").read_bytes())
+                if HAS_PDF:
+                    self.assertEqual(self.read_back(f"{folder}{name}.pdf"), [picture])
+
+    def test_no_page_of_a_pdf_file_is_without_a_size(self):
+        self.made(noise(1, 1).pbm, "a.pbm")
+        self.assert_ends(self.run_here("write", "a.pbm", "-o", "a.pdf", "--dpi", "100000000"), WHOLE)
+        self.assertIn(b"/MediaBox [0 0 0.0001 0.0001]", (self.room / "a.pdf").read_bytes())
+
+    def test_a_file_that_can_not_be_made(self):
+        self.made(noise(20, 20).pbm, "a.pbm")
+        for name in "none/a.pdf", "none/a.jb2":
+            ended = self.run_here("write", "a.pbm", "-o", name, program=SANITIZED)
+            self.assertEqual((ended.status, ended.errors), (NOT_DONE, f"hayro-jbig2: {name}: No such file or directory\n"))
 
     def test_several(self):
         picture = noise(20, 20)
@@ -252,6 +309,7 @@ class Writing(Case):
             ended = self.run_here("write", name, "-o", "b.jb2", program=BARE)
             self.assertEqual(ended.status, NOT_DONE)
             self.assertIn(f"needs {library}", ended.errors)
+            self.assertIn("PBM needs nothing", ended.errors)
 
 
 if __name__ == "__main__":

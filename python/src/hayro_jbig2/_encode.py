@@ -64,7 +64,7 @@ def encode(
     size = (width + 7) // 8 * height
     if len(rows) != size:
         raise ValueError(f"packed rows of {width} by {height} pixels are {size} bytes, not {len(rows)}")
-    numbers = _for_each_metre(stated if resolution is None else resolution)
+    numbers = _stated_for_each_metre(stated) if resolution is None else _for_each_metre(resolution)
     return _library.written(rows, width, height, (template, *numbers, bool(typical), bool(file)))
 
 
@@ -121,7 +121,18 @@ def _for_each_metre(resolution: Resolution) -> tuple[int, int]:
     if resolution is None:
         return 0, 0
     x, y = resolution if isinstance(resolution, (tuple, list)) else (resolution, resolution)
-    numbers = (round(float(x) / _METRES_IN_AN_INCH), round(float(y) / _METRES_IN_AN_INCH))
+    try:
+        numbers = (round(float(x) / _METRES_IN_AN_INCH), round(float(y) / _METRES_IN_AN_INCH))
+    except (ArithmeticError, ValueError):  # It is infinite, or no number.
+        numbers = (-1, -1)
     if not all(0 <= number <= _GREATEST_NUMBER for number in numbers):
         raise ValueError("a resolution is from 0 to 109,000,000 pixels for each inch")
     return numbers
+
+
+def _stated_for_each_metre(resolution: Resolution) -> tuple[int, int]:
+    """The same of what a file states, which may be no resolution at all. Then none is stated."""
+    try:
+        return _for_each_metre(resolution)
+    except (TypeError, ValueError):
+        return 0, 0
