@@ -108,15 +108,12 @@ static bool read_by_libpng(png_structp png, png_infop info, struct reading_png *
     return true;
 }
 
-bool read_png(const struct bytes *bytes, struct bilevels *images, struct text *reason) {
+bool read_png(const struct bytes *bytes, const struct taker *taker, struct text *reason) {
     struct reading_png reading = {.place = {bytes->at, bytes->length}, .reason = reason};
     png_structp png = png_create_read_struct(PNG_LIBPNG_VER_STRING, &reading, note_error, ignore_warning);
     png_infop info = png != NULL ? png_create_info_struct(png) : NULL;
-    bool is_read = info != NULL && read_by_libpng(png, info, &reading);
-    if (is_read)
-        add_bilevel(images, &reading.image);
-    else
-        free(reading.image.rows);
+    bool is_read = info != NULL && read_by_libpng(png, info, &reading) && hand_over(taker, &reading.image, reason);
+    free(reading.image.rows);
     free(reading.rows);
     free(reading.pixels);
     png_destroy_read_struct(&png, &info, NULL);
@@ -125,8 +122,8 @@ bool read_png(const struct bytes *bytes, struct bilevels *images, struct text *r
 
 #else
 
-bool read_png(const struct bytes *bytes, struct bilevels *images, struct text *reason) {
-    (void)bytes, (void)images;
+bool read_png(const struct bytes *bytes, const struct taker *taker, struct text *reason) {
+    (void)bytes, (void)taker;
     add_missing_package(reason, FORMAT_PNG);
     return false;
 }

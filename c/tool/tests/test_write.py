@@ -244,6 +244,23 @@ class Writing(Case):
                 self.made(tiff(picture, **numbers), "bad.tiff")
                 self.assert_ends(self.run_here("write", "bad.tiff"), NOT_DONE, f"bad.tiff: {text}")
 
+    @unittest.skipUnless(HAS_TIFF, "built without libtiff")
+    def test_all_pages_need_not_fit_into_memory(self):
+        """Twenty pages of 8 MB each, whose rows are the same bytes of the file."""
+        side, count, begins = 8000, 20, 8
+        rows = zlib.compress(bytes(side * side // 8))
+        fields = {256: side, 257: side, 258: 1, 259: 8, 262: 0, 273: begins, 277: 1, 278: side, 279: len(rows)}
+        listed = b"".join(struct.pack("<HHII", field, 4, 1, number) for field, number in fields.items())
+        first, size = begins + len(rows), 2 + len(listed) + 4
+        data = b"II*\0" + struct.pack("<I", first) + rows
+        for page in range(count):
+            follower = first + (page + 1) * size if page + 1 < count else 0
+            data += struct.pack("<H", len(fields)) + listed + struct.pack("<I", follower)
+        self.made(data, "scan.tiff")
+        limit = functools.partial(resource.setrlimit, resource.RLIMIT_AS, (120 << 20, 120 << 20))
+        self.assert_ends(self.run_here("write", "scan.tiff", "-o", "scan.pdf", preexec_fn=limit), WHOLE)
+        self.assertIn(b"/Count 20 ", (self.room / "scan.pdf").read_bytes())
+
     def test_pdf_files_of_a_page(self):
         picture = noise(20, 20)
         self.made(picture.pbm, "a.pbm")
