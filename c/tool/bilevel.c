@@ -36,30 +36,25 @@ void add_not_bilevel(struct text *reason, const char *what) {
     add_text(reason, "%s; write takes black and white alone, so make it bi-level first", what);
 }
 
-void add_bilevel(struct bilevels *images, const struct bilevel *image) {
-    images->at = larger_room(images->at, (images->count + 1) * sizeof *images->at);
-    images->at[images->count++] = *image;
+bool hand_over(const struct taker *taker, struct bilevel *image, struct text *reason) {
+    bool is_taken = taker->take(taker->user, image, reason);
+    free(image->rows);
+    image->rows = NULL;
+    return is_taken;
 }
 
-void free_bilevels(struct bilevels *images) {
-    for (size_t i = 0; i < images->count; i++)
-        free(images->at[i].rows);
-    free(images->at);
-    *images = (struct bilevels){NULL, 0};
-}
-
-bool read_bilevels(const struct bytes *bytes, struct bilevels *images, struct text *reason) {
+bool read_bilevels(const struct bytes *bytes, const struct taker *taker, struct text *reason) {
     static const struct {
         const char *beginning;
         size_t length;
-        bool (*read)(const struct bytes *, struct bilevels *, struct text *);
+        bool (*read)(const struct bytes *, const struct taker *, struct text *);
     } formats[] = {
         {"\x89PNG", 4, read_png}, {"II*\0", 4, read_tiff}, {"MM\0*", 4, read_tiff},
         {"P1", 2, read_pbm},      {"P4", 2, read_pbm},
     };
     for (size_t i = 0; i < sizeof formats / sizeof *formats; i++)
         if (bytes->length >= formats[i].length && memcmp(bytes->at, formats[i].beginning, formats[i].length) == 0)
-            return formats[i].read(bytes, images, reason);
+            return formats[i].read(bytes, taker, reason);
     enum kind kind = kind_of(bytes);
     add_text(reason, "this is %s; write takes PNG, TIFF and PBM (P1 or P4)", name_of_kind(kind, bytes));
     return false;

@@ -26,21 +26,22 @@ bool pack_row(struct bilevel *image, uint32_t y, const uint8_t *pixels, size_t s
 /* "the picture is gray; write takes black and white alone" */
 void add_not_bilevel(struct text *reason, const char *what);
 
-/* Images of a file, in their order. It begins as {NULL, 0}. */
-struct bilevels {
-    struct bilevel *at;
-    size_t count;
+/* Who gets the images of a file in their order, each as soon as it is read, since all may be too many. False with a reason
+ * ends the reading. */
+struct taker {
+    bool (*take)(void *user, const struct bilevel *image, struct text *reason);
+    void *user;
 };
 
-void add_bilevel(struct bilevels *images, const struct bilevel *image);
-void free_bilevels(struct bilevels *images);
+/* Hands over an image, and frees its rows. */
+bool hand_over(const struct taker *taker, struct bilevel *image, struct text *reason);
 
-/* Reads all images of a file by its first bytes. False with a reason; what was read before is kept. */
-bool read_bilevels(const struct bytes *bytes, struct bilevels *images, struct text *reason);
+/* Reads all images of a file by its first bytes. False with a reason. */
+bool read_bilevels(const struct bytes *bytes, const struct taker *taker, struct text *reason);
 
 /* One format each, where the bytes begin as it does. */
-bool read_pbm(const struct bytes *bytes, struct bilevels *images, struct text *reason);
-bool read_png(const struct bytes *bytes, struct bilevels *images, struct text *reason);
-bool read_tiff(const struct bytes *bytes, struct bilevels *images, struct text *reason);
+bool read_pbm(const struct bytes *bytes, const struct taker *taker, struct text *reason);
+bool read_png(const struct bytes *bytes, const struct taker *taker, struct text *reason);
+bool read_tiff(const struct bytes *bytes, const struct taker *taker, struct text *reason);
 
 #endif

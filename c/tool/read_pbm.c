@@ -76,13 +76,12 @@ static bool read_picture(struct place *place, struct bilevel *image, struct text
     return false;
 }
 
-bool read_pbm(const struct bytes *bytes, struct bilevels *images, struct text *reason) {
+bool read_pbm(const struct bytes *bytes, const struct taker *taker, struct text *reason) {
     struct place place = {bytes->at, bytes->at + bytes->length};
     do {
         struct bilevel image = {.width = 0};
-        if (!read_picture(&place, &image, reason))
+        if (!read_picture(&place, &image, reason) || !hand_over(taker, &image, reason))
             return false;
-        add_bilevel(images, &image);
         while (place.at < place.end && isspace(*place.at))
             place.at++;
     } while (place.at < place.end);

@@ -64,13 +64,32 @@ static void note_resolution(png_structp png, png_infop info, struct bilevel *ima
     }
 }
 
-static void pack_rows(png_structp png, png_infop info, struct reading_png *reading) {
+static void take_row(png_structp png, png_infop info, struct reading_png *reading, uint32_t y, const uint8_t *row) {
     size_t size = png_get_rowbytes(png, info) / reading->image.width;
-    for (uint32_t y = 0; y < reading->image.height; y++)
-        if (!pack_row(&reading->image, y, reading->rows[y], size)) {
-            add_not_bilevel(reading->reason, size > 2 ? "the picture has colours" : "the picture has shades of gray");
-            png_error(png, "");
-        }
+    if (pack_row(&reading->image, y, row, size))
+        return;
+    add_not_bilevel(reading->reason, size > 2 ? "the picture has colours" : "the picture has shades of gray");
+    png_error(png, "");
+}
+
+/* Interlaced rows are known at the end alone. Others are taken one by one: they may be 24 times as large as packed ones. */
+static void take_rows(png_structp png, png_infop info, struct reading_png *reading) {
+    uint32_t height = reading->image.height;
+    bool is_interlaced = png_get_interlace_type(png, info) != PNG_INTERLACE_NONE;
+    size_t size = png_get_rowbytes(png, info);
+    reading->pixels = room_for(is_interlaced ? size * height : size);
+    if (is_interlaced) {
+        reading->rows = room_for(height * sizeof *reading->rows);
+        for (uint32_t y = 0; y < height; y++)
+            reading->rows[y] = reading->pixels + y * size;
+        png_read_image(png, reading->rows);
+    }
+    for (uint32_t y = 0; y < height; y++) {
+        if (!is_interlaced)
+            png_read_row(png, reading->pixels, NULL);
+        take_row(png, info, reading, y, is_interlaced ? reading->rows[y] : reading->pixels);
+    }
+    png_read_end(png, NULL);
 }
 
 static bool read_by_libpng(png_structp png, png_infop info, struct reading_png *reading) {
@@ -85,26 +104,16 @@ static bool read_by_libpng(png_structp png, png_infop info, struct reading_png *
     if (!make_rows(image, reading->reason))
         png_error(png, "");
     ask_for_shades(png, info);
-    size_t size = png_get_rowbytes(png, info);
-    reading->pixels = room_for(size * image->height);
-    reading->rows = room_for(image->height * sizeof *reading->rows);
-    for (uint32_t y = 0; y < image->height; y++)
-        reading->rows[y] = reading->pixels + y * size;
-    png_read_image(png, reading->rows);
-    png_read_end(png, NULL);
-    pack_rows(png, info, reading);
+    take_rows(png, info, reading);
     return true;
 }
 
-bool read_png(const struct bytes *bytes, struct bilevels *images, struct text *reason) {
+bool read_png(const struct bytes *bytes, const struct taker *taker, struct text *reason) {
     struct reading_png reading = {.place = {bytes->at, bytes->length}, .reason = reason};
     png_structp png = png_create_read_struct(PNG_LIBPNG_VER_STRING, &reading, note_error, ignore_warning);
     png_infop info = png != NULL ? png_create_info_struct(png) : NULL;
-    bool is_read = info != NULL && read_by_libpng(png, info, &reading);
-    if (is_read)
-        add_bilevel(images, &reading.image);
-    else
-        free(reading.image.rows);
+    bool is_read = info != NULL && read_by_libpng(png, info, &reading) && hand_over(taker, &reading.image, reason);
+    free(reading.image.rows);
     free(reading.rows);
     free(reading.pixels);
     png_destroy_read_struct(&png, &info, NULL);
@@ -113,8 +122,8 @@ bool read_png(const struct bytes *bytes, struct bilevels *images, struct text *r
 
 #else
 
-bool read_png(const struct bytes *bytes, struct bilevels *images, struct text *reason) {
-    (void)bytes, (void)images;
+bool read_png(const struct bytes *bytes, const struct taker *taker, struct text *reason) {
+    (void)bytes, (void)taker;
     add_missing_package(reason, FORMAT_PNG);
     return false;
 }

@@ -106,7 +106,7 @@ static bool read_page(TIFF *tiff, struct bilevel *image, struct text *reason) {
            read_rows_of(tiff, image, depth, photometric == PHOTOMETRIC_MINISWHITE, reason);
 }
 
-bool read_tiff(const struct bytes *bytes, struct bilevels *images, struct text *reason) {
+bool read_tiff(const struct bytes *bytes, const struct taker *taker, struct text *reason) {
     struct place place = {bytes, 0};
     TIFFSetErrorHandler(NULL);
     TIFFSetWarningHandler(NULL);
@@ -115,11 +115,10 @@ bool read_tiff(const struct bytes *bytes, struct bilevels *images, struct text *
     bool is_there = tiff != NULL, is_read = false;
     while (is_there) {
         struct bilevel image = {.width = 0};
-        if (!read_page(tiff, &image, reason)) {
+        if (!read_page(tiff, &image, reason) || !hand_over(taker, &image, reason)) {
             free(image.rows);
             break;
         }
-        add_bilevel(images, &image);
         is_read = TIFFLastDirectory(tiff) != 0;
         if (is_read)
             break;
@@ -134,8 +133,8 @@ bool read_tiff(const struct bytes *bytes, struct bilevels *images, struct text *
 
 #else
 
-bool read_tiff(const struct bytes *bytes, struct bilevels *images, struct text *reason) {
-    (void)bytes, (void)images;
+bool read_tiff(const struct bytes *bytes, const struct taker *taker, struct text *reason) {
+    (void)bytes, (void)taker;
     add_missing_package(reason, FORMAT_TIFF);
     return false;
 }

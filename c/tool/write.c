@@ -22,6 +22,19 @@ struct writing {
     bool is_pdf_open;
 };
 
+/* A picture as it is written. */
+struct page {
+    struct bilevel image; /* without its rows */
+    struct bytes stream;
+};
+
+/* The pictures of an input. */
+struct pages {
+    const struct writing *writing;
+    struct page *at;
+    size_t count;
+};
+
 static bool copy_written(hayro_jbig2_written *written, struct bytes *stream) {
     stream->length = hayro_jbig2_written_length(written);
     stream->at = room_for(stream->length);
@@ -38,55 +51,74 @@ static bool encode(const struct writing *writing, const struct bilevel *image, s
     settings.x_resolution = image->x_resolution;
     settings.y_resolution = image->y_resolution;
     settings.whole_file = writing->words->format == FORMAT_JBIG2;
+    *stream = (struct bytes){NULL, 0};
     uint32_t answer = hayro_jbig2_written_new(NULL, image->rows, bilevel_row_size(image) * image->height, image->width,
                                               image->height, &settings, &written);
     if (answer == HAYRO_JBIG2_OK && copy_written(written, stream))
         return true;
+    free_bytes(stream);
     add_text(reason, "%s", hayro_jbig2_error_text(answer));
     return false;
 }
 
+/* Of many pages less is kept than their rows. */
+static bool take_image(void *user, const struct bilevel *image, struct text *reason) {
+    struct pages *pages = user;
+    struct page page = {.image = *image};
+    uint32_t resolution = pages->writing->words->resolution;
+    if (resolution > 0)
+        page.image.x_resolution = page.image.y_resolution = resolution;
+    if (!encode(pages->writing, &page.image, &page.stream, reason))
+        return false;
+    page.image.rows = NULL;
+    pages->at = larger_room(pages->at, (pages->count + 1) * sizeof *pages->at);
+    pages->at[pages->count++] = page;
+    return true;
+}
+
+static void free_pages(struct pages *pages) {
+    for (size_t i = 0; i < pages->count; i++)
+        free_bytes(&pages->at[i].stream);
+    free(pages->at);
+}
+
 /* A PDF file of one page. */
-static bool add_pdf(struct output *output, const struct bilevel *image, const struct bytes *stream,
-                    struct text *reason) {
+static bool add_pdf(struct output *output, const struct page *page, struct text *reason) {
     struct pdf_writer pdf = {.file = output->file};
-    bool is_written = begin_pdf(&pdf) && add_pdf_page(&pdf, image, stream) && end_pdf(&pdf);
+    bool is_written = begin_pdf(&pdf) && add_pdf_page(&pdf, &page->image, &page->stream) && end_pdf(&pdf);
     if (!is_written)
         fail_by_system(output, reason);
     free_pdf(&pdf);
     return is_written;
 }
 
-static bool add_all(struct output *output, const struct bilevel *image, const struct bytes *stream,
-                    struct text *reason) {
-    return output->format == FORMAT_PDF ? add_pdf(output, image, stream, reason) : add_stream(output, stream, reason);
+static bool add_all(struct output *output, const struct page *page, struct text *reason) {
+    return output->format == FORMAT_PDF ? add_pdf(output, page, reason) : add_stream(output, &page->stream, reason);
 }
 
-static bool write_file(const struct writing *writing, const char *name, const struct bilevel *image,
-                       const struct bytes *stream, struct text *reason) {
+static bool write_file(const struct writing *writing, const char *name, const struct page *page, struct text *reason) {
     struct output output;
     const struct words *words = writing->words;
-    if (open_output(&output, name, words->format, words->is_forced, reason) && add_all(&output, image, stream, reason))
+    if (open_output(&output, name, words->format, words->is_forced, reason) && add_all(&output, page, reason))
         return finish_output(&output, reason);
     abandon_output(&output);
     return false;
 }
 
 /* A file for each image, or the only image to the output that is named. */
-static bool write_own_file(struct writing *writing, const char *input, const struct bilevels *images, size_t index,
-                           const struct bytes *stream, struct text *reason) {
-    const struct bilevel *image = &images->at[index];
+static bool write_own_file(struct writing *writing, const char *input, const struct pages *pages, size_t index,
+                           struct text *reason) {
+    const struct page *page = &pages->at[index];
     if (writing->is_single)
-        return write_file(writing, writing->single_name, image, stream, reason);
-    char *name = file_name_of_picture(writing->words, shown_name(input), index + 1, images->count);
+        return write_file(writing, writing->single_name, page, reason);
+    char *name = file_name_of_picture(writing->words, shown_name(input), index + 1, pages->count);
     if (add_name(&writing->names, name))
-        return write_file(writing, name, image, stream, reason);
+        return write_file(writing, name, page, reason);
     add_text(reason, "%s: picture %zu: another of this run has the name of its file", shown_name(input), index + 1);
     return false;
 }
 
-static bool add_page(struct writing *writing, const struct bilevel *image, const struct bytes *stream,
-                     struct text *reason) {
+static bool add_page(struct writing *writing, const struct page *page, struct text *reason) {
     const struct words *words = writing->words;
     struct output *output = &writing->output;
     if (!writing->is_pdf_open) {
@@ -99,7 +131,20 @@ static bool add_page(struct writing *writing, const struct bilevel *image, const
         if (!begin_pdf(&writing->pdf))
             return fail_by_system(output, reason);
     }
-    return add_pdf_page(&writing->pdf, image, stream) || fail_by_system(output, reason);
+    return add_pdf_page(&writing->pdf, &page->image, &page->stream) || fail_by_system(output, reason);
+}
+
+static bool is_one_pdf(const struct writing *writing) {
+    return writing->is_single && writing->words->format == FORMAT_PDF;
+}
+
+/* A JBIG2 file that is written has one page. */
+static bool has_place_for(const struct writing *writing, const struct pages *pages, struct text *reason) {
+    bool is_alone = pages->count == 1 && writing->words->input_count == 1;
+    if (is_alone || !writing->is_single || writing->words->format == FORMAT_PDF)
+        return true;
+    add_text(reason, "a file that is written holds one page: name a PDF file or a folder for several");
+    return false;
 }
 
 /* Says which input has the fault. */
@@ -110,43 +155,13 @@ static void name_input(const char *name, struct text *reason) {
     free_text(&fault);
 }
 
-static bool is_one_pdf(const struct writing *writing) {
-    return writing->is_single && writing->words->format == FORMAT_PDF;
-}
-
-static bool write_image(struct writing *writing, const char *input, const struct bilevels *images, size_t index,
-                        struct text *reason) {
-    struct bilevel *image = &images->at[index];
-    struct bytes stream = {NULL, 0};
-    uint32_t resolution = writing->words->resolution;
-    if (resolution > 0)
-        image->x_resolution = image->y_resolution = resolution;
-    bool is_written = encode(writing, image, &stream, reason);
-    if (!is_written)
-        name_input(input, reason);
-    else if (is_one_pdf(writing))
-        is_written = add_page(writing, image, &stream, reason);
-    else
-        is_written = write_own_file(writing, input, images, index, &stream, reason);
-    free_bytes(&stream);
-    return is_written;
-}
-
-/* A JBIG2 file that is written has one page. */
-static bool has_place_for(const struct writing *writing, const struct bilevels *images, struct text *reason) {
-    bool is_alone = images->count == 1 && writing->words->input_count == 1;
-    if (is_alone || !writing->is_single || writing->words->format == FORMAT_PDF)
-        return true;
-    add_text(reason, "a file that is written holds one page: name a PDF file or a folder for several");
-    return false;
-}
-
-static bool read_images(const struct writing *writing, const char *name, struct bilevels *images, struct text *reason) {
+static bool read_pages(const struct writing *writing, const char *name, struct pages *pages, struct text *reason) {
+    const struct taker taker = {take_image, pages};
     struct bytes bytes = {NULL, 0};
     bool is_read = read_input(name, &bytes);
     if (!is_read)
         add_text(reason, "%s", strerror(errno));
-    is_read = is_read && read_bilevels(&bytes, images, reason) && has_place_for(writing, images, reason);
+    is_read = is_read && read_bilevels(&bytes, &taker, reason) && has_place_for(writing, pages, reason);
     if (!is_read)
         name_input(name, reason);
     free_bytes(&bytes);
@@ -154,11 +169,12 @@ static bool read_images(const struct writing *writing, const char *name, struct 
 }
 
 static bool write_input(struct writing *writing, const char *name, struct text *reason) {
-    struct bilevels images = {NULL, 0};
-    bool is_written = read_images(writing, name, &images, reason);
-    for (size_t i = 0; i < images.count && is_written; i++)
-        is_written = write_image(writing, name, &images, i, reason);
-    free_bilevels(&images);
+    struct pages pages = {writing, NULL, 0};
+    bool is_written = read_pages(writing, name, &pages, reason);
+    for (size_t i = 0; i < pages.count && is_written; i++)
+        is_written = is_one_pdf(writing) ? add_page(writing, &pages.at[i], reason)
+                                         : write_own_file(writing, name, &pages, i, reason);
+    free_pages(&pages);
     return is_written;
 }
 

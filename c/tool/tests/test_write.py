@@ -1,7 +1,9 @@
 """The command `write`: pages and PDF files of pictures, which decode to these pictures again."""
 from __future__ import annotations
 
+import functools
 import random
+import resource
 import shutil
 import struct
 import subprocess
@@ -184,6 +186,31 @@ class Writing(Case):
                 self.assert_ends(self.run_here("write", "bad.png", "-o", "bad.jb2"), NOT_DONE, "bad.png: ", text)
         self.assertNotIn("bad.jb2", self.files())
 
+    @unittest.skipUnless(HAS_PNG, "built without libpng")
+    def test_a_large_png_takes_no_more_memory_than_its_packed_rows(self):
+        """12000 by 12000 pixels of a palette, which are 18 MB, and 432 MB as bytes of three colours."""
+        side = 12000
+        data = zlib.compress((b"\0" + b"\xff" * (side // 8)) * side)
+        header = struct.pack(">IIBBBBB", side, side, 1, 3, 0, 0, 0)
+        palette = chunk(b"PLTE", bytes([0, 0, 0, 255, 255, 255]))
+        self.made(PNG + chunk(b"IHDR", header) + palette + chunk(b"IDAT", data) + chunk(b"IEND", b""), "scan.png")
+        limit = functools.partial(resource.setrlimit, resource.RLIMIT_AS, (400 << 20, 400 << 20))
+        self.assert_ends(self.run_here("write", "scan.png", preexec_fn=limit), WHOLE)
+
+    @unittest.skipUnless(HAS_PNG, "built without libpng")
+    def test_interlaced_png(self):
+        picture = noise(37, 9)
+        rows = pixels_of(picture)
+        data = b""
+        passes = (0, 0, 8, 8), (4, 0, 8, 8), (0, 4, 4, 8), (2, 0, 4, 4), (0, 2, 2, 4), (1, 0, 2, 2), (0, 1, 1, 2)
+        for x, y, across, down in passes:
+            for row in rows[y::down]:
+                data += b"\0" + bytes(0 if pixel else 255 for pixel in row[x::across])
+        header = struct.pack(">IIBBBBB", picture.width, picture.height, 8, 0, 0, 0, 1)
+        self.made(PNG + chunk(b"IHDR", header) + chunk(b"IDAT", zlib.compress(data)) + chunk(b"IEND", b""), "scan.png")
+        self.assert_ends(self.run_here("write", "scan.png"), WHOLE)
+        self.assertEqual(self.read_back("scan.jb2"), [picture])
+
     @unittest.skipUnless(HAS_TIFF, "built without libtiff")
     def test_tiff(self):
         pictures = [noise(37, 9, 2), noise(64, 5, 3), noise(8, 8, 4)]
@@ -216,6 +243,23 @@ class Writing(Case):
             with self.subTest(text):
                 self.made(tiff(picture, **numbers), "bad.tiff")
                 self.assert_ends(self.run_here("write", "bad.tiff"), NOT_DONE, f"bad.tiff: {text}")
+
+    @unittest.skipUnless(HAS_TIFF, "built without libtiff")
+    def test_all_pages_need_not_fit_into_memory(self):
+        """Twenty pages of 8 MB each, whose rows are the same bytes of the file."""
+        side, count, begins = 8000, 20, 8
+        rows = zlib.compress(bytes(side * side // 8))
+        fields = {256: side, 257: side, 258: 1, 259: 8, 262: 0, 273: begins, 277: 1, 278: side, 279: len(rows)}
+        listed = b"".join(struct.pack("<HHII", field, 4, 1, number) for field, number in fields.items())
+        first, size = begins + len(rows), 2 + len(listed) + 4
+        data = b"II*\0" + struct.pack("<I", first) + rows
+        for page in range(count):
+            follower = first + (page + 1) * size if page + 1 < count else 0
+            data += struct.pack("<H", len(fields)) + listed + struct.pack("<I", follower)
+        self.made(data, "scan.tiff")
+        limit = functools.partial(resource.setrlimit, resource.RLIMIT_AS, (120 << 20, 120 << 20))
+        self.assert_ends(self.run_here("write", "scan.tiff", "-o", "scan.pdf", preexec_fn=limit), WHOLE)
+        self.assertIn(b"/Count 20 ", (self.room / "scan.pdf").read_bytes())
 
     def test_pdf_files_of_a_page(self):
         picture = noise(20, 20)
