@@ -27,9 +27,10 @@ static bool read_side(struct place *place, uint32_t *side) {
     pass_space(place);
     if (place->at == place->end || !isdigit(*place->at))
         return false;
-    for (; place->at < place->end && isdigit(*place->at); place->at++)
-        if (*side <= LONGEST_SIDE)
-            *side = *side * 10 + (uint32_t)(*place->at - '0');
+    for (; place->at < place->end && isdigit(*place->at); place->at++) {
+        uint64_t longer = (uint64_t)*side * 10 + (uint64_t)(*place->at - '0');
+        *side = longer < UINT32_MAX ? (uint32_t)longer : UINT32_MAX;
+    }
     return true;
 }
 

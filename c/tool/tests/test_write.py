@@ -155,6 +155,8 @@ class Writing(Case):
         for sides in b"0 8", b"8 0", b"65536 1", b"1 65536", b"99999999999999999999 1":
             self.made(b"P4 " + sides + b"\n" + bytes(70000), "bad.pbm")
             self.assert_ends(self.run_here("write", "bad.pbm", "-o", "bad.jb2"), NOT_DONE, "a page has 1 to 65535")
+        self.made(b"P4 1000000 1\n", "bad.pbm")
+        self.assert_ends(self.run_here("write", "bad.pbm", "-o", "bad.jb2"), NOT_DONE, "it has 1000000 by 1 pixels")
         self.assertNotIn("bad.jb2", self.files())
 
     @unittest.skipUnless(HAS_PNG, "built without libpng")
