@@ -53,6 +53,9 @@ void Z_hayro_jbig2Z_jbig2_c_release(Z_hayro_jbig2_instance_t*, u64);
 /* export: 'hayro_jbig2_file_page_count' */
 u64 Z_hayro_jbig2Z_hayro_jbig2_file_page_count(Z_hayro_jbig2_instance_t*, u64);
 
+/* export: 'hayro_jbig2_written_length' */
+u64 Z_hayro_jbig2Z_hayro_jbig2_written_length(Z_hayro_jbig2_instance_t*, u64);
+
 /* export: 'hayro_jbig2_context_new' */
 u32 Z_hayro_jbig2Z_hayro_jbig2_context_new(Z_hayro_jbig2_instance_t*, u64, u64);
 
@@ -85,6 +88,9 @@ u32 Z_hayro_jbig2Z_hayro_jbig2_region_get_info(Z_hayro_jbig2_instance_t*, u64, u
 
 /* export: 'hayro_jbig2_segment_get_length' */
 u32 Z_hayro_jbig2Z_hayro_jbig2_segment_get_length(Z_hayro_jbig2_instance_t*, u64, u32, u64, u64, u64);
+
+/* export: 'hayro_jbig2_written_bytes' */
+u32 Z_hayro_jbig2Z_hayro_jbig2_written_bytes(Z_hayro_jbig2_instance_t*, u64, u64, u64);
 
 /* export: 'jbig2_c_page_alone' */
 u32 Z_hayro_jbig2Z_jbig2_c_page_alone(Z_hayro_jbig2_instance_t*, u64, u32, u64, u64, u64);
@@ -154,6 +160,9 @@ u32 Z_hayro_jbig2Z_hayro_jbig2_segment_get_references(Z_hayro_jbig2_instance_t*,
 
 /* export: 'hayro_jbig2_context_rows' */
 u32 Z_hayro_jbig2Z_hayro_jbig2_context_rows(Z_hayro_jbig2_instance_t*, u64, u64, u64, u64);
+
+/* export: 'hayro_jbig2_written_new' */
+u32 Z_hayro_jbig2Z_hayro_jbig2_written_new(Z_hayro_jbig2_instance_t*, u64, u64, u64, u32, u32, u64, u64);
 
 /* export: '__heap_base' */
 u64* Z_hayro_jbig2Z___heap_base(Z_hayro_jbig2_instance_t* instance);
