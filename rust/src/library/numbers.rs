@@ -105,7 +105,8 @@ mod tests {
     #[test]
     fn the_number_of_the_limit_is_that_of_the_header() {
         let header = include_str!("../../../c/hayro_jbig2.h");
-        assert!(header.contains(&format!("    {} = {WORK_LIMIT}\n", name_in_c(&format!("{WorkLimit:?}")))));
+        let line = format!("{} = {WORK_LIMIT},", name_in_c(&format!("{WorkLimit:?}")));
+        assert!(header.lines().any(|other| other.trim() == line), "{line}");
         assert_eq!(error_of(WORK_LIMIT), Some(WorkLimit));
     }
 
