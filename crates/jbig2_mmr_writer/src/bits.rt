@@ -19,7 +19,7 @@ pub struct BitWriter<A: Allocator> {
 }
 
 impl<A: Allocator> Model for BitWriter<A> {
-    ghost use Rattle.std.specs.Prelude.{ℕ, List, ◌++◌, ◌^◌, ◌<◌};
+    ghost use Rattle.std.specs.Prelude.{ℕ, All, List, ◌++◌, ◌^◌, ◌<◌};
     ghost use Rattle.jbig2_inverses.specs.Digits.{digits};
     ghost use Rattle.jbig2_mmr.specs.T6.{bits_of};
 
@@ -27,7 +27,8 @@ impl<A: Allocator> Model for BitWriter<A> {
 
     ghost view = { λ s. bits_of s.bytes.items ++ digits s.count s.rest };
 
-    ghost invariant = { λ s. (s.count < 8) × (s.rest < 2 ^ s.count) };
+    ghost invariant = { λ s. (s.count < 8) × (s.rest < 2 ^ s.count)
+        × All (λ byte. byte < 256) s.bytes.items };
 }
 
 impl<A: Allocator> BitWriter<A> {

@@ -1,0 +1,3 @@
+mod BitLemmas
+mod CodeTables
+mod RunLemmas
