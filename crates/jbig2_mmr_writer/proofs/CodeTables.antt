@@ -1,7 +1,8 @@
 -- The writer's tables have T.6's code words: each entry is the word of the run or the mode that looks it up.
-use Rattle.std.proofs.Common.{◌≡◌, ℕ, ◌+◌, ◌-◌, ◌*◌, ◌/◌, ◌%◌, ◌^◌, ◌<◌, ◌≤◌, Bool, true, false, List, [], ◌∷◌, map, replicate, get_or, length, ltb, refl, ap, sym, ◌∙◌, arith}
+use Rattle.std.proofs.Common.{◌≡◌, ℕ, ◌+◌, ◌-◌, ◌*◌, ◌/◌, ◌%◌, ◌^◌, ◌<◌, ◌≤◌, Bool, true, false, List, [], ◌∷◌, map, replicate, get_or, length, ltb, ◌&&◌, zero, suc, refl, ap, sym, ◌∙◌, arith}
 use Rattle.std.specs.List.{range_with_len}
 use Rattle.std.proofs.lemmas.List.FromFn.{get_or-map-range_with_len}
+use Rattle.std.proofs.lemmas.Bool.{and_left, and_right, ltb-true}
 use Rattle.jbig2_mmr.specs.T6Codes.{modes, longer_runs, white_runs, black_runs, vertical_left, vertical_right}
 use Rattle.jbig2_inverses.specs.RowWriter.{mode_word, run_word, word_of}
 use Rattle.jbig2_mmr_writer.specs.declared.codes.TheConstants.{BLACK_ENDS, BLACK_PARTS, LEFT, RIGHT, WHITE_ENDS, WHITE_PARTS}
@@ -75,3 +76,42 @@ right-mode n small = ap (λ (t : List ℕ). get_or t n 0) rights ∙ get_or-map-
 pub left-mode : (n : ℕ) → n < 4 → get_or LEFT n 0 ≡ entry_of_word (mode_word (vertical_left n))
 unfolding left_at
 left-mode n small = ap (λ (t : List ℕ). get_or t n 0) lefts ∙ get_or-map-range_with_len left_at 0 4 n n 0 small (omega arith)
+
+-- ---- each code fits its size
+smalls : List ℕ → Bool
+smalls [] = true
+smalls (e ∷ es) = ltb (e / 16) (2 ^ (e % 16)) && smalls es
+
+small : (es : List ℕ) (i : ℕ) → smalls es ≡ true → get_or es i 0 / 16 < 2 ^ (get_or es i 0 % 16)
+unfolding smalls
+small [] i all = omega arith
+small (e ∷ es) zero all = ltb-true (e / 16) (2 ^ (e % 16)) (and_left all)
+small (e ∷ es) (suc i) all = small es i (and_right all)
+
+black_ends-small : smalls BLACK_ENDS ≡ true
+unfolding smalls
+black_ends-small = refl
+
+white_ends-small : smalls WHITE_ENDS ≡ true
+unfolding smalls
+white_ends-small = refl
+
+black_parts-small : smalls BLACK_PARTS ≡ true
+unfolding smalls
+black_parts-small = refl
+
+white_parts-small : smalls WHITE_PARTS ≡ true
+unfolding smalls
+white_parts-small = refl
+
+pub black-end-small : (i : ℕ) → get_or BLACK_ENDS i 0 / 16 < 2 ^ (get_or BLACK_ENDS i 0 % 16)
+black-end-small i = small BLACK_ENDS i black_ends-small
+
+pub white-end-small : (i : ℕ) → get_or WHITE_ENDS i 0 / 16 < 2 ^ (get_or WHITE_ENDS i 0 % 16)
+white-end-small i = small WHITE_ENDS i white_ends-small
+
+pub black-part-small : (i : ℕ) → get_or BLACK_PARTS i 0 / 16 < 2 ^ (get_or BLACK_PARTS i 0 % 16)
+black-part-small i = small BLACK_PARTS i black_parts-small
+
+pub white-part-small : (i : ℕ) → get_or WHITE_PARTS i 0 / 16 < 2 ^ (get_or WHITE_PARTS i 0 % 16)
+white-part-small i = small WHITE_PARTS i white_parts-small

@@ -1,5 +1,5 @@
 -- The state of a row as the writer has it, and what a mode adds.
-use Rattle.std.specs.Prelude.{◌≡◌, ℕ, ◌-◌, ◌≤◌, Bool, false, not, List, ◌++◌}
+use Rattle.std.specs.Prelude.{◌≡◌, ℕ, ◌-◌, ◌≤◌, Bool, false, not, true, List, ◌++◌}
 use Rattle.jbig2_base.specs.Grid.{Grid, differ}
 use Rattle.jbig2_base.specs.Search.{place_from}
 use Rattle.jbig2_mmr.specs.T6.{Head}
