@@ -28,6 +28,7 @@ digits-low (suc k) f n small =
   where
     spread : (f p q m : ℕ) → f * (2 * p) + (q * p + m) ≡ (2 * f + q) * p + m
     spread f p q m = omega arith
+
     even : (f q : ℕ) → (2 * f + q) % 2 ≡ q % 2
     even f q = omega arith
 

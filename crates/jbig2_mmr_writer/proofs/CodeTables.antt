@@ -2,7 +2,7 @@
 use Rattle.std.proofs.Common.{◌≡◌, ℕ, ◌+◌, ◌-◌, ◌*◌, ◌/◌, ◌%◌, ◌^◌, ◌<◌, ◌≤◌, Bool, true, false, List, [], ◌∷◌, map, replicate, get_or, length, ltb, ◌&&◌, zero, suc, refl, ap, sym, ◌∙◌, arith}
 use Rattle.std.specs.List.{range_with_len}
 use Rattle.std.proofs.lemmas.List.FromFn.{get_or-map-range_with_len}
-use Rattle.std.proofs.lemmas.Bool.{and_left, and_right, ltb-true}
+use Rattle.std.proofs.lemmas.Bool.{and_parts, ltb-true}
 use Rattle.jbig2_mmr.specs.T6Codes.{modes, longer_runs, white_runs, black_runs, vertical_left, vertical_right}
 use Rattle.jbig2_inverses.specs.RowWriter.{mode_word, run_word, word_of}
 use Rattle.jbig2_mmr_writer.specs.declared.codes.TheConstants.{BLACK_ENDS, BLACK_PARTS, LEFT, RIGHT, WHITE_ENDS, WHITE_PARTS}
@@ -85,8 +85,8 @@ smalls (e ∷ es) = ltb (e / 16) (2 ^ (e % 16)) && smalls es
 small : (es : List ℕ) (i : ℕ) → smalls es ≡ true → get_or es i 0 / 16 < 2 ^ (get_or es i 0 % 16)
 unfolding smalls
 small [] i all = omega arith
-small (e ∷ es) zero all = ltb-true (e / 16) (2 ^ (e % 16)) (and_left all)
-small (e ∷ es) (suc i) all = small es i (and_right all)
+small (e ∷ es) zero all = ltb-true (e / 16) (2 ^ (e % 16)) (and_parts _ _ all).0
+small (e ∷ es) (suc i) all = small es i (and_parts _ _ all).1
 
 black_ends-small : smalls BLACK_ENDS ≡ true
 unfolding smalls

@@ -73,14 +73,14 @@ pub b1-after : (row : ℕ → Bool) (black : Bool) (a0 to p place : ℕ) → a0 
 b1-after row black a0 to p place order one other =
     let moved : p < to → p ≡ place → ⊥ = λ inside e. not-own black (sym (one.found inside) ∙ ap row e ∙ other.found (omega (arith, inside, e))) in
     let later : a0 + 1 ≤ place = ⊎_elim
-      (λ (inside : p < to). omega (arith, moved inside, one.after, other.after))
-      (λ (past : to ≤ p). omega (arith, past, order, other.after))
-      (cases_lt p to) in
+    (λ (inside : p < to). omega (arith, moved inside, one.after, other.after))
+    (λ (past : to ≤ p). omega (arith, past, order, other.after))
+    (cases_lt p to) in
     let beyond : place < to → p + 1 ≤ place = λ inside. omega (arith, inside, other.after, moved (omega (arith, inside, other.after))) in
     sym (place-is (is_change_from row black) (a0 + 1) to place (omega (arith, order)) later other.within
     (λ i a b. ⊎_elim
-      (λ (early : i < p). no-change row black (not black) i (one.before i (omega (arith, a)) early) (left-here row i (omega (arith, a)) ∙ one.before (i - 1) (omega (arith, a)) (omega (arith, a, early))))
-      (λ (late : p ≤ i). no-change-to row black i (other.before i late b))
-      (cases_lt i p))
+    (λ (early : i < p). no-change row black (not black) i (one.before i (omega (arith, a)) early) (left-here row i (omega (arith, a)) ∙ one.before (i - 1) (omega (arith, a)) (omega (arith, a, early))))
+    (λ (late : p ≤ i). no-change-to row black i (other.before i late b))
+    (cases_lt i p))
     (λ inside. changes row black place (other.found inside)
-      (left-here row place (omega (arith, later)) ∙ other.before (place - 1) (omega (arith, beyond inside)) (omega (arith, later)) ∙ twice-not black)))
+    (left-here row place (omega (arith, later)) ∙ other.before (place - 1) (omega (arith, beyond inside)) (omega (arith, later)) ∙ twice-not black)))

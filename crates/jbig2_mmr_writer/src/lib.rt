@@ -2,8 +2,8 @@
 //! each bitmap back as it was.
 #![tactic(auto)]
 
-mod bits;
 mod bitmap;
+mod bits;
 mod changes;
 mod codes;
 mod row;
