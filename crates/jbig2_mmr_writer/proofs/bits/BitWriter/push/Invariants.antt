@@ -7,9 +7,9 @@ abbrev pub invariant-loop-left : goal.invariant-loop-left
 invariant-loop-left g l = record {
   small : l.rest < 2 ^ l.left;
   few : l.left < 32;
-  bits : bits_of l.self.bytes.items ++ digits l.left l.rest
-      ≡ bits_of l.fn.self.bytes.items ++ (digits l.fn.self.count l.fn.self.rest ++ digits l.count l.bits);
-  bytes : All (λ byte. byte < 256) l.self.bytes.items;
+  bits : bits_of l.self-inside.bytes.items ++ digits l.left l.rest
+      ≡ l.fn.self ++ digits l.count l.bits;
+  bytes : All (λ byte. byte < 256) l.self-inside.bytes.items;
 }
 
 abbrev pub decreases-loop-left : goal.decreases-loop-left
