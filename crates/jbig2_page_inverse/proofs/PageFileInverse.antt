@@ -1,7 +1,6 @@
 -- Files of one page are read back.
 use Rattle.std.proofs.Common.{◌≡◌, ℕ, eqb, Bool, false, not, ◌&&◌, List, [], ◌∷◌, length, Option, None, Some, Result, Ok, Err, refl, ◌∙◌, ap, arith}
 use Rattle.std.specs.List.{flat_map}
-use Rattle.std.proofs.lemmas.Bool.{and_right}
 use Rattle.jbig2_base.specs.Results.{◌>>=◌, refuse_if}
 use Rattle.jbig2_base.specs.declared.error.DecodeError.{DecodeError}
 use Rattle.jbig2_base.specs.declared.error.DecodeError.TheVariants.{Format}
@@ -19,12 +18,12 @@ use Rattle.jbig2_framing.specs.declared.segment.SegmentType.TheVariants as types
 use Rattle.jbig2_page.specs.Files.{PageInFile, ReadFile, association_check, before_pages, book_at, by_pages, cut_off_of, ends_of, left_out_of, miscounts, of_page, page_in_file, pages_in_file, part_of_file, segments_at, shared_by, with_part}
 use Rattle.jbig2_page.specs.Names.{no_names}
 use Rattle.jbig2_page.specs.Page.{IsSide, beginning_of, part_of_list}
-use Rattle.jbig2_inverses.specs.SegmentWriter.{AreSegments, IsSegment, information_bytes, segment_bytes}
+use Rattle.jbig2_inverses.specs.SegmentWriter.{AreSegments, information_bytes, segment_bytes}
 use Rattle.jbig2_inverses.proofs.FileInverse.{files_read_back, header-read}
 use Rattle.jbig2_inverses.proofs.SegmentInverse.{segments_read_back}
 use Rattle.jbig2_page_inverse.specs.PageWriter.{Choice, IsChoice, region_bytes, information, segment}
 use Rattle.jbig2_page_inverse.specs.PageFile.{IsFileOf, PageFilesReadBack, file_header, file_segments, page_file}
-use Rattle.jbig2_page_inverse.proofs.PageInverse.{beginning-is, data-short, first-written, grid-is, initial, never-cut, no-part-of, page-with, resolution-is, second-written}
+use Rattle.jbig2_page_inverse.proofs.PageInverse.{beginning-is, data-short, first-written, grid-is, initial, never-cut, no-part-of, page-with, resolution-is, second-written, segment-written}
 
 module _ (reading : Reading) (c : Choice) (w h : ℕ) (pixels : ℕ → ℕ → Bool) (is : IsChoice c) (columns : IsSide w) (rows : IsSide h) where
   abbrev segments : List SegmentView
@@ -41,30 +40,12 @@ module _ (reading : Reading) (c : Choice) (w h : ℕ) (pixels : ℕ → ℕ → 
   abbrev end : SegmentView
   end = segment 3 0 types.EndOfFile []
 
-  end-written : (strict : Bool) → IsSegment strict (segment 2 1 types.EndOfPage [])
-  end-written strict = record {
-    number = omega arith;
-    page = omega arith;
-    known = and_right strict false refl;
-    no_references = refl;
-    data_length = refl;
-    short = omega arith;
-  }
-
-  last-written : (strict : Bool) → IsSegment strict end
-  last-written strict = record {
-    number = omega arith;
-    page = omega arith;
-    known = and_right strict false refl;
-    no_references = refl;
-    data_length = refl;
-    short = omega arith;
-  }
-
   written : (mode : Reading) → AreSegments (is_strict mode) segments
   written mode =
       let short = data-short c w h pixels is columns.1 rows.1 in
-      (first-written mode no_names c w h pixels is columns rows, refl, (second-written mode no_names c w h pixels is columns rows short, refl, (end-written (is_strict mode), refl, last-written (is_strict mode))))
+      let page_end = segment-written (is_strict mode) 2 1 types.EndOfPage [] (omega arith) (omega arith) refl (omega arith) in
+      let file_end = segment-written (is_strict mode) 3 0 types.EndOfFile [] (omega arith) (omega arith) refl (omega arith) in
+      (first-written mode no_names c w h pixels is columns rows, refl, (second-written mode no_names c w h pixels is columns rows short, refl, (page_end, refl, file_end)))
 
   file-is : file_at reading bytes ≡ Ok (file_header c.extended, segments)
   unfolding page_file

@@ -10,7 +10,7 @@ use Rattle.std.specs.Prelude.{IfOk}
 use Rattle.jbig2_framing.specs.CutOff.{sequence_cut_off, sequence_partial}
 use Rattle.jbig2_framing.specs.PageInfo.{height_of, information_at, initial_page_with}
 use Rattle.jbig2_framing.specs.Reading.{is_strict}
-use Rattle.jbig2_framing.specs.Segment.{SegmentView}
+use Rattle.jbig2_framing.specs.Segment.{SegmentView, is_reserved}
 use Rattle.jbig2_framing.specs.Sequential.{by_number, sequential}
 use Rattle.jbig2_base.specs.declared.bitmap.operator.CombinationOperator.{CombinationOperator}
 use Rattle.jbig2_base.specs.declared.bitmap.operator.CombinationOperator.TheVariants.{Or, Replace}
@@ -50,7 +50,7 @@ use Rattle.jbig2_inverses.proofs.GenericSegmentInverse.{generic_segments_read_ba
 use Rattle.jbig2_inverses.proofs.SegmentInverse.{page_information_reads_back, segments_read_back}
 use Rattle.jbig2_page_inverse.specs.PageWriter.{Choice, IsChoice, region_with, coded_bytes, region_bytes, information, resolution_of, segment, page_bytes, PagesReadBack}
 
--- what is told of a cut changes no pixel
+-- where the bytes were cut off changes no pixel
 grid-with-cut : (c : Option CutOff) (r : Result Drawing DecodeError) → ((r >>= λ d. Ok (with_cut_off c d)) >>= λ d. Ok d.grid) ≡ (r >>= λ d. Ok d.grid)
 grid-with-cut c (Err e) = refl
 grid-with-cut None (Ok d) = refl
@@ -90,6 +90,18 @@ drawn w h pixels = grid_of-ext w h (drawn_pixel Or (blank w h false) (grid_of w 
 length-information : (i : PageInformation) → length (information_bytes i) ≡ 19
 unfolding information_bytes
 length-information i = refl
+
+-- a segment whose length is known, and which refers to no other, can be written
+pub segment-written : (strict : Bool) (number page : ℕ) (kind : SegmentType) (bytes : List ℕ) → number < 4294967296 → page < 4294967296 → is_reserved kind ≡ false → length bytes < 4294967295
+    → IsSegment strict (segment number page kind bytes)
+segment-written strict number page kind bytes few small known short = record {
+  number = few;
+  page = small;
+  known = and_right strict (is_reserved kind) known;
+  no_references = refl;
+  data_length = refl;
+  short = short;
+}
 
 entries-same : (c : Choice) (w h : ℕ) (pixels : ℕ → ℕ → Bool) (strict : Bool) (bytes : List ℕ)
     → generic_entries (region_with c w h pixels strict bytes) pixels ≡ generic_entries (region_with c w h pixels false []) pixels
@@ -187,27 +199,13 @@ module _ (reading : Reading) (globals : Names) (c : Choice) (w h : ℕ) (pixels 
 
   pub resolution-is : (more : List SegmentView) → resolution_of (first ∷ second ∷ more) ≡ Ok (c.x_resolution, c.y_resolution)
   resolution-is more =
-      ap (λ (r : Result (PageInformation × List ℕ) DecodeError). let told : Result (PageInformation × List ℕ) DecodeError → Result (Option ℕ × Option ℕ) DecodeError = λ q. q >>= λ i. Ok (i.0.x_resolution, i.0.y_resolution) in told r) information-is
+      ap (λ (r : Result (PageInformation × List ℕ) DecodeError). let stated : Result (PageInformation × List ℕ) DecodeError → Result (Option ℕ × Option ℕ) DecodeError = λ q. q >>= λ i. Ok (i.0.x_resolution, i.0.y_resolution) in stated r) information-is
 
   pub first-written : IsSegment strict first
-  first-written = record {
-    number = omega arith;
-    page = omega arith;
-    known = and_right strict false refl;
-    no_references = refl;
-    data_length = refl;
-    short = omega (arith, length-information info);
-  }
+  first-written = segment-written strict 0 1 types.PageInformation (information_bytes info) (omega arith) (omega arith) refl (omega (arith, length-information info))
 
   pub second-written : length (region_bytes c w h pixels) < 4294967295 → IsSegment strict second
-  second-written short = record {
-    number = omega arith;
-    page = omega arith;
-    known = and_right strict false refl;
-    no_references = refl;
-    data_length = refl;
-    short = short;
-  }
+  second-written short = segment-written strict 1 1 types.ImmediateGenericRegion (region_bytes c w h pixels) (omega arith) (omega arith) refl short
 
   segments-are : length (region_bytes c w h pixels) < 4294967295 → sequential reading (page_bytes c w h pixels) ≡ Ok (first ∷ second ∷ [])
   unfolding page_bytes

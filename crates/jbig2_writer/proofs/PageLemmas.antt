@@ -26,10 +26,12 @@ use Rattle.jbig2_page_inverse.specs.PageFile.{file_header, page_file}
 use Rattle.jbig2_page_inverse.specs.PageWriter.{IsChoice, coded_bytes, page_bytes, region_with}
 use Rattle.jbig2_page_inverse.proofs.PageFileInverse.{page_files_read_back}
 use Rattle.jbig2_page_inverse.proofs.PageInverse.{by-coder-short, pages_read_back}
+use Rattle.jbig2_writer.specs.declared.settings.Container.{Container}
+use Rattle.jbig2_writer.specs.declared.settings.Container.TheVariants.{EmbeddedPage, File}
 use Rattle.jbig2_writer.specs.declared.settings.WriteSettings.{WriteSettings}
 use Rattle.jbig2_writer.specs.inner.Rows.{rows_decisions}
-use Rattle.jbig2_writer.specs.inner.Segments.{FitsResolution, file_of, information_of, page_information, region_data, segment_of, segments_of}
-use Rattle.jbig2_writer.specs.Written.{FileReadsBack, ReadsBack, check_size, choice_of, is_side}
+use Rattle.jbig2_writer.specs.inner.Segments.{FitsResolution, file_of, information_of, page_information, region_data, segment_of, segments_in, segments_of}
+use Rattle.jbig2_writer.specs.Written.{IsReadIn, ReadsBack, bytes_in, check_size, choice_of, is_side}
 use Rattle.jbig2_writer.specs.declared.error.WriteError.{WriteError}
 use Rattle.jbig2_writer.specs.declared.error.WriteError.TheVariants.{InvalidSides}
 use Rattle.jbig2_writer.proofs.EntryLemmas.{rows-are}
@@ -149,27 +151,26 @@ coded-parts : (s : WriteSettings) (g : Grid) (w h : ℕ) (made : ℕ → ℕ →
     → made w h slice ≡ made g.width g.height (coded_bytes (choice_of s) g.width g.height (pixel_at g))
 coded-parts s g w h made coded slice is_w is_h is_slice is_coded = λ i. made (is_w i) (is_h i) ((is_slice ∙ is_coded) i)
 
--- they are the page
-pub page-made : (s : WriteSettings) (g : Grid) (w h : ℕ) (bytes coded slice : List ℕ) → w ≡ g.width → h ≡ g.height → bytes ≡ segments_of s w h slice → slice ≡ coded → coded ≡ coded_bytes (choice_of s) g.width g.height (pixel_at g)
-    → bytes ≡ page_bytes (choice_of s) g.width g.height (pixel_at g)
+-- they are the page or the file
+pub page-made : (s : WriteSettings) (g : Grid) (w h : ℕ) (bytes coded slice : List ℕ) → w ≡ g.width → h ≡ g.height → bytes ≡ segments_in s.container s w h slice → slice ≡ coded → coded ≡ coded_bytes (choice_of s) g.width g.height (pixel_at g)
+    → bytes ≡ bytes_in s.container (choice_of s) g.width g.height (pixel_at g)
 page-made s g w h bytes coded slice is_w is_h is_bytes is_slice is_coded =
-    let region : List ℕ = region_data s g.width g.height (coded_bytes (choice_of s) g.width g.height (pixel_at g)) in
-    is_bytes ∙ coded-parts s g w h (segments_of s) coded slice is_w is_h is_slice is_coded
-    ∙ ap (λ (l : List ℕ). segment_of 0 48 1 (information_of s g.width g.height) ++ l) (sym (append-nil (segment_of 1 38 1 region)))
-    ∙ sym (page-is s g.width g.height (pixel_at g))
+    is_bytes ∙ coded-parts s g w h (segments_in s.container s) coded slice is_w is_h is_slice is_coded ∙ in_container s.container
+  where
+    abbrev pixels_coded : List ℕ
+    pixels_coded = coded_bytes (choice_of s) g.width g.height (pixel_at g)
 
--- and the file
-pub file-written : (s : WriteSettings) (g : Grid) (w h : ℕ) (bytes coded slice : List ℕ) → w ≡ g.width → h ≡ g.height → bytes ≡ file_of s w h slice → slice ≡ coded → coded ≡ coded_bytes (choice_of s) g.width g.height (pixel_at g)
-    → bytes ≡ page_file (choice_of s) g.width g.height (pixel_at g)
-file-written s g w h bytes coded slice is_w is_h is_bytes is_slice is_coded =
-    let header : List ℕ = file_header_bytes (file_header false) in
-    let one : List ℕ = segment_of 0 48 1 (information_of s g.width g.height) in
-    let two : List ℕ = segment_of 1 38 1 (region_data s g.width g.height (coded_bytes (choice_of s) g.width g.height (pixel_at g))) in
-    let ends : List ℕ = segment_of 2 49 1 [] ++ segment_of 3 51 0 [] in
-    is_bytes ∙ coded-parts s g w h (file_of s) coded slice is_w is_h is_slice is_coded
-    ∙ ap (λ (l : List ℕ). header ++ l) (append_assoc one two ends)
-    ∙ ap (λ (l : List ℕ). header ++ (one ++ (two ++ (segment_of 2 49 1 [] ++ l)))) (sym (append-nil (segment_of 3 51 0 [])))
-    ∙ sym (file-is s g.width g.height (pixel_at g))
+    in_container : (container : Container) → segments_in container s g.width g.height pixels_coded ≡ bytes_in container (choice_of s) g.width g.height (pixel_at g)
+    in_container EmbeddedPage =
+        ap (λ (l : List ℕ). segment_of 0 48 1 (information_of s g.width g.height) ++ l) (sym (append-nil (segment_of 1 38 1 (region_data s g.width g.height pixels_coded))))
+        ∙ sym (page-is s g.width g.height (pixel_at g))
+    in_container File =
+        let header : List ℕ = file_header_bytes (file_header false) in
+        let one : List ℕ = segment_of 0 48 1 (information_of s g.width g.height) in
+        let two : List ℕ = segment_of 1 38 1 (region_data s g.width g.height pixels_coded) in
+        ap (λ (l : List ℕ). header ++ l) (append_assoc one two (segment_of 2 49 1 [] ++ segment_of 3 51 0 []))
+        ∙ ap (λ (l : List ℕ). header ++ (one ++ (two ++ (segment_of 2 49 1 [] ++ l)))) (sym (append-nil (segment_of 3 51 0 [])))
+        ∙ sym (file-is s g.width g.height (pixel_at g))
 
 pub coded-fits : (s : WriteSettings) (g : Grid) (w h : ℕ) (coded slice : List ℕ) → w ≡ g.width → h ≡ g.height → IsAllowed w h → slice ≡ coded → coded ≡ coded_bytes (choice_of s) g.width g.height (pixel_at g) → length slice + 26 < 4294967296
 coded-fits s g w h coded slice is_w is_h is is_slice is_coded =
@@ -220,14 +221,16 @@ choice-is s fits = record {
 sides-are : (g : Grid) (w h : ℕ) → w ≡ g.width → h ≡ g.height → IsAllowed w h → IsAllowed g.width g.height
 sides-are g w h is_w is_h allows = subst (λ (n : ℕ). IsAllowed g.width n) is_h (subst (λ (n : ℕ). IsAllowed n h) is_w allows)
 
-pub reads-back : (s : WriteSettings) (g : Grid) (w h : ℕ) (bytes : List ℕ) → IsTable g → w ≡ g.width → h ≡ g.height → IsAllowed w h → FitsResolution s → bytes ≡ page_bytes (choice_of s) g.width g.height (pixel_at g) → ReadsBack s bytes g
-reads-back s g w h bytes whole is_w is_h allows fits made reading globals =
-    let is = sides-are g w h is_w is_h allows in
-    let read = pages_read_back reading globals (choice_of s) g.width g.height (pixel_at g) (choice-is s fits) is.columns is.rows in
-    (read.0, ap (λ (l : List ℕ). page_from reading globals l) made ∙ read.1, (read.2.drawn ∙ ap (λ (h : Grid). Ok h) (sym whole), read.2.resolution))
+pub reads-back : (s : WriteSettings) (g : Grid) (w h : ℕ) (bytes : List ℕ) → IsTable g → w ≡ g.width → h ≡ g.height → IsAllowed w h → FitsResolution s → bytes ≡ bytes_in s.container (choice_of s) g.width g.height (pixel_at g) → ReadsBack s bytes g
+reads-back s g w h bytes whole is_w is_h allows fits made = of_container s.container made
+  where
+    abbrev sides : IsAllowed g.width g.height
+    sides = sides-are g w h is_w is_h allows
 
-pub file-reads-back : (s : WriteSettings) (g : Grid) (w h : ℕ) (bytes : List ℕ) → IsTable g → w ≡ g.width → h ≡ g.height → IsAllowed w h → FitsResolution s → bytes ≡ page_file (choice_of s) g.width g.height (pixel_at g) → FileReadsBack s bytes g
-file-reads-back s g w h bytes whole is_w is_h allows fits made reading =
-    let is = sides-are g w h is_w is_h allows in
-    let read = page_files_read_back reading (choice_of s) g.width g.height (pixel_at g) (choice-is s fits) is.columns is.rows in
-    (read.book, read.page, ap (λ (l : List ℕ). book_at reading l) made ∙ read.read, read.only, (read.shows.drawn ∙ ap (λ (h : Grid). Ok h) (sym whole), read.shows.resolution))
+    of_container : (container : Container) → bytes ≡ bytes_in container (choice_of s) g.width g.height (pixel_at g) → IsReadIn container s bytes g
+    of_container EmbeddedPage same reading globals =
+        let read = pages_read_back reading globals (choice_of s) g.width g.height (pixel_at g) (choice-is s fits) sides.columns sides.rows in
+        (read.0, ap (λ (l : List ℕ). page_from reading globals l) same ∙ read.1, (read.2.drawn ∙ ap (λ (h : Grid). Ok h) (sym whole), read.2.resolution))
+    of_container File same reading =
+        let read = page_files_read_back reading (choice_of s) g.width g.height (pixel_at g) (choice-is s fits) sides.columns sides.rows in
+        (read.book, read.page, ap (λ (l : List ℕ). book_at reading l) same ∙ read.read, read.only, (read.shows.drawn ∙ ap (λ (h : Grid). Ok h) (sym whole), read.shows.resolution))

@@ -12,10 +12,11 @@ use Rattle.jbig2_inverses.specs.RegionWriter.{entries_before, generic_entries, p
 use Rattle.jbig2_inverses.specs.SegmentWriter.{information_bytes, segment_bytes}
 use Rattle.jbig2_page_inverse.specs.PageWriter.{coded_bytes, page_bytes}
 use Rattle.jbig2_writer.specs.declared.error.WriteError.TheVariants.{InvalidSides}
+use Rattle.jbig2_writer.specs.declared.settings.Container.TheVariants.{EmbeddedPage}
 use Rattle.jbig2_writer.specs.Written.{check_size, written}
 
 -- two black rows of one pixel, with typical prediction; a resolution of 0 states none
-column : written (record { template = Template3; typical = true; x_resolution = None; y_resolution = Some 0 }) (grid_of 1 2 (λ x y. true))
+column : written (record { container = EmbeddedPage; template = Template3; typical = true; x_resolution = None; y_resolution = Some 0 }) (grid_of 1 2 (λ x y. true))
     ≡ Ok (0 ∷ 0 ∷ 0 ∷ 0 ∷ 0x70 ∷ 0 ∷ 0 ∷ 0 ∷ 0 ∷ 1 ∷ 0 ∷ 0 ∷ 0 ∷ 0x13 ∷ 0 ∷ 0 ∷ 0 ∷ 1 ∷ 0 ∷ 0 ∷ 0 ∷ 2 ∷ 0 ∷ 0 ∷ 0 ∷ 0 ∷ 0
     ∷ 0 ∷ 0 ∷ 0 ∷ 1 ∷ 0 ∷ 0 ∷ 0 ∷ 0 ∷ 0 ∷ 1 ∷ 0x66 ∷ 0 ∷ 0 ∷ 0 ∷ 0 ∷ 1 ∷ 0 ∷ 0 ∷ 0 ∷ 0x17 ∷ 0 ∷ 0 ∷ 0 ∷ 1 ∷ 0 ∷ 0
     ∷ 0 ∷ 2 ∷ 0 ∷ 0 ∷ 0 ∷ 0 ∷ 0 ∷ 0 ∷ 0 ∷ 0 ∷ 0 ∷ 0x0E ∷ 2 ∷ 0xFF ∷ 0x0F ∷ 0xFF ∷ 0xAC ∷ [])
@@ -23,7 +24,7 @@ unfolding page_bytes coded_bytes segment_bytes information_bytes generic_bytes i
 column = refl
 
 -- two black pixels side by side, 11811 in a metre, with four adaptive pixels
-row : written (record { template = Template0; typical = false; x_resolution = Some 11811; y_resolution = None }) (grid_of 2 1 (λ x y. true))
+row : written (record { container = EmbeddedPage; template = Template0; typical = false; x_resolution = Some 11811; y_resolution = None }) (grid_of 2 1 (λ x y. true))
     ≡ Ok (0 ∷ 0 ∷ 0 ∷ 0 ∷ 0x70 ∷ 0 ∷ 0 ∷ 0 ∷ 0 ∷ 1 ∷ 0 ∷ 0 ∷ 0 ∷ 0x13 ∷ 0 ∷ 0 ∷ 0 ∷ 2 ∷ 0 ∷ 0 ∷ 0 ∷ 1 ∷ 0 ∷ 0 ∷ 0x2E ∷ 0x23 ∷ 0
     ∷ 0 ∷ 0 ∷ 0 ∷ 1 ∷ 0 ∷ 0 ∷ 0 ∷ 0 ∷ 0 ∷ 1 ∷ 0x66 ∷ 0 ∷ 0 ∷ 0 ∷ 0 ∷ 1 ∷ 0 ∷ 0 ∷ 0 ∷ 0x1E ∷ 0 ∷ 0 ∷ 0 ∷ 2 ∷ 0 ∷ 0
     ∷ 0 ∷ 1 ∷ 0 ∷ 0 ∷ 0 ∷ 0 ∷ 0 ∷ 0 ∷ 0 ∷ 0 ∷ 0 ∷ 0 ∷ 3 ∷ 0xFF ∷ 0xFD ∷ 0xFF ∷ 2 ∷ 0xFE ∷ 0xFE ∷ 0xFE ∷ 0xFF ∷ 0x7F

@@ -15,6 +15,8 @@ use Rattle.jbig2_page_inverse.specs.PageFile.{page_file}
 use Rattle.jbig2_page_inverse.specs.PageWriter.{Choice, page_bytes, resolution_of}
 use Rattle.jbig2_writer.specs.declared.error.WriteError.{WriteError}
 use Rattle.jbig2_writer.specs.declared.error.WriteError.TheVariants.{InvalidSides, OutOfMemory}
+use Rattle.jbig2_writer.specs.declared.settings.Container.{Container}
+use Rattle.jbig2_writer.specs.declared.settings.Container.TheVariants.{EmbeddedPage, File}
 use Rattle.jbig2_writer.specs.declared.settings.WriteSettings.{WriteSettings}
 
 abbrev pub stated : Option ℕ → Option ℕ  -- the resolution that is stated: 0 states none (7.4.8.3)
@@ -39,13 +41,15 @@ is_side n = nat_le 1 n && nat_le n max_side
 abbrev pub check_size : ℕ → ℕ → Result (Unit {0}) WriteError
 check_size width height = if is_side width && is_side height then Ok tt else Err InvalidSides
 
--- the page that holds the bitmap; its sides are 1 to 65535
-abbrev pub written : WriteSettings → Grid → Result (List ℕ) WriteError
-written s g = check_size g.width g.height >>= λ _. Ok (page_bytes (choice_of s) g.width g.height (pixel_at g))
+-- the bytes that hold these pixels, as an embedded page or as a file
+abbrev pub bytes_in : Container → Choice → ℕ → ℕ → (ℕ → ℕ → Bool) → List ℕ
+bytes_in EmbeddedPage c width height pixels = page_bytes c width height pixels
+bytes_in File c width height pixels = page_file c width height pixels
 
--- the file of this page
-abbrev pub written_file : WriteSettings → Grid → Result (List ℕ) WriteError
-written_file s g = check_size g.width g.height >>= λ _. Ok (page_file (choice_of s) g.width g.height (pixel_at g))
+-- what is written for the bitmap; its sides are 1 to 65535
+abbrev pub written : WriteSettings → Grid → Result (List ℕ) WriteError
+written s g =
+    check_size g.width g.height >>= λ _. Ok (bytes_in s.container (choice_of s) g.width g.height (pixel_at g))
 
 -- The result of a call, seen by `view`, is what was meant, unless memory ran out.
 abbrev pub Gives : {X Y : Type 0} → (X → Y) → Result X WriteError → Result Y WriteError → Type 0
@@ -57,13 +61,13 @@ abbrev pub Shows : WriteSettings → Grid → ReadPage → Type 0
 Shows s g page =
     (grid_of_page page ≡ Ok g) × (resolution_of page.segments ≡ Ok (stated s.x_resolution, stated s.y_resolution))
 
--- In each mode and with any globals, the bytes are a page that shows this.
-abbrev pub ReadsBack : WriteSettings → List ℕ → Grid → Type 0
-ReadsBack s bytes g = (reading : Reading) (globals : Names)
+-- In each mode the bytes are an embedded page, with any globals, or a file of one page, and it shows this.
+abbrev pub IsReadIn : Container → WriteSettings → List ℕ → Grid → Type 0
+IsReadIn EmbeddedPage s bytes g = (reading : Reading) (globals : Names)
     → (page : ReadPage) × (page_from reading globals bytes ≡ Ok page) × Shows s g page
-
--- In each mode the bytes are a file of one page, which shows this.
-abbrev pub FileReadsBack : WriteSettings → List ℕ → Grid → Type 0
-FileReadsBack s bytes g = (reading : Reading)
+IsReadIn File s bytes g = (reading : Reading)
     → (book : ReadFile) × (page : ReadPage) × (book_at reading bytes ≡ Ok book)
     × (pages_of book ≡ page ∷ []) × Shows s g page
+
+abbrev pub ReadsBack : WriteSettings → List ℕ → Grid → Type 0
+ReadsBack s bytes g = IsReadIn s.container s bytes g

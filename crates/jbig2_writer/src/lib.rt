@@ -3,9 +3,9 @@
 //! as it was.
 #![tactic(auto)]
 
+mod container;
 mod decisions;
 mod error;
-mod file;
 mod neighbours;
 mod packed;
 mod page;
@@ -14,6 +14,5 @@ mod settings;
 mod windows;
 
 pub use error::WriteError;
-pub use file::{write_file, write_packed_file};
 pub use page::{write_packed, write_page};
-pub use settings::WriteSettings;
+pub use settings::{Container, WriteSettings};

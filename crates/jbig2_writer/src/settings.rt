@@ -1,11 +1,22 @@
-//! How a page is coded, and what is told of it.
+//! How a bitmap is written: in what, how its region is coded, and which resolution its page states.
 
 use jbig2_region::template::Template;
 
-/// How the generic region of a page is coded (T.88, 6.2): by the arithmetic coder, with the adaptive pixels where the
-/// standard has them by default. And the resolution that page information states (7.4.8).
+/// What is written.
+#[derive(Clone, Copy, Debug, PartialEq, Eq)]
+pub enum Container {
+    /// An embedded page, as a PDF file holds it (T.88, D.3).
+    EmbeddedPage,
+    /// A file of one page, in sequential organisation (T.88, D.1).
+    File,
+}
+
+/// In what a bitmap is written, and how the generic region of its page is coded (T.88, 6.2): by the arithmetic coder,
+/// with the adaptive pixels where the standard has them by default. And the resolution of page information (7.4.8).
 #[derive(Clone, Copy, Debug, PartialEq, Eq)]
 pub struct WriteSettings {
+    /// Whether the bytes are an embedded page or a file.
+    pub container: Container,
     /// Which pixels a context is made from (GBTEMPLATE).
     pub template: Template,
     /// Whether a row that is as the row above it takes one decision alone (typical prediction, TPGDON).

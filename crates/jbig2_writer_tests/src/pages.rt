@@ -5,9 +5,7 @@ use jbig2_base::bitmap::Bitmap;
 use jbig2_base::bitmap::steps::Steps;
 use jbig2_permit::Permit;
 use jbig2_region::template::Template;
-use jbig2_writer::{
-    WriteError, WriteSettings, write_file, write_packed, write_packed_file, write_page,
-};
+use jbig2_writer::{Container, WriteError, WriteSettings, write_packed, write_page};
 use std::alloc::Global;
 use std::marker::Brand;
 use std::sync::ledger::{Blank, Ledger};
@@ -44,7 +42,7 @@ const ENDS: [u8; 28] = [
     0, 0, 0, 2, 0x71, 0, 0, 0, 0, 1, 0, 0, 0, 0, 0, 0, 0, 3, 0x73, 0, 0, 0, 0, 0, 0, 0, 0, 0,
 ];
 
-/// A picture, also as packed rows, how it is written, and the page.
+/// A picture, also as packed rows, how it is written, and the embedded page.
 struct Case {
     settings: WriteSettings,
     picture: Picture,
@@ -55,6 +53,7 @@ struct Case {
 static CASES: [Case; 4] = [
     Case {
         settings: WriteSettings {
+            container: Container::EmbeddedPage,
             template: Template::Template0,
             typical: true,
             x_resolution: Some(11811),
@@ -71,6 +70,7 @@ static CASES: [Case; 4] = [
     },
     Case {
         settings: WriteSettings {
+            container: Container::EmbeddedPage,
             template: Template::Template1,
             typical: false,
             x_resolution: None,
@@ -86,6 +86,7 @@ static CASES: [Case; 4] = [
     },
     Case {
         settings: WriteSettings {
+            container: Container::EmbeddedPage,
             template: Template::Template2,
             typical: true,
             x_resolution: None,
@@ -105,6 +106,7 @@ static CASES: [Case; 4] = [
     },
     Case {
         settings: WriteSettings {
+            container: Container::EmbeddedPage,
             template: Template::Template3,
             typical: false,
             x_resolution: Some(0),
@@ -147,6 +149,13 @@ fn file_of(alloc: Global, page: &[u8]) -> Result<Vec<u8>, WriteError> {
     Ok(file)
 }
 
+/// The same settings for a file.
+fn in_file(settings: &WriteSettings) -> WriteSettings {
+    let mut settings = *settings;
+    settings.container = Container::File;
+    settings
+}
+
 /// Whether the page and the file that are written of a bitmap are the expected ones.
 fn is_written<L: Ledger>(
     alloc: Global,
@@ -155,7 +164,7 @@ fn is_written<L: Ledger>(
 ) -> Result<bool, WriteError> {
     let bitmap = bitmap_of(alloc, case.picture, steps)?;
     let page = write_page(alloc, &bitmap, &case.settings, steps)?;
-    let file = write_file(alloc, &bitmap, &case.settings, steps)?;
+    let file = write_page(alloc, &bitmap, &in_file(&case.settings), steps)?;
     let expected = file_of(alloc, case.page)?;
     Ok(page.as_slice() == case.page && file.as_slice() == expected.as_slice())
 }
@@ -173,7 +182,7 @@ fn is_written_of_rows<L: Ledger>(
         return Ok(false);
     }
     let page = write_packed(alloc, case.rows, width, height, &case.settings, steps)?;
-    let file = write_packed_file(alloc, case.rows, width, height, &case.settings, steps)?;
+    let file = write_packed(alloc, case.rows, width, height, &in_file(&case.settings), steps)?;
     let expected = file_of(alloc, case.page)?;
     Ok(page.as_slice() == case.page && file.as_slice() == expected.as_slice())
 }

@@ -6,6 +6,8 @@ use Rattle.jbig2_inverses.specs.GenericSegmentWriter.{generic_bytes}
 use Rattle.jbig2_inverses.specs.SegmentWriter.{number_or_0}
 use Rattle.jbig2_page_inverse.specs.PageFile.{file_header}
 use Rattle.jbig2_page_inverse.specs.PageWriter.{region_with}
+use Rattle.jbig2_writer.specs.declared.settings.Container.{Container}
+use Rattle.jbig2_writer.specs.declared.settings.Container.TheVariants.{EmbeddedPage, File}
 use Rattle.jbig2_writer.specs.declared.settings.WriteSettings.{WriteSettings}
 use Rattle.jbig2_writer.specs.Written.{choice_of}
 
@@ -38,3 +40,7 @@ abbrev pub file_of : WriteSettings → ℕ → ℕ → List ℕ → List ℕ  --
 file_of s width height coded =
     file_header_bytes (file_header false)
     ++ (segments_of s width height coded ++ (segment_of 2 49 1 [] ++ segment_of 3 51 0 []))
+
+abbrev pub segments_in : Container → WriteSettings → ℕ → ℕ → List ℕ → List ℕ  -- an embedded page or a file of them
+segments_in EmbeddedPage s width height coded = segments_of s width height coded
+segments_in File s width height coded = file_of s width height coded

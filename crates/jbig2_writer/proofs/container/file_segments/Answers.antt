@@ -1,5 +1,5 @@
 use Rattle.jbig2_writer.proofs.PageLemmas.{file-made}
-use Rattle.jbig2_writer.proofs.file.file_segments.Goals as goal
+use Rattle.jbig2_writer.proofs.container.file_segments.Goals as goal
 
 pub returns-clause-bytes : goal.returns-clause-bytes
 returns-clause-bytes g c =

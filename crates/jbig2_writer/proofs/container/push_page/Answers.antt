@@ -1,5 +1,5 @@
 use Rattle.jbig2_writer.proofs.PageLemmas.{information-short, region-short, segments-added}
-use Rattle.jbig2_writer.proofs.page.push_page.Goals as goal
+use Rattle.jbig2_writer.proofs.container.push_page.Goals as goal
 
 pub push_segment-requires-clause-short : goal.push_segment-requires-clause-short
 push_segment-requires-clause-short g c =
