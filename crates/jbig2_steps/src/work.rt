@@ -1,5 +1,5 @@
 //! The units of work that are left, with the counts that they pay for.
-ghost use Rattle.std.specs.Prelude.{◌≡◌, ◌+◌, ◌*◌, ◌≤◌, IfOk, OnErr};
+ghost use Rattle.std.specs.Prelude.{◌≡◌, ◌+◌, ◌-◌, ◌*◌, ◌^◌, ◌≤◌, IfOk, OnErr};
 ghost use Rattle.jbig2_steps.specs.Counts.{no_steps};
 ghost use Rattle.jbig2_steps.specs.Work.{price_of_bitmap, budget};
 
@@ -33,7 +33,8 @@ impl<L: Ledger> Work<L> {
         requires name { blank.name ≡ L.name }
         requires parts { blank.parts ≡ L.parts }
         requires enough { blank.parts ≡ 7 }
-        ensures { result.steps ≡ no_steps }
+        ensures steps { result.steps ≡ no_steps }
+        ensures left { result.left ≡ 2 ^ 64 - 1 }
     {
         Work::within(permit, blank, u64::MAX)
     }
