@@ -157,17 +157,14 @@ pub page-made : (s : WriteSettings) (g : Grid) (w h : ℕ) (bytes coded slice : 
 page-made s g w h bytes coded slice is_w is_h is_bytes is_slice is_coded =
     is_bytes ∙ coded-parts s g w h (segments_in s.container s) coded slice is_w is_h is_slice is_coded ∙ in_container s.container
   where
-    abbrev pixels_coded : List ℕ
-    pixels_coded = coded_bytes (choice_of s) g.width g.height (pixel_at g)
-
-    in_container : (container : Container) → segments_in container s g.width g.height pixels_coded ≡ bytes_in container (choice_of s) g.width g.height (pixel_at g)
+    in_container : (container : Container) → segments_in container s g.width g.height (coded_bytes (choice_of s) g.width g.height (pixel_at g)) ≡ bytes_in container (choice_of s) g.width g.height (pixel_at g)
     in_container EmbeddedPage =
-        ap (λ (l : List ℕ). segment_of 0 48 1 (information_of s g.width g.height) ++ l) (sym (append-nil (segment_of 1 38 1 (region_data s g.width g.height pixels_coded))))
+        ap (λ (l : List ℕ). segment_of 0 48 1 (information_of s g.width g.height) ++ l) (sym (append-nil (segment_of 1 38 1 (region_data s g.width g.height (coded_bytes (choice_of s) g.width g.height (pixel_at g))))))
         ∙ sym (page-is s g.width g.height (pixel_at g))
     in_container File =
         let header : List ℕ = file_header_bytes (file_header false) in
         let one : List ℕ = segment_of 0 48 1 (information_of s g.width g.height) in
-        let two : List ℕ = segment_of 1 38 1 (region_data s g.width g.height pixels_coded) in
+        let two : List ℕ = segment_of 1 38 1 (region_data s g.width g.height (coded_bytes (choice_of s) g.width g.height (pixel_at g))) in
         ap (λ (l : List ℕ). header ++ l) (append_assoc one two (segment_of 2 49 1 [] ++ segment_of 3 51 0 []))
         ∙ ap (λ (l : List ℕ). header ++ (one ++ (two ++ (segment_of 2 49 1 [] ++ l)))) (sym (append-nil (segment_of 3 51 0 [])))
         ∙ sym (file-is s g.width g.height (pixel_at g))
@@ -224,7 +221,7 @@ sides-are g w h is_w is_h allows = subst (λ (n : ℕ). IsAllowed g.width n) is_
 pub reads-back : (s : WriteSettings) (g : Grid) (w h : ℕ) (bytes : List ℕ) → IsTable g → w ≡ g.width → h ≡ g.height → IsAllowed w h → FitsResolution s → bytes ≡ bytes_in s.container (choice_of s) g.width g.height (pixel_at g) → ReadsBack s bytes g
 reads-back s g w h bytes whole is_w is_h allows fits made = of_container s.container made
   where
-    abbrev sides : IsAllowed g.width g.height
+    sides : IsAllowed g.width g.height
     sides = sides-are g w h is_w is_h allows
 
     of_container : (container : Container) → bytes ≡ bytes_in container (choice_of s) g.width g.height (pixel_at g) → IsReadIn container s bytes g

@@ -182,7 +182,14 @@ fn is_written_of_rows<L: Ledger>(
         return Ok(false);
     }
     let page = write_packed(alloc, case.rows, width, height, &case.settings, steps)?;
-    let file = write_packed(alloc, case.rows, width, height, &in_file(&case.settings), steps)?;
+    let file = write_packed(
+        alloc,
+        case.rows,
+        width,
+        height,
+        &in_file(&case.settings),
+        steps,
+    )?;
     let expected = file_of(alloc, case.page)?;
     Ok(page.as_slice() == case.page && file.as_slice() == expected.as_slice())
 }
