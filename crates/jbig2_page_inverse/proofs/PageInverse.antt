@@ -277,7 +277,7 @@ length-region c w h pixels =
     let more = length-adaptive c.adaptive in
     omega (arith, size, more)
 
-by-mmr-short : (c : Choice) (w h : ℕ) (pixels : ℕ → ℕ → Bool) → c.mmr ≡ true → w ≤ max_side → h ≤ max_side → 8 * length (coded_bytes c w h pixels) ≤ 65535 * 458805 + 31
+pub by-mmr-short : (c : Choice) (w h : ℕ) (pixels : ℕ → ℕ → Bool) → c.mmr ≡ true → w ≤ max_side → h ≤ max_side → 8 * length (coded_bytes c w h pixels) ≤ 65535 * 458805 + 31
 unfolding coded_bytes
 by-mmr-short c w h pixels e columns rows =
     let is = ap length (cond-true c.mmr (mmr_bytes c.end_of_block w h pixels) (encoded_bytes (generic_entries (region_with c w h pixels false []) pixels)) e) in

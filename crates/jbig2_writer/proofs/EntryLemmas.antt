@@ -8,7 +8,7 @@ use Rattle.jbig2_region.specs.Raster.{Coding, so_far}
 use Rattle.jbig2_region.specs.Templates.{row_context}
 use Rattle.jbig2_inverses.specs.CoderStates.{Entry}
 use Rattle.jbig2_inverses.specs.RegionWriter.{entries_before, known_or, ltp_before, ltp_entries, pixel_entries, pixels_before, row_entries}
-use Rattle.jbig2_writer.specs.declared.settings.WriteSettings.{WriteSettings}
+use Rattle.jbig2_writer.specs.declared.settings.ArithmeticCoding.{ArithmeticCoding}
 use Rattle.jbig2_writer.specs.inner.Rows.{pixel_decisions, places, predicted_before, row_decisions, rows_decisions, typical_row}
 use Rattle.jbig2_writer.proofs.ContextLemmas.{context-same, places-earlier}
 
@@ -20,7 +20,7 @@ pixel-joined : (t : Bool) (before ltp pixels : List Entry) (e : Entry) → (befo
 pixel-joined true before ltp pixels e = append-nil (before ++ (ltp ++ []))
 pixel-joined false before ltp pixels e = append_assoc before (ltp ++ pixels) (e ∷ []) ∙ ap (λ (xs : List Entry). before ++ xs) (append_assoc ltp pixels (e ∷ []))
 
-module _ (s : WriteSettings) (g : Grid) where
+module _ (s : ArithmeticCoding) (g : Grid) where
   abbrev w : ℕ
   w = g.width
 

@@ -1,7 +1,7 @@
 -- The parts that are written are a page or a file, and both read back.
-use Rattle.std.proofs.Common.{◌≡◌, ℕ, zero, suc, ◌+◌, ◌*◌, ◌<◌, ◌≤◌, eqb, Bool, true, false, ◌&&◌, cond, nat_le, List, [], ◌++◌, length, Option, Some, None, Result, Ok, Err, MatchResult, IsErrAnd, IfOk, refl, sym, ◌∙◌, ap, subst, arith, append-nil, append_assoc, length-append, ne_eqb}
+use Rattle.std.proofs.Common.{◌≡◌, ℕ, zero, suc, ◌+◌, ◌*◌, ◌<◌, ◌≤◌, eqb, Bool, true, false, ◌&&◌, cond, nat_le, List, [], ◌++◌, length, Option, Some, None, Result, Ok, Err, MatchResult, IsErrAnd, IfOk, refl, sym, ◌∙◌, ap, subst, arith, append-nil, append_assoc, length-append, ne_eqb, ⊎_elim}
 use Rattle.std.specs.List.{flat_map}
-use Rattle.std.proofs.lemmas.Bool.{and_parts, cond-false}
+use Rattle.std.proofs.lemmas.Bool.{and_parts, cases_Bool, cond-false}
 use Rattle.std.proofs.lemmas.Bool.Decides.{nat_tests}
 use Rattle.jbig2_base.specs.Results.{◌>>=◌}
 use Rattle.jbig2_base.specs.Results as base
@@ -15,6 +15,7 @@ use Rattle.jbig2_region.specs.Generic.{generic_coding}
 use Rattle.jbig2_region.specs.Templates.{nominal_adaptive_pixels, takes_extended, adaptive_pixel_count}
 use Rattle.jbig2_region.specs.declared.template.Template.{Template}
 use Rattle.jbig2_region.specs.declared.template.Template.TheVariants.{Template0, Template1, Template2, Template3}
+use Rattle.jbig2_inverses.specs.BitmapWriter.{mmr_bytes}
 use Rattle.jbig2_inverses.specs.CoderStates.{Entry}
 use Rattle.jbig2_inverses.specs.FileWriter.{file_header_bytes}
 use Rattle.jbig2_inverses.specs.GenericSegmentWriter.{AreAdaptive, adaptive_bytes, generic_bytes, info_bytes}
@@ -25,29 +26,47 @@ use Rattle.jbig2_page.specs.Page.{IsSide, page_from}
 use Rattle.jbig2_page_inverse.specs.PageFile.{file_header, page_file}
 use Rattle.jbig2_page_inverse.specs.PageWriter.{IsChoice, coded_bytes, page_bytes, region_with}
 use Rattle.jbig2_page_inverse.proofs.PageFileInverse.{page_files_read_back}
-use Rattle.jbig2_page_inverse.proofs.PageInverse.{by-coder-short, pages_read_back}
+use Rattle.jbig2_page_inverse.proofs.PageInverse.{by-coder-short, by-mmr-short, pages_read_back}
 use Rattle.jbig2_writer.specs.declared.settings.Container.{Container}
 use Rattle.jbig2_writer.specs.declared.settings.Container.TheVariants.{EmbeddedPage, File}
+use Rattle.jbig2_writer.specs.declared.settings.ArithmeticCoding.{ArithmeticCoding}
+use Rattle.jbig2_writer.specs.declared.settings.RegionCoding.{RegionCoding}
+use Rattle.jbig2_writer.specs.declared.settings.RegionCoding.TheVariants.{Arithmetic, Mmr}
 use Rattle.jbig2_writer.specs.declared.settings.WriteSettings.{WriteSettings}
 use Rattle.jbig2_writer.specs.inner.Rows.{rows_decisions}
 use Rattle.jbig2_writer.specs.inner.Segments.{FitsResolution, file_of, information_of, page_information, region_data, segment_of, segments_in, segments_of}
-use Rattle.jbig2_writer.specs.Written.{IsReadIn, ReadsBack, bytes_in, check_size, choice_of, is_side}
+use Rattle.jbig2_writer.specs.Written.{IsReadIn, ReadsBack, adaptive_of, bytes_in, check_size, choice_of, choice_with, is_mmr, is_side, stated, template_of}
 use Rattle.jbig2_writer.specs.declared.error.WriteError.{WriteError}
 use Rattle.jbig2_writer.specs.declared.error.WriteError.TheVariants.{InvalidSides}
 use Rattle.jbig2_writer.proofs.EntryLemmas.{rows-are}
 
 -- ---- the coded bytes
-entries-are : (s : WriteSettings) (g : Grid) → 0 < g.width → rows_decisions s g g.height ≡ generic_entries (region_with (choice_of s) g.width g.height (pixel_at g) false []) (pixel_at g)
+entries-are : (a : ArithmeticCoding) (x y : Option ℕ) (g : Grid) → 0 < g.width
+    → rows_decisions a g g.height ≡ generic_entries (region_with (choice_with (Arithmetic a) x y) g.width g.height (pixel_at g) false []) (pixel_at g)
 unfolding generic_entries
-entries-are s g wide =
-    let header = region_with (choice_of s) g.width g.height (pixel_at g) false [] in
+entries-are a x y g wide =
+    let header = region_with (choice_with (Arithmetic a) x y) g.width g.height (pixel_at g) false [] in
     let turned : g.height * g.width ≡ g.width * g.height = omega arith in
-    rows-are s g g.height wide
-    ∙ ap (λ (n : ℕ). entries_before (generic_coding header) g.width g.height (pixel_at g) (is_typical s.typical g.width (pixel_at g)) 0 n) turned
+    rows-are a g g.height wide
+    ∙ ap (λ (n : ℕ). entries_before (generic_coding header) g.width g.height (pixel_at g) (is_typical a.typical g.width (pixel_at g)) 0 n) turned
 
-pub coded-is : (s : WriteSettings) (g : Grid) → 1 ≤ g.width → encoded_bytes (rows_decisions s g g.height) ≡ coded_bytes (choice_of s) g.width g.height (pixel_at g)
+arithmetic-coded : (a : ArithmeticCoding) (x y : Option ℕ) (g : Grid) → 1 ≤ g.width → encoded_bytes (rows_decisions a g g.height) ≡ coded_bytes (choice_with (Arithmetic a) x y) g.width g.height (pixel_at g)
 unfolding coded_bytes
-coded-is s g some = ap encoded_bytes (entries-are s g (omega (arith, some)))
+arithmetic-coded a x y g some = ap encoded_bytes (entries-are a x y g (omega (arith, some)))
+
+mmr-coded : (x y : Option ℕ) (g : Grid) → mmr_bytes true g.width g.height (pixel_at g) ≡ coded_bytes (choice_with Mmr x y) g.width g.height (pixel_at g)
+unfolding coded_bytes
+mmr-coded x y g = refl
+
+-- the bytes that are coded by these settings
+abbrev coded_with : (s : WriteSettings) (g : Grid) → RegionCoding → List ℕ
+coded_with s g coding = coded_bytes (choice_with coding (stated s.x_resolution) (stated s.y_resolution)) g.width g.height (pixel_at g)
+
+pub coded-by-arithmetic : (s : WriteSettings) (a : ArithmeticCoding) (g : Grid) → s.coding ≡ Arithmetic a → 1 ≤ g.width → encoded_bytes (rows_decisions a g g.height) ≡ coded_bytes (choice_of s) g.width g.height (pixel_at g)
+coded-by-arithmetic s a g is some = arithmetic-coded a (stated s.x_resolution) (stated s.y_resolution) g some ∙ ap (coded_with s g) (sym is)
+
+pub coded-by-mmr : (s : WriteSettings) (g : Grid) → s.coding ≡ Mmr → mmr_bytes true g.width g.height (pixel_at g) ≡ coded_bytes (choice_of s) g.width g.height (pixel_at g)
+coded-by-mmr s g is = mmr-coded (stated s.x_resolution) (stated s.y_resolution) g ∙ ap (coded_with s g) (sym is)
 
 -- what the encoder gives, with its error changed
 pub mapped-bytes : {X D : Type 0} (view : X → List ℕ) (r : Result X DecodeError) (m : Result X D) (post : DecodeError → D → Type 0) (made meant : List ℕ) → IfOk r (λ x. view x ≡ made) → made ≡ meant
@@ -59,13 +78,17 @@ mapped-bytes view (Err e) (Ok x) post made meant given is same = absurd same
 mapped-bytes view (Err e) (Err d) post made meant given is same = tt
 
 -- ---- their length
-length-adaptive : (template : Template) → length (flat_map adaptive_bytes (nominal_adaptive_pixels template)) ≤ 8
-length-adaptive Template0 = omega arith
-length-adaptive Template1 = omega arith
-length-adaptive Template2 = omega arith
-length-adaptive Template3 = omega arith
+length-nominal : (template : Template) → length (flat_map adaptive_bytes (nominal_adaptive_pixels template)) ≤ 8
+length-nominal Template0 = omega arith
+length-nominal Template1 = omega arith
+length-nominal Template2 = omega arith
+length-nominal Template3 = omega arith
 
-length-data : (s : WriteSettings) (w h : ℕ) (coded : List ℕ) → length (region_data s w h coded) ≡ 18 + length (flat_map adaptive_bytes (nominal_adaptive_pixels s.template) ++ coded)
+length-adaptive : (coding : RegionCoding) → length (flat_map adaptive_bytes (adaptive_of coding)) ≤ 8
+length-adaptive (Arithmetic a) = length-nominal a.template
+length-adaptive Mmr = omega arith
+
+length-data : (s : WriteSettings) (w h : ℕ) (coded : List ℕ) → length (region_data s w h coded) ≡ 18 + length (flat_map adaptive_bytes (adaptive_of s.coding) ++ coded)
 unfolding generic_bytes info_bytes
 length-data s w h coded = omega arith
 
@@ -73,8 +96,8 @@ pub region-short : (s : WriteSettings) (w h : ℕ) (none bytes coded slice : Lis
 region-short s w h none bytes coded slice empty is short same =
     let all : slice ≡ region_data s w h coded = same ∙ is ∙ ap (λ (l : List ℕ). l ++ region_data s w h coded) empty in
     let size = length-data s w h coded in
-    let parts = length-append (flat_map adaptive_bytes (nominal_adaptive_pixels s.template)) coded in
-    omega (arith, ap length all, size, parts, length-adaptive s.template, short)
+    let parts = length-append (flat_map adaptive_bytes (adaptive_of s.coding)) coded in
+    omega (arith, ap length all, size, parts, length-adaptive s.coding, short)
 
 pub information-short : (none bytes slice : List ℕ) (w h x y : ℕ) → none ≡ [] → bytes ≡ none ++ page_information w h x y → slice ≡ bytes → length slice < 4294967296
 unfolding page_information
@@ -173,8 +196,11 @@ pub coded-fits : (s : WriteSettings) (g : Grid) (w h : ℕ) (coded slice : List 
 coded-fits s g w h coded slice is_w is_h is is_slice is_coded =
     let columns : g.width ≤ max_side = subst (λ (n : ℕ). n ≤ max_side) is_w is.columns.1 in
     let rows : g.height ≤ max_side = subst (λ (n : ℕ). n ≤ max_side) is_h is.rows.1 in
-    let short = by-coder-short (choice_of s) g.width g.height (pixel_at g) refl columns rows in
-    omega (arith, ap length (is_slice ∙ is_coded), short)
+    let size = ap length (is_slice ∙ is_coded) in
+    ⊎_elim
+    (λ (e : is_mmr s.coding ≡ true). let short = by-mmr-short (choice_of s) g.width g.height (pixel_at g) e columns rows in omega (arith, size, short))
+    (λ (e : is_mmr s.coding ≡ false). let short = by-coder-short (choice_of s) g.width g.height (pixel_at g) e columns rows in omega (arith, size, short))
+    (cases_Bool (is_mmr s.coding))
 
 -- what is written for a bitmap of an allowed size
 pub given : (s : WriteSettings) (g : Grid) (w h : ℕ) (meant bytes : List ℕ) (r : Result (Unit {0}) WriteError) (unit : Unit {0}) → w ≡ g.width → h ≡ g.height → r ≡ check_size w h → r ≡ Ok unit → bytes ≡ meant
@@ -193,27 +219,36 @@ resolution-is (suc n) small =
 choice-is : (s : WriteSettings) → FitsResolution s → IsChoice (choice_of s)
 choice-is s fits = record {
   template = tt;
-  extended = extended s.template;
-  count = count s.template;
-  pixels = pixels s.template;
+  extended = extended s.coding;
+  count = count s.coding;
+  pixels = pixels s.coding;
   x_resolution = resolution-is (number_or_0 s.x_resolution) (omega (arith, fits.0));
   y_resolution = resolution-is (number_or_0 s.y_resolution) (omega (arith, fits.1));
 }
   where
-    extended : (t : Template) → takes_extended false false t ≡ false
-    extended t = refl
+    extended : (coding : RegionCoding) → takes_extended (is_mmr coding) false (template_of coding) ≡ false
+    extended (Arithmetic a) = refl
+    extended Mmr = refl
 
-    count : (t : Template) → length (nominal_adaptive_pixels t) ≡ adaptive_pixel_count false false t
-    count Template0 = refl
-    count Template1 = refl
-    count Template2 = refl
-    count Template3 = refl
+    nominal-count : (t : Template) → length (nominal_adaptive_pixels t) ≡ adaptive_pixel_count false false t
+    nominal-count Template0 = refl
+    nominal-count Template1 = refl
+    nominal-count Template2 = refl
+    nominal-count Template3 = refl
 
-    pixels : (t : Template) → AreAdaptive (nominal_adaptive_pixels t)
-    pixels Template0 = (refl, omega arith, omega arith, (refl, omega arith, omega arith, (refl, omega arith, omega arith, (refl, omega arith, omega arith, tt))))
-    pixels Template1 = (refl, omega arith, omega arith, tt)
-    pixels Template2 = (refl, omega arith, omega arith, tt)
-    pixels Template3 = (refl, omega arith, omega arith, tt)
+    count : (coding : RegionCoding) → length (adaptive_of coding) ≡ adaptive_pixel_count (is_mmr coding) false (template_of coding)
+    count (Arithmetic a) = nominal-count a.template
+    count Mmr = refl
+
+    nominal-pixels : (t : Template) → AreAdaptive (nominal_adaptive_pixels t)
+    nominal-pixels Template0 = (refl, omega arith, omega arith, (refl, omega arith, omega arith, (refl, omega arith, omega arith, (refl, omega arith, omega arith, tt))))
+    nominal-pixels Template1 = (refl, omega arith, omega arith, tt)
+    nominal-pixels Template2 = (refl, omega arith, omega arith, tt)
+    nominal-pixels Template3 = (refl, omega arith, omega arith, tt)
+
+    pixels : (coding : RegionCoding) → AreAdaptive (adaptive_of coding)
+    pixels (Arithmetic a) = nominal-pixels a.template
+    pixels Mmr = tt
 
 sides-are : (g : Grid) (w h : ℕ) → w ≡ g.width → h ≡ g.height → IsAllowed w h → IsAllowed g.width g.height
 sides-are g w h is_w is_h allows = subst (λ (n : ℕ). IsAllowed g.width n) is_h (subst (λ (n : ℕ). IsAllowed n h) is_w allows)

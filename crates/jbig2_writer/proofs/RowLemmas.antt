@@ -16,7 +16,7 @@ use Rattle.jbig2_region.specs.declared.template.Template.TheVariants.{Template0,
 use Rattle.jbig2_inverses.specs.CoderStates.{Entry}
 use Rattle.jbig2_inverses.specs.RegionWriter.{row_above, same_rows}
 use Rattle.jbig2_writer.specs.declared.neighbours.Neighbours.{Neighbours}
-use Rattle.jbig2_writer.specs.declared.settings.WriteSettings.{WriteSettings}
+use Rattle.jbig2_writer.specs.declared.settings.ArithmeticCoding.{ArithmeticCoding}
 use Rattle.jbig2_writer.specs.inner.Rows.{pixel_decisions, places, predicted_before, row_decisions, rows_decisions, typical_row}
 use Rattle.jbig2_writer.specs.inner.Windows.{GoesOn, IsNear, neighbour_pixels, neighbours_of}
 use Rattle.jbig2_writer.proofs.WindowLemmas.{same-words}
@@ -139,11 +139,11 @@ places-are Template1 = refl
 places-are Template2 = refl
 places-are Template3 = refl
 
-pub row-plain : (s : WriteSettings) (g : Grid) (y : ℕ) (p : Bool) → s.typical ≡ false → row_decisions s g y p ≡ pixel_decisions (places s.template) g y g.width
+pub row-plain : (s : ArithmeticCoding) (g : Grid) (y : ℕ) (p : Bool) → s.typical ≡ false → row_decisions s g y p ≡ pixel_decisions (places s.template) g y g.width
 unfolding row_decisions
 row-plain s g y p e = rw e refl
 
-row-coded : (s : WriteSettings) (g : Grid) (y : ℕ) (p same : Bool) → s.typical ≡ true → same_rows g.width (λ x. pixel_at g x y) (row_above (pixel_at g) y) ≡ same
+row-coded : (s : ArithmeticCoding) (g : Grid) (y : ℕ) (p same : Bool) → s.typical ≡ true → same_rows g.width (λ x. pixel_at g x y) (row_above (pixel_at g) y) ≡ same
     → row_decisions s g y p ≡ (row_context s.template, differ same p) ∷ cond same [] (pixel_decisions (places s.template) g y g.width)
 unfolding row_decisions
 row-coded s g y p same e f = rw (e, f) refl
@@ -155,13 +155,13 @@ changes false true = refl
 changes false false = refl
 
 -- the pixels of a row, in the places of its template
-at-places : (s t : CodingInContexts) (st : WriteSettings) (g : Grid) (y : ℕ) (n : Neighbours) → n ≡ neighbours_of st.template
+at-places : (s t : CodingInContexts) (st : ArithmeticCoding) (g : Grid) (y : ℕ) (n : Neighbours) → n ≡ neighbours_of st.template
     → Codes s t (pixel_decisions (neighbour_pixels n) g y g.width) → Codes s t (pixel_decisions (places st.template) g y g.width)
 at-places s t st g y n is_n codes =
     subst (λ (template : List AdaptiveTemplatePixel). Codes s t (pixel_decisions template g y g.width)) (ap neighbour_pixels is_n ∙ places-are st.template) codes
 
 -- a row that takes no decision SLTP
-pub row-uncoded : (s t : CodingInContexts) (st : WriteSettings) (g : Grid) (y : ℕ) (p : Bool) (n : Neighbours) → st.typical ≡ false → n ≡ neighbours_of st.template
+pub row-uncoded : (s t : CodingInContexts) (st : ArithmeticCoding) (g : Grid) (y : ℕ) (p : Bool) (n : Neighbours) → st.typical ≡ false → n ≡ neighbours_of st.template
     → Codes s t (pixel_decisions (neighbour_pixels n) g y g.width) → Codes s t (row_decisions st g y p)
 row-uncoded s t st g y p n e is_n codes = subst (λ (more : List Entry). Codes s t more) (sym (row-plain st g y p e)) (at-places s t st g y n is_n codes)
 
@@ -170,13 +170,13 @@ sltp : (s t : CodingInContexts) (k k' : ℕ) (p same same' : Bool) → k ≡ k' 
 sltp s t k k' p same same' is_k is codes = subst (λ (e : Entry). Codes s t (e ∷ [])) (λ i. (is_k i, (ap (λ (b : Bool). not (beq b p)) is ∙ changes same' p) i)) codes
 
 -- a typical row
-pub row-predicted : (s t : CodingInContexts) (st : WriteSettings) (g : Grid) (y k : ℕ) (p same : Bool) → st.typical ≡ true → same ≡ same_rows g.width (λ x. pixel_at g x y) (row_above (pixel_at g) y) → same ≡ true
+pub row-predicted : (s t : CodingInContexts) (st : ArithmeticCoding) (g : Grid) (y k : ℕ) (p same : Bool) → st.typical ≡ true → same ≡ same_rows g.width (λ x. pixel_at g x y) (row_above (pixel_at g) y) → same ≡ true
     → k ≡ row_context st.template → Codes s t ((k, not (beq same p)) ∷ []) → Codes s t (row_decisions st g y p)
 row-predicted s t st g y k p same e is_same typical is_k codes =
     subst (λ (more : List Entry). Codes s t more) (sym (row-coded st g y p true e (sym is_same ∙ typical))) (sltp s t k (row_context st.template) p same true is_k typical codes)
 
 -- a row that is not typical
-pub row-read : (s t u : CodingInContexts) (st : WriteSettings) (g : Grid) (y k : ℕ) (p same : Bool) (n : Neighbours) → st.typical ≡ true
+pub row-read : (s t u : CodingInContexts) (st : ArithmeticCoding) (g : Grid) (y k : ℕ) (p same : Bool) (n : Neighbours) → st.typical ≡ true
     → same ≡ same_rows g.width (λ x. pixel_at g x y) (row_above (pixel_at g) y) → same ≡ false → k ≡ row_context st.template → n ≡ neighbours_of st.template
     → Codes s t ((k, not (beq same p)) ∷ []) → Codes t u (pixel_decisions (neighbour_pixels n) g y g.width) → Codes s u (row_decisions st g y p)
 row-read s t u st g y k p same n e is_same other is_k is_n opens codes =
@@ -188,11 +188,11 @@ row-read s t u st g y k p same n e is_same other is_k is_n opens codes =
     (at-places t u st g y n is_n codes (list ++ first ∷ []) (sltp s t k (row_context st.template) p same false is_k other opens list has)))
 
 -- ---- the rows
-pub rows-none : (encoder : CodingInContexts) (s : WriteSettings) (g : Grid) → HasCoded encoder [] → HasCoded encoder (rows_decisions s g 0)
+pub rows-none : (encoder : CodingInContexts) (s : ArithmeticCoding) (g : Grid) → HasCoded encoder [] → HasCoded encoder (rows_decisions s g 0)
 unfolding rows_decisions
 rows-none encoder s g has = has
 
-pub rows-more : (old new : CodingInContexts) (s : WriteSettings) (g : Grid) (y : ℕ) (p : Bool) → HasCoded old (rows_decisions s g y) → p ≡ predicted_before s g y → Codes old new (row_decisions s g y p) → HasCoded new (rows_decisions s g (y + 1))
+pub rows-more : (old new : CodingInContexts) (s : ArithmeticCoding) (g : Grid) (y : ℕ) (p : Bool) → HasCoded old (rows_decisions s g y) → p ≡ predicted_before s g y → Codes old new (row_decisions s g y p) → HasCoded new (rows_decisions s g (y + 1))
 unfolding rows_decisions
 rows-more old new s g y p has is_p codes =
     rw add-one (subst (λ (b : Bool). HasCoded new (rows_decisions s g y ++ row_decisions s g y b)) is_p (codes (rows_decisions s g y) has))
@@ -204,5 +204,5 @@ gives-bytes view (Ok x) meant given = sym (ok-same given)
     ok-same e = cc
 gives-bytes view (Err e) meant given = tt
 
-pub predicted-next : (s : WriteSettings) (g : Grid) (y : ℕ) (t : Bool) → t ≡ typical_row s g y → t ≡ predicted_before s g (y + 1)
+pub predicted-next : (s : ArithmeticCoding) (g : Grid) (y : ℕ) (t : Bool) → t ≡ typical_row s g y → t ≡ predicted_before s g (y + 1)
 predicted-next s g y t e = rw add-one e

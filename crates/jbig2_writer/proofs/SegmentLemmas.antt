@@ -3,11 +3,11 @@ use Rattle.std.proofs.Common.{◌≡◌, ℕ, ◌+◌, ◌*◌, false, List, [],
 use Rattle.std.specs.List.{flat_map}
 use Rattle.std.specs.Int.{w32, to_be_bytes}
 use Rattle.jbig2_base.specs.Grid.{bit_number}
-use Rattle.jbig2_region.specs.Templates.{nominal_adaptive_pixels}
 use Rattle.jbig2_inverses.specs.FileWriter.{file_header_bytes}
 use Rattle.jbig2_inverses.specs.GenericSegmentWriter.{adaptive_bytes, generic_bytes, info_bytes, template_number}
 use Rattle.jbig2_page_inverse.specs.PageFile.{file_header}
 use Rattle.jbig2_writer.specs.declared.settings.WriteSettings.{WriteSettings}
+use Rattle.jbig2_writer.specs.Written.{adaptive_of, is_mmr, template_of, typical_of}
 use Rattle.jbig2_writer.specs.inner.Segments.{page_information, region_data, segment_of}
 
 -- three parts that are added one after another
@@ -40,20 +40,20 @@ pub header-is : file_header_bytes (file_header false) ≡ 0x97 ∷ 0x4A ∷ 0x42
 unfolding file_header_bytes
 header-is = refl
 
-data-is : (s : WriteSettings) (width height flags : ℕ) (coded : List ℕ) → flags ≡ 2 * template_number s.template + 8 * bit_number s.typical
-    → region_data s width height coded ≡ to_be_bytes w32 width ++ (to_be_bytes w32 height ++ ((0 ∷ 0 ∷ 0 ∷ 0 ∷ 0 ∷ 0 ∷ 0 ∷ 0 ∷ 0 ∷ []) ++ ((flags ∷ []) ++ (flat_map adaptive_bytes (nominal_adaptive_pixels s.template) ++ coded))))
+data-is : (s : WriteSettings) (width height flags : ℕ) (coded : List ℕ) → flags ≡ bit_number (is_mmr s.coding) + 2 * template_number (template_of s.coding) + 8 * bit_number (typical_of s.coding)
+    → region_data s width height coded ≡ to_be_bytes w32 width ++ (to_be_bytes w32 height ++ ((0 ∷ 0 ∷ 0 ∷ 0 ∷ 0 ∷ 0 ∷ 0 ∷ 0 ∷ 0 ∷ []) ++ ((flags ∷ []) ++ (flat_map adaptive_bytes (adaptive_of s.coding) ++ coded))))
 unfolding generic_bytes info_bytes
 data-is s width height flags coded is =
-    let same : 0 + 2 * template_number s.template + 8 * bit_number s.typical + 0 ≡ flags = omega (arith, is) in
-    ap (λ (n : ℕ). to_be_bytes w32 width ++ (to_be_bytes w32 height ++ ((0 ∷ 0 ∷ 0 ∷ 0 ∷ 0 ∷ 0 ∷ 0 ∷ 0 ∷ 0 ∷ []) ++ ((n ∷ []) ++ (flat_map adaptive_bytes (nominal_adaptive_pixels s.template) ++ coded))))) same
+    let same : bit_number (is_mmr s.coding) + 2 * template_number (template_of s.coding) + 8 * bit_number (typical_of s.coding) + 0 ≡ flags = omega (arith, is) in
+    ap (λ (n : ℕ). to_be_bytes w32 width ++ (to_be_bytes w32 height ++ ((0 ∷ 0 ∷ 0 ∷ 0 ∷ 0 ∷ 0 ∷ 0 ∷ 0 ∷ 0 ∷ []) ++ ((n ∷ []) ++ (flat_map adaptive_bytes (adaptive_of s.coding) ++ coded))))) same
 
 pub region-added : (old ra rb rc rd re rf a b e coded : List ℕ) (s : WriteSettings) (width height flags : ℕ) → a ≡ to_be_bytes w32 width → b ≡ to_be_bytes w32 height
-    → flags ≡ 2 * template_number s.template + 8 * bit_number s.typical → e ≡ flat_map adaptive_bytes (nominal_adaptive_pixels s.template)
+    → flags ≡ bit_number (is_mmr s.coding) + 2 * template_number (template_of s.coding) + 8 * bit_number (typical_of s.coding) → e ≡ flat_map adaptive_bytes (adaptive_of s.coding)
     → ra ≡ old ++ a → rb ≡ ra ++ b → rc ≡ rb ++ 0 ∷ 0 ∷ 0 ∷ 0 ∷ 0 ∷ 0 ∷ 0 ∷ 0 ∷ 0 ∷ [] → rd ≡ rc ++ flags ∷ [] → re ≡ rd ++ e → rf ≡ re ++ coded
     → rf ≡ old ++ region_data s width height coded
 region-added old ra rb rc rd re rf a b e coded s width height flags is_a is_b is_flags is_e first second third fourth fifth sixth =
     let corner : List ℕ = 0 ∷ 0 ∷ 0 ∷ 0 ∷ 0 ∷ 0 ∷ 0 ∷ 0 ∷ 0 ∷ [] in
-    let adaptive : List ℕ = flat_map adaptive_bytes (nominal_adaptive_pixels s.template) in
+    let adaptive : List ℕ = flat_map adaptive_bytes (adaptive_of s.coding) in
     let end : List ℕ = (flags ∷ []) ++ (adaptive ++ coded) in
     three rc (flags ∷ []) e coded rd re rf fourth fifth sixth
     ∙ ap (λ (l : List ℕ). rc ++ ((flags ∷ []) ++ (l ++ coded))) is_e

@@ -1,12 +1,15 @@
 -- What is written for a bitmap: the bytes of an embedded page or of a file that holds it, or a refusal of its size. Then
 -- how the result of the writer compares with that, and what it is that the bytes read back.
-use Rattle.std.specs.Prelude.{◌≡◌, ℕ, ◌&&◌, nat_le, false, Bool, if◌then◌else◌, List, [], ◌∷◌, Option, Result, Ok, Err}
-use Rattle.std.specs.Prelude.{◌⊎◌}
+use Rattle.std.specs.Prelude.{◌≡◌, ℕ, ◌+◌, ◌*◌, ◌/◌, ◌&&◌, nat_le, true, false, Bool, if◌then◌else◌, List, [], ◌∷◌}
+use Rattle.std.specs.Prelude.{◌⊎◌, Option, Result, Ok, Err}
 use Rattle.jbig2_base.specs.Bits.{nonzero}
 use Rattle.jbig2_base.specs.Grid.{Grid, max_side, pixel_at}
 use Rattle.jbig2_base.specs.Results.{◌>>=◌}
 use Rattle.jbig2_framing.specs.declared.reading.Reading.{Reading}
 use Rattle.jbig2_region.specs.Templates.{nominal_adaptive_pixels}
+use Rattle.jbig2_region.specs.declared.template.AdaptiveTemplatePixel.{AdaptiveTemplatePixel}
+use Rattle.jbig2_region.specs.declared.template.Template.{Template}
+use Rattle.jbig2_region.specs.declared.template.Template.TheVariants.{Template0}
 use Rattle.jbig2_page.specs.Files.{ReadFile, book_at, pages_of}
 use Rattle.jbig2_page.specs.Names.{Names}
 use Rattle.jbig2_page.specs.Page.{ReadPage, page_from, grid_of_page}
@@ -17,23 +20,48 @@ use Rattle.jbig2_writer.specs.declared.error.WriteError.{WriteError}
 use Rattle.jbig2_writer.specs.declared.error.WriteError.TheVariants.{InvalidSides, OutOfMemory}
 use Rattle.jbig2_writer.specs.declared.settings.Container.{Container}
 use Rattle.jbig2_writer.specs.declared.settings.Container.TheVariants.{EmbeddedPage, File}
+use Rattle.jbig2_writer.specs.declared.settings.ArithmeticCoding.{ArithmeticCoding}
+use Rattle.jbig2_writer.specs.declared.settings.RegionCoding.{RegionCoding}
+use Rattle.jbig2_writer.specs.declared.settings.RegionCoding.TheVariants.{Arithmetic, Mmr}
 use Rattle.jbig2_writer.specs.declared.settings.WriteSettings.{WriteSettings}
 
 abbrev pub stated : Option ℕ → Option ℕ  -- the resolution that is stated: 0 states none (7.4.8.3)
 stated resolution = nonzero (number_or_0 resolution)
 
--- by the arithmetic coder, with nominal adaptive pixels
-abbrev pub choice_of : WriteSettings → Choice
-choice_of s = record {
-  mmr = false;
-  end_of_block = false;
-  template = s.template;
+abbrev pub is_mmr : RegionCoding → Bool
+is_mmr (Arithmetic a) = false
+is_mmr Mmr = true
+
+abbrev pub template_of : RegionCoding → Template  -- MMR data have none, and 0 in its place (7.4.6.2)
+template_of (Arithmetic a) = a.template
+template_of Mmr = Template0
+
+abbrev pub typical_of : RegionCoding → Bool
+typical_of (Arithmetic a) = a.typical
+typical_of Mmr = false
+
+abbrev pub adaptive_of : RegionCoding → List AdaptiveTemplatePixel  -- at their nominal places
+adaptive_of (Arithmetic a) = nominal_adaptive_pixels a.template
+adaptive_of Mmr = []
+
+abbrev pub choice_with : RegionCoding → Option ℕ → Option ℕ → Choice
+choice_with coding x_resolution y_resolution = record {
+  mmr = is_mmr coding;
+  end_of_block = true;
+  template = template_of coding;
   extended = false;
-  typical = s.typical;
-  adaptive = nominal_adaptive_pixels s.template;
-  x_resolution = stated s.x_resolution;
-  y_resolution = stated s.y_resolution;
+  typical = typical_of coding;
+  adaptive = adaptive_of coding;
+  x_resolution = x_resolution;
+  y_resolution = y_resolution;
 }
+
+abbrev pub choice_of : WriteSettings → Choice
+choice_of s = choice_with s.coding (stated s.x_resolution) (stated s.y_resolution)
+
+abbrev pub most_loads : RegionCoding → ℕ → ℕ → ℕ  -- how many loads of pixels a bitmap of this size takes at most
+most_loads (Arithmetic a) width height = 5 * ((width + 31) / 32 * height)
+most_loads Mmr width height = 7 * ((width + 1) * height)
 
 abbrev pub is_side : ℕ → Bool
 is_side n = nat_le 1 n && nat_le n max_side

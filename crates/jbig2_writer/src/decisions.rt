@@ -8,7 +8,7 @@ ghost use Rattle.jbig2_writer.specs.inner.Rows.{pixel_decisions, row_decisions, 
 ghost use Rattle.jbig2_writer.specs.inner.Windows.{CodesGroup, IsNear, neighbour_pixels};
 
 use crate::neighbours::{Neighbours, neighbours_of, row_context};
-use crate::settings::WriteSettings;
+use crate::settings::ArithmeticCoding;
 use crate::windows::{Windows, windows_at};
 use jbig2_base::bitmap::Bitmap;
 use jbig2_base::bitmap::steps::Steps;
@@ -125,7 +125,7 @@ fn push_pixels<A: Allocator + Clone, B: Allocator, L: Ledger>(
 /// Codes row `y`, and returns whether the row is typical. `predicted` is that of the row before it.
 fn push_row<A: Allocator + Clone, B: Allocator, L: Ledger>(
     encoder: &mut ListEncoder<A>,
-    settings: &WriteSettings,
+    coding: &ArithmeticCoding,
     bitmap: &Bitmap<B>,
     y: u32,
     predicted: bool,
@@ -133,18 +133,18 @@ fn push_row<A: Allocator + Clone, B: Allocator, L: Ledger>(
 ) -> Result<bool>
     requires columns { bitmap.now.width ≤ max_side }
     ensures row { OnOk result
-        (Codes encoder.old encoder.new (row_decisions settings.now bitmap.now y predicted)) }
-    ensures typical { IfOk result (λ typical. typical ≡ typical_row settings.now bitmap.now y) }
+        (Codes encoder.old encoder.new (row_decisions coding.now bitmap.now y predicted)) }
+    ensures typical { IfOk result (λ typical. typical ≡ typical_row coding.now bitmap.now y) }
     ensures steps { steps.new ≡ record steps.old { loads = steps.new.loads } }
     ensures loads { steps.new.loads ≤ steps.old.loads + 5 * ((bitmap.now.width + 31) / 32) }
 {
-    let neighbours = neighbours_of(settings.template);
-    if !settings.typical {
+    let neighbours = neighbours_of(coding.template);
+    if !coding.typical {
         push_pixels(encoder, neighbours, bitmap, y, steps)?;
         return Ok(false);
     }
     let typical = is_as_above(bitmap, y, steps);
-    encoder.push(row_context(settings.template), typical != predicted)?;
+    encoder.push(row_context(coding.template), typical != predicted)?;
     if typical {
         return Ok(true);
     }
@@ -156,12 +156,12 @@ fn push_row<A: Allocator + Clone, B: Allocator, L: Ledger>(
 pub fn coded_rows<A: Allocator + Clone, B: Allocator, L: Ledger>(
     alloc: A,
     bitmap: &Bitmap<B>,
-    settings: &WriteSettings,
+    coding: &ArithmeticCoding,
     steps: &mut Steps<L>,
 ) -> Result<Vec<u8, A>>
     requires columns { bitmap.now.width ≤ max_side }
     ensures bytes { IfOk result (λ v. v.items
-        ≡ encoded_bytes (rows_decisions settings.now bitmap.now bitmap.now.height)) }
+        ≡ encoded_bytes (rows_decisions coding.now bitmap.now bitmap.now.height)) }
     ensures steps { steps.new ≡ record steps.old { loads = steps.new.loads } }
     ensures loads { steps.new.loads
         ≤ steps.old.loads + 5 * ((bitmap.now.width + 31) / 32 * bitmap.now.height) }
@@ -169,7 +169,7 @@ pub fn coded_rows<A: Allocator + Clone, B: Allocator, L: Ledger>(
     let mut encoder = ListEncoder::new(alloc)?;
     let mut predicted = false;
     for y in 0..bitmap.height() {
-        predicted = push_row(&mut encoder, settings, bitmap, y, predicted, steps)?;
+        predicted = push_row(&mut encoder, coding, bitmap, y, predicted, steps)?;
     }
     encoder.finish()
 }

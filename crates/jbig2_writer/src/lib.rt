@@ -15,4 +15,4 @@ mod windows;
 
 pub use error::WriteError;
 pub use page::{write_packed, write_page};
-pub use settings::{Container, WriteSettings};
+pub use settings::{ArithmeticCoding, Container, RegionCoding, WriteSettings};

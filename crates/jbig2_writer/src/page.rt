@@ -4,15 +4,16 @@ ghost use Rattle.jbig2_base.specs.Grid.{max_side, pixel_at};
 ghost use Rattle.jbig2_page.specs.Image.{packed_size};
 ghost use Rattle.jbig2_page_inverse.specs.PageWriter.{coded_bytes};
 ghost use Rattle.jbig2_writer.specs.Packed.{packed_grid};
-ghost use Rattle.jbig2_writer.specs.Written.{Gives, ReadsBack, check_size, choice_of, is_side, written};
+ghost use Rattle.jbig2_writer.specs.Written.{Gives, ReadsBack, check_size, choice_of, is_side, most_loads, written};
 
 use crate::container::bytes_of_page;
 use crate::decisions::coded_rows;
 use crate::error::WriteError;
 use crate::packed::bitmap_of_rows;
-use crate::settings::WriteSettings;
+use crate::settings::{RegionCoding, WriteSettings};
 use jbig2_base::bitmap::steps::Steps;
 use jbig2_base::bitmap::{Bitmap, MAX_DIMENSION};
+use jbig2_mmr_writer::coded_mmr;
 use std::alloc::{AllocError, Allocator};
 use std::sync::ledger::Ledger;
 
@@ -47,14 +48,19 @@ fn coded_region<A: Allocator + Clone, B: Allocator, L: Ledger>(
         (λ v. v.items ≡ coded_bytes (choice_of settings.now) g.width g.height (pixel_at g)) }
     ensures steps { steps.new ≡ record steps.old { loads = steps.new.loads } }
     ensures loads { steps.new.loads
-        ≤ steps.old.loads + 5 * ((bitmap.now.width + 31) / 32 * bitmap.now.height) }
+        ≤ steps.old.loads + most_loads settings.now.coding bitmap.now.width bitmap.now.height }
 {
-    coded_rows(alloc, bitmap, settings, steps).map_err(|_| AllocError)
+    match settings.coding {
+        RegionCoding::Arithmetic(coding) => {
+            coded_rows(alloc, bitmap, &coding, steps).map_err(|_| AllocError)
+        }
+        RegionCoding::Mmr => coded_mmr(alloc, bitmap, true, steps),
+    }
 }
 
 /// Writes the bitmap as a page, embedded or in a file: page information, and one immediate generic region of the page's
-/// size. `settings` say in what, and how the region is coded. The steps count loads of pixels, at most five for 32 pixels
-/// of a row.
+/// size. `settings` say in what, and how the region is coded. The steps count loads of pixels: at most five for
+/// 32 pixels of a row by the arithmetic coder, and by MMR seven for each pixel and seven more.
 ///
 /// Returns `InvalidSides` if a side is 0 or above 65535, and `OutOfMemory` if memory is refused.
 pub fn write_page<A: Allocator + Clone, B: Allocator, L: Ledger>(
@@ -68,7 +74,7 @@ pub fn write_page<A: Allocator + Clone, B: Allocator, L: Ledger>(
     ensures reads_back { IfOk result (λ v. ReadsBack settings.now v.items bitmap.now) }
     ensures steps { steps.new ≡ record steps.old { loads = steps.new.loads } }
     ensures loads { steps.new.loads
-        ≤ steps.old.loads + 5 * ((bitmap.now.width + 31) / 32 * bitmap.now.height) }
+        ≤ steps.old.loads + most_loads settings.now.coding bitmap.now.width bitmap.now.height }
 {
     let width = bitmap.width();
     let height = bitmap.height();
@@ -100,7 +106,7 @@ pub fn write_packed<A: Allocator + Clone, L: Ledger>(
       words = steps.new.words;
       cleared = steps.new.cleared;
     } }
-    ensures loads { steps.new.loads ≤ steps.old.loads + 5 * ((width + 31) / 32 * height) }
+    ensures loads { steps.new.loads ≤ steps.old.loads + most_loads settings.now.coding width height }
     ensures words { steps.new.words ≤ steps.old.words + (width + 63) / 64 * height }
     ensures cleared { steps.new.cleared ≤ steps.old.cleared + (width + 63) / 64 * height }
 {

@@ -6,9 +6,10 @@ ghost use Rattle.jbig2_inverses.specs.FileWriter.{file_header_bytes};
 ghost use Rattle.jbig2_inverses.specs.GenericSegmentWriter.{adaptive_bytes, template_number};
 ghost use Rattle.jbig2_page_inverse.specs.PageFile.{file_header};
 ghost use Rattle.jbig2_region.specs.Templates.{nominal_adaptive_pixels};
+ghost use Rattle.jbig2_writer.specs.Written.{adaptive_of, is_mmr, template_of, typical_of};
 ghost use Rattle.jbig2_writer.specs.inner.Segments.{page_information, region_data, segment_of};
 
-use crate::settings::WriteSettings;
+use crate::settings::{RegionCoding, WriteSettings};
 use jbig2_region::template::Template;
 use std::alloc::{AllocError, Allocator};
 
@@ -76,12 +77,28 @@ fn adaptive_bytes(template: Template) -> &'static [u8]
     }
 }
 
-/// The flags of a generic region by the arithmetic coder (7.4.6.2).
-fn region_flags(settings: &WriteSettings) -> u8
-    ensures { result ≡ 2 * template_number settings.now.template + 8 * bit_number settings.now.typical }
+/// The adaptive pixels of a region: MMR data have none.
+fn adaptive_bytes_of(coding: RegionCoding) -> &'static [u8]
+    ensures { result.now ≡ flat_map adaptive_bytes (adaptive_of coding) }
 {
-    let typical = if settings.typical { 8 } else { 0 };
-    2 * template_number(settings.template) + typical
+    match coding {
+        RegionCoding::Arithmetic(arithmetic) => adaptive_bytes(arithmetic.template),
+        RegionCoding::Mmr => &[],
+    }
+}
+
+/// The flags of a generic region (7.4.6.2).
+fn region_flags(coding: RegionCoding) -> u8
+    ensures { result ≡ bit_number (is_mmr coding) + 2 * template_number (template_of coding)
+        + 8 * bit_number (typical_of coding) }
+{
+    match coding {
+        RegionCoding::Arithmetic(arithmetic) => {
+            let typical = if arithmetic.typical { 8 } else { 0 };
+            2 * template_number(arithmetic.template) + typical
+        }
+        RegionCoding::Mmr => 1,
+    }
 }
 
 /// Adds the data of a generic region of this size at the page's corner, to be combined by OR.
@@ -98,8 +115,8 @@ pub fn push_region<A: Allocator>(
     bytes.extend_from_slice(&width.to_be_bytes())?;
     bytes.extend_from_slice(&height.to_be_bytes())?;
     bytes.extend_from_slice(&[0, 0, 0, 0, 0, 0, 0, 0, 0])?;
-    bytes.push(region_flags(settings))?;
-    bytes.extend_from_slice(adaptive_bytes(settings.template))?;
+    bytes.push(region_flags(settings.coding))?;
+    bytes.extend_from_slice(adaptive_bytes_of(settings.coding))?;
     bytes.extend_from_slice(coded)?;
     Ok(())
 }

@@ -11,16 +11,32 @@ pub enum Container {
     File,
 }
 
-/// In what a bitmap is written, and how the generic region of its page is coded (T.88, 6.2): by the arithmetic coder,
-/// with the adaptive pixels where the standard has them by default. And the resolution of page information (7.4.8).
+/// How the arithmetic coder codes a region (T.88, 6.2.5), with the adaptive pixels where the standard has them by default.
 #[derive(Clone, Copy, Debug, PartialEq, Eq)]
-pub struct WriteSettings {
-    /// Whether the bytes are an embedded page or a file.
-    pub container: Container,
+pub struct ArithmeticCoding {
     /// Which pixels a context is made from (GBTEMPLATE).
     pub template: Template,
     /// Whether a row that is as the row above it takes one decision alone (typical prediction, TPGDON).
     pub typical: bool,
+}
+
+/// How the generic region of a page is coded (T.88, 6.2).
+#[derive(Clone, Copy, Debug, PartialEq, Eq)]
+pub enum RegionCoding {
+    /// By the arithmetic coder (6.2.5).
+    Arithmetic(ArithmeticCoding),
+    /// As MMR data, by T.6 (6.2.6), with an end of block.
+    Mmr,
+}
+
+/// In what a bitmap is written, how the generic region of its page is coded, and the resolution of page information
+/// (7.4.8).
+#[derive(Clone, Copy, Debug, PartialEq, Eq)]
+pub struct WriteSettings {
+    /// Whether the bytes are an embedded page or a file.
+    pub container: Container,
+    /// How the pixels are coded.
+    pub coding: RegionCoding,
     /// Pixels per metre along a row (7.4.8.3). `None` is unknown, and so is 0.
     pub x_resolution: Option<u32>,
     /// Pixels per metre along a column (7.4.8.4). `None` is unknown, and so is 0.

@@ -5,7 +5,9 @@ use jbig2_base::bitmap::Bitmap;
 use jbig2_base::bitmap::steps::Steps;
 use jbig2_permit::Permit;
 use jbig2_region::template::Template;
-use jbig2_writer::{Container, WriteError, WriteSettings, write_packed, write_page};
+use jbig2_writer::{
+    ArithmeticCoding, Container, RegionCoding, WriteError, WriteSettings, write_packed, write_page,
+};
 use std::alloc::Global;
 use std::marker::Brand;
 use std::sync::ledger::{Blank, Ledger};
@@ -50,12 +52,14 @@ struct Case {
     page: &'static [u8],
 }
 
-static CASES: [Case; 4] = [
+static CASES: [Case; 5] = [
     Case {
         settings: WriteSettings {
             container: Container::EmbeddedPage,
-            template: Template::Template0,
-            typical: true,
+            coding: RegionCoding::Arithmetic(ArithmeticCoding {
+                template: Template::Template0,
+                typical: true,
+            }),
             x_resolution: Some(11811),
             y_resolution: Some(5906),
         },
@@ -71,8 +75,10 @@ static CASES: [Case; 4] = [
     Case {
         settings: WriteSettings {
             container: Container::EmbeddedPage,
-            template: Template::Template1,
-            typical: false,
+            coding: RegionCoding::Arithmetic(ArithmeticCoding {
+                template: Template::Template1,
+                typical: false,
+            }),
             x_resolution: None,
             y_resolution: None,
         },
@@ -87,8 +93,10 @@ static CASES: [Case; 4] = [
     Case {
         settings: WriteSettings {
             container: Container::EmbeddedPage,
-            template: Template::Template2,
-            typical: true,
+            coding: RegionCoding::Arithmetic(ArithmeticCoding {
+                template: Template::Template2,
+                typical: true,
+            }),
             x_resolution: None,
             y_resolution: None,
         },
@@ -107,8 +115,10 @@ static CASES: [Case; 4] = [
     Case {
         settings: WriteSettings {
             container: Container::EmbeddedPage,
-            template: Template::Template3,
-            typical: false,
+            coding: RegionCoding::Arithmetic(ArithmeticCoding {
+                template: Template::Template3,
+                typical: false,
+            }),
             x_resolution: Some(0),
             y_resolution: None,
         },
@@ -118,6 +128,21 @@ static CASES: [Case; 4] = [
             0, 0, 0, 0, 0x70, 0, 0, 0, 0, 1, 0, 0, 0, 0x13, 0, 0, 0, 1, 0, 0, 0, 1, 0, 0, 0, 0, 0,
             0, 0, 0, 1, 0, 0, 0, 0, 0, 1, 0x66, 0, 0, 0, 0, 1, 0, 0, 0, 0x18, 0, 0, 0, 1, 0, 0, 0,
             1, 0, 0, 0, 0, 0, 0, 0, 0, 0, 6, 2, 0xFF, 0xFF, 0x7F, 0xFF, 0xAC,
+        ],
+    },
+    Case {
+        settings: WriteSettings {
+            container: Container::EmbeddedPage,
+            coding: RegionCoding::Mmr,
+            x_resolution: None,
+            y_resolution: None,
+        },
+        picture: DOT,
+        rows: &[0x80],
+        page: &[
+            0, 0, 0, 0, 0x70, 0, 0, 0, 0, 1, 0, 0, 0, 0x13, 0, 0, 0, 1, 0, 0, 0, 1, 0, 0, 0, 0, 0,
+            0, 0, 0, 1, 0, 0, 0, 0, 0, 1, 0x66, 0, 0, 0, 0, 1, 0, 0, 0, 0x16, 0, 0, 0, 1, 0, 0, 0,
+            1, 0, 0, 0, 0, 0, 0, 0, 0, 0, 1, 0x50, 1, 0, 0x10,
         ],
     },
 ];

@@ -7,7 +7,7 @@ use Rattle.jbig2_region.specs.declared.template.AdaptiveTemplatePixel.{AdaptiveT
 use Rattle.jbig2_region.specs.declared.template.Template.{Template}
 use Rattle.jbig2_inverses.specs.CoderStates.{Entry}
 use Rattle.jbig2_inverses.specs.RegionWriter.{is_typical}
-use Rattle.jbig2_writer.specs.declared.settings.WriteSettings.{WriteSettings}
+use Rattle.jbig2_writer.specs.declared.settings.ArithmeticCoding.{ArithmeticCoding}
 
 abbrev pub places : Template → List AdaptiveTemplatePixel  -- all pixels of a template with nominal adaptive pixels
 places template = template_pixels false template (nominal_adaptive_pixels template)
@@ -17,7 +17,7 @@ pixel_decisions template g y zero = []
 pixel_decisions template g y (suc n) =
     pixel_decisions template g y n ++ (context_at template g n y, pixel_at g n y) ∷ []
 
-module _ (s : WriteSettings) (g : Grid) where
+module _ (s : ArithmeticCoding) (g : Grid) where
   abbrev pub typical_row : ℕ → Bool  -- whether row y is as the row above it, and typical prediction is on
   typical_row y = is_typical s.typical g.width (pixel_at g) y
 

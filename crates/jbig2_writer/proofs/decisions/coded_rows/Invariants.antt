@@ -5,8 +5,8 @@ use Rattle.jbig2_writer.proofs.decisions.coded_rows.Given as goal
 
 abbrev pub invariant-loop-y : goal.invariant-loop-y
 invariant-loop-y g l = record {
-  rows : HasCoded l.encoder (rows_decisions l.settings l.bitmap l.y);
-  predicted : l.predicted ≡ predicted_before l.settings l.bitmap l.y;
+  rows : HasCoded l.encoder (rows_decisions l.coding l.bitmap l.y);
+  predicted : l.predicted ≡ predicted_before l.coding l.bitmap l.y;
   loads : l.steps.loads ≤ l.initial.steps.loads + 5 * ((l.bitmap.width + 31) / 32 * l.y);
   steps : l.steps ≡ record l.initial.steps { loads = l.steps.loads };
 }

@@ -1,0 +1,4 @@
+mod BitLemmas
+mod CodeTables
+mod PlaceLemmas
+mod RunLemmas
