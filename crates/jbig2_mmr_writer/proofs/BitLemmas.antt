@@ -122,8 +122,7 @@ last-fits c r few small =
     let whole = shl_whole r c (8 - c) 32 small (omega (arith, few)) in
     let below = shl_below r c (8 - c) small in
     let eight : c + (8 - c) ≡ 8 = omega (arith, few) in
-    let bound : r * 2 ^ (8 - c) < 2 ^ 8 = subst (λ (k : ℕ). r * 2 ^ (8 - c) < 2 ^ k) eight below in
-    omega (arith, whole, bound)
+    subst (λ (n : ℕ). n < 256) (sym whole) (subst (λ (k : ℕ). r * 2 ^ (8 - c) < 2 ^ k) eight below)
 
 -- a number of k bits, and then one of s bits
 both-below : (k r s n : ℕ) → r < 2 ^ k → n < 2 ^ s → r * 2 ^ s + n < 2 ^ (k + s)
@@ -132,22 +131,20 @@ both-below k r s n high low =
     let power = pow-add 2 k s in
     omega (arith, below, power)
 
+between : (a b c : ℕ) → a < b → b ≤ c → a < c
+between a b c low high = omega (arith, low, high)
+
 module _ (k r s n : ℕ) (few : k < 8) (high : r < 2 ^ k) (more : s ≤ 24) (low : n < 2 ^ s) where
   shifted : r * 2 ^ s % 2 ^ 32 ≡ r * 2 ^ s
   shifted = shl_whole r k s 32 high (omega (arith, few, more))
 
   pub join-fits : r * 2 ^ s % 2 ^ 32 + n < 2 ^ 32
   join-fits =
-      let same = shifted in
-      let below = both-below k r s n high low in
-      let power : 2 ^ (k + s) ≤ 2 ^ 31 = pow_mono (let most : k + s ≤ 31 = omega (arith, few, more) in most) in
-      omega (arith, same, below, power)
+      let power : 2 ^ (k + s) ≤ 2 ^ 32 = pow_mono (let most : k + s ≤ 32 = omega (arith, few, more) in most) in
+      subst (λ (m : ℕ). m + n < 2 ^ 32) (sym shifted) (between (r * 2 ^ s + n) (2 ^ (k + s)) (2 ^ 32) (both-below k r s n high low) power)
 
   pub join-small : r * 2 ^ s % 2 ^ 32 + n < 2 ^ (k + s)
-  join-small =
-      let same = shifted in
-      let below = both-below k r s n high low in
-      omega (arith, same, below)
+  join-small = subst (λ (m : ℕ). m + n < 2 ^ (k + s)) (sym shifted) (both-below k r s n high low)
 
   pub join-bits : (all bytes : List ℕ) → flat_map byte_bits bytes ++ digits k r ≡ all → flat_map byte_bits bytes ++ digits (k + s) (r * 2 ^ s % 2 ^ 32 + n) ≡ all ++ digits s n
   join-bits all bytes has =

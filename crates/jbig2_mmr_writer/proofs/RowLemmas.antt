@@ -1,11 +1,9 @@
 -- A row mode by mode, and a bitmap row by row.
 use Rattle.std.proofs.Common.{◌≡◌, ℕ, zero, suc, ◌+◌, ◌-◌, ◌/◌, ◌<◌, ◌≤◌, leb, ltb, Bool, false, cond, ◌&&◌, List, [], ◌++◌, length, sym, ◌∙◌, ap, ⊎_elim, append_assoc, append-nil, arith, lt-ltb, le-ltb, le-leb}
-use Rattle.std.specs.Prelude.{codes}
 use Rattle.std.proofs.lemmas.Bool.{cases_lt, cond-true, cond-false, lt-leb}
 use Rattle.jbig2_base.specs.Grid.{Grid, pixel_at}
 use Rattle.jbig2_base.proofs.GridLemmas.{pixel_at-right}
 use Rattle.jbig2_mmr.specs.T6.{Head, row_start}
-use Rattle.jbig2_mmr.specs.T6Codes.{word}
 use Rattle.jbig2_mmr.specs.inner.T6Reading.{row_above, row_of}
 use Rattle.jbig2_inverses.specs.BitmapWriter.{mmr_bits, mmr_bytes, packed, rows_bits}
 use Rattle.jbig2_inverses.specs.Digits.{digits}

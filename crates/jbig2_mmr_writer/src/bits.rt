@@ -65,7 +65,7 @@ impl<A: Allocator> BitWriter<A> {
     /// Adds the code word that an entry states.
     #[inline(always)]
     pub fn push_entry(&mut self, entry: u16) -> Result<(), AllocError>
-        requires small { entry / 16 < 2 ^ (entry % 16) }
+        requires { entry / 16 < 2 ^ (entry % 16) }
         ensures { OnOk result (self.new ≡ self.old ++ word_of_entry entry) }
     {
         self.push(u32::from(entry / 16), u32::from(entry % 16))

@@ -16,7 +16,7 @@ use std::sync::ledger::Ledger;
 
 /// The row above row `y`. Above row 0 it is a row outside, which is white.
 fn reference_row<B: Allocator>(bitmap: &Bitmap<B>, y: u32) -> u32
-    ensures value { (x : ℕ) → row_of bitmap.now result x ≡ row_above bitmap.now y x }
+    ensures { (x : ℕ) → row_of bitmap.now result x ≡ row_above bitmap.now y x }
 {
     if y == 0 { bitmap.height() } else { y - 1 }
 }

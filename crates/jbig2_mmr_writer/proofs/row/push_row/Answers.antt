@@ -11,7 +11,7 @@ loop-init g c =
     let start : c.first_place-place.result.a0 ≡ 0 = ap (λ (h : Head). h.a0) c.first_place-place.ensures.head in
     record {
       place = c.first_place-place.ensures.place;
-      bits = row-begins c.args.bitmap.now.width (row_of c.args.bitmap.now c.reference_row-above.result) (row_above c.args.bitmap.now c.args.y) (row_of c.args.bitmap.now c.args.y) (head_of c.first_place-place.result) c.args.writer.now c.reference_row-above.ensures.value c.first_place-place.ensures.head;
+      bits = row-begins c.args.bitmap.now.width (row_of c.args.bitmap.now c.reference_row-above.result) (row_above c.args.bitmap.now c.args.y) (row_of c.args.bitmap.now c.args.y) (head_of c.first_place-place.result) c.args.writer.now c.reference_row-above.ensures c.first_place-place.ensures.head;
       loads = omega (arith, start, c.first_place-place.ensures.loads);
       steps = search rules;
     }

@@ -1,4 +1,5 @@
-use Rattle.std.proofs.Common.{◌≡◌, ℕ, ◌+◌, ◌-◌, ◌*◌, ◌/◌, ◌%◌, ◌^◌, ◌<◌, arith}
+use Rattle.std.proofs.Common.{ℕ, ◌-◌, ◌<◌, arith}
+use Rattle.std.proofs.lemmas.List.Elements.{All-same}
 use Rattle.jbig2_mmr_writer.proofs.BitLemmas.{byte-fits, byte-pushed, bytes-pushed, join-bits, join-fits, join-small, rest-small}
 use Rattle.jbig2_mmr_writer.proofs.bits.BitWriter.push.Goals as goal
 
@@ -27,3 +28,10 @@ loop-left-preserved g c = record {
   kept_count = c.loop-left.invariant.kept_count;
   kept_rest = c.loop-left.invariant.kept_rest;
 }
+
+pub invariant_of-self-in_err-push : goal.invariant_of-self-in_err-push
+invariant_of-self-in_err-push g c = (
+  c.loop-left.invariant.kept_count,
+  c.loop-left.invariant.kept_rest,
+  All-same (λ (b : ℕ). b < 256) c.push.new.self.items c.loop-left.self-inside.bytes.items c.in_err-push.ensures.items c.loop-left.invariant.bytes,
+)
