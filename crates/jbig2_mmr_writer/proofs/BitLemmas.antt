@@ -2,7 +2,7 @@
 use Rattle.std.proofs.Common.{◌≡◌, ℕ, zero, suc, ◌+◌, ◌-◌, ◌*◌, ◌/◌, ◌%◌, ◌^◌, ◌<◌, ◌≤◌, List, [], ◌∷◌, ◌++◌, length, take, drop, replicate, All, refl, sym, ◌∙◌, ap, subst, pow-suc, pow_mono, append_assoc, append-nil, length-append, arith}
 use Rattle.std.specs.List.{flat_map}
 use Rattle.std.proofs.lemmas.Nat.{div-add-mod', mod_below, mul-add-lt, one_shl, pow-add, pow_pos, shl_below, shl_whole, shr-shr, shr_below, shr_high}
-use Rattle.std.proofs.lemmas.List.Elements.{All-push, All-same}
+use Rattle.std.proofs.lemmas.List.Elements.{All-head, All-push, All-same, All-tail}
 use Rattle.std.proofs.lemmas.Grind.{flat_map-append}
 use Rattle.jbig2_base.specs.Bits.{byte_bits, number_after}
 use Rattle.jbig2_base.proofs.NumberLemmas.{length-bits}
@@ -54,7 +54,7 @@ byte-out bytes left rest =
     let p : ℕ = 2 ^ left in
     let byte : ℕ = rest / p in
     let low : ℕ = rest % p in
-    let below : low < p = mod_below rest p (omega arith) in
+    let below : low < p = mod_below rest p (pow_pos left) in
     let turned : left + 8 ≡ 8 + left = omega arith in
     let parts : digits (left + 8) rest ≡ byte_bits byte ++ digits left low = ap (λ (k : ℕ). digits k rest) turned ∙ ap (λ (t : ℕ). digits (8 + left) t) (sym (div-add-mod' rest p)) ∙ digits-both 8 left byte low below in
     ap (λ (t : List ℕ). t ++ digits left low) (flat_map-append byte_bits bytes (byte ∷ []))
@@ -71,21 +71,21 @@ packed-whole [] tail n are = let same : 0 + n ≡ n = omega arith in ap (λ (k :
 packed-whole (b ∷ bytes) tail n are =
     let same : length (b ∷ bytes) + n ≡ suc (length bytes + n) = omega arith in
     ap (λ (k : ℕ). packed k (flat_map byte_bits (b ∷ bytes) ++ tail)) same
-    ∙ ap (λ (t : ℕ). t ∷ packed (length bytes + n) (flat_map byte_bits bytes ++ tail)) (byte-number b are.0)
-    ∙ ap (λ (t : List ℕ). b ∷ t) (packed-whole bytes tail n are.1)
+    ∙ ap (λ (t : ℕ). t ∷ packed (length bytes + n) (flat_map byte_bits bytes ++ tail)) (byte-number b (All-head (λ (x : ℕ). x < 256) b bytes are))
+    ∙ ap (λ (t : List ℕ). b ∷ t) (packed-whole bytes tail n (All-tail (λ (x : ℕ). x < 256) b bytes are))
 
 -- the last byte, of one to seven bits
 last-byte : (c r : ℕ) → 0 < c → c < 8 → r < 2 ^ c → packed 1 (digits c r) ≡ r * 2 ^ (8 - c) ∷ []
 unfolding packed digits
-last-byte 0 r some few small = absurd (omega (arith, some))
-last-byte 1 r some few small = let e : number_after 0 (take 8 (digits 1 r ++ replicate 8 0)) ≡ r * 2 ^ (8 - 1) = omega (arith, small) in ap (λ (t : ℕ). t ∷ []) e
-last-byte 2 r some few small = let e : number_after 0 (take 8 (digits 2 r ++ replicate 8 0)) ≡ r * 2 ^ (8 - 2) = omega (arith, small) in ap (λ (t : ℕ). t ∷ []) e
-last-byte 3 r some few small = let e : number_after 0 (take 8 (digits 3 r ++ replicate 8 0)) ≡ r * 2 ^ (8 - 3) = omega (arith, small) in ap (λ (t : ℕ). t ∷ []) e
-last-byte 4 r some few small = let e : number_after 0 (take 8 (digits 4 r ++ replicate 8 0)) ≡ r * 2 ^ (8 - 4) = omega (arith, small) in ap (λ (t : ℕ). t ∷ []) e
-last-byte 5 r some few small = let e : number_after 0 (take 8 (digits 5 r ++ replicate 8 0)) ≡ r * 2 ^ (8 - 5) = omega (arith, small) in ap (λ (t : ℕ). t ∷ []) e
-last-byte 6 r some few small = let e : number_after 0 (take 8 (digits 6 r ++ replicate 8 0)) ≡ r * 2 ^ (8 - 6) = omega (arith, small) in ap (λ (t : ℕ). t ∷ []) e
-last-byte 7 r some few small = let e : number_after 0 (take 8 (digits 7 r ++ replicate 8 0)) ≡ r * 2 ^ (8 - 7) = omega (arith, small) in ap (λ (t : ℕ). t ∷ []) e
-last-byte c r some few small = absurd (omega (arith, few))
+last-byte zero r some few small = absurd (omega (arith, some))
+last-byte (suc zero) r some few small = let e : number_after 0 (take 8 (digits 1 r ++ replicate 8 0)) ≡ r * 2 ^ (8 - 1) = omega (arith, small) in ap (λ (t : ℕ). t ∷ []) e
+last-byte (suc (suc zero)) r some few small = let e : number_after 0 (take 8 (digits 2 r ++ replicate 8 0)) ≡ r * 2 ^ (8 - 2) = omega (arith, small) in ap (λ (t : ℕ). t ∷ []) e
+last-byte (suc (suc (suc zero))) r some few small = let e : number_after 0 (take 8 (digits 3 r ++ replicate 8 0)) ≡ r * 2 ^ (8 - 3) = omega (arith, small) in ap (λ (t : ℕ). t ∷ []) e
+last-byte (suc (suc (suc (suc zero)))) r some few small = let e : number_after 0 (take 8 (digits 4 r ++ replicate 8 0)) ≡ r * 2 ^ (8 - 4) = omega (arith, small) in ap (λ (t : ℕ). t ∷ []) e
+last-byte (suc (suc (suc (suc (suc zero))))) r some few small = let e : number_after 0 (take 8 (digits 5 r ++ replicate 8 0)) ≡ r * 2 ^ (8 - 5) = omega (arith, small) in ap (λ (t : ℕ). t ∷ []) e
+last-byte (suc (suc (suc (suc (suc (suc zero)))))) r some few small = let e : number_after 0 (take 8 (digits 6 r ++ replicate 8 0)) ≡ r * 2 ^ (8 - 6) = omega (arith, small) in ap (λ (t : ℕ). t ∷ []) e
+last-byte (suc (suc (suc (suc (suc (suc (suc zero))))))) r some few small = let e : number_after 0 (take 8 (digits 7 r ++ replicate 8 0)) ≡ r * 2 ^ (8 - 7) = omega (arith, small) in ap (λ (t : ℕ). t ∷ []) e
+last-byte (suc (suc (suc (suc (suc (suc (suc (suc c)))))))) r some few small = absurd (omega (arith, few))
 
 bits-count : (bytes : List ℕ) (c r : ℕ) → length (flat_map byte_bits bytes ++ digits c r) ≡ 8 * length bytes + c
 bits-count bytes c r = omega (arith, length-append (flat_map byte_bits bytes) (digits c r), length-bits bytes, length-digits c r)

@@ -24,6 +24,9 @@ twice-not : (b : Bool) → not (not b) ≡ b
 twice-not true = refl
 twice-not false = refl
 
+pub turned : (a b : Bool) → not a ≡ b → a ≡ not b
+turned a b e = sym (twice-not a) ∙ ap (λ (t : Bool). not t) e
+
 not-own : (b : Bool) → b ≡ not b → ⊥
 not-own true e = true≢false e
 not-own false e = true≢false (sym e)

@@ -13,12 +13,12 @@ loop-y-init g c = record {
 pub loop-y-preserved : goal.loop-y-preserved
 loop-y-preserved g c = record {
   bits =
-      rows-go c.args.bitmap.now c.loop-y.y _ c.loop-y.writer c.push_row.new.writer (omega (arith, c.height.ensures.value)) c.in_ok-push_row.ensures.row c.loop-y.invariant.bits;
+      rows-go c.args.bitmap.now c.loop-y.y _ c.loop-y.writer c.push_row.new.writer (omega (arith, c.height-y-end.ensures.value)) c.in_ok-push_row.ensures.row c.loop-y.invariant.bits;
   loads = omega (arith, c.loop-y.invariant.loads, c.push_row.ensures.loads);
   steps = search rules;
 }
 
 pub returns-clause-bytes : goal.returns-clause-bytes
 returns-clause-bytes g c =
-    let rows = rows-end c.args.bitmap.now c.loop-y.y _ c.loop-y.writer (omega (arith, c.height.ensures.value)) c.loop-y.invariant.bits in
+    let rows = rows-end c.args.bitmap.now c.loop-y.y _ c.loop-y.writer (omega (arith, c.height-y-end.ensures.value)) c.loop-y.invariant.bits in
     IfOk-weaker c.finish.result _ _ (λ v is. bytes-are c.args.bitmap.now c.args.end_of_block v.items c.loop-y.writer c.push_end.new.writer rows c.in_ok-push_end.ensures is) c.finish.ensures

@@ -22,7 +22,7 @@ pub returns-then-abs_diff-le3-clause-mode : goal.returns-then-abs_diff-le3-claus
 returns-then-abs_diff-le3-clause-mode g c =
     let p = c.args.place in
     let looked = seen c.args.bitmap.now c.args.y c.args.above p c.width.result c.min-to.result c.find_b1-b1.result c.find_b2-b2.result c.width.ensures.value c.requires.place c.requires.column c.min-to.ensures c.find_b1-b1.ensures.value c.find_b2-b2.ensures.value in
-    adds-vertical c.args.bitmap.now c.args.y c.args.above p c.width.result c.min-to.result c.find_b1-b1.result c.find_b2-b2.result c.place_at.result c.args.writer.now c.push_entry-2.new.self (word_of_entry c.vertical_entry.result) looked
+    adds-vertical c.args.bitmap.now c.args.y c.args.above p c.width.result c.min-to.result c.find_b1-b1.result c.find_b2-b2.result c.place_at.result c.args.writer.now c.push_entry-then-abs_diff-le3.new.self (word_of_entry c.vertical_entry.result) looked
     (omega (arith, c.if-b2-a1.false)) (omega (arith, c.if-abs_diff-le3.true, c.abs_diff.ensures)) (omega (arith, c.if-abs_diff-le3.true, c.abs_diff.ensures))
     c.in_ok-push_entry-2.ensures c.vertical_entry.ensures.value c.place_at.ensures.head c.place_at.ensures.place
 

@@ -4,7 +4,7 @@ use Rattle.jbig2_mmr_writer.proofs.BitLemmas.{byte-fits, byte-pushed, bytes-push
 use Rattle.jbig2_mmr_writer.proofs.bits.BitWriter.push.Goals as goal
 
 pub overflow_add-rest : goal.overflow_add-rest
-overflow_add-rest g c = join-fits c.self.inside.count c.self.inside.rest c.args.count c.args.bits c.self.invariant.0 c.self.invariant.1 c.requires.few c.requires.small
+overflow_add-rest g c = omega (arith, join-fits c.self.inside.count c.self.inside.rest c.args.count c.args.bits c.self.invariant.0 c.self.invariant.1 c.requires.few c.requires.small)
 
 pub loop-left-init : goal.loop-left-init
 loop-left-init g c = record {
@@ -16,8 +16,8 @@ loop-left-init g c = record {
   kept_rest = c.self.invariant.1;
 }
 
-pub overflow_cast-push : goal.overflow_cast-push
-overflow_cast-push g c = byte-fits c.loop-left.left c.loop-left.rest c.loop-left-test.true c.loop-left.invariant.small
+pub overflow_cast-rest : goal.overflow_cast-rest
+overflow_cast-rest g c = omega (arith, byte-fits c.loop-left.left c.loop-left.rest c.loop-left-test.true c.loop-left.invariant.small)
 
 pub loop-left-preserved : goal.loop-left-preserved
 loop-left-preserved g c = record {
@@ -29,8 +29,8 @@ loop-left-preserved g c = record {
   kept_rest = c.loop-left.invariant.kept_rest;
 }
 
-pub invariant_of-self-in_err-push : goal.invariant_of-self-in_err-push
-invariant_of-self-in_err-push g c = (
+pub invariant_of-self : goal.invariant_of-self
+invariant_of-self g c = (
   c.loop-left.invariant.kept_count,
   c.loop-left.invariant.kept_rest,
   All-same (λ (b : ℕ). b < 256) c.push.new.self.items c.loop-left.self-inside.bytes.items c.in_err-push.ensures.items c.loop-left.invariant.bytes,
