@@ -1,5 +1,5 @@
 -- The mode that is chosen by places that are searched only as far as they tell it.
-use Rattle.std.proofs.Common.{◌≡◌, ℕ, ◌+◌, ◌-◌, ◌<◌, ◌≤◌, min, ltb, leb, Bool, true, false, cond, not, ◌&&◌, ◌++◌, refl, sym, ◌∙◌, ap, ⊎_elim, arith, lt-ltb, le-ltb, le-leb}
+use Rattle.std.proofs.Common.{◌≡◌, ℕ, ◌+◌, ◌-◌, ◌<◌, ◌≤◌, min, ltb, leb, Bool, true, false, cond, not, ◌&&◌, ◌++◌, sym, ◌∙◌, ap, ⊎_elim, arith, lt-ltb, le-ltb, le-leb}
 use Rattle.std.proofs.lemmas.Bool.{and_from, and_left, and_right, cases_lt, cond-true, cond-false, cond_both, lt-leb}
 use Rattle.jbig2_base.specs.Search.{place_from}
 use Rattle.jbig2_base.proofs.SearchLemmas.{place-past}
@@ -110,7 +110,7 @@ module _ (w : ℕ) (above pixels : ℕ → Bool) (h : Head) (a1 to b1 b2 : ℕ) 
       code-is w above pixels h a1 s.a1_is
       ∙ cond-false (ltb c2 a1) (pass_code c2 h) none (le-ltb c2 a1 (b2-past past))
       ∙ cond-true (leb a1 (c1 + 3) && leb c1 (a1 + 3)) (vertical_code a1 c1 h) (runs_code a1 a2 h)
-          (and_from (leb a1 (c1 + 3)) (leb c1 (a1 + 3)) (le-leb a1 (c1 + 3) (omega (arith, whole, right))) (le-leb c1 (a1 + 3) (omega (arith, whole, left))))
+      (and_from (leb a1 (c1 + 3)) (leb c1 (a1 + 3)) (le-leb a1 (c1 + 3) (omega (arith, whole, right))) (le-leb c1 (a1 + 3) (omega (arith, whole, left))))
       ∙ ap (λ (b : ℕ). vertical_code a1 b h) whole
 
   not-near : (a1 ≤ b1 + 3 → b1 ≤ a1 + 3 → ⊥) → (leb a1 (b1_of w above h + 3) && leb (b1_of w above h) (a1 + 3)) ≡ false

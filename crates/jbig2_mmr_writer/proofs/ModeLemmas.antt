@@ -1,11 +1,11 @@
 -- What a mode adds.
-use Rattle.std.proofs.Common.{◌≡◌, ℕ, ◌+◌, ◌-◌, ◌*◌, ◌/◌, ◌<◌, ◌≤◌, min, Bool, true, false, cond, not, List, ◌++◌, sym, ◌∙◌, ap, subst, append_assoc, arith}
+use Rattle.std.proofs.Common.{◌≡◌, ℕ, ◌+◌, ◌-◌, ◌*◌, ◌/◌, ◌<◌, ◌≤◌, min, true, cond, not, List, ◌++◌, sym, ◌∙◌, ap, subst, append_assoc, arith}
 use Rattle.std.proofs.lemmas.Bool.{true≢false}
 use Rattle.jbig2_base.specs.Colour.{IsFirst}
 use Rattle.jbig2_base.specs.Grid.{Grid}
 use Rattle.jbig2_base.specs.Search.{place_from}
 use Rattle.jbig2_mmr.specs.T6.{Head, is_change, is_change_from}
-use Rattle.jbig2_mmr.specs.declared.mmr.codes.Mode.TheVariants.{Horizontal, Pass}
+use Rattle.jbig2_mmr.specs.declared.mmr.codes.Mode.TheVariants.{Horizontal}
 use Rattle.jbig2_mmr.specs.inner.T6Reading.{row_of}
 use Rattle.jbig2_inverses.specs.RowWriter.{Code, mode_word, run_bits}
 use Rattle.jbig2_mmr_writer.specs.declared.changes.Place.{Place}

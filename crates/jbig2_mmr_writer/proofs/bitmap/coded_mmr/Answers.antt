@@ -1,4 +1,4 @@
-use Rattle.std.proofs.Common.{◌≡◌, ◌≤◌, arith, rules}
+use Rattle.std.proofs.Common.{arith, rules}
 use Rattle.std.proofs.lemmas.Result.{IfOk-weaker}
 use Rattle.jbig2_mmr_writer.proofs.RowLemmas.{bytes-are, rows-begin, rows-end, rows-go}
 use Rattle.jbig2_mmr_writer.proofs.bitmap.coded_mmr.Goals as goal

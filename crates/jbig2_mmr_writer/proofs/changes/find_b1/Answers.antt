@@ -1,4 +1,4 @@
-use Rattle.std.proofs.Common.{◌≡◌, ℕ, ◌+◌, ◌-◌, ◌/◌, ◌≤◌, cond, not, Bool, sym, ap, subst, ◌∙◌, arith}
+use Rattle.std.proofs.Common.{ℕ, ◌+◌, Bool, sym, ap, ◌∙◌, arith}
 use Rattle.std.proofs.lemmas.Bool.{cond-true, cond-false}
 use Rattle.jbig2_base.specs.Counts.{Counts}
 use Rattle.jbig2_base.specs.Search.{place_from}
@@ -33,5 +33,10 @@ returns-clause-forward g c = omega (arith, c.find_before-of_colour.ensures.value
 
 pub returns-clause-loads : goal.returns-clause-loads
 returns-clause-loads g c =
-    omega (arith, c.find_before-of_colour.ensures.value.after, c.find_before-2.ensures.value.after,
-    ap (λ (t : Counts). t.loads) c.find_before-of_colour.ensures.steps, ap (λ (t : Counts). t.loads) c.find_before-2.ensures.steps)
+    omega (
+      arith,
+      c.find_before-of_colour.ensures.value.after,
+      c.find_before-2.ensures.value.after,
+      ap (λ (t : Counts). t.loads) c.find_before-of_colour.ensures.steps,
+      ap (λ (t : Counts). t.loads) c.find_before-2.ensures.steps,
+    )

@@ -1,4 +1,4 @@
-use Rattle.std.proofs.Common.{◌≡◌, ℕ, ◌/◌, ◌%◌, ◌++◌, List, ap, subst, ◌∙◌, arith}
+use Rattle.std.proofs.Common.{◌≡◌, ℕ, ◌/◌, ◌++◌, List, ap, subst, ◌∙◌, arith}
 use Rattle.std.proofs.lemmas.Result.{on_ok_weaker}
 use Rattle.jbig2_inverses.specs.RowWriter.{repeated, run_word}
 use Rattle.jbig2_mmr_writer.proofs.RunLemmas.{repeated-next, repeated-none, run-long, run-short}

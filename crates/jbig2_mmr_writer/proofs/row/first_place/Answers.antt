@@ -1,4 +1,4 @@
-use Rattle.std.proofs.Common.{◌≡◌, ℕ, Bool, true, refl, ap, subst, arith}
+use Rattle.std.proofs.Common.{ℕ, true, refl, ap, subst, arith}
 use Rattle.jbig2_base.specs.Colour.{IsFirst}
 use Rattle.jbig2_base.specs.Counts.{Counts}
 use Rattle.jbig2_mmr.specs.inner.T6Reading.{row_of}

@@ -1,4 +1,4 @@
-use Rattle.std.proofs.Common.{◌≡◌, ℕ, ◌+◌, ◌-◌, ◌/◌, ◌≤◌, ap, arith}
+use Rattle.std.proofs.Common.{◌≡◌, ◌+◌, ◌-◌, ◌/◌, ◌≤◌, ap, arith}
 use Rattle.jbig2_base.specs.Counts.{Counts}
 use Rattle.jbig2_mmr.specs.T6.{Head}
 use Rattle.jbig2_mmr_writer.proofs.ModeLemmas.{adds-horizontal, loads-runs, place-ordered}

@@ -1,4 +1,4 @@
-use Rattle.std.proofs.Common.{◌≡◌, ℕ, ◌+◌, ◌-◌, ◌*◌, ◌/◌, ◌<◌, ◌≤◌, min, ap, ◌∙◌, arith}
+use Rattle.std.proofs.Common.{◌≡◌, ◌+◌, ◌*◌, ◌≤◌, ap, arith}
 use Rattle.std.proofs.lemmas.Result.{IfOk-weaker, on_err_weaker}
 use Rattle.jbig2_mmr.specs.T6.{Head}
 use Rattle.jbig2_mmr_writer.proofs.ModeLemmas.{adds-pass, adds-runs, adds-vertical, loads-passed, loads-searched, loads-vertical, place-ordered, seen}

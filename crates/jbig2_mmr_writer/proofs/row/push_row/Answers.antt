@@ -1,4 +1,4 @@
-use Rattle.std.proofs.Common.{◌≡◌, ℕ, ◌+◌, ◌-◌, ap, arith, rules}
+use Rattle.std.proofs.Common.{◌≡◌, ◌+◌, ◌-◌, ap, arith, rules}
 use Rattle.jbig2_mmr.specs.T6.{Head}
 use Rattle.jbig2_mmr.specs.inner.T6Reading.{row_above, row_of}
 use Rattle.jbig2_mmr_writer.specs.inner.Places.{head_of}

@@ -1,4 +1,4 @@
-use Rattle.std.proofs.Common.{◌≡◌, ◌<◌, arith}
+use Rattle.std.proofs.Common.{arith}
 use Rattle.jbig2_mmr_writer.proofs.BitLemmas.{finish-last, finish-whole, last-fits}
 use Rattle.jbig2_mmr_writer.proofs.bits.BitWriter.finish.Goals as goal
 

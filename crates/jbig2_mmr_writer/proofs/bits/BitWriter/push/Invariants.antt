@@ -1,4 +1,4 @@
-use Rattle.std.proofs.Common.{◌≡◌, ℕ, ◌^◌, ◌<◌, ◌++◌, All}
+use Rattle.std.proofs.Common.{◌≡◌, ◌^◌, ◌<◌, ◌++◌, All}
 use Rattle.jbig2_inverses.specs.Digits.{digits}
 use Rattle.jbig2_mmr.specs.T6.{bits_of}
 use Rattle.jbig2_mmr_writer.proofs.bits.BitWriter.push.Given as goal
