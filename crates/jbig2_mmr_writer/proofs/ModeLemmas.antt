@@ -1,7 +1,8 @@
 -- What a mode adds.
-use Rattle.std.proofs.Common.{◌≡◌, ℕ, ◌+◌, ◌-◌, ◌*◌, ◌/◌, ◌<◌, ◌≤◌, min, true, cond, not, List, ◌++◌, sym, ◌∙◌, ap, subst, append_assoc, arith}
+use Rattle.std.proofs.Common.{◌≡◌, ℕ, ◌+◌, ◌-◌, ◌*◌, ◌/◌, ◌<◌, ◌≤◌, min, Bool, true, cond, not, List, ◌++◌, sym, ◌∙◌, ap, subst, append_assoc, arith}
 use Rattle.std.proofs.lemmas.Bool.{true≢false}
 use Rattle.jbig2_base.specs.Colour.{IsFirst}
+use Rattle.jbig2_base.specs.Counts.{Counts, words_loaded, words_searched}
 use Rattle.jbig2_base.specs.Grid.{Grid}
 use Rattle.jbig2_base.specs.Search.{place_from}
 use Rattle.jbig2_mmr.specs.T6.{Head, is_change, is_change_from}
@@ -25,6 +26,9 @@ place-after_mode g y w p wide past first = record {
 
 pub place-ordered : (g : Grid) (y : ℕ) (p : Place) → IsPlace g y p → (p.a0 ≤ p.a1) × (p.a1 ≤ g.width)
 place-ordered g y p is = (is.a1.after, is.a1.within)
+
+pub starts-at : (p : Place) (a0 : ℕ) (black : Bool) → head_of p ≡ record { a0 = a0; past_start = true; black = black } → p.a0 ≡ a0
+starts-at p a0 black e = ap (λ (h : Head). h.a0) e
 
 -- ---- the horizontal mode
 pub adds-horizontal : (g : Grid) (y w a2 : ℕ) (p next : Place) (old opened half new : List ℕ) → w ≡ g.width → IsPlace g y p → IsFirst (row_of g y) p.black p.a1 w a2
@@ -92,6 +96,9 @@ module _ (g : Grid) (y above : ℕ) (p : Place) (w to b1 b2 : ℕ) where
       subst (λ (c : Code). Adds g y c old new next) (sym (code-runs g.width (row_of g above) (row_of g y) (head_of p) p.a1 to b1 b2 seen past far)) adds
 
 -- ---- loads, one for each 64 columns that are searched
+pub loads-found : (s t : Counts) (from to place : ℕ) → t ≡ words_loaded (words_searched from to place) s → t.loads ≤ s.loads + (1 + (place - from) / 64)
+loads-found s t from to place e = omega (arith, ap (λ (c : Counts). c.loads) e)
+
 pub loads-searched : (old middle new a0 a1 b1 b2 : ℕ) → a0 ≤ a1 → a0 ≤ b1 → b1 ≤ a1 + 4 → b2 ≤ a1
     → middle ≤ old + (2 + (b1 - a0) / 64) → new ≤ middle + (1 + (b2 - b1) / 64) → new + a0 ≤ old + (3 + a1)
 loads-searched old middle new a0 a1 b1 b2 order low near within first second = omega (arith, order, low, near, within, first, second)

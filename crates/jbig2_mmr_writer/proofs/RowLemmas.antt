@@ -1,13 +1,16 @@
 -- A row mode by mode, and a bitmap row by row.
-use Rattle.std.proofs.Common.{◌≡◌, ℕ, zero, suc, ◌+◌, ◌-◌, ◌/◌, ◌<◌, ◌≤◌, leb, ltb, Bool, false, cond, ◌&&◌, List, [], ◌++◌, length, sym, ◌∙◌, ap, ⊎_elim, append_assoc, append-nil, arith, lt-ltb, le-ltb, le-leb}
+use Rattle.std.proofs.Common.{◌≡◌, ℕ, zero, suc, ◌+◌, ◌-◌, ◌/◌, ◌<◌, ◌≤◌, leb, ltb, Bool, false, cond, ◌&&◌, List, [], ◌++◌, length, Ok, sym, ◌∙◌, ap, ⊎_elim, append_assoc, append-nil, arith, lt-ltb, le-ltb, le-leb}
 use Rattle.std.proofs.lemmas.Bool.{cases_lt, cond-true, cond-false, lt-leb}
 use Rattle.jbig2_base.specs.Grid.{Grid, pixel_at}
+use Rattle.jbig2_base.specs.Table.{IsTable}
 use Rattle.jbig2_base.proofs.GridLemmas.{pixel_at-right}
-use Rattle.jbig2_mmr.specs.T6.{Head, row_start}
+use Rattle.jbig2_mmr.specs.T6.{Head, mmr_rows, row_start}
 use Rattle.jbig2_mmr.specs.inner.T6Reading.{row_above, row_of}
 use Rattle.jbig2_inverses.specs.BitmapWriter.{mmr_bits, mmr_bytes, packed, rows_bits}
 use Rattle.jbig2_inverses.specs.Digits.{digits}
 use Rattle.jbig2_inverses.specs.RowWriter.{bits_from, code_of, row_bits}
+use Rattle.jbig2_inverses.proofs.BitmapInverse.{bitmaps_read_back}
+use Rattle.jbig2_mmr_writer.specs.Written.{ReadsBack}
 
 -- ---- a row
 pub row-begins : (w : ℕ) (above meant pixels : ℕ → Bool) (h : Head) (old : List ℕ) → ((x : ℕ) → above x ≡ meant x) → h ≡ row_start
@@ -96,3 +99,10 @@ module _ (g : Grid) where
   unfolding mmr_bytes mmr_bits digits
   bytes-are ends items rows bits is_rows is_bits is =
       is ∙ ap (λ (l : List ℕ). packed ((length l + 7) / 8) l) (is_bits ∙ ap (λ (l : List ℕ). l ++ cond ends (digits 24 0x001001) []) is_rows)
+
+  -- what is read of them
+  pub reads-back : (ends : Bool) (items : List ℕ) → IsTable g → items ≡ mmr_bytes ends g.width g.height (pixel_at g) → ReadsBack g items
+  reads-back ends items table is = λ strict wide high.
+      ap (λ (bytes : List ℕ). mmr_rows strict g.width g.height bytes) is
+      ∙ bitmaps_read_back strict ends g.width g.height (pixel_at g) wide high
+      ∙ (λ i. Ok (record { grid = sym table i; used = length (sym is i) }))

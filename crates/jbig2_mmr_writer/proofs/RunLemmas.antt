@@ -35,22 +35,24 @@ module _ (black : Bool) (run : ℕ) where
   unfolding run_bits
   run-is = refl
 
-  pub run-short : (old mid new : List ℕ) → left < 64 → mid ≡ old ++ long → new ≡ mid ++ run_word black left → new ≡ old ++ run_bits black run
-  run-short old mid new short before last =
+  pub run-short : (times : ℕ) (old mid new : List ℕ) → left < 64 → times ≡ run / 2560 → mid ≡ old ++ repeated times (run_word black 2560) → new ≡ mid ++ run_word black left → new ≡ old ++ run_bits black run
+  run-short times old mid new short count before last =
       let none : List ℕ = [] in
+      let longer : mid ≡ old ++ long = before ∙ ap (λ (k : ℕ). old ++ repeated k (run_word black 2560)) count in
       let same : left ≡ left % 64 = omega (arith, short) in
       last
-      ∙ ap (λ (t : List ℕ). t ++ run_word black left) before
+      ∙ ap (λ (t : List ℕ). t ++ run_word black left) longer
       ∙ ap (λ (k : ℕ). (old ++ long) ++ run_word black k) same
       ∙ append_assoc old long ending
       ∙ ap (λ (t : List ℕ). old ++ (t ++ ending)) (sym (append-nil long) ∙ ap (λ (t : List ℕ). long ++ t) (sym (cond-true (ltb left 64) none part (lt-ltb left 64 short))))
       ∙ ap (λ (t : List ℕ). old ++ t) (sym run-is)
 
-  pub run-long : (old mid more new : List ℕ) → 64 ≤ left → mid ≡ old ++ long → more ≡ mid ++ part → new ≡ more ++ ending → new ≡ old ++ run_bits black run
-  run-long old mid more new many before middle last =
+  pub run-long : (times : ℕ) (old mid more new : List ℕ) → 64 ≤ left → times ≡ run / 2560 → mid ≡ old ++ repeated times (run_word black 2560) → more ≡ mid ++ part → new ≡ more ++ ending → new ≡ old ++ run_bits black run
+  run-long times old mid more new many count before middle last =
       let none : List ℕ = [] in
+      let longer : mid ≡ old ++ long = before ∙ ap (λ (k : ℕ). old ++ repeated k (run_word black 2560)) count in
       last
-      ∙ ap (λ (t : List ℕ). t ++ ending) (middle ∙ ap (λ (t : List ℕ). t ++ part) before ∙ append_assoc old long part)
+      ∙ ap (λ (t : List ℕ). t ++ ending) (middle ∙ ap (λ (t : List ℕ). t ++ part) longer ∙ append_assoc old long part)
       ∙ append_assoc old (long ++ part) ending
       ∙ ap (λ (t : List ℕ). old ++ ((long ++ t) ++ ending)) (sym (cond-false (ltb left 64) none part (le-ltb left 64 many)))
       ∙ ap (λ (t : List ℕ). old ++ t) (sym run-is)

@@ -3,6 +3,7 @@ ghost use Rattle.std.specs.Prelude.{◌≡◌, ◌+◌, ◌*◌, ◌≤◌, ◌+
 ghost use Rattle.jbig2_base.specs.Grid.{max_side, pixel_at};
 ghost use Rattle.jbig2_inverses.specs.BitmapWriter.{mmr_bytes};
 ghost use Rattle.jbig2_inverses.specs.Digits.{digits};
+ghost use Rattle.jbig2_mmr_writer.specs.Written.{ReadsBack};
 
 use crate::bits::BitWriter;
 use crate::row::push_row;
@@ -25,8 +26,8 @@ fn push_end<A: Allocator>(writer: &mut BitWriter<A>, end_of_block: bool) -> Resu
     Ok(())
 }
 
-/// The bitmap as MMR data, with an end of block or without. The steps count loads of pixels, at most seven for each
-/// pixel of a row and seven more.
+/// The bitmap as MMR data, with an end of block or without. By the definition of MMR data these bytes give the bitmap.
+/// The steps count loads of pixels, at most seven for each pixel of a row and seven more.
 ///
 /// Fails if memory is refused.
 pub fn coded_mmr<A: Allocator, B: Allocator, L: Ledger>(
@@ -38,6 +39,7 @@ pub fn coded_mmr<A: Allocator, B: Allocator, L: Ledger>(
     requires columns { bitmap.now.width ≤ max_side }
     ensures bytes { let g = bitmap.now in IfOk result
         (λ v. v.items ≡ mmr_bytes end_of_block g.width g.height (pixel_at g)) }
+    ensures reads_back { IfOk result (λ v. ReadsBack bitmap.now v.items) }
     ensures steps { steps.new ≡ record steps.old { loads = steps.new.loads } }
     ensures loads { steps.new.loads
         ≤ steps.old.loads + 7 * ((bitmap.now.width + 1) * bitmap.now.height) }

@@ -1,7 +1,5 @@
-use Rattle.std.proofs.Common.{◌≡◌, ◌+◌, ◌-◌, ◌/◌, ◌≤◌, ap, arith}
-use Rattle.jbig2_base.specs.Counts.{Counts}
-use Rattle.jbig2_mmr.specs.T6.{Head}
-use Rattle.jbig2_mmr_writer.proofs.ModeLemmas.{adds-horizontal, loads-runs, place-ordered}
+use Rattle.std.proofs.Common.{◌≡◌, arith}
+use Rattle.jbig2_mmr_writer.proofs.ModeLemmas.{adds-horizontal, loads-found, loads-runs, place-ordered, starts-at}
 use Rattle.jbig2_mmr_writer.proofs.row.push_horizontal.Goals as goal
 
 pub returns-clause-mode : goal.returns-clause-mode
@@ -11,9 +9,9 @@ returns-clause-mode g c =
 
 pub returns-clause-loads : goal.returns-clause-loads
 returns-clause-loads g c =
-    let start : c.place_at.result.a0 ≡ c.find_before-a2.result = ap (λ (h : Head). h.a0) c.place_at.ensures.head in
+    let start : c.place_at.result.a0 ≡ c.find_before-a2.result = starts-at c.place_at.result c.find_before-a2.result c.args.place.black c.place_at.ensures.head in
     let order = place-ordered c.args.bitmap.now c.args.y c.place_at.result c.place_at.ensures.place in
-    let first : c.find_before-a2.new.steps.loads ≤ c.args.steps.now.loads + (1 + (c.find_before-a2.result - c.args.place.a1) / 64) = omega (arith, ap (λ (t : Counts). t.loads) c.find_before-a2.ensures.steps) in
+    let first = loads-found c.args.steps.now c.find_before-a2.new.steps c.args.place.a1 c.width.result c.find_before-a2.result c.find_before-a2.ensures.steps in
     let sum = loads-runs c.args.steps.now.loads c.find_before-a2.new.steps.loads c.place_at.new.steps.loads c.args.place.a1 c.find_before-a2.result c.place_at.result.a1
     c.find_before-a2.ensures.value.after (omega (arith, start, order.0)) first c.place_at.ensures.loads in
     omega (arith, sum, start)

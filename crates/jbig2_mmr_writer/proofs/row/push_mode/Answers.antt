@@ -1,7 +1,6 @@
-use Rattle.std.proofs.Common.{◌≡◌, ◌+◌, ◌*◌, ◌≤◌, ap, arith}
+use Rattle.std.proofs.Common.{not, ◌≡◌, ◌+◌, ◌*◌, ◌≤◌, arith}
 use Rattle.std.proofs.lemmas.Result.{IfOk-weaker, on_err_weaker}
-use Rattle.jbig2_mmr.specs.T6.{Head}
-use Rattle.jbig2_mmr_writer.proofs.ModeLemmas.{adds-pass, adds-runs, adds-vertical, loads-passed, loads-searched, loads-vertical, place-ordered, seen}
+use Rattle.jbig2_mmr_writer.proofs.ModeLemmas.{adds-pass, adds-runs, adds-vertical, loads-passed, loads-searched, loads-vertical, place-ordered, seen, starts-at}
 use Rattle.jbig2_mmr_writer.specs.inner.Entries.{word_of_entry}
 use Rattle.jbig2_mmr_writer.specs.inner.Places.{Adds, horizontal_code, next_code}
 use Rattle.jbig2_mmr_writer.proofs.row.push_mode.Goals as goal
@@ -31,7 +30,7 @@ returns-then-abs_diff-le3-clause-loads g c =
     let p = c.args.place in
     let order = place-ordered c.args.bitmap.now c.args.y p c.requires.place in
     let later = place-ordered c.args.bitmap.now c.args.y c.place_at.result c.place_at.ensures.place in
-    let start : c.place_at.result.a0 ≡ p.a1 = ap (λ (h : Head). h.a0) c.place_at.ensures.head in
+    let start : c.place_at.result.a0 ≡ p.a1 = starts-at c.place_at.result p.a1 (not p.black) c.place_at.ensures.head in
     let near : c.find_b1-b1.result ≤ p.a1 + 4 = omega (arith, c.find_b1-b1.ensures.within, c.min-to.ensures) in
     let searched = loads-searched c.args.steps.now.loads c.find_b1-b1.new.steps.loads c.find_b2-b2.new.steps.loads p.a0 p.a1 c.find_b1-b1.result c.find_b2-b2.result
     order.0 c.find_b1-b1.ensures.forward near c.find_b2-b2.ensures.within c.find_b1-b1.ensures.loads c.find_b2-b2.ensures.loads in
