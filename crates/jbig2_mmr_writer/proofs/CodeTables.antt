@@ -1,81 +1,84 @@
--- The writer's tables have T.6's code words: each entry is the word of the run or the mode that looks it up.
-use Rattle.std.proofs.Common.{◌≡◌, ℕ, ◌+◌, ◌-◌, ◌*◌, ◌/◌, ◌%◌, ◌^◌, ◌<◌, ◌≤◌, Bool, true, false, List, [], ◌∷◌, map, replicate, get_or, length, ltb, ◌&&◌, zero, suc, refl, ap, sym, ◌∙◌, arith}
+-- The writer's tables have T.6's code words: each entry states the word of the run or the mode that looks it up.
+use Rattle.std.proofs.Common.{◌≡◌, ℕ, ◌+◌, ◌-◌, ◌*◌, ◌/◌, ◌%◌, ◌^◌, ◌<◌, ◌≤◌, Bool, true, false, List, [], ◌∷◌, map, get_or, length, ltb, ◌&&◌, zero, suc, refl, ap, sym, ◌∙◌, arith}
 use Rattle.std.specs.List.{range_with_len}
+use Rattle.std.proofs.lemmas.List.{get_or-map}
 use Rattle.std.proofs.lemmas.List.FromFn.{get_or-map-range_with_len}
 use Rattle.std.proofs.lemmas.Bool.{and_parts, ltb-true}
 use Rattle.jbig2_mmr.specs.T6Codes.{modes, longer_runs, white_runs, black_runs, vertical_left, vertical_right}
+use Rattle.jbig2_mmr.specs.declared.mmr.codes.Mode.TheVariants.{Horizontal, Pass}
+use Rattle.jbig2_inverses.specs.Digits.{digits}
 use Rattle.jbig2_inverses.specs.RowWriter.{mode_word, run_word, word_of}
-use Rattle.jbig2_mmr_writer.specs.declared.codes.TheConstants.{BLACK_ENDS, BLACK_PARTS, LEFT, RIGHT, WHITE_ENDS, WHITE_PARTS}
-use Rattle.jbig2_mmr_writer.specs.inner.Entries.{entry_of_word}
+use Rattle.jbig2_mmr_writer.specs.declared.codes.TheConstants.{BLACK_ENDS, BLACK_PARTS, HORIZONTAL, LEFT, PASS, RIGHT, WHITE_ENDS, WHITE_PARTS}
+use Rattle.jbig2_mmr_writer.specs.inner.Entries.{word_of_entry}
 
-end_at : Bool → ℕ → ℕ
-end_at black run = entry_of_word (run_word black run)
+abbrev words : List ℕ → List (List ℕ)
+words table = map (λ entry. word_of_entry entry) table
 
-part_at : Bool → ℕ → ℕ
-part_at black place = entry_of_word (run_word black ((place + 1) * 64))
+abbrev parts : Bool → ℕ → List ℕ
+parts black place = run_word black ((place + 1) * 64)
 
-black_ends : BLACK_ENDS ≡ map (end_at true) (range_with_len 0 64)
-unfolding end_at word_of black_runs longer_runs
+black_ends : words BLACK_ENDS ≡ map (λ run. run_word true run) (range_with_len 0 64)
+unfolding digits word_of black_runs longer_runs
 black_ends = refl
 
-white_ends : WHITE_ENDS ≡ map (end_at false) (range_with_len 0 64)
-unfolding end_at word_of white_runs longer_runs
+white_ends : words WHITE_ENDS ≡ map (λ run. run_word false run) (range_with_len 0 64)
+unfolding digits word_of white_runs longer_runs
 white_ends = refl
 
-black_parts : BLACK_PARTS ≡ map (part_at true) (range_with_len 0 40)
-unfolding part_at word_of black_runs longer_runs
+black_parts : words BLACK_PARTS ≡ map (λ place. parts true place) (range_with_len 0 40)
+unfolding digits word_of black_runs longer_runs
 black_parts = refl
 
-white_parts : WHITE_PARTS ≡ map (part_at false) (range_with_len 0 40)
-unfolding part_at word_of white_runs longer_runs
+white_parts : words WHITE_PARTS ≡ map (λ place. parts false place) (range_with_len 0 40)
+unfolding digits word_of white_runs longer_runs
 white_parts = refl
 
-pub black-end : (run : ℕ) → run < 64 → get_or BLACK_ENDS run 0 ≡ entry_of_word (run_word true run)
-unfolding end_at
-black-end run small = ap (λ (t : List ℕ). get_or t run 0) black_ends ∙ get_or-map-range_with_len (end_at true) 0 64 run run 0 small (omega arith)
-
-pub white-end : (run : ℕ) → run < 64 → get_or WHITE_ENDS run 0 ≡ entry_of_word (run_word false run)
-unfolding end_at
-white-end run small = ap (λ (t : List ℕ). get_or t run 0) white_ends ∙ get_or-map-range_with_len (end_at false) 0 64 run run 0 small (omega arith)
-
-pub black-part : (times : ℕ) → 1 ≤ times → times ≤ 40 → get_or BLACK_PARTS (times - 1) 0 ≡ entry_of_word (run_word true (times * 64))
-unfolding part_at
-black-part times some few =
-    let same : times - 1 + 1 ≡ times = omega (arith, some) in
-    ap (λ (t : List ℕ). get_or t (times - 1) 0) black_parts
-    ∙ get_or-map-range_with_len (part_at true) 0 40 (times - 1) (times - 1) 0 (omega (arith, some, few)) (omega arith)
-    ∙ ap (λ (n : ℕ). entry_of_word (run_word true (n * 64))) same
-
-pub white-part : (times : ℕ) → 1 ≤ times → times ≤ 40 → get_or WHITE_PARTS (times - 1) 0 ≡ entry_of_word (run_word false (times * 64))
-unfolding part_at
-white-part times some few =
-    let same : times - 1 + 1 ≡ times = omega (arith, some) in
-    ap (λ (t : List ℕ). get_or t (times - 1) 0) white_parts
-    ∙ get_or-map-range_with_len (part_at false) 0 40 (times - 1) (times - 1) 0 (omega (arith, some, few)) (omega arith)
-    ∙ ap (λ (n : ℕ). entry_of_word (run_word false (n * 64))) same
-
--- ---- vertical modes
-right_at : ℕ → ℕ
-right_at n = entry_of_word (mode_word (vertical_right n))
-
-left_at : ℕ → ℕ
-left_at n = entry_of_word (mode_word (vertical_left n))
-
-rights : RIGHT ≡ map right_at (range_with_len 0 4)
-unfolding right_at word_of modes
+rights : words RIGHT ≡ map (λ n. mode_word (vertical_right n)) (range_with_len 0 4)
+unfolding digits word_of modes
 rights = refl
 
-lefts : LEFT ≡ map left_at (range_with_len 0 4)
-unfolding left_at word_of modes
+lefts : words LEFT ≡ map (λ n. mode_word (vertical_left n)) (range_with_len 0 4)
+unfolding digits word_of modes
 lefts = refl
 
-pub right-mode : (n : ℕ) → n < 4 → get_or RIGHT n 0 ≡ entry_of_word (mode_word (vertical_right n))
-unfolding right_at
-right-mode n small = ap (λ (t : List ℕ). get_or t n 0) rights ∙ get_or-map-range_with_len right_at 0 4 n n 0 small (omega arith)
+pub pass-word : word_of_entry PASS ≡ mode_word Pass
+unfolding digits word_of modes
+pass-word = refl
 
-pub left-mode : (n : ℕ) → n < 4 → get_or LEFT n 0 ≡ entry_of_word (mode_word (vertical_left n))
-unfolding left_at
-left-mode n small = ap (λ (t : List ℕ). get_or t n 0) lefts ∙ get_or-map-range_with_len left_at 0 4 n n 0 small (omega arith)
+pub horizontal-word : word_of_entry HORIZONTAL ≡ mode_word Horizontal
+unfolding digits word_of modes
+horizontal-word = refl
+
+-- the entry at a place of a table
+at-place : (f : ℕ → List ℕ) (table : List ℕ) (n i : ℕ) → words table ≡ map f (range_with_len 0 n) → i < length table → i < n → word_of_entry (get_or table i 0) ≡ f i
+at-place f table n i are inside few =
+    sym (get_or-map (λ (entry : ℕ). word_of_entry entry) table i 0 [] inside)
+    ∙ ap (λ (t : List (List ℕ)). get_or t i []) are
+    ∙ get_or-map-range_with_len f 0 n i i [] few (omega arith)
+
+pub black-end : (run : ℕ) → run < 64 → word_of_entry (get_or BLACK_ENDS run 0) ≡ run_word true run
+black-end run few = at-place (λ n. run_word true n) BLACK_ENDS 64 run black_ends few few
+
+pub white-end : (run : ℕ) → run < 64 → word_of_entry (get_or WHITE_ENDS run 0) ≡ run_word false run
+white-end run few = at-place (λ n. run_word false n) WHITE_ENDS 64 run white_ends few few
+
+pub black-part : (times : ℕ) → 1 ≤ times → times ≤ 40 → word_of_entry (get_or BLACK_PARTS (times - 1) 0) ≡ run_word true (times * 64)
+black-part times some few =
+    let inside : times - 1 < 40 = omega (arith, some, few) in
+    let same : times - 1 + 1 ≡ times = omega (arith, some) in
+    at-place (λ place. parts true place) BLACK_PARTS 40 (times - 1) black_parts inside inside ∙ ap (λ (n : ℕ). run_word true (n * 64)) same
+
+pub white-part : (times : ℕ) → 1 ≤ times → times ≤ 40 → word_of_entry (get_or WHITE_PARTS (times - 1) 0) ≡ run_word false (times * 64)
+white-part times some few =
+    let inside : times - 1 < 40 = omega (arith, some, few) in
+    let same : times - 1 + 1 ≡ times = omega (arith, some) in
+    at-place (λ place. parts false place) WHITE_PARTS 40 (times - 1) white_parts inside inside ∙ ap (λ (n : ℕ). run_word false (n * 64)) same
+
+pub right-mode : (n : ℕ) → n < 4 → word_of_entry (get_or RIGHT n 0) ≡ mode_word (vertical_right n)
+right-mode n few = at-place (λ k. mode_word (vertical_right k)) RIGHT 4 n rights few few
+
+pub left-mode : (n : ℕ) → n < 4 → word_of_entry (get_or LEFT n 0) ≡ mode_word (vertical_left n)
+left-mode n few = at-place (λ k. mode_word (vertical_left k)) LEFT 4 n lefts few few
 
 -- ---- each code fits its size
 smalls : List ℕ → Bool

@@ -1,6 +1,6 @@
 -- Changing elements, found by the colours of pixels.
-use Rattle.std.proofs.Common.{◌≡◌, ℕ, zero, suc, ◌+◌, ◌-◌, ◌<◌, ◌≤◌, ◌&&◌, Bool, true, false, not, refl, sym, ap, ◌∙◌, ⊎_elim, arith}
-use Rattle.std.proofs.lemmas.Bool.{true≢false, cases_eq, cases_lt}
+use Rattle.std.proofs.Common.{◌≡◌, ℕ, zero, suc, ◌+◌, ◌-◌, ◌<◌, ◌≤◌, ◌&&◌, Bool, true, false, not, refl, sym, ap, subst, ◌∙◌, ⊎_elim, arith}
+use Rattle.std.proofs.lemmas.Bool.{true≢false, cases_lt}
 use Rattle.jbig2_base.specs.Colour.{IsFirst}
 use Rattle.jbig2_base.specs.Grid.{differ}
 use Rattle.jbig2_base.specs.Search.{place_from}
@@ -24,6 +24,9 @@ twice-not : (b : Bool) → not (not b) ≡ b
 twice-not true = refl
 twice-not false = refl
 
+pub turned : (a b : Bool) → not a ≡ b → a ≡ not b
+turned a b e = sym (twice-not a) ∙ ap (λ (t : Bool). not t) e
+
 not-own : (b : Bool) → b ≡ not b → ⊥
 not-own true e = true≢false e
 not-own false e = true≢false (sym e)
@@ -33,6 +36,20 @@ pub next-is : (row : ℕ → Bool) (black : Bool) (from to place : ℕ) → from
 next-is row black from to place order first =
     sym (place-is (λ i. differ (row i) black) from to place order first.after first.within
     (λ i a b. same-colour (row i) black (first.before i a b)) (λ inside. other-colour (row place) black (first.found inside)))
+
+-- the next pixel of the colour
+pub same-is : (row : ℕ → Bool) (black : Bool) (from to place : ℕ) → from ≤ to → IsFirst row black from to place → place ≡ place_from (λ i. differ (row i) (not black)) from to
+same-is row black from to place order first =
+    next-is row (not black) from to place order (subst (λ (b : Bool). IsFirst row b from to place) (sym (twice-not black)) first)
+
+-- the search goes on from a later place
+pub first-later : (row : ℕ → Bool) (black : Bool) (from later to place : ℕ) → from ≤ later → later ≤ place → IsFirst row black from to place → IsFirst row black later to place
+first-later row black from later to place forward left first = record {
+  after = left;
+  within = first.within;
+  before = λ x low high. first.before x (omega (arith, forward, low)) high;
+  found = first.found;
+}
 
 -- no change from a colour to itself, or between pixels of one colour
 no-change-to : (row : ℕ → Bool) (black : Bool) (x : ℕ) → row x ≡ not (not black) → is_change_from row black x ≡ false

@@ -1,9 +1,8 @@
 //! Writes bits into bytes, and codes as bits.
-ghost use Rattle.std.specs.Prelude.{◌≡◌, ℕ, ◌+◌, ◌*◌, ◌/◌, ◌%◌, ◌^◌, ◌<◌, ◌≤◌, ◌++◌, List, [], length, IfOk, OnOk};
-ghost use Rattle.jbig2_base.specs.inner.BitLists.{AreBits};
+ghost use Rattle.std.specs.Prelude.{◌≡◌, ◌+◌, ◌/◌, ◌%◌, ◌^◌, ◌<◌, ◌≤◌, ◌++◌, [], length, IfOk, OnOk};
 ghost use Rattle.jbig2_inverses.specs.BitmapWriter.{packed};
 ghost use Rattle.jbig2_inverses.specs.Digits.{digits};
-ghost use Rattle.jbig2_mmr_writer.specs.inner.Entries.{entry_of_word};
+ghost use Rattle.jbig2_mmr_writer.specs.inner.Entries.{word_of_entry};
 
 use std::alloc::{AllocError, Allocator};
 use std::marker::Model;
@@ -63,12 +62,11 @@ impl<A: Allocator> BitWriter<A> {
         Ok(())
     }
 
-    /// Adds the code word that an entry states: the entry is 16 times the word's number, plus its size in bits.
+    /// Adds the code word that an entry states.
     #[inline(always)]
     pub fn push_entry(&mut self, entry: u16) -> Result<(), AllocError>
-        requires small { entry / 16 < 2 ^ (entry % 16) }
-        ensures { (word : List ℕ) → AreBits word → length word < 16 → entry ≡ entry_of_word word
-            → OnOk result (self.new ≡ self.old ++ word) }
+        requires { entry / 16 < 2 ^ (entry % 16) }
+        ensures { OnOk result (self.new ≡ self.old ++ word_of_entry entry) }
     {
         self.push(u32::from(entry / 16), u32::from(entry % 16))
     }
@@ -82,9 +80,10 @@ impl<A: Allocator> BitWriter<A> {
             rest,
             count,
         } = self;
-        if count > 0 {
-            bytes.push((rest << (8 - count)) as u8)?;
+        if count == 0 {
+            return Ok(bytes);
         }
+        bytes.push((rest << (8 - count)) as u8)?;
         Ok(bytes)
     }
 }

@@ -91,11 +91,10 @@ pub fn find_b1<A: Allocator, L: Ledger>(
     ensures steps { steps.new ≡ record steps.old { loads = steps.new.loads } }
     ensures loads { steps.new.loads ≤ steps.old.loads + (2 + (result - place.a0) / 64) }
 {
-    let of_colour = if place.past_start {
-        find_before(bitmap, above, place.a0, to, place.black, steps)
-    } else {
-        place.a0
-    };
+    if !place.past_start {
+        return find_before(bitmap, above, 0, to, !place.black, steps);
+    }
+    let of_colour = find_before(bitmap, above, place.a0, to, place.black, steps);
     find_before(bitmap, above, of_colour, to, !place.black, steps)
 }
 
@@ -112,6 +111,7 @@ pub fn find_b2<A: Allocator, L: Ledger>(
     requires inside { to ≤ bitmap.now.width }
     requires colour { b1 < to → row_of bitmap.now above b1 ≡ not black }
     ensures value { result ≡ place_from (is_change (row_of bitmap.now above)) (b1 + 1) to }
+    ensures forward { result < to → b1 ≤ result }
     ensures within { result ≤ to }
     ensures steps { steps.new ≡ record steps.old { loads = steps.new.loads } }
     ensures loads { steps.new.loads ≤ steps.old.loads + (1 + (result - b1) / 64) }

@@ -4,7 +4,7 @@
 ghost use Rattle.std.specs.Prelude.{◌≡◌, ◌+◌, ◌-◌, ◌*◌, ◌/◌, ◌%◌, ◌^◌, ◌<◌, ◌≤◌, ◌++◌, nat_le, if◌then◌else◌, OnOk};
 ghost use Rattle.jbig2_inverses.specs.RowWriter.{mode_word, run_bits, run_word};
 ghost use Rattle.jbig2_mmr.specs.T6Codes.{vertical_left, vertical_right};
-ghost use Rattle.jbig2_mmr_writer.specs.inner.Entries.{entry_of_word};
+ghost use Rattle.jbig2_mmr_writer.specs.inner.Entries.{word_of_entry};
 
 use crate::bits::BitWriter;
 use std::alloc::{AllocError, Allocator};
@@ -56,8 +56,8 @@ static BLACK_PARTS: [u16; 40] = [
 pub fn vertical_entry(a1: u32, b1: u32) -> u16
     requires right { a1 ≤ b1 + 3 }
     requires left { b1 ≤ a1 + 3 }
-    ensures value { result ≡ entry_of_word (mode_word
-        (if nat_le b1 a1 then vertical_right (a1 - b1) else vertical_left (b1 - a1))) }
+    ensures value { word_of_entry result ≡ mode_word
+        (if nat_le b1 a1 then vertical_right (a1 - b1) else vertical_left (b1 - a1)) }
     ensures small { result / 16 < 2 ^ (result % 16) }
 {
     if b1 <= a1 {
@@ -71,7 +71,7 @@ pub fn vertical_entry(a1: u32, b1: u32) -> u16
 #[inline(always)]
 fn end_entry(black: bool, run: u32) -> u16
     requires { run < 64 }
-    ensures value { result ≡ entry_of_word (run_word black run) }
+    ensures value { word_of_entry result ≡ run_word black run }
     ensures small { result / 16 < 2 ^ (result % 16) }
 {
     if black {
@@ -86,7 +86,7 @@ fn end_entry(black: bool, run: u32) -> u16
 fn part_entry(black: bool, times: u32) -> u16
     requires some { 1 ≤ times }
     requires few { times ≤ 40 }
-    ensures value { result ≡ entry_of_word (run_word black (times * 64)) }
+    ensures value { word_of_entry result ≡ run_word black (times * 64) }
     ensures small { result / 16 < 2 ^ (result % 16) }
 {
     if black {
@@ -110,8 +110,9 @@ pub fn push_run<A: Allocator>(
         writer.push_entry(part_entry(black, 40))?;
     }
     let left = run % 2560;
-    if left >= 64 {
-        writer.push_entry(part_entry(black, left / 64))?;
+    if left < 64 {
+        return writer.push_entry(end_entry(black, left));
     }
+    writer.push_entry(part_entry(black, left / 64))?;
     writer.push_entry(end_entry(black, left % 64))
 }

@@ -1,9 +1,10 @@
 //! Writes one row, mode by mode (T.6, 2.2).
-ghost use Rattle.std.specs.Prelude.{◌≡◌, ◌+◌, ◌-◌, ◌*◌, ◌/◌, ◌<◌, ◌≤◌, ◌++◌, IfOk, OnOk, true, false};
+ghost use Rattle.std.specs.Prelude.{◌≡◌, ℕ, ◌+◌, ◌-◌, ◌*◌, ◌/◌, ◌<◌, ◌≤◌, ◌++◌, IfOk, OnErr, OnOk, true};
 ghost use Rattle.jbig2_base.specs.Grid.{max_side};
 ghost use Rattle.jbig2_inverses.specs.RowWriter.{row_bits};
+ghost use Rattle.jbig2_mmr.specs.T6.{row_start};
 ghost use Rattle.jbig2_mmr.specs.inner.T6Reading.{row_above, row_of};
-ghost use Rattle.jbig2_mmr_writer.specs.inner.Places.{AddsHorizontal, AddsMode, IsPlace};
+ghost use Rattle.jbig2_mmr_writer.specs.inner.Places.{Adds, IsPlace, head_of, horizontal_code, next_code};
 
 use crate::bits::BitWriter;
 use crate::changes::{Place, find_b1, find_b2, find_before};
@@ -13,14 +14,19 @@ use jbig2_base::bitmap::steps::Steps;
 use std::alloc::{AllocError, Allocator};
 use std::sync::ledger::Ledger;
 
+/// The row above row `y`. Above row 0 it is a row outside, which is white.
+fn reference_row<B: Allocator>(bitmap: &Bitmap<B>, y: u32) -> u32
+    ensures { (x : ℕ) → row_of bitmap.now result x ≡ row_above bitmap.now y x }
+{
+    if y == 0 { bitmap.height() } else { y - 1 }
+}
+
 /// The state at the beginning of row `y`.
-fn row_start<B: Allocator, L: Ledger>(bitmap: &Bitmap<B>, y: u32, steps: &mut Steps<L>) -> Place
+fn first_place<B: Allocator, L: Ledger>(bitmap: &Bitmap<B>, y: u32, steps: &mut Steps<L>) -> Place
     ensures place { IsPlace bitmap.now y result }
-    ensures a0 { result.a0 ≡ 0 }
-    ensures past_start { result.past_start ≡ false }
-    ensures black { result.black ≡ false }
+    ensures head { head_of result ≡ row_start }
     ensures steps { steps.new ≡ record steps.old { loads = steps.new.loads } }
-    ensures loads { steps.new.loads ≤ steps.old.loads + (1 + result.a1 / 64) }
+    ensures loads { steps.new.loads ≤ steps.old.loads + (1 + result.a1) }
 {
     let a1 = find_before(bitmap, y, 0, bitmap.width(), true, steps);
     Place {
@@ -41,9 +47,7 @@ fn place_at<B: Allocator, L: Ledger>(
 ) -> Place
     requires { a0 ≤ bitmap.now.width }
     ensures place { IsPlace bitmap.now y result }
-    ensures a0 { result.a0 ≡ a0 }
-    ensures past_start { result.past_start ≡ true }
-    ensures black { result.black ≡ black }
+    ensures head { head_of result ≡ record { a0 = a0; past_start = true; black = black } }
     ensures steps { steps.new ≡ record steps.old { loads = steps.new.loads } }
     ensures loads { steps.new.loads ≤ steps.old.loads + (1 + (result.a1 - a0) / 64) }
 {
@@ -64,13 +68,14 @@ fn push_horizontal<A: Allocator, B: Allocator, L: Ledger>(
     place: Place,
     steps: &mut Steps<L>,
 ) -> Result<Place, AllocError>
-    requires column { place.a0 < bitmap.now.width }
-    requires place { IsPlace bitmap.now y place }
+    requires { IsPlace bitmap.now y place }
     ensures mode { IfOk result (λ next.
-        AddsHorizontal bitmap.now y place writer.old writer.new next) }
+        Adds bitmap.now y (horizontal_code bitmap.now y place) writer.old writer.new next) }
     ensures steps { steps.new ≡ record steps.old { loads = steps.new.loads } }
     ensures loads { IfOk result (λ next.
-        steps.new.loads ≤ steps.old.loads + (2 + (next.a1 - place.a1) / 64)) }
+        steps.new.loads + 2 * place.a1 ≤ steps.old.loads + (2 + next.a0 + next.a1)) }
+    ensures refused { OnErr result
+        (steps.new.loads + place.a1 ≤ steps.old.loads + (1 + bitmap.now.width)) }
 {
     let a2 = find_before(bitmap, y, place.a1, bitmap.width(), place.black, steps);
     writer.push_entry(HORIZONTAL)?;
@@ -92,10 +97,13 @@ fn push_mode<A: Allocator, B: Allocator, L: Ledger>(
     requires columns { bitmap.now.width ≤ max_side }
     requires column { place.a0 < bitmap.now.width }
     requires place { IsPlace bitmap.now y place }
-    ensures mode { IfOk result (λ next. AddsMode bitmap.now y above place writer.old writer.new next) }
+    ensures mode { IfOk result (λ next.
+        Adds bitmap.now y (next_code bitmap.now y above place) writer.old writer.new next) }
     ensures steps { steps.new ≡ record steps.old { loads = steps.new.loads } }
-    ensures loads { IfOk result (λ next. steps.new.loads
-        ≤ steps.old.loads + (5 + (next.a0 - place.a0) + (next.a1 - place.a1))) }
+    ensures loads { IfOk result (λ next. steps.new.loads + (place.a0 + place.a1)
+        ≤ steps.old.loads + (5 + next.a0 + next.a1)) }
+    ensures refused { OnErr result (steps.new.loads + (place.a0 + place.a1)
+        ≤ steps.old.loads + (5 + 2 * bitmap.now.width)) }
 {
     let a1 = place.a1;
     let to = bitmap.width().min(a1 + 4);
@@ -110,7 +118,7 @@ fn push_mode<A: Allocator, B: Allocator, L: Ledger>(
             a1,
         });
     }
-    if a1 <= b1 + 3 && b1 <= a1 + 3 {
+    if a1.abs_diff(b1) <= 3 {
         writer.push_entry(vertical_entry(a1, b1))?;
         return Ok(place_at(bitmap, y, a1, !place.black, steps));
     }
@@ -127,16 +135,16 @@ pub fn push_row<A: Allocator, B: Allocator, L: Ledger>(
     y: u32,
     steps: &mut Steps<L>,
 ) -> Result<(), AllocError>
-    requires columns { bitmap.now.width ≤ max_side }
-    requires row { y < bitmap.now.height }
+    requires { bitmap.now.width ≤ max_side }
     ensures row { OnOk result (writer.new
         ≡ writer.old ++ row_bits bitmap.now.width (row_above bitmap.now y) (row_of bitmap.now y)) }
     ensures steps { steps.new ≡ record steps.old { loads = steps.new.loads } }
     ensures loads { steps.new.loads ≤ steps.old.loads + 7 * (bitmap.now.width + 1) }
 {
     let width = bitmap.width();
-    let above = if y == 0 { bitmap.height() } else { y - 1 };
-    let mut place = row_start(bitmap, y, steps);
+    let above = reference_row(bitmap, y);
+    let mut place = first_place(bitmap, y, steps);
+    // No mode but the first leaves a0 where it is.
     for _ in 0..width + 1 {
         if place.a0 >= width {
             return Ok(());

@@ -5,8 +5,7 @@ use jbig2_base::bitmap::Bitmap;
 use jbig2_base::bitmap::steps::Steps;
 use jbig2_mmr_writer::coded_mmr;
 use jbig2_permit::Permit;
-use jbig2_writer::WriteError;
-use std::alloc::Global;
+use std::alloc::{AllocError, Global};
 use std::marker::Brand;
 use std::sync::ledger::{Blank, Ledger};
 
@@ -83,11 +82,9 @@ fn bitmap_of<L: Ledger>(
     alloc: Global,
     case: &Case,
     steps: &mut Steps<L>,
-) -> Result<Bitmap<Global>, WriteError> {
+) -> Result<Bitmap<Global>, AllocError> {
     let height = u32::try_from(case.spans.len()).unwrap_or(0);
-    let mut bitmap = Bitmap::new(alloc, case.width, height, steps).map_err(
-        |_| WriteError::OutOfMemory,
-    )?;
+    let mut bitmap = Bitmap::new(alloc, case.width, height, steps).map_err(|_| AllocError)?;
     for (y, spans) in (0..height).zip(case.spans) {
         for (from, to) in spans.iter() {
             for x in *from..*to {
@@ -99,7 +96,7 @@ fn bitmap_of<L: Ledger>(
 }
 
 /// The index of the first case whose data is not the expected one, or else the number of cases.
-fn first_that_differs<L: Ledger>(alloc: Global, blank: Blank) -> Result<usize, WriteError>
+fn first_that_differs<L: Ledger>(alloc: Global, blank: Blank) -> Result<usize, AllocError>
     requires name { blank.name ≡ L.name }
     requires parts { blank.parts ≡ L.parts }
     requires enough { blank.parts ≡ 7 }
@@ -121,7 +118,7 @@ fn first_that_differs<L: Ledger>(alloc: Global, blank: Blank) -> Result<usize, W
 #[test]
 fn mmr_data_is_that_of_another_encoder(rt: HostRuntime) {
     let mut index = first_that_differs::<Brand>(rt.alloc(), Blank::new(7));
-    if index == Err(WriteError::OutOfMemory) {
+    if index == Err(AllocError) {
         index = first_that_differs::<Brand>(rt.alloc(), Blank::new(7));
     }
     assert!(rt; index == Ok(CASES.len()));

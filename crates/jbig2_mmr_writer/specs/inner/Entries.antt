@@ -1,6 +1,6 @@
 -- Entries of the tables of code words.
-use Rattle.std.specs.Prelude.{ℕ, ◌+◌, ◌*◌, List, length}
-use Rattle.jbig2_base.specs.Bits.{number_after}
+use Rattle.std.specs.Prelude.{ℕ, ◌/◌, ◌%◌, List}
+use Rattle.jbig2_inverses.specs.Digits.{digits}
 
-abbrev pub entry_of_word : List ℕ → ℕ  -- 16 times the number that the bits make, plus the size
-entry_of_word word = 16 * number_after 0 word + length word
+abbrev pub word_of_entry : ℕ → List ℕ  -- the lowest four bits are the size of the word, and the bits above are its bits
+word_of_entry entry = digits (entry % 16) (entry / 16)

@@ -1,4 +1,5 @@
-use Rattle.std.proofs.Common.{◌+◌, sym, arith}
+use Rattle.std.proofs.Common.{◌+◌, sym, ap, arith}
+use Rattle.jbig2_base.specs.Counts.{Counts}
 use Rattle.jbig2_base.proofs.SearchLemmas.{place-past}
 use Rattle.jbig2_mmr.proofs.T6Rows.{b2-is}
 use Rattle.jbig2_mmr.specs.T6.{is_change}
@@ -11,3 +12,6 @@ returns-then-b1-to-clause-value g c = sym (place-past (is_change (row_of c.args.
 pub returns-clause-value : goal.returns-clause-value
 returns-clause-value g c =
     sym (b2-is (row_of c.args.bitmap.now c.args.above) c.args.black c.args.b1 c.args.to c.find_before.result (omega (arith, c.if-b1-to.false)) c.requires.colour c.find_before.ensures.value)
+
+pub returns-clause-loads : goal.returns-clause-loads
+returns-clause-loads g c = omega (arith, c.find_before.ensures.value.after, ap (λ (t : Counts). t.loads) c.find_before.ensures.steps)
