@@ -16,6 +16,8 @@ CRATES = os.path.join(os.path.dirname(HERE), "crates")
 DATA = os.path.join(CRATES, "jbig2_decode", "data")
 PageInfo, PassedOver, LeftOut = (STRUCTURES[name] for name in ("page_info", "passed_over", "left_out"))
 WriteSettings = STRUCTURES["write_settings"]
+# Where the flags of the region are in a file that is written.
+REGION_FLAGS = 77
 failures = []
 checks = 0
 
@@ -118,10 +120,10 @@ def pages_by_handles(library, book, is_salvaged):
     return pages
 
 
-def written_of(library, page):
-    """A file of one page, of width, height and rows."""
+def written_of(library, page, mmr):
+    """A file of one page, of width, height and rows, by MMR or by the arithmetic coder."""
     width, height, rows = page
-    settings, written = WriteSettings(1, 11811, 11811, True, True), ctypes.c_void_p()
+    settings, written = WriteSettings(1, 11811, 11811, True, True, mmr), ctypes.c_void_p()
     answer = library.hayro_jbig2_written_new(
         None, rows, len(rows), width, height, ctypes.byref(settings), ctypes.byref(written)
     )
@@ -129,6 +131,7 @@ def written_of(library, page):
     book = ctypes.create_string_buffer(library.hayro_jbig2_written_length(written))
     check(library.hayro_jbig2_written_bytes(written, book, len(book)) == 0, "what was written is copied")
     library.hayro_jbig2_written_free(written)
+    check(book.raw[REGION_FLAGS] & 1 == mmr, "the region's flags say how it is coded")
     return book.raw
 
 
@@ -142,7 +145,9 @@ def compare_pages(library, example):
     check(pages_by_handles(library, book, False) == pages, "the pages are the same by handles")
     check(pages_by_handles(library, book, True) == pages, "the pages are the same in salvage")
     for page in pages:
-        check(pages_by_bytes(library, written_of(library, page)) == [page], "a page is the same that was written")
+        for mmr in False, True:
+            read = pages_by_bytes(library, written_of(library, page, mmr))
+            check(read == [page], "a page is the same that was written")
     printed = subprocess.run([example, name], stdout=subprocess.PIPE)
     wanted = b"".join(b"P4\n%d %d\n" % (width, height) + rows for width, height, rows in pages)
     check(printed.returncode == 0 and printed.stdout == wanted, "the example prints the pages")

@@ -329,8 +329,8 @@ typedef struct hayro_jbig2_region_info {
 uint32_t hayro_jbig2_region_get_info(const uint8_t *bytes, size_t length, hayro_jbig2_region_info *info);
 
 /* Writing: the other way, from packed rows to a page. The page is page information and one generic region, coded by the
- * arithmetic coder. By proof each reading, with any globals, decodes it to the rows that were given, without a pixel lost;
- * bits past the width are passed over. */
+ * arithmetic coder or as MMR data (T.6). By proof each reading, with any globals, decodes it to the rows that were given,
+ * without a pixel lost; bits past the width are passed over. */
 typedef struct hayro_jbig2_written hayro_jbig2_written;
 
 typedef struct hayro_jbig2_write_settings {
@@ -338,6 +338,7 @@ typedef struct hayro_jbig2_write_settings {
     uint32_t x_resolution, y_resolution; /* pixels for each metre; 0: not stated */
     bool typical;                        /* a row that is as the one above it takes one decision (TPGDON) */
     bool whole_file;                     /* a JBIG2 file of one page, or else an embedded page */
+    bool mmr; /* MMR data (T.6) in place of the arithmetic coder: template_number and typical are then not looked at */
 } hayro_jbig2_write_settings;
 
 /* Writes packed rows as an embedded page, the bytes of a /JBIG2Decode stream that has no globals. A handle holds them.

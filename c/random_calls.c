@@ -205,13 +205,15 @@ static void make_written(void) {
         .y_resolution = (uint32_t)below(UINT32_MAX),
         .typical = one_in(2),
         .whole_file = one_in(2),
+        .mmr = one_in(2),
     };
     uint32_t width = (uint32_t)below(200), height = (uint32_t)(input.length / ((width + 7) / 8 + 1));
     size_t size = (size_t)(width + 7) / 8 * height, other = one_in(8) ? below(input.length + 1) : size;
     uint32_t answer =
         hayro_jbig2_written_new(any_memory(), input.bytes, other, width, height, &settings, &made->written);
-    CHECK((answer == HAYRO_JBIG2_NO_SUCH_TEMPLATE) == (settings.template_number > 3));
-    CHECK((answer == HAYRO_JBIG2_OTHER_SIZE) == (settings.template_number <= 3 && other != size));
+    bool has_template = settings.mmr || settings.template_number <= 3;
+    CHECK((answer == HAYRO_JBIG2_NO_SUCH_TEMPLATE) == !has_template);
+    CHECK((answer == HAYRO_JBIG2_OTHER_SIZE) == (has_template && other != size));
     expect_new(made, answer, true);
     free(input.bytes);
 }

@@ -3,7 +3,7 @@
 #include "held.h"
 
 /* The settings as the module reads them. */
-enum { SETTINGS_BYTES = 16, TEMPLATE = 0, X_RESOLUTION = 4, Y_RESOLUTION = 8, TYPICAL = 12, WHOLE_FILE = 13 };
+enum { SETTINGS_BYTES = 16, TEMPLATE = 0, X_RESOLUTION = 4, Y_RESOLUTION = 8, TYPICAL = 12, WHOLE_FILE = 13, MMR = 14 };
 
 struct writing {
     struct held *held;
@@ -19,6 +19,7 @@ static void copy_settings(struct instance *instance, uint64_t place, const hayro
     jbig2_portable_set_number(instance, place + Y_RESOLUTION, 4, settings->y_resolution);
     jbig2_portable_set_number(instance, place + TYPICAL, 1, settings->typical);
     jbig2_portable_set_number(instance, place + WHOLE_FILE, 1, settings->whole_file);
+    jbig2_portable_set_number(instance, place + MMR, 1, settings->mmr);
 }
 
 static uint32_t writes(void *words) {
