@@ -14,7 +14,9 @@
 #include <unistd.h>
 
 enum { MOST_JOBS = 256 };
-enum { FORCE = 256, STRICTLY, SALVAGED, PASSWORD, WORK, MEMORY, JSON, TEMPLATE, TYPICAL, NOT_TYPICAL, EMBEDDED, DPI };
+enum { FORCE = 256, STRICTLY, SALVAGED, PASSWORD, WORK, MEMORY, JSON };
+/* Of the command `write` alone. */
+enum { CODING = 512, TEMPLATE, TYPICAL, NOT_TYPICAL, EMBEDDED, DPI };
 
 static const struct option options[] = {
     {"output", required_argument, NULL, 'o'},
@@ -32,6 +34,7 @@ static const struct option options[] = {
     {"work", required_argument, NULL, WORK},
     {"memory", required_argument, NULL, MEMORY},
     {"json", no_argument, NULL, JSON},
+    {"coding", required_argument, NULL, CODING},
     {"template", required_argument, NULL, TEMPLATE},
     {"typical", no_argument, NULL, TYPICAL},
     {"no-typical", no_argument, NULL, NOT_TYPICAL},
@@ -128,6 +131,11 @@ static bool set_way(struct words *words, enum way way) {
     return !is_other;
 }
 
+static bool read_coding(struct words *words, const char *name) {
+    words->writing.mmr = strcmp(name, "mmr") == 0;
+    return words->writing.mmr || strcmp(name, "arithmetic") == 0;
+}
+
 static bool read_template(struct words *words, const char *at) {
     uint64_t number;
     bool is_number = read_number(&at, &number) && *at == '\0' && number <= 3;
@@ -145,6 +153,22 @@ static bool read_dpi(struct words *words, const char *at) {
 }
 
 /* False where the option's own word is wrong. */
+static bool take_option_of_write(struct words *words, int option, const char *word) {
+    switch (option) {
+    case CODING:
+        return read_coding(words, word);
+    case TEMPLATE:
+        return read_template(words, word);
+    case DPI:
+        return read_dpi(words, word);
+    case EMBEDDED:
+        return words->is_embedded = true;
+    default:
+        words->writing.typical = option == TYPICAL;
+        return true;
+    }
+}
+
 static bool take_option(struct words *words, int option, const char *word) {
     switch (option) {
     case 'o':
@@ -174,19 +198,10 @@ static bool take_option(struct words *words, int option, const char *word) {
         return read_work(&words->reading, word);
     case MEMORY:
         return read_size(word, &words->reading.memory);
-    case TEMPLATE:
-        return read_template(words, word);
-    case TYPICAL:
-    case NOT_TYPICAL:
-        words->writing.typical = option == TYPICAL;
-        return true;
-    case EMBEDDED:
-        words->is_embedded = true;
-        return true;
-    case DPI:
-        return read_dpi(words, word);
-    default:
+    case JSON:
         return words->is_json = true;
+    default:
+        return take_option_of_write(words, option, word);
     }
 }
 
@@ -220,37 +235,31 @@ static void note_option(struct words *words, int option) {
             words->given |= (uint64_t)1 << i;
 }
 
-/* Whether `write` has an option, and whether another command has. */
+/* Whether `write` has an option, or else whether another command has. */
 static bool belongs_to(int option, bool is_write) {
-    switch (option) {
-    case 'o':
-    case 'f':
-    case 'q':
-    case FORCE:
-        return true;
-    case TEMPLATE:
-    case TYPICAL:
-    case NOT_TYPICAL:
-    case EMBEDDED:
-    case DPI:
-        return is_write;
-    default:
-        return !is_write;
+    bool is_common = option == 'o' || option == 'f' || option == 'q' || option == FORCE;
+    return is_common || is_write == (option >= CODING);
+}
+
+static bool is_of_coder(int option) { return option == TEMPLATE || option == TYPICAL || option == NOT_TYPICAL; }
+
+/* An option that was given and that the command, or the coding, doesn't take, or 0. */
+static int foreign_option(const struct words *words) {
+    for (size_t i = 0; options[i].name != NULL; i++) {
+        int option = options[i].val;
+        bool is_taken = belongs_to(option, words->command == WRITE) && !(words->writing.mmr && is_of_coder(option));
+        if ((words->given >> i & 1) != 0 && !is_taken)
+            return option;
     }
+    return 0;
 }
 
-/* The name of an option that was given and belongs to other commands, or NULL. */
-static const char *foreign_option(const struct words *words) {
-    for (size_t i = 0; options[i].name != NULL; i++)
-        if ((words->given >> i & 1) != 0 && !belongs_to(options[i].val, words->command == WRITE))
-            return options[i].name;
-    return NULL;
-}
-
-static enum request wrong_command(const struct words *words) {
+static enum request wrong_use(int option, bool is_write) {
     char what[40];
-    snprintf(what, sizeof what, "--%s is for", foreign_option(words));
-    return wrong(what, words->command == WRITE ? "reading, not for write" : "the command write");
+    snprintf(what, sizeof what, "--%s is for", name_of_option(option));
+    return wrong(what, !is_write                  ? "the command write"
+                       : belongs_to(option, true) ? "the arithmetic coder, not for --coding=mmr"
+                                                  : "reading, not for write");
 }
 
 static enum request read_options(struct words *words, int count, char **all) {
@@ -318,8 +327,8 @@ static enum request check_words(struct words *words) {
         return wrong("info writes to standard output", NULL);
     if (words->command != INFO && words->is_json)
         return wrong("--json is for info", NULL);
-    if (foreign_option(words) != NULL)
-        return wrong_command(words);
+    if (foreign_option(words) != 0)
+        return wrong_use(foreign_option(words), words->command == WRITE);
     if (words->output == NULL && words->input_count == 1 && strcmp(words->inputs[0], "-") == 0)
         words->output = "-";
     enum request request = check_format(words);

@@ -2,7 +2,7 @@
 _hayro_jbig2() {
     local word=${COMP_WORDS[COMP_CWORD]} before=${COMP_WORDS[COMP_CWORD - 1]}
     local options="--output --format --force --pages --strict --salvage --globals --password --work --memory --jobs
-        --json --quiet --help --version --template --typical --no-typical --embedded --dpi"
+        --json --quiet --help --version --coding --template --typical --no-typical --embedded --dpi"
     COMPREPLY=()
     # Of --format=png bash makes three words.
     [ "$word" != = ] || word=
@@ -14,6 +14,10 @@ _hayro_jbig2() {
         ;;
     --work)
         mapfile -t COMPREPLY < <(compgen -W none -- "$word")
+        return
+        ;;
+    --coding)
+        mapfile -t COMPREPLY < <(compgen -W "arithmetic mmr" -- "$word")
         return
         ;;
     --template)

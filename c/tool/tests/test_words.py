@@ -9,7 +9,7 @@ from support import BARE, BOOK, COUNTED, EXAMPLE, INCOMPLETE, NOT_DONE, ROOT, WH
 
 VERSION = re.search(r'HAYRO_JBIG2_VERSION "(.*)"', (ROOT / "c" / "hayro_jbig2.h").read_text())[1]
 LONG_OPTIONS = """output format force pages strict salvage globals password work memory jobs json quiet help
-    version""".split()
+    version coding template no-typical embedded dpi""".split()
 
 
 class Words(Case):

@@ -2,6 +2,7 @@
 from __future__ import annotations
 
 import functools
+import json
 import random
 import resource
 import shutil
@@ -77,7 +78,7 @@ class Writing(Case):
             picture = noise(width, height, number)
             self.made(picture.pbm, "scan.pbm")
             for words in ["-o", "scan.jb2"], ["-o", "scan.jb2e"], ["-o", "page.jb2", "--embedded"]:
-                for options in [], ["--template", str(number % 4)], ["--no-typical"], ["--typical"]:
+                for options in [], ["--template", str(number % 4)], ["--no-typical"], ["--typical"], ["--coding", "mmr"]:
                     with self.subTest(width=width, words=words, options=options):
                         self.assert_ends(self.run_here("write", "scan.pbm", *words, *options, "--force"), WHOLE)
                         self.assertEqual(self.read_back(words[1]), [picture])
@@ -89,11 +90,26 @@ class Writing(Case):
         file, page = (self.room / "scan.jb2").read_bytes(), (self.room / "page.jb2e").read_bytes()
         self.assertTrue(file.startswith(b"\x97JB2\r\n\x1a\n\x01\x00\x00\x00\x01" + page))
 
+    def test_codings(self):
+        self.made(noise(30, 20).pbm, "scan.pbm")
+        for options, said in {
+            (): "arithmetic, template 0, typical prediction",
+            ("--coding=mmr", "--coding=arithmetic", "--no-typical", "--template=1"): "arithmetic, template 1",
+            ("--coding=mmr",): "MMR",
+        }.items():
+            self.assert_ends(self.run_here("write", "scan.pbm", *options, "--force"), WHOLE)
+            listed = json.loads(self.run_here("info", "--json", "scan.jb2").output)
+            self.assertIn(said, [segment.get("coding") for segment in listed[0]["segments"]], options)
+
     def test_other_readers(self):
-        picture = noise(70, 50)
-        self.made(picture.pbm, "scan.pbm")
-        self.assert_ends(self.run_here("write", "scan.pbm", "-o", "scan.jb2"), WHOLE)
-        self.assert_ends(self.run_here("write", "scan.pbm", "scan.pbm", "-o", "scan.pdf"), WHOLE)
+        for seed, options in enumerate([[], ["--coding", "mmr"]]):
+            picture = noise(70, 50, seed)
+            self.made(picture.pbm, "scan.pbm")
+            self.assert_ends(self.run_here("write", "scan.pbm", "-o", "scan.jb2", "--force", *options), WHOLE)
+            self.assert_ends(self.run_here("write", "scan.pbm", "scan.pbm", "-o", "scan.pdf", "--force", *options), WHOLE)
+            self.read_by_others(picture)
+
+    def read_by_others(self, picture: Picture):
         readers = {
             "jbig2dec": (["-t", "pbm", "-o", "read.pbm", "scan.jb2"], ["read.pbm"]),
             "pdfimages": (["scan.pdf", "image"], ["image-000.pbm", "image-001.pbm"]),
@@ -334,6 +350,10 @@ class Writing(Case):
             "name a file": [],
             "not png": ["a.pbm", "-o", "a.png"],
             "no format for the ending of": ["a.pbm", "-o", "a.xyz"],
+            "wrong word for --coding: huffman": ["a.pbm", "--coding", "huffman"],
+            "--template is for the arithmetic coder, not for --coding=mmr": ["a.pbm", "--coding=mmr", "--template=0"],
+            "--typical is for the arithmetic coder": ["a.pbm", "--typical", "--coding=mmr"],
+            "--no-typical is for the arithmetic coder": ["a.pbm", "--coding", "mmr", "--no-typical"],
             "wrong word for --template: 4": ["a.pbm", "--template", "4"],
             "wrong word for --dpi: 0": ["a.pbm", "--dpi", "0"],
             "--embedded is not for PDF": ["a.pbm", "--embedded", "-o", "a.pdf"],
@@ -344,7 +364,7 @@ class Writing(Case):
         for said, words in wrong.items():
             with self.subTest(said):
                 self.assert_ends(self.run_here("write", *words), WRONG_WORDS, said)
-        for words in ["--dpi", "300"], ["--no-typical"], ["--template=1"], ["--embedded"]:
+        for words in ["--dpi", "300"], ["--no-typical"], ["--template=1"], ["--embedded"], ["--coding=mmr"]:
             self.assert_ends(self.run_here("a.jb2", *words), WRONG_WORDS, "is for the command write")
         self.assert_ends(self.run_here("a.jb2", "-o", "a.pdf"), WRONG_WORDS, "the command write makes files of pdf")
 
