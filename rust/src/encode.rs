@@ -20,23 +20,35 @@ pub enum Template {
     Template3,
 }
 
-/// How a page is written.
+/// How the pixels of a page are coded (T.88, 6.2).
 #[derive(Debug, Clone, Copy, PartialEq, Eq)]
+pub enum Coding {
+    /// By the arithmetic coder.
+    Arithmetic {
+        /// Which pixels predict a pixel.
+        template: Template,
+        /// Whether a row that is as the row above it takes one decision alone (typical prediction).
+        typical: bool,
+    },
+    /// As MMR data (T.6), which takes more bytes. Pages of text are decoded in less time.
+    Mmr,
+}
+
+impl Default for Coding {
+    fn default() -> Self {
+        Self::Arithmetic { template: Template::default(), typical: true }
+    }
+}
+
+/// How a page is written.
+#[derive(Debug, Clone, Copy, PartialEq, Eq, Default)]
 pub struct EncodeSettings {
-    /// Which pixels predict a pixel.
-    pub template: Template,
-    /// Whether a row that is as the row above it takes one decision alone (typical prediction).
-    pub typical: bool,
+    /// How its pixels are coded.
+    pub coding: Coding,
     /// Pixels for each metre, of rows and of columns; 0 states none.
     pub resolution: (u32, u32),
     /// Whether a JBIG2 file of one page is written, or else an embedded page, as a PDF file has it.
     pub file: bool,
-}
-
-impl Default for EncodeSettings {
-    fn default() -> Self {
-        Self { template: Template::default(), typical: true, resolution: (0, 0), file: false }
-    }
 }
 
 /// Why a page is not written.

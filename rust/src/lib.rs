@@ -71,7 +71,7 @@ mod work;
 
 pub use context::DecoderContext;
 pub use decoder::Decoder;
-pub use encode::{EncodeError, EncodeSettings, Template, encode};
+pub use encode::{Coding, EncodeError, EncodeSettings, Template, encode};
 pub use error::{
     DecodeError, FormatError, HuffmanError, OverflowError, ParseError, RegionError, Result, SegmentError, SymbolError,
     TemplateError,

@@ -1,9 +1,17 @@
 //! Pages that are written decode to what they were written of.
 
-use hayro_jbig2::{DecodeSettings, Decoder, EncodeError, EncodeSettings, File, Page, Template, encode};
+use hayro_jbig2::{Coding, DecodeSettings, Decoder, EncodeError, EncodeSettings, File, Page, Template, encode};
 
 const STRICT: DecodeSettings = DecodeSettings { strict: true };
-const TEMPLATES: [Template; 4] = [Template::Template0, Template::Template1, Template::Template2, Template::Template3];
+const CODINGS: [Coding; 5] = [
+    Coding::Arithmetic { template: Template::Template0, typical: true },
+    Coding::Arithmetic { template: Template::Template1, typical: false },
+    Coding::Arithmetic { template: Template::Template2, typical: true },
+    Coding::Arithmetic { template: Template::Template3, typical: false },
+    Coding::Mmr,
+];
+/// A letter of 5 by 8 pixels.
+const LETTER: [u8; 8] = [0xF0, 0x88, 0x88, 0x88, 0xF0, 0x80, 0x80, 0x80];
 
 /// Takes the calls as packed rows.
 #[derive(Default)]
@@ -57,9 +65,9 @@ fn decoded(page: &Page<'_>) -> Vec<u8> {
 fn pages_read_back() {
     for (width, height) in [(1, 1), (8, 2), (9, 3), (64, 64), (65, 7), (300, 41)] {
         let rows = noise(width, height);
-        for (number, template) in TEMPLATES.into_iter().enumerate() {
+        for (number, coding) in CODINGS.into_iter().enumerate() {
             let resolution = (number as u32, u32::MAX);
-            let settings = EncodeSettings { template, typical: number % 2 == 0, resolution, file: false };
+            let settings = EncodeSettings { coding, resolution, file: false };
             let coded = encode(&rows, width, height, &settings).unwrap();
             let page = Page::new_embedded(&coded, None, &STRICT).unwrap();
             assert_eq!((page.width(), page.height()), (width, height));
@@ -72,15 +80,25 @@ fn pages_read_back() {
     }
 }
 
-/// A letter, by template 0 with typical prediction.
+/// By template 0 with typical prediction.
 #[test]
 fn a_page_is_that_of_another_encoder() {
-    let letter = [0xF0, 0x88, 0x88, 0x88, 0xF0, 0x80, 0x80, 0x80];
-    let coded = encode(&letter, 5, 8, &EncodeSettings::default()).unwrap();
+    let coded = encode(&LETTER, 5, 8, &EncodeSettings::default()).unwrap();
     let (information, region) = coded.split_at(33);
     assert_eq!(information[..22], [0, 0, 0, 0, 0x70, 0, 0, 0, 0, 1, 0, 0, 0, 0x13, 0, 0, 0, 5, 0, 0, 0, 8]);
     assert_eq!(region[..14], [0, 0, 0, 1, 0x66, 0, 0, 0, 0, 1, 0, 0, 0, 0x20]);
     assert_eq!(region[40..], [0x08, 0x2E, 0x04, 0xD7, 0xFF, 0xAC]);
+}
+
+#[test]
+fn mmr_data_is_that_of_another_encoder() {
+    let settings = EncodeSettings { coding: Coding::Mmr, ..EncodeSettings::default() };
+    let coded = encode(&LETTER, 5, 8, &settings).unwrap();
+    let region = &coded[33..];
+    assert_eq!(region[..14], [0, 0, 0, 1, 0x66, 0, 0, 0, 0, 1, 0, 0, 0, 0x1D]);
+    let (flags, data) = region[31..].split_first().unwrap();
+    assert_eq!(*flags, 1);
+    assert_eq!(*data, [0x26, 0xAF, 0x04, 0xBF, 0xF0, 0x78, 0x2F, 0xE0, 0x02, 0x00, 0x20]);
 }
 
 #[test]

@@ -1,7 +1,7 @@
 //! Want of memory: each request of a page is refused in turn.
 
+use hayro_jbig2::{Coding, EncodeError, EncodeSettings, encode};
 use hayro_jbig2::{DecodeError, DecodeSettings, Decoder, DecoderContext, File, Globals, Page, Result};
-use hayro_jbig2::{EncodeError, EncodeSettings, encode};
 use std::alloc::{GlobalAlloc, Layout, System};
 use std::cell::Cell;
 use std::ptr;
@@ -128,13 +128,16 @@ fn salvage_lacks_memory() {
 
 #[test]
 fn a_page_that_is_written_lacks_memory() {
-    let refusals = refuse_in_turn(|counter| {
-        let coded = encode(&[0x5A; 800], 80, 80, &EncodeSettings::default()).map_err(|error| {
-            assert_eq!(error, EncodeError::OutOfMemory);
-            DecodeError::OutOfMemory
-        })?;
-        counter.0 = u32::try_from(coded.len()).expect("a short page");
-        Ok(())
-    });
-    assert!(refusals > 3, "{refusals} requests");
+    for coding in [Coding::default(), Coding::Mmr] {
+        let settings = EncodeSettings { coding, ..EncodeSettings::default() };
+        let refusals = refuse_in_turn(|counter| {
+            let coded = encode(&[0x5A; 800], 80, 80, &settings).map_err(|error| {
+                assert_eq!(error, EncodeError::OutOfMemory);
+                DecodeError::OutOfMemory
+            })?;
+            counter.0 = u32::try_from(coded.len()).expect("a short page");
+            Ok(())
+        });
+        assert!(refusals > 3, "{coding:?}: {refusals} requests");
+    }
 }

@@ -66,6 +66,7 @@ pub(super) struct WriteSettings {
     pub(super) y_resolution: u32,
     pub(super) typical: bool,
     pub(super) whole_file: bool,
+    pub(super) mmr: bool,
 }
 
 unsafe extern "C" {

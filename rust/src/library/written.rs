@@ -4,21 +4,30 @@ use alloc::vec::Vec;
 use core::ptr::{self, NonNull};
 
 use super::{allocator, ffi, made, result};
-use crate::EncodeSettings;
 use crate::error::{DecodeError, Result};
+use crate::{Coding, EncodeSettings, Template};
 
 /// What was written, until it is copied.
 struct Handle(NonNull<ffi::Written>);
 
-/// Writes packed rows of the size of these sides, which are not 0 or above 65535. Nothing but memory can be wanting.
-pub(crate) fn written(rows: &[u8], width: u32, height: u32, settings: &EncodeSettings) -> Result<Vec<u8>> {
-    let raw = ffi::WriteSettings {
-        template_number: settings.template as u32,
+fn raw_settings(settings: &EncodeSettings) -> ffi::WriteSettings {
+    let (template, typical) = match settings.coding {
+        Coding::Arithmetic { template, typical } => (template, typical),
+        Coding::Mmr => (Template::default(), false),
+    };
+    ffi::WriteSettings {
+        template_number: template as u32,
         x_resolution: settings.resolution.0,
         y_resolution: settings.resolution.1,
-        typical: settings.typical,
+        typical,
         whole_file: settings.file,
-    };
+        mmr: settings.coding == Coding::Mmr,
+    }
+}
+
+/// Writes packed rows of the size of these sides, which are not 0 or above 65535. Nothing but memory can be wanting.
+pub(crate) fn written(rows: &[u8], width: u32, height: u32, settings: &EncodeSettings) -> Result<Vec<u8>> {
+    let raw = raw_settings(settings);
     let mut handle = ptr::null_mut();
     // SAFETY: the rules of the header.
     let number = unsafe {
