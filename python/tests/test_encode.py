@@ -11,10 +11,14 @@ import hayro_jbig2
 from pages import EXAMPLE
 
 LETTER = bytes([0xF0, 0x88, 0x88, 0x88, 0xF0, 0x80, 0x80, 0x80])
-# As another encoder writes the letter, by template 0 with typical prediction.
+# As another encoder writes the letter: by template 0 with typical prediction, and by MMR.
 LETTER_PAGE = bytes.fromhex(
     "00000000 70 00 00000001 00000013 00000005 00000008 0000000000000000 01 0000"
     "00000001 66 00 00000001 00000020 00000005 00000008 000000000000000000 08 03FFFDFF02FEFEFE 082E04D7FFAC"
+)
+LETTER_BY_MMR = bytes.fromhex(
+    "00000000 70 00 00000001 00000013 00000005 00000008 0000000000000000 01 0000"
+    "00000001 66 00 00000001 0000001D 00000005 00000008 000000000000000000 01 26AF04BFF0782FE0020020"
 )
 
 
@@ -43,10 +47,16 @@ class Encoding(unittest.TestCase):
                     self.assertIs(type(coded), bytes)
                     self.assertEqual(coded.startswith(b"\x97JB2"), file)
                     self.compare(coded, width, height, rows)
+            for file in False, True:
+                coded = hayro_jbig2.encode(rows, width, height, coding="mmr", file=file)
+                self.compare(coded, width, height, rows)
 
     def test_as_another_encoder(self):
         for rows in LETTER, bytearray(LETTER), memoryview(LETTER), bytes(byte | 7 for byte in LETTER):
             self.assertEqual(hayro_jbig2.encode(rows, 5, 8), LETTER_PAGE)
+            self.assertEqual(hayro_jbig2.encode(rows, 5, 8, coding="arithmetic"), LETTER_PAGE)
+            self.assertEqual(hayro_jbig2.encode(rows, 5, 8, coding="mmr"), LETTER_BY_MMR)
+        self.assertEqual(hayro_jbig2.encode(LETTER, 5, 8, coding="mmr", template=3, typical=False), LETTER_BY_MMR)
 
     def test_a_page(self):
         for page in hayro_jbig2.pages(EXAMPLE):
@@ -71,6 +81,9 @@ class Encoding(unittest.TestCase):
         for template in -1, 4:
             with self.assertRaises(ValueError):
                 hayro_jbig2.encode(LETTER, 5, 8, template=template)
+        for coding in "huffman", "MMR", None:
+            with self.assertRaises(ValueError):
+                hayro_jbig2.encode(LETTER, 5, 8, coding=coding)
         for words in (LETTER,), (LETTER, 5), ("text", 5, 8), (LETTER, 5.0, 8), (next(hayro_jbig2.pages(EXAMPLE)), 64, 56):
             with self.assertRaises(TypeError):
                 hayro_jbig2.encode(*words)

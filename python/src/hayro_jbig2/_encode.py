@@ -10,7 +10,7 @@ from . import _library
 from ._page import INVERTED, Page
 
 if TYPE_CHECKING:
-    from typing import Any, Union
+    from typing import Any, Literal, Union
 
     import numpy
     from _typeshed import ReadableBuffer
@@ -18,6 +18,7 @@ if TYPE_CHECKING:
 
     Picture = Union[Page, Image.Image, numpy.ndarray[Any, Any], ReadableBuffer]
     Resolution = Union[float, tuple[float, float], None]
+    Coding = Literal["arithmetic", "mmr"]
 
 _LONGEST_SIDE = 65535
 _METRES_IN_AN_INCH = 0.0254
@@ -30,6 +31,7 @@ def encode(
     width: int | None = None,
     height: int | None = None,
     *,
+    coding: Coding = "arithmetic",
     template: int = 0,
     typical: bool = True,
     resolution: Resolution = None,
@@ -48,24 +50,32 @@ def encode(
       leftmost the highest of its byte, and whole bytes for each row. Bits past the width are passed over.
 
     Decoding gives the picture back, without a pixel lost: that is proved of the library for each picture and each of
-    these settings. `template`, from 0 to 3, says which pixels predict a pixel (GBTEMPLATE). With `typical` a row that is
-    as the one above it takes no more than a decision. `resolution` is in pixels for each inch: a number, or one for
-    rows and one for columns. Without it an image of Pillow has that of its `info["dpi"]`, and others state none.
+    these settings. `coding` "mmr" writes MMR data (T.6): it takes more bytes, and pages of text are decoded in less
+    time. For the arithmetic coder `template`, from 0 to 3, says which pixels predict a pixel (GBTEMPLATE), and with
+    `typical` a row that is as the one above it takes no more than a decision; of MMR data both change nothing.
+    `resolution` is in pixels for each inch: a number, or one for rows and one for columns. Without it an image of
+    Pillow has that of its `info["dpi"]`, and others state none.
 
     Raises ValueError for a picture that is not bi-level, sides that are 0 or above 65535, rows of another size, and
-    another template; and `OutOfMemory`.
+    another coding or template; and `OutOfMemory`.
     """
     rows, width, height, stated = _rows_of(picture, width, height)
+    if coding not in ("arithmetic", "mmr"):
+        raise ValueError(f'a coding is "arithmetic" or "mmr", not {coding!r}')
     template = operator.index(template)
     if not 0 <= template <= 3:
         raise ValueError(f"there are templates 0 to 3, and no {template}")
+    _check_size(rows, width, height)
+    numbers = _stated_for_each_metre(stated) if resolution is None else _for_each_metre(resolution)
+    return _library.written(rows, width, height, (template, *numbers, bool(typical), bool(file), coding == "mmr"))
+
+
+def _check_size(rows: bytes, width: int, height: int) -> None:
     if not (1 <= width <= _LONGEST_SIDE and 1 <= height <= _LONGEST_SIDE):
         raise ValueError(f"a page has sides of 1 to {_LONGEST_SIDE} pixels, not {width} by {height}")
     size = (width + 7) // 8 * height
     if len(rows) != size:
         raise ValueError(f"packed rows of {width} by {height} pixels are {size} bytes, not {len(rows)}")
-    numbers = _stated_for_each_metre(stated) if resolution is None else _for_each_metre(resolution)
-    return _library.written(rows, width, height, (template, *numbers, bool(typical), bool(file)))
 
 
 def _rows_of(picture: Any, width: int | None, height: int | None) -> tuple[bytes, int, int, Resolution]:

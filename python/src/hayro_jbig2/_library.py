@@ -64,7 +64,7 @@ class _LeftOut(Structure):
 
 class _WriteSettings(Structure):
     _fields_ = [(name, c_uint32) for name in ("template_number", "x_resolution", "y_resolution")]
-    _fields_ += [("typical", c_bool), ("whole_file", c_bool)]
+    _fields_ += [(name, c_bool) for name in ("typical", "whole_file", "mmr")]
 
 
 class Reading(enum.Enum):
@@ -393,7 +393,7 @@ def embedded_page(stream: bytes, globals: Globals | None, reading: Reading) -> E
     return _without_line_end(lambda bytes: EmbeddedPage(bytes, globals, reading), stream)
 
 
-def written(rows: bytes, width: int, height: int, settings: tuple[int, int, int, bool, bool]) -> bytes:
+def written(rows: bytes, width: int, height: int, settings: tuple[int, int, int, bool, bool, bool]) -> bytes:
     """A page that is written. The rows have the size of these sides; the settings are those of the structure."""
     with _Handle("written", rows, len(rows), width, height, _WriteSettings(*settings)) as handle:
         try:
