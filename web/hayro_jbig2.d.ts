@@ -87,9 +87,11 @@ export interface DecodeOptions extends ReadingOptions {
 }
 
 export interface EncodeOptions {
-  /** Which pixels predict a pixel: 0, which is the default, to 3. */
+  /** By the arithmetic coder, which is the default, or as MMR data (T.6): more bytes, but pages of text are decoded in less time. */
+  coding?: "arithmetic" | "mmr";
+  /** For the arithmetic coder, which pixels predict a pixel: 0, which is the default, to 3. */
   template?: number;
-  /** Whether a row that is as the one above it takes one decision. It is so by default. */
+  /** For the arithmetic coder, whether a row that is as the one above it takes one decision. It is so by default. */
   typical?: boolean;
   /** Pixels for each metre; 0 states none. */
   xResolution?: number;

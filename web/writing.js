@@ -12,7 +12,9 @@ export function checkSides(width, height) {
   if (!isWhole(width, 1, LONGEST_SIDE) || !isWhole(height, 1, LONGEST_SIDE)) throw new Jbig2Error(INVALID_SIDES);
 }
 
-export function settingsOf({ template = 0, typical = true, xResolution = 0, yResolution = 0, file = false }) {
+export function settingsOf(options) {
+  const { coding = "arithmetic", template = 0, typical = true, xResolution = 0, yResolution = 0, file = false } = options;
+  if (!["arithmetic", "mmr"].includes(coding)) throw new TypeError('the coding has to be "arithmetic" or "mmr"');
   const numbers = [template, xResolution, yResolution];
   if (!numbers.every((number) => isWhole(number, 0, 2 ** 32 - 1))) {
     throw new TypeError("the template and the resolution have to be whole numbers of 32 bits");
@@ -20,6 +22,6 @@ export function settingsOf({ template = 0, typical = true, xResolution = 0, yRes
   const bytes = new Uint8Array(SIZE);
   const view = new DataView(bytes.buffer);
   numbers.forEach((number, place) => view.setUint32(4 * place, number, true));
-  bytes.set([typical ? 1 : 0, file ? 1 : 0], 12);
+  bytes.set([typical, file, coding === "mmr"].map((holds) => (holds ? 1 : 0)), 12);
   return bytes;
 }

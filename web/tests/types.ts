@@ -36,11 +36,16 @@ export async function asPdfJs(data: Uint8Array): Promise<Uint8ClampedArray> {
 export const again = (decoder: Decoder, { rows, width, height }: DecodedPage): Uint8Array =>
   decoder.encode(rows, width, height, { template: 1, typical: false, xResolution: 11811, yResolution: 11811, file: true });
 
+export const byMmr = (decoder: Decoder, { rows, width, height }: DecodedPage): Uint8Array =>
+  decoder.encode(rows, width, height, { coding: "mmr" });
+
 export async function refused(decoder: Decoder): Promise<void> {
   // @ts-expect-error: a text is no bytes.
   decoder.decode("page.jb2");
   // @ts-expect-error: an index is a number.
   decoder.decode(new Uint8Array(), { page: "1" });
+  // @ts-expect-error: there is no such coding.
+  decoder.encode(new Uint8Array(1), 8, 1, { coding: "huffman" });
   // @ts-expect-error: a decoder is loaded.
   new Decoder();
 }
