@@ -53,6 +53,8 @@ static void clear_ends(uint32_t width, uint32_t height) {
 
 /* Copies what was written, and frees it. */
 static size_t take_bytes(hayro_jbig2_written *written) {
+    if (written == NULL)
+        return 0;
     size_t length = hayro_jbig2_written_length(written);
     CHECK(length > 0 && length <= sizeof written_bytes);
     CHECK(hayro_jbig2_written_bytes(written, written_bytes, length - 1) == HAYRO_JBIG2_OTHER_SIZE);
