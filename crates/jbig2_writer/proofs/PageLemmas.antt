@@ -260,9 +260,9 @@ reads-back s g w h bytes whole is_w is_h allows fits made = of_container s.conta
     sides = sides-are g w h is_w is_h allows
 
     of_container : (container : Container) → bytes ≡ bytes_in container (choice_of s) g.width g.height (pixel_at g) → IsReadIn container s bytes g
-    of_container EmbeddedPage same reading globals =
+    of_container EmbeddedPage same = λ reading globals.
         let read = pages_read_back reading globals (choice_of s) g.width g.height (pixel_at g) (choice-is s fits) sides.columns sides.rows in
         (read.0, ap (λ (l : List ℕ). page_from reading globals l) same ∙ read.1, (read.2.drawn ∙ ap (λ (h : Grid). Ok h) (sym whole), read.2.resolution))
-    of_container File same reading =
+    of_container File same = λ reading.
         let read = page_files_read_back reading (choice_of s) g.width g.height (pixel_at g) (choice-is s fits) sides.columns sides.rows in
         (read.book, read.page, ap (λ (l : List ℕ). book_at reading l) same ∙ read.read, read.only, (read.shows.drawn ∙ ap (λ (h : Grid). Ok h) (sym whole), read.shows.resolution))
