@@ -1,12 +1,10 @@
 -- The contexts of the pixels, as they are made step by step, and as the pixels before them make them.
-use Rattle.std.proofs.Common.{◌≡◌, ℕ, ◌+◌, ◌-◌, ◌*◌, ◌^◌, ◌<◌, ◌≤◌, Bool, true, false, ◌&&◌, ◌||◌, List, [], ◌∷◌, length, drop, get_or, map, ℤ, pos, negsuc, ◌+ℤ◌, ◌<ℤ◌, ◌≤ℤ◌, ◌⊎◌, inl, inr, refl, sym, ◌∙◌, ap, arith, ⊎_elim}
+use Rattle.std.proofs.Common.{◌≡◌, ℕ, ◌+◌, ◌*◌, ◌<◌, ◌≤◌, Bool, true, false, ◌&&◌, ◌||◌, List, [], ◌∷◌, get_or, map, ℤ, pos, negsuc, ◌+ℤ◌, ◌<ℤ◌, ◌≤ℤ◌, ◌⊎◌, inl, inr, refl, sym, ◌∙◌, ap, arith, ⊎_elim}
 use Rattle.std.specs.Prelude.{int_le, int_lt}
 use Rattle.std.proofs.lemmas.Bool.{and_parts, or_cases, cases_lt}
 use Rattle.std.proofs.lemmas.Int.{ints}
-use Rattle.std.proofs.lemmas.List.{length-drop}
 use Rattle.std.proofs.lemmas.Nat.{mul-le}
-use Rattle.std.proofs.Math.Nat.{pow-le-pow_right}
-use Rattle.jbig2_base.specs.Grid.{Grid, bit_number, grid_of, pixel, pixel_at}
+use Rattle.jbig2_base.specs.Grid.{Grid, grid_of, pixel, pixel_at}
 use Rattle.jbig2_base.proofs.GridLemmas.{pixel_at-below, pixel_at-grid_of, pixel_at-right}
 use Rattle.jbig2_region.specs.Generic.{context_at, number_of, region_pixel}
 use Rattle.jbig2_region.specs.Raster.{Coding, so_far}
@@ -14,7 +12,6 @@ use Rattle.jbig2_region.specs.declared.template.AdaptiveTemplatePixel.{AdaptiveT
 use Rattle.jbig2_region.specs.Templates.{is_earlier}
 use Rattle.jbig2_region.specs.declared.template.Template.{Template}
 use Rattle.jbig2_region.specs.declared.template.Template.TheVariants.{Template0, Template1, Template2, Template3}
-use Rattle.jbig2_region.proofs.ContextLemmas.{context-lt, context-step}
 use Rattle.jbig2_inverses.specs.RegionWriter.{pixels_before}
 use Rattle.jbig2_inverses.proofs.RegionInverse.{pixel-before}
 use Rattle.jbig2_writer.specs.inner.Rows.{places}

@@ -1,18 +1,16 @@
 -- Contexts and colours out of windows.
-use Rattle.std.proofs.Common.{◌≡◌, ℕ, zero, suc, ◌+◌, ◌-◌, ◌*◌, ◌/◌, ◌%◌, ◌^◌, ◌<◌, ◌≤◌, eqb, Bool, length, ℤ, pos, negsuc, ◌+ℤ◌, ◌-ℤ◌, refl, sym, ◌∙◌, ap, subst, arith, ⊎_elim}
+use Rattle.std.proofs.Common.{◌≡◌, ℕ, zero, suc, ◌+◌, ◌-◌, ◌*◌, ◌/◌, ◌%◌, ◌^◌, ◌<◌, eqb, ℤ, pos, negsuc, ◌+ℤ◌, ◌-ℤ◌, refl, sym, ◌∙◌, ap, arith}
 use Rattle.std.proofs.Common.{◌++◌}
 use Rattle.std.proofs.Math.Nat.{pow-suc}
 use Rattle.std.proofs.lemmas.Int.{ints}
-use Rattle.std.proofs.lemmas.Bool.{cases_lt}
 use Rattle.jbig2_base.specs.Bits.{bit}
 use Rattle.jbig2_base.specs.Grid.{Grid, bit_number, pixel, pixel_at}
-use Rattle.jbig2_base.proofs.BitLemmas.{bit-shr, bit_number-bit, bit-zero}
+use Rattle.jbig2_base.proofs.BitLemmas.{bit-shr, bit_number-bit}
 use Rattle.jbig2_region.specs.Generic.{context_at}
 use Rattle.jbig2_region.specs.inner.Neighbours.{side_by_side}
 use Rattle.jbig2_region.specs.declared.template.neighbours.Stretch.{Stretch}
 use Rattle.jbig2_region.proofs.ContextBits.{context-append, joined-lt, length-side, lt-few, pow-few, side-context}
 use Rattle.jbig2_region.proofs.WindowLemmas.{pixel-inside, stretch-context}
-use Rattle.jbig2_inverses.specs.RegionWriter.{row_above}
 use Rattle.jbig2_writer.specs.declared.neighbours.Neighbours.{Neighbours}
 use Rattle.jbig2_writer.specs.declared.windows.Windows.{Windows}
 use Rattle.jbig2_writer.specs.inner.Windows.{IsNear, Shows, neighbour_pixels}

@@ -20,7 +20,6 @@ use Rattle.jbig2_writer.specs.declared.error.WriteError.{WriteError}
 use Rattle.jbig2_writer.specs.declared.error.WriteError.TheVariants.{InvalidSides, OutOfMemory}
 use Rattle.jbig2_writer.specs.declared.settings.Container.{Container}
 use Rattle.jbig2_writer.specs.declared.settings.Container.TheVariants.{EmbeddedPage, File}
-use Rattle.jbig2_writer.specs.declared.settings.ArithmeticCoding.{ArithmeticCoding}
 use Rattle.jbig2_writer.specs.declared.settings.RegionCoding.{RegionCoding}
 use Rattle.jbig2_writer.specs.declared.settings.RegionCoding.TheVariants.{Arithmetic, Mmr}
 use Rattle.jbig2_writer.specs.declared.settings.WriteSettings.{WriteSettings}

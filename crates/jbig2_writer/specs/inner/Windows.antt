@@ -1,5 +1,5 @@
 -- Rows in windows of 64 pixels, the pixels of a template that lie side by side in them, and what an encoder has coded.
-use Rattle.std.specs.Prelude.{ℕ, ◌+◌, ◌≤◌, ℤ, pos, negsuc, ◌-ℤ◌, List, ◌++◌}
+use Rattle.std.specs.Prelude.{ℕ, ◌+◌, ◌≤◌, pos, negsuc, ◌-ℤ◌, List, ◌++◌}
 use Rattle.jbig2_base.specs.Grid.{Grid}
 use Rattle.jbig2_coder.specs.Encoder.{CodingInContexts, HasCoded}
 use Rattle.jbig2_region.specs.inner.Neighbours.{IsWindow, side_by_side}

@@ -1,6 +1,5 @@
 use Rattle.std.proofs.Common.{arith, rules, refl}
-use Rattle.jbig2_writer.specs.inner.Rows.{rows_decisions}
-use Rattle.jbig2_writer.proofs.RowLemmas.{gives-bytes, predicted-next, rows-more, rows-none}
+use Rattle.jbig2_writer.proofs.RowLemmas.{predicted-next, rows-more, rows-none}
 use Rattle.jbig2_writer.proofs.decisions.coded_rows.Goals as goal
 
 pub loop-y-init : goal.loop-y-init

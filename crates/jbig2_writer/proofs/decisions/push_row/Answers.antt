@@ -1,4 +1,4 @@
-use Rattle.jbig2_writer.proofs.RowLemmas.{near, row-predicted, row-read, row-uncoded}
+use Rattle.jbig2_writer.proofs.RowLemmas.{row-predicted, row-read, row-uncoded}
 use Rattle.jbig2_writer.proofs.decisions.push_row.Goals as goal
 
 pub returns-then-not-coding-clause-row : goal.returns-then-not-coding-clause-row
