@@ -10,13 +10,13 @@
 #include <stdlib.h>
 #include <string.h>
 
-const char standard_input[] = "standard input";
+bool is_standard_input(const char *word) { return strcmp(word, "-") == 0; }
 
-const char *shown_name(const char *name) { return strcmp(name, "-") == 0 ? standard_input : name; }
+const char *shown_name(const char *word) { return is_standard_input(word) ? "standard input" : word; }
 
-bool read_input(const char *name, struct bytes *bytes) {
-    bool is_standard = strcmp(name, "-") == 0;
-    FILE *file = is_standard ? stdin : fopen(name, "rb");
+bool read_input(const char *word, struct bytes *bytes) {
+    bool is_standard = is_standard_input(word);
+    FILE *file = is_standard ? stdin : fopen(word, "rb");
     *bytes = (struct bytes){NULL, 0};
     if (file == NULL)
         return false;
