@@ -25,5 +25,7 @@ enum kind { KIND_FILE, KIND_PDF, KIND_EMBEDDED, KIND_GLOBALS, KIND_UNKNOWN };
 enum kind kind_of(const struct bytes *bytes);
 /* What bytes of a kind are, or of an unknown one what they look like. */
 const char *name_of_kind(enum kind kind, const struct bytes *bytes);
+/* What bytes of an unknown kind look like, or NULL. */
+const char *look_of(const struct bytes *bytes);
 
 #endif
