@@ -6,6 +6,9 @@
  * written is as it was. Only a call that draws changes its context all the same (hayro_jbig2_page_draw). No call reads
  * or writes anything outside of what it is handed, and each call returns.
  *
+ * Some are a few lines of C over proved calls, which are tested: hayro_jbig2_page_new, hayro_jbig2_page_new_salvaged,
+ * hayro_jbig2_file_get_infos and those that free a handle. hayro_jbig2_version and hayro_jbig2_error_text are C alone.
+ *
  * The calls on bytes take memory by malloc and give it back by free before they return. They store nothing, so several
  * threads may call at once. The calls on handles store what they make until it is freed; they come last here.
  *
@@ -316,7 +319,8 @@ uint32_t hayro_jbig2_segment_get_info(const hayro_jbig2_memory *memory, bool str
 uint32_t hayro_jbig2_segment_get_references(const hayro_jbig2_memory *memory, bool strict, const uint8_t *bytes,
                                             size_t length, uint32_t *numbers, size_t count);
 /* Writes how many bytes its header and the data after it take together, also where their length is unknown. Returns
- * HAYRO_JBIG2_PARSE_UNEXPECTED_EOF where the bytes end before it does. */
+ * HAYRO_JBIG2_PARSE_UNEXPECTED_EOF where the bytes end before it does, and HAYRO_JBIG2_SEGMENT_MISSING_END_MARKER where
+ * nothing says where data of unknown length end. */
 uint32_t hayro_jbig2_segment_get_length(const hayro_jbig2_memory *memory, bool strict, const uint8_t *bytes,
                                         size_t length, size_t *taken);
 
@@ -341,9 +345,9 @@ typedef struct hayro_jbig2_write_settings {
     bool mmr; /* MMR data (T.6) in place of the arithmetic coder: template_number and typical are then not looked at */
 } hayro_jbig2_write_settings;
 
-/* Writes packed rows as an embedded page, the bytes of a /JBIG2Decode stream that has no globals. A handle holds them.
- * Returns HAYRO_JBIG2_NO_SUCH_TEMPLATE, HAYRO_JBIG2_OTHER_SIZE where rows_length is not that of the width and the height,
- * or HAYRO_JBIG2_INVALID_SIDES, by the first of these that is so. */
+/* Writes packed rows as an embedded page, the bytes of a /JBIG2Decode stream that has no globals, or as a file. A handle
+ * holds these bytes. Returns HAYRO_JBIG2_NO_SUCH_TEMPLATE, HAYRO_JBIG2_OTHER_SIZE where rows_length is not that of the
+ * width and the height, or HAYRO_JBIG2_INVALID_SIDES, by the first of these that is so. */
 uint32_t hayro_jbig2_written_new(const hayro_jbig2_memory *memory, const uint8_t *rows, size_t rows_length,
                                  uint32_t width, uint32_t height, const hayro_jbig2_write_settings *settings,
                                  hayro_jbig2_written **written);
@@ -352,8 +356,7 @@ size_t hayro_jbig2_written_length(hayro_jbig2_written *written);
 uint32_t hayro_jbig2_written_bytes(hayro_jbig2_written *written, uint8_t *bytes, size_t length);
 void hayro_jbig2_written_free(hayro_jbig2_written *written);
 
-/* A text for what a call returned, never null and never to be freed. This call and
- * hayro_jbig2_version are written in C. */
+/* A text for what a call returned, never null and never to be freed. */
 const char *hayro_jbig2_error_text(uint32_t answer);
 
 #ifdef __cplusplus

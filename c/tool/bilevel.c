@@ -49,13 +49,15 @@ bool read_bilevels(const struct bytes *bytes, const struct taker *taker, struct 
         size_t length;
         bool (*read)(const struct bytes *, const struct taker *, struct text *);
     } formats[] = {
-        {"\x89PNG", 4, read_png}, {"II*\0", 4, read_tiff}, {"MM\0*", 4, read_tiff},
-        {"P1", 2, read_pbm},      {"P4", 2, read_pbm},
+        {"\x89PNG", 4, read_png}, {"II*\0", 4, read_tiff}, {"MM\0*", 4, read_tiff}, {"II+\0", 4, read_tiff},
+        {"MM\0+", 4, read_tiff},  {"P1", 2, read_pbm},     {"P4", 2, read_pbm},
     };
     for (size_t i = 0; i < sizeof formats / sizeof *formats; i++)
         if (bytes->length >= formats[i].length && memcmp(bytes->at, formats[i].beginning, formats[i].length) == 0)
             return formats[i].read(bytes, taker, reason);
     enum kind kind = kind_of(bytes);
-    add_text(reason, "this is %s; write takes PNG, TIFF and PBM (P1 or P4)", name_of_kind(kind, bytes));
+    const char *name = kind == KIND_UNKNOWN ? look_of(bytes) : name_of_kind(kind, bytes);
+    add_text(reason, "this is %s; write takes PNG, TIFF and PBM (P1 or P4)",
+             name != NULL ? name : "nothing that this program knows");
     return false;
 }

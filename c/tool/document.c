@@ -61,10 +61,11 @@ static enum status refuse(const struct document *document, struct text *messages
     return NOT_DONE;
 }
 
-enum status open_document(struct document *document, const char *name, struct bytes bytes, struct globals *globals,
+enum status open_document(struct document *document, const char *word, struct bytes bytes, struct globals *globals,
                           const char *password, struct text *messages) {
     struct reading reading = document->reading;
-    *document = (struct document){.name = name, .kind = kind_of(&bytes), .reading = reading, .bytes = bytes};
+    *document = (struct document){.word = word, .name = shown_name(word), .reading = reading, .bytes = bytes};
+    document->kind = kind_of(&bytes);
     pthread_mutex_init(&document->lock, NULL);
     switch (document->kind) {
     case KIND_FILE:

@@ -65,7 +65,8 @@ struct reader {
 };
 
 struct document {
-    const char *name;
+    const char *word; /* that names it */
+    const char *name; /* as messages name it */
     enum kind kind;
     struct reading reading;
     struct bytes bytes;
@@ -87,9 +88,9 @@ struct document {
     struct pdf *pdf;
 };
 
-/* Opens an input. It takes over the bytes. `globals` is what an embedded page needs besides, or NULL; it takes them
+/* Opens an input by its word. It takes over the bytes. `globals` is what an embedded page needs besides, or NULL; it takes them
  * over too unless they are of several files. Where it can't be opened, a line of messages says why. */
-enum status open_document(struct document *document, const char *name, struct bytes bytes, struct globals *globals,
+enum status open_document(struct document *document, const char *word, struct bytes bytes, struct globals *globals,
                           const char *password, struct text *messages);
 void close_document(struct document *document);
 void add_globals(struct document *document, struct globals *globals);

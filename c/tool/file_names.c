@@ -39,10 +39,9 @@ static int digits_of(size_t number) {
 }
 
 /* The last part of an input's name without its ending. */
-static void add_stem(struct text *text, const char *name) {
+static void add_stem(struct text *text, const char *input) {
+    const char *name = is_standard_input(input) ? "stdin" : input;
     const char *slash = strrchr(name, '/'), *base = slash != NULL ? slash + 1 : name, *dot = strrchr(base, '.');
-    if (name == standard_input)
-        base = "stdin";
     add_bytes(text, base, dot != NULL && dot > base ? (size_t)(dot - base) : strlen(base));
 }
 
@@ -68,7 +67,7 @@ char *file_name_of_picture(const struct words *words, const char *input, size_t 
 
 char *file_name_of_page(const struct words *words, const struct document *document, size_t index) {
     const struct image *image = &document->images[index];
-    struct text name = beginning_of_name(words, document->name);
+    struct text name = beginning_of_name(words, document->word);
     if (document->count > 1)
         add_text(&name, "-%0*zu", digits_of(document->pages), image->page);
     if (image->all > 1)

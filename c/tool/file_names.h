@@ -10,7 +10,8 @@ bool has_single_output(const struct words *words, const char **name);
 bool make_folder(const struct words *words, struct text *reason);
 /* The name for a page's own file; to be freed. */
 char *file_name_of_page(const struct words *words, const struct document *document, size_t index);
-/* The name for what is written of an input's picture, by its number from 1 and how many there are; to be freed. */
+/* The name for what is written of a picture, by the word for its input, its number from 1 and how many there are; to be
+ * freed. */
 char *file_name_of_picture(const struct words *words, const char *input, size_t number, size_t all);
 
 /* The names that were given out, so that no page is written over another of the same run. */

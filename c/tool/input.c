@@ -10,13 +10,13 @@
 #include <stdlib.h>
 #include <string.h>
 
-const char standard_input[] = "standard input";
+bool is_standard_input(const char *word) { return strcmp(word, "-") == 0; }
 
-const char *shown_name(const char *name) { return strcmp(name, "-") == 0 ? standard_input : name; }
+const char *shown_name(const char *word) { return is_standard_input(word) ? "standard input" : word; }
 
-bool read_input(const char *name, struct bytes *bytes) {
-    bool is_standard = strcmp(name, "-") == 0;
-    FILE *file = is_standard ? stdin : fopen(name, "rb");
+bool read_input(const char *word, struct bytes *bytes) {
+    bool is_standard = is_standard_input(word);
+    FILE *file = is_standard ? stdin : fopen(word, "rb");
     *bytes = (struct bytes){NULL, 0};
     if (file == NULL)
         return false;
@@ -97,12 +97,16 @@ static const char *name_of_other_format(const struct bytes *bytes) {
         {"\xFF\xD8\xFF", 3, "a JPEG picture"},
         {"II*\0", 4, "a TIFF picture"},
         {"MM\0*", 4, "a TIFF picture"},
+        {"II+\0", 4, "a BigTIFF picture"},
+        {"MM\0+", 4, "a BigTIFF picture"},
         {"GIF8", 4, "a GIF picture"},
         {"AT&TFORM", 8, "a DjVu file"},
         {"PK\3\4", 4, "a ZIP archive"},
         {"\x1F\x8B", 2, "a file that gzip packed"},
         {"%!PS", 4, "a PostScript file"},
         {"P4", 2, "a PBM picture"},
+        {"P5", 2, "a PGM picture"},
+        {"P6", 2, "a PPM picture"},
         {"\0\0\0\x0CjP", 6, "a JPEG 2000 picture"},
     };
     if (bytes->length == 0)
@@ -121,7 +125,7 @@ enum kind kind_of(const struct bytes *bytes) {
     return name_of_other_format(bytes) != NULL ? KIND_UNKNOWN : kind_of_segments(bytes);
 }
 
-static const char *name_of_unknown(const struct bytes *bytes) {
+const char *look_of(const struct bytes *bytes) {
     const char *name = name_of_other_format(bytes);
     struct segment_list list;
     if (name != NULL)
@@ -131,10 +135,11 @@ static const char *name_of_unknown(const struct bytes *bytes) {
     free_segments(&list);
     if (has_segments)
         return "segments of JBIG2 without a page information";
-    return is_text(bytes) ? "text" : "no segment of JBIG2 at its start";
+    return is_text(bytes) ? "text" : NULL;
 }
 
 const char *name_of_kind(enum kind kind, const struct bytes *bytes) {
+    const char *look;
     switch (kind) {
     case KIND_FILE:
         return "a JBIG2 file";
@@ -145,6 +150,7 @@ const char *name_of_kind(enum kind kind, const struct bytes *bytes) {
     case KIND_GLOBALS:
         return "globals";
     default:
-        return name_of_unknown(bytes);
+        look = look_of(bytes);
+        return look != NULL ? look : "no segment of JBIG2 at its start";
     }
 }

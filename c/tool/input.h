@@ -11,13 +11,13 @@ struct bytes {
     size_t length;
 };
 
-/* What messages call standard input. A file may have this name too, so who wants to know compares the addresses. */
-extern const char standard_input[];
-/* An input as messages name it: standard input for "-". */
-const char *shown_name(const char *name);
+/* Whether a word for an input names standard input: "-". A file of that name is "./-". */
+bool is_standard_input(const char *word);
+/* An input as messages name it. */
+const char *shown_name(const char *word);
 
-/* Reads a file, or standard input where its name is "-". False with errno set where it can't be read. */
-bool read_input(const char *name, struct bytes *bytes);
+/* Reads a file or standard input. False with errno set where it can't be read. */
+bool read_input(const char *word, struct bytes *bytes);
 void free_bytes(struct bytes *bytes);
 
 enum kind { KIND_FILE, KIND_PDF, KIND_EMBEDDED, KIND_GLOBALS, KIND_UNKNOWN };
@@ -25,5 +25,7 @@ enum kind { KIND_FILE, KIND_PDF, KIND_EMBEDDED, KIND_GLOBALS, KIND_UNKNOWN };
 enum kind kind_of(const struct bytes *bytes);
 /* What bytes of a kind are, or of an unknown one what they look like. */
 const char *name_of_kind(enum kind kind, const struct bytes *bytes);
+/* What bytes of an unknown kind look like, or NULL. */
+const char *look_of(const struct bytes *bytes);
 
 #endif

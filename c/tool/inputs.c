@@ -7,10 +7,10 @@
 #include <errno.h>
 #include <string.h>
 
-static bool read_or_say(const char *name, struct bytes *bytes, struct text *messages) {
-    bool is_read = read_input(name, bytes);
+static bool read_or_say(const char *word, struct bytes *bytes, struct text *messages) {
+    bool is_read = read_input(word, bytes);
     if (!is_read)
-        add_text(messages, "%s: can't be read: %s\n", shown_name(name), strerror(errno));
+        add_text(messages, "%s: can't be read: %s\n", shown_name(word), strerror(errno));
     return is_read;
 }
 
@@ -42,10 +42,10 @@ void close_inputs(struct inputs *inputs) {
     free_bytes(&inputs->ahead);
 }
 
-static bool read_next(struct inputs *inputs, struct bytes *bytes, const char **name, struct text *messages) {
-    *name = inputs->words->inputs[inputs->next++];
+static bool read_next(struct inputs *inputs, struct bytes *bytes, const char **word, struct text *messages) {
+    *word = inputs->words->inputs[inputs->next++];
     if (!inputs->has_ahead)
-        return read_or_say(*name, bytes, messages);
+        return read_or_say(*word, bytes, messages);
     inputs->has_ahead = false;
     *bytes = inputs->ahead;
     inputs->ahead = (struct bytes){NULL, 0};
@@ -84,11 +84,11 @@ static bool are_for_all(struct inputs *inputs, const struct bytes *bytes) {
 enum opened next_document(struct inputs *inputs, struct document *document, struct text *messages,
                           enum status *status) {
     struct bytes bytes;
-    const char *name;
+    const char *word;
     *status = NOT_DONE;
     if (inputs->next == inputs->words->input_count)
         return NO_INPUT;
-    if (!read_next(inputs, &bytes, &name, messages))
+    if (!read_next(inputs, &bytes, &word, messages))
         return NOT_READ;
     if (are_for_all(inputs, &bytes)) {
         take_for_all(inputs, bytes);
@@ -96,7 +96,7 @@ enum opened next_document(struct inputs *inputs, struct document *document, stru
     }
     struct globals *globals = globals_of_next(inputs, &bytes);
     document->reading = inputs->words->reading;
-    *status = open_document(document, shown_name(name), bytes, globals, inputs->words->password, messages);
+    *status = open_document(document, word, bytes, globals, inputs->words->password, messages);
     return *status == ALL_WHOLE || *status == INCOMPLETE ? OPENED : REFUSED;
 }
 

@@ -76,8 +76,10 @@ static void take_row(png_structp png, png_infop info, struct reading_png *readin
 static void take_rows(png_structp png, png_infop info, struct reading_png *reading) {
     uint32_t height = reading->image.height;
     bool is_interlaced = png_get_interlace_type(png, info) != PNG_INTERLACE_NONE;
-    size_t size = png_get_rowbytes(png, info);
-    reading->pixels = room_for(is_interlaced ? size * height : size);
+    size_t size = png_get_rowbytes(png, info), rows_at_once = is_interlaced ? height : 1;
+    if (size > SIZE_MAX / rows_at_once)
+        end_without_memory();
+    reading->pixels = room_for(size * rows_at_once);
     if (is_interlaced) {
         reading->rows = room_for(height * sizeof *reading->rows);
         for (uint32_t y = 0; y < height; y++)
@@ -113,6 +115,8 @@ bool read_png(const struct bytes *bytes, const struct taker *taker, struct text 
     png_structp png = png_create_read_struct(PNG_LIBPNG_VER_STRING, &reading, note_error, ignore_warning);
     png_infop info = png != NULL ? png_create_info_struct(png) : NULL;
     bool is_read = info != NULL && read_by_libpng(png, info, &reading) && hand_over(taker, &reading.image, reason);
+    if (info == NULL && reason->length == 0)
+        add_text(reason, "libpng can't be used, for want of memory or since it is of another version");
     free(reading.image.rows);
     free(reading.rows);
     free(reading.pixels);

@@ -5,6 +5,7 @@
 
 #ifdef HAVE_TIFF
 
+#include <stdarg.h>
 #include <stdlib.h>
 #include <string.h>
 #include <tiffio.h>
@@ -12,12 +13,22 @@
 /* The bytes of a TIFF file, as libtiff reads them. */
 struct place {
     const struct bytes *bytes;
-    size_t at;
+    uint64_t at;
+    bool has_fault; /* libtiff said something since this was false */
 };
+
+/* Some decoders of libtiff go on after damage, with white pixels or others, and only say so, as an error or as a warning.
+ * There is one warning that tells of no damage: LZW as programs wrote it long ago. */
+static void note_fault(thandle_t handle, const char *module, const char *format, va_list arguments) {
+    struct place *place = handle;
+    (void)format, (void)arguments;
+    if (place != NULL && (module == NULL || strcmp(module, "LZWPreDecode") != 0))
+        place->has_fault = true;
+}
 
 static tmsize_t give_bytes(thandle_t handle, void *room, tmsize_t count) {
     struct place *place = handle;
-    size_t left = place->at < place->bytes->length ? place->bytes->length - place->at : 0;
+    size_t left = place->at < place->bytes->length ? place->bytes->length - (size_t)place->at : 0;
     size_t taken = (size_t)count < left ? (size_t)count : left;
     if (taken > 0)
         memcpy(room, place->bytes->at + place->at, taken);
@@ -32,7 +43,7 @@ static tmsize_t take_none(thandle_t handle, void *bytes, tmsize_t count) {
 
 static toff_t go_to(thandle_t handle, toff_t offset, int from) {
     struct place *place = handle;
-    place->at = (size_t)offset + (from == SEEK_CUR ? place->at : from == SEEK_END ? place->bytes->length : 0);
+    place->at = offset + (from == SEEK_CUR ? place->at : from == SEEK_END ? place->bytes->length : 0);
     return place->at;
 }
 
@@ -55,11 +66,14 @@ static uint32_t resolution_of(TIFF *tiff, uint32_t tag) {
 
 /* False with a reason where `write` doesn't take a page. */
 static bool is_taken(TIFF *tiff, uint16_t depth, uint16_t photometric, struct text *reason) {
-    uint16_t samples = 1, orientation = ORIENTATION_TOPLEFT;
+    uint16_t samples = 1, orientation = ORIENTATION_TOPLEFT, coding = COMPRESSION_NONE;
     TIFFGetFieldDefaulted(tiff, TIFFTAG_SAMPLESPERPIXEL, &samples);
     TIFFGetFieldDefaulted(tiff, TIFFTAG_ORIENTATION, &orientation);
+    TIFFGetFieldDefaulted(tiff, TIFFTAG_COMPRESSION, &coding);
     bool is_gray = photometric == PHOTOMETRIC_MINISBLACK || photometric == PHOTOMETRIC_MINISWHITE;
-    if (samples != 1 || !is_gray)
+    if (samples == 2 && is_gray)
+        add_not_bilevel(reason, "the picture has transparent pixels");
+    else if (samples != 1 || !is_gray)
         add_not_bilevel(reason, "the picture has colours");
     else if (depth != 1 && depth != 8)
         add_not_bilevel(reason, "its pixels have neither one bit nor eight");
@@ -67,6 +81,8 @@ static bool is_taken(TIFF *tiff, uint16_t depth, uint16_t photometric, struct te
         add_text(reason, "the picture is in tiles; write takes TIFF in strips alone");
     else if (orientation != ORIENTATION_TOPLEFT)
         add_text(reason, "the picture is turned (Orientation); write takes it upright alone");
+    else if (!TIFFIsCODECConfigured(coding))
+        add_text(reason, "libtiff doesn't know here how the picture is coded (Compression %u)", (unsigned)coding);
     return reason->length == 0;
 }
 
@@ -84,9 +100,11 @@ static bool take_row(struct bilevel *image, uint32_t y, uint8_t *row, uint16_t d
 }
 
 static bool read_rows_of(TIFF *tiff, struct bilevel *image, uint16_t depth, bool is_inverted, struct text *reason) {
+    struct place *place = TIFFClientdata(tiff);
     uint8_t *row = room_for((size_t)TIFFScanlineSize(tiff));
+    place->has_fault = false;
     for (uint32_t y = 0; y < image->height && reason->length == 0; y++)
-        if (TIFFReadScanline(tiff, row, y, 0) != 1)
+        if (TIFFReadScanline(tiff, row, y, 0) != 1 || place->has_fault)
             add_text(reason, "the TIFF picture is damaged at row %lu", (unsigned long)y);
         else if (!take_row(image, y, row, depth, is_inverted))
             add_not_bilevel(reason, "the picture has shades of gray");
@@ -107,9 +125,11 @@ static bool read_page(TIFF *tiff, struct bilevel *image, struct text *reason) {
 }
 
 bool read_tiff(const struct bytes *bytes, const struct taker *taker, struct text *reason) {
-    struct place place = {bytes, 0};
+    struct place place = {bytes, 0, false};
     TIFFSetErrorHandler(NULL);
     TIFFSetWarningHandler(NULL);
+    TIFFSetErrorHandlerExt(note_fault);
+    TIFFSetWarningHandlerExt(note_fault);
     TIFF *tiff =
         TIFFClientOpen("picture.tiff", "rm", &place, give_bytes, take_none, go_to, close_nothing, size_of, NULL, NULL);
     bool is_there = tiff != NULL, is_read = false;

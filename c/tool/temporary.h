@@ -4,8 +4,8 @@
 
 #include <stdio.h>
 
-/* Makes a file beside `name`, with the mode of that where it is there, or returns NULL with errno. Where it is made, `*temporary` is its name, which stays until
- * one of the next two calls. */
+/* Makes a file beside `name`, with the mode of that where it is there, or returns NULL with errno. Where it is made,
+ * `*temporary` is its name, which stays until one of the next two calls. */
 FILE *open_temporary(const char *name, const char **temporary);
 /* The file has its name. */
 void forget_temporary(const char **temporary);

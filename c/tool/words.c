@@ -316,11 +316,11 @@ static enum request check_format(struct words *words) {
 }
 
 static enum request check_words(struct words *words) {
-    size_t standard_inputs = words->globals != NULL && strcmp(words->globals, "-") == 0;
+    size_t standard_inputs = words->globals != NULL && is_standard_input(words->globals);
     if (words->input_count == 0)
         return wrong("name a file", NULL);
     for (size_t i = 0; i < words->input_count; i++)
-        standard_inputs += strcmp(words->inputs[i], "-") == 0;
+        standard_inputs += is_standard_input(words->inputs[i]);
     if (standard_inputs > 1)
         return wrong("standard input can be read once", NULL);
     if (words->command == INFO && (words->output != NULL || words->has_format))
@@ -329,7 +329,7 @@ static enum request check_words(struct words *words) {
         return wrong("--json is for info", NULL);
     if (foreign_option(words) != 0)
         return wrong_use(foreign_option(words), words->command == WRITE);
-    if (words->output == NULL && words->input_count == 1 && strcmp(words->inputs[0], "-") == 0)
+    if (words->output == NULL && words->input_count == 1 && is_standard_input(words->inputs[0]))
         words->output = "-";
     enum request request = check_format(words);
     if (request != GO_ON)

@@ -111,7 +111,7 @@ static bool write_own_file(struct writing *writing, const char *input, const str
     const struct page *page = &pages->at[index];
     if (writing->is_single)
         return write_file(writing, writing->single_name, page, reason);
-    char *name = file_name_of_picture(writing->words, shown_name(input), index + 1, pages->count);
+    char *name = file_name_of_picture(writing->words, input, index + 1, pages->count);
     if (add_name(&writing->names, name))
         return write_file(writing, name, page, reason);
     add_text(reason, "%s: picture %zu: another of this run has the name of its file", shown_name(input), index + 1);
@@ -147,11 +147,14 @@ static bool has_place_for(const struct writing *writing, const struct pages *pag
     return false;
 }
 
-/* Says which input has the fault. */
-static void name_input(const char *name, struct text *reason) {
+/* Says which input has the fault, and which of its pictures if it is a later one. */
+static void name_input(const char *name, size_t number, struct text *reason) {
     struct text fault = *reason;
     *reason = (struct text){NULL, 0, 0};
-    add_text(reason, "%s: %s", shown_name(name), fault.at);
+    add_text(reason, "%s: ", shown_name(name));
+    if (number > 1)
+        add_text(reason, "picture %zu: ", number);
+    add_text(reason, "%s", fault.at);
     free_text(&fault);
 }
 
@@ -161,19 +164,33 @@ static bool read_pages(const struct writing *writing, const char *name, struct p
     bool is_read = read_input(name, &bytes);
     if (!is_read)
         add_text(reason, "%s", strerror(errno));
-    is_read = is_read && read_bilevels(&bytes, &taker, reason) && has_place_for(writing, pages, reason);
-    if (!is_read)
-        name_input(name, reason);
+    is_read = is_read && read_bilevels(&bytes, &taker, reason);
+    bool has_place = is_read && has_place_for(writing, pages, reason);
+    if (!has_place)
+        name_input(name, is_read ? 1 : pages->count + 1, reason);
     free_bytes(&bytes);
-    return is_read;
+    return has_place;
 }
 
-static bool write_input(struct writing *writing, const char *name, struct text *reason) {
+/* Says why something wasn't done. */
+static bool or_said(bool is_done, struct text *reason) {
+    if (!is_done)
+        complain("%s", reason->at);
+    free_text(reason);
+    return is_done;
+}
+
+/* A PDF file ends with the first page that it can't get. Of files of their own each is tried. */
+static bool write_input(struct writing *writing, const char *name) {
     struct pages pages = {writing, NULL, 0};
-    bool is_written = read_pages(writing, name, &pages, reason);
-    for (size_t i = 0; i < pages.count && is_written; i++)
-        is_written = is_one_pdf(writing) ? add_page(writing, &pages.at[i], reason)
-                                         : write_own_file(writing, name, &pages, i, reason);
+    struct text reason = {NULL, 0, 0};
+    bool is_written = or_said(read_pages(writing, name, &pages, &reason), &reason), goes_on = is_written;
+    for (size_t i = 0; i < pages.count && goes_on; i++) {
+        bool is_done = is_one_pdf(writing) ? add_page(writing, &pages.at[i], &reason)
+                                           : write_own_file(writing, name, &pages, i, &reason);
+        is_written = or_said(is_done, &reason) && is_written;
+        goes_on = is_done || !is_one_pdf(writing);
+    }
     free_pages(&pages);
     return is_written;
 }
@@ -184,35 +201,31 @@ static enum status finish_pdf(struct writing *writing, enum status status) {
     if (!writing->is_pdf_open)
         return status;
     bool is_written = status == ALL_WHOLE;
-    if (is_written && !end_pdf(&writing->pdf))
-        is_written = fail_by_system(&writing->output, &reason);
+    if (is_written)
+        is_written = or_said(end_pdf(&writing->pdf) || fail_by_system(&writing->output, &reason), &reason);
     free_pdf(&writing->pdf);
     if (is_written)
-        is_written = finish_output(&writing->output, &reason);
+        is_written = or_said(finish_output(&writing->output, &reason), &reason);
     else
         abandon_output(&writing->output);
-    if (reason.length > 0)
-        complain("%s", reason.at);
-    free_text(&reason);
     return is_written ? ALL_WHOLE : NOT_DONE;
 }
 
-enum status write_all(const struct words *words) {
+static enum status write_inputs(const struct words *words) {
     struct writing writing = {.words = words};
-    struct text messages = {NULL, 0, 0};
-    enum status status = make_folder(words, &messages) ? ALL_WHOLE : NOT_DONE;
+    enum status status = ALL_WHOLE;
     writing.is_single = has_single_output(words, &writing.single_name);
-    print_messages(&messages);
-    free_text(&messages);
-    for (size_t i = 0; i < words->input_count && (status == ALL_WHOLE || !is_one_pdf(&writing)); i++) {
-        const char *name = words->inputs[i];
-        struct text reason = {NULL, 0, 0};
-        if (!write_input(&writing, name, &reason)) {
-            complain("%s", reason.at);
+    for (size_t i = 0; i < words->input_count && (status == ALL_WHOLE || !is_one_pdf(&writing)); i++)
+        if (!write_input(&writing, words->inputs[i]))
             status = NOT_DONE;
-        }
-        free_text(&reason);
-    }
     free_names(&writing.names);
     return finish_pdf(&writing, status);
+}
+
+enum status write_all(const struct words *words) {
+    struct text messages = {NULL, 0, 0};
+    enum status status = make_folder(words, &messages) ? write_inputs(words) : NOT_DONE;
+    print_messages(&messages);
+    free_text(&messages);
+    return status;
 }

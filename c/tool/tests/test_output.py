@@ -272,6 +272,16 @@ class Output(Case):
         self.assert_ends(ended, NOT_DONE, "bbb.pbm: File name too long")
         self.assertEqual(len(self.files()), 3)
 
+    def test_a_long_name_is_cut_between_two_characters(self):
+        """Some file systems take no parts of characters."""
+        words = [TOOL, str(EXAMPLE), "-", "-o", "a" + "\u00e4" * 100 + ".pbm"]
+        with subprocess.Popen(words, cwd=self.room, stdin=subprocess.PIPE) as process:
+            wait_until(self.files, process)
+            [part] = self.files()
+            process.communicate(BOOK)
+        self.assertRegex(part, "^a\u00e4+\\.part-......$")
+        self.assertEqual((process.returncode, len(self.files())), (WHOLE, 1))
+
     def test_a_folder_in_the_place_of_a_file(self):
         (self.room / "scan-1.pbm").mkdir()
         self.made(BOOK)

@@ -9,7 +9,7 @@ from support import BARE, BOOK, COUNTED, EXAMPLE, INCOMPLETE, NOT_DONE, ROOT, WH
 
 VERSION = re.search(r'HAYRO_JBIG2_VERSION "(.*)"', (ROOT / "c" / "hayro_jbig2.h").read_text())[1]
 LONG_OPTIONS = """output format force pages strict salvage globals password work memory jobs json quiet help
-    version coding template no-typical embedded dpi""".split()
+    version coding template typical no-typical embedded dpi""".split()
 
 
 class Words(Case):
@@ -94,6 +94,8 @@ class Words(Case):
             b"Dear Sirs": "text",
             b"\x89PNG\r\n\x1a\n": "a PNG picture",
             b"II*\0" + bytes(20): "a TIFF picture",
+            b"MM\0+" + bytes(20): "a BigTIFF picture",
+            b"P5 1 1 255\n\0": "a PGM picture",
             b"\x97JB2\n\x1a\n" + BOOK[8:]: "damaged, perhaps by a transfer as text",
             b"\x1f\x8b" + bytes(20): "gzip",
             bytes(range(255, 200, -1)): "no segment of JBIG2 at its start",

@@ -11,7 +11,7 @@ import subprocess
 import unittest
 import zlib
 
-from support import BARE, BOOK, HAS_PDF, HAS_PNG, HAS_TIFF, NOT_DONE, PNG, SANITIZED, WHOLE, WRONG_WORDS
+from support import BARE, BOOK, HAS_PDF, HAS_PNG, NOT_DONE, PNG, SANITIZED, WHOLE, WRONG_WORDS
 from support import Case, Picture, of_numbers, pictures_of
 
 INCH = 0.0254
@@ -55,24 +55,16 @@ def png(picture: Picture, depth: int = 1, kind: int = 0, shades=(0, None), chunk
     return PNG + chunk(b"IHDR", header) + chunks + chunk(b"IDAT", zlib.compress(data)) + chunk(b"IEND", b"")
 
 
-def tiff(picture: Picture, **others: int) -> bytes:
-    """A TIFF picture of one bit for each pixel, with other numbers for some of its fields."""
-    fields = {"width": 256, "height": 257, "depth": 258, "coding": 259, "photometric": 262, "place": 273}
-    fields |= {"orientation": 274, "samples": 277, "strip": 278, "size": 279, "tile": 322, "tile_height": 323}
-    fields |= {"tile_place": 324, "tile_size": 325}
-    numbers = {"width": picture.width, "height": picture.height, "depth": 1, "coding": 1, "photometric": 0, "place": 8}
-    numbers |= {"samples": 1, "strip": picture.height, "size": len(picture.rows), **others}
-    listed = sorted((fields[name], number) for name, number in numbers.items())
-    data = b"II*\0" + struct.pack("<I", 8 + len(picture.rows)) + picture.rows + struct.pack("<H", len(listed))
-    return data + b"".join(struct.pack("<HHII", field, 4, 1, number) for field, number in listed) + bytes(4)
+class WritingCase(Case):
+    """A test that reads back what was written."""
 
-
-class Writing(Case):
     def read_back(self, name: str) -> list[Picture]:
         """The pages of what was written, by the command itself, which draws what the proved program does."""
         self.assert_ends(self.run_here(name, "--strict", "-f", "pbm", "-o", "back.pbm", "--force"), WHOLE)
         return pictures_of((self.room / "back.pbm").read_bytes())
 
+
+class Writing(WritingCase):
     def test_pages_read_back(self):
         for number, (width, height) in enumerate([(1, 1), (7, 3), (64, 64), (65, 9), (200, 77)]):
             picture = noise(width, height, number)
@@ -165,9 +157,12 @@ class Writing(Case):
             self.assert_ends(self.run_here("write", f"{name}.pbm", "-o", f"{name}.pdf"), WHOLE)
             if HAS_PDF:
                 self.assertEqual(self.read_back(f"{name}.pdf"), [picture] * (1 + (name == "two")))
-        for data in b"P4\n8 8\n1234567", b"P4\n8\n", b"P1\n2 2\n0 1 0", b"P1\n2 2\n0 1 0 2", b"P4 8 1\nx P5":
+        for data in b"P4\n8 8\n1234567", b"P4\n8\n", b"P1\n2 2\n0 1 0", b"P1\n2 2\n0 1 0 2":
             self.made(data, "bad.pbm")
-            self.assert_ends(self.run_here("write", "bad.pbm", "-o", "bad.jb2"), NOT_DONE, "bad.pbm: ")
+            self.assert_ends(self.run_here("write", "bad.pbm", "-o", "bad.jb2"), NOT_DONE, "bad.pbm: the ")
+        self.made(b"P4 8 1\nx P5", "bad.pbm")
+        said = "bad.pbm: picture 2: after a picture of PBM comes something else"
+        self.assert_ends(self.run_here("write", "bad.pbm", "-o", "bad.jb2"), NOT_DONE, said)
         for sides in b"0 8", b"8 0", b"65536 1", b"1 65536", b"99999999999999999999 1":
             self.made(b"P4 " + sides + b"\n" + bytes(70000), "bad.pbm")
             self.assert_ends(self.run_here("write", "bad.pbm", "-o", "bad.jb2"), NOT_DONE, "a page has 1 to 65535")
@@ -229,56 +224,6 @@ class Writing(Case):
         self.assert_ends(self.run_here("write", "scan.png"), WHOLE)
         self.assertEqual(self.read_back("scan.jb2"), [picture])
 
-    @unittest.skipUnless(HAS_TIFF, "built without libtiff")
-    def test_tiff(self):
-        pictures = [noise(37, 9, 2), noise(64, 5, 3), noise(8, 8, 4)]
-        self.made(b"".join(picture.pbm for picture in pictures), "all.pbm")
-        self.assert_ends(self.run_here("write", "all.pbm", "-o", "pages/"), WHOLE)
-        self.assert_ends(self.run_here("pages/all-1.jb2", "pages/all-2.jb2", "pages/all-3.jb2", "-o", "all.tiff"), WHOLE)
-        self.assert_ends(self.run_here("write", "all.tiff", "-o", "again/", "-f", "jb2e"), WHOLE)
-        for number, picture in enumerate(pictures, 1):
-            self.assertEqual(self.read_back(f"again/all-{number}.jb2e"), [picture])
-        for short in range(8, 400, 37):
-            self.made((self.room / "all.tiff").read_bytes()[:short], "bad.tiff")
-            self.assertEqual(self.run_here("write", "bad.tiff", "-o", "bad.pdf").status, NOT_DONE)
-        self.assertNotIn("bad.pdf", self.files())
-
-    @unittest.skipUnless(HAS_TIFF, "built without libtiff")
-    def test_tiff_forms(self):
-        picture = noise(16, 16)
-        self.made(tiff(picture), "scan.tiff")
-        self.assert_ends(self.run_here("write", "scan.tiff"), WHOLE)
-        self.assertEqual(self.read_back("scan.jb2"), [picture])
-        tiles = {"tile": 16, "tile_height": 16, "tile_place": 8, "tile_size": 32}
-        not_bilevel = "; write takes black and white alone, so make it bi-level first\n"
-        bad = {
-            "the picture has colours" + not_bilevel: {"photometric": 2, "samples": 3},
-            "its pixels have neither one bit nor eight" + not_bilevel: {"depth": 4},
-            "the picture is in tiles; write takes TIFF in strips alone\n": tiles,
-            "the picture is turned (Orientation); write takes it upright alone\n": {"orientation": 6},
-        }
-        for text, numbers in bad.items():
-            with self.subTest(text):
-                self.made(tiff(picture, **numbers), "bad.tiff")
-                self.assert_ends(self.run_here("write", "bad.tiff"), NOT_DONE, f"bad.tiff: {text}")
-
-    @unittest.skipUnless(HAS_TIFF, "built without libtiff")
-    def test_all_pages_need_not_fit_into_memory(self):
-        """Twenty pages of 8 MB each, whose rows are the same bytes of the file."""
-        side, count, begins = 8000, 20, 8
-        rows = zlib.compress(bytes(side * side // 8))
-        fields = {256: side, 257: side, 258: 1, 259: 8, 262: 0, 273: begins, 277: 1, 278: side, 279: len(rows)}
-        listed = b"".join(struct.pack("<HHII", field, 4, 1, number) for field, number in fields.items())
-        first, size = begins + len(rows), 2 + len(listed) + 4
-        data = b"II*\0" + struct.pack("<I", first) + rows
-        for page in range(count):
-            follower = first + (page + 1) * size if page + 1 < count else 0
-            data += struct.pack("<H", len(fields)) + listed + struct.pack("<I", follower)
-        self.made(data, "scan.tiff")
-        limit = functools.partial(resource.setrlimit, resource.RLIMIT_AS, (120 << 20, 120 << 20))
-        self.assert_ends(self.run_here("write", "scan.tiff", "-o", "scan.pdf", preexec_fn=limit), WHOLE)
-        self.assertIn(b"/Count 20 ", (self.room / "scan.pdf").read_bytes())
-
     def test_pdf_files_of_a_page(self):
         picture = noise(20, 20)
         self.made(picture.pbm, "a.pbm")
@@ -301,6 +246,9 @@ class Writing(Case):
         for name in "none/a.pdf", "none/a.jb2":
             ended = self.run_here("write", "a.pbm", "-o", name, program=SANITIZED)
             self.assertEqual((ended.status, ended.errors), (NOT_DONE, f"hayro-jbig2: {name}: No such file or directory\n"))
+        ended = self.run_here("write", "a.pbm", "gone.pbm", "-o", "none/a/", program=SANITIZED)
+        said = "none/a/: the folder can't be made: No such file or directory\n"
+        self.assertEqual((ended.status, ended.errors), (NOT_DONE, said))
 
     def test_several(self):
         picture = noise(20, 20)
@@ -325,12 +273,24 @@ class Writing(Case):
             self.assert_ends(self.run_here("write", "a.pbm", "-o", name, "--force"), WHOLE)
             self.assertNotEqual((self.room / name).read_bytes(), b"mine")
 
+    def test_each_picture_that_has_a_file_of_its_own_is_tried(self):
+        self.made(noise(20, 20).pbm * 4, "a.pbm")
+        self.made(b"mine", "a-1.jb2")
+        self.made(b"mine", "a-3.jb2")
+        said = (f"hayro-jbig2: a-{number}.jb2: is there already; --force overwrites it\n" for number in (1, 3))
+        ended = self.run_here("write", "a.pbm", program=SANITIZED)
+        self.assertEqual((ended.status, ended.errors), (NOT_DONE, "".join(said)))
+        self.assertEqual(self.files(), ["a-1.jb2", "a-2.jb2", "a-3.jb2", "a-4.jb2", "a.pbm"])
+
     def test_standard_streams(self):
         picture = noise(20, 20)
         ended = self.run_here("write", "-", input=picture.pbm)
         self.assertEqual((ended.status, ended.errors), (WHOLE, ""))
         (self.room / "a.jb2").write_bytes(ended.output)
         self.assertEqual(self.read_back("a.jb2"), [picture])
+        self.made(picture.pbm, "standard input")
+        self.assert_ends(self.run_here("write", "-", "standard input", "-o", "b/", input=picture.pbm), WHOLE)
+        self.assertEqual(sorted(path.name for path in (self.room / "b").iterdir()), ["standard input.jb2", "stdin.jb2"])
         ended = self.run_here("write", "-", "-f", "pdf", "-o", "-", input=picture.pbm)
         self.assertTrue(ended.output.startswith(b"%PDF-1.4\n") and ended.output.endswith(b"%%EOF\n"))
         ended = self.run_here("write", "-", "-o", "/dev/full", input=picture.pbm)
@@ -339,9 +299,16 @@ class Writing(Case):
         self.assertEqual((ended.status, ended.errors), (NOT_DONE, "hayro-jbig2: /dev/full: No space left on device\n"))
 
     def test_other_inputs(self):
-        for name, data, said in ("a.jb2", BOOK, "a JBIG2 file"), ("a.txt", b"words\n", "text"), ("a", b"", "an empty file"):
-            self.made(data, name)
-            self.assert_ends(self.run_here("write", name, "-o", "b.jb2"), NOT_DONE, f"{name}: this is {said}; write takes")
+        others = {
+            "a JBIG2 file": BOOK,
+            "text": b"words\n",
+            "an empty file": b"",
+            "a PGM picture": b"P5 1 1 255\n\0",
+            "nothing that this program knows": bytes(range(255, 200, -1)),
+        }
+        for said, data in others.items():
+            self.made(data, "a")
+            self.assert_ends(self.run_here("write", "a", "-o", "b.jb2"), NOT_DONE, f"a: this is {said}; write takes")
         self.assert_ends(self.run_here("write", "none.png", "-o", "b.jb2"), NOT_DONE, "none.png: No such file or directory")
 
     def test_words(self):
