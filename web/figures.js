@@ -80,7 +80,7 @@ function saveButton(page, file, name) {
   const button = made("button", { type: "button", textContent: "Save as PNG" });
   button.setAttribute("aria-label", `Save ${name} of ${file} as PNG`);
   const stem = file.replace(/\.[^.]*$/, "");
-  const picture = `${stem}-${name.replace(/ of .*|,.*/, "").replace(" ", "-")}.png`;
+  const picture = `${stem}-${name.replace(/ of .*|,.*/, "").replaceAll(" ", "-")}.png`;
   button.addEventListener("click", () => {
     save(page, picture).catch(({ message }) => button.after(made("span", { className: "lacks", textContent: `Not saved: ${message}.` })));
   });

@@ -108,6 +108,8 @@ export class OpenFile {
   private constructor();
   /** How many pages the file has. */
   readonly pageCount: number;
+  /** What was left out of the file. */
+  readonly leftOut: LeftOut;
   /**
    * Decodes a page by its index from 0.
    * @throws {WorkLimitReached | Jbig2Error | TypeError}
@@ -120,6 +122,8 @@ export class OpenFile {
 /** Globals that `Decoder.openGlobals` has read, until they are closed. */
 export class OpenGlobals {
   private constructor();
+  /** What was left out of them. */
+  readonly leftOut: LeftOut;
   /**
    * Decodes an embedded page.
    * @throws {WorkLimitReached | Jbig2Error | TypeError}

@@ -148,7 +148,7 @@ export class Decoder {
     try {
       const file = this.#newShared("file", inputs[0], reading);
       const draw = (page) => (checkIndex(page), this.#drawn("file", file, [BigInt(page)], reading));
-      const opened = new OpenFile(draw, this.#closing(file, giveBack));
+      const opened = new OpenFile(draw, () => this.#leftOut("file", file), this.#closing(file, giveBack));
       opened.pageCount = Number(this.#run("hayro_jbig2_file_page_count", file));
       return opened;
     } catch (error) {
@@ -168,7 +168,7 @@ export class Decoder {
     const reading = { strict, salvage, workLimit };
     const globals = this.#with([dataOf(bytes)], 0, ([stream]) => this.#newGlobals(stream, reading));
     const draw = (bytes) => this.#with([dataOf(bytes)], 0, ([stream]) => this.#drawnPage(stream, globals, reading));
-    return new OpenGlobals(draw, this.#closing(globals, () => {}));
+    return new OpenGlobals(draw, () => this.#leftOut("globals", globals), this.#closing(globals, () => {}));
   }
 
   /** Lets a handle stay, and returns what frees it. */

@@ -90,8 +90,9 @@ def replaced(text, old, new):
 def main():
     module = base64.b64encode((WEB / "hayro_jbig2.wasm").read_bytes()).decode()
     worker = f'const MODULE = "data:application/wasm;base64,{module}";\n{replaced(script("worker.js"), MODULE, "MODULE")}'
-    start = 'new Worker(URL.createObjectURL(new Blob([document.querySelector("#worker").textContent])))'
-    page = replaced(script("page.js"), WORKER, start)
+    # One copy of it for all workers: the browser keeps what has an address.
+    place = 'const WORKER = URL.createObjectURL(new Blob([document.querySelector("#worker").textContent]));\n'
+    page = place + replaced(script("page.js"), WORKER, "new Worker(WORKER)")
     scripts = f'<script type="text/plain" id="worker">\n"use strict";\n(async () => {{\n{escaped(worker)}}})();\n</script>\n'
     scripts += f'    <script type="module">\n{escaped(page)}</script>'
     html = POLICY.sub(rf'\1"{ALLOWED}"', read("index.html"))

@@ -2,11 +2,12 @@
 
 class Opened {
   #draw;
+  #tell;
   #close;
 
-  /** `draw` decodes a page, and `close` frees what is held for it. */
-  constructor(draw, close) {
-    [this.#draw, this.#close] = [draw, close];
+  /** `draw` decodes a page, `tell` says what was left out, and `close` frees what is held for it. */
+  constructor(draw, tell, close) {
+    [this.#draw, this.#tell, this.#close] = [draw, tell, close];
   }
 
   /**
@@ -15,8 +16,18 @@ class Opened {
    * @throws {WorkLimitReached | Jbig2Error}
    */
   decode(page) {
-    if (!this.#close) throw new Error("this is closed already");
+    this.#check();
     return this.#draw(page);
+  }
+
+  /** What reading left out, as `DecodedPage.leftOut`. */
+  get leftOut() {
+    this.#check();
+    return this.#tell();
+  }
+
+  #check() {
+    if (!this.#close) throw new Error("this is closed already");
   }
 
   /** Frees what is held. To call it again does nothing. */

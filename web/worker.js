@@ -21,22 +21,22 @@ function withHint(decode) {
   }
 }
 
-/** The pages of a file, or the images of a PDF file; and what of the file could not be read. */
+/** The pages of a file, or the images of a PDF file; what of the file could not be read; and what reading left out of it. */
 async function contentsOf(bytes, options) {
   // A JBIG2 file may have the words of a PDF file within, as in a comment.
   if (!isFile(bytes) && isPdf(bytes)) {
     const pdf = await Pdf.open(bytes);
     const shared = new SharedGlobals(decoder, options);
     const pages = pdf.images().map((number) => imageOf(pdf, number, shared));
-    return { kind: "image", pages, faults: pdf.faults, close: () => shared.close() };
+    return { kind: "image", pages, faults: pdf.faults, leftOut: () => null, close: () => shared.close() };
   }
   if (!isFile(bytes)) {
     const decode = () => withHint(() => decoder.decode(bytes, options));
-    return { kind: "embedded page", pages: [{ decode }], faults: [] };
+    return { kind: "embedded page", pages: [{ decode }], faults: [], leftOut: () => null };
   }
   const file = decoder.open(bytes, options);
   const pages = Array.from({ length: file.pageCount }, (_, index) => ({ decode: () => file.decode(index) }));
-  return { kind: "page", pages, faults: [], close: () => file.close() };
+  return { kind: "page", pages, faults: [], leftOut: () => file.leftOut, close: () => file.close() };
 }
 
 const described = (error) => (error.error ? `${error.error}: ${error.message}` : String(error.message ?? error));
@@ -60,25 +60,22 @@ function lacking({ isComplete, passedOver, leftOut: { passedOver: shared, cutOff
   return lacks.join("; ");
 }
 
-/** What a file lacks that none of its pages says, as texts. `shown` has its pages. */
-function lackingOfFile(shown) {
-  const [first] = shown;
-  if (!first) return [];
-  const { pages, firstPage, cutOff } = first.leftOut;
+/** What a file lacks that none of its pages says, as texts. `shown` says of each that is shown whether it is complete. */
+function lackingOfFile({ pages, firstPage, cutOff }, shown) {
   const lacks = pages ? [`${counted(pages, "page")} (${described(firstPage)})`] : [];
-  const isTold = shown.some(({ isComplete }) => !isComplete);
-  return cutOff && !isTold ? [...lacks, `what comes from a segment on (${faultOf(cutOff)})`] : lacks;
+  const isUntold = shown.length > 0 && !shown.includes(false);
+  return cutOff && isUntold ? [...lacks, `what comes from a segment on (${faultOf(cutOff)})`] : lacks;
 }
 
-/** Decodes a page and sends it to the page that shows it, or its error. Returns what is known of it. */
+/** Decodes a page and sends it to the page that shows it, or its error. Returns whether it is complete, or null. */
 async function show(label, decode) {
   try {
     const began = performance.now();
     const page = await decode();
     const milliseconds = performance.now() - began;
-    const { width, height, rows, isComplete, leftOut } = page;
+    const { width, height, rows, isComplete } = page;
     postMessage({ ...label, width, height, rows, milliseconds, lacks: lacking(page) }, [rows.buffer]);
-    return { isComplete, leftOut };
+    return isComplete;
   } catch (error) {
     postMessage({ ...label, error: described(error) });
     return null;
@@ -93,8 +90,8 @@ async function showPages(kind, pages) {
     const number = index + 1;
     const label = { number, count, name: `${kind} ${number} of ${count}${name ? `, ${name}` : ""}` };
     postMessage({ begins: label });
-    const page = await show(label, decode);
-    if (page) shown.push(page);
+    const isComplete = await show(label, decode);
+    if (isComplete !== null) shown.push(isComplete);
     if (decoder.isBroken && number < count) {
       postMessage({ error: `left out of this file: ${counted(count - number, kind)} after it, since the decoder stopped` });
     }
@@ -110,10 +107,12 @@ async function showFile({ bytes, salvage, isLimited }) {
     const contents = await contentsOf(bytes, { salvage, workLimit: isLimited ? null : Infinity });
     const { kind, pages, faults } = contents;
     close = contents.close;
+    // After the pages the decoder may be broken.
+    const leftOut = contents.leftOut();
     const shown = await showPages(kind, pages);
-    const lacks = kind === "page" ? lackingOfFile(shown) : [];
+    const lacks = leftOut ? lackingOfFile(leftOut, shown) : [];
     for (const fault of [...faults, ...lacks]) postMessage({ error: `left out of this file: ${fault}` });
-    if (pages.length === 0) postMessage({ error: "no JBIG2 page in this file" });
+    if (pages.length === 0 && lacks.length === 0) postMessage({ error: "no JBIG2 page in this file" });
   } catch (error) {
     postMessage({ error: described(error) });
   }

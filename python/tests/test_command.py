@@ -136,10 +136,30 @@ class Command(unittest.TestCase):
         self.assertEqual(self.run_command("-", "page-{}.pbm", "--salvage", data=pages)[0], 0)
         self.assertTrue((self.folder / "page-1.pbm").exists())
 
+    def test_a_file_without_pages(self):
+        empty = bytes.fromhex("974A42320D0A1A0A 03")
+        # A page that has no width, which salvage leaves out.
+        page = bytes.fromhex("00000000 30 00 01 00000013 00000000 00000001" + "00" * 11)
+        for data, words, said in (
+            (empty, (), "no such page"),
+            (empty, ("--salvage",), "no such page"),
+            (empty + page, (), "page has zero width or height"),
+            (empty + page, ("--salvage",), "page has zero width or height"),
+        ):
+            self.assertEqual(self.run_command("-", "page-{}.pbm", *words, data=data), (1, "", f"-: {said}\n"))
+
     def test_a_fault_of_the_globals_names_them(self):
         (self.folder / "globals").write_bytes(GLOBALS + b" " * 16)
         said = (1, "", "globals: segment refers to an invalid segment\n")
         self.assertEqual(self.run_command("text", "text.pbm", "--globals", "globals"), said)
+
+    def test_globals_and_pages_that_end_early_are_named(self):
+        (self.folder / "globals").write_bytes(GLOBALS + b"\0\0\0")
+        end = "the segments end early: unexpected end of input\n"
+        words = "-", "text.pbm", "--globals", "globals"
+        self.assertEqual(self.run_command(*words, data=TEXT), (0, "", f"globals: {end}"))
+        said = f"globals: {end}-: page 0 is incomplete: unexpected end of input\n-: {end}"
+        self.assertEqual(self.run_command(*words, data=TEXT + b"\0\0\0"), (0, "", said))
 
     def test_faults(self):
         self.assertEqual(

@@ -141,7 +141,14 @@ class Arrays(unittest.TestCase):
             self.assertEqual((again.width, again.height, again.rows), (page.width, page.height, page.rows))
 
     def test_others_are_refused(self):
-        for array in self.numpy.full((2, 2), 255), self.numpy.zeros((2, 2, 3), bool), self.numpy.zeros(4, bool):
+        others = [["0", "1"]], [[b"0", b"1"]], [[None, 1]], [[self.numpy.datetime64(0, "s")] * 2]
+        for array in (
+            self.numpy.full((2, 2), 255),
+            self.numpy.zeros((2, 2, 3), bool),
+            self.numpy.zeros(4, bool),
+            self.numpy.zeros((2, 2), [("black", bool)]),
+            *map(self.numpy.array, others),
+        ):
             with self.assertRaises(ValueError):
                 hayro_jbig2.encode(array)
         for shape in (0, 4), (4, 0), (1, 65536):

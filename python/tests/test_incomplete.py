@@ -83,6 +83,14 @@ class Incomplete(unittest.TestCase):
                 self.assertEqual((page.rows, page.left_out.cut_off), (b"\x80", None))
                 self.assertTrue(page.is_complete)
 
+    def test_globals_that_end_within_a_number(self):
+        """The last byte of the page's data is the end of a line, and stays."""
+        stream = PAGE.read_bytes() + bytes.fromhex(REGION % 2).replace(b"\0\0\0\x1a", b"\0\0\0\x1b", 1) + b"\n"
+        for how in READINGS.values():
+            page = hayro_jbig2.decode(stream, globals=GLOBALS + b"\0\0\0", **how)
+            self.assertEqual((page, page.is_complete), (hayro_jbig2.decode(stream), True))
+            self.assertIsNone(page.left_out.cut_off.segment_number)
+
     def test_symbols_that_are_not_there(self):
         for how in READINGS.values():
             page = self.decoded(TEXT, **how)

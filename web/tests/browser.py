@@ -147,6 +147,8 @@ def faults_from_a_folder(browser, folder):
     faults = []
     browser.open(page.as_uri())
     browser.wait_for('location.protocol === "file:" && document.querySelector("#choose") && !document.querySelector("#unloaded")')
+    # The worker has its place once for all files: what has one stays in memory.
+    browser.evaluate('void (URL.createObjectURL = () => { throw new Error("another copy"); })')
     drop(browser, [file])
     pages = shown(browser)
     if pages != {file.name: meant_of(folder)[file.name]}:

@@ -60,7 +60,7 @@ def faults_of_looks(browser, folder):
     faults += saved(browser, whole) + not_saved(browser)
     faults += keyboard(browser)
     shown(browser)
-    return faults + printed(browser, folder)
+    return faults + printed(browser, folder) + name_of_saved(browser, folder)
 
 
 def captions(browser):
@@ -188,6 +188,21 @@ def saved(browser, file):
           return [...data].filter((_, at) => at % 4 === 0).map((byte) => byte ? 0 : 1).join(""); })()"""
     )
     return [] if size == (64, 56) and rows == black else [f"the PNG file has another page, of {size}"]
+
+
+def name_of_saved(browser, folder):
+    """The name of a picture has no space that its file's name hasn't."""
+    page = folder / "a page.jb2"
+    page.write_bytes(TALL[13:43])
+    drop(browser, [page])
+    name = browser.evaluate(
+        """new Promise((resolve) => {
+          const link = HTMLAnchorElement.prototype, { click } = link;
+          link.click = function () { link.click = click; resolve(this.download); };
+          document.querySelector("figcaption button").click(); })"""
+    )
+    shown(browser)
+    return [] if name == "a page-embedded-page-1.png" else [f"a picture is saved as {name!r}"]
 
 
 def read_png(data):

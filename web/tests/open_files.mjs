@@ -57,10 +57,12 @@ function checkPages() {
     check(thrown(() => open.decode(3))?.error === "NO_SUCH_PAGE", "page 3");
     check(thrown(() => open.decode(-1))?.error === "NO_SUCH_PAGE", "page -1");
     for (const page of [undefined, "1", 0.5, NaN]) check(thrown(() => open.decode(page)) instanceof TypeError, `page ${page}`);
+    check(JSON.stringify(open.leftOut) === JSON.stringify(open.decode(0).leftOut), "what was left out of a file");
     open.close();
     open.close();
     check(decoder.held === 0, "a closed file holds something");
     check(/closed/.test(thrown(() => open.decode(0))?.message), "a closed file decodes");
+    check(/closed/.test(thrown(() => open.leftOut)?.message), "a closed file says what was left out");
   }
 }
 
@@ -103,6 +105,7 @@ function checkGlobals() {
   const cut = decoder.openGlobals(GLOBALS.subarray(0, -1));
   const [page, meant] = [cut.decode(TEXT), decoder.decode(TEXT, { globals: GLOBALS.subarray(0, -1) })];
   check(JSON.stringify(page.leftOut) === JSON.stringify(meant.leftOut) && !page.isComplete, "globals that are cut off");
+  check(cut.leftOut.cutOff?.error.error === "PARSE_UNEXPECTED_EOF", "what was left out of globals");
   cut.close();
   check(thrown(() => decoder.openGlobals("x")) instanceof TypeError, "a text as globals");
   check(thrown(() => decoder.openGlobals(GLOBALS, { workLimit: 1 })) instanceof WorkLimitReached, "globals have no limit");

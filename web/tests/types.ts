@@ -15,6 +15,15 @@ export async function pagesOf(bytes: ArrayBuffer): Promise<DecodedPage[]> {
   return Array.from({ length: count }, (_, page) => decoder.decode(new Uint8Array(bytes), { page, strict: true }));
 }
 
+export function pagesOfFile(decoder: Decoder, bytes: ArrayBuffer): [DecodedPage[], number] {
+  const file = decoder.open(bytes, { salvage: true });
+  try {
+    return [Array.from({ length: file.pageCount }, (_, page) => file.decode(page)), file.leftOut.pages];
+  } finally {
+    file.close();
+  }
+}
+
 export async function shown(page: DecodedPage): Promise<[ImageData, Uint8Array, string | undefined]> {
   const data = new ImageData(page.data, page.width, page.height);
   page.toRgba(data.data), page.toGray(new Uint8Array(page.width * page.height));

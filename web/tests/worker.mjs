@@ -30,10 +30,10 @@ function check(holds, name) {
 }
 
 /** What the worker says of a file. */
-async function saidOf(bytes) {
+async function saidOf(bytes, salvage = false) {
   messages = [];
   const end = new Promise((resolve) => (done = resolve));
-  globalThis.onmessage({ data: { bytes: Uint8Array.from(bytes).buffer, salvage: false, isLimited: true } });
+  globalThis.onmessage({ data: { bytes: Uint8Array.from(bytes).buffer, salvage, isLimited: true } });
   await end;
   return messages;
 }
@@ -70,6 +70,21 @@ async function checkWords() {
   check(pagesOf(said).length === 3, `a file with the words of a PDF file: ${errorsOf(said)}`);
 }
 
+/** Pages that can't begin are told, also where the file has no other ones. */
+async function checkLeftOut() {
+  const page = (number, width) => `0000000${number}30000${number}00000013${width}00000001${"00".repeat(11)}`;
+  const left = "file left out of this file: 1 page (FORMAT_EMPTY_PAGE: page has zero width or height)";
+  const cases = [
+    ["", "file no JBIG2 page in this file"],
+    [page(1, "00000000"), left],
+    [page(1, "00000008") + page(2, "00000000"), left],
+  ];
+  for (const [pages, meant] of cases) {
+    const said = await saidOf(Buffer.from(`974A42320D0A1A0A03${pages}`, "hex"), true);
+    check(String(errorsOf(said)) === meant, `pages that can't begin: ${errorsOf(said)}`);
+  }
+}
+
 async function checkTrap(name, after) {
   Object.assign(trap, { name, after });
   const said = await saidOf(example);
@@ -86,6 +101,7 @@ check(messages.some(({ isReady }) => isReady), "the worker is not ready");
 await checkReadings();
 await checkGlobals();
 await checkWords();
+await checkLeftOut();
 const said = await checkTrap("hayro_jbig2_file_draw", 1);
 check(pagesOf(said).length === 1, `${pagesOf(said).length} pages before a call that doesn't return`);
 await checkTrap("hayro_jbig2_file_new_within", 0);

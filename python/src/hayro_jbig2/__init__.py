@@ -7,8 +7,8 @@
     >>> png = page.to_png()
 
 `decode` returns one page, `pages` all pages of a file, `sizes` their sizes alone. With `salvage=True` they read what
-they can of damaged data. `python -m hayro_jbig2 IN OUT` writes pages as pictures. `hayro_jbig2.pillow` opens files by
-Pillow, and `hayro_jbig2.pikepdf` is pikepdf's decoder.
+they can of damaged data. `encode` writes a picture as a page. `python -m hayro_jbig2 IN OUT` writes pages as pictures.
+`hayro_jbig2.pillow` opens files by Pillow, and `hayro_jbig2.pikepdf` is pikepdf's decoder.
 
 The exceptions, which are in `hayro_jbig2.errors`, and here too:
 

@@ -5,6 +5,7 @@ from __future__ import annotations
 import argparse
 import pathlib
 import sys
+from dataclasses import replace
 from typing import TYPE_CHECKING, Any
 
 from . import Globals, Jbig2Error, Page, __version__, decode, sizes
@@ -57,11 +58,24 @@ class _FaultOfGlobals(Exception):
     """Why the globals can't be decoded."""
 
 
-def _globals_of(words: argparse.Namespace, how: dict[str, Any]) -> Globals | None:
+def _globals_of(words: argparse.Namespace, how: dict[str, Any]) -> Globals:
+    """The globals, after a message where their list of segments ends early."""
     try:
-        return None if words.globals is None else Globals(words.globals, **how)
+        shared = Globals(words.globals, **how)
     except Jbig2Error as error:
         raise _FaultOfGlobals(str(error)) from error
+    for text in shared.left_out.texts:
+        print(f"{words.globals}: {text}", file=sys.stderr)
+    return shared
+
+
+def _page_with_globals(words: argparse.Namespace, data: bytes, how: dict[str, Any]) -> Page:
+    """The page, which says of its own list of segments alone where that ends early."""
+    shared = _globals_of(words, how)
+    page = decode(data, globals=shared, page=words.page or 0, **how, warn=False)
+    if page.left_out.cut_off is not shared.left_out.cut_off:
+        return page
+    return replace(page, left_out=replace(page.left_out, cut_off=None))
 
 
 def _standard_input() -> bytes:
@@ -76,10 +90,12 @@ def _chosen_pages(words: argparse.Namespace) -> Iterable[tuple[int, Page | Jbig2
     how: dict[str, Any] = {"strict": words.strict, "salvage": words.salvage, "work_limit": words.work_limit}
     if "{}" in words.output:
         return enumerate(pages_or_faults(data, **how))
-    if words.page is None and words.globals is None and len(sizes(data, **how)) > 1:
-        print(f"{words.input}: only the first of several pages is written", file=sys.stderr)
     index = words.page or 0
-    return [(index, decode(data, globals=_globals_of(words, how), page=index, **how, warn=False))]
+    if words.globals is not None:
+        return [(index, _page_with_globals(words, data, how))]
+    if words.page is None and len(sizes(data, **how)) > 1:
+        print(f"{words.input}: only the first of several pages is written", file=sys.stderr)
+    return [(index, decode(data, page=index, **how, warn=False))]
 
 
 def _write_pages(words: argparse.Namespace) -> int:

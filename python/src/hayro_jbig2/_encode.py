@@ -120,7 +120,9 @@ def _rows_of_array(array: numpy.ndarray[Any, Any]) -> tuple[bytes, int, int]:
 
     if array.ndim != 2:
         raise ValueError("an array has the shape (height, width)")
-    if array.dtype != numpy.bool_ and not ((array == 0) | (array == 1)).all():
+    # Of texts and dates numpy may compare none.
+    is_bilevel = array.dtype.kind == "b" or (array.dtype.kind in "iufcO" and ((array == 0) | (array == 1)).all())
+    if not is_bilevel:
         raise ValueError(f"{_NOT_BILEVEL}; an array is of type bool, or of 0 and of 1 for black")
     height, width = array.shape
     return numpy.packbits(array.astype(numpy.bool_), axis=1).tobytes(), width, height

@@ -312,17 +312,18 @@ class EmbeddedPage(_Handle):
             super().__init__("page", own, stream, len(stream), call="new_salvaged")
         else:
             super().__init__("page", reading is Reading.STRICT, own, stream, len(stream))
+        # Where its own segments end. Those of the globals may end elsewhere.
         self.left_out = self._left_out()
-        if globals is not None:
-            self.left_out = self.left_out.joined(globals.left_out)
+        self._shared = None if globals is None else globals.left_out
         info = _Info()
         _check(self._call("get_info", info))
         self.size = Size(info.number, info.width, info.height)
 
     def draw(self, limit: WorkLimit) -> Page:
         """Decodes the page."""
+        left_out = self.left_out.joined(self._shared) if self._shared else self.left_out
         with _Context(self.size, limit) as context:
-            return context.page(self._call("draw", context), self.left_out)
+            return context.page(self._call("draw", context), left_out)
 
 
 class File(_ReadWithin):
