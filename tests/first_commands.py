@@ -185,6 +185,20 @@ class Program(Case):
         self.assertEqual(status, 1)
         self.assertIn("no folder for it can be written", said)
 
+    def test_what_another_computer_proved(self):
+        """Which has the same folder."""
+        proved = os.path.join(self.top, "crates", "jbig2_decode", "out", "jbig2_decode")
+        os.makedirs(os.path.dirname(proved))
+        with open(proved, "w", encoding="utf-8") as file:
+            file.write("#!/bin/sh\nexit 78\n")
+        os.chmod(proved, 0o755)
+        self.be("Linux", "riscv64")
+        self.assert_compiles(NO_TEXT.format("Linux riscv64"))
+        if not is_of_level():
+            self.skipTest("this processor is older")
+        self.be("Linux", "x86_64")
+        self.assertEqual(self.run_words("./jbig2-decode"), (78, ""))
+
     def test_no_c_of_a_program(self):
         """portable/ has jbig2-decode alone."""
         with open(os.path.join(self.top, "crates.txt"), "a", encoding="utf-8") as file:
@@ -279,6 +293,22 @@ class Library(Case):
     def test_a_system_of_32_bits(self):
         self.mark("bits32")
         self.assert_compiles(OF_32_BITS)
+
+    def test_what_was_proved_here(self):
+        """It is taken without the toolchain, but not on another computer that has the same folder."""
+        os.mkdir(os.path.join(self.top, "c", "source"))
+        line = ". dist/crates.sh && print_sources_of_c | tee -a dist/SOURCES >c/out/proved/SOURCES"
+        subprocess.run(["bash", "-c", f"mkdir -p c/out/proved && {line}"], cwd=self.top, check=True)
+        open(os.path.join(self.top, "c", "out", "proved", "x86_64.o"), "w", encoding="utf-8").close()
+        self.be("Linux", "riscv64")
+        self.assert_compiles(NO_TEXT.format("Linux riscv64"), words=())
+        if not is_of_level():
+            self.skipTest("this processor is older")
+        self.be("Linux", "x86_64")
+        self.assertEqual(self.run_words("c/build"), (0, ""))
+        compiled = self.compiled()
+        self.assertIn("./proved.x86_64.o", compiled)
+        self.assertNotIn("libhayro_jbig2.s ", compiled)
 
     def test_no_compiler(self):
         os.remove(os.path.join(self.bin, "cc"))
