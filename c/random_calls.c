@@ -210,8 +210,11 @@ static void make_written(void) {
     size_t size = (size_t)(width + 7) / 8 * height, other = one_in(8) ? below(input.length + 1) : size;
     uint32_t answer =
         hayro_jbig2_written_new(any_memory(), input.bytes, other, width, height, &settings, &made->written);
-    CHECK((answer == HAYRO_JBIG2_NO_SUCH_TEMPLATE) == (settings.template_number > 3));
-    CHECK((answer == HAYRO_JBIG2_OTHER_SIZE) == (settings.template_number <= 3 && other != size));
+    /* The portable C asks for memory before it looks at the settings. */
+    if (answer != HAYRO_JBIG2_OUT_OF_MEMORY) {
+        CHECK((answer == HAYRO_JBIG2_NO_SUCH_TEMPLATE) == (settings.template_number > 3));
+        CHECK((answer == HAYRO_JBIG2_OTHER_SIZE) == (settings.template_number <= 3 && other != size));
+    }
     expect_new(made, answer, true);
     free(input.bytes);
 }
