@@ -212,8 +212,11 @@ static void make_written(void) {
     uint32_t answer =
         hayro_jbig2_written_new(any_memory(), input.bytes, other, width, height, &settings, &made->written);
     bool has_template = settings.mmr || settings.template_number <= 3;
-    CHECK((answer == HAYRO_JBIG2_NO_SUCH_TEMPLATE) == !has_template);
-    CHECK((answer == HAYRO_JBIG2_OTHER_SIZE) == (has_template && other != size));
+    /* The portable C asks for memory before it looks at the settings. */
+    if (answer != HAYRO_JBIG2_OUT_OF_MEMORY) {
+        CHECK((answer == HAYRO_JBIG2_NO_SUCH_TEMPLATE) == !has_template);
+        CHECK((answer == HAYRO_JBIG2_OTHER_SIZE) == (has_template && other != size));
+    }
     expect_new(made, answer, true);
     free(input.bytes);
 }

@@ -20,6 +20,7 @@ from comparison.compare import kept, our_picture, their_picture
 from comparison.corpus import given_corpus, own_corpus
 from comparison.limited import MOST_OUTPUT, Runner
 from comparison.root import ROOT
+from conformance.runner.limits import folder_in_memory
 from conformance.runner.segments import parts_of
 from jbig2_encoder.pictures import pixels
 
@@ -234,8 +235,7 @@ def main():
     options = options_of()
     program = built_program()
     samples = given_corpus(options.files) if options.files else own_corpus(SIZE_OF_CORPUS, options.seed)
-    place = "/dev/shm" if os.path.isdir("/dev/shm") else None
-    with tempfile.TemporaryDirectory(dir=place) as folder:
+    with tempfile.TemporaryDirectory(dir=folder_in_memory(MOST_OUTPUT)) as folder:
         compared, differing = undamaged(program, samples, folder)
         print(f"{len(samples)} files, {compared} of them drawn by jbig2dec too, {differing} differ", flush=True)
         runner = Runner(program, folder, options.seconds, options.memory << 20)

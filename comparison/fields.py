@@ -17,7 +17,6 @@ import dataclasses
 import gzip
 import hashlib
 import json
-import os
 import sys
 import tempfile
 import time
@@ -26,8 +25,10 @@ from comparison.changes import RUNS_OF_DOCUMENT, Changes
 from comparison.compare import kept
 from comparison.damage import built_program
 from comparison.drawing import Library, Program
+from comparison.limited import MOST_OUTPUT
 from comparison.model.answers import Refused, TooMuch
 from comparison.model.page import page_of_file
+from conformance.runner.limits import folder_in_memory
 
 REPORT = 5000
 DRAWN = "drawn "
@@ -158,8 +159,7 @@ def options_of():
 
 def main():
     options = options_of()
-    place = "/dev/shm" if os.path.isdir("/dev/shm") else None
-    with tempfile.TemporaryDirectory(dir=place) as folder:
+    with tempfile.TemporaryDirectory(dir=folder_in_memory(MOST_OUTPUT)) as folder:
         decoder = Library(options.library, folder) if options.library else Program(built_program(), folder)
         runs = written_runs(options.again) if options.again else made_runs(options)
         out = gzip.open(options.write, "wt", encoding="ascii") if options.write else None

@@ -102,7 +102,7 @@ def main():
                 seen[name][verdict] += 1
                 if verdict.startswith(WRONG):
                     wrong += 1
-                    print(f"run {run}, page {index}, {name}: {verdict}, {kept(data, 'incomplete')}")
+                    print(f"run {run}, page {index}, {name}: {verdict}, {kept(data, f'incomplete-{seed}-{run}')}")
     for name, verdicts in seen.items():
         print(f"{name}:")
         for verdict, times in verdicts.most_common():

@@ -12,6 +12,7 @@ import collections
 import concurrent.futures
 import dataclasses
 import hashlib
+import itertools
 import os
 import pathlib
 import random
@@ -147,14 +148,13 @@ class Comparison:
             print(f"not here: {name}")
 
     def compare(self, reader, names, read, wanted):
-        """Each picture that is wanted, beside what was read; there may be fewer."""
-        read = [*read, *[None] * (len(wanted) - len(read))]
-        for name, got, want in zip(names, read, wanted):
+        """Each picture that is wanted, beside what was read; there may be fewer, or more."""
+        for name, got, want in itertools.zip_longest(names, read, wanted):
             if got == want:
                 self.same[reader] += 1
             else:
                 self.other[reader] += 1
-                print(f"{reader}: {name} is another")
+                print(f"{reader}: {name or 'one more'} is another")
 
     def take(self, named, settings):
         names, pictures = [name for name, _ in named], [picture for _, picture in named]

@@ -118,12 +118,15 @@ print_sources_of_c() {
     sums_of_crates "${crates[@]}" && sum_of_c
 }
 
-# Whether a folder has what was proved of these sources, by the toolchain here if there is one: is_proved_of SOURCES FOLDER.
-# Its note says so.
+# Whether a note has these sums, and the name of the toolchain here if there is one: is_note_of SUMS NOTE.
+is_note_of() {
+    [ -e "$2" ] && [ "$1" = "$(grep -v '^toolchain ' -- "$2")" ] || return 1
+    ! command -v rt >/dev/null || grep -qxF -- "toolchain $(rt version)" "$2"
+}
+
+# Whether a folder has what was proved of these sources: is_proved_of SOURCES FOLDER. Its note says so.
 is_proved_of() {
-    local note=$2/SOURCES
-    [ -e "$note" ] && [ "$1" = "$(grep -v '^toolchain ' -- "$note")" ] || return 1
-    ! command -v rt >/dev/null || grep -qxF -- "toolchain $(rt version)" "$note"
+    is_note_of "$1" "$2/SOURCES"
 }
 
 # Its sources, how they are laid out, and the libraries that it names.

@@ -8,6 +8,7 @@ import os
 import re
 import shutil
 import subprocess
+import sys
 import tempfile
 import unittest
 
@@ -184,6 +185,20 @@ class Program(Case):
         self.assertEqual(status, 1)
         self.assertIn("no folder for it can be written", said)
 
+    def test_what_another_computer_proved(self):
+        """Which has the same folder."""
+        proved = os.path.join(self.top, "crates", "jbig2_decode", "out", "jbig2_decode")
+        os.makedirs(os.path.dirname(proved))
+        with open(proved, "w", encoding="utf-8") as file:
+            file.write("#!/bin/sh\nexit 78\n")
+        os.chmod(proved, 0o755)
+        self.be("Linux", "riscv64")
+        self.assert_compiles(NO_TEXT.format("Linux riscv64"))
+        if not is_of_level():
+            self.skipTest("this processor is older")
+        self.be("Linux", "x86_64")
+        self.assertEqual(self.run_words("./jbig2-decode"), (78, ""))
+
     def test_no_c_of_a_program(self):
         """portable/ has jbig2-decode alone."""
         with open(os.path.join(self.top, "crates.txt"), "a", encoding="utf-8") as file:
@@ -222,17 +237,49 @@ class Test(Case):
         self.assert_says("there is no C compiler (cc gcc clang): install one, or set CC to its name")
 
     def test_no_python(self):
-        self.assert_says("./test needs Python 3: python3 is not on the PATH")
+        self.assert_says("./test needs Python 3.10 or later: python3 is not on the PATH, or is older")
+
+    def test_an_older_python(self):
+        self.write("python3", "#!/bin/sh\n# Of an older version, by what it says.\nexit 1\n")
+        self.assert_says("./test needs Python 3.10 or later: python3 is not on the PATH, or is older")
 
     def test_no_folder(self):
-        os.symlink(shutil.which("python3"), os.path.join(self.bin, "python3"))
+        os.symlink(sys.executable, os.path.join(self.bin, "python3"))
         open(os.path.join(self.top, "c", "out"), "w", encoding="utf-8").close()
         self.assert_says("./test builds in c/out, which can't be written: take a copy of the repository that can be")
 
 
+class Style(unittest.TestCase):
+    def test_a_clone_of_somebody_else(self):
+        """git refuses it, for example where a container has the folder."""
+        with tempfile.TemporaryDirectory() as room:
+            with open(os.path.join(room, "git"), "w", encoding="utf-8") as file:
+                file.write("#!/bin/sh\necho fatal: detected dubious ownership >&2\nexit 128\n")
+            os.chmod(file.name, 0o755)
+            environment = {**os.environ, "PATH": f"{room}:{os.environ['PATH']}"}
+            words = [os.path.join(ROOT, "tools", "check-style")]
+            ended = subprocess.run(words, env=environment, capture_output=True, text=True)
+        self.assertEqual((ended.returncode, ended.stdout), (0, "git or its history is not here: no file was looked at\n"))
+
+
+class Portable(Case):
+    def test_the_library_of_plain_c(self):
+        """portable/build and CMakeLists.txt have each file of C that the README's command has."""
+        self.assertEqual(self.run_words("portable/build", CFLAGS="-Os"), (0, ""))
+        folder, compiled = os.path.realpath(os.path.join(self.top, "portable")), self.compiled()
+        self.assertTrue(os.path.exists(os.path.join(folder, "out", "libhayro_jbig2.a")))
+        with open(os.path.join(folder, "CMakeLists.txt"), encoding="utf-8") as file:
+            listed = re.search(r"add_library\(([^)]*)\)", file.read())[1].split()[2:]
+        names = sorted(name for name in os.listdir(folder) if name.endswith(".c")) + ["../c/handles.c", "../c/texts.c"]
+        self.assertEqual(sorted(listed), sorted(names))
+        for name in names:
+            self.assertIn(f" -c {os.path.normpath(os.path.join(folder, name))} ", compiled)
+        self.assertEqual(compiled.count("-Os -std=c99 "), len(names))
+
+
 class Library(Case):
-    def assert_compiles(self, reason):
-        status, said = self.run_words("c/build", "--text")
+    def assert_compiles(self, reason, words=("--text",)):
+        status, said = self.run_words("c/build", *words)
         self.assertEqual(status, 0, said)
         self.assertIn(f"c/build: {reason}, {COMPILED}", said)
         self.assertIn("portable/hayro_jbig2_module.c", self.compiled())
@@ -246,6 +293,22 @@ class Library(Case):
     def test_a_system_of_32_bits(self):
         self.mark("bits32")
         self.assert_compiles(OF_32_BITS)
+
+    def test_what_was_proved_here(self):
+        """It is taken without the toolchain, but not on another computer that has the same folder."""
+        os.mkdir(os.path.join(self.top, "c", "source"))
+        line = ". dist/crates.sh && print_sources_of_c | tee -a dist/SOURCES >c/out/proved/SOURCES"
+        subprocess.run(["bash", "-c", f"mkdir -p c/out/proved && {line}"], cwd=self.top, check=True)
+        open(os.path.join(self.top, "c", "out", "proved", "x86_64.o"), "w", encoding="utf-8").close()
+        self.be("Linux", "riscv64")
+        self.assert_compiles(NO_TEXT.format("Linux riscv64"), words=())
+        if not is_of_level():
+            self.skipTest("this processor is older")
+        self.be("Linux", "x86_64")
+        self.assertEqual(self.run_words("c/build"), (0, ""))
+        compiled = self.compiled()
+        self.assertIn("./proved.x86_64.o", compiled)
+        self.assertNotIn("libhayro_jbig2.s ", compiled)
 
     def test_no_compiler(self):
         os.remove(os.path.join(self.bin, "cc"))

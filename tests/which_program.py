@@ -13,8 +13,9 @@ from tests.files import ROOT
 USAGE = "usage: jbig2-decode "
 PROCESSOR = os.uname().machine
 NOBODY = 65534
-# Stands for the toolchain: notes each call, and makes the program.
+# Stands for the toolchain: notes each proof, and makes the program.
 RT = """#!/bin/sh
+[ "$1" != version ] || exec echo {name}
 echo "$@" >>{log}
 [ "$1" != run ] || {{ printf '#!/bin/sh\\nexit 77\\n' >out/${{PWD##*/}}; chmod +x out/${{PWD##*/}}; }}
 """
@@ -83,7 +84,8 @@ class Case(unittest.TestCase):
     def run_script(self, *words, user=None, **changed):
         """The status and what is written to standard error. `changed` are variables of the environment, or None."""
         cache = os.path.join(self.room, "cache")
-        variables = {**os.environ, "JBIG2_PROVE": "0", "CC": None, "XDG_CACHE_HOME": cache, **changed}
+        usual = {"JBIG2_PROVE": "0", "XDG_CACHE_HOME": cache, **dict.fromkeys(("CC", "PROCESSOR", "HAYRO_JBIG2_PORTABLE"))}
+        variables = {**os.environ, **usual, **changed}
         environment = {name: value for name, value in variables.items() if value is not None}
         who = {} if user is None or os.geteuid() != 0 else {"user": user, "group": user, "extra_groups": []}
         ended = subprocess.run(
@@ -189,15 +191,16 @@ class Updates(Case):
         self.assert_runs()
 
     def test_it_is_proved_again_after_an_update(self):
-        programs, log = os.path.join(self.room, "bin"), os.path.join(self.room, "log")
-        os.mkdir(programs)
-        rt = os.path.join(programs, "rt")
-        with open(rt, "w", encoding="utf-8") as file:
-            file.write(RT.format(log=log))
-        os.chmod(rt, 0o755)
-        how = {"JBIG2_PROVE": "1", "PATH": f"{programs}:{os.environ['PATH']}"}
+        log, folders = os.path.join(self.room, "log"), {}
+        for name in "first", "second":
+            folders[name] = os.path.join(self.room, name)
+            os.mkdir(folders[name])
+            with open(os.path.join(folders[name], "rt"), "w", encoding="utf-8") as file:
+                file.write(RT.format(log=log, name=name))
+            os.chmod(file.name, 0o755)
 
-        def proof_count():
+        def proof_count(toolchain="first"):
+            how = {"JBIG2_PROVE": "1", "PATH": f"{folders[toolchain]}:{os.environ['PATH']}"}
             self.assertEqual(self.run_script(**how)[0], 77)
             with open(log, encoding="utf-8") as file:
                 return len(file.readlines())
@@ -206,7 +209,12 @@ class Updates(Case):
         self.assertEqual([proof_count(), proof_count()], [3, 3])
         self.update("crates/jbig2_mmr/src/lib.rt", lambda text: text + "// Another.\n")
         self.assertEqual([proof_count(), proof_count()], [6, 6])
+        # Another toolchain, and one that takes the place of it.
+        self.assertEqual([proof_count("second"), proof_count("second")], [9, 9])
+        shutil.copy(os.path.join(folders["first"], "rt"), folders["second"])
+        self.assertEqual([proof_count("second"), proof_count("second")], [12, 12])
 
+    @unittest.skipUnless(PROCESSOR == "x86_64", "programs are proved for x86-64 alone")
     def test_a_proved_program_and_an_older_source(self):
         proved = self.path("crates", "jbig2_decode", "out", "jbig2_decode")
         os.makedirs(os.path.dirname(proved))
@@ -388,7 +396,10 @@ class Folders(Case):
     """The repository belongs to somebody else."""
 
     def setUp(self):
+        # Whatever its user's mask is, others may read.
+        self.addCleanup(os.umask, os.umask(0o022))
         super().setUp()
+        subprocess.run(["chmod", "-R", "a+rX", self.top], check=True)
         self.home = os.path.join(self.room, "home")
         os.mkdir(self.home)
 

@@ -3,21 +3,29 @@ from __future__ import annotations
 
 import dataclasses
 import os
-import pathlib
+import shutil
 import signal
 import subprocess
 import tempfile
 
 from .mistake import Mistake
 
-# A folder in memory, where there is one.
-MEMORY = "/dev/shm" if pathlib.Path("/dev/shm").is_dir() else None
 # Processor time, address space in KiB, and blocks of 512 bytes of a file; no core is written.
 UNDER_LIMITS = 'ulimit -c 0; ulimit -t "$1"; ulimit -v "$2"; ulimit -f "$3"; shift 3; exec "$@"'
 MOST_OUTPUT = 1 << 28
 STOPPED = (signal.SIGXCPU, signal.SIGXFSZ, signal.SIGKILL)
 # The statuses of the shell where it can't start a program.
 NOT_STARTED = (126, 127)
+
+
+def folder_in_memory(size: int) -> str | None:
+    """A folder in memory for files of this size in all, where there is one. That of a container often has 64 MiB."""
+    folder = "/dev/shm"
+    return folder if os.access(folder, os.W_OK) and shutil.disk_usage(folder).free > size else None
+
+
+# What a decoder writes is on standard output, standard error and in a file.
+MEMORY = folder_in_memory(3 * MOST_OUTPUT)
 
 
 @dataclasses.dataclass(frozen=True)

@@ -10,7 +10,7 @@ FILES = {
     "/" + str(path.relative_to(WEB))
     for kind in ("html", "css", "js", "wasm")
     for path in WEB.rglob(f"*.{kind}")
-    if "tests" not in path.parts
+    if "tests" not in path.relative_to(WEB).parts
 }
 # All that is shown: the file, the text and the size of each picture, and the sum of its packed rows, black 1.
 SHOWN = """(async () => {
