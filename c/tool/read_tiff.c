@@ -81,6 +81,9 @@ static bool is_taken(TIFF *tiff, uint16_t depth, uint16_t photometric, struct te
         add_text(reason, "the picture is in tiles; write takes TIFF in strips alone");
     else if (orientation != ORIENTATION_TOPLEFT)
         add_text(reason, "the picture is turned (Orientation); write takes it upright alone");
+    else if (coding == COMPRESSION_JBIG)
+        /* libtiff decodes all rows at once, also where it is asked for one. */
+        add_text(reason, "the picture is coded by JBIG (Compression %u), which write doesn't take", (unsigned)coding);
     else if (!TIFFIsCODECConfigured(coding))
         add_text(reason, "libtiff doesn't know here how the picture is coded (Compression %u)", (unsigned)coding);
     return reason->length == 0;

@@ -60,6 +60,7 @@ class Tiff(WritingCase):
             "its pixels have neither one bit nor eight" + not_bilevel: {"depth": 4},
             "the picture is in tiles; write takes TIFF in strips alone\n": tiles,
             "the picture is turned (Orientation); write takes it upright alone\n": {"orientation": 6},
+            "the picture is coded by JBIG (Compression 34661), which write doesn't take\n": {"coding": 34661},
             "libtiff doesn't know here how the picture is coded (Compression 34712)\n": {"coding": 34712},
         }
         for text, numbers in bad.items():
