@@ -152,7 +152,8 @@ class Writing(WritingCase):
 
     def test_pbm_forms(self):
         picture = noise(37, 9)
-        for name, data in {"digits": p1(picture), "two": picture.pbm + picture.pbm}.items():
+        comment = picture.pbm.replace(b"37 9\n", b"37 9# and a comment\n", 1)
+        for name, data in {"digits": p1(picture), "two": picture.pbm + picture.pbm, "comment": comment}.items():
             self.made(data, f"{name}.pbm")
             self.assert_ends(self.run_here("write", f"{name}.pbm", "-o", f"{name}.pdf"), WHOLE)
             if HAS_PDF:
