@@ -71,7 +71,9 @@ static bool is_taken(TIFF *tiff, uint16_t depth, uint16_t photometric, struct te
     TIFFGetFieldDefaulted(tiff, TIFFTAG_ORIENTATION, &orientation);
     TIFFGetFieldDefaulted(tiff, TIFFTAG_COMPRESSION, &coding);
     bool is_gray = photometric == PHOTOMETRIC_MINISBLACK || photometric == PHOTOMETRIC_MINISWHITE;
-    if (samples == 2 && is_gray)
+    if (photometric == PHOTOMETRIC_PALETTE)
+        add_text(reason, "the picture has a palette; write takes TIFF without one");
+    else if (samples == 2 && is_gray)
         add_not_bilevel(reason, "the picture has transparent pixels");
     else if (samples != 1 || !is_gray)
         add_not_bilevel(reason, "the picture has colours");

@@ -21,7 +21,7 @@ def tiff(picture: Picture, rows: bytes | None = None, is_big: bool = False, **ot
     begins = 16 if is_big else 8
     fields = {"width": 256, "height": 257, "depth": 258, "coding": 259, "photometric": 262, "place": 273}
     fields |= {"orientation": 274, "samples": 277, "strip": 278, "size": 279, "tile": 322, "tile_height": 323}
-    fields |= {"tile_place": 324, "tile_size": 325}
+    fields |= {"tile_place": 324, "tile_size": 325, "palette": 320}
     numbers = {"width": picture.width, "height": picture.height, "depth": 1, "coding": 1, "photometric": 0}
     numbers |= {"place": begins, "samples": 1, "strip": picture.height, "size": len(rows), **others}
     listed = sorted((fields[name], number) for name, number in numbers.items())
@@ -67,6 +67,13 @@ class Tiff(WritingCase):
             with self.subTest(text):
                 self.made(tiff(picture, **numbers), "bad.tiff")
                 self.assert_ends(self.run_here("write", "bad.tiff"), NOT_DONE, f"bad.tiff: {text}")
+
+    def test_tiff_with_a_palette(self):
+        """It may be black and white, so nothing is said of colours. The palette's six numbers are bytes of the rows."""
+        data = tiff(noise(16, 16), photometric=3, palette=8)
+        self.made(data.replace(struct.pack("<HHI", 320, 4, 1), struct.pack("<HHI", 320, 3, 6)), "bad.tiff")
+        said = "bad.tiff: the picture has a palette; write takes TIFF without one\n"
+        self.assert_ends(self.run_here("write", "bad.tiff"), NOT_DONE, said)
 
     def test_all_pages_need_not_fit_into_memory(self):
         """Twenty pages of 8 MB each, whose rows are the same bytes of the file."""
