@@ -11,7 +11,7 @@ from support import HAS_TIFF, NOT_DONE, WHOLE, Picture
 from test_output import strips_of_tiff
 from test_write import WritingCase, noise
 
-T6, DEFLATE = 4, 8
+T6, LZW, DEFLATE = 4, 5, 8
 
 
 def tiff(picture: Picture, rows: bytes | None = None, is_big: bool = False, **others: int) -> bytes:
@@ -107,6 +107,15 @@ class Tiff(WritingCase):
             self.made(tiff(picture, bad, coding=T6), "bad.tiff")
             self.assert_ends(self.run_here("write", "bad.tiff"), NOT_DONE, "bad.tiff: the TIFF picture is damaged at row ")
         self.assertNotIn("bad.jb2", self.files())
+
+    def test_lzw_of_the_old_form(self):
+        """Codes of nine bits, the lowest first: clear, each byte as it is, and end. libtiff warns of this form."""
+        picture = noise(16, 50)
+        codes = [256, *picture.rows, 257]
+        number = sum(code << 9 * place for place, code in enumerate(codes))
+        self.made(tiff(picture, number.to_bytes((9 * len(codes) + 7) // 8, "little"), coding=LZW), "a.tiff")
+        self.assert_ends(self.run_here("write", "a.tiff"), WHOLE)
+        self.assertEqual(self.read_back("a.jb2"), [picture])
 
     def test_big_tiff(self):
         picture = noise(37, 9)
