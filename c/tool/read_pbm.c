@@ -11,14 +11,19 @@ struct place {
     const uint8_t *at, *end;
 };
 
-/* Passes over white space and comments, which go to the end of their line. */
-static void pass_space(struct place *place) {
-    while (place->at < place->end && (isspace(*place->at) || *place->at == '#'))
-        if (*place->at == '#')
-            while (place->at < place->end && *place->at != '\n' && *place->at != '\r')
-                place->at++;
-        else
+/* Passes over a comment, which goes to the end of its line. */
+static void pass_comment(struct place *place) {
+    if (place->at < place->end && *place->at == '#')
+        while (place->at < place->end && *place->at != '\n' && *place->at != '\r')
             place->at++;
+}
+
+static void pass_space(struct place *place) {
+    pass_comment(place);
+    while (place->at < place->end && isspace(*place->at)) {
+        place->at++;
+        pass_comment(place);
+    }
 }
 
 /* A side; one that is too long stays too long. */
@@ -47,9 +52,10 @@ static bool read_digits(struct place *place, struct bilevel *image) {
     return true;
 }
 
-/* P4: packed rows after one character of white space. */
+/* P4: packed rows after one character of white space, which may end a comment. */
 static bool read_packed(struct place *place, struct bilevel *image) {
     size_t size = bilevel_row_size(image) * image->height;
+    pass_comment(place);
     if (place->at == place->end || !isspace(*place->at++) || (size_t)(place->end - place->at) < size)
         return false;
     memcpy(image->rows, place->at, size);

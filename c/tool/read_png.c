@@ -68,7 +68,8 @@ static void take_row(png_structp png, png_infop info, struct reading_png *readin
     size_t size = png_get_rowbytes(png, info) / reading->image.width;
     if (pack_row(&reading->image, y, row, size))
         return;
-    add_not_bilevel(reading->reason, size > 2 ? "the picture has colours" : "the picture has shades of gray");
+    add_not_bilevel(reading->reason,
+                    size > 2 ? "the picture has colours or shades of gray" : "the picture has shades of gray");
     png_error(png, "");
 }
 

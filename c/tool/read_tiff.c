@@ -71,7 +71,9 @@ static bool is_taken(TIFF *tiff, uint16_t depth, uint16_t photometric, struct te
     TIFFGetFieldDefaulted(tiff, TIFFTAG_ORIENTATION, &orientation);
     TIFFGetFieldDefaulted(tiff, TIFFTAG_COMPRESSION, &coding);
     bool is_gray = photometric == PHOTOMETRIC_MINISBLACK || photometric == PHOTOMETRIC_MINISWHITE;
-    if (samples == 2 && is_gray)
+    if (photometric == PHOTOMETRIC_PALETTE)
+        add_text(reason, "the picture has a palette; write takes TIFF without one");
+    else if (samples == 2 && is_gray)
         add_not_bilevel(reason, "the picture has transparent pixels");
     else if (samples != 1 || !is_gray)
         add_not_bilevel(reason, "the picture has colours");
@@ -81,6 +83,9 @@ static bool is_taken(TIFF *tiff, uint16_t depth, uint16_t photometric, struct te
         add_text(reason, "the picture is in tiles; write takes TIFF in strips alone");
     else if (orientation != ORIENTATION_TOPLEFT)
         add_text(reason, "the picture is turned (Orientation); write takes it upright alone");
+    else if (coding == COMPRESSION_JBIG)
+        /* libtiff decodes all rows at once, also where it is asked for one. */
+        add_text(reason, "the picture is coded by JBIG (Compression %u), which write doesn't take", (unsigned)coding);
     else if (!TIFFIsCODECConfigured(coding))
         add_text(reason, "libtiff doesn't know here how the picture is coded (Compression %u)", (unsigned)coding);
     return reason->length == 0;

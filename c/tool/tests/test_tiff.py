@@ -11,7 +11,7 @@ from support import HAS_TIFF, NOT_DONE, WHOLE, Picture
 from test_output import strips_of_tiff
 from test_write import WritingCase, noise
 
-T6, DEFLATE = 4, 8
+T6, LZW, DEFLATE = 4, 5, 8
 
 
 def tiff(picture: Picture, rows: bytes | None = None, is_big: bool = False, **others: int) -> bytes:
@@ -21,7 +21,7 @@ def tiff(picture: Picture, rows: bytes | None = None, is_big: bool = False, **ot
     begins = 16 if is_big else 8
     fields = {"width": 256, "height": 257, "depth": 258, "coding": 259, "photometric": 262, "place": 273}
     fields |= {"orientation": 274, "samples": 277, "strip": 278, "size": 279, "tile": 322, "tile_height": 323}
-    fields |= {"tile_place": 324, "tile_size": 325}
+    fields |= {"tile_place": 324, "tile_size": 325, "palette": 320}
     numbers = {"width": picture.width, "height": picture.height, "depth": 1, "coding": 1, "photometric": 0}
     numbers |= {"place": begins, "samples": 1, "strip": picture.height, "size": len(rows), **others}
     listed = sorted((fields[name], number) for name, number in numbers.items())
@@ -60,12 +60,20 @@ class Tiff(WritingCase):
             "its pixels have neither one bit nor eight" + not_bilevel: {"depth": 4},
             "the picture is in tiles; write takes TIFF in strips alone\n": tiles,
             "the picture is turned (Orientation); write takes it upright alone\n": {"orientation": 6},
+            "the picture is coded by JBIG (Compression 34661), which write doesn't take\n": {"coding": 34661},
             "libtiff doesn't know here how the picture is coded (Compression 34712)\n": {"coding": 34712},
         }
         for text, numbers in bad.items():
             with self.subTest(text):
                 self.made(tiff(picture, **numbers), "bad.tiff")
                 self.assert_ends(self.run_here("write", "bad.tiff"), NOT_DONE, f"bad.tiff: {text}")
+
+    def test_tiff_with_a_palette(self):
+        """It may be black and white, so nothing is said of colours. The palette's six numbers are bytes of the rows."""
+        data = tiff(noise(16, 16), photometric=3, palette=8)
+        self.made(data.replace(struct.pack("<HHI", 320, 4, 1), struct.pack("<HHI", 320, 3, 6)), "bad.tiff")
+        said = "bad.tiff: the picture has a palette; write takes TIFF without one\n"
+        self.assert_ends(self.run_here("write", "bad.tiff"), NOT_DONE, said)
 
     def test_all_pages_need_not_fit_into_memory(self):
         """Twenty pages of 8 MB each, whose rows are the same bytes of the file."""
@@ -99,6 +107,15 @@ class Tiff(WritingCase):
             self.made(tiff(picture, bad, coding=T6), "bad.tiff")
             self.assert_ends(self.run_here("write", "bad.tiff"), NOT_DONE, "bad.tiff: the TIFF picture is damaged at row ")
         self.assertNotIn("bad.jb2", self.files())
+
+    def test_lzw_of_the_old_form(self):
+        """Codes of nine bits, the lowest first: clear, each byte as it is, and end. libtiff warns of this form."""
+        picture = noise(16, 50)
+        codes = [256, *picture.rows, 257]
+        number = sum(code << 9 * place for place, code in enumerate(codes))
+        self.made(tiff(picture, number.to_bytes((9 * len(codes) + 7) // 8, "little"), coding=LZW), "a.tiff")
+        self.assert_ends(self.run_here("write", "a.tiff"), WHOLE)
+        self.assertEqual(self.read_back("a.jb2"), [picture])
 
     def test_big_tiff(self):
         picture = noise(37, 9)

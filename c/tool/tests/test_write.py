@@ -152,7 +152,8 @@ class Writing(WritingCase):
 
     def test_pbm_forms(self):
         picture = noise(37, 9)
-        for name, data in {"digits": p1(picture), "two": picture.pbm + picture.pbm}.items():
+        comment = picture.pbm.replace(b"37 9\n", b"37 9# and a comment\n", 1)
+        for name, data in {"digits": p1(picture), "two": picture.pbm + picture.pbm, "comment": comment}.items():
             self.made(data, f"{name}.pbm")
             self.assert_ends(self.run_here("write", f"{name}.pbm", "-o", f"{name}.pdf"), WHOLE)
             if HAS_PDF:
@@ -184,7 +185,8 @@ class Writing(WritingCase):
             "gray": png(picture, 16, 0, (0, 0xFFFE)),
             "colours": png(picture, 8, 2),
             "transparent": png(picture, 8, 4),
-            "has colours": png(picture, 1, 3, chunks=chunk(b"PLTE", bytes([0, 0, 0, 255, 255, 254]))),
+            "has colours or": png(picture, 1, 3, chunks=chunk(b"PLTE", bytes([0, 0, 0, 255, 255, 254]))),
+            "or shades of gray": png(picture, 1, 3, chunks=chunk(b"PLTE", bytes([0, 0, 0, 128, 128, 128]))),
             "transparent pixels": png(picture, 1, 0, chunks=chunk(b"tRNS", b"\0\0")),
             "": png(picture)[:-30],
         }
