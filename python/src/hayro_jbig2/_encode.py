@@ -118,10 +118,12 @@ def _rows_of_image(image: Image.Image) -> bytes:
 def _rows_of_array(array: numpy.ndarray[Any, Any]) -> tuple[bytes, int, int]:
     import numpy
 
+    # What a mask hides is written too.
+    array = numpy.asarray(array)
     if array.ndim != 2:
         raise ValueError("an array has the shape (height, width)")
-    # Of texts and dates numpy may compare none.
-    is_bilevel = array.dtype.kind == "b" or (array.dtype.kind in "iufcO" and ((array == 0) | (array == 1)).all())
+    # Of texts and dates numpy may compare none, and of objects it may give one answer for all.
+    is_bilevel = array.dtype.kind == "b" or (array.dtype.kind in "iufcO" and numpy.all((array == 0) | (array == 1)))
     if not is_bilevel:
         raise ValueError(f"{_NOT_BILEVEL}; an array is of type bool, or of 0 and of 1 for black")
     height, width = array.shape
