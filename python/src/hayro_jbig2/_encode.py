@@ -50,9 +50,9 @@ def encode(
       leftmost the highest of its byte, and whole bytes for each row. Bits past the width are passed over.
 
     Decoding gives the picture back, without a pixel lost: that is proved of the library for each picture and each of
-    these settings. `coding` "mmr" writes MMR data (T.6): it takes more bytes, and pages of text are decoded in less
-    time. For the arithmetic coder `template`, from 0 to 3, says which pixels predict a pixel (GBTEMPLATE), and with
-    `typical` a row that is as the one above it takes no more than a decision; of MMR data both change nothing.
+    these settings. `coding` "mmr" writes MMR data (T.6): it mostly takes more bytes, and pages of text are decoded in
+    less time. For the arithmetic coder `template`, from 0 to 3, says which pixels predict a pixel (GBTEMPLATE), and
+    with `typical` a row that is as the one above it takes no more than a decision; of MMR data both change nothing.
     `resolution` is in pixels for each inch: a number, or one for rows and one for columns. Without it an image of
     Pillow has that of its `info["dpi"]`, and others state none.
 
