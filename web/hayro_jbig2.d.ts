@@ -87,7 +87,7 @@ export interface DecodeOptions extends ReadingOptions {
 }
 
 export interface EncodeOptions {
-  /** The arithmetic coder is the default. MMR data (T.6) takes more bytes, and pages of text are decoded in less time. */
+  /** The arithmetic coder is the default. MMR data (T.6) mostly takes more bytes; pages of text are decoded in less time. */
   coding?: "arithmetic" | "mmr";
   /** For the arithmetic coder, which pixels predict a pixel: 0, which is the default, to 3. */
   template?: number;

@@ -215,9 +215,9 @@ export class Decoder {
    * Writes packed rows, as `DecodedPage.rows` has them, as an embedded page, or with `file` as a file. Bits past the width
    * are passed over. Decoding gives the picture back, without a pixel lost.
    *
-   * `coding` is "arithmetic", or "mmr" for MMR data (T.6): it takes more bytes, and pages of text are decoded in less time.
-   * For the arithmetic coder `template`, from 0 to 3, says which pixels predict a pixel, and with `typical` a row that is as
-   * the one above it takes one decision. `xResolution` and `yResolution` are in pixels for each metre; 0 states none.
+   * `coding` is "arithmetic", or "mmr" for MMR data (T.6): it mostly takes more bytes, and pages of text are decoded in less
+   * time. For the arithmetic coder `template`, from 0 to 3, says which pixels predict a pixel, and with `typical` a row that
+   * is as the one above it takes one decision. `xResolution` and `yResolution` are in pixels for each metre; 0 states none.
    * @returns {Uint8Array}
    * @throws {Jbig2Error} INVALID_SIDES, OTHER_SIZE, NO_SUCH_TEMPLATE or OUT_OF_MEMORY
    */

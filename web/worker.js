@@ -60,22 +60,28 @@ function lacking({ isComplete, passedOver, leftOut: { passedOver: shared, cutOff
   return lacks.join("; ");
 }
 
-/** What a file lacks that none of its pages says, as texts. `shown` says of each that is shown whether it is complete. */
+/** Whether what a page lacks says where its list of segments ends early, as `lacking` does. */
+function saysEnd({ passedOver: { count, segment, error }, leftOut: { cutOff } }) {
+  if (!cutOff || count === 0) return false;
+  return count > 1 || (segment === cutOff.segment && error.number === cutOff.error.number);
+}
+
+/** What a file lacks that none of its pages says, as texts. `shown` says of each that is shown whether it says the end. */
 function lackingOfFile({ pages, firstPage, cutOff }, shown) {
   const lacks = pages ? [`${counted(pages, "page")} (${described(firstPage)})`] : [];
-  const isUntold = shown.length > 0 && !shown.includes(false);
+  const isUntold = shown.length > 0 && !shown.includes(true);
   return cutOff && isUntold ? [...lacks, `what comes from a segment on (${faultOf(cutOff)})`] : lacks;
 }
 
-/** Decodes a page and sends it to the page that shows it, or its error. Returns whether it is complete, or null. */
+/** Decodes a page and sends it to the page that shows it, or its error. Returns whether it says the end, or null. */
 async function show(label, decode) {
   try {
     const began = performance.now();
     const page = await decode();
     const milliseconds = performance.now() - began;
-    const { width, height, rows, isComplete } = page;
+    const { width, height, rows } = page;
     postMessage({ ...label, width, height, rows, milliseconds, lacks: lacking(page) }, [rows.buffer]);
-    return isComplete;
+    return saysEnd(page);
   } catch (error) {
     postMessage({ ...label, error: described(error) });
     return null;
@@ -90,8 +96,8 @@ async function showPages(kind, pages) {
     const number = index + 1;
     const label = { number, count, name: `${kind} ${number} of ${count}${name ? `, ${name}` : ""}` };
     postMessage({ begins: label });
-    const isComplete = await show(label, decode);
-    if (isComplete !== null) shown.push(isComplete);
+    const isTold = await show(label, decode);
+    if (isTold !== null) shown.push(isTold);
     if (decoder.isBroken && number < count) {
       postMessage({ error: `left out of this file: ${counted(count - number, kind)} after it, since the decoder stopped` });
     }

@@ -148,6 +148,14 @@ class Command(unittest.TestCase):
         ):
             self.assertEqual(self.run_command("-", "page-{}.pbm", *words, data=data), (1, "", f"-: {said}\n"))
 
+    def test_a_page_that_is_left_out_is_none_that_is_written(self):
+        page = "0000000%d 30 00 0%d 00000013 0000000%d 00000001" + "00" * 11
+        data = bytes.fromhex("974A42320D0A1A0A 03" + page % (1, 1, 0) + page % (2, 2, 8))
+        said = "-: pages of the file are left out, 1 of them: page has zero width or height\n"
+        self.assertEqual(self.run_command("-", "page-{}.pbm", "--salvage", data=data), (1, "", said))
+        self.assertEqual((self.folder / "page-0.pbm").read_bytes(), b"P4\n8 1\n\0")
+        self.assertEqual(self.run_command("-", "page.pbm", "--salvage", data=data), (0, "", said))
+
     def test_a_fault_of_the_globals_names_them(self):
         (self.folder / "globals").write_bytes(GLOBALS + b" " * 16)
         said = (1, "", "globals: segment refers to an invalid segment\n")

@@ -7,6 +7,7 @@ import math
 import random
 import struct
 import unittest
+import warnings
 
 import hayro_jbig2
 from pages import EXAMPLE
@@ -149,6 +150,8 @@ class Arrays(unittest.TestCase):
             self.assertEqual((again.width, again.height, again.rows), (page.width, page.height, page.rows))
 
     def test_others_are_refused(self):
+        nested = self.numpy.empty((1, 2), object)
+        nested[0, 0], nested[0, 1] = self.numpy.zeros(2), 0
         others = [["0", "1"]], [[b"0", b"1"]], [[None, 1]], [[self.numpy.datetime64(0, "s")] * 2]
         for array in (
             self.numpy.full((2, 2), 255),
@@ -156,8 +159,12 @@ class Arrays(unittest.TestCase):
             self.numpy.zeros(4, bool),
             self.numpy.zeros((2, 2), [("black", bool)]),
             *map(self.numpy.array, others),
+            self.numpy.ma.array([[0, 7]], mask=[[False, True]]),
+            nested,
         ):
-            with self.assertRaises(ValueError):
+            # Older versions of numpy warn of an object that they can't compare.
+            with self.assertRaises(ValueError), warnings.catch_warnings():
+                warnings.simplefilter("ignore", DeprecationWarning)
                 hayro_jbig2.encode(array)
         for shape in (0, 4), (4, 0), (1, 65536):
             with self.assertRaises(ValueError):

@@ -30,7 +30,7 @@ pub enum Coding {
         /// Whether a row that is as the row above it takes one decision alone (typical prediction).
         typical: bool,
     },
-    /// As MMR data (T.6), which takes more bytes. Pages of text are decoded in less time.
+    /// As MMR data (T.6), which mostly takes more bytes. Pages of text are decoded in less time.
     Mmr,
 }
 

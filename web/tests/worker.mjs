@@ -70,18 +70,28 @@ async function checkWords() {
   check(pagesOf(said).length === 3, `a file with the words of a PDF file: ${errorsOf(said)}`);
 }
 
-/** Pages that can't begin are told, also where the file has no other ones. */
+/** Pages that can't begin are told, also where the file has no other ones; and segments that no page lacks. */
 async function checkLeftOut() {
   const page = (number, width) => `0000000${number}30000${number}00000013${width}00000001${"00".repeat(11)}`;
   const left = "file left out of this file: 1 page (FORMAT_EMPTY_PAGE: page has zero width or height)";
+  // A region without an operator, and bytes that are no segment.
+  const region = `000000102600010000001A0000000100000001${"00".repeat(8)}050003FFFDFF02FEFEFE`;
+  const [end, junk] = ["00000011310001" + "00".repeat(4), "20".repeat(16)];
+  const rest =
+    "file left out of this file: what comes from a segment on (segment 538976288, SEGMENT_INVALID_REFERENCE: segment refers to an invalid segment)";
   const cases = [
     ["", "file no JBIG2 page in this file"],
     [page(1, "00000000"), left],
     [page(1, "00000008") + page(2, "00000000"), left],
+    // None of these pages says where the list of segments ends early; those after them do.
+    [page(1, "00000008") + end + junk, rest],
+    [page(1, "00000008") + region + end + junk, rest],
+    [page(1, "00000008") + junk, ""],
+    [page(1, "00000008") + region + junk, ""],
   ];
   for (const [pages, meant] of cases) {
     const said = await saidOf(Buffer.from(`974A42320D0A1A0A03${pages}`, "hex"), true);
-    check(String(errorsOf(said)) === meant, `pages that can't begin: ${errorsOf(said)}`);
+    check(String(errorsOf(said)) === meant, `what is left out of a file: ${errorsOf(said)}`);
   }
 }
 

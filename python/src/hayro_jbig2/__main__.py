@@ -107,6 +107,9 @@ def _write_pages(words: argparse.Namespace) -> int:
             print(f"{words.input}: page {index}: {page}", file=sys.stderr)
             status = 1
             continue
+        # A page that can't begin is one of them all, and salvage leaves it out.
+        if page.left_out.pages and "{}" in words.output:
+            status = 1
         for text in page.lacks:
             print(f"{words.input}: page {index} is incomplete: {text}", file=sys.stderr)
         # Of a file as a whole: once.

@@ -50,9 +50,9 @@ def encode(
       leftmost the highest of its byte, and whole bytes for each row. Bits past the width are passed over.
 
     Decoding gives the picture back, without a pixel lost: that is proved of the library for each picture and each of
-    these settings. `coding` "mmr" writes MMR data (T.6): it takes more bytes, and pages of text are decoded in less
-    time. For the arithmetic coder `template`, from 0 to 3, says which pixels predict a pixel (GBTEMPLATE), and with
-    `typical` a row that is as the one above it takes no more than a decision; of MMR data both change nothing.
+    these settings. `coding` "mmr" writes MMR data (T.6): it mostly takes more bytes, and pages of text are decoded in
+    less time. For the arithmetic coder `template`, from 0 to 3, says which pixels predict a pixel (GBTEMPLATE), and
+    with `typical` a row that is as the one above it takes no more than a decision; of MMR data both change nothing.
     `resolution` is in pixels for each inch: a number, or one for rows and one for columns. Without it an image of
     Pillow has that of its `info["dpi"]`, and others state none.
 
@@ -118,10 +118,12 @@ def _rows_of_image(image: Image.Image) -> bytes:
 def _rows_of_array(array: numpy.ndarray[Any, Any]) -> tuple[bytes, int, int]:
     import numpy
 
+    # What a mask hides is written too.
+    array = numpy.asarray(array)
     if array.ndim != 2:
         raise ValueError("an array has the shape (height, width)")
-    # Of texts and dates numpy may compare none.
-    is_bilevel = array.dtype.kind == "b" or (array.dtype.kind in "iufcO" and ((array == 0) | (array == 1)).all())
+    # Of texts and dates numpy may compare none, and of objects it may give one answer for all.
+    is_bilevel = array.dtype.kind == "b" or (array.dtype.kind in "iufcO" and numpy.all((array == 0) | (array == 1)))
     if not is_bilevel:
         raise ValueError(f"{_NOT_BILEVEL}; an array is of type bool, or of 0 and of 1 for black")
     height, width = array.shape
