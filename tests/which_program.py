@@ -192,18 +192,23 @@ class Updates(Case):
 
     def test_it_is_proved_again_after_an_update(self):
         log, folders = os.path.join(self.room, "log"), {}
-        for name in "first", "second":
+        for name in "first", "second", "third":
             folders[name] = os.path.join(self.room, name)
             os.mkdir(folders[name])
+
+        def install(name):
             with open(os.path.join(folders[name], "rt"), "w", encoding="utf-8") as file:
                 file.write(RT.format(log=log, name=name))
             os.chmod(file.name, 0o755)
 
-        def proof_count(toolchain="first"):
-            how = {"JBIG2_PROVE": "1", "PATH": f"{folders[toolchain]}:{os.environ['PATH']}"}
-            self.assertEqual(self.run_script(**how)[0], 77)
+        def proof_count(*toolchains):
+            path = ":".join([*(folders[name] for name in toolchains or ["first"]), os.environ["PATH"]])
+            self.assertEqual(self.run_script(JBIG2_PROVE="1", PATH=path)[0], 77)
             with open(log, encoding="utf-8") as file:
                 return len(file.readlines())
+
+        install("first")
+        install("second")
 
         # Two libraries and the program.
         self.assertEqual([proof_count(), proof_count()], [3, 3])
@@ -213,6 +218,10 @@ class Updates(Case):
         self.assertEqual([proof_count("second"), proof_count("second")], [9, 9])
         shutil.copy(os.path.join(folders["first"], "rt"), folders["second"])
         self.assertEqual([proof_count("second"), proof_count("second")], [12, 12])
+        # One that comes before it on the same PATH.
+        self.assertEqual(proof_count("third", "second"), 12)
+        install("third")
+        self.assertEqual([proof_count("third", "second"), proof_count("third", "second")], [15, 15])
 
     @unittest.skipUnless(PROCESSOR == "x86_64", "programs are proved for x86-64 alone")
     def test_a_proved_program_and_an_older_source(self):
