@@ -265,6 +265,8 @@ static enum request wrong_use(int option, bool is_write) {
 static enum request read_options(struct words *words, int count, char **all) {
     int option;
     opterr = 0;
+    /* Where it is set, no option could come after `info` or `write`. */
+    unsetenv("POSIXLY_CORRECT");
     while ((option = getopt_long(count, all, ":o:f:p:g:j:qhV", options, NULL)) != -1) {
         if (option == 'h' || option == 'V') {
             (option == 'h' ? print_help : print_version)();

@@ -2,6 +2,7 @@
 
 from __future__ import annotations
 
+import io
 import math
 import random
 import struct
@@ -117,6 +118,13 @@ class Images(unittest.TestCase):
         for dpi in (self.Fraction(1, 0), self.Fraction(0, 0)), (-1, 72), (math.inf, 72), (2**40, 72), 72j, "none":
             image.info["dpi"] = dpi
             self.assertEqual(hayro_jbig2.encode(image)[22:30], bytes(8), dpi)
+
+    def test_a_tiff_picture_may_state_none(self):
+        for dpi, numbers in (None, (0, 0)), ((300, 300), (11811, 11811)):
+            file = io.BytesIO()
+            self.Image.new("1", (5, 8)).save(file, "TIFF", **({"dpi": dpi} if dpi else {}))
+            with self.Image.open(file) as image:
+                self.assertEqual(struct.unpack(">II", hayro_jbig2.encode(image)[22:30]), numbers)
 
     def test_others_are_refused(self):
         gray = self.Image.new("L", (5, 8), 1)

@@ -43,6 +43,8 @@
 //! A viewer of damaged files reads them by [`File::salvaged`], [`Globals::salvaged`] and [`Page::salvaged_embedded`], which
 //! leave out what lenient reading refuses.
 //!
+//! [`encode`] writes packed rows as a page.
+//!
 //! A small file can ask for hours of work and for gigabytes. So each page has a limit of work, and so has what pages
 //! share: see [`DecoderContext::set_work_limit`]. It grows with the page, so whoever decodes what anyone may have sent
 //! looks at [`Page::dimensions`] first.

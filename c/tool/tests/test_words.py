@@ -64,6 +64,14 @@ class Words(Case):
         for words, name in {("--force=x", EXAMPLE): "--force", (EXAMPLE, "--quiet=1"): "--quiet"}.items():
             self.assert_ends(self.run_here(*words), WRONG_WORDS, f"no word belongs to {name};")
 
+    def test_options_come_after_words_in_each_environment(self):
+        how = {"env": {**os.environ, "POSIXLY_CORRECT": "1"}}
+        ended = self.run_here("info", "--json", EXAMPLE, **how)
+        self.assert_ends(ended, WHOLE)
+        self.assertTrue(ended.output.startswith(b"["))
+        self.assert_ends(self.run_here(EXAMPLE, "-o", "all.pbm", **how), WHOLE)
+        self.assertEqual(self.files(), ["all.pbm"])
+
     def test_not_even_a_name(self):
         ended = self.run_here(program=COUNTED, env={**os.environ, "NO_WORDS": "1"})
         self.assert_ends(ended, WRONG_WORDS, "name a file;")

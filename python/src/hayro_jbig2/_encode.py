@@ -145,6 +145,7 @@ def _for_each_metre(resolution: Resolution) -> tuple[int, int]:
 def _stated_for_each_metre(resolution: Resolution) -> tuple[int, int]:
     """The same of what a file states, which may be no resolution at all. Then none is stated."""
     try:
-        return _for_each_metre(resolution)
+        # Pillow has a pixel for each inch where a TIFF picture states nothing.
+        return (0, 0) if resolution == (1, 1) else _for_each_metre(resolution)
     except (TypeError, ValueError):
         return 0, 0
