@@ -246,6 +246,11 @@ int main(int count, char **words) {
         pthread_join(workers[i].thread, NULL);
     passed += seconds(CLOCK_MONOTONIC);
     used += seconds(CLOCK_PROCESS_CPUTIME_ID);
+    for (unsigned i = 1; i < threads; i++) {
+        if (workers[i].width != workers[0].width || workers[i].height != workers[0].height)
+            fail("a page of another size");
+        compare(&workers[i], workers[0].first);
+    }
     printf("%.6f %.6f\n", passed, used);
     write_page(&workers[0], words[6]);
     return 0;

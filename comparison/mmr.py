@@ -11,7 +11,7 @@ import subprocess
 import sys
 import tempfile
 
-from comparison.compare import our_picture, settings
+from comparison.compare import kept, our_picture, settings
 from jbig2_encoder.framing import HEADER, page_information, region_information, segment
 from jbig2_encoder.pictures import pixels
 
@@ -88,7 +88,7 @@ def main():
             ours, fault = our_picture(program, name)
             if not ours or pixels(ours) != [int("".join(map(str, row)), 2) for row in rows]:
                 differing += 1
-                print(f"picture {turn} of {width} by {height} differs: {fault}")
+                print(f"picture {turn} of {width} by {height} differs ({kept(data, f'mmr-{seed}-{turn}')}): {fault}")
     print(f"{count} pictures, {differing} differ")
     return 1 if differing else 0
 

@@ -182,7 +182,7 @@ class Comparison:
         if "Poppler" in self.readers:
             read = read_by_poppler(pdf)
             if is_mmr:
-                read = [white_where(wanted, picture) for wanted, picture in zip(pictures, read)]
+                read = [*map(white_where, pictures, read), *read[len(pictures) :]]
             self.compare("Poppler", names, read, pictures)
         if "pdf.js" in self.readers:
             self.compare("pdf.js", names, sums_by_pdf_js(pdf), [sum_of(picture) for picture in pictures])

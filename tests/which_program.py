@@ -190,19 +190,26 @@ class Updates(Case):
             file.write(b"damaged")
         self.assert_runs()
 
-    def test_it_is_proved_again_after_an_update(self):
-        log, folders = os.path.join(self.room, "log"), {}
-        for name in "first", "second":
-            folders[name] = os.path.join(self.room, name)
-            os.mkdir(folders[name])
-            with open(os.path.join(folders[name], "rt"), "w", encoding="utf-8") as file:
-                file.write(RT.format(log=log, name=name))
-            os.chmod(file.name, 0o755)
+    def toolchain(self, name):
+        """A folder with a toolchain of this name."""
+        folder = os.path.join(self.room, name)
+        os.makedirs(folder, exist_ok=True)
+        with open(os.path.join(folder, "rt"), "w", encoding="utf-8") as file:
+            file.write(RT.format(log=os.path.join(self.room, "log"), name=name))
+        os.chmod(file.name, 0o755)
+        return folder
 
-        def proof_count(toolchain="first"):
-            how = {"JBIG2_PROVE": "1", "PATH": f"{folders[toolchain]}:{os.environ['PATH']}"}
-            self.assertEqual(self.run_script(**how)[0], 77)
-            with open(log, encoding="utf-8") as file:
+    def prove(self, *folders):
+        """Has the first of these toolchains prove the program where that is needed."""
+        path = ":".join([*folders, os.environ["PATH"]])
+        self.assertEqual(self.run_script(JBIG2_PROVE="1", PATH=path)[0], 77)
+
+    def test_it_is_proved_again_after_an_update(self):
+        first, second, third = self.toolchain("first"), self.toolchain("second"), os.path.join(self.room, "third")
+
+        def proof_count(*folders):
+            self.prove(*folders or [first])
+            with open(os.path.join(self.room, "log"), encoding="utf-8") as file:
                 return len(file.readlines())
 
         # Two libraries and the program.
@@ -210,9 +217,23 @@ class Updates(Case):
         self.update("crates/jbig2_mmr/src/lib.rt", lambda text: text + "// Another.\n")
         self.assertEqual([proof_count(), proof_count()], [6, 6])
         # Another toolchain, and one that takes the place of it.
-        self.assertEqual([proof_count("second"), proof_count("second")], [9, 9])
-        shutil.copy(os.path.join(folders["first"], "rt"), folders["second"])
-        self.assertEqual([proof_count("second"), proof_count("second")], [12, 12])
+        self.assertEqual([proof_count(second), proof_count(second)], [9, 9])
+        shutil.copy(os.path.join(first, "rt"), second)
+        self.assertEqual([proof_count(second), proof_count(second)], [12, 12])
+        # One that comes before it on the same PATH.
+        self.assertEqual(proof_count(third, second), 12)
+        self.toolchain("third")
+        self.assertEqual([proof_count(third, second), proof_count(third, second)], [15, 15])
+
+    def test_a_program_that_the_gate_built_of_other_sources(self):
+        """They are then as they were when the program before it was proved."""
+        first = self.toolchain("first")
+        self.prove(first)
+        with open(self.path("crates", "jbig2_decode", "out", "jbig2_decode"), "w", encoding="utf-8") as file:
+            file.write("#!/bin/sh\nexit 78\n")
+        self.update("crates/jbig2_mmr/src/lib.rt", lambda text: text)
+        self.assert_runs(PATH=f"{first}:{os.environ['PATH']}")
+        self.prove(first)
 
     @unittest.skipUnless(PROCESSOR == "x86_64", "programs are proved for x86-64 alone")
     def test_a_proved_program_and_an_older_source(self):
