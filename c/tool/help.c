@@ -40,7 +40,7 @@ void print_help(void) {
           "  -o, --output FILE     a JBIG2 file of one page, or FILE.pdf: a page for each picture\n"
           "                        without -o: NAME.jb2 in this folder, NAME-1.jb2 .. of several pictures\n"
           "  -f, --format FORMAT   jb2, jb2e (an embedded page, as PDF files have it; so does --embedded) or pdf\n"
-          "      --coding CODING   arithmetic, the usual way, or mmr (T.6): larger, but text is read faster\n"
+          "      --coding CODING   arithmetic, the usual way, or mmr (T.6): mostly larger; text is read faster\n"
           "      --template N      arithmetic: which pixels predict a pixel: 0, the usual way, to 3\n"
           "      --typical         arithmetic: a row that is as the one above it takes one decision; the default\n"
           "      --no-typical      arithmetic: codes each row\n"
