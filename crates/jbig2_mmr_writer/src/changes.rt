@@ -8,6 +8,7 @@ ghost use Rattle.jbig2_mmr.specs.T6.{is_change, is_change_from};
 ghost use Rattle.jbig2_mmr.specs.inner.T6Reading.{row_of};
 
 use jbig2_base::bitmap::Bitmap;
+use jbig2_base::bitmap::colour::find_colour;
 use jbig2_base::bitmap::steps::Steps;
 use std::alloc::Allocator;
 use std::sync::ledger::Ledger;
@@ -23,52 +24,6 @@ pub struct Place {
     pub black: bool,
     /// The place a1: the next pixel of the row that has the other colour, or the width.
     pub a1: u32,
-}
-
-/// The first column from `from` on and before `to` whose pixel in row `y` is black, or white if `black` is false; else
-/// `to`. Each 64 columns that are searched take one load.
-pub fn find_before<A: Allocator, L: Ledger>(
-    bitmap: &Bitmap<A>,
-    y: u32,
-    from: u32,
-    to: u32,
-    black: bool,
-    steps: &mut Steps<L>,
-) -> u32
-    requires order { from ≤ to }
-    requires inside { to ≤ bitmap.now.width }
-    ensures value { IsFirst (row_of bitmap.now y) black from to result }
-    ensures steps { steps.new ≡ words_loaded (words_searched from to result) steps.old }
-{
-    let mut x = from;
-    while x < to {
-        let count = (to - x).min(64);
-        let pixels = bitmap.load_pixels(x, y, count, steps);
-        let others = leading_others(pixels, count, black);
-        x += others;
-        if others < count {
-            return x;
-        }
-    }
-    to
-}
-
-/// How many of the lowest `count` bits come before the first of the colour, from the high end.
-#[inline(always)]
-fn leading_others(pixels: u64, count: u32, black: bool) -> u32
-    requires some { 1 ≤ count }
-    requires few { count ≤ 64 }
-    requires bound { pixels < 2 ^ count }
-    ensures within { result ≤ count }
-    ensures before { (k : ℕ) → k < result → bit pixels (count - 1 - k) ≡ not black }
-    ensures found { result < count → bit pixels (count - 1 - result) ≡ black }
-{
-    let of_colour = if black {
-        pixels
-    } else {
-        pixels ^ (u64::MAX >> (64 - count))
-    };
-    of_colour.leading_zeros() - (64 - count)
 }
 
 /// b1, if it is left of column `to`, else `to`: the first change of row `above` right of a0, from the colour `black` to
@@ -92,10 +47,10 @@ pub fn find_b1<A: Allocator, L: Ledger>(
     ensures loads { steps.new.loads ≤ steps.old.loads + (2 + (result - place.a0) / 64) }
 {
     if !place.past_start {
-        return find_before(bitmap, above, 0, to, !place.black, steps);
+        return find_colour(bitmap, above, 0, to, !place.black, steps);
     }
-    let of_colour = find_before(bitmap, above, place.a0, to, place.black, steps);
-    find_before(bitmap, above, of_colour, to, !place.black, steps)
+    let of_colour = find_colour(bitmap, above, place.a0, to, place.black, steps);
+    find_colour(bitmap, above, of_colour, to, !place.black, steps)
 }
 
 /// b2, if it is left of column `to`, else `to`: the first change of row `above` right of b1. The colour `black` comes
@@ -119,5 +74,5 @@ pub fn find_b2<A: Allocator, L: Ledger>(
     if b1 >= to {
         return to;
     }
-    find_before(bitmap, above, b1, to, black, steps)
+    find_colour(bitmap, above, b1, to, black, steps)
 }

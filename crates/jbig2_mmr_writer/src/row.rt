@@ -7,9 +7,10 @@ ghost use Rattle.jbig2_mmr.specs.inner.T6Reading.{row_above, row_of};
 ghost use Rattle.jbig2_mmr_writer.specs.inner.Places.{Adds, IsPlace, head_of, horizontal_code, next_code};
 
 use crate::bits::BitWriter;
-use crate::changes::{Place, find_b1, find_b2, find_before};
+use crate::changes::{Place, find_b1, find_b2};
 use crate::codes::{HORIZONTAL, PASS, push_run, vertical_entry};
 use jbig2_base::bitmap::Bitmap;
+use jbig2_base::bitmap::colour::find_colour;
 use jbig2_base::bitmap::steps::Steps;
 use std::alloc::{AllocError, Allocator};
 use std::sync::ledger::Ledger;
@@ -28,7 +29,7 @@ fn first_place<B: Allocator, L: Ledger>(bitmap: &Bitmap<B>, y: u32, steps: &mut 
     ensures steps { steps.new ≡ record steps.old { loads = steps.new.loads } }
     ensures loads { steps.new.loads ≤ steps.old.loads + (1 + result.a1) }
 {
-    let a1 = find_before(bitmap, y, 0, bitmap.width(), true, steps);
+    let a1 = find_colour(bitmap, y, 0, bitmap.width(), true, steps);
     Place {
         a0: 0,
         past_start: false,
@@ -51,7 +52,7 @@ fn place_at<B: Allocator, L: Ledger>(
     ensures steps { steps.new ≡ record steps.old { loads = steps.new.loads } }
     ensures loads { steps.new.loads ≤ steps.old.loads + (1 + (result.a1 - a0) / 64) }
 {
-    let a1 = find_before(bitmap, y, a0, bitmap.width(), !black, steps);
+    let a1 = find_colour(bitmap, y, a0, bitmap.width(), !black, steps);
     Place {
         a0,
         past_start: true,
@@ -77,7 +78,7 @@ fn push_horizontal<A: Allocator, B: Allocator, L: Ledger>(
     ensures refused { OnErr result
         (steps.new.loads + place.a1 ≤ steps.old.loads + (1 + bitmap.now.width)) }
 {
-    let a2 = find_before(bitmap, y, place.a1, bitmap.width(), place.black, steps);
+    let a2 = find_colour(bitmap, y, place.a1, bitmap.width(), place.black, steps);
     writer.push_entry(HORIZONTAL)?;
     push_run(writer, place.black, place.a1 - place.a0)?;
     push_run(writer, !place.black, a2 - place.a1)?;

@@ -10,24 +10,25 @@ use crate::bitmap::steps::Steps;
 use std::alloc::Allocator;
 use std::sync::ledger::Ledger;
 
-/// The first column from `from` on whose pixel in row `y` is black, or white if `black` is false;
-/// else the width. A row outside is white. Each 64 columns that are searched take one load.
+/// The first column from `from` on and before `to` whose pixel in row `y` is black, or white if
+/// `black` is false; else `to`. A row outside is white. Each 64 columns that are searched take one
+/// load.
 pub fn find_colour<A: Allocator, L: Ledger>(
     bitmap: &Bitmap<A>,
     y: u32,
     from: u32,
+    to: u32,
     black: bool,
     steps: &mut Steps<L>,
 ) -> u32
-    requires { from ≤ bitmap.now.width }
-    ensures value { IsFirst (λ x. pixel_at bitmap.now x y) black from bitmap.now.width result }
-    ensures steps { steps.new
-        ≡ words_loaded (words_searched from bitmap.now.width result) steps.old }
+    requires order { from ≤ to }
+    requires inside { to ≤ bitmap.now.width }
+    ensures value { IsFirst (λ x. pixel_at bitmap.now x y) black from to result }
+    ensures steps { steps.new ≡ words_loaded (words_searched from to result) steps.old }
 {
-    let width = bitmap.width();
     let mut x = from;
-    while x < width {
-        let count = (width - x).min(64);
+    while x < to {
+        let count = (to - x).min(64);
         let pixels = bitmap.load_pixels(x, y, count, steps);
         let others = leading_others(pixels, count, black);
         x += others;
@@ -35,7 +36,7 @@ pub fn find_colour<A: Allocator, L: Ledger>(
             return x;
         }
     }
-    width
+    to
 }
 
 /// How many of the lowest `count` bits come before the first of the colour, from the high end.

@@ -49,7 +49,8 @@ fn run<A: Allocator, L: Ledger>(
     ensures within { result ≤ (bitmap.now.width - x) / 8 }
     ensures steps { sum_of_counts steps.new ≤ sum_of_counts steps.old + result + 1 }
 {
-    let end = find_colour(bitmap, y, x, !black, steps);
+    let width = bitmap.width();
+    let end = find_colour(bitmap, y, x, width, !black, steps);
     (end - x) / 8
 }
 

@@ -11,7 +11,7 @@ returns-then-b1-to-clause-value g c = sym (place-past (is_change (row_of c.args.
 
 pub returns-clause-value : goal.returns-clause-value
 returns-clause-value g c =
-    sym (b2-is (row_of c.args.bitmap.now c.args.above) c.args.black c.args.b1 c.args.to c.find_before.result (omega (arith, c.if-b1-to.false)) c.requires.colour c.find_before.ensures.value)
+    sym (b2-is (row_of c.args.bitmap.now c.args.above) c.args.black c.args.b1 c.args.to c.find_colour.result (omega (arith, c.if-b1-to.false)) c.requires.colour c.find_colour.ensures.value)
 
 pub returns-clause-loads : goal.returns-clause-loads
-returns-clause-loads g c = omega (arith, c.find_before.ensures.value.after, ap (λ (t : Counts). t.loads) c.find_before.ensures.steps)
+returns-clause-loads g c = omega (arith, c.find_colour.ensures.value.after, ap (λ (t : Counts). t.loads) c.find_colour.ensures.steps)

@@ -6,9 +6,9 @@ use Rattle.jbig2_mmr_writer.proofs.row.first_place.Goals as goal
 
 pub returns-clause-place : goal.returns-clause-place
 returns-clause-place g c = record {
-  a1 = subst (λ (n : ℕ). IsFirst (row_of c.args.bitmap.now c.args.y) true 0 n c.find_before-a1.result) c.width.ensures.value c.find_before-a1.ensures.value;
+  a1 = subst (λ (n : ℕ). IsFirst (row_of c.args.bitmap.now c.args.y) true 0 n c.find_colour-a1.result) c.width.ensures.value c.find_colour-a1.ensures.value;
   first = λ start. (refl, refl);
 }
 
 pub returns-clause-loads : goal.returns-clause-loads
-returns-clause-loads g c = omega (arith, ap (λ (t : Counts). t.loads) c.find_before-a1.ensures.steps)
+returns-clause-loads g c = omega (arith, ap (λ (t : Counts). t.loads) c.find_colour-a1.ensures.steps)
