@@ -78,6 +78,7 @@ fn move_by<R: ReadInstances, L: Ledger>(
 }
 
 /// Reads how far the next instance is, and gives its place.
+#[inline(always)]
 #[tactic(auto, unfolding(crate::specs::Text::next_cursor))]
 pub fn move_on<R: ReadInstances, L: Ledger>(
     readings: &mut R,
