@@ -155,16 +155,17 @@ segments-added s w h x y old mid end no_information information first no_region 
     ∙ ap (λ (l : List ℕ). old ++ (segment_of 0 48 1 (information_of s w h) ++ segment_of 1 38 1 l)) two
 
 -- a file, part by part
-pub file-made : (s : WriteSettings) (w h : ℕ) (start front mid body end coded : List ℕ) → start ≡ [] → front ≡ start ++ file_header_bytes (file_header false) → mid ≡ front ++ segments_of s w h coded
-    → body ≡ mid ++ segment_of 2 49 1 [] → end ≡ body ++ segment_of 3 51 0 [] → end ≡ file_of s w h coded
-file-made s w h start front mid body end coded empty is_front is_mid is_body is_end =
+pub file-added : (s : WriteSettings) (w h : ℕ) (start front mid body end coded : List ℕ) → front ≡ start ++ file_header_bytes (file_header false) → mid ≡ front ++ segments_of s w h coded → body ≡ mid ++ segment_of 2 49 1 []
+    → end ≡ body ++ segment_of 3 51 0 [] → end ≡ start ++ file_of s w h coded
+file-added s w h start front mid body end coded is_front is_mid is_body is_end =
     let header : List ℕ = file_header_bytes (file_header false) in
     let segments : List ℕ = segments_of s w h coded in
     let page_end : List ℕ = segment_of 2 49 1 [] in
     let file_end : List ℕ = segment_of 3 51 0 [] in
-    is_end ∙ ap (λ (l : List ℕ). l ++ file_end) (is_body ∙ ap (λ (l : List ℕ). l ++ page_end) (is_mid ∙ ap (λ (l : List ℕ). l ++ segments) (is_front ∙ ap (λ (l : List ℕ). l ++ header) empty)))
-    ∙ append_assoc (header ++ segments) page_end file_end
-    ∙ append_assoc header segments (page_end ++ file_end)
+    is_end ∙ ap (λ (l : List ℕ). l ++ file_end) (is_body ∙ ap (λ (l : List ℕ). l ++ page_end) (is_mid ∙ ap (λ (l : List ℕ). l ++ segments) is_front))
+    ∙ append_assoc ((start ++ header) ++ segments) page_end file_end
+    ∙ append_assoc (start ++ header) segments (page_end ++ file_end)
+    ∙ append_assoc start header (segments ++ (page_end ++ file_end))
 
 -- the coded bytes, and the size of the bitmap
 coded-parts : (s : WriteSettings) (g : Grid) (w h : ℕ) (made : ℕ → ℕ → List ℕ → List ℕ) (coded slice : List ℕ) → w ≡ g.width → h ≡ g.height → slice ≡ coded → coded ≡ coded_bytes (choice_of s) g.width g.height (pixel_at g)

@@ -51,41 +51,25 @@ fn push_page<A: Allocator + Clone>(
     Ok(())
 }
 
-/// The two segments of a page of this size, whose region has these coded bytes.
-fn page_segments<A: Allocator + Clone>(
+/// Adds a file of a page of this size, whose region has these coded bytes.
+fn push_file<A: Allocator + Clone>(
+    bytes: &mut Vec<u8, A>,
     alloc: A,
     width: u32,
     height: u32,
     settings: &WriteSettings,
     coded: &[u8],
-) -> Result<Vec<u8, A>, AllocError>
+) -> Result<(), AllocError>
     requires { length coded.now + 26 < 2 ^ 32 }
-    ensures bytes { IfOk result (λ v. v.items ≡ segments_of settings.now width height coded.now) }
-    ensures resolution { IfOk result (λ _. FitsResolution settings.now) }
+    ensures bytes { OnOk result (bytes.new.items
+        ≡ bytes.old.items ++ file_of settings.now width height coded.now) }
+    ensures resolution { OnOk result (FitsResolution settings.now) }
 {
-    let mut bytes = Vec::new(alloc.clone()?);
-    push_page(&mut bytes, alloc, width, height, settings, coded)?;
-    Ok(bytes)
-}
-
-/// A file of a page of this size, whose region has these coded bytes.
-fn file_segments<A: Allocator + Clone>(
-    alloc: A,
-    width: u32,
-    height: u32,
-    settings: &WriteSettings,
-    coded: &[u8],
-) -> Result<Vec<u8, A>, AllocError>
-    requires { length coded.now + 26 < 2 ^ 32 }
-    ensures bytes { IfOk result (λ v. v.items ≡ file_of settings.now width height coded.now) }
-    ensures resolution { IfOk result (λ _. FitsResolution settings.now) }
-{
-    let mut bytes = Vec::new(alloc.clone()?);
-    push_file_header(&mut bytes)?;
-    push_page(&mut bytes, alloc, width, height, settings, coded)?;
-    push_segment(&mut bytes, 2, END_OF_PAGE, 1, &[])?;
-    push_segment(&mut bytes, 3, END_OF_FILE, 0, &[])?;
-    Ok(bytes)
+    push_file_header(bytes)?;
+    push_page(bytes, alloc, width, height, settings, coded)?;
+    push_segment(bytes, 2, END_OF_PAGE, 1, &[])?;
+    push_segment(bytes, 3, END_OF_FILE, 0, &[])?;
+    Ok(())
 }
 
 /// The bytes of a page of this size, embedded or in a file, whose region has these coded bytes.
@@ -101,8 +85,10 @@ pub fn bytes_of_page<A: Allocator + Clone>(
         ≡ segments_in settings.now.container settings.now width height coded.now) }
     ensures resolution { IfOk result (λ _. FitsResolution settings.now) }
 {
+    let mut bytes = Vec::new(alloc.clone()?);
     match settings.container {
-        Container::EmbeddedPage => page_segments(alloc, width, height, settings, coded),
-        Container::File => file_segments(alloc, width, height, settings, coded),
+        Container::EmbeddedPage => push_page(&mut bytes, alloc, width, height, settings, coded)?,
+        Container::File => push_file(&mut bytes, alloc, width, height, settings, coded)?,
     }
+    Ok(bytes)
 }
