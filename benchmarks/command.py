@@ -4,8 +4,9 @@
 
 Each file has a page. A JBIG2 file and a PDF file of N pages (200) are made of it, all the same page, whose dictionaries
 and tables they share. Both programs write all pages of the JBIG2 file as PBM; jbig2dec can't read PDF files. Programs
-take turns. Of the processor's time, and of the time that passed, the least of the rounds (3) counts. What is written is
-compared. `make -C c` builds the command first.
+take turns. Where clang is there and limit_document.c can read the file, its loop without checks takes turns with them. Of
+the processor's time, and of the time that passed, the least of the rounds (3) counts. What is written is compared.
+`make -C c` builds the command first.
 """
 from __future__ import annotations
 
@@ -46,6 +47,17 @@ def timed(words: list[str]) -> tuple[float, float]:
     return used, ended - began
 
 
+def loop_of(file: pathlib.Path, pages: int, room: pathlib.Path, out: pathlib.Path) -> list[str]:
+    """The command of the loop without checks, or nothing where it can't be."""
+    program, source = str(room / "limit_document"), str(ROOT / "benchmarks" / "limit_document.c")
+    words = ["clang", "-std=gnu11", "-Wall", "-Wextra", "-O3", "-march=x86-64-v2", source, "-o", program]
+    if not shutil.which("clang"):
+        return []
+    subprocess.run(words, check=True)
+    tried = subprocess.run([program, file, "1"], stdout=subprocess.DEVNULL, stderr=subprocess.DEVNULL)
+    return ["sh", "-c", f'exec "$0" "$1" {pages} >"$2"', program, str(file), str(out)] if tried.returncode == 0 else []
+
+
 def ways_of(document: pathlib.Path, pdf: pathlib.Path, out: pathlib.Path) -> dict[str, list[str]]:
     """The commands, by their names. Each writes out."""
     ways = {}
@@ -57,7 +69,7 @@ def ways_of(document: pathlib.Path, pdf: pathlib.Path, out: pathlib.Path) -> dic
     return ways
 
 
-def compare(image: Image, pages: int, rounds: int) -> None:
+def compare(file: pathlib.Path, image: Image, pages: int, rounds: int) -> None:
     """Prints a line for each way."""
     with tempfile.TemporaryDirectory() as name:
         room = pathlib.Path(name)
@@ -65,6 +77,8 @@ def compare(image: Image, pages: int, rounds: int) -> None:
         document.write_bytes(file_of(image, pages))
         pdf.write_bytes(pdf_of([image] * pages))
         ways = ways_of(document, pdf, out)
+        if loop := loop_of(file, pages, room, out):
+            ways["a loop without checks"] = loop
         runs: dict[str, list[tuple[float, float]]] = {way: [] for way in ways}
         written = set()
         for _ in range(rounds):
@@ -90,7 +104,7 @@ def main() -> None:
     for file in options.files:
         image = image_of(embedded_page(file.read_bytes(), 0))
         print(f"{file.name}: {options.pages} pages, {len(image.shared)} bytes of globals")
-        compare(image, options.pages, options.rounds)
+        compare(file, image, options.pages, options.rounds)
         sys.stdout.flush()
 
 

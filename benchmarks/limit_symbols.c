@@ -10,13 +10,6 @@
  */
 #include "limit_symbols.h"
 
-static void write_page(void) {
-    printf("P4\n%zu %zu\n", page.width, page.height);
-    for (size_t y = 0; y < page.height; y++)
-        for (size_t x = 0; x < (page.width + 7) / 8; x++)
-            putchar((int)(page.rows[y * page.words + x / 8] >> (56 - 8 * (x % 8)) & 0xFF));
-}
-
 int main(int count, char **words) {
     if (count < 2)
         fail("usage: limit_symbols FILE.jb2 [RUNS]");

@@ -196,15 +196,35 @@ static struct input read_input(const char *name) {
 
 static void clear_page(void) { memset(page.rows, 0, page.words * page.height * sizeof *page.rows); }
 
-/* Decodes the page. Returns the time between its symbols and its text. */
-static __attribute__((noinline)) double decode(const struct input *input) {
+static void decode_dictionary(const struct input *input) {
     memset(pixels, 0, sizeof pixels);
     memset(integers, 0, sizeof integers);
     decode_symbols(input->dictionary, input->symbols);
-    double between = milliseconds();
+}
+
+static void decode_page(const struct input *input) {
     memset(integers, 0, sizeof integers);
     memset(ids, 0, (size_t)1 << input->id_length);
     clear_page();
     decode_text(input->text, input->instances, input->id_length);
+}
+
+/* Decodes the page. Returns the time between its symbols and its text. */
+static inline __attribute__((noinline)) double decode(const struct input *input) {
+    decode_dictionary(input);
+    double between = milliseconds();
+    decode_page(input);
     return between;
+}
+
+/* Writes the page to standard output as PBM. */
+static inline void write_page(void) {
+    size_t length = (page.width + 7) / 8;
+    uint64_t row[page.words];
+    printf("P4\n%zu %zu\n", page.width, page.height);
+    for (size_t y = 0; y < page.height; y++) {
+        for (size_t i = 0; i < page.words; i++)
+            row[i] = __builtin_bswap64(page.rows[y * page.words + i]);
+        fwrite(row, 1, length, stdout);
+    }
 }
