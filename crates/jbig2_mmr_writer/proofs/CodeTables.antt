@@ -11,27 +11,47 @@ use Rattle.jbig2_inverses.specs.RowWriter.{mode_word, run_word, word_of}
 use Rattle.jbig2_mmr_writer.specs.declared.codes.TheConstants.{BLACK_ENDS, BLACK_PARTS, HORIZONTAL, LEFT, PASS, RIGHT, WHITE_ENDS, WHITE_PARTS}
 use Rattle.jbig2_mmr_writer.specs.inner.Entries.{word_of_entry}
 
-abbrev words : List ℕ → List (List ℕ)
+abbrev pub words : List ℕ → List (List ℕ)
 words table = map (λ entry. word_of_entry entry) table
 
-abbrev parts : Bool → ℕ → List ℕ
+abbrev pub parts : Bool → ℕ → List ℕ
 parts black place = run_word black ((place + 1) * 64)
 
-black_ends : words BLACK_ENDS ≡ map (λ run. run_word true run) (range_with_len 0 64)
-unfolding digits word_of black_runs longer_runs
-black_ends = refl
+-- whether each code fits its size
+pub smalls : List ℕ → Bool
+smalls [] = true
+smalls (e ∷ es) = ltb (e / 16) (2 ^ (e % 16)) && smalls es
 
-white_ends : words WHITE_ENDS ≡ map (λ run. run_word false run) (range_with_len 0 64)
-unfolding digits word_of white_runs longer_runs
-white_ends = refl
+small : (es : List ℕ) (i : ℕ) → smalls es ≡ true → get_or es i 0 / 16 < 2 ^ (get_or es i 0 % 16)
+unfolding smalls
+small [] i all = omega arith
+small (e ∷ es) zero all = ltb-true (e / 16) (2 ^ (e % 16)) (and_parts _ _ all).0
+small (e ∷ es) (suc i) all = small es i (and_parts _ _ all).1
 
-black_parts : words BLACK_PARTS ≡ map (λ place. parts true place) (range_with_len 0 40)
-unfolding digits word_of black_runs longer_runs
-black_parts = refl
+-- a table whose n entries have the words that f gives for 0, 1 and so on, and fit their sizes
+pub record IsTable (f : ℕ → List ℕ) (n : ℕ) (table : List ℕ) : Type 0 where
+  pub are : words table ≡ map f (range_with_len 0 n)
+  pub fit : smalls table ≡ true
+  pub many : length table ≡ n
 
-white_parts : words WHITE_PARTS ≡ map (λ place. parts false place) (range_with_len 0 40)
-unfolding digits word_of white_runs longer_runs
-white_parts = refl
+pub entry-fits : {f : ℕ → List ℕ} {n : ℕ} {table : List ℕ} → IsTable f n table → (i : ℕ) → get_or table i 0 / 16 < 2 ^ (get_or table i 0 % 16)
+entry-fits {f} {n} {table} is i = small table i is.fit
+
+pub black_ends : IsTable (λ run. run_word true run) 64 BLACK_ENDS
+unfolding digits word_of black_runs longer_runs smalls
+black_ends = record { are = refl; fit = refl; many = refl }
+
+pub white_ends : IsTable (λ run. run_word false run) 64 WHITE_ENDS
+unfolding digits word_of white_runs longer_runs smalls
+white_ends = record { are = refl; fit = refl; many = refl }
+
+pub black_parts : IsTable (λ place. parts true place) 40 BLACK_PARTS
+unfolding digits word_of black_runs longer_runs smalls
+black_parts = record { are = refl; fit = refl; many = refl }
+
+pub white_parts : IsTable (λ place. parts false place) 40 WHITE_PARTS
+unfolding digits word_of white_runs longer_runs smalls
+white_parts = record { are = refl; fit = refl; many = refl }
 
 rights : words RIGHT ≡ map (λ n. mode_word (vertical_right n)) (range_with_len 0 4)
 unfolding digits word_of modes
@@ -56,65 +76,19 @@ at-place f table n i are inside few =
     ∙ ap (λ (t : List (List ℕ)). get_or t i []) are
     ∙ get_or-map-range_with_len f 0 n i i [] few (omega arith)
 
-pub black-end : (run : ℕ) → run < 64 → word_of_entry (get_or BLACK_ENDS run 0) ≡ run_word true run
-black-end run few = at-place (λ n. run_word true n) BLACK_ENDS 64 run black_ends few few
+-- the entry of a run
+pub end-word : {table : List ℕ} (black : Bool) → IsTable (λ run. run_word black run) 64 table → (run : ℕ) → run < 64 → word_of_entry (get_or table run 0) ≡ run_word black run
+end-word {table} black is run few = at-place (λ n. run_word black n) table 64 run is.are (omega (arith, is.many, few)) few
 
-pub white-end : (run : ℕ) → run < 64 → word_of_entry (get_or WHITE_ENDS run 0) ≡ run_word false run
-white-end run few = at-place (λ n. run_word false n) WHITE_ENDS 64 run white_ends few few
-
-pub black-part : (times : ℕ) → 1 ≤ times → times ≤ 40 → word_of_entry (get_or BLACK_PARTS (times - 1) 0) ≡ run_word true (times * 64)
-black-part times some few =
+-- the entry of a part of 64 times `times` columns
+pub part-word : {table : List ℕ} (black : Bool) → IsTable (λ place. parts black place) 40 table → (times : ℕ) → 1 ≤ times → times ≤ 40 → word_of_entry (get_or table (times - 1) 0) ≡ run_word black (times * 64)
+part-word {table} black is times some few =
     let inside : times - 1 < 40 = omega (arith, some, few) in
     let same : times - 1 + 1 ≡ times = omega (arith, some) in
-    at-place (λ place. parts true place) BLACK_PARTS 40 (times - 1) black_parts inside inside ∙ ap (λ (n : ℕ). run_word true (n * 64)) same
-
-pub white-part : (times : ℕ) → 1 ≤ times → times ≤ 40 → word_of_entry (get_or WHITE_PARTS (times - 1) 0) ≡ run_word false (times * 64)
-white-part times some few =
-    let inside : times - 1 < 40 = omega (arith, some, few) in
-    let same : times - 1 + 1 ≡ times = omega (arith, some) in
-    at-place (λ place. parts false place) WHITE_PARTS 40 (times - 1) white_parts inside inside ∙ ap (λ (n : ℕ). run_word false (n * 64)) same
+    at-place (λ place. parts black place) table 40 (times - 1) is.are (omega (arith, is.many, inside)) inside ∙ ap (λ (n : ℕ). run_word black (n * 64)) same
 
 pub right-mode : (n : ℕ) → n < 4 → word_of_entry (get_or RIGHT n 0) ≡ mode_word (vertical_right n)
 right-mode n few = at-place (λ k. mode_word (vertical_right k)) RIGHT 4 n rights few few
 
 pub left-mode : (n : ℕ) → n < 4 → word_of_entry (get_or LEFT n 0) ≡ mode_word (vertical_left n)
 left-mode n few = at-place (λ k. mode_word (vertical_left k)) LEFT 4 n lefts few few
-
--- ---- each code fits its size
-smalls : List ℕ → Bool
-smalls [] = true
-smalls (e ∷ es) = ltb (e / 16) (2 ^ (e % 16)) && smalls es
-
-small : (es : List ℕ) (i : ℕ) → smalls es ≡ true → get_or es i 0 / 16 < 2 ^ (get_or es i 0 % 16)
-unfolding smalls
-small [] i all = omega arith
-small (e ∷ es) zero all = ltb-true (e / 16) (2 ^ (e % 16)) (and_parts _ _ all).0
-small (e ∷ es) (suc i) all = small es i (and_parts _ _ all).1
-
-black_ends-small : smalls BLACK_ENDS ≡ true
-unfolding smalls
-black_ends-small = refl
-
-white_ends-small : smalls WHITE_ENDS ≡ true
-unfolding smalls
-white_ends-small = refl
-
-black_parts-small : smalls BLACK_PARTS ≡ true
-unfolding smalls
-black_parts-small = refl
-
-white_parts-small : smalls WHITE_PARTS ≡ true
-unfolding smalls
-white_parts-small = refl
-
-pub black-end-small : (i : ℕ) → get_or BLACK_ENDS i 0 / 16 < 2 ^ (get_or BLACK_ENDS i 0 % 16)
-black-end-small i = small BLACK_ENDS i black_ends-small
-
-pub white-end-small : (i : ℕ) → get_or WHITE_ENDS i 0 / 16 < 2 ^ (get_or WHITE_ENDS i 0 % 16)
-white-end-small i = small WHITE_ENDS i white_ends-small
-
-pub black-part-small : (i : ℕ) → get_or BLACK_PARTS i 0 / 16 < 2 ^ (get_or BLACK_PARTS i 0 % 16)
-black-part-small i = small BLACK_PARTS i black_parts-small
-
-pub white-part-small : (i : ℕ) → get_or WHITE_PARTS i 0 / 16 < 2 ^ (get_or WHITE_PARTS i 0 % 16)
-white-part-small i = small WHITE_PARTS i white_parts-small
