@@ -75,8 +75,11 @@ static bool is_taken(TIFF *tiff, uint16_t depth, uint16_t photometric, struct te
         add_text(reason, "the picture has a palette; write takes TIFF without one");
     else if (samples == 2 && is_gray)
         add_not_bilevel(reason, "the picture has transparent pixels");
-    else if (samples != 1 || !is_gray)
+    else if (samples != 1)
         add_not_bilevel(reason, "the picture has colours");
+    else if (!is_gray)
+        add_text(reason, "the picture has PhotometricInterpretation %u, which write doesn't take",
+                 (unsigned)photometric);
     else if (depth != 1 && depth != 8)
         add_not_bilevel(reason, "its pixels have neither one bit nor eight");
     else if (TIFFIsTiled(tiff))

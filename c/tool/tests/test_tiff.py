@@ -57,6 +57,7 @@ class Tiff(WritingCase):
         bad = {
             "the picture has colours" + not_bilevel: {"photometric": 2, "samples": 3},
             "the picture has transparent pixels" + not_bilevel: {"samples": 2},
+            "the picture has PhotometricInterpretation 4, which write doesn't take\n": {"photometric": 4},
             "its pixels have neither one bit nor eight" + not_bilevel: {"depth": 4},
             "the picture is in tiles; write takes TIFF in strips alone\n": tiles,
             "the picture is turned (Orientation); write takes it upright alone\n": {"orientation": 6},
