@@ -64,6 +64,11 @@ static uint32_t resolution_of(TIFF *tiff, uint32_t tag) {
     return each_metre >= 0.5 && each_metre < 4e9 ? (uint32_t)(each_metre + 0.5) : 0;
 }
 
+static bool is_fax(uint16_t coding) {
+    return coding == COMPRESSION_CCITTRLE || coding == COMPRESSION_CCITTRLEW || coding == COMPRESSION_CCITTFAX3 ||
+           coding == COMPRESSION_CCITTFAX4;
+}
+
 /* False with a reason where `write` doesn't take a page. */
 static bool is_taken(TIFF *tiff, uint16_t depth, uint16_t photometric, struct text *reason) {
     uint16_t samples = 1, orientation = ORIENTATION_TOPLEFT, coding = COMPRESSION_NONE;
@@ -71,7 +76,10 @@ static bool is_taken(TIFF *tiff, uint16_t depth, uint16_t photometric, struct te
     TIFFGetFieldDefaulted(tiff, TIFFTAG_ORIENTATION, &orientation);
     TIFFGetFieldDefaulted(tiff, TIFFTAG_COMPRESSION, &coding);
     bool is_gray = photometric == PHOTOMETRIC_MINISBLACK || photometric == PHOTOMETRIC_MINISWHITE;
-    if (photometric == PHOTOMETRIC_PALETTE)
+    /* Programs agree on what 0 is of codes of fax alone, where it is white. */
+    if (!TIFFGetField(tiff, TIFFTAG_PHOTOMETRIC, &photometric) && !is_fax(coding))
+        add_text(reason, "the picture doesn't say whether 0 is black (PhotometricInterpretation)");
+    else if (photometric == PHOTOMETRIC_PALETTE)
         add_text(reason, "the picture has a palette; write takes TIFF without one");
     else if (samples == 2 && is_gray)
         add_not_bilevel(reason, "the picture has transparent pixels");

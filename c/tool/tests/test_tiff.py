@@ -69,6 +69,21 @@ class Tiff(WritingCase):
                 self.made(tiff(picture, **numbers), "bad.tiff")
                 self.assert_ends(self.run_here("write", "bad.tiff"), NOT_DONE, f"bad.tiff: {text}")
 
+    def test_tiff_that_does_not_say_what_black_is(self):
+        """Programs take 0 as black or as white there, but of codes of fax as white alone."""
+        picture = noise(16, 16)
+        number, other = (struct.pack("<HHII", field, 4, 1, 0) for field in (262, 60000))
+        self.made(tiff(picture).replace(number, other), "bad.tiff")
+        said = "bad.tiff: the picture doesn't say whether 0 is black (PhotometricInterpretation)\n"
+        self.assert_ends(self.run_here("write", "bad.tiff"), NOT_DONE, said)
+        self.made(picture.pbm, "a.pbm")
+        self.assert_ends(self.run_here("write", "a.pbm"), WHOLE)
+        self.assert_ends(self.run_here("a.jb2", "-o", "a.tiff"), WHOLE)
+        [(_, _, rows)] = strips_of_tiff((self.room / "a.tiff").read_bytes())
+        self.made(tiff(picture, rows, coding=T6).replace(number, other), "good.tiff")
+        self.assert_ends(self.run_here("write", "good.tiff"), WHOLE)
+        self.assertEqual(self.read_back("good.jb2"), [picture])
+
     def test_tiff_with_a_palette(self):
         """It may be black and white, so nothing is said of colours. The palette's six numbers are bytes of the rows."""
         data = tiff(noise(16, 16), photometric=3, palette=8)
