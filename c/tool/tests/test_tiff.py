@@ -124,6 +124,15 @@ class Tiff(WritingCase):
             self.assert_ends(self.run_here("write", "bad.tiff"), NOT_DONE, "bad.tiff: the TIFF picture is damaged at row ")
         self.assertNotIn("bad.jb2", self.files())
 
+    def test_rows_that_are_not_in_the_strip(self):
+        """libtiff takes the bytes after it."""
+        picture = noise(16, 16)
+        said = "bad.tiff: the TIFF picture is damaged: it has other rows than it states (StripByteCounts)\n"
+        for numbers in {"size": 30}, {"height": 17, "strip": 17}, {"width": 32}:
+            self.made(tiff(picture, **numbers), "bad.tiff")
+            self.assert_ends(self.run_here("write", "bad.tiff"), NOT_DONE, said)
+        self.assertEqual(self.files(), ["bad.tiff"])
+
     def test_lzw_of_the_old_form(self):
         """Codes of nine bits, the lowest first: clear, each byte as it is, and end. libtiff warns of this form."""
         picture = noise(16, 50)
