@@ -179,14 +179,16 @@ class Writing(WritingCase):
             **{f"depth {depth}": png(picture, depth) for depth in (1, 2, 4, 8, 16)},
             "a palette": png(picture, 1, 3, chunks=palette),
             "a palette of 8 bits": png(picture, 8, 3, (0, 1), palette),
+            "a palette whose colour isn't used": png(picture, 2, 3, (2, 1), chunk(b"PLTE", b"abc" + b"\xff" * 3 + bytes(3))),
         }
         bad = {
             "shades of gray": png(picture, 8, 0, (0, 254)),
             "gray": png(picture, 16, 0, (0, 0xFFFE)),
             "colours": png(picture, 8, 2),
             "transparent": png(picture, 8, 4),
-            "has colours or": png(picture, 1, 3, chunks=chunk(b"PLTE", bytes([0, 0, 0, 255, 255, 254]))),
-            "or shades of gray": png(picture, 1, 3, chunks=chunk(b"PLTE", bytes([0, 0, 0, 128, 128, 128]))),
+            "has colours;": png(picture, 1, 3, chunks=chunk(b"PLTE", bytes([0, 0, 0, 255, 255, 254]))),
+            "has shades of gray;": png(picture, 1, 3, chunks=chunk(b"PLTE", bytes([0, 0, 0, 128, 128, 128]))),
+            "a pixel has no colour in the palette": png(picture, 1, 3, chunks=chunk(b"PLTE", bytes(3))),
             "transparent pixels": png(picture, 1, 0, chunks=chunk(b"tRNS", b"\0\0")),
             "": png(picture)[:-30],
         }
@@ -203,13 +205,13 @@ class Writing(WritingCase):
 
     @unittest.skipUnless(HAS_PNG, "built without libpng")
     def test_a_large_png_takes_no_more_memory_than_its_packed_rows(self):
-        """12000 by 12000 pixels of a palette, which are 18 MB, and 432 MB as bytes of three colours."""
+        """12000 by 12000 pixels of a palette, which are 18 MB, and 144 MB as bytes."""
         side = 12000
         data = zlib.compress((b"\0" + b"\xff" * (side // 8)) * side)
         header = struct.pack(">IIBBBBB", side, side, 1, 3, 0, 0, 0)
         palette = chunk(b"PLTE", bytes([0, 0, 0, 255, 255, 255]))
         self.made(PNG + chunk(b"IHDR", header) + palette + chunk(b"IDAT", data) + chunk(b"IEND", b""), "scan.png")
-        limit = functools.partial(resource.setrlimit, resource.RLIMIT_AS, (400 << 20, 400 << 20))
+        limit = functools.partial(resource.setrlimit, resource.RLIMIT_AS, (160 << 20, 160 << 20))
         self.assert_ends(self.run_here("write", "scan.png", preexec_fn=limit), WHOLE)
 
     @unittest.skipUnless(HAS_PNG, "built without libpng")
