@@ -308,6 +308,7 @@ class Writing(WritingCase):
             "text": b"words\n",
             "an empty file": b"",
             "a PGM picture": b"P5 1 1 255\n\0",
+            "a BMP picture": b"BM" + struct.pack("<12I", 94, 0, 62, 40, 8, 8, 1 << 16 | 1, 0, 32, 0, 0, 2) + bytes(44),
             "nothing that this program knows": bytes(range(255, 200, -1)),
         }
         for said, data in others.items():
