@@ -3,6 +3,7 @@ from __future__ import annotations
 
 import functools
 import json
+import os
 import random
 import resource
 import shutil
@@ -11,7 +12,7 @@ import subprocess
 import unittest
 import zlib
 
-from support import BARE, BOOK, HAS_PDF, HAS_PNG, NOT_DONE, PNG, SANITIZED, WHOLE, WRONG_WORDS
+from support import BARE, BOOK, COUNTED, HAS_PDF, HAS_PNG, NOT_DONE, PNG, SANITIZED, WHOLE, WRONG_WORDS
 from support import Case, Picture, of_numbers, pictures_of
 
 INCH = 0.0254
@@ -244,6 +245,16 @@ class Writing(WritingCase):
         self.made(noise(1, 1).pbm, "a.pbm")
         self.assert_ends(self.run_here("write", "a.pbm", "-o", "a.pdf", "--dpi", "100000000"), WHOLE)
         self.assertIn(b"/MediaBox [0 0 0.0001 0.0001]", (self.room / "a.pdf").read_bytes())
+
+    def test_no_pdf_file_is_larger_than_its_table_of_objects_can_say(self):
+        """Which has ten digits for each place. Its bytes before the pages are counted here, and not written."""
+        self.made(noise(20, 20).pbm, "a.pbm")
+        for begins, status in (9999990000, WHOLE), (9999999600, NOT_DONE):
+            env = {**os.environ, "PDF_BEGINS": str(begins)}
+            ended = self.run_here("write", "a.pbm", "-o", f"{begins}.pdf", program=COUNTED, env=env)
+            self.assertEqual(ended.status, status, ended.errors)
+        self.assertIn("hayro-jbig2: 9999999600.pdf: File too large\n", ended.errors)
+        self.assertEqual(self.files(), ["9999990000.pdf", "a.pbm"])
 
     def test_a_file_that_can_not_be_made(self):
         self.made(noise(20, 20).pbm, "a.pbm")
