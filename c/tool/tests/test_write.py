@@ -154,7 +154,9 @@ class Writing(WritingCase):
     def test_pbm_forms(self):
         picture = noise(37, 9)
         comment = picture.pbm.replace(b"37 9\n", b"37 9# and a comment\n", 1)
-        for name, data in {"digits": p1(picture), "two": picture.pbm + picture.pbm, "comment": comment}.items():
+        forms = {"digits": p1(picture), "two": picture.pbm + picture.pbm, "comment": comment}
+        forms["end"] = p1(picture) + b"# of digits\n#\n"
+        for name, data in forms.items():
             self.made(data, f"{name}.pbm")
             self.assert_ends(self.run_here("write", f"{name}.pbm", "-o", f"{name}.pdf"), WHOLE)
             if HAS_PDF:
@@ -162,9 +164,10 @@ class Writing(WritingCase):
         for data in b"P4\n8 8\n1234567", b"P4\n8\n", b"P1\n2 2\n0 1 0", b"P1\n2 2\n0 1 0 2":
             self.made(data, "bad.pbm")
             self.assert_ends(self.run_here("write", "bad.pbm", "-o", "bad.jb2"), NOT_DONE, "bad.pbm: the ")
-        self.made(b"P4 8 1\nx P5", "bad.pbm")
-        said = "bad.pbm: picture 2: after a picture of PBM comes something else"
-        self.assert_ends(self.run_here("write", "bad.pbm", "-o", "bad.jb2"), NOT_DONE, said)
+        for data in b"P4 8 1\nx P5", b"P4 8 1\nx#", b"P1 1 1 0#\n0":
+            self.made(data, "bad.pbm")
+            said = "bad.pbm: picture 2: after a picture of PBM comes something else"
+            self.assert_ends(self.run_here("write", "bad.pbm", "-o", "bad.jb2"), NOT_DONE, said)
         for sides in b"0 8", b"8 0", b"65536 1", b"1 65536", b"99999999999999999999 1":
             self.made(b"P4 " + sides + b"\n" + bytes(70000), "bad.pbm")
             self.assert_ends(self.run_here("write", "bad.pbm", "-o", "bad.jb2"), NOT_DONE, "a page has 1 to 65535")
