@@ -9,7 +9,7 @@ import zlib
 
 from support import HAS_TIFF, NOT_DONE, WHOLE, Picture
 from test_output import strips_of_tiff
-from test_write import WritingCase, noise
+from test_write import WritingCase, noise, pixels_of
 
 T6, LZW, DEFLATE = 4, 5, 8
 
@@ -21,7 +21,7 @@ def tiff(picture: Picture, rows: bytes | None = None, is_big: bool = False, **ot
     begins = 16 if is_big else 8
     fields = {"width": 256, "height": 257, "depth": 258, "coding": 259, "photometric": 262, "place": 273}
     fields |= {"orientation": 274, "samples": 277, "strip": 278, "size": 279, "tile": 322, "tile_height": 323}
-    fields |= {"tile_place": 324, "tile_size": 325, "palette": 320}
+    fields |= {"tile_place": 324, "tile_size": 325, "palette": 320, "x": 282, "y": 283, "unit": 296}
     numbers = {"width": picture.width, "height": picture.height, "depth": 1, "coding": 1, "photometric": 0}
     numbers |= {"place": begins, "samples": 1, "strip": picture.height, "size": len(rows), **others}
     listed = sorted((fields[name], number) for name, number in numbers.items())
@@ -83,6 +83,31 @@ class Tiff(WritingCase):
         self.made(tiff(picture, rows, coding=T6).replace(number, other), "good.tiff")
         self.assert_ends(self.run_here("write", "good.tiff"), WHOLE)
         self.assertEqual(self.read_back("good.jb2"), [picture])
+
+    def test_black_is_0_or_the_greatest_number(self):
+        picture = noise(37, 9)
+        pixels = bytes(255 * pixel for row in pixels_of(picture) for pixel in row)
+        for depth, rows in (1, picture.rows), (8, pixels):
+            for photometric in 0, 1:
+                with self.subTest(depth=depth, photometric=photometric):
+                    coded = bytes(byte ^ 255 * photometric for byte in rows)
+                    self.made(tiff(picture, coded, depth=depth, photometric=photometric), "scan.tiff")
+                    self.assert_ends(self.run_here("write", "scan.tiff", "--force"), WHOLE)
+                    self.assertEqual(self.read_back("scan.jb2"), [picture])
+        self.made(tiff(picture, pixels[:-1] + b"\1", depth=8), "bad.tiff")
+        self.assert_ends(self.run_here("write", "bad.tiff"), NOT_DONE, "bad.tiff: the picture has shades of gray; ")
+
+    def test_resolution(self):
+        """Pixels for each inch, where nothing else is said, or each centimetre. Without a unit they are a ratio alone."""
+        for numbers, stated in (
+            ({"x": 300, "y": 200}, (11811, 7874)),
+            ({"x": 72, "y": 72, "unit": 2}, (2835, 2835)),
+            ({"x": 118, "y": 120, "unit": 3}, (11800, 12000)),
+            ({"x": 2, "y": 1, "unit": 1}, (0, 0)),
+        ):
+            self.made(tiff(noise(16, 16), **numbers), "scan.tiff")
+            self.assert_ends(self.run_here("write", "scan.tiff", "-o", "a.jb2e", "--force"), WHOLE)
+            self.assertEqual(struct.unpack(">II", (self.room / "a.jb2e").read_bytes()[22:30]), stated)
 
     def test_tiff_with_a_palette(self):
         """It may be black and white, so nothing is said of colours. The palette's six numbers are bytes of the rows."""

@@ -82,6 +82,8 @@ class Writing(WritingCase):
         self.assert_ends(self.run_here("write", "scan.pbm", "-o", "page.jb2e"), WHOLE)
         file, page = (self.room / "scan.jb2").read_bytes(), (self.room / "page.jb2e").read_bytes()
         self.assertTrue(file.startswith(b"\x97JB2\r\n\x1a\n\x01\x00\x00\x00\x01" + page))
+        self.assert_ends(self.run_here("write", "scan.pbm", "-o", "page.jb2", "--embedded"), WHOLE)
+        self.assertEqual((self.room / "page.jb2").read_bytes(), page)
 
     def test_codings(self):
         self.made(noise(30, 20).pbm, "scan.pbm")
@@ -141,8 +143,15 @@ class Writing(WritingCase):
             self.assert_ends(self.run_here("write", "scan.pbm", "-o", "a.jb2e", "--dpi", str(dpi), "--force"), WHOLE)
             stated = struct.unpack(">II", (self.room / "a.jb2e").read_bytes()[22:30])
             self.assertEqual((stated, round(dpi / INCH)), ((number, number), number))
+        self.assert_ends(self.run_here("write", "scan.pbm", "-o", "b.pdf", "--dpi", "72"), WHOLE)
+        self.assertIn(b"/MediaBox [0 0 29.9963 19.9975]", (self.room / "b.pdf").read_bytes())
         if HAS_PNG:
+            self.made(png(picture, chunks=chunk(b"pHYs", struct.pack(">IIB", 2, 1, 0))), "scan.png")
+            self.assert_ends(self.run_here("write", "scan.png", "-o", "a.jb2e", "--force"), WHOLE)
+            self.assertEqual((self.room / "a.jb2e").read_bytes()[22:30], bytes(8))
             self.made(png(picture, chunks=chunk(b"pHYs", struct.pack(">IIB", 7874, 3937, 1))), "scan.png")
+            self.assert_ends(self.run_here("write", "scan.png", "-o", "a.jb2e", "--force", "--dpi", "72"), WHOLE)
+            self.assertEqual(struct.unpack(">II", (self.room / "a.jb2e").read_bytes()[22:30]), (2835, 2835))
             self.assert_ends(self.run_here("write", "scan.png", "-o", "a.jb2e", "--force"), WHOLE)
             self.assertEqual(struct.unpack(">II", (self.room / "a.jb2e").read_bytes()[22:30]), (7874, 3937))
             self.assert_ends(self.run_here("write", "scan.png", "-o", "a.pdf"), WHOLE)
@@ -156,6 +165,7 @@ class Writing(WritingCase):
         comment = picture.pbm.replace(b"37 9\n", b"37 9# and a comment\n", 1)
         forms = {"digits": p1(picture), "two": picture.pbm + picture.pbm, "comment": comment}
         forms["end"] = p1(picture) + b"# of digits\n#\n"
+        forms["return"] = picture.pbm.replace(b"P4\n", b"P4\n# 1\r", 1)
         for name, data in forms.items():
             self.made(data, f"{name}.pbm")
             self.assert_ends(self.run_here("write", f"{name}.pbm", "-o", f"{name}.pdf"), WHOLE)
@@ -188,6 +198,7 @@ class Writing(WritingCase):
         bad = {
             "shades of gray": png(picture, 8, 0, (0, 254)),
             "gray": png(picture, 16, 0, (0, 0xFFFE)),
+            "the picture has shades": png(picture, 16, 0, (0, 0xFF00)),
             "colours": png(picture, 8, 2),
             "transparent": png(picture, 8, 4),
             "has colours;": png(picture, 1, 3, chunks=chunk(b"PLTE", bytes([0, 0, 0, 255, 255, 254]))),
@@ -195,6 +206,7 @@ class Writing(WritingCase):
             "a pixel has no colour in the palette": png(picture, 1, 3, chunks=chunk(b"PLTE", bytes(3))),
             "transparent pixels": png(picture, 1, 0, chunks=chunk(b"tRNS", b"\0\0")),
             "": png(picture)[:-30],
+            "the PNG picture is cut off": png(picture)[:-6],
         }
         for name, data in good.items():
             with self.subTest(name):
@@ -264,6 +276,9 @@ class Writing(WritingCase):
         for name in "none/a.pdf", "none/a.jb2":
             ended = self.run_here("write", "a.pbm", "-o", name, program=SANITIZED)
             self.assertEqual((ended.status, ended.errors), (NOT_DONE, f"hayro-jbig2: {name}: No such file or directory\n"))
+        self.made(noise(20, 20).pbm * 2, "b.pbm")
+        ended = self.run_here("write", "b.pbm", "-o", "none/b.pdf", program=SANITIZED)
+        self.assertEqual(ended.errors, "hayro-jbig2: none/b.pdf: No such file or directory\n")
         ended = self.run_here("write", "a.pbm", "gone.pbm", "-o", "none/a/", program=SANITIZED)
         said = "none/a/: the folder can't be made: No such file or directory\n"
         self.assertEqual((ended.status, ended.errors), (NOT_DONE, said))
@@ -274,13 +289,16 @@ class Writing(WritingCase):
         self.made(picture.pbm * 2, "b.pbm")
         said = "name a PDF file or a folder for several"
         self.assert_ends(self.run_here("write", "a.pbm", "b.pbm", "-o", "c.jb2"), NOT_DONE, said)
-        self.assert_ends(self.run_here("write", "b.pbm", "-o", "c.jb2"), NOT_DONE, said)
+        self.assert_ends(self.run_here("write", "b.pbm", "-o", "c.jb2"), NOT_DONE, "b.pbm: a file that is written")
         self.assert_ends(self.run_here("write", "a.pbm", "b.pbm", "-o", "c/"), WHOLE)
         self.assertEqual(sorted(path.name for path in (self.room / "c").iterdir()), ["a.jb2", "b-1.jb2", "b-2.jb2"])
         self.assert_ends(self.run_here("write", "a.pbm", "./a.pbm", "-o", "d/"), NOT_DONE, "another of this run")
         # A PDF file that lacks pages doesn't appear.
-        self.assert_ends(self.run_here("write", "a.pbm", "none.pbm", "b.pbm", "-o", "c.pdf"), NOT_DONE, "none.pbm: ")
+        ended = self.run_here("write", "a.pbm", "none.pbm", "gone.pbm", "-o", "c.pdf")
+        self.assertEqual((ended.status, ended.errors), (NOT_DONE, "hayro-jbig2: none.pbm: No such file or directory\n"))
         self.assertNotIn("c.pdf", self.files())
+        self.assert_ends(self.run_here("write", "none.pbm", "a.pbm", "-o", "e/"), NOT_DONE, "none.pbm: ")
+        self.assertIn("e/a.jb2", self.files())
 
     def test_nothing_is_overwritten(self):
         self.made(noise(20, 20).pbm, "a.pbm")
