@@ -85,6 +85,12 @@ static bool is_text(const struct bytes *bytes) {
     return others <= count / 4;
 }
 
+/* A BMP picture, which may look like globals: numbers that are 0, and the size of the second header, which is small. */
+static bool is_bmp(const struct bytes *bytes) {
+    return begins_with(bytes, "BM", 2) && bytes->length >= 18 && memcmp(bytes->at + 6, "\0\0\0\0", 4) == 0 &&
+           memcmp(bytes->at + 15, "\0\0\0", 3) == 0;
+}
+
 /* The name of another format by its first bytes, or NULL. */
 static const char *name_of_other_format(const struct bytes *bytes) {
     static const struct {
@@ -111,6 +117,8 @@ static const char *name_of_other_format(const struct bytes *bytes) {
     };
     if (bytes->length == 0)
         return "an empty file";
+    if (is_bmp(bytes))
+        return "a BMP picture";
     for (size_t i = 0; i < sizeof names / sizeof *names; i++)
         if (begins_with(bytes, names[i].beginning, names[i].length))
             return names[i].name;

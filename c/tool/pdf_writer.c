@@ -2,6 +2,7 @@
 
 #include "pdf_writer.h"
 
+#include <errno.h>
 #include <inttypes.h>
 #include <stdarg.h>
 #include <stdlib.h>
@@ -9,6 +10,9 @@
 
 /* Objects 1 and 2 are the catalog and the tree of pages. Then each page has three. */
 enum { CATALOG = 1, TREE, FIRST_PAGE, EACH_PAGE = 3 };
+
+/* The table of objects has ten digits for each place. */
+#define LAST_PLACE UINT64_C(9999999999)
 
 LIKE_PRINTF(2, 3) static bool put(struct pdf_writer *pdf, const char *format, ...) {
     va_list arguments;
@@ -82,6 +86,10 @@ bool end_pdf(struct pdf_writer *pdf) {
     uint64_t catalog = pdf->length;
     bool is_put = put(pdf, "%d 0 obj\n<< /Type /Catalog /Pages %d 0 R >>\nendobj\n", CATALOG, TREE);
     uint64_t tree = pdf->length;
+    if (is_put && tree > LAST_PLACE) {
+        errno = EFBIG;
+        return false;
+    }
     is_put = is_put && put_tree(pdf);
     uint64_t table = pdf->length;
     is_put = is_put && put(pdf, "xref\n0 %zu\n0000000000 65535 f \n", FIRST_PAGE + pdf->count);

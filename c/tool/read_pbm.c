@@ -87,8 +87,12 @@ bool read_pbm(const struct bytes *bytes, const struct taker *taker, struct text 
     struct place place = {bytes->at, bytes->at + bytes->length};
     do {
         struct bilevel image = {.width = 0};
+        const uint8_t *start = place.at;
         if (!read_picture(&place, &image, reason) || !hand_over(taker, &image, reason))
             return false;
+        /* Comments may come after digits too. */
+        if (start[1] == '1')
+            pass_space(&place);
         while (place.at < place.end && isspace(*place.at))
             place.at++;
     } while (place.at < place.end);

@@ -19,6 +19,8 @@ struct reading_png {
     struct bilevel image;
     uint8_t *pixels;
     png_bytep *rows;
+    png_colorp palette; /* libpng's; NULL where there is none */
+    int palette_size;
 };
 
 static void note_error(png_structp png, png_const_charp message) {
@@ -39,7 +41,7 @@ static void give_bytes(png_structp png, png_bytep room, png_size_t count) {
     place->left -= count;
 }
 
-/* Gray of any depth, or colours of a palette, whose pixels become bytes. */
+/* Gray of any depth, or a palette. The pixels, or their places in the palette, become bytes. */
 static void ask_for_shades(png_structp png, png_infop info) {
     struct reading_png *reading = png_get_error_ptr(png);
     int type = png_get_color_type(png, info);
@@ -50,7 +52,12 @@ static void ask_for_shades(png_structp png, png_infop info) {
         add_not_bilevel(reading->reason, "the picture has colours");
     if (is_clear || type == PNG_COLOR_TYPE_RGB)
         png_error(png, "");
-    png_set_expand(png);
+    /* libpng would show black where a pixel has no colour in the palette. */
+    if (type == PNG_COLOR_TYPE_PALETTE) {
+        png_get_PLTE(png, info, &reading->palette, &reading->palette_size);
+        png_set_packing(png);
+    } else
+        png_set_expand(png);
     png_set_interlace_handling(png);
     png_read_update_info(png, info);
 }
@@ -64,16 +71,31 @@ static void note_resolution(png_structp png, png_infop info, struct bilevel *ima
     }
 }
 
-static void take_row(png_structp png, png_infop info, struct reading_png *reading, uint32_t y, const uint8_t *row) {
+/* The shades of a row's pixels in place of their places in the palette. */
+static void find_shades(png_structp png, struct reading_png *reading, uint8_t *row) {
+    for (uint32_t x = 0; x < reading->image.width; x++) {
+        if (row[x] >= reading->palette_size)
+            png_error(png, "the PNG picture is damaged: a pixel has no colour in the palette");
+        png_color colour = reading->palette[row[x]];
+        if (colour.red != colour.green || colour.red != colour.blue) {
+            add_not_bilevel(reading->reason, "the picture has colours");
+            png_error(png, "");
+        }
+        row[x] = colour.red;
+    }
+}
+
+static void take_row(png_structp png, png_infop info, struct reading_png *reading, uint32_t y, uint8_t *row) {
     size_t size = png_get_rowbytes(png, info) / reading->image.width;
+    if (reading->palette != NULL)
+        find_shades(png, reading, row);
     if (pack_row(&reading->image, y, row, size))
         return;
-    add_not_bilevel(reading->reason,
-                    size > 2 ? "the picture has colours or shades of gray" : "the picture has shades of gray");
+    add_not_bilevel(reading->reason, "the picture has shades of gray");
     png_error(png, "");
 }
 
-/* Interlaced rows are known at the end alone. Others are taken one by one: they may be 24 times as large as packed ones. */
+/* Interlaced rows are known at the end alone. Others are taken one by one: they may be 16 times as large as packed ones. */
 static void take_rows(png_structp png, png_infop info, struct reading_png *reading) {
     uint32_t height = reading->image.height;
     bool is_interlaced = png_get_interlace_type(png, info) != PNG_INTERLACE_NONE;

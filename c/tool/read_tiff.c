@@ -15,15 +15,20 @@ struct place {
     const struct bytes *bytes;
     uint64_t at;
     bool has_fault; /* libtiff said something since this was false */
+    bool has_guess; /* libtiff takes other bytes for rows than those that the page states */
 };
 
 /* Some decoders of libtiff go on after damage, with white pixels or others, and only say so, as an error or as a warning.
  * There is one warning that tells of no damage: LZW as programs wrote it long ago. */
 static void note_fault(thandle_t handle, const char *module, const char *format, va_list arguments) {
     struct place *place = handle;
-    (void)format, (void)arguments;
-    if (place != NULL && (module == NULL || strcmp(module, "LZWPreDecode") != 0))
+    (void)arguments;
+    if (place == NULL)
+        return;
+    if (module == NULL || strcmp(module, "LZWPreDecode") != 0)
         place->has_fault = true;
+    if (strstr(format, "ignoring and calculating from imagelength") != NULL)
+        place->has_guess = true;
 }
 
 static tmsize_t give_bytes(thandle_t handle, void *room, tmsize_t count) {
@@ -64,19 +69,31 @@ static uint32_t resolution_of(TIFF *tiff, uint32_t tag) {
     return each_metre >= 0.5 && each_metre < 4e9 ? (uint32_t)(each_metre + 0.5) : 0;
 }
 
+static bool is_fax(uint16_t coding) {
+    return coding == COMPRESSION_CCITTRLE || coding == COMPRESSION_CCITTRLEW || coding == COMPRESSION_CCITTFAX3 ||
+           coding == COMPRESSION_CCITTFAX4;
+}
+
 /* False with a reason where `write` doesn't take a page. */
 static bool is_taken(TIFF *tiff, uint16_t depth, uint16_t photometric, struct text *reason) {
+    struct place *place = TIFFClientdata(tiff);
     uint16_t samples = 1, orientation = ORIENTATION_TOPLEFT, coding = COMPRESSION_NONE;
     TIFFGetFieldDefaulted(tiff, TIFFTAG_SAMPLESPERPIXEL, &samples);
     TIFFGetFieldDefaulted(tiff, TIFFTAG_ORIENTATION, &orientation);
     TIFFGetFieldDefaulted(tiff, TIFFTAG_COMPRESSION, &coding);
     bool is_gray = photometric == PHOTOMETRIC_MINISBLACK || photometric == PHOTOMETRIC_MINISWHITE;
-    if (photometric == PHOTOMETRIC_PALETTE)
+    /* Programs agree on what 0 is of codes of fax alone, where it is white. */
+    if (!TIFFGetField(tiff, TIFFTAG_PHOTOMETRIC, &photometric) && !is_fax(coding))
+        add_text(reason, "the picture doesn't say whether 0 is black (PhotometricInterpretation)");
+    else if (photometric == PHOTOMETRIC_PALETTE)
         add_text(reason, "the picture has a palette; write takes TIFF without one");
     else if (samples == 2 && is_gray)
         add_not_bilevel(reason, "the picture has transparent pixels");
-    else if (samples != 1 || !is_gray)
+    else if (samples != 1)
         add_not_bilevel(reason, "the picture has colours");
+    else if (!is_gray)
+        add_text(reason, "the picture has PhotometricInterpretation %u, which write doesn't take",
+                 (unsigned)photometric);
     else if (depth != 1 && depth != 8)
         add_not_bilevel(reason, "its pixels have neither one bit nor eight");
     else if (TIFFIsTiled(tiff))
@@ -88,6 +105,10 @@ static bool is_taken(TIFF *tiff, uint16_t depth, uint16_t photometric, struct te
         add_text(reason, "the picture is coded by JBIG (Compression %u), which write doesn't take", (unsigned)coding);
     else if (!TIFFIsCODECConfigured(coding))
         add_text(reason, "libtiff doesn't know here how the picture is coded (Compression %u)", (unsigned)coding);
+    else if (coding == COMPRESSION_NONE && place->has_guess)
+        /* What comes after the rows in the file would be shown as rows. */
+        add_text(reason, "the TIFF picture is damaged: it has other rows than it states (StripByteCounts)");
+    place->has_guess = false;
     return reason->length == 0;
 }
 
@@ -130,7 +151,7 @@ static bool read_page(TIFF *tiff, struct bilevel *image, struct text *reason) {
 }
 
 bool read_tiff(const struct bytes *bytes, const struct taker *taker, struct text *reason) {
-    struct place place = {bytes, 0, false};
+    struct place place = {bytes, 0, false, false};
     TIFFSetErrorHandler(NULL);
     TIFFSetWarningHandler(NULL);
     TIFFSetErrorHandlerExt(note_fault);

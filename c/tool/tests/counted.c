@@ -2,9 +2,10 @@
  * read, and says so at the end. It stops the program where a call gets a null pointer in place of bytes, which the
  * library doesn't take, or a limit of work above that of the largest page, and where a file is closed to others only after
  * they could open it. Where NO_WORDS is set, the program begins without any word, not even its name: older kernels let
- * a caller do so. */
+ * a caller do so. Where PDF_BEGINS is set, a PDF file has as many bytes before its first page that aren't written. */
 #define _POSIX_C_SOURCE 200809L
 
+#include "../pdf_writer.h"
 #include "hayro_jbig2.h"
 
 #include <pthread.h>
@@ -68,3 +69,13 @@ int __wrap_main(int count, char **all) {
 static void tell(void) { fprintf(stderr, "decoded globals: %lu, read pages: %lu\n", globals_count, pages_count); }
 
 __attribute__((constructor)) static void begin(void) { atexit(tell); }
+
+bool __real_begin_pdf(struct pdf_writer *pdf);
+bool __wrap_begin_pdf(struct pdf_writer *pdf);
+
+bool __wrap_begin_pdf(struct pdf_writer *pdf) {
+    const char *length = getenv("PDF_BEGINS");
+    bool is_begun = __real_begin_pdf(pdf);
+    pdf->length += length != NULL ? strtoull(length, NULL, 10) : 0;
+    return is_begun;
+}

@@ -9,7 +9,7 @@ import zlib
 
 from support import HAS_TIFF, NOT_DONE, WHOLE, Picture
 from test_output import strips_of_tiff
-from test_write import WritingCase, noise
+from test_write import WritingCase, noise, pixels_of
 
 T6, LZW, DEFLATE = 4, 5, 8
 
@@ -21,7 +21,7 @@ def tiff(picture: Picture, rows: bytes | None = None, is_big: bool = False, **ot
     begins = 16 if is_big else 8
     fields = {"width": 256, "height": 257, "depth": 258, "coding": 259, "photometric": 262, "place": 273}
     fields |= {"orientation": 274, "samples": 277, "strip": 278, "size": 279, "tile": 322, "tile_height": 323}
-    fields |= {"tile_place": 324, "tile_size": 325, "palette": 320}
+    fields |= {"tile_place": 324, "tile_size": 325, "palette": 320, "x": 282, "y": 283, "unit": 296}
     numbers = {"width": picture.width, "height": picture.height, "depth": 1, "coding": 1, "photometric": 0}
     numbers |= {"place": begins, "samples": 1, "strip": picture.height, "size": len(rows), **others}
     listed = sorted((fields[name], number) for name, number in numbers.items())
@@ -57,6 +57,7 @@ class Tiff(WritingCase):
         bad = {
             "the picture has colours" + not_bilevel: {"photometric": 2, "samples": 3},
             "the picture has transparent pixels" + not_bilevel: {"samples": 2},
+            "the picture has PhotometricInterpretation 4, which write doesn't take\n": {"photometric": 4},
             "its pixels have neither one bit nor eight" + not_bilevel: {"depth": 4},
             "the picture is in tiles; write takes TIFF in strips alone\n": tiles,
             "the picture is turned (Orientation); write takes it upright alone\n": {"orientation": 6},
@@ -67,6 +68,46 @@ class Tiff(WritingCase):
             with self.subTest(text):
                 self.made(tiff(picture, **numbers), "bad.tiff")
                 self.assert_ends(self.run_here("write", "bad.tiff"), NOT_DONE, f"bad.tiff: {text}")
+
+    def test_tiff_that_does_not_say_what_black_is(self):
+        """Programs take 0 as black or as white there, but of codes of fax as white alone."""
+        picture = noise(16, 16)
+        number, other = (struct.pack("<HHII", field, 4, 1, 0) for field in (262, 60000))
+        self.made(tiff(picture).replace(number, other), "bad.tiff")
+        said = "bad.tiff: the picture doesn't say whether 0 is black (PhotometricInterpretation)\n"
+        self.assert_ends(self.run_here("write", "bad.tiff"), NOT_DONE, said)
+        self.made(picture.pbm, "a.pbm")
+        self.assert_ends(self.run_here("write", "a.pbm"), WHOLE)
+        self.assert_ends(self.run_here("a.jb2", "-o", "a.tiff"), WHOLE)
+        [(_, _, rows)] = strips_of_tiff((self.room / "a.tiff").read_bytes())
+        self.made(tiff(picture, rows, coding=T6).replace(number, other), "good.tiff")
+        self.assert_ends(self.run_here("write", "good.tiff"), WHOLE)
+        self.assertEqual(self.read_back("good.jb2"), [picture])
+
+    def test_black_is_0_or_the_greatest_number(self):
+        picture = noise(37, 9)
+        pixels = bytes(255 * pixel for row in pixels_of(picture) for pixel in row)
+        for depth, rows in (1, picture.rows), (8, pixels):
+            for photometric in 0, 1:
+                with self.subTest(depth=depth, photometric=photometric):
+                    coded = bytes(byte ^ 255 * photometric for byte in rows)
+                    self.made(tiff(picture, coded, depth=depth, photometric=photometric), "scan.tiff")
+                    self.assert_ends(self.run_here("write", "scan.tiff", "--force"), WHOLE)
+                    self.assertEqual(self.read_back("scan.jb2"), [picture])
+        self.made(tiff(picture, pixels[:-1] + b"\1", depth=8), "bad.tiff")
+        self.assert_ends(self.run_here("write", "bad.tiff"), NOT_DONE, "bad.tiff: the picture has shades of gray; ")
+
+    def test_resolution(self):
+        """Pixels for each inch, where nothing else is said, or each centimetre. Without a unit they are a ratio alone."""
+        for numbers, stated in (
+            ({"x": 300, "y": 200}, (11811, 7874)),
+            ({"x": 72, "y": 72, "unit": 2}, (2835, 2835)),
+            ({"x": 118, "y": 120, "unit": 3}, (11800, 12000)),
+            ({"x": 2, "y": 1, "unit": 1}, (0, 0)),
+        ):
+            self.made(tiff(noise(16, 16), **numbers), "scan.tiff")
+            self.assert_ends(self.run_here("write", "scan.tiff", "-o", "a.jb2e", "--force"), WHOLE)
+            self.assertEqual(struct.unpack(">II", (self.room / "a.jb2e").read_bytes()[22:30]), stated)
 
     def test_tiff_with_a_palette(self):
         """It may be black and white, so nothing is said of colours. The palette's six numbers are bytes of the rows."""
@@ -107,6 +148,15 @@ class Tiff(WritingCase):
             self.made(tiff(picture, bad, coding=T6), "bad.tiff")
             self.assert_ends(self.run_here("write", "bad.tiff"), NOT_DONE, "bad.tiff: the TIFF picture is damaged at row ")
         self.assertNotIn("bad.jb2", self.files())
+
+    def test_rows_that_are_not_in_the_strip(self):
+        """libtiff takes the bytes after it."""
+        picture = noise(16, 16)
+        said = "bad.tiff: the TIFF picture is damaged: it has other rows than it states (StripByteCounts)\n"
+        for numbers in {"size": 30}, {"height": 17, "strip": 17}, {"width": 32}:
+            self.made(tiff(picture, **numbers), "bad.tiff")
+            self.assert_ends(self.run_here("write", "bad.tiff"), NOT_DONE, said)
+        self.assertEqual(self.files(), ["bad.tiff"])
 
     def test_lzw_of_the_old_form(self):
         """Codes of nine bits, the lowest first: clear, each byte as it is, and end. libtiff warns of this form."""

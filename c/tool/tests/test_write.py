@@ -3,6 +3,7 @@ from __future__ import annotations
 
 import functools
 import json
+import os
 import random
 import resource
 import shutil
@@ -11,7 +12,7 @@ import subprocess
 import unittest
 import zlib
 
-from support import BARE, BOOK, HAS_PDF, HAS_PNG, NOT_DONE, PNG, SANITIZED, WHOLE, WRONG_WORDS
+from support import BARE, BOOK, COUNTED, HAS_PDF, HAS_PNG, NOT_DONE, PNG, SANITIZED, WHOLE, WRONG_WORDS
 from support import Case, Picture, of_numbers, pictures_of
 
 INCH = 0.0254
@@ -81,6 +82,8 @@ class Writing(WritingCase):
         self.assert_ends(self.run_here("write", "scan.pbm", "-o", "page.jb2e"), WHOLE)
         file, page = (self.room / "scan.jb2").read_bytes(), (self.room / "page.jb2e").read_bytes()
         self.assertTrue(file.startswith(b"\x97JB2\r\n\x1a\n\x01\x00\x00\x00\x01" + page))
+        self.assert_ends(self.run_here("write", "scan.pbm", "-o", "page.jb2", "--embedded"), WHOLE)
+        self.assertEqual((self.room / "page.jb2").read_bytes(), page)
 
     def test_codings(self):
         self.made(noise(30, 20).pbm, "scan.pbm")
@@ -140,8 +143,15 @@ class Writing(WritingCase):
             self.assert_ends(self.run_here("write", "scan.pbm", "-o", "a.jb2e", "--dpi", str(dpi), "--force"), WHOLE)
             stated = struct.unpack(">II", (self.room / "a.jb2e").read_bytes()[22:30])
             self.assertEqual((stated, round(dpi / INCH)), ((number, number), number))
+        self.assert_ends(self.run_here("write", "scan.pbm", "-o", "b.pdf", "--dpi", "72"), WHOLE)
+        self.assertIn(b"/MediaBox [0 0 29.9963 19.9975]", (self.room / "b.pdf").read_bytes())
         if HAS_PNG:
+            self.made(png(picture, chunks=chunk(b"pHYs", struct.pack(">IIB", 2, 1, 0))), "scan.png")
+            self.assert_ends(self.run_here("write", "scan.png", "-o", "a.jb2e", "--force"), WHOLE)
+            self.assertEqual((self.room / "a.jb2e").read_bytes()[22:30], bytes(8))
             self.made(png(picture, chunks=chunk(b"pHYs", struct.pack(">IIB", 7874, 3937, 1))), "scan.png")
+            self.assert_ends(self.run_here("write", "scan.png", "-o", "a.jb2e", "--force", "--dpi", "72"), WHOLE)
+            self.assertEqual(struct.unpack(">II", (self.room / "a.jb2e").read_bytes()[22:30]), (2835, 2835))
             self.assert_ends(self.run_here("write", "scan.png", "-o", "a.jb2e", "--force"), WHOLE)
             self.assertEqual(struct.unpack(">II", (self.room / "a.jb2e").read_bytes()[22:30]), (7874, 3937))
             self.assert_ends(self.run_here("write", "scan.png", "-o", "a.pdf"), WHOLE)
@@ -153,7 +163,10 @@ class Writing(WritingCase):
     def test_pbm_forms(self):
         picture = noise(37, 9)
         comment = picture.pbm.replace(b"37 9\n", b"37 9# and a comment\n", 1)
-        for name, data in {"digits": p1(picture), "two": picture.pbm + picture.pbm, "comment": comment}.items():
+        forms = {"digits": p1(picture), "two": picture.pbm + picture.pbm, "comment": comment}
+        forms["end"] = p1(picture) + b"# of digits\n#\n"
+        forms["return"] = picture.pbm.replace(b"P4\n", b"P4\n# 1\r", 1)
+        for name, data in forms.items():
             self.made(data, f"{name}.pbm")
             self.assert_ends(self.run_here("write", f"{name}.pbm", "-o", f"{name}.pdf"), WHOLE)
             if HAS_PDF:
@@ -161,9 +174,10 @@ class Writing(WritingCase):
         for data in b"P4\n8 8\n1234567", b"P4\n8\n", b"P1\n2 2\n0 1 0", b"P1\n2 2\n0 1 0 2":
             self.made(data, "bad.pbm")
             self.assert_ends(self.run_here("write", "bad.pbm", "-o", "bad.jb2"), NOT_DONE, "bad.pbm: the ")
-        self.made(b"P4 8 1\nx P5", "bad.pbm")
-        said = "bad.pbm: picture 2: after a picture of PBM comes something else"
-        self.assert_ends(self.run_here("write", "bad.pbm", "-o", "bad.jb2"), NOT_DONE, said)
+        for data in b"P4 8 1\nx P5", b"P4 8 1\nx#", b"P1 1 1 0#\n0":
+            self.made(data, "bad.pbm")
+            said = "bad.pbm: picture 2: after a picture of PBM comes something else"
+            self.assert_ends(self.run_here("write", "bad.pbm", "-o", "bad.jb2"), NOT_DONE, said)
         for sides in b"0 8", b"8 0", b"65536 1", b"1 65536", b"99999999999999999999 1":
             self.made(b"P4 " + sides + b"\n" + bytes(70000), "bad.pbm")
             self.assert_ends(self.run_here("write", "bad.pbm", "-o", "bad.jb2"), NOT_DONE, "a page has 1 to 65535")
@@ -179,16 +193,20 @@ class Writing(WritingCase):
             **{f"depth {depth}": png(picture, depth) for depth in (1, 2, 4, 8, 16)},
             "a palette": png(picture, 1, 3, chunks=palette),
             "a palette of 8 bits": png(picture, 8, 3, (0, 1), palette),
+            "a palette whose colour isn't used": png(picture, 2, 3, (2, 1), chunk(b"PLTE", b"abc" + b"\xff" * 3 + bytes(3))),
         }
         bad = {
             "shades of gray": png(picture, 8, 0, (0, 254)),
             "gray": png(picture, 16, 0, (0, 0xFFFE)),
+            "the picture has shades": png(picture, 16, 0, (0, 0xFF00)),
             "colours": png(picture, 8, 2),
             "transparent": png(picture, 8, 4),
-            "has colours or": png(picture, 1, 3, chunks=chunk(b"PLTE", bytes([0, 0, 0, 255, 255, 254]))),
-            "or shades of gray": png(picture, 1, 3, chunks=chunk(b"PLTE", bytes([0, 0, 0, 128, 128, 128]))),
+            "has colours;": png(picture, 1, 3, chunks=chunk(b"PLTE", bytes([0, 0, 0, 255, 255, 254]))),
+            "has shades of gray;": png(picture, 1, 3, chunks=chunk(b"PLTE", bytes([0, 0, 0, 128, 128, 128]))),
+            "a pixel has no colour in the palette": png(picture, 1, 3, chunks=chunk(b"PLTE", bytes(3))),
             "transparent pixels": png(picture, 1, 0, chunks=chunk(b"tRNS", b"\0\0")),
             "": png(picture)[:-30],
+            "the PNG picture is cut off": png(picture)[:-6],
         }
         for name, data in good.items():
             with self.subTest(name):
@@ -203,13 +221,13 @@ class Writing(WritingCase):
 
     @unittest.skipUnless(HAS_PNG, "built without libpng")
     def test_a_large_png_takes_no_more_memory_than_its_packed_rows(self):
-        """12000 by 12000 pixels of a palette, which are 18 MB, and 432 MB as bytes of three colours."""
+        """12000 by 12000 pixels of a palette, which are 18 MB, and 144 MB as bytes."""
         side = 12000
         data = zlib.compress((b"\0" + b"\xff" * (side // 8)) * side)
         header = struct.pack(">IIBBBBB", side, side, 1, 3, 0, 0, 0)
         palette = chunk(b"PLTE", bytes([0, 0, 0, 255, 255, 255]))
         self.made(PNG + chunk(b"IHDR", header) + palette + chunk(b"IDAT", data) + chunk(b"IEND", b""), "scan.png")
-        limit = functools.partial(resource.setrlimit, resource.RLIMIT_AS, (400 << 20, 400 << 20))
+        limit = functools.partial(resource.setrlimit, resource.RLIMIT_AS, (160 << 20, 160 << 20))
         self.assert_ends(self.run_here("write", "scan.png", preexec_fn=limit), WHOLE)
 
     @unittest.skipUnless(HAS_PNG, "built without libpng")
@@ -243,11 +261,24 @@ class Writing(WritingCase):
         self.assert_ends(self.run_here("write", "a.pbm", "-o", "a.pdf", "--dpi", "100000000"), WHOLE)
         self.assertIn(b"/MediaBox [0 0 0.0001 0.0001]", (self.room / "a.pdf").read_bytes())
 
+    def test_no_pdf_file_is_larger_than_its_table_of_objects_can_say(self):
+        """Which has ten digits for each place. Its bytes before the pages are counted here, and not written."""
+        self.made(noise(20, 20).pbm, "a.pbm")
+        for begins, status in (9999990000, WHOLE), (9999999600, NOT_DONE):
+            env = {**os.environ, "PDF_BEGINS": str(begins)}
+            ended = self.run_here("write", "a.pbm", "-o", f"{begins}.pdf", program=COUNTED, env=env)
+            self.assertEqual(ended.status, status, ended.errors)
+        self.assertIn("hayro-jbig2: 9999999600.pdf: File too large\n", ended.errors)
+        self.assertEqual(self.files(), ["9999990000.pdf", "a.pbm"])
+
     def test_a_file_that_can_not_be_made(self):
         self.made(noise(20, 20).pbm, "a.pbm")
         for name in "none/a.pdf", "none/a.jb2":
             ended = self.run_here("write", "a.pbm", "-o", name, program=SANITIZED)
             self.assertEqual((ended.status, ended.errors), (NOT_DONE, f"hayro-jbig2: {name}: No such file or directory\n"))
+        self.made(noise(20, 20).pbm * 2, "b.pbm")
+        ended = self.run_here("write", "b.pbm", "-o", "none/b.pdf", program=SANITIZED)
+        self.assertEqual(ended.errors, "hayro-jbig2: none/b.pdf: No such file or directory\n")
         ended = self.run_here("write", "a.pbm", "gone.pbm", "-o", "none/a/", program=SANITIZED)
         said = "none/a/: the folder can't be made: No such file or directory\n"
         self.assertEqual((ended.status, ended.errors), (NOT_DONE, said))
@@ -258,13 +289,16 @@ class Writing(WritingCase):
         self.made(picture.pbm * 2, "b.pbm")
         said = "name a PDF file or a folder for several"
         self.assert_ends(self.run_here("write", "a.pbm", "b.pbm", "-o", "c.jb2"), NOT_DONE, said)
-        self.assert_ends(self.run_here("write", "b.pbm", "-o", "c.jb2"), NOT_DONE, said)
+        self.assert_ends(self.run_here("write", "b.pbm", "-o", "c.jb2"), NOT_DONE, "b.pbm: a file that is written")
         self.assert_ends(self.run_here("write", "a.pbm", "b.pbm", "-o", "c/"), WHOLE)
         self.assertEqual(sorted(path.name for path in (self.room / "c").iterdir()), ["a.jb2", "b-1.jb2", "b-2.jb2"])
         self.assert_ends(self.run_here("write", "a.pbm", "./a.pbm", "-o", "d/"), NOT_DONE, "another of this run")
         # A PDF file that lacks pages doesn't appear.
-        self.assert_ends(self.run_here("write", "a.pbm", "none.pbm", "b.pbm", "-o", "c.pdf"), NOT_DONE, "none.pbm: ")
+        ended = self.run_here("write", "a.pbm", "none.pbm", "gone.pbm", "-o", "c.pdf")
+        self.assertEqual((ended.status, ended.errors), (NOT_DONE, "hayro-jbig2: none.pbm: No such file or directory\n"))
         self.assertNotIn("c.pdf", self.files())
+        self.assert_ends(self.run_here("write", "none.pbm", "a.pbm", "-o", "e/"), NOT_DONE, "none.pbm: ")
+        self.assertIn("e/a.jb2", self.files())
 
     def test_nothing_is_overwritten(self):
         self.made(noise(20, 20).pbm, "a.pbm")
@@ -306,6 +340,7 @@ class Writing(WritingCase):
             "text": b"words\n",
             "an empty file": b"",
             "a PGM picture": b"P5 1 1 255\n\0",
+            "a BMP picture": b"BM" + struct.pack("<12I", 94, 0, 62, 40, 8, 8, 1 << 16 | 1, 0, 32, 0, 0, 2) + bytes(44),
             "nothing that this program knows": bytes(range(255, 200, -1)),
         }
         for said, data in others.items():
