@@ -156,6 +156,21 @@ class Command(unittest.TestCase):
         self.assertEqual((self.folder / "page-0.pbm").read_bytes(), b"P4\n8 1\n\0")
         self.assertEqual(self.run_command("-", "page.pbm", "--salvage", data=data), (0, "", said))
 
+    def test_a_page_that_takes_too_much_memory_stops_no_other(self):
+        third = hayro_jbig2.decode(BOOK, page=2)
+
+        def to_png(page):
+            if page == third:
+                return b"PNG"
+            raise MemoryError
+
+        with mock.patch.dict(command._WRITERS, {".png": to_png}):
+            message = "".join(f"{EXAMPLE}: page {index}: out of memory\n" for index in range(2))
+            self.assertEqual(self.run_command(EXAMPLE, "page-{}.png"), (1, "", message))
+        self.assertEqual([path.name for path in self.folder.glob("page-*")], ["page-2.png"])
+        with mock.patch.object(pathlib.Path, "read_bytes", side_effect=MemoryError):
+            self.assertEqual(self.run_command(EXAMPLE, "page.png"), (1, "", "out of memory\n"))
+
     def test_a_fault_of_the_globals_names_them(self):
         (self.folder / "globals").write_bytes(GLOBALS + b" " * 16)
         said = (1, "", "globals: segment refers to an invalid segment\n")

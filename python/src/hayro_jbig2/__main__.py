@@ -118,7 +118,13 @@ def _write_pages(words: argparse.Namespace) -> int:
                 print(f"{words.input}: {text}", file=sys.stderr)
         told.update(page.left_out.texts)
         output = pathlib.Path(words.output.replace("{}", str(index)))
-        output.write_bytes(_WRITERS[output.suffix.lower()](page))
+        try:
+            picture = _WRITERS[output.suffix.lower()](page)
+        except MemoryError:
+            print(f"{words.input}: page {index}: out of memory", file=sys.stderr)
+            status = 1
+            continue
+        output.write_bytes(picture)
     return status
 
 
@@ -138,6 +144,8 @@ def main() -> int:
         print(f"{words.input}: {error}", file=sys.stderr)
     except OSError as error:
         print(error, file=sys.stderr)
+    except MemoryError:
+        print("out of memory", file=sys.stderr)
     return 1
 
 
