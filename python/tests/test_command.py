@@ -136,6 +136,14 @@ class Command(unittest.TestCase):
         self.assertEqual(self.run_command("-", "page-{}.pbm", "--salvage", data=pages)[0], 0)
         self.assertTrue((self.folder / "page-1.pbm").exists())
 
+    def test_a_file_that_ends_early_is_told_where_no_page_can_be_decoded(self):
+        data = bytes.fromhex(
+            "974A42320D0A1A0A 03 00000001 30 00 01 00000013 00000008 00000001 0000000000000000000000"
+            "00000002 00 00 01 0000000F 0009 00000001 00000001 5F80800040 00000003 31 00 01 00000000 000000"
+        )
+        said = "-: page 0: invalid Huffman table selection\n-: the segments end early: unexpected end of input\n"
+        self.assertEqual(self.run_command("-", "page-{}.pbm", data=data), (1, "", said))
+
     def test_a_file_without_pages(self):
         empty = bytes.fromhex("974A42320D0A1A0A 03")
         # A page that has no width, which salvage leaves out.

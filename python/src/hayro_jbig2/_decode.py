@@ -99,17 +99,19 @@ def pages(
     return _pages_of(file, work_limit, warn)
 
 
-def pages_or_faults(data: bytes, *, strict: bool, salvage: bool, work_limit: WorkLimit) -> Iterator[Page | Jbig2Error]:
-    """All pages of a file in order, and in the place of one that can't be decoded its fault. Gives no warning. Where there is
-    no page, it raises why."""
+def pages_or_faults(
+    data: bytes, *, strict: bool, salvage: bool, work_limit: WorkLimit
+) -> Iterator[tuple[Page | Jbig2Error, LeftOut]]:
+    """All pages of a file in order, and in the place of one that can't be decoded its fault, each with what was left out of
+    the file. Gives no warning. Where there is no page, it raises why."""
     with _library.File(bytes_of(data), _reading(strict, salvage), work_limit) as file:
         if not file.sizes:
             raise file.left_out.first_page or _library.no_such_page()
         for index in range(len(file.sizes)):
             try:
-                yield file.draw(index, work_limit)
+                yield file.draw(index, work_limit), file.left_out
             except Jbig2Error as error:
-                yield error
+                yield error, file.left_out
 
 
 def sizes(
