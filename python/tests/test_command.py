@@ -154,7 +154,8 @@ class Command(unittest.TestCase):
             (empty + page, (), "page has zero width or height"),
             (empty + page, ("--salvage",), "page has zero width or height"),
         ):
-            self.assertEqual(self.run_command("-", "page-{}.pbm", *words, data=data), (1, "", f"-: {said}\n"))
+            for name in "page-{}.pbm", "page.pbm":
+                self.assertEqual(self.run_command("-", name, *words, data=data), (1, "", f"-: {said}\n"))
 
     def test_a_page_that_is_left_out_is_none_that_is_written(self):
         page = "0000000%d 30 00 0%d 00000013 0000000%d 00000001" + "00" * 11

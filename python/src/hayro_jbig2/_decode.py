@@ -106,7 +106,7 @@ def pages_or_faults(
     the file. Gives no warning. Where there is no page, it raises why."""
     with _library.File(bytes_of(data), _reading(strict, salvage), work_limit) as file:
         if not file.sizes:
-            raise file.left_out.first_page or _library.no_such_page()
+            raise _missing_page(file, 0)
         for index in range(len(file.sizes)):
             try:
                 yield file.draw(index, work_limit), file.left_out
@@ -151,5 +151,11 @@ def _pages_of(file: _library.File, work_limit: WorkLimit, warn: bool) -> Iterato
 
 def _page_of(file: _library.File, index: int, work_limit: WorkLimit) -> Page:
     if not 0 <= index < len(file.sizes):
-        raise _library.no_such_page()
+        raise _missing_page(file, index)
     return file.draw(index, work_limit)
+
+
+def _missing_page(file: _library.File, index: int) -> Jbig2Error:
+    """Why a file hasn't a page. Where salvage leaves out all of them, the first one's fault is known."""
+    fault = file.left_out.first_page if index == 0 else None
+    return fault or _library.no_such_page()
