@@ -15,7 +15,7 @@ from unittest import mock
 
 import hayro_jbig2
 from hayro_jbig2 import __main__ as command
-from pages import EXAMPLE, GLOBALS, HEADER, TEXT
+from pages import EXAMPLE, GLOBALS, HEADER, PAGE, TEXT
 from test_limits import WIDE
 
 BOOK = EXAMPLE.read_bytes()
@@ -93,6 +93,15 @@ class Command(unittest.TestCase):
             self.assertEqual((self.folder / f"page-{index}.png").read_bytes(), page.to_png())
         self.assertEqual(self.run_command("text", "text.pbm", "--globals", "globals"), (0, "", ""))
         self.assertEqual((self.folder / "text.pbm").read_bytes(), b"P4\n8 1\n\x80")
+
+    def test_all_pages_of_an_embedded_page_are_that_one(self):
+        page = PAGE.read_bytes()
+        self.assertEqual(self.run_command("-", "page-{}.pbm", data=page), (0, "", ""))
+        self.assertEqual((self.folder / "page-0.pbm").read_bytes(), hayro_jbig2.decode(page).to_pbm())
+        said = (1, "", "-: missing page information segment\n")
+        for name in "page-{}.pbm", "page.pbm":
+            self.assertEqual(self.run_command("-", name), said)
+        self.assertIn("pikepdf", self.run_command("pdf", "page-{}.pbm")[2])
 
     def test_bits_after_the_width_are_white(self):
         page = hayro_jbig2.decode(BOOK, page=2)

@@ -90,7 +90,7 @@ def _chosen_pages(words: argparse.Namespace) -> Iterable[tuple[int, Page | Jbig2
     data = _standard_input() if words.input == "-" else pathlib.Path(words.input).read_bytes()
     how: dict[str, Any] = {"strict": words.strict, "salvage": words.salvage, "work_limit": words.work_limit}
     if "{}" in words.output:
-        return ((index, *page) for index, page in enumerate(pages_or_faults(data, **how)))
+        return ((index, page, left_out) for index, (page, left_out) in enumerate(pages_or_faults(data, **how)))
     index = words.page or 0
     if words.globals is not None:
         page = _page_with_globals(words, data, how)

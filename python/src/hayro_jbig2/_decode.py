@@ -103,8 +103,13 @@ def pages_or_faults(
     data: bytes, *, strict: bool, salvage: bool, work_limit: WorkLimit
 ) -> Iterator[tuple[Page | Jbig2Error, LeftOut]]:
     """All pages of a file in order, and in the place of one that can't be decoded its fault, each with what was left out of
-    the file. Gives no warning. Where there is no page, it raises why."""
-    with _library.File(bytes_of(data), _reading(strict, salvage), work_limit) as file:
+    the file; or an embedded page. Gives no warning. Where there is no page, it raises why."""
+    content = bytes_of(data)
+    if not content.startswith(_BEGINNING):
+        page = decode(content, strict=strict, salvage=salvage, work_limit=work_limit, warn=False)
+        yield page, page.left_out
+        return
+    with _library.File(content, _reading(strict, salvage), work_limit) as file:
         if not file.sizes:
             raise _missing_page(file, 0)
         for index in range(len(file.sizes)):
