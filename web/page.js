@@ -73,8 +73,9 @@ function zoom() {
 }
 
 element("zoom").addEventListener("change", zoom);
-// Firefox keeps what was chosen where the page is loaded again.
+// Firefox keeps what was chosen where the page is loaded again, and that a button could be pressed.
 zoom();
+stopAll.disabled = true;
 for (const kind of ["dragenter", "dragover"]) {
   document.addEventListener(kind, (event) => (event.preventDefault(), document.body.classList.add("over")));
 }

@@ -126,12 +126,17 @@ def set_zoom(browser, value):
 
 
 def loaded_again(browser):
-    """Pages are enlarged as the box says, also where a browser has kept what was chosen."""
+    """Pages are enlarged as the box says, and nothing can be stopped, also where a browser keeps what was so before."""
     set_zoom(browser, "2")
+    browser.evaluate('void (document.querySelector("#stop-all").disabled = false)')
     browser.load_again()
-    chosen, fits = browser.evaluate('[document.querySelector("#zoom").value, document.querySelector("#files").matches(".fit")]')
+    chosen, fits, stops = browser.evaluate(
+        """[document.querySelector("#zoom").value, document.querySelector("#files").matches(".fit"),
+            !document.querySelector("#stop-all").disabled]"""
+    )
     set_zoom(browser, "fit")
-    return [] if fits == (chosen == "fit") else [f"after the page was loaded again {chosen!r} is not what is shown"]
+    faults = [] if fits == (chosen == "fit") else [f"after the page was loaded again {chosen!r} is not what is shown"]
+    return faults + (["after the page was loaded again nothing runs that can be stopped"] if stops else [])
 
 
 def pictures_out_of_sight(browser):
