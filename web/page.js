@@ -64,11 +64,18 @@ element("clear").addEventListener("click", () => {
   sections = [];
   note.textContent = "";
 });
-element("zoom").addEventListener("change", ({ target: { value } }) => {
+
+function zoom() {
+  const { value } = element("zoom");
   files.classList.toggle("fit", value === "fit");
   files.classList.toggle("pixelated", Number(value) > 1);
   if (value !== "fit") files.style.setProperty("--zoom", value);
-});
+}
+
+element("zoom").addEventListener("change", zoom);
+// Firefox keeps what was chosen where the page is loaded again, and that a button could be pressed.
+zoom();
+stopAll.disabled = true;
 for (const kind of ["dragenter", "dragover"]) {
   document.addEventListener(kind, (event) => (event.preventDefault(), document.body.classList.add("over")));
 }

@@ -106,7 +106,8 @@ export class Pdf {
   async #data(object) {
     const filters = this.#filters(object);
     const parameters = this.#parameters(object);
-    if (filters.length > MOST_FILTERS) throw new PdfError(`more than ${MOST_FILTERS} filters`);
+    const most = filters.at(-1) === JBIG2 ? MOST_FILTERS : MOST_FILTERS - 1;
+    if (filters.length > most) throw new PdfError(`more than ${most} filters`);
     let data = this.#bytes.subarray(object.begin, object.end);
     const take = this.#room.begin(object);
     for (const [index, filter] of filters.entries()) {

@@ -66,14 +66,14 @@ function saysEnd({ passedOver: { count, segment, error }, leftOut: { cutOff } })
   return count > 1 || (segment === cutOff.segment && error.number === cutOff.error.number);
 }
 
-/** What a file lacks that none of its pages says, as texts. `shown` says of each that is shown whether it says the end. */
-function lackingOfFile({ pages, firstPage, cutOff }, shown) {
+/** What a file lacks that none of its pages says, as texts. `told` says of each page whether it says the end. */
+function lackingOfFile({ pages, firstPage, cutOff }, told) {
   const lacks = pages ? [`${counted(pages, "page")} (${described(firstPage)})`] : [];
-  const isUntold = shown.length > 0 && !shown.includes(true);
+  const isUntold = told.length > 0 && !told.includes(true);
   return cutOff && isUntold ? [...lacks, `what comes from a segment on (${faultOf(cutOff)})`] : lacks;
 }
 
-/** Decodes a page and sends it to the page that shows it, or its error. Returns whether it says the end, or null. */
+/** Decodes a page and sends it to the page that shows it, or its error. Returns whether it says the end. */
 async function show(label, decode) {
   try {
     const began = performance.now();
@@ -84,26 +84,25 @@ async function show(label, decode) {
     return saysEnd(page);
   } catch (error) {
     postMessage({ ...label, error: described(error) });
-    return null;
+    return false;
   }
 }
 
 /** Shows the pages of a file, in their order. After a call that didn't return no other page can be decoded. */
 async function showPages(kind, pages) {
   const count = pages.length;
-  const shown = [];
+  const told = [];
   for (const [index, { name, decode }] of pages.entries()) {
     const number = index + 1;
     const label = { number, count, name: `${kind} ${number} of ${count}${name ? `, ${name}` : ""}` };
     postMessage({ begins: label });
-    const isTold = await show(label, decode);
-    if (isTold !== null) shown.push(isTold);
+    told.push(await show(label, decode));
     if (decoder.isBroken && number < count) {
       postMessage({ error: `left out of this file: ${counted(count - number, kind)} after it, since the decoder stopped` });
     }
     if (decoder.isBroken) break;
   }
-  return shown;
+  return told;
 }
 
 async function showFile({ bytes, salvage, isLimited }) {
@@ -115,8 +114,8 @@ async function showFile({ bytes, salvage, isLimited }) {
     close = contents.close;
     // After the pages the decoder may be broken.
     const leftOut = contents.leftOut();
-    const shown = await showPages(kind, pages);
-    const lacks = leftOut ? lackingOfFile(leftOut, shown) : [];
+    const told = await showPages(kind, pages);
+    const lacks = leftOut ? lackingOfFile(leftOut, told) : [];
     for (const fault of [...faults, ...lacks]) postMessage({ error: `left out of this file: ${fault}` });
     if (pages.length === 0 && lacks.length === 0) postMessage({ error: "no JBIG2 page in this file" });
   } catch (error) {

@@ -15,7 +15,7 @@ from unittest import mock
 
 import hayro_jbig2
 from hayro_jbig2 import __main__ as command
-from pages import EXAMPLE, GLOBALS, HEADER, TEXT
+from pages import EXAMPLE, GLOBALS, HEADER, PAGE, TEXT
 from test_limits import WIDE
 
 BOOK = EXAMPLE.read_bytes()
@@ -94,6 +94,15 @@ class Command(unittest.TestCase):
         self.assertEqual(self.run_command("text", "text.pbm", "--globals", "globals"), (0, "", ""))
         self.assertEqual((self.folder / "text.pbm").read_bytes(), b"P4\n8 1\n\x80")
 
+    def test_all_pages_of_an_embedded_page_are_that_one(self):
+        page = PAGE.read_bytes()
+        self.assertEqual(self.run_command("-", "page-{}.pbm", data=page), (0, "", ""))
+        self.assertEqual((self.folder / "page-0.pbm").read_bytes(), hayro_jbig2.decode(page).to_pbm())
+        said = (1, "", "-: missing page information segment\n")
+        for name in "page-{}.pbm", "page.pbm":
+            self.assertEqual(self.run_command("-", name), said)
+        self.assertIn("pikepdf", self.run_command("pdf", "page-{}.pbm")[2])
+
     def test_bits_after_the_width_are_white(self):
         page = hayro_jbig2.decode(BOOK, page=2)
         width, height, rows = rows_of_png(page.to_png())
@@ -136,6 +145,14 @@ class Command(unittest.TestCase):
         self.assertEqual(self.run_command("-", "page-{}.pbm", "--salvage", data=pages)[0], 0)
         self.assertTrue((self.folder / "page-1.pbm").exists())
 
+    def test_a_file_that_ends_early_is_told_where_no_page_can_be_decoded(self):
+        data = bytes.fromhex(
+            "974A42320D0A1A0A 03 00000001 30 00 01 00000013 00000008 00000001 0000000000000000000000"
+            "00000002 00 00 01 0000000F 0009 00000001 00000001 5F80800040 00000003 31 00 01 00000000 000000"
+        )
+        said = "-: page 0: invalid Huffman table selection\n-: the segments end early: unexpected end of input\n"
+        self.assertEqual(self.run_command("-", "page-{}.pbm", data=data), (1, "", said))
+
     def test_a_file_without_pages(self):
         empty = bytes.fromhex("974A42320D0A1A0A 03")
         # A page that has no width, which salvage leaves out.
@@ -146,7 +163,8 @@ class Command(unittest.TestCase):
             (empty + page, (), "page has zero width or height"),
             (empty + page, ("--salvage",), "page has zero width or height"),
         ):
-            self.assertEqual(self.run_command("-", "page-{}.pbm", *words, data=data), (1, "", f"-: {said}\n"))
+            for name in "page-{}.pbm", "page.pbm":
+                self.assertEqual(self.run_command("-", name, *words, data=data), (1, "", f"-: {said}\n"))
 
     def test_a_page_that_is_left_out_is_none_that_is_written(self):
         page = "0000000%d 30 00 0%d 00000013 0000000%d 00000001" + "00" * 11
@@ -155,6 +173,21 @@ class Command(unittest.TestCase):
         self.assertEqual(self.run_command("-", "page-{}.pbm", "--salvage", data=data), (1, "", said))
         self.assertEqual((self.folder / "page-0.pbm").read_bytes(), b"P4\n8 1\n\0")
         self.assertEqual(self.run_command("-", "page.pbm", "--salvage", data=data), (0, "", said))
+
+    def test_a_page_that_takes_too_much_memory_stops_no_other(self):
+        third = hayro_jbig2.decode(BOOK, page=2)
+
+        def to_png(page):
+            if page == third:
+                return b"PNG"
+            raise MemoryError
+
+        with mock.patch.dict(command._WRITERS, {".png": to_png}):
+            message = "".join(f"{EXAMPLE}: page {index}: out of memory\n" for index in range(2))
+            self.assertEqual(self.run_command(EXAMPLE, "page-{}.png"), (1, "", message))
+        self.assertEqual([path.name for path in self.folder.glob("page-*")], ["page-2.png"])
+        with mock.patch.object(pathlib.Path, "read_bytes", side_effect=MemoryError):
+            self.assertEqual(self.run_command(EXAMPLE, "page.png"), (1, "", "out of memory\n"))
 
     def test_a_fault_of_the_globals_names_them(self):
         (self.folder / "globals").write_bytes(GLOBALS + b" " * 16)

@@ -104,6 +104,11 @@ class Pages(unittest.TestCase):
         self.assertEqual(hayro_jbig2.sizes(data, salvage=True), [(1, 8, 1)])
         [page] = hayro_jbig2.pages(data, salvage=True)
         self.assertEqual((page.left_out.pages, page.left_out.first_page.variant), (2, "EmptyPage"))
+        # A page without a size is raised, as where the stream is embedded.
+        for stream in bytes.fromhex("974A42320D0A1A0A 03") + empty, empty:
+            with self.assertRaises(hayro_jbig2.FormatError) as caught:
+                hayro_jbig2.decode(stream, salvage=True)
+            self.assertEqual(caught.exception.variant, "EmptyPage")
 
     def test_salvage_changes_nothing_of_whole_data(self):
         nothing = hayro_jbig2.LeftOut(hayro_jbig2.PassedOver(0, None), 0, None, None)

@@ -18,7 +18,7 @@ import tempfile
 
 from chromium import Chromium, chromium
 from firefox import Firefox, firefox
-from looks import faults_of_looks, names
+from looks import faults_of_looks, loaded_again, names
 from page import FILES, WEB, Server, choose, drop, open_page, set_checked, shown, wait_until_shown
 
 FILES_AT_ONCE = 100
@@ -164,11 +164,12 @@ def faults_from_a_folder(browser, folder):
 def test(browser, folder):
     """Compares all that is shown, and returns the status."""
     meant = meant_of(folder)
+    again = loaded_again(browser)
     shows_damage = shows_what_is_left(browser, folder)
     if not shows_damage:
         print("a damaged page is not shown as it is meant")
     faults = [f"the page doesn't go on after {fault}" for fault in goes_on(browser, folder)] + faults_of_looks(browser, folder)
-    for fault in faults:
+    for fault in again + faults:
         print(fault)
     # What jbig2-decode draws leniently, without a limit of work.
     set_checked(browser, "salvage", False)
@@ -188,7 +189,7 @@ def test(browser, folder):
     for fault in (without_server := faults_from_a_folder(browser, folder)):
         print(fault)
     print(f"{browser.name}: {len(names) - len(wrong)} files are shown as they are meant, {len(wrong)} not")
-    return 1 if wrong or others or not names or not shows_damage or faults or without_server else 0
+    return 1 if wrong or others or not names or not shows_damage or again or faults or without_server else 0
 
 
 def take_picture(browser, picture, width, files):

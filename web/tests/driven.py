@@ -1,5 +1,6 @@
 """What all browsers of the tests have in common."""
 import json
+import time
 
 # Longer than all takes on a busy computer.
 SECONDS = 600
@@ -22,3 +23,17 @@ class Driven:
               look();
             }})"""
         )
+
+    def load_again(self):
+        """Loads the page again, as a user does."""
+        self.evaluate("void (self.isOld = true, setTimeout(() => location.reload(), 100))")
+        end = time.monotonic() + SECONDS
+        while time.monotonic() < end:
+            try:
+                if self.evaluate('!self.isOld && document.readyState === "complete"'):
+                    return
+            except RuntimeError:
+                # It is between the two.
+                pass
+            time.sleep(0.05)
+        raise RuntimeError("the page is not loaded again")

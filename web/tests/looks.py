@@ -111,14 +111,32 @@ def zoom(browser):
     """Widths of the first picture, of 64 pixels, by what is chosen."""
     faults = []
     for value, width in ("2", 128), ("0.5", 32), ("fit", 384):
-        browser.evaluate(
-            f"""(() => {{ const box = document.querySelector("#zoom"); box.value = "{value}";
-            box.dispatchEvent(new Event("change")); }})()"""
-        )
+        set_zoom(browser, value)
         seen = browser.evaluate('document.querySelector(".picture").getBoundingClientRect().width')
         if seen != width:
             faults.append(f"zoom {value}: {seen} pixels wide, not {width}")
     return faults
+
+
+def set_zoom(browser, value):
+    browser.evaluate(
+        f"""(() => {{ const box = document.querySelector("#zoom"); box.value = "{value}";
+        box.dispatchEvent(new Event("change")); }})()"""
+    )
+
+
+def loaded_again(browser):
+    """Pages are enlarged as the box says, and nothing can be stopped, also where a browser keeps what was so before."""
+    set_zoom(browser, "2")
+    browser.evaluate('void (document.querySelector("#stop-all").disabled = false)')
+    browser.load_again()
+    chosen, fits, stops = browser.evaluate(
+        """[document.querySelector("#zoom").value, document.querySelector("#files").matches(".fit"),
+            !document.querySelector("#stop-all").disabled]"""
+    )
+    set_zoom(browser, "fit")
+    faults = [] if fits == (chosen == "fit") else [f"after the page was loaded again {chosen!r} is not what is shown"]
+    return faults + (["after the page was loaded again nothing runs that can be stopped"] if stops else [])
 
 
 def pictures_out_of_sight(browser):

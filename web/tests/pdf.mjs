@@ -109,6 +109,14 @@ const FILES = {
   "a filter that is not read": [file(stream(5, "/Filter[/LZWDecode/JBIG2Decode]", "")), "5 the filter LZWDecode is not read here"],
   "a filter after that of JBIG2": [file(stream(5, "/Filter[/JBIG2Decode/FlateDecode]", "")), "5 the filter JBIG2Decode is not read here"],
   "many filters": [file(stream(5, "/Filter[/FlateDecode/FlateDecode/FlateDecode/JBIG2Decode]", "")), "5 more than 3 filters"],
+  "two filters around globals": [
+    file(stream(6, "/Filter[/Fl/Fl]", deflateSync(deflateSync("shared"))), image(5, "right", "/DecodeParms<</JBIG2Globals 6 0 R>>")),
+    "5 right with shared",
+  ],
+  "many filters around globals": [
+    file(stream(6, "/Filter[/Fl/Fl/Fl]", deflateSync("x")), image(5, "right", "/DecodeParms<</JBIG2Globals 6 0 R>>")),
+    "5 more than 2 filters",
+  ],
   "a predictor": [
     file(stream(5, "/Filter[/FlateDecode/JBIG2Decode]/DecodeParms[<</Predictor 12>>null]", deflateSync("right"))),
     "5 predictors of Flate are not read here",

@@ -79,6 +79,8 @@ async function checkLeftOut() {
   const [end, junk] = ["00000011310001" + "00".repeat(4), "20".repeat(16)];
   const rest =
     "file left out of this file: what comes from a segment on (segment 538976288, SEGMENT_INVALID_REFERENCE: segment refers to an invalid segment)";
+  const dictionary = "000000020000010000000F00090000000100000001" + "5F80800040";
+  const cut = "file left out of this file: what comes from a segment on (PARSE_UNEXPECTED_EOF: unexpected end of input)";
   const cases = [
     ["", "file no JBIG2 page in this file"],
     [page(1, "00000000"), left],
@@ -88,9 +90,11 @@ async function checkLeftOut() {
     [page(1, "00000008") + region + end + junk, rest],
     [page(1, "00000008") + junk, ""],
     [page(1, "00000008") + region + junk, ""],
+    // A page that fails says nothing of it: a dictionary wants a table which isn't there, and the rest is cut off.
+    [page(1, "00000008") + dictionary + end + "000000", `1 HUFFMAN_INVALID_SELECTION: invalid Huffman table selection,${cut}`, false],
   ];
-  for (const [pages, meant] of cases) {
-    const said = await saidOf(Buffer.from(`974A42320D0A1A0A03${pages}`, "hex"), true);
+  for (const [pages, meant, salvage = true] of cases) {
+    const said = await saidOf(Buffer.from(`974A42320D0A1A0A03${pages}`, "hex"), salvage);
     check(String(errorsOf(said)) === meant, `what is left out of a file: ${errorsOf(said)}`);
   }
 }

@@ -8,7 +8,7 @@ import sys
 from dataclasses import replace
 from typing import TYPE_CHECKING, Any
 
-from . import Globals, Jbig2Error, Page, __version__, decode, sizes
+from . import Globals, Jbig2Error, LeftOut, Page, __version__, decode, sizes
 from ._decode import pages_or_faults
 
 if TYPE_CHECKING:
@@ -84,41 +84,54 @@ def _standard_input() -> bytes:
     return sys.stdin.buffer.read()
 
 
-def _chosen_pages(words: argparse.Namespace) -> Iterable[tuple[int, Page | Jbig2Error]]:
-    """The pages to be written, with their indices, or the faults of those that can't be decoded."""
+def _chosen_pages(words: argparse.Namespace) -> Iterable[tuple[int, Page | Jbig2Error, LeftOut]]:
+    """The pages to be written, or the faults of those that can't be decoded, with their indices and what was left out of the
+    file."""
     data = _standard_input() if words.input == "-" else pathlib.Path(words.input).read_bytes()
     how: dict[str, Any] = {"strict": words.strict, "salvage": words.salvage, "work_limit": words.work_limit}
     if "{}" in words.output:
-        return enumerate(pages_or_faults(data, **how))
+        return ((index, page, left_out) for index, (page, left_out) in enumerate(pages_or_faults(data, **how)))
     index = words.page or 0
     if words.globals is not None:
-        return [(index, _page_with_globals(words, data, how))]
+        page = _page_with_globals(words, data, how)
+        return [(index, page, page.left_out)]
     if words.page is None and len(sizes(data, **how)) > 1:
         print(f"{words.input}: only the first of several pages is written", file=sys.stderr)
-    return [(index, decode(data, page=index, **how, warn=False))]
+    page = decode(data, page=index, **how, warn=False)
+    return [(index, page, page.left_out)]
+
+
+def _said_of(index: int, page: Page | Jbig2Error) -> list[str]:
+    if isinstance(page, Jbig2Error):
+        return [f"page {index}: {page}"]
+    return [f"page {index} is incomplete: {text}" for text in page.lacks]
 
 
 def _write_pages(words: argparse.Namespace) -> int:
     """Writes the pages that can be decoded, and returns the status."""
     told: set[str] = set()
     status = 0
-    for index, page in _chosen_pages(words):
-        if isinstance(page, Jbig2Error):
-            print(f"{words.input}: page {index}: {page}", file=sys.stderr)
-            status = 1
-            continue
-        # A page that can't begin is one of them all, and salvage leaves it out.
-        if page.left_out.pages and "{}" in words.output:
-            status = 1
-        for text in page.lacks:
-            print(f"{words.input}: page {index} is incomplete: {text}", file=sys.stderr)
+    for index, page, left_out in _chosen_pages(words):
+        for text in _said_of(index, page):
+            print(f"{words.input}: {text}", file=sys.stderr)
         # Of a file as a whole: once.
-        for text in page.left_out.texts:
+        for text in left_out.texts:
             if text not in told:
                 print(f"{words.input}: {text}", file=sys.stderr)
-        told.update(page.left_out.texts)
+        told.update(left_out.texts)
+        # A page that can't begin is one of them all, and salvage leaves it out.
+        if isinstance(page, Jbig2Error) or (left_out.pages and "{}" in words.output):
+            status = 1
+        if isinstance(page, Jbig2Error):
+            continue
         output = pathlib.Path(words.output.replace("{}", str(index)))
-        output.write_bytes(_WRITERS[output.suffix.lower()](page))
+        try:
+            picture = _WRITERS[output.suffix.lower()](page)
+        except MemoryError:
+            print(f"{words.input}: page {index}: out of memory", file=sys.stderr)
+            status = 1
+            continue
+        output.write_bytes(picture)
     return status
 
 
@@ -138,6 +151,8 @@ def main() -> int:
         print(f"{words.input}: {error}", file=sys.stderr)
     except OSError as error:
         print(error, file=sys.stderr)
+    except MemoryError:
+        print("out of memory", file=sys.stderr)
     return 1
 
 

@@ -99,17 +99,24 @@ def pages(
     return _pages_of(file, work_limit, warn)
 
 
-def pages_or_faults(data: bytes, *, strict: bool, salvage: bool, work_limit: WorkLimit) -> Iterator[Page | Jbig2Error]:
-    """All pages of a file in order, and in the place of one that can't be decoded its fault. Gives no warning. Where there is
-    no page, it raises why."""
-    with _library.File(bytes_of(data), _reading(strict, salvage), work_limit) as file:
+def pages_or_faults(
+    data: bytes, *, strict: bool, salvage: bool, work_limit: WorkLimit
+) -> Iterator[tuple[Page | Jbig2Error, LeftOut]]:
+    """All pages of a file in order, and in the place of one that can't be decoded its fault, each with what was left out of
+    the file; or an embedded page. Gives no warning. Where there is no page, it raises why."""
+    content = bytes_of(data)
+    if not content.startswith(_BEGINNING):
+        page = decode(content, strict=strict, salvage=salvage, work_limit=work_limit, warn=False)
+        yield page, page.left_out
+        return
+    with _library.File(content, _reading(strict, salvage), work_limit) as file:
         if not file.sizes:
-            raise file.left_out.first_page or _library.no_such_page()
+            raise _missing_page(file, 0)
         for index in range(len(file.sizes)):
             try:
-                yield file.draw(index, work_limit)
+                yield file.draw(index, work_limit), file.left_out
             except Jbig2Error as error:
-                yield error
+                yield error, file.left_out
 
 
 def sizes(
@@ -149,5 +156,11 @@ def _pages_of(file: _library.File, work_limit: WorkLimit, warn: bool) -> Iterato
 
 def _page_of(file: _library.File, index: int, work_limit: WorkLimit) -> Page:
     if not 0 <= index < len(file.sizes):
-        raise _library.no_such_page()
+        raise _missing_page(file, index)
     return file.draw(index, work_limit)
+
+
+def _missing_page(file: _library.File, index: int) -> Jbig2Error:
+    """Why a file hasn't a page. Where salvage leaves out all of them, the first one's fault is known."""
+    fault = file.left_out.first_page if index == 0 else None
+    return fault or _library.no_such_page()
