@@ -2,10 +2,10 @@
 
     benchmarks/command [--pages N] [--rounds N] FILE.jb2 ..
 
-Each file has a page. A JBIG2 file and a PDF file of N pages (200) are made of it, all the same page, whose dictionaries
-and tables they share. Both programs write all pages of the JBIG2 file as PBM; jbig2dec can't read PDF files. Programs
-take turns. Where clang is there and limit_document.c can read the file, its loop without checks takes turns with them. Of
-the processor's time, and of the time that passed, the least of the rounds (3) counts. What is written is compared.
+Each file has a page. A JBIG2 file and a PDF file of N pages (200, at most 255) are made of it, all the same page, whose
+dictionaries and tables they share. Both programs write all pages of the JBIG2 file as PBM; jbig2dec can't read PDF files.
+Programs take turns. Where clang is there and limit_document.c can read the file, its loop without checks takes turns with
+them. Of the processor's time, and of the time that passed, the least of the rounds (3) counts. What is written is compared.
 `make -C c` builds the command first.
 """
 from __future__ import annotations
@@ -99,6 +99,8 @@ def main() -> None:
     parser.add_argument("--rounds", type=int, default=3)
     parser.add_argument("files", nargs="+", type=pathlib.Path)
     options = parser.parse_args()
+    if not 1 <= options.pages <= 255:
+        parser.error("--pages takes 1 to 255")
     if subprocess.run(["make", "--silent", "-C", ROOT / "c"], stdout=subprocess.DEVNULL).returncode:
         sys.exit("benchmarks/command: make -C c can't build the command")
     for file in options.files:

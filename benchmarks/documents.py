@@ -104,7 +104,7 @@ def main() -> None:
     parser.add_argument("--only", default="")
     parser.add_argument("files", nargs="+", type=pathlib.Path)
     options = parser.parse_args()
-    images = {file.name: image_of(embedded_page(file.read_bytes(), 0)) for file in options.files}
+    images = {str(file): image_of(embedded_page(file.read_bytes(), 0)) for file in options.files}
     first = next(iter(images))
     images[f"pages of 8 by 1 over the globals of {first}"] = Image(8, 1, SMALL, images[first].shared)
     with tempfile.TemporaryDirectory() as name:

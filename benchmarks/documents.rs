@@ -84,13 +84,14 @@ fn main() {
     let (globals, stream) = (fs::read(globals).unwrap(), fs::read(stream).unwrap());
     let (began, used_before) = (Instant::now(), used());
     let globals = Globals::new(&globals, &DecodeSettings::default()).expect("the globals are decoded");
-    let drawn = thread::scope(|scope| {
+    let drawn: Vec<Vec<u8>> = thread::scope(|scope| {
         let (globals, stream) = (&globals, &stream);
         let share = |at: usize| pages / threads + usize::from(at < pages % threads);
         let draw = |at| move || work(globals, stream, share(at), way == "packed");
         let running: Vec<_> = (0..threads).map(|at| scope.spawn(draw(at))).collect();
-        running.into_iter().map(|thread| thread.join().expect("all pages are drawn")).last()
+        running.into_iter().map(|thread| thread.join().expect("all pages are drawn")).collect()
     });
     println!("{:.6} {:.6}", began.elapsed().as_secs_f64(), used() - used_before);
-    fs::write(out, drawn.unwrap_or_default()).unwrap();
+    assert!(drawn.iter().all(|page| *page == drawn[0]), "another page");
+    fs::write(out, &drawn[0]).unwrap();
 }

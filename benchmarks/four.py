@@ -49,16 +49,16 @@ def kinds(files: list[pathlib.Path], pages: int, room: pathlib.Path) -> dict[str
     ways = {"handles": "handles"}
     if ctypes.util.find_library("jbig2dec"):
         ways["libjbig2dec"] = ctypes.util.find_library("jbig2dec")
-    for file in files:
+    for number, file in enumerate(files):
         image = image_of(embedded_page(file.read_bytes(), 0))
-        inputs = [room / f"{file.name}.globals", room / f"{file.name}.stream"]
+        inputs = [room / f"{number}.globals", room / f"{number}.stream"]
         inputs[0].write_bytes(image.shared)
         inputs[1].write_bytes(image.stream)
         for name, way in ways.items():
             end = [*map(str, inputs), os.devnull]
             # Each thread draws as many pages as a process of its own.
             counts = [["1", str(pages)], [str(COUNT), str(COUNT * pages)]]
-            found[f"{file.name}, {name}"] = [[str(room / "documents"), way, *numbers, *end] for numbers in counts]
+            found[f"{file}, {name}"] = [[str(room / "documents"), way, *numbers, *end] for numbers in counts]
     return found
 
 

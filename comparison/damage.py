@@ -188,7 +188,6 @@ class Tally:
 
 def run_all(runner, samples, options):
     tally = Tally()
-    turn = options.first
     for turn in range(options.first, options.first + options.count):
         chance = random.Random(options.seed << 40 | turn)
         sample = chance.choice(samples)
@@ -206,7 +205,7 @@ def run_all(runner, samples, options):
             print(f"run {turn} ({sample.name}) {fault}: {outcome}", flush=True)
         if (turn + 1) % REPORT == 0:
             print(tally.line(options.first, turn + 1), flush=True)
-    print(tally.line(options.first, turn + 1))
+    print(tally.line(options.first, options.first + options.count))
     for answer, count in tally.answers.most_common():
         print(f"{count:9} {answer}")
     return tally.wrong

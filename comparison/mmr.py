@@ -86,7 +86,7 @@ def main():
             with open(name, "wb") as file:
                 file.write(data)
             ours, fault = our_picture(program, name)
-            if not ours or pixels(ours) != [int("".join(map(str, row)), 2) for row in rows]:
+            if not ours or pixels(ours) != (width, height, [int("".join(map(str, row)), 2) for row in rows]):
                 differing += 1
                 print(f"picture {turn} of {width} by {height} differs ({kept(data, f'mmr-{seed}-{turn}')}): {fault}")
     print(f"{count} pictures, {differing} differ")

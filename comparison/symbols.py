@@ -127,7 +127,7 @@ def main():
             document = random_document(chance, kind)
             with open(name, "wb") as file:
                 file.write(document.finished())
-            meant = document.page.numbers()
+            meant = document.page.width, document.page.height, document.page.numbers()
             pictures = {} if program == "none" else {"here": our_picture(program, name)}
             if kind != "more":
                 pictures["jbig2dec"] = their_picture(name, theirs_name)

@@ -213,6 +213,8 @@ def main():
     words.add_argument("--tool", default=os.path.join(ROOT, "c", "out", "hayro-jbig2"))
     words.add_argument("--no-suite", action="store_true")
     given = words.parse_args()
+    if given.scans and not os.path.isdir(given.scans):
+        words.error(f"there is no folder {given.scans}")
     if given.tool == words.get_default("tool"):
         subprocess.run(["make", "--quiet", "-C", os.path.join(ROOT, "c")], check=True, stdout=subprocess.DEVNULL)
     comparison = Comparison(given.tool)

@@ -6,6 +6,7 @@ import os
 import shutil
 import subprocess
 import tempfile
+import time
 import unittest
 
 from tests.files import ROOT
@@ -234,6 +235,17 @@ class Updates(Case):
         self.update("crates/jbig2_mmr/src/lib.rt", lambda text: text)
         self.assert_runs(PATH=f"{first}:{os.environ['PATH']}")
         self.prove(first)
+
+    @unittest.skipUnless(PROCESSOR == "x86_64", "programs are proved for x86-64 alone")
+    def test_a_program_that_the_gate_built_before_the_toolchain_came(self):
+        proved = self.path("crates", "jbig2_decode", "out", "jbig2_decode")
+        os.makedirs(os.path.dirname(proved))
+        with open(proved, "w", encoding="utf-8") as file:
+            file.write("#!/bin/sh\nexit 78\n")
+        os.chmod(proved, 0o755)
+        # Longer than a step of the clock by which files have their times.
+        time.sleep(0.1)
+        self.prove(self.toolchain("first"))
 
     @unittest.skipUnless(PROCESSOR == "x86_64", "programs are proved for x86-64 alone")
     def test_a_proved_program_and_an_older_source(self):

@@ -16,10 +16,10 @@ def table(head, rows):
 
 def pages(results, before):
     """A row for each page. What a page is stays as the table said before."""
-    said = dict(re.findall(r"(?m)^\| (\S+) \| ([^|]*) \|", before))
+    said = dict(re.findall(r"(?m)^\| (\S[^|]*?) \| ([^|]*) \|", before))
     rows, parts = [], []
     for _, result in results:
-        name, instructions, ours, theirs, kilobytes, other = result["figures"][-1].split()
+        name, instructions, ours, theirs, kilobytes, other = result["figures"][-1].rsplit(maxsplit=5)
         parts.append(float(ours) / float(theirs))
         rows.append([name, said.get(name, ""), instructions, ours, theirs, f"{parts[-1]:.2f}", kilobytes, other])
     head = ["Page", "What it is", "Instructions", "ms", "jbig2dec", "Part", "KB", "jbig2dec"]

@@ -32,7 +32,10 @@ class FramingTest(unittest.TestCase):
         bitmap = Bitmap(9, 2)
         bitmap.rows[1][8] = 1
         self.assertEqual(pbm(bitmap), b"P4\n9 2\n\0\0\0\x80")
-        self.assertEqual(pixels(pbm(bitmap)), [0, 1])
+        self.assertEqual(pixels(pbm(bitmap)), (9, 2, [0, 1]))
+        self.assertNotEqual(pixels(pbm(Bitmap(9, 2))), pixels(pbm(Bitmap(10, 2))))
+        for length in 1, 2, 3:
+            self.assertNotEqual(pixels(pbm(Bitmap(9, 2))), pixels(pbm(Bitmap(9, 2))[:-length]))
 
 
 if __name__ == "__main__":
