@@ -2,6 +2,7 @@
 
 from __future__ import annotations
 
+import copy
 import operator
 import warnings
 from collections.abc import Iterator
@@ -163,4 +164,5 @@ def _page_of(file: _library.File, index: int, work_limit: WorkLimit) -> Page:
 def _missing_page(file: _library.File, index: int) -> Jbig2Error:
     """Why a file hasn't a page. Where salvage leaves out all of them, the first one's fault is known."""
     fault = file.left_out.first_page if index == 0 else None
-    return fault or _library.no_such_page()
+    # A copy: what is raised keeps the file by its frames, so the file must not keep it.
+    return copy.copy(fault) or _library.no_such_page()
