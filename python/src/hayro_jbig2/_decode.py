@@ -102,22 +102,22 @@ def pages(
 
 def pages_or_faults(
     data: bytes, *, strict: bool, salvage: bool, work_limit: WorkLimit
-) -> Iterator[tuple[Page | Jbig2Error, LeftOut]]:
-    """All pages of a file in order, and in the place of one that can't be decoded its fault, each with what was left out of
-    the file; or an embedded page. Gives no warning. Where there is no page, it raises why."""
+) -> Iterator[tuple[int, Page | Jbig2Error, LeftOut]]:
+    """All pages of a file in order, and in the place of one that can't be decoded its fault, each with its index and what was
+    left out of the file; or an embedded page. Gives no warning. Where there is no page, it raises why."""
     content = bytes_of(data)
     if not content.startswith(_BEGINNING):
         page = decode(content, strict=strict, salvage=salvage, work_limit=work_limit, warn=False)
-        yield page, page.left_out
+        yield 0, page, page.left_out
         return
     with _library.File(content, _reading(strict, salvage), work_limit) as file:
         if not file.sizes:
             raise _missing_page(file, 0)
         for index in range(len(file.sizes)):
             try:
-                yield file.draw(index, work_limit), file.left_out
+                yield index, file.draw(index, work_limit), file.left_out
             except Jbig2Error as error:
-                yield error, file.left_out
+                yield index, error, file.left_out
 
 
 def sizes(
