@@ -73,8 +73,9 @@ function zoom() {
 }
 
 element("zoom").addEventListener("change", zoom);
-// Firefox keeps what was chosen where the page is loaded again, and that a button could be pressed.
-zoom();
+// Browsers keep what was chosen where a user comes back, and Firefox where the page is loaded again. Chromium sets it late.
+addEventListener("pageshow", zoom);
+// Firefox keeps too that a button could be pressed.
 stopAll.disabled = true;
 for (const kind of ["dragenter", "dragover"]) {
   document.addEventListener(kind, (event) => (event.preventDefault(), document.body.classList.add("over")));

@@ -9,12 +9,14 @@ import pathlib
 import subprocess
 import sys
 import tempfile
+import tracemalloc
 import unittest
 import zlib
 from unittest import mock
 
 import hayro_jbig2
 from hayro_jbig2 import __main__ as command
+from hayro_jbig2 import _library
 from pages import EXAMPLE, GLOBALS, HEADER, PAGE, TEXT
 from test_limits import WIDE
 
@@ -188,6 +190,23 @@ class Command(unittest.TestCase):
         self.assertEqual([path.name for path in self.folder.glob("page-*")], ["page-2.png"])
         with mock.patch.object(pathlib.Path, "read_bytes", side_effect=MemoryError):
             self.assertEqual(self.run_command(EXAMPLE, "page.png"), (1, "", "out of memory\n"))
+
+    def test_nothing_of_a_page_takes_memory_while_the_next_is_drawn(self):
+        draw, taken = _library.File.draw, []
+
+        def watched(*words):
+            taken.append(tracemalloc.get_traced_memory()[0])
+            return draw(*words)
+
+        # Pages of 2^21 bytes.
+        pages = ("000000%d0 30 00 0%d 00000013 00001000 00001000" % (number, number) + "00" * 11 for number in (1, 2, 3))
+        data = bytes.fromhex("974A42320D0A1A0A 03" + "".join(pages))
+        tracemalloc.start()
+        self.addCleanup(tracemalloc.stop)
+        with mock.patch.object(_library.File, "draw", watched):
+            self.assertEqual(self.run_command("-", "page-{}.pbm", data=data), (0, "", ""))
+        self.assertEqual(len(taken), 3)
+        self.assertLess(max(taken), 1 << 20)
 
     def test_a_fault_of_the_globals_names_them(self):
         (self.folder / "globals").write_bytes(GLOBALS + b" " * 16)

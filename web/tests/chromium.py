@@ -36,7 +36,8 @@ class Chromium(Driven):
             os.dup2(ends[1], 4)
 
         words = [chromium(), "--headless=new", "--no-sandbox", "--disable-gpu", "--window-size=900,900", "--no-first-run"]
-        words += ["--hide-scrollbars", "--remote-debugging-pipe", f"--user-data-dir={profile}"]
+        words += ["--hide-scrollbars", "--remote-debugging-pipe", "--disable-features=BackForwardCache"]
+        words += [f"--user-data-dir={profile}"]
         self.process = subprocess.Popen(words, preexec_fn=place_pipes, close_fds=False, stderr=subprocess.DEVNULL)
         os.close(to_child)
         os.close(from_child)

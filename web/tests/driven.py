@@ -26,14 +26,23 @@ class Driven:
 
     def load_again(self):
         """Loads the page again, as a user does."""
-        self.evaluate("void (self.isOld = true, setTimeout(() => location.reload(), 100))")
+        self.go("location.reload()", "!self.isOld")
+
+    def come_back(self):
+        """Goes to another page and back, as a user does. The page is not kept meanwhile."""
+        self.go('location.assign("page.css")', 'location.pathname.endsWith(".css")')
+        self.go("history.back()", 'location.pathname.endsWith(".html")')
+
+    def go(self, way, arrived):
+        """Goes a way to a page, which is there where an expression holds."""
+        self.evaluate(f"void (self.isOld = true, setTimeout(() => {way}, 100))")
         end = time.monotonic() + SECONDS
         while time.monotonic() < end:
             try:
-                if self.evaluate('!self.isOld && document.readyState === "complete"'):
+                if self.evaluate(f'{arrived} && document.readyState === "complete"'):
                     return
             except RuntimeError:
                 # It is between the two.
                 pass
             time.sleep(0.05)
-        raise RuntimeError("the page is not loaded again")
+        raise RuntimeError(f"nothing came of {way}")

@@ -9,12 +9,13 @@ import time
 
 from driven import SECONDS, Driven
 
-# Its profile: any free port, and files are saved without a question.
+# Its profile: any free port, files are saved without a question, and no page is kept for a user who comes back.
 PREFERENCES = {
     "marionette.port": 0,
     "browser.download.folderList": 2,
     "browser.download.always_ask_before_handling_new_types": False,
     "browser.download.alwaysOpenPanel": False,
+    "browser.sessionhistory.max_total_viewers": 0,
 }
 # The elements that have a role and a name, but for pictures, which come and go.
 NAMED = "button, a, input, select, progress, nav, header, main, section, [role]:not(canvas)"

@@ -127,16 +127,21 @@ def set_zoom(browser, value):
 
 def loaded_again(browser):
     """Pages are enlarged as the box says, and nothing can be stopped, also where a browser keeps what was so before."""
-    set_zoom(browser, "2")
-    browser.evaluate('void (document.querySelector("#stop-all").disabled = false)')
-    browser.load_again()
-    chosen, fits, stops = browser.evaluate(
-        """[document.querySelector("#zoom").value, document.querySelector("#files").matches(".fit"),
-            !document.querySelector("#stop-all").disabled]"""
-    )
-    set_zoom(browser, "fit")
-    faults = [] if fits == (chosen == "fit") else [f"after the page was loaded again {chosen!r} is not what is shown"]
-    return faults + (["after the page was loaded again nothing runs that can be stopped"] if stops else [])
+    faults = []
+    for way in browser.load_again, browser.come_back:
+        set_zoom(browser, "2")
+        browser.evaluate('void (document.querySelector("#stop-all").disabled = false)')
+        way()
+        chosen, fits, stops = browser.evaluate(
+            """[document.querySelector("#zoom").value, document.querySelector("#files").matches(".fit"),
+                !document.querySelector("#stop-all").disabled]"""
+        )
+        set_zoom(browser, "fit")
+        if fits != (chosen == "fit"):
+            faults.append(f"after the page was loaded again ({way.__name__}) {chosen!r} is not what is shown")
+        if stops:
+            faults.append(f"after the page was loaded again ({way.__name__}) nothing runs that can be stopped")
+    return faults
 
 
 def pictures_out_of_sight(browser):

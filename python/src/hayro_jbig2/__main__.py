@@ -90,7 +90,7 @@ def _chosen_pages(words: argparse.Namespace) -> Iterable[tuple[int, Page | Jbig2
     data = _standard_input() if words.input == "-" else pathlib.Path(words.input).read_bytes()
     how: dict[str, Any] = {"strict": words.strict, "salvage": words.salvage, "work_limit": words.work_limit}
     if "{}" in words.output:
-        return ((index, page, left_out) for index, (page, left_out) in enumerate(pages_or_faults(data, **how)))
+        return pages_or_faults(data, **how)
     index = words.page or 0
     if words.globals is not None:
         page = _page_with_globals(words, data, how)
@@ -107,6 +107,18 @@ def _said_of(index: int, page: Page | Jbig2Error) -> list[str]:
     return [f"page {index} is incomplete: {text}" for text in page.lacks]
 
 
+def _is_written(words: argparse.Namespace, index: int, page: Page) -> bool:
+    """Writes a page, and returns whether there is memory for its picture."""
+    output = pathlib.Path(words.output.replace("{}", str(index)))
+    try:
+        picture = _WRITERS[output.suffix.lower()](page)
+    except MemoryError:
+        print(f"{words.input}: page {index}: out of memory", file=sys.stderr)
+        return False
+    output.write_bytes(picture)
+    return True
+
+
 def _write_pages(words: argparse.Namespace) -> int:
     """Writes the pages that can be decoded, and returns the status."""
     told: set[str] = set()
@@ -120,18 +132,12 @@ def _write_pages(words: argparse.Namespace) -> int:
                 print(f"{words.input}: {text}", file=sys.stderr)
         told.update(left_out.texts)
         # A page that can't begin is one of them all, and salvage leaves it out.
-        if isinstance(page, Jbig2Error) or (left_out.pages and "{}" in words.output):
+        if left_out.pages and "{}" in words.output:
             status = 1
-        if isinstance(page, Jbig2Error):
-            continue
-        output = pathlib.Path(words.output.replace("{}", str(index)))
-        try:
-            picture = _WRITERS[output.suffix.lower()](page)
-        except MemoryError:
-            print(f"{words.input}: page {index}: out of memory", file=sys.stderr)
+        if isinstance(page, Jbig2Error) or not _is_written(words, index, page):
             status = 1
-            continue
-        output.write_bytes(picture)
+        # The next page may need its memory.
+        del page
     return status
 
 

@@ -2,6 +2,7 @@
 
 from __future__ import annotations
 
+import copy
 import operator
 import warnings
 from collections.abc import Iterator
@@ -101,22 +102,22 @@ def pages(
 
 def pages_or_faults(
     data: bytes, *, strict: bool, salvage: bool, work_limit: WorkLimit
-) -> Iterator[tuple[Page | Jbig2Error, LeftOut]]:
-    """All pages of a file in order, and in the place of one that can't be decoded its fault, each with what was left out of
-    the file; or an embedded page. Gives no warning. Where there is no page, it raises why."""
+) -> Iterator[tuple[int, Page | Jbig2Error, LeftOut]]:
+    """All pages of a file in order, and in the place of one that can't be decoded its fault, each with its index and what was
+    left out of the file; or an embedded page. Gives no warning. Where there is no page, it raises why."""
     content = bytes_of(data)
     if not content.startswith(_BEGINNING):
         page = decode(content, strict=strict, salvage=salvage, work_limit=work_limit, warn=False)
-        yield page, page.left_out
+        yield 0, page, page.left_out
         return
     with _library.File(content, _reading(strict, salvage), work_limit) as file:
         if not file.sizes:
             raise _missing_page(file, 0)
         for index in range(len(file.sizes)):
             try:
-                yield file.draw(index, work_limit), file.left_out
+                yield index, file.draw(index, work_limit), file.left_out
             except Jbig2Error as error:
-                yield error, file.left_out
+                yield index, error, file.left_out
 
 
 def sizes(
@@ -163,4 +164,5 @@ def _page_of(file: _library.File, index: int, work_limit: WorkLimit) -> Page:
 def _missing_page(file: _library.File, index: int) -> Jbig2Error:
     """Why a file hasn't a page. Where salvage leaves out all of them, the first one's fault is known."""
     fault = file.left_out.first_page if index == 0 else None
-    return fault or _library.no_such_page()
+    # A copy: what is raised keeps the file by its frames, so the file must not keep it.
+    return copy.copy(fault) or _library.no_such_page()
