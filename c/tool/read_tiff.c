@@ -74,6 +74,34 @@ static bool is_fax(uint16_t coding) {
            coding == COMPRESSION_CCITTFAX4;
 }
 
+/* A number of the file, in the order of bytes that the first byte says. 0 where it isn't in the file. */
+static uint64_t number_at(const struct bytes *bytes, uint64_t at, unsigned size) {
+    uint64_t number = 0;
+    if (at > bytes->length || bytes->length - at < size)
+        return 0;
+    for (unsigned i = 0; i < size; i++)
+        number = number << 8 | bytes->at[at + (bytes->at[0] == 'I' ? size - 1 - i : i)];
+    return number;
+}
+
+/* Whether a page of one strip states as many bytes as its rows have, or more, or 0: old programs wrote it where they didn't
+ * know the number. libtiff has put its own number in place of the stated one. */
+static bool states_all_rows(TIFF *tiff) {
+    const struct bytes *bytes = ((struct place *)TIFFClientdata(tiff))->bytes;
+    uint32_t height = 0;
+    TIFFGetField(tiff, TIFFTAG_IMAGELENGTH, &height);
+    bool is_big = number_at(bytes, 2, 2) == 43;
+    unsigned size = is_big ? 8 : 4, first = is_big ? 8 : 2;
+    uint64_t at = TIFFCurrentDirOffset(tiff), left = number_at(bytes, at, first);
+    for (at += first; left > 0 && number_at(bytes, at, 2) != TIFFTAG_STRIPBYTECOUNTS; at += 4 + 2 * size)
+        left--;
+    int width = TIFFDataWidth((TIFFDataType)number_at(bytes, at + 2, 2));
+    if (left == 0 || number_at(bytes, at + 4, size) != 1 || width < 1 || width > (int)size)
+        return false;
+    uint64_t stated = number_at(bytes, at + 4 + size, (unsigned)width);
+    return stated == 0 || stated >= TIFFScanlineSize64(tiff) * height;
+}
+
 /* False with a reason where `write` doesn't take a page. */
 static bool is_taken(TIFF *tiff, uint16_t depth, uint16_t photometric, struct text *reason) {
     struct place *place = TIFFClientdata(tiff);
@@ -105,7 +133,7 @@ static bool is_taken(TIFF *tiff, uint16_t depth, uint16_t photometric, struct te
         add_text(reason, "the picture is coded by JBIG (Compression %u), which write doesn't take", (unsigned)coding);
     else if (!TIFFIsCODECConfigured(coding))
         add_text(reason, "libtiff doesn't know here how the picture is coded (Compression %u)", (unsigned)coding);
-    else if (coding == COMPRESSION_NONE && place->has_guess)
+    else if (coding == COMPRESSION_NONE && place->has_guess && !states_all_rows(tiff))
         /* What comes after the rows in the file would be shown as rows. */
         add_text(reason, "the TIFF picture is damaged: it has other rows than it states (StripByteCounts)");
     place->has_guess = false;

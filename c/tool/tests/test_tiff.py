@@ -7,16 +7,16 @@ import struct
 import unittest
 import zlib
 
-from support import HAS_TIFF, NOT_DONE, WHOLE, Picture
+from support import HAS_TIFF, NOT_DONE, SANITIZED, WHOLE, Picture
 from test_output import strips_of_tiff
 from test_write import WritingCase, noise, pixels_of
 
 T6, LZW, DEFLATE = 4, 5, 8
 
 
-def tiff(picture: Picture, rows: bytes | None = None, is_big: bool = False, **others: int) -> bytes:
-    """A TIFF picture of one bit for each pixel, or a BigTIFF one, with its rows coded so, and with other numbers for some of
-    its fields."""
+def tiff(picture: Picture, rows: bytes | None = None, is_big: bool = False, order: str = "<", **others: int) -> bytes:
+    """A TIFF picture of one bit for each pixel, or a BigTIFF one, with its rows coded so, its numbers in an order of bytes,
+    and other numbers for some of its fields."""
     rows = picture.rows if rows is None else rows
     begins = 16 if is_big else 8
     fields = {"width": 256, "height": 257, "depth": 258, "coding": 259, "photometric": 262, "place": 273}
@@ -25,11 +25,13 @@ def tiff(picture: Picture, rows: bytes | None = None, is_big: bool = False, **ot
     numbers = {"width": picture.width, "height": picture.height, "depth": 1, "coding": 1, "photometric": 0}
     numbers |= {"place": begins, "samples": 1, "strip": picture.height, "size": len(rows), **others}
     listed = sorted((fields[name], number) for name, number in numbers.items())
+    mark = b"II" if order == "<" else b"MM"
     if is_big:
-        data = b"II+\0" + struct.pack("<HHQ", 8, 0, begins + len(rows)) + rows + struct.pack("<Q", len(listed))
-        return data + b"".join(struct.pack("<HHQQ", field, 4, 1, number) for field, number in listed) + bytes(8)
-    data = b"II*\0" + struct.pack("<I", begins + len(rows)) + rows + struct.pack("<H", len(listed))
-    return data + b"".join(struct.pack("<HHII", field, 4, 1, number) for field, number in listed) + bytes(4)
+        data = mark + struct.pack(order + "HHHQ", 43, 8, 0, begins + len(rows)) + rows + struct.pack(order + "Q", len(listed))
+        entries = (struct.pack(order + "HHQI4x", field, 4, 1, number) for field, number in listed)
+        return data + b"".join(entries) + bytes(8)
+    data = mark + struct.pack(order + "HI", 42, begins + len(rows)) + rows + struct.pack(order + "H", len(listed))
+    return data + b"".join(struct.pack(order + "HHII", field, 4, 1, number) for field, number in listed) + bytes(4)
 
 
 @unittest.skipUnless(HAS_TIFF, "built without libtiff")
@@ -157,6 +159,22 @@ class Tiff(WritingCase):
             self.made(tiff(picture, **numbers), "bad.tiff")
             self.assert_ends(self.run_here("write", "bad.tiff"), NOT_DONE, said)
         self.assertEqual(self.files(), ["bad.tiff"])
+
+    def test_a_strip_whose_size_is_not_known(self):
+        """Old programs wrote 0, or a number that is too large."""
+        picture = noise(16, 16)
+        for form in {}, {"is_big": True}, {"order": ">"}, {"is_big": True, "order": ">"}:
+            for size in 0, 31, 33, 1000, (1 << 32) - 1:
+                with self.subTest(form=form, size=size):
+                    self.made(tiff(picture, **form, size=size), "scan.tiff")
+                    ended = self.run_here("write", "scan.tiff", "--force", program=SANITIZED)
+                    if size == 31:
+                        self.assert_ends(ended, NOT_DONE, "has other rows than it states (StripByteCounts)\n")
+                        continue
+                    self.assert_ends(ended, WHOLE)
+                    self.assertEqual(self.read_back("scan.jb2"), [picture])
+        self.made(tiff(picture, height=400, strip=400, size=1000), "bad.tiff")
+        self.assert_ends(self.run_here("write", "bad.tiff"), NOT_DONE, "bad.tiff: the TIFF picture is damaged at row 0\n")
 
     def test_lzw_of_the_old_form(self):
         """Codes of nine bits, the lowest first: clear, each byte as it is, and end. libtiff warns of this form."""
