@@ -81,6 +81,7 @@ fn main() {
         panic!("usage: documents WAY THREADS PAGES GLOBALS STREAM OUT");
     };
     let (threads, pages): (usize, usize) = (threads.parse().unwrap(), pages.parse().unwrap());
+    assert!(threads > 0 && pages >= threads, "each thread needs a page");
     let (globals, stream) = (fs::read(globals).unwrap(), fs::read(stream).unwrap());
     let (began, used_before) = (Instant::now(), used());
     let globals = Globals::new(&globals, &DecodeSettings::default()).expect("the globals are decoded");
