@@ -93,8 +93,8 @@ static bool states_all_rows(TIFF *tiff) {
     bool is_big = number_at(bytes, 2, 2) == 43;
     unsigned size = is_big ? 8 : 4, first = is_big ? 8 : 2;
     uint64_t at = TIFFCurrentDirOffset(tiff), left = number_at(bytes, at, first);
-    for (at += first; left > 0 && number_at(bytes, at, 2) != TIFFTAG_STRIPBYTECOUNTS; at += 4 + 2 * size)
-        left--;
+    for (at += first; left > 0 && at < bytes->length && number_at(bytes, at, 2) != TIFFTAG_STRIPBYTECOUNTS; left--)
+        at += 4 + 2 * size;
     int width = TIFFDataWidth((TIFFDataType)number_at(bytes, at + 2, 2));
     if (left == 0 || number_at(bytes, at + 4, size) != 1 || width < 1 || width > (int)size)
         return false;
