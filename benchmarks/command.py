@@ -4,8 +4,8 @@
 
 Each file has a page. A JBIG2 file and a PDF file of N pages (200, at most 255) are made of it, all the same page, whose
 dictionaries and tables they share. Both programs write all pages of the JBIG2 file as PBM; jbig2dec can't read PDF files.
-Programs take turns. Where clang is there and limit_document.c can read the file, its loop without checks takes turns with
-them. Of the processor's time, and of the time that passed, the least of the rounds (3) counts. What is written is compared.
+Programs take turns. Where clang builds limit_document.c and that draws the same page, its loop without checks takes turns
+with them. Of the processor's time, and of the time that passed, the least of the rounds (3) counts. What is written is compared.
 `make -C c` builds the command first.
 """
 from __future__ import annotations
@@ -51,11 +51,17 @@ def loop_of(file: pathlib.Path, pages: int, room: pathlib.Path, out: pathlib.Pat
     """The command of the loop without checks, or nothing where it can't be."""
     program, source = str(room / "limit_document"), str(ROOT / "benchmarks" / "limit_document.c")
     words = ["clang", "-std=gnu11", "-Wall", "-Wextra", "-O3", "-march=x86-64-v2", source, "-o", program]
-    if not shutil.which("clang"):
+    # Other processors than x86-64 have no such level.
+    if not shutil.which("clang") or subprocess.run(words).returncode:
         return []
-    subprocess.run(words, check=True)
-    tried = subprocess.run([program, file, "1"], stdout=subprocess.DEVNULL, stderr=subprocess.DEVNULL)
-    return ["sh", "-c", f'exec "$0" "$1" {pages} >"$2"', program, str(file), str(out)] if tried.returncode == 0 else []
+    drawn = subprocess.run([TOOL, file, "-p", "1", "-f", "pbm", "-o", "-"], capture_output=True).stdout
+    try:
+        # It trusts the file, so of another kind of page it may draw a part, or never end.
+        tried = subprocess.run([program, file, "1"], capture_output=True, timeout=60)
+    except subprocess.TimeoutExpired:
+        return []
+    is_whole = tried.returncode == 0 and tried.stdout == drawn
+    return ["sh", "-c", f'exec "$0" "$1" {pages} >"$2"', program, str(file), str(out)] if is_whole else []
 
 
 def ways_of(document: pathlib.Path, pdf: pathlib.Path, out: pathlib.Path) -> dict[str, list[str]]:

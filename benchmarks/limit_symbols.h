@@ -168,10 +168,13 @@ struct input {
     unsigned id_length;
 };
 
+static void check_kind(const uint8_t *dictionary, const uint8_t *text) {
+    if (dictionary[0] | dictionary[1] || (text[17] & 0x83) != 0 || (text[18] & 0xF3) != 0)
+        fail("the dictionary or the text region is of another kind");
+}
+
 static void make_room(const struct input *input) {
     const uint8_t *text = input->text.begin;
-    if (input->dictionary.begin[0] | input->dictionary.begin[1] || (text[17] & 0x83) != 0 || (text[18] & 0xF3) != 0)
-        fail("the dictionary or the text region is of another kind");
     page = (struct page){.width = number_at(text), .height = number_at(text + 4)};
     page.words = page.width / WORD + 2;
     page.rows = malloc(page.words * page.height * sizeof *page.rows);
@@ -185,6 +188,7 @@ static struct input read_input(const char *name) {
     size_t size;
     const uint8_t *file = read_file(name, &size);
     struct input input = {.dictionary = data_of(file, size, 0), .text = data_of(file, size, 6)};
+    check_kind(input.dictionary.begin, input.text.begin);
     input.symbols = number_at(input.dictionary.begin + 14);
     input.instances = number_at(input.text.begin + 19);
     while (1U << input.id_length < input.symbols)
