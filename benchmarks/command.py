@@ -54,7 +54,8 @@ def loop_of(file: pathlib.Path, pages: int, room: pathlib.Path, out: pathlib.Pat
     # Other processors than x86-64 have no such level.
     if not shutil.which("clang") or subprocess.run(words).returncode:
         return []
-    drawn = subprocess.run([TOOL, file, "-p", "1", "-f", "pbm", "-o", "-"], capture_output=True).stdout
+    # The whole path, since a name alone may be a word of the command's.
+    drawn = subprocess.run([TOOL, file.absolute(), "-p", "1", "-f", "pbm", "-o", "-"], capture_output=True).stdout
     try:
         # It trusts the file, so of another kind of page it may draw a part, or never end.
         tried = subprocess.run([program, file, "1"], capture_output=True, timeout=60)
