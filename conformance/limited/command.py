@@ -11,9 +11,9 @@ in lenient and in strict reading.
 Pairs of pages are tried too, two for each price of docs/FORMAT.md, 12.6. The least limits that are enough for both
 differ by that price.
 
-LIBRARY is c/out/libhayro_jbig2.so.0 where none is named: run c/build first. FILE .. are files with a file header, which
-are tried instead of the suite and the pairs. --long also tries pages whose segments are repeated. --every tries each limit
-below what a page takes, where that is at most UNITS; else some of them are tried. Status 0: all is so.
+LIBRARY is bindings/c/out/libhayro_jbig2.so.0 where none is named: run bindings/c/build first. FILE .. are files with a file
+header, which are tried instead of the suite and the pairs. --long also tries pages whose segments are repeated. --every tries
+each limit below what a page takes, where that is at most UNITS; else some of them are tried. Status 0: all is so.
 """
 from __future__ import annotations
 
@@ -40,7 +40,7 @@ def options_of(words: list[str]) -> argparse.Namespace:
     parser.add_argument("--long", action="store_true")
     parser.add_argument("--every", type=int, default=0)
     parser.add_argument("--jobs", type=int, default=os.cpu_count())
-    parser.add_argument("--library", default=str(ROOT / "c" / "out" / "libhayro_jbig2.so.0"))
+    parser.add_argument("--library", default=str(ROOT / "bindings" / "c" / "out" / "libhayro_jbig2.so.0"))
     parser.add_argument("files", nargs="*")
     return parser.parse_args(words)
 

@@ -7,15 +7,15 @@ import dataclasses
 from collections.abc import Iterator, Sequence
 
 from conformance.runner.embedding import Embedded
-from jbig2_encoder.bitmap import Bitmap
-from jbig2_encoder.dictionary import MMR, PLAIN, HeightClass, NewSymbol, SymbolDictionary, dictionary_data
-from jbig2_encoder.framing import GENERIC, HALFTONE, PAGE, PATTERN_DICTIONARY, REFINEMENT, SYMBOL_DICTIONARY, TABLE, TEXT
-from jbig2_encoder.framing import page_information, region_information, segment, segment_header
-from jbig2_encoder.generic import GenericForm, generic_data
-from jbig2_encoder.halftone import Grid, HalftoneForm, halftone_data, pattern_data
-from jbig2_encoder.prefix import custom_table, table_data
-from jbig2_encoder.refinement import RefinementForm, refinement_data
-from jbig2_encoder.text import Instance, Settings, Strip, Text, TextForm, text_data
+from testing.jbig2_encoder.bitmap import Bitmap
+from testing.jbig2_encoder.dictionary import MMR, PLAIN, HeightClass, NewSymbol, SymbolDictionary, dictionary_data
+from testing.jbig2_encoder.framing import GENERIC, HALFTONE, PAGE, PATTERN_DICTIONARY, REFINEMENT, SYMBOL_DICTIONARY, TABLE, TEXT
+from testing.jbig2_encoder.framing import page_information, region_information, segment, segment_header
+from testing.jbig2_encoder.generic import GenericForm, generic_data
+from testing.jbig2_encoder.halftone import Grid, HalftoneForm, halftone_data, pattern_data
+from testing.jbig2_encoder.prefix import custom_table, table_data
+from testing.jbig2_encoder.refinement import RefinementForm, refinement_data
+from testing.jbig2_encoder.text import Instance, Settings, Strip, Text, TextForm, text_data
 
 from .prices import BITMAP, BYTES, CLASS, COPIED, CUT_OFF, DICTIONARY, INSTANCE, NEW, NUMBER, REFERRED, RUN, SEGMENT
 from .prices import TABLE_BYTE, WORD, bitmap, price

@@ -5,7 +5,7 @@ import dataclasses
 
 from conformance.runner.embedding import Embedded
 from conformance.runner.segments import END_OF_FILE, END_OF_PAGE, PAGE_INFORMATION, Segment, sequential
-from jbig2_encoder.framing import reference_size
+from testing.jbig2_encoder.framing import reference_size
 
 
 def referred(segment: Segment) -> tuple[bytes, list[int]]:

@@ -9,8 +9,8 @@ from conformance.runner.embedding import Embedded, embedded_page, file_of
 from conformance.runner.segments import pages_of, segments_of_file
 from conformance.suite.all_cases import all_written
 from conformance.suite.case import COLUMNS, EMBEDDED, PICTURE, Written
-from jbig2_encoder.fields import field
-from jbig2_encoder.framing import SYMBOL_DICTIONARY, TABLE, page_information, segment
+from testing.jbig2_encoder.fields import field
+from testing.jbig2_encoder.framing import SYMBOL_DICTIONARY, TABLE, page_information, segment
 
 from .prices import DICTIONARY, SEGMENT, TABLE_BYTE, bitmap, price
 from .repeated import repeated

@@ -18,9 +18,9 @@ import subprocess
 from .mistake import Mistake
 
 ROOT = pathlib.Path(__file__).resolve().parents[2]
-# What the scripts of conformance/peers make, and dropin/build.
+# What the scripts of conformance/peers make, and bindings/dropin/build.
 PEERS = ROOT / "conformance" / "out"
-DROPIN = ROOT / "dropin" / "out" / "libjbig2dec.so.0"
+DROPIN = ROOT / "bindings" / "dropin" / "out" / "libjbig2dec.so.0"
 PDFJS = ROOT / "conformance" / "peers" / "pdfjs.mjs"
 # The streams of a PDF file and its size, for decoders that take these.
 OF_PDF = "{stream} {shared} {width} {height} {out}"
@@ -80,7 +80,7 @@ DECODERS = (
     Decoder("mutool", "mutool draw -q -F pbm -r 72 -o {out} {pdf} 1", package="mupdf-tools", library="jbig2dec"),
     Decoder("gs", f"{GS} -sOutputFile={{out}} {{pdf}}", package="ghostscript", library="jbig2dec"),
     Decoder("pdfimages", "pdfimages {pdf} {out}", package="poppler-utils"),
-    Decoder("drop-in", f"{OURS} {{in}}", f"{OURS} -e {{globals}} {{in}}", maker="dropin/build", made=DROPIN),
+    Decoder("drop-in", f"{OURS} {{in}}", f"{OURS} -e {{globals}} {{in}}", maker="bindings/dropin/build", made=DROPIN),
     peer("pdfium", shlex.quote(str(PEERS / "pdfium-jbig2")), "chromium", "pdfium"),
     peer("pdf.js", f"node {shlex.quote(str(PDFJS))}", "pdf.js", "pdfjs"),
 )

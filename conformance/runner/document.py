@@ -16,7 +16,7 @@ the expected ones.
 
 METHOD = """
 `jbig2-decode` and `jbig2dec` take the file itself. `drop-in` is Debian's program jbig2dec with the
-library of `dropin/` in the place of its own. Of an embedded page these two take both streams, and
+library of `bindings/dropin/` in the place of its own. Of an embedded page these two take both streams, and
 `jbig2-decode` a file that is made of them if something is shared. The others take a PDF file that
 the runner writes: the image's stream has the page's segments without ends of pages and of the file,
 /JBIG2Globals has the segments of no page, and a point is a pixel. Of `pdfium` and `pdf.js` only the

@@ -4,9 +4,9 @@ from __future__ import annotations
 import dataclasses
 from collections.abc import Callable
 
-from jbig2_encoder.bitmap import Bitmap
-from jbig2_encoder.document import Document, Page
-from jbig2_encoder.fields import Change, changed_by
+from testing.jbig2_encoder.bitmap import Bitmap
+from testing.jbig2_encoder.document import Document, Page
+from testing.jbig2_encoder.fields import Change, changed_by
 
 from .case import PICTURE, SEQUENTIAL, Case, Drawing, case_of, page_document
 

@@ -3,14 +3,14 @@ from __future__ import annotations
 
 from collections.abc import Iterator
 
-from jbig2_encoder.bitmap import REPLACE, Bitmap
-from jbig2_encoder.document import Document, Page
-from jbig2_encoder.fields import Change, changed_by, number
-from jbig2_encoder.framing import END_OF_STRIPE, EXTENSION, GENERIC, HALFTONE, PATTERN_DICTIONARY, REFINEMENT, UNKNOWN
-from jbig2_encoder.generic import GenericForm, generic_data, row_count
-from jbig2_encoder.halftone import Grid, HalftoneForm, draw_halftone, halftone_data, pattern_data
-from jbig2_encoder.refinement import RefinementForm, refinement_data
-from jbig2_encoder.text import Settings, TextForm
+from testing.jbig2_encoder.bitmap import REPLACE, Bitmap
+from testing.jbig2_encoder.document import Document, Page
+from testing.jbig2_encoder.fields import Change, changed_by, number
+from testing.jbig2_encoder.framing import END_OF_STRIPE, EXTENSION, GENERIC, HALFTONE, PATTERN_DICTIONARY, REFINEMENT, UNKNOWN
+from testing.jbig2_encoder.generic import GenericForm, generic_data, row_count
+from testing.jbig2_encoder.halftone import Grid, HalftoneForm, draw_halftone, halftone_data, pattern_data
+from testing.jbig2_encoder.refinement import RefinementForm, refinement_data
+from testing.jbig2_encoder.text import Settings, TextForm
 
 from . import breaking as errors
 from .breaking import Edit, Fault, blank, broken, broken_page, meant, setting

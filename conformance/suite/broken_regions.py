@@ -4,15 +4,15 @@ from __future__ import annotations
 import itertools
 from collections.abc import Callable, Iterator, Sequence
 
-from jbig2_encoder import t6
-from jbig2_encoder.bitmap import Bitmap
-from jbig2_encoder.document import Page
-from jbig2_encoder.fields import Change
-from jbig2_encoder.framing import GENERIC, HALFTONE, PATTERN_DICTIONARY, REFINEMENT
-from jbig2_encoder.generic import GenericForm, generic_data, row_count
-from jbig2_encoder.halftone import HalftoneForm, draw_halftone, halftone_data, pattern_data
-from jbig2_encoder.prefix import Bits
-from jbig2_encoder.refinement import RefinementForm, refinement_data
+from testing.jbig2_encoder import t6
+from testing.jbig2_encoder.bitmap import Bitmap
+from testing.jbig2_encoder.document import Page
+from testing.jbig2_encoder.fields import Change
+from testing.jbig2_encoder.framing import GENERIC, HALFTONE, PATTERN_DICTIONARY, REFINEMENT
+from testing.jbig2_encoder.generic import GenericForm, generic_data, row_count
+from testing.jbig2_encoder.halftone import HalftoneForm, draw_halftone, halftone_data, pattern_data
+from testing.jbig2_encoder.prefix import Bits
+from testing.jbig2_encoder.refinement import RefinementForm, refinement_data
 
 from . import breaking as errors
 from .breaking import Fault, broken_page, meant, setting

@@ -4,15 +4,15 @@ from __future__ import annotations
 import itertools
 from collections.abc import Callable, Iterator
 
-from jbig2_encoder.bitmap import Bitmap
-from jbig2_encoder.dictionary import Templates
-from jbig2_encoder.document import Page
-from jbig2_encoder.fields import Change, number
-from jbig2_encoder.framing import TABLE
-from jbig2_encoder.generic import GenericForm
-from jbig2_encoder.prefix import Bits, custom_table, table_data
-from jbig2_encoder.refinement import RefinementForm
-from jbig2_encoder.text import Settings, TextForm, draw_text
+from testing.jbig2_encoder.bitmap import Bitmap
+from testing.jbig2_encoder.dictionary import Templates
+from testing.jbig2_encoder.document import Page
+from testing.jbig2_encoder.fields import Change, number
+from testing.jbig2_encoder.framing import TABLE
+from testing.jbig2_encoder.generic import GenericForm
+from testing.jbig2_encoder.prefix import Bits, custom_table, table_data
+from testing.jbig2_encoder.refinement import RefinementForm
+from testing.jbig2_encoder.text import Settings, TextForm, draw_text
 
 from . import breaking as errors
 from .breaking import Fault, blank, broken_page, setting, unchanged

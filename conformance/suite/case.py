@@ -6,9 +6,9 @@ import hashlib
 from collections.abc import Callable, Iterator, Sequence
 from typing import Union
 
-from jbig2_encoder.bitmap import Bitmap
-from jbig2_encoder.document import Document, Page
-from jbig2_encoder.pictures import pbm
+from testing.jbig2_encoder.bitmap import Bitmap
+from testing.jbig2_encoder.document import Document, Page
+from testing.jbig2_encoder.pictures import pbm
 
 from .features import FEATURES
 

@@ -6,7 +6,7 @@ from __future__ import annotations
 
 import functools
 
-from jbig2_encoder.bitmap import OR, Bitmap
+from testing.jbig2_encoder.bitmap import OR, Bitmap
 
 # Letters of up to 5 by 7 pixels, a row after the other.
 FONT = {

@@ -3,14 +3,14 @@ from __future__ import annotations
 
 from collections.abc import Iterator, Sequence
 
-from jbig2_encoder.bitmap import Bitmap
-from jbig2_encoder.dictionary import MMR, PLAIN, HeightClass, NewSymbol, SymbolDictionary, Templates, dictionary_data
-from jbig2_encoder.document import Document, Page
-from jbig2_encoder.framing import GENERIC, HALFTONE, PATTERN_DICTIONARY, SYMBOL_DICTIONARY, TEXT
-from jbig2_encoder.generic import GenericForm, generic_data
-from jbig2_encoder.halftone import Grid, HalftoneForm, draw_halftone, halftone_data, pattern_data
-from jbig2_encoder.prefix import STANDARD
-from jbig2_encoder.text import BOTTOM_LEFT, TOP_LEFT, Instance, Settings, Strip, Text, TextForm, text_data
+from testing.jbig2_encoder.bitmap import Bitmap
+from testing.jbig2_encoder.dictionary import MMR, PLAIN, HeightClass, NewSymbol, SymbolDictionary, Templates, dictionary_data
+from testing.jbig2_encoder.document import Document, Page
+from testing.jbig2_encoder.framing import GENERIC, HALFTONE, PATTERN_DICTIONARY, SYMBOL_DICTIONARY, TEXT
+from testing.jbig2_encoder.generic import GenericForm, generic_data
+from testing.jbig2_encoder.halftone import Grid, HalftoneForm, draw_halftone, halftone_data, pattern_data
+from testing.jbig2_encoder.prefix import STANDARD
+from testing.jbig2_encoder.text import BOTTOM_LEFT, TOP_LEFT, Instance, Settings, Strip, Text, TextForm, text_data
 
 from .case import RANDOM, SEQUENTIAL, Case, case_of
 from .drawing import drawn

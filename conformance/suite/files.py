@@ -4,14 +4,14 @@ from __future__ import annotations
 import itertools
 from collections.abc import Iterator, Sequence
 
-from jbig2_encoder.dictionary import MMR, dictionary_data
-from jbig2_encoder.document import Document, Page
-from jbig2_encoder.framing import GENERIC, HALFTONE, PATTERN_DICTIONARY, REFINEMENT, SYMBOL_DICTIONARY, TABLE
-from jbig2_encoder.generic import GenericForm, generic_data
-from jbig2_encoder.halftone import HalftoneForm, draw_halftone, halftone_data, pattern_data
-from jbig2_encoder.prefix import table_data
-from jbig2_encoder.refinement import RefinementForm, refinement_data
-from jbig2_encoder.text import Settings, TextForm
+from testing.jbig2_encoder.dictionary import MMR, dictionary_data
+from testing.jbig2_encoder.document import Document, Page
+from testing.jbig2_encoder.framing import GENERIC, HALFTONE, PATTERN_DICTIONARY, REFINEMENT, SYMBOL_DICTIONARY, TABLE
+from testing.jbig2_encoder.generic import GenericForm, generic_data
+from testing.jbig2_encoder.halftone import HalftoneForm, draw_halftone, halftone_data, pattern_data
+from testing.jbig2_encoder.prefix import table_data
+from testing.jbig2_encoder.refinement import RefinementForm, refinement_data
+from testing.jbig2_encoder.text import Settings, TextForm
 
 from .case import EMBEDDED, RANDOM, SEQUENTIAL, Case, Drawing, case_of, one_page, page_document
 from .drawing import changed, dithered, dots, page_picture, shapes

@@ -4,11 +4,11 @@ from __future__ import annotations
 import itertools
 from collections.abc import Iterator, Sequence
 
-from jbig2_encoder.bitmap import Bitmap
-from jbig2_encoder.document import Page
-from jbig2_encoder.framing import HALFTONE, PATTERN_DICTIONARY
-from jbig2_encoder.generic import GenericForm
-from jbig2_encoder.halftone import Grid, HalftoneForm, draw_halftone, halftone_data, pattern_data
+from testing.jbig2_encoder.bitmap import Bitmap
+from testing.jbig2_encoder.document import Page
+from testing.jbig2_encoder.framing import HALFTONE, PATTERN_DICTIONARY
+from testing.jbig2_encoder.generic import GenericForm
+from testing.jbig2_encoder.halftone import Grid, HalftoneForm, draw_halftone, halftone_data, pattern_data
 
 from .case import Case, Features, one_page
 from .drawing import dots, gray_ramp

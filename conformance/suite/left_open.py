@@ -3,16 +3,16 @@ from __future__ import annotations
 
 from collections.abc import Callable, Iterator
 
-from jbig2_encoder import t6
-from jbig2_encoder.bitmap import REPLACE, Bitmap
-from jbig2_encoder.dictionary import HeightClass, NewSymbol, SymbolDictionary, dictionary_data
-from jbig2_encoder.document import Document, Page
-from jbig2_encoder.fields import changed_by, number
-from jbig2_encoder.framing import GENERIC, HALFTONE, PATTERN_DICTIONARY, SYMBOL_DICTIONARY, TABLE
-from jbig2_encoder.generic import GenericForm, generic_data
-from jbig2_encoder.halftone import HalftoneForm, draw_halftone, halftone_data, pattern_data, planes_of
-from jbig2_encoder.prefix import custom_table, table_data
-from jbig2_encoder.text import Settings, TextForm
+from testing.jbig2_encoder import t6
+from testing.jbig2_encoder.bitmap import REPLACE, Bitmap
+from testing.jbig2_encoder.dictionary import HeightClass, NewSymbol, SymbolDictionary, dictionary_data
+from testing.jbig2_encoder.document import Document, Page
+from testing.jbig2_encoder.fields import changed_by, number
+from testing.jbig2_encoder.framing import GENERIC, HALFTONE, PATTERN_DICTIONARY, SYMBOL_DICTIONARY, TABLE
+from testing.jbig2_encoder.generic import GenericForm, generic_data
+from testing.jbig2_encoder.halftone import HalftoneForm, draw_halftone, halftone_data, pattern_data, planes_of
+from testing.jbig2_encoder.prefix import custom_table, table_data
+from testing.jbig2_encoder.text import Settings, TextForm
 
 from .breaking import setting
 from .case import Case, case_of, one_page

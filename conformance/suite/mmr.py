@@ -3,8 +3,8 @@ from __future__ import annotations
 
 from collections.abc import Callable, Iterator, Sequence
 
-from jbig2_encoder.bitmap import Bitmap
-from jbig2_encoder.generic import GenericForm
+from testing.jbig2_encoder.bitmap import Bitmap
+from testing.jbig2_encoder.generic import GenericForm
 
 from .case import Case
 from .drawing import PICTURES, enlarged, page_picture, shapes

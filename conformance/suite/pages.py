@@ -4,13 +4,13 @@ from __future__ import annotations
 import itertools
 from collections.abc import Iterator, Sequence
 
-from jbig2_encoder.bitmap import Bitmap
-from jbig2_encoder.document import Page
-from jbig2_encoder.fields import number
-from jbig2_encoder.framing import EXTENSION, GENERIC, HALFTONE, OTHER_OPERATORS, PATTERN_DICTIONARY
-from jbig2_encoder.generic import GenericForm, generic_data
-from jbig2_encoder.halftone import HalftoneForm, draw_halftone, halftone_data, pattern_data
-from jbig2_encoder.text import Settings, TextForm
+from testing.jbig2_encoder.bitmap import Bitmap
+from testing.jbig2_encoder.document import Page
+from testing.jbig2_encoder.fields import number
+from testing.jbig2_encoder.framing import EXTENSION, GENERIC, HALFTONE, OTHER_OPERATORS, PATTERN_DICTIONARY
+from testing.jbig2_encoder.generic import GenericForm, generic_data
+from testing.jbig2_encoder.halftone import HalftoneForm, draw_halftone, halftone_data, pattern_data
+from testing.jbig2_encoder.text import Settings, TextForm
 
 from .case import Case, one_page
 from .drawing import dithered, dots, page_picture, shapes

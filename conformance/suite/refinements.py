@@ -4,13 +4,13 @@ from __future__ import annotations
 import itertools
 from collections.abc import Iterator
 
-from jbig2_encoder.bitmap import OR, REPLACE, Bitmap
-from jbig2_encoder.document import Page
-from jbig2_encoder.framing import GENERIC, HALFTONE, PATTERN_DICTIONARY, REFINEMENT, TEXT
-from jbig2_encoder.generic import GenericForm, generic_data
-from jbig2_encoder.halftone import Grid, HalftoneForm, draw_halftone, halftone_data, pattern_data
-from jbig2_encoder.refinement import RefinementForm, refinement_data
-from jbig2_encoder.text import Settings, TextForm, text_data
+from testing.jbig2_encoder.bitmap import OR, REPLACE, Bitmap
+from testing.jbig2_encoder.document import Page
+from testing.jbig2_encoder.framing import GENERIC, HALFTONE, PATTERN_DICTIONARY, REFINEMENT, TEXT
+from testing.jbig2_encoder.generic import GenericForm, generic_data
+from testing.jbig2_encoder.halftone import Grid, HalftoneForm, draw_halftone, halftone_data, pattern_data
+from testing.jbig2_encoder.refinement import RefinementForm, refinement_data
+from testing.jbig2_encoder.text import Settings, TextForm, text_data
 
 from .case import Case, Features, one_page
 from .drawing import PICTURES, changed, dots, gray_ramp, grown, page_picture, shapes

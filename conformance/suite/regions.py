@@ -4,10 +4,10 @@ from __future__ import annotations
 import itertools
 from collections.abc import Iterator
 
-from jbig2_encoder.bitmap import Bitmap
-from jbig2_encoder.document import Page
-from jbig2_encoder.framing import GENERIC
-from jbig2_encoder.generic import NOMINAL, NOMINAL_EXTENDED, GenericForm, generic_data, row_count
+from testing.jbig2_encoder.bitmap import Bitmap
+from testing.jbig2_encoder.document import Page
+from testing.jbig2_encoder.framing import GENERIC
+from testing.jbig2_encoder.generic import NOMINAL, NOMINAL_EXTENDED, GenericForm, generic_data, row_count
 
 from .case import Case, Features, one_page
 from .drawing import PICTURES, dithered, page_picture, shapes

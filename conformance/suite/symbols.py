@@ -5,15 +5,15 @@ import dataclasses
 import itertools
 from collections.abc import Callable, Iterator, Sequence
 
-from jbig2_encoder import dictionary as dictionaries
-from jbig2_encoder.bitmap import OR, Bitmap
-from jbig2_encoder.dictionary import (
+from testing.jbig2_encoder import dictionary as dictionaries
+from testing.jbig2_encoder.bitmap import OR, Bitmap
+from testing.jbig2_encoder.dictionary import (
     HeightClass, NewSymbol, SymbolDictionary, Templates, aggregate_settings, dictionary_data
 )
-from jbig2_encoder.document import Page
-from jbig2_encoder.generic import GenericForm
-from jbig2_encoder.refinement import RefinementForm
-from jbig2_encoder.text import Instance, Settings, Strip, Text, TextForm, draw_text
+from testing.jbig2_encoder.document import Page
+from testing.jbig2_encoder.generic import GenericForm
+from testing.jbig2_encoder.refinement import RefinementForm
+from testing.jbig2_encoder.text import Instance, Settings, Strip, Text, TextForm, draw_text
 
 from .case import Case, Features, one_page
 from .drawing import changed, letter

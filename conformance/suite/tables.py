@@ -4,14 +4,14 @@ from __future__ import annotations
 import itertools
 from collections.abc import Iterator, Sequence
 
-from jbig2_encoder import dictionary as dictionaries
-from jbig2_encoder.bitmap import Bitmap
-from jbig2_encoder.dictionary import HeightClass, NewSymbol, SymbolDictionary
-from jbig2_encoder.document import Page
-from jbig2_encoder.framing import TABLE
-from jbig2_encoder.prefix import LOWER, OUT_OF_BAND, STANDARD, UPPER, Table, bits_of_table, custom_table, table_data
-from jbig2_encoder.refinement import RefinementForm
-from jbig2_encoder.text import TABLES, Choices, Instance, Settings, Strip, Text, TextForm, growth
+from testing.jbig2_encoder import dictionary as dictionaries
+from testing.jbig2_encoder.bitmap import Bitmap
+from testing.jbig2_encoder.dictionary import HeightClass, NewSymbol, SymbolDictionary
+from testing.jbig2_encoder.document import Page
+from testing.jbig2_encoder.framing import TABLE
+from testing.jbig2_encoder.prefix import LOWER, OUT_OF_BAND, STANDARD, UPPER, Table, bits_of_table, custom_table, table_data
+from testing.jbig2_encoder.refinement import RefinementForm
+from testing.jbig2_encoder.text import TABLES, Choices, Instance, Settings, Strip, Text, TextForm, growth
 
 from .case import Case, one_page
 from .drawing import changed, enlarged, letter

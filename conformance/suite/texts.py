@@ -4,9 +4,9 @@ from __future__ import annotations
 import itertools
 from collections.abc import Iterator, Sequence
 
-from jbig2_encoder.document import Page
-from jbig2_encoder.framing import TEXT
-from jbig2_encoder.text import BOTTOM_RIGHT, TOP_LEFT, Instance, Settings, Strip, Text, TextForm, text_data
+from testing.jbig2_encoder.document import Page
+from testing.jbig2_encoder.framing import TEXT
+from testing.jbig2_encoder.text import BOTTOM_RIGHT, TOP_LEFT, Instance, Settings, Strip, Text, TextForm, text_data
 
 from .case import Case, Features, one_page
 from .drawing import changed

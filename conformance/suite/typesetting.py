@@ -4,13 +4,13 @@ from __future__ import annotations
 import dataclasses
 from collections.abc import Sequence
 
-from jbig2_encoder import dictionary as dictionaries
-from jbig2_encoder.bitmap import Bitmap
-from jbig2_encoder.dictionary import HeightClass, NewSymbol, SymbolDictionary
-from jbig2_encoder.document import Page
-from jbig2_encoder.framing import SYMBOL_DICTIONARY, TABLE, TEXT
-from jbig2_encoder.prefix import table_data
-from jbig2_encoder.text import BOTTOM, Choices, Instance, Settings, Strip, Text, TextForm, draw_text, text_data
+from testing.jbig2_encoder import dictionary as dictionaries
+from testing.jbig2_encoder.bitmap import Bitmap
+from testing.jbig2_encoder.dictionary import HeightClass, NewSymbol, SymbolDictionary
+from testing.jbig2_encoder.document import Page
+from testing.jbig2_encoder.framing import SYMBOL_DICTIONARY, TABLE, TEXT
+from testing.jbig2_encoder.prefix import table_data
+from testing.jbig2_encoder.text import BOTTOM, Choices, Instance, Settings, Strip, Text, TextForm, draw_text, text_data
 
 from .drawing import letter
 

@@ -8,9 +8,9 @@ import pathlib
 from conformance.runner.manifest import Entry, read_sample, Sample
 from conformance.runner.pictures import of_numbers
 from conformance.runner.segments import in_random_access
-from jbig2_encoder.bitmap import Bitmap
-from jbig2_encoder.framing import HEADER, file_header, page_information, region_information, segment
-from jbig2_encoder.t6 import encoded
+from testing.jbig2_encoder.bitmap import Bitmap
+from testing.jbig2_encoder.framing import HEADER, file_header, page_information, region_information, segment
+from testing.jbig2_encoder.t6 import encoded
 
 CROSS = (0b100010001, 0b010101010, 0b001000100)
 RING = (0b111, 0b101, 0b111)

@@ -8,7 +8,7 @@ from conformance.runner.manifest import read_sample
 from conformance.runner.mistake import Mistake
 from conformance.runner.segments import cut, in_random_access, parts_of, segments_of_file, sequential, unknown_length
 from conformance.tests.small_suite import CROSS, TABLE, written
-from jbig2_encoder.framing import HEADER, page_information, segment
+from testing.jbig2_encoder.framing import HEADER, page_information, segment
 
 
 class EmbeddingTest(unittest.TestCase):

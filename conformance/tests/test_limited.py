@@ -9,7 +9,7 @@ from conformance.limited.subjects import forms_of
 from conformance.limited.trials import SMALL, SPREAD, Taken, least, limits_below
 from conformance.runner.embedding import Embedded
 from conformance.runner.segments import sequential
-from jbig2_encoder.framing import HEADER, page_information, segment
+from testing.jbig2_encoder.framing import HEADER, page_information, segment
 
 PAGE = segment(1, 48, page_information(8, 1))
 # A region that refers to one of the page's own segments and to one that is shared.

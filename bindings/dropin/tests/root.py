@@ -1,0 +1,4 @@
+"""The repository's root."""
+import pathlib
+
+ROOT = pathlib.Path(__file__).resolve().parents[3]

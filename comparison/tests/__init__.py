@@ -1,1 +1,0 @@
-"""Tests of the model and of its use, from the root: `python3 -m unittest discover -t . -s comparison/tests`."""

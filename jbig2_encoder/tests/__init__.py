@@ -1,1 +1,0 @@
-"""Tests of the encoder: `python3 -m unittest discover -t . -s jbig2_encoder/tests` at the repository's root."""
