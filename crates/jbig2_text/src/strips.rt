@@ -57,6 +57,7 @@ pub fn begin_strip<R: ReadInstances, L: Ledger>(
 }
 
 /// The place of an instance that is `delta` after the last one, or that begins the next strip.
+#[inline(always)]
 fn move_by<R: ReadInstances, L: Ledger>(
     readings: &mut R,
     flags: &TextRegionFlags,
