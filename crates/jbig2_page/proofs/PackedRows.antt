@@ -60,22 +60,22 @@ row-word-byte g words first index column y j at inside small loaded =
     byte-pixels g (get_or words (first + index) 0) (8 * (first + index)) j y small (λ k few. loaded (first + index) k inside few ∙ ap (λ (n : ℕ). pixel_at g (n + k) y) pixels)
     ∙ ap (λ (n : ℕ). packed_byte g n y) place
 
--- a word more of them
-pub words-more : (g : Grid) (words before after : List ℕ) (first index column y place : ℕ) → 8 * first ≡ column → first + index < length words
+-- some bytes of a word more of them
+pub words-part : (g : Grid) (words before after : List ℕ) (first index column y place part : ℕ) → part ≤ 8 → 8 * first ≡ column → first + index < length words
     → ((i k : ℕ) → i < length words → k < 64 → bit (get_or words i 0) (63 - k) ≡ pixel_at g (64 * i + k) y)
     → ((i : ℕ) → i < 8 * index → get_or before (place + i) 0 ≡ packed_byte g (column + i) y)
     → ((k : ℕ) → k < place + 8 * index → get_or after k 0 ≡ get_or before k 0)
-    → ((j : ℕ) → j < 8 → get_or after (place + 8 * index + j) 0 ≡ word_byte (bit (get_or words (first + index) 0)) j)
-    → (i : ℕ) → i < 8 * (index + 1) → get_or after (place + i) 0 ≡ packed_byte g (column + i) y
-words-more g words before after first index column y place at inside loaded written kept put i below =
+    → ((j : ℕ) → j < part → get_or after (place + 8 * index + j) 0 ≡ word_byte (bit (get_or words (first + index) 0)) j)
+    → (i : ℕ) → i < 8 * index + part → get_or after (place + i) 0 ≡ packed_byte g (column + i) y
+words-part g words before after first index column y place part few at inside loaded written kept put i below =
     ⊎_elim
     (λ (early : i < 8 * index). kept (place + i) (omega (arith, early)) ∙ written i early)
     (λ (late : 8 * index ≤ i).
     let j : ℕ = i - 8 * index in
-    let small : j < 8 = omega (arith, late, below) in
+    let small : j < part = omega (arith, late, below) in
     let there : place + 8 * index + j ≡ place + i = omega (arith, late) in
     let byte : 8 * index + j ≡ i = omega (arith, late) in
-    ap (λ (n : ℕ). get_or after n 0) (sym there) ∙ put j small ∙ row-word-byte g words first index column y j at inside small loaded ∙ ap (λ (n : ℕ). packed_byte g (column + n) y) byte)
+    ap (λ (n : ℕ). get_or after n 0) (sym there) ∙ put j small ∙ row-word-byte g words first index column y j at inside (omega (arith, small, few)) loaded ∙ ap (λ (n : ℕ). packed_byte g (column + n) y) byte)
     (cases_lt i (8 * index))
 
 -- a page on which nothing was drawn

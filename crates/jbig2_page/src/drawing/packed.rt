@@ -61,8 +61,9 @@ fn put_rest<A: Allocator, L: Ledger>(
     count
 }
 
-/// Puts whole words of row `y`, from byte `column` on, at a place of `buf`: as many as the row has and `most` bytes
-/// hold, and none if `column` isn't the first byte of a word. Returns how many bytes. Each word is loaded once.
+/// Puts words of row `y`, from byte `column` on, at a place of `buf`: as many as the row has and `most` bytes hold, of
+/// the last one its first bytes where no more of them are wanted, and none if `column` isn't the first byte of a word.
+/// Returns how many bytes. Each word is loaded once.
 #[inline(always)]
 fn put_words<A: Allocator, L: Ledger>(
     bitmap: &Bitmap<A>,
@@ -75,7 +76,7 @@ fn put_words<A: Allocator, L: Ledger>(
 ) -> usize
     requires inside { place + most ≤ length buf.old }
     ensures most { result ≤ most }
-    ensures steps { steps.new ≡ words_loaded (result / 8) steps.old }
+    ensures steps { steps.new ≡ words_loaded ((result + 7) / 8) steps.old }
     ensures bytes { Fills (λ i. packed_byte bitmap.now (column + i) y) place result buf.old buf.new }
 {
     if column % 8 != 0 || y >= bitmap.height() {
@@ -89,7 +90,14 @@ fn put_words<A: Allocator, L: Ledger>(
         // A constant length makes this one store.
         put_bytes(buf, place + 8 * index, 8, word);
     }
-    8 * count
+    let whole = 8 * count;
+    let left = most - whole;
+    if 0 < left && left < 8 && first + count < words.len() {
+        let word = words.load(first + count, steps);
+        put_bytes(buf, place + whole, left, word);
+        return most;
+    }
+    whole
 }
 
 /// Column `x` of row `y`; after the last column of a row comes the first one of the next row.

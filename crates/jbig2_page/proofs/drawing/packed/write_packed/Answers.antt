@@ -10,14 +10,14 @@ use Rattle.jbig2_page.proofs.drawing.packed.write_packed.Goals as goal
 use Rattle.jbig2_page.proofs.drawing.packed.write_packed.Goals.{then-count-eq0, else-count-eq0}
 
 -- whole words take a load for each eight bytes, and the rest of a word one for a byte at least
-put-whole : (first old new : Counts) (place count : ℕ) → sum_of_counts old ≤ sum_of_counts first + place → new ≡ words_loaded (count / 8) old → sum_of_counts new ≤ sum_of_counts first + (place + count)
+put-whole : (first old new : Counts) (place count : ℕ) → sum_of_counts old ≤ sum_of_counts first + place → new ≡ words_loaded ((count + 7) / 8) old → sum_of_counts new ≤ sum_of_counts first + (place + count)
 put-whole first old new place count before loaded =
-    let all : sum_of_counts new ≡ sum_of_counts old + count / 8 = ap (λ (s : Counts). sum_of_counts s) loaded ∙ omega arith in
+    let all : sum_of_counts new ≡ sum_of_counts old + (count + 7) / 8 = ap (λ (s : Counts). sum_of_counts s) loaded ∙ omega arith in
     omega (arith, all, before)
 
-put-rest : (first old mid new : Counts) (place none count : ℕ) → sum_of_counts old ≤ sum_of_counts first + place → mid ≡ words_loaded (none / 8) old → none ≡ 0 → new ≡ words_loaded 1 mid → 1 ≤ count → sum_of_counts new ≤ sum_of_counts first + (place + count)
+put-rest : (first old mid new : Counts) (place none count : ℕ) → sum_of_counts old ≤ sum_of_counts first + place → mid ≡ words_loaded ((none + 7) / 8) old → none ≡ 0 → new ≡ words_loaded 1 mid → 1 ≤ count → sum_of_counts new ≤ sum_of_counts first + (place + count)
 put-rest first old mid new place none count before whole empty loaded some =
-    let one : sum_of_counts mid ≡ sum_of_counts old + none / 8 = ap (λ (s : Counts). sum_of_counts s) whole ∙ omega arith in
+    let one : sum_of_counts mid ≡ sum_of_counts old + (none + 7) / 8 = ap (λ (s : Counts). sum_of_counts s) whole ∙ omega arith in
     let two : sum_of_counts new ≡ sum_of_counts mid + 1 = ap (λ (s : Counts). sum_of_counts s) loaded ∙ omega arith in
     omega (arith, one, two, before)
 
