@@ -1,8 +1,5 @@
 //! The changing elements of rows (T.6, 2.2.1), found word by word.
-ghost use Rattle.std.specs.Prelude.{◌≡◌, ℕ, ◌+◌, ◌*◌, ◌/◌, ◌^◌, ◌<◌, ◌≤◌, ◌-◌, not, false, if◌then◌else◌};
-ghost use Rattle.jbig2_base.specs.Bits.{bit};
-ghost use Rattle.jbig2_base.specs.Colour.{IsFirst};
-ghost use Rattle.jbig2_base.specs.Counts.{words_loaded, words_searched};
+ghost use Rattle.std.specs.Prelude.{◌≡◌, ◌+◌, ◌/◌, ◌<◌, ◌≤◌, ◌-◌, not, false, if◌then◌else◌};
 ghost use Rattle.jbig2_base.specs.Search.{place_from};
 ghost use Rattle.jbig2_mmr.specs.T6.{is_change, is_change_from};
 ghost use Rattle.jbig2_mmr.specs.inner.T6Reading.{row_of};
