@@ -11,23 +11,23 @@ use Rattle.jbig2_steps.specs.declared.prices.TheConstants as prices
 use Rattle.jbig2_page.specs.Files.{ReadFile, of_page}
 use Rattle.jbig2_page.specs.Names.{KeptGlobals}
 use Rattle.jbig2_page.specs.SharedWork.{PaysShared, shared_count}
-use Rattle.hayro_jbig2.specs.Context.{Context, IsLeft, LeavesDrawn, LeavesOf, units_of}
-use Rattle.hayro_jbig2.specs.WorkLimit.{Limit, Takes, TakesShared, after_call}
+use Rattle.hayro_jbig2.specs.Context.{ContextView, IsLeftBy, LeavesDrawn, LeavesOf, units_of}
+use Rattle.hayro_jbig2.specs.WorkLimit.{Limit, TakesUnits, TakesShared, after_call}
 
 -- what a call takes from a limit, by what its counter was worth
-pub limit-taken : {L : Type 0} (limit after : Limit) (old new : Work L) (units : ℕ) → after ≡ after_call new limit → old.steps ≡ no_steps → old.left ≡ limit.left → budget new + 32 * units ≤ budget old → Takes units limit after
+pub limit-taken : {L : Type 0} (limit after : Limit) (old new : Work L) (units : ℕ) → after ≡ after_call new limit → old.steps ≡ no_steps → old.left ≡ limit.left → budget new + 32 * units ≤ budget old → TakesUnits units limit after
 unfolding budget
 limit-taken {L} limit after old new units is none left paid =
     let nothing : sum_of_counts old.steps ≡ 0 = ap (λ (s : Counts). sum_of_counts s) none in
-    subst (λ (l : Limit). Takes units limit l) (sym is) (refl, omega (arith, nothing, left, paid))
+    subst (λ (l : Limit). TakesUnits units limit l) (sym is) (refl, omega (arith, nothing, left, paid))
 
 -- the same where the call succeeds
-pub limit-taken-by : {L T E : Type 0} (result : Result T E) (limit after : Limit) (old new : Work L) (units : ℕ) → after ≡ after_call new limit → old.steps ≡ no_steps → old.left ≡ limit.left → IfOk result (λ _. budget new + 32 * units ≤ budget old) → IfOk result (λ _. Takes units limit after)
+pub limit-taken-by : {L T E : Type 0} (result : Result T E) (limit after : Limit) (old new : Work L) (units : ℕ) → after ≡ after_call new limit → old.steps ≡ no_steps → old.left ≡ limit.left → IfOk result (λ _. budget new + 32 * units ≤ budget old) → IfOk result (λ _. TakesUnits units limit after)
 limit-taken-by (Ok x) limit after old new units is none left paid = limit-taken limit after old new units is none left paid
 limit-taken-by (Err e) limit after old new units is none left paid = tt
 
 -- the same of globals, where their segments can be read
-pub limit-taken-each : {L T S E F : Type 0} (count : S → ℕ) (read : Result S F) (result : Result T E) (limit after : Limit) (old new : Work L) → after ≡ after_call new limit → old.steps ≡ no_steps → old.left ≡ limit.left → IfOk read (λ s. IfOk result (λ _. budget new + 32 * count s ≤ budget old)) → IfOk read (λ s. IfOk result (λ _. Takes (count s) limit after))
+pub limit-taken-each : {L T S E F : Type 0} (count : S → ℕ) (read : Result S F) (result : Result T E) (limit after : Limit) (old new : Work L) → after ≡ after_call new limit → old.steps ≡ no_steps → old.left ≡ limit.left → IfOk read (λ s. IfOk result (λ _. budget new + 32 * count s ≤ budget old)) → IfOk read (λ s. IfOk result (λ _. TakesUnits (count s) limit after))
 limit-taken-each count (Ok s) result limit after old new is none left paid = limit-taken-by result limit after old new (count s) is none left paid
 limit-taken-each count (Err e) result limit after old new is none left paid = tt
 
@@ -38,29 +38,29 @@ limit-taken-shared (Err e) (Ok book) limit after old new is none left paid = tt
 limit-taken-shared read (Err e) limit after old new is none left paid = tt
 
 -- what a page leaves of its context's limit, by what its counter was worth
-pub left-by : {L : Type 0} (counted units : ℕ) (before after : Context) (old new : Work L) → IsLeft new before after → old.steps ≡ no_steps → old.left ≡ units_of before.work_limit → budget new + 32 * units ≤ budget old + counted → LeavesDrawn counted units before.work_limit after
+pub left-by : {L : Type 0} (counted units : ℕ) (before after : ContextView) (old new : Work L) → IsLeftBy new before after → old.steps ≡ no_steps → old.left ≡ units_of before.work_limit → budget new + 32 * units ≤ budget old + counted → LeavesDrawn counted units before.work_limit after
 unfolding budget
 left-by {L} counted units before after old new is none left paid =
     let nothing : sum_of_counts old.steps ≡ 0 = ap (λ (s : Counts). sum_of_counts s) none in
     let within : sum_of_counts new.steps + 32 * (new.left + units) ≤ 32 * units_of before.work_limit + counted = omega (arith, nothing, left, paid) in
-    subst (λ (c : Context). LeavesDrawn counted units before.work_limit c) (sym is) (by before.work_limit within)
+    subst (λ (c : ContextView). LeavesDrawn counted units before.work_limit c) (sym is) (by before.work_limit within)
   where
     by : (limit : Option ℕ) → sum_of_counts new.steps + 32 * (new.left + units) ≤ 32 * units_of limit + counted → LeavesDrawn counted units limit (record { drawing = after.drawing; holds_page = after.holds_page; work_limit = limit; work_left = option_map (λ _. new.left) limit; steps = sum_of_counts new.steps })
     by (Some most) within = within
     by None within = tt
 
-pub left-of : {L : Type 0} (units : ℕ) (before after : Context) (old new : Work L) → IsLeft new before after → old.steps ≡ no_steps → old.left ≡ units_of before.work_limit → budget new + 32 * units ≤ budget old → LeavesOf units before.work_limit after
+pub left-of : {L : Type 0} (units : ℕ) (before after : ContextView) (old new : Work L) → IsLeftBy new before after → old.steps ≡ no_steps → old.left ≡ units_of before.work_limit → budget new + 32 * units ≤ budget old → LeavesOf units before.work_limit after
 unfolding budget
 left-of {L} units before after old new is none left paid =
     let nothing : sum_of_counts old.steps ≡ 0 = ap (λ (s : Counts). sum_of_counts s) none in
     let within : sum_of_counts new.steps + 32 * (new.left + units) ≤ 32 * units_of before.work_limit = omega (arith, nothing, left, paid) in
-    subst (λ (c : Context). LeavesOf units before.work_limit c) (sym is) (by before.work_limit within)
+    subst (λ (c : ContextView). LeavesOf units before.work_limit c) (sym is) (by before.work_limit within)
   where
     by : (limit : Option ℕ) → sum_of_counts new.steps + 32 * (new.left + units) ≤ 32 * units_of limit → LeavesOf units limit (record { drawing = after.drawing; holds_page = after.holds_page; work_limit = limit; work_left = option_map (λ _. new.left) limit; steps = sum_of_counts new.steps })
     by (Some most) within = within
     by None within = tt
 
 -- the same of a page that was drawn, which took at least this price twice
-pub left-drawn : {L T E : Type 0} (counted price : ℕ) (result : Result T E) (before after : Context) (old new : Work L) → IsLeft new before after → old.steps ≡ no_steps → old.left ≡ units_of before.work_limit → IfOk result (λ _. budget new + 64 * price ≤ budget old + counted) → IfOk result (λ _. LeavesDrawn counted (2 * price) before.work_limit after)
+pub left-drawn : {L T E : Type 0} (counted price : ℕ) (result : Result T E) (before after : ContextView) (old new : Work L) → IsLeftBy new before after → old.steps ≡ no_steps → old.left ≡ units_of before.work_limit → IfOk result (λ _. budget new + 64 * price ≤ budget old + counted) → IfOk result (λ _. LeavesDrawn counted (2 * price) before.work_limit after)
 left-drawn counted price (Ok x) before after old new is none left paid = left-by counted (2 * price) before after old new is none left (omega (arith, paid))
 left-drawn counted price (Err e) before after old new is none left paid = tt

@@ -19,12 +19,12 @@ pub record Limit : Type 0 where
 abbrev pub limit_of : Option ℕ → Limit  -- before the first call
 limit_of units = record { units = units; left = units_of units; steps = 0 }
 
-abbrev pub left_of : Limit → Option ℕ
-left_of limit = option_map (λ _. limit.left) limit.units
+abbrev pub units_left : Limit → Option ℕ
+units_left limit = option_map (λ _. limit.left) limit.units
 
 -- A call took at least this many units besides those that pay for the steps that it counted, 32 for each unit.
-abbrev pub Takes : ℕ → Limit → Limit → Type 0
-Takes units old new = (new.units ≡ old.units) × (new.steps + 32 * (new.left + units) ≤ old.steps + 32 * old.left)
+abbrev pub TakesUnits : ℕ → Limit → Limit → Type 0
+TakesUnits units old new = (new.units ≡ old.units) × (new.steps + 32 * (new.left + units) ≤ old.steps + 32 * old.left)
 
 abbrev pub after_call : {L : Type 0} → Work L → Limit → Limit  -- after a call with this counter
 after_call work limit = record limit { left = work.left; steps = limit.steps + sum_of_counts work.steps }
@@ -34,4 +34,4 @@ after_call work limit = record limit { left = work.left; steps = limit.steps + s
 abbrev pub TakesShared : Result (FileHeader × List SegmentView) DecodeError → ReadFile → Limit → Limit → Type 0
 TakesShared file book old new =
     IfOk file (λ (header, segments).
-    IfOk book.globals (λ shared. Takes (prices.SEGMENT * shared_count book.pages (of_page 0 segments)) old new))
+    IfOk book.globals (λ shared. TakesUnits (prices.SEGMENT * shared_count book.pages (of_page 0 segments)) old new))

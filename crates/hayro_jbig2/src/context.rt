@@ -2,7 +2,7 @@
 ghost use Rattle.std.specs.Prelude.{◌≡◌, ◌==◌, ◌&&◌};
 ghost use Rattle.jbig2_base.specs.Results.{Gives};
 ghost use Rattle.jbig2_base.specs.Counts.{no_steps};
-ghost use Rattle.hayro_jbig2.specs.Context.{after_page, context_of, new_context, units_of};
+ghost use Rattle.hayro_jbig2.specs.Context.{after_page, fresh_context, new_context, units_of};
 ghost use Rattle.jbig2_page.specs.Image.{packed_of};
 
 use crate::counted::StepCount;
@@ -45,10 +45,10 @@ impl<A: Allocator> Drop for DecoderContext<A> {
 
 impl<A: Allocator> Model for DecoderContext<A> {
     ghost use Rattle.std.specs.Prelude.{if◌then◌else◌};
-    ghost use Rattle.hayro_jbig2.specs.Context.{Context};
+    ghost use Rattle.hayro_jbig2.specs.Context.{ContextView};
     ghost use Rattle.jbig2_page.specs.Page.{empty_drawing};
 
-    ghost Value = { Context };
+    ghost Value = { ContextView };
 
     ghost view = { λ c. record {
       drawing = if c.holds_page then c.canvas else empty_drawing;
@@ -121,7 +121,7 @@ impl<A: Allocator> DecoderContext<A> {
 
     /// Forgets the page that was drawn last. The context keeps its memory and its limit, of which nothing was taken.
     pub fn forget_page(&mut self)
-        ensures { self.new ≡ context_of self.old.work_limit }
+        ensures { self.new ≡ fresh_context self.old.work_limit }
     {
         self.holds_page = false;
         self.work_left = self.work_limit;

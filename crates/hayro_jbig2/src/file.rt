@@ -11,7 +11,7 @@ ghost use Rattle.jbig2_page.specs.Page.{ReadPage};
 ghost use Rattle.jbig2_page.specs.Returned.{IsReturned};
 ghost use Rattle.jbig2_page.specs.inner.PageViews.{kept_names};
 ghost use Rattle.jbig2_page.specs.Causes.{BreaksBook};
-ghost use Rattle.hayro_jbig2.specs.WorkLimit.{Takes, TakesShared};
+ghost use Rattle.hayro_jbig2.specs.WorkLimit.{TakesUnits, TakesShared};
 ghost use Rattle.jbig2_base.specs.Causes.{HasCauseOrNoMemory};
 
 pub(crate) mod pages;
@@ -87,7 +87,7 @@ impl<'a, A: Allocator + Clone> File<'a, A> {
         ensures causes { HasCauseOrNoMemory result
             (BreaksBook (reading_of settings.now.strict) bytes.now) }
         ensures errors { IfErr result IsReturned }
-        ensures limit { Takes 0 work.old work.new }
+        ensures limit { TakesUnits 0 work.old work.new }
         ensures taken { let read = segments_at (reading_of settings.now.strict) bytes.now in
             IfOk result (λ file. TakesShared read file work.old work.new) }
     {
@@ -104,7 +104,7 @@ impl<'a, A: Allocator + Clone> File<'a, A> {
         ensures value { Gives (λ file. file) result (book_at Salvage bytes.now) }
         ensures causes { HasCauseOrNoMemory result (BreaksBook Salvage bytes.now) }
         ensures errors { IfErr result IsReturned }
-        ensures limit { Takes 0 work.old work.new }
+        ensures limit { TakesUnits 0 work.old work.new }
         ensures taken { let read = segments_at Salvage bytes.now in
             IfOk result (λ file. TakesShared read file work.old work.new) }
     {
@@ -121,7 +121,7 @@ impl<'a, A: Allocator + Clone> File<'a, A> {
         ensures value { Gives (λ file. file) result (book_at reading bytes.now) }
         ensures causes { HasCauseOrNoMemory result (BreaksBook reading bytes.now) }
         ensures errors { IfErr result IsReturned }
-        ensures limit { Takes 0 work.old work.new }
+        ensures limit { TakesUnits 0 work.old work.new }
         ensures taken { let read = segments_at reading bytes.now in
             IfOk result (λ file. TakesShared read file work.old work.new) }
     {
@@ -146,7 +146,7 @@ fn read_counted<'a, A: Allocator + Clone, L: Ledger>(
     ensures value { Gives (λ file. file) result (book_at reading bytes.now) }
     ensures causes { HasCauseOrNoMemory result (BreaksBook reading bytes.now) }
     ensures errors { IfErr result IsReturned }
-    ensures limit { Takes 0 limit.old limit.new }
+    ensures limit { TakesUnits 0 limit.old limit.new }
     ensures taken { let read = segments_at reading bytes.now in
         IfOk result (λ file. TakesShared read file limit.old limit.new) }
 {

@@ -5,7 +5,7 @@ ghost use Rattle.jbig2_base.specs.Results.{Gives};
 ghost use Rattle.jbig2_framing.specs.Reading.{reading_of};
 ghost use Rattle.jbig2_base.specs.declared.error.DecodeError.TheVariants.{OutOfMemory};
 ghost use Rattle.jbig2_framing.specs.declared.reading.Reading.TheVariants.{Salvage};
-ghost use Rattle.hayro_jbig2.specs.WorkLimit.{Takes};
+ghost use Rattle.hayro_jbig2.specs.WorkLimit.{TakesUnits};
 ghost use Rattle.jbig2_page.specs.Names.{globals_at};
 ghost use Rattle.jbig2_page.specs.Returned.{IsReturned};
 ghost use Rattle.jbig2_page.specs.inner.KeptViews.{found_value};
@@ -87,9 +87,9 @@ impl<A: Allocator + Clone> Globals<A> {
         ensures value { Gives (λ globals. globals) result
             (globals_at (reading_of settings.now.strict) bytes.now) }
         ensures errors { IfErr result IsReturned }
-        ensures limit { Takes 0 work.old work.new }
+        ensures limit { TakesUnits 0 work.old work.new }
         ensures taken { IfOk (sorted_segments (reading_of settings.now.strict) bytes.now)
-            (λ segments. IfOk result (λ _. Takes (prices.SEGMENT * length segments) work.old work.new)) }
+            (λ segments. IfOk result (λ _. TakesUnits (prices.SEGMENT * length segments) work.old work.new)) }
     {
         Globals::read(alloc, bytes, settings.reading(), work)
     }
@@ -100,9 +100,9 @@ impl<A: Allocator + Clone> Globals<A> {
     pub fn salvaged(alloc: A, bytes: &[u8], work: &mut WorkLimit) -> Result<Globals<A>>
         ensures value { Gives (λ globals. globals) result (globals_at Salvage bytes.now) }
         ensures memory { IfErr result (λ e. e ≡ OutOfMemory) }
-        ensures limit { Takes 0 work.old work.new }
+        ensures limit { TakesUnits 0 work.old work.new }
         ensures taken { IfOk (sorted_segments Salvage bytes.now)
-            (λ segments. IfOk result (λ _. Takes (prices.SEGMENT * length segments) work.old work.new)) }
+            (λ segments. IfOk result (λ _. TakesUnits (prices.SEGMENT * length segments) work.old work.new)) }
     {
         Globals::read(alloc, bytes, Reading::Salvage, work)
     }
@@ -111,9 +111,9 @@ impl<A: Allocator + Clone> Globals<A> {
     fn read(alloc: A, bytes: &[u8], reading: Reading, work: &mut WorkLimit) -> Result<Globals<A>>
         ensures value { Gives (λ globals. globals) result (globals_at reading bytes.now) }
         ensures errors { IfErr result IsReturned }
-        ensures limit { Takes 0 work.old work.new }
+        ensures limit { TakesUnits 0 work.old work.new }
         ensures taken { IfOk (sorted_segments reading bytes.now)
-            (λ segments. IfOk result (λ _. Takes (prices.SEGMENT * length segments) work.old work.new)) }
+            (λ segments. IfOk result (λ _. TakesUnits (prices.SEGMENT * length segments) work.old work.new)) }
     {
         let content = read_counted::<A, Brand>(alloc, bytes, reading, work, Blank::new(7))?;
         Ok(Globals { content })
@@ -133,9 +133,9 @@ fn read_counted<A: Allocator + Clone, L: Ledger>(
     requires enough { blank.parts ≡ 7 }
     ensures value { Gives (λ globals. globals) result (globals_at reading bytes.now) }
     ensures errors { IfErr result IsReturned }
-    ensures limit { Takes 0 limit.old limit.new }
+    ensures limit { TakesUnits 0 limit.old limit.new }
     ensures taken { IfOk (sorted_segments reading bytes.now)
-        (λ segments. IfOk result (λ _. Takes (prices.SEGMENT * length segments) limit.old limit.new)) }
+        (λ segments. IfOk result (λ _. TakesUnits (prices.SEGMENT * length segments) limit.old limit.new)) }
 {
     let mut work = limit.counter::<L>(blank);
     let read = GlobalsContent::read(alloc, bytes, reading, &mut work);

@@ -7,7 +7,7 @@ ghost use Rattle.jbig2_page.specs.Files.{page_of};
 ghost use Rattle.jbig2_page.specs.Page.{IsSide};
 ghost use Rattle.jbig2_page.specs.Returned.{IsReturned};
 ghost use Rattle.hayro_jbig2.specs.Readers.{IsLasting, IsReturnedOrIo, Opens, GivesAgain};
-ghost use Rattle.hayro_jbig2.specs.WorkLimit.{Takes};
+ghost use Rattle.hayro_jbig2.specs.WorkLimit.{TakesUnits};
 ghost use Rattle.jbig2_page.specs.Image.{first_size, first_image, first_packed, packed_size};
 
 pub(crate) mod jbig2_error;
@@ -72,7 +72,7 @@ fn first_size<A: Allocator + Clone>(
 ) -> jbig2_base::error::Result<(u32, u32)>
     ensures value { Gives (λ size. size) result (first_size bytes.now) }
     ensures errors { IfErr result IsReturned }
-    ensures limit { Takes 0 work.old work.new }
+    ensures limit { TakesUnits 0 work.old work.new }
 {
     let file = File::new_within(alloc, bytes, &LENIENT, work)?;
     let page = first_page_of(&file)?;
@@ -91,7 +91,7 @@ fn first_image<A: Allocator + Clone>(
     ensures value { Gives (λ _. buf.new) result (first_image bytes.now) }
     ensures unchanged { OnErr result (buf.new ≡ buf.old) }
     ensures errors { IfErr result IsReturned }
-    ensures limit { Takes 0 work.old work.new }
+    ensures limit { TakesUnits 0 work.old work.new }
 {
     let file = File::new_within(alloc, bytes, &LENIENT, work)?;
     let page = first_page_of(&file)?;
@@ -110,7 +110,7 @@ fn first_packed<A: Allocator + Clone>(
     ensures value { Gives (λ _. buf.new) result (first_packed bytes.now) }
     ensures unchanged { OnErr result (buf.new ≡ buf.old) }
     ensures errors { IfErr result IsReturned }
-    ensures limit { Takes 0 work.old work.new }
+    ensures limit { TakesUnits 0 work.old work.new }
 {
     let file = File::new_within(alloc, bytes, &LENIENT, work)?;
     let page = first_page_of(&file)?;
@@ -141,7 +141,7 @@ impl<A: Allocator + Clone> Jbig2Decoder<A> {
         ensures opens { IfSome (R.remaining reader) (λ bytes. Opens bytes result) }
         ensures lasting { IfErr result IsLasting }
         ensures errors { IfErr result IsReturnedOrIo }
-        ensures limit { Takes 0 work.old work.new }
+        ensures limit { TakesUnits 0 work.old work.new }
     {
         let units = work.left();
         let bytes = read_all(alloc.clone()?, &mut reader)?;

@@ -1,7 +1,7 @@
 //! `WorkLimit`: how many units of work the calls that take it may spend together.
 ghost use Rattle.std.specs.Prelude.{◌≡◌};
 ghost use Rattle.jbig2_base.specs.Counts.{no_steps};
-ghost use Rattle.hayro_jbig2.specs.WorkLimit.{after_call, left_of, limit_of};
+ghost use Rattle.hayro_jbig2.specs.WorkLimit.{after_call, units_left, limit_of};
 
 use crate::context::work_within;
 use crate::counted::StepCount;
@@ -45,7 +45,7 @@ impl WorkLimit {
     /// How many units are left; `None` means that there is no limit. It is 0 after a call that was refused because
     /// work ran out. So a caller can see whether work or memory ran out.
     pub fn left(&self) -> Option<u64>
-        ensures { result ≡ left_of self.now }
+        ensures { result ≡ units_left self.now }
     {
         self.units.map(|_| self.left)
     }

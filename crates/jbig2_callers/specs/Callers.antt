@@ -26,7 +26,7 @@ abbrev pub image_at : List ℕ → ℕ → Result (List ℕ) DecodeError
 image_at bytes index = book_at Lenient bytes >>= λ book. some_or (Format MissingPageInfo) (page_of book index) >>= λ page. image_of_page page
 
 -- The picture of a file's first page, unless the reader failed or memory ran out.
-abbrev pub Shows : {P : Type 0} → (P → (ℕ × ℕ) × List ℕ) → List ℕ → Result P Jbig2Error → Type 0
-Shows view bytes (Ok picture) = (first_size bytes ≡ Ok (view picture).0) × (first_image bytes ≡ Ok (view picture).1)
-Shows view bytes (Err (Io e)) = Unit {0}
-Shows view bytes (Err (Decode e)) = (e ≡ OutOfMemory) ⊎ (first_image bytes ≡ Err e)
+abbrev pub ShowsFirstPage : {P : Type 0} → (P → (ℕ × ℕ) × List ℕ) → List ℕ → Result P Jbig2Error → Type 0
+ShowsFirstPage view bytes (Ok picture) = (first_size bytes ≡ Ok (view picture).0) × (first_image bytes ≡ Ok (view picture).1)
+ShowsFirstPage view bytes (Err (Io e)) = Unit {0}
+ShowsFirstPage view bytes (Err (Decode e)) = (e ≡ OutOfMemory) ⊎ (first_image bytes ≡ Err e)

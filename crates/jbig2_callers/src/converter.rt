@@ -1,6 +1,6 @@
 //! How a converter that has a reader calls the library.
 ghost use Rattle.std.specs.Prelude.{IfSome};
-ghost use Rattle.jbig2_callers.specs.Callers.{Shows};
+ghost use Rattle.jbig2_callers.specs.Callers.{ShowsFirstPage};
 
 use hayro_jbig2::{Jbig2Decoder, Jbig2Error};
 use std::alloc::Allocator;
@@ -21,7 +21,7 @@ pub fn first_picture<A: Allocator + Clone, R: Read + Drop>(
     reader: R,
 ) -> std::result::Result<Picture<A>, Jbig2Error>
     ensures { IfSome (R.remaining reader)
-        (λ bytes. Shows (λ picture. ((picture.width, picture.height), picture.pixels.items)) bytes
+        (λ bytes. ShowsFirstPage (λ picture. ((picture.width, picture.height), picture.pixels.items)) bytes
         result) }
 {
     let decoder = Jbig2Decoder::new(alloc.clone()?, reader)?;

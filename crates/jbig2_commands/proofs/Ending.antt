@@ -11,7 +11,7 @@ use Rattle.jbig2_base.specs.declared.error.DecodeError.TheVariants.{OutOfMemory}
 use Rattle.jbig2_page.specs.Files.{ReadFile, book_at, pages_of}
 use Rattle.jbig2_page.specs.Image.{packed_of_page}
 use Rattle.jbig2_page.specs.Page.{ReadPage, grid_of_page}
-use Rattle.jbig2_commands.specs.Printed.{bitmap_head, bitmap_text, calls_text, of_file, or_fault, page_line, page_at_index, printed_text, Ends, Prints}
+use Rattle.jbig2_commands.specs.Printed.{bitmap_head, bitmap_text, calls_text, text_of_file, or_fault, page_line, page_at_index, printed_text, Ends, Prints}
 use Rattle.jbig2_commands.specs.Words.{Task, Pages, Calls, Pbm}
 use Rattle.jbig2_commands.specs.declared.fault.Fault.{Fault}
 use Rattle.jbig2_commands.specs.declared.fault.Fault.TheVariants.{Decode, Unreadable, Unwritable}
@@ -53,11 +53,11 @@ drawn_whole page head rows b r k k1 k2 k3 is head_is first more b_is kept fault 
 abbrev Text : Type 0
 Text = ReadPage → Result (List ℕ) DecodeError
 
-text_of : (text : Text) (index : List ℕ) (meant : Result ReadFile DecodeError) (book : ReadFile) (page : ReadPage) → meant ≡ Ok book → page_at_index index book ≡ Ok page → of_file text index meant ≡ or_fault (text page)
-text_of text index meant book page is named = ap (λ (m : Result ReadFile DecodeError). of_file text index m) is ∙ ap (λ (m : Result ReadPage Fault). m >>= λ found. or_fault (text found)) named
+text_of : (text : Text) (index : List ℕ) (meant : Result ReadFile DecodeError) (book : ReadFile) (page : ReadPage) → meant ≡ Ok book → page_at_index index book ≡ Ok page → text_of_file text index meant ≡ or_fault (text page)
+text_of text index meant book page is named = ap (λ (m : Result ReadFile DecodeError). text_of_file text index m) is ∙ ap (λ (m : Result ReadPage Fault). m >>= λ found. or_fault (text found)) named
 
-no_text : (text : Text) (index : List ℕ) (meant : Result ReadFile DecodeError) (book : ReadFile) (fault : Fault) → meant ≡ Ok book → page_at_index index book ≡ Err fault → of_file text index meant ≡ Err fault
-no_text text index meant book fault is named = ap (λ (m : Result ReadFile DecodeError). of_file text index m) is ∙ ap (λ (m : Result ReadPage Fault). m >>= λ found. or_fault (text found)) named
+no_text : (text : Text) (index : List ℕ) (meant : Result ReadFile DecodeError) (book : ReadFile) (fault : Fault) → meant ≡ Ok book → page_at_index index book ≡ Err fault → text_of_file text index meant ≡ Err fault
+no_text text index meant book fault is named = ap (λ (m : Result ReadFile DecodeError). text_of_file text index m) is ∙ ap (λ (m : Result ReadPage Fault). m >>= λ found. or_fault (text found)) named
 
 module _ (strict : Bool) (task : Task) (index bytes : List ℕ) (book : ReadFile) (r : Result (Unit {0}) Fault) (k k' : Option (List ℕ)) where
   pub pages_printed : task ≡ Pages → book_at (reading_of strict) bytes ≡ Ok book → Prints (Ok (flat_map page_line (pages_of book))) r k k' → Prints (printed_text strict task bytes) r k k'

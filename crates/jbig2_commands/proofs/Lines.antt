@@ -8,7 +8,7 @@ use Rattle.jbig2_base.specs.Grid.{Grid}
 use Rattle.jbig2_base.specs.declared.error.DecodeError.{DecodeError}
 use Rattle.jbig2_base.specs.declared.error.DecodeError.TheVariants.{Unsupported}
 use Rattle.jbig2_page.specs.Calls.{Call, calls_of, Conduct, Decodes, after_calls}
-use Rattle.jbig2_commands.specs.inner.Printing.{known_if, refusals_if, Adds}
+use Rattle.jbig2_commands.specs.inner.Printing.{known_if, refusals_if, AddsMeant}
 use Rattle.jbig2_commands.specs.Printed.{call_line, calls_text, page_line}
 use Rattle.jbig2_page.specs.Page.{ReadPage}
 
@@ -75,7 +75,7 @@ module _ {S : Type 0} (name : S → GName) (known : S → Option (List ℕ)) (co
   same_output (Err f) (Err e) old new d = name_as old new d.1.0
 
   pub lines_known : (meant : Result Grid DecodeError) (decoded : Result (Unit {0}) DecodeError) (old new : S) → is_known ≡ is_some (known old) → count old ≡ 0 → count new ≡ 0
-      → Decodes printing meant decoded old new → Adds (calls_text meant) decoded (known old) (known new)
+      → Decodes printing meant decoded old new → AddsMeant (calls_text meant) decoded (known old) (known new)
   lines_known (Ok g) (Ok u) old new t z y d = added is_known (known old) (known new) (flat_map call_line (calls_of g)) t (ap (λ (p : GName × Option (List ℕ)). p.1) (d.0 ∙ after_lines (name old) (known_if is_known (known old)) (calls_of g)))
   lines_known (Ok g) (Err e) old new t z y (inl s) = absurd (not_one is_known (known new) (count new) y (s.counted ∙ ap (λ (n : ℕ). n + 1) (none_refused is_known (known old) (count old) t z)))
   lines_known (Ok g) (Err e) old new t z y (inr u) = (inl u.0, known_as old new u.1.0 t)

@@ -54,8 +54,8 @@ abbrev pub page_at_index : List ℕ → ReadFile → Result ReadPage Fault  -- t
 page_at_index index book = ok_or (page_of book (digits_value 10 index)) NoSuchPage
 
 -- what is printed for the page at this index
-abbrev pub of_file : (ReadPage → Result (List ℕ) DecodeError) → List ℕ → Result ReadFile DecodeError → Result (List ℕ) Fault
-of_file text index file = or_fault file >>= λ book. page_at_index index book >>= λ page. or_fault (text page)
+abbrev pub text_of_file : (ReadPage → Result (List ℕ) DecodeError) → List ℕ → Result ReadFile DecodeError → Result (List ℕ) Fault
+text_of_file text index file = or_fault file >>= λ book. page_at_index index book >>= λ page. or_fault (text page)
 
 -- What is printed for a file's bytes, or why nothing is.
 abbrev pub printed_text : Bool → Task → List ℕ → Result (List ℕ) Fault
@@ -64,8 +64,8 @@ printed_text strict Pages bytes =
 printed_text strict Embedded bytes =
     or_fault (page_from (reading_of strict) no_names bytes >>= λ page. calls_text (grid_of_page page))
 printed_text strict (Calls index) bytes =
-    of_file (λ page. calls_text (grid_of_page page)) index (book_at (reading_of strict) bytes)
-printed_text strict (Pbm index) bytes = of_file bitmap_text index (book_at (reading_of strict) bytes)
+    text_of_file (λ page. calls_text (grid_of_page page)) index (book_at (reading_of strict) bytes)
+printed_text strict (Pbm index) bytes = text_of_file bitmap_text index (book_at (reading_of strict) bytes)
 
 -- The bytes that were meant are added to the output. Or the fault is returned and nothing is added, unless memory ran
 -- out. Where the output failed, nothing is said about its contents.

@@ -1,7 +1,7 @@
 //! Prints the calls of a page.
 ghost use Rattle.std.specs.Prelude.{◌≡◌, is_some, IfSome};
 ghost use Rattle.jbig2_page.specs.Page.{grid_of_page};
-ghost use Rattle.jbig2_commands.specs.inner.Printing.{data_of, output_id, Adds};
+ghost use Rattle.jbig2_commands.specs.inner.Printing.{data_of, output_id, AddsMeant};
 ghost use Rattle.jbig2_commands.specs.Printed.{calls_text, or_fault, Prints};
 
 use crate::fault::Fault;
@@ -50,7 +50,7 @@ fn decode_to<'o, A: Allocator + Clone, O: Write, K: KnowsOutput>(
 ) -> (Output<'o, O, A>, Option<Result<(), DecodeError>>)
     requires { K.is_known ≡ is_some (data_of O.contents output) }
     ensures same { output_id result.0 ≡ output_id output.entry }
-    ensures lines { IfSome result.1 (λ decoded. Adds (calls_text (grid_of_page page.now)) decoded
+    ensures lines { IfSome result.1 (λ decoded. AddsMeant (calls_text (grid_of_page page.now)) decoded
         (data_of O.contents output.entry) (data_of O.contents result.0)) }
 {
     let mut printer = Printer::<O, A, K>::new(output, line);

@@ -1,7 +1,7 @@
 //! An output with a buffer.
 ghost use Rattle.std.specs.Prelude.{◌≡◌, ◌≤◌, [], IsTrue, IfErr, length, take};
 ghost use Rattle.std.specs.Io.KnownBytes.{Appends, Keeps};
-ghost use Rattle.jbig2_commands.specs.inner.Printing.{data_of, output_id, Pushes};
+ghost use Rattle.jbig2_commands.specs.inner.Printing.{data_of, output_id, AppendsIf};
 
 use crate::fault::Fault;
 use std::alloc::Allocator;
@@ -75,7 +75,7 @@ impl<'o, O: Write, A: Allocator> Output<'o, O, A> {
     /// Adds bytes. Returns whether it did; else nothing changes.
     pub fn push(&mut self, bytes: &[u8]) -> bool
         ensures same { output_id self.new ≡ output_id self.old }
-        ensures taken { Pushes result (data_of O.contents self.old) (data_of O.contents self.new)
+        ensures taken { AppendsIf result (data_of O.contents self.old) (data_of O.contents self.new)
             bytes.now }
     {
         if self.held.len() >= GATHERED && !self.write_held() {

@@ -4,7 +4,7 @@ ghost use Rattle.std.specs.Borrow.{GName};
 ghost use Rattle.std.specs.Io.KnownBytes.{append_known};
 ghost use Rattle.jbig2_base.specs.declared.error.DecodeError.TheVariants.{Unsupported};
 ghost use Rattle.jbig2_page.specs.Calls.{Pixel, Chunk, Line};
-ghost use Rattle.jbig2_commands.specs.inner.Printing.{data_of, output_id, Pushes, known_if, refusals_if};
+ghost use Rattle.jbig2_commands.specs.inner.Printing.{data_of, output_id, AppendsIf, known_if, refusals_if};
 ghost use Rattle.jbig2_commands.specs.Printed.{call_line};
 
 use crate::output::Output;
@@ -79,7 +79,7 @@ impl<'o, O: Write, A: Allocator, K: KnowsOutput> Printer<'o, O, A, K> {
     fn push_chunk_line(&mut self, black: bool, chunk_count: u32) -> bool
         ensures same { output_id self.new.output ≡ output_id self.old.output }
         ensures refusals { self.new.refusals ≡ self.old.refusals }
-        ensures taken { Pushes result (data_of O.contents self.old.output)
+        ensures taken { AppendsIf result (data_of O.contents self.old.output)
             (data_of O.contents self.new.output) (call_line (Chunk black chunk_count)) }
     {
         self.line.clear();

@@ -1,6 +1,6 @@
 //! How many calls a Decoder of this program has refused.
 ghost use Rattle.std.specs.Prelude.{◌≡◌, ◌-◌, ◌^◌, ◌<◌, nat_lt};
-ghost use Rattle.jbig2_commands.specs.inner.Printing.{Counts};
+ghost use Rattle.jbig2_commands.specs.inner.Printing.{CountsRefusal};
 
 use hayro_jbig2::{DecodeError, Result};
 
@@ -26,7 +26,7 @@ impl Refusals {
     /// The result of a call, by whether its line was taken.
     pub fn answer(&mut self, is_taken: bool) -> Result<()>
         requires { self.old.count < 2 ^ 64 - 1 }
-        ensures { Counts is_taken result self.old.count self.new.count }
+        ensures { CountsRefusal is_taken result self.old.count self.new.count }
     {
         if !is_taken {
             self.count += 1;

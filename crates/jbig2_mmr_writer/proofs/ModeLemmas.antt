@@ -12,7 +12,7 @@ use Rattle.jbig2_inverses.specs.RowWriter.{Code, mode_word, run_bits}
 use Rattle.jbig2_mmr_writer.specs.declared.changes.Place.{Place}
 use Rattle.jbig2_mmr_writer.specs.declared.codes.TheConstants.{HORIZONTAL, PASS}
 use Rattle.jbig2_mmr_writer.specs.inner.Entries.{word_of_entry}
-use Rattle.jbig2_mmr_writer.specs.inner.Places.{Adds, IsPlace, head_of, horizontal_code, next_code, next_other}
+use Rattle.jbig2_mmr_writer.specs.inner.Places.{AddsMode, IsPlace, head_of, horizontal_code, next_code, next_other}
 use Rattle.jbig2_mmr_writer.proofs.ChoiceLemmas.{Searched, code-pass, code-runs, code-vertical, vertical_code}
 use Rattle.jbig2_mmr_writer.proofs.CodeTables.{horizontal-word, pass-word}
 use Rattle.jbig2_mmr_writer.proofs.PlaceLemmas.{first-later, next-is, same-is}
@@ -33,7 +33,7 @@ starts-at p a0 black e = ap (λ (h : Head). h.a0) e
 -- ---- the horizontal mode
 pub adds-horizontal : (g : Grid) (y w a2 : ℕ) (p next : Place) (old opened half new : List ℕ) → w ≡ g.width → IsPlace g y p → IsFirst (row_of g y) p.black p.a1 w a2
     → opened ≡ old ++ word_of_entry HORIZONTAL → half ≡ opened ++ run_bits p.black (p.a1 - p.a0) → new ≡ half ++ run_bits (not p.black) (a2 - p.a1)
-    → head_of next ≡ record { a0 = a2; past_start = true; black = p.black } → IsPlace g y next → Adds g y (horizontal_code g y p) old new next
+    → head_of next ≡ record { a0 = a2; past_start = true; black = p.black } → IsPlace g y next → AddsMode g y (horizontal_code g y p) old new next
 adds-horizontal g y w a2 p next old opened half new wide is first word one two head place =
     let here : IsFirst (row_of g y) p.black p.a1 g.width a2 = subst (λ (n : ℕ). IsFirst (row_of g y) p.black p.a1 n a2) wide first in
     let end : a2 ≡ next_other g y (not p.black) p.a1 = same-is (row_of g y) p.black p.a1 g.width a2 is.a1.within here in
@@ -69,7 +69,7 @@ module _ (g : Grid) (y above : ℕ) (p : Place) (w to b1 b2 : ℕ) where
       }
 
   pub adds-pass : (old new : List ℕ) → Seen → IsPlace g y p → p.a0 ≤ b2 → b2 < p.a1 → new ≡ old ++ word_of_entry PASS
-      → Adds g y (next_code g y above p) old new (record { a0 = b2; past_start = true; black = p.black; a1 = p.a1 })
+      → AddsMode g y (next_code g y above p) old new (record { a0 = b2; past_start = true; black = p.black; a1 = p.a1 })
   adds-pass old new seen is forward left word =
       let e = code-pass g.width (row_of g above) (row_of g y) (head_of p) p.a1 to b1 b2 seen left in
       record {
@@ -82,7 +82,7 @@ module _ (g : Grid) (y above : ℕ) (p : Place) (w to b1 b2 : ℕ) where
       }
 
   pub adds-vertical : (next : Place) (old new word : List ℕ) → Seen → p.a1 ≤ b2 → p.a1 ≤ b1 + 3 → b1 ≤ p.a1 + 3 → new ≡ old ++ word → word ≡ (vertical_code p.a1 b1 (head_of p)).bits
-      → head_of next ≡ record { a0 = p.a1; past_start = true; black = not p.black } → IsPlace g y next → Adds g y (next_code g y above p) old new next
+      → head_of next ≡ record { a0 = p.a1; past_start = true; black = not p.black } → IsPlace g y next → AddsMode g y (next_code g y above p) old new next
   adds-vertical next old new word seen past right left bits is_word head place =
       let e = code-vertical g.width (row_of g above) (row_of g y) (head_of p) p.a1 to b1 b2 seen past right left in
       record {
@@ -91,9 +91,9 @@ module _ (g : Grid) (y above : ℕ) (p : Place) (w to b1 b2 : ℕ) where
         place = place;
       }
 
-  pub adds-runs : (next : Place) (old new : List ℕ) → Seen → p.a1 ≤ b2 → (p.a1 ≤ b1 + 3 → b1 ≤ p.a1 + 3 → ⊥) → Adds g y (horizontal_code g y p) old new next → Adds g y (next_code g y above p) old new next
+  pub adds-runs : (next : Place) (old new : List ℕ) → Seen → p.a1 ≤ b2 → (p.a1 ≤ b1 + 3 → b1 ≤ p.a1 + 3 → ⊥) → AddsMode g y (horizontal_code g y p) old new next → AddsMode g y (next_code g y above p) old new next
   adds-runs next old new seen past far adds =
-      subst (λ (c : Code). Adds g y c old new next) (sym (code-runs g.width (row_of g above) (row_of g y) (head_of p) p.a1 to b1 b2 seen past far)) adds
+      subst (λ (c : Code). AddsMode g y c old new next) (sym (code-runs g.width (row_of g above) (row_of g y) (head_of p) p.a1 to b1 b2 seen past far)) adds
 
 -- ---- loads, one for each 64 columns that are searched
 pub loads-found : (s t : Counts) (from to place : ℕ) → t ≡ words_loaded (words_searched from to place) s → t.loads ≤ s.loads + (1 + (place - from) / 64)

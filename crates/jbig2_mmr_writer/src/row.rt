@@ -4,7 +4,7 @@ ghost use Rattle.jbig2_base.specs.Grid.{max_side};
 ghost use Rattle.jbig2_inverses.specs.RowWriter.{row_bits};
 ghost use Rattle.jbig2_mmr.specs.T6.{row_start};
 ghost use Rattle.jbig2_mmr.specs.inner.T6Reading.{row_above, row_of};
-ghost use Rattle.jbig2_mmr_writer.specs.inner.Places.{Adds, IsPlace, head_of, horizontal_code, next_code};
+ghost use Rattle.jbig2_mmr_writer.specs.inner.Places.{AddsMode, IsPlace, head_of, horizontal_code, next_code};
 
 use crate::bits::BitWriter;
 use crate::changes::{Place, find_b1, find_b2};
@@ -71,7 +71,7 @@ fn push_horizontal<A: Allocator, B: Allocator, L: Ledger>(
 ) -> Result<Place, AllocError>
     requires { IsPlace bitmap.now y place }
     ensures mode { IfOk result (λ next.
-        Adds bitmap.now y (horizontal_code bitmap.now y place) writer.old writer.new next) }
+        AddsMode bitmap.now y (horizontal_code bitmap.now y place) writer.old writer.new next) }
     ensures steps { steps.new ≡ record steps.old { loads = steps.new.loads } }
     ensures loads { IfOk result (λ next.
         steps.new.loads + 2 * place.a1 ≤ steps.old.loads + (2 + next.a0 + next.a1)) }
@@ -99,7 +99,7 @@ fn push_mode<A: Allocator, B: Allocator, L: Ledger>(
     requires column { place.a0 < bitmap.now.width }
     requires place { IsPlace bitmap.now y place }
     ensures mode { IfOk result (λ next.
-        Adds bitmap.now y (next_code bitmap.now y above place) writer.old writer.new next) }
+        AddsMode bitmap.now y (next_code bitmap.now y above place) writer.old writer.new next) }
     ensures steps { steps.new ≡ record steps.old { loads = steps.new.loads } }
     ensures loads { IfOk result (λ next. steps.new.loads + (place.a0 + place.a1)
         ≤ steps.old.loads + (5 + next.a0 + next.a1)) }

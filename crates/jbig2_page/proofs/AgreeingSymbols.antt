@@ -13,7 +13,7 @@ use Rattle.jbig2_base.specs.declared.error.SymbolError.TheVariants as errors
 use Rattle.jbig2_coder.specs.PrefixCode.{Member}
 use Rattle.jbig2_mmr.specs.T6.{mmr_rows}
 use Rattle.jbig2_symbol.specs.HeightClasses.{classes_from, drawn_class, empty_class, height_class, new_symbols, next_width, size_in_word, symbols_from, widths_from}
-use Rattle.jbig2_symbol.specs.SymbolBitmaps.{aggregate_params, by_instances, coded_aggregate, coded_instances, coded_symbol, collective_bitmap, fits_symbol, id_codes, instance_count, mmr_bytes, plain_id, prefixed_aggregate, prefixed_at, prefixed_instances, put_together, raw_rows, refined_alone, rows_of_size, symbols_cut}
+use Rattle.jbig2_symbol.specs.SymbolBitmaps.{aggregate_params, by_instances, coded_aggregate, coded_instances, coded_symbol, collective_bitmap, fits_symbol, id_codes, instance_count, mmr_bitmap, plain_id, prefixed_aggregate, prefixed_at, prefixed_instances, put_together, raw_rows, refined_alone, rows_of_size, symbols_cut}
 use Rattle.jbig2_symbol.specs.SymbolCoding.{classes_by_coder, classes_by_prefix_codes, coded_bitmap, coder_start, collective_class, prefix_codes_start, symbols_by_coder, symbols_by_prefix_codes}
 use Rattle.jbig2_symbol.specs.SymbolHeader.{SymbolHeader, coded_pixels_at, refined_pixels_at, symbol_flags_of, symbol_header_at}
 use Rattle.jbig2_symbol.specs.SymbolReading.{BitmapContexts, ClassReadings, SymbolInput, SymbolReadings, SymbolState, by_procedure, by_table, first_contexts, not_negative, symbol_tables}
@@ -79,15 +79,15 @@ coded-bitmap-same d new width height s =
     same-if d.header.flags.use_refagg (coded_aggregate d new width height s) (coded_aggregate (leniently d) new width height s) (coded_symbol d.header width height s) (coded_symbol (lenient_symbols d.header) width height s)
     (coded-aggregate-same d new width height s) (coded-symbol-same d.header width height s)
 
-mmr-bytes-same : (strict : Bool) (size width height : ℕ) (bytes : List ℕ) → Same (mmr_bytes strict size width height bytes) (mmr_bytes false size width height bytes)
-unfolding mmr_bytes
+mmr-bytes-same : (strict : Bool) (size width height : ℕ) (bytes : List ℕ) → Same (mmr_bitmap strict size width height bytes) (mmr_bitmap false size width height bytes)
+unfolding mmr_bitmap
 mmr-bytes-same strict size width height bytes =
     same-then (bytes_at size bytes) _ _ (λ coded. same-then (wide_or_overflow width height) _ _ (λ fits.
     same-next (mmr_rows strict width height coded.0) (mmr_rows false width height coded.0) _ _ (mmr-same strict width height coded.0) (λ rows. refl)))
 
 rows-same : (strict : Bool) (size width height : ℕ) (bytes : List ℕ) → Same (rows_of_size strict size width height bytes) (rows_of_size false size width height bytes)
 rows-same strict size width height bytes =
-    same-if (eqb size 0) (raw_rows width height bytes) (raw_rows width height bytes) (mmr_bytes strict size width height bytes) (mmr_bytes false size width height bytes)
+    same-if (eqb size 0) (raw_rows width height bytes) (raw_rows width height bytes) (mmr_bitmap strict size width height bytes) (mmr_bitmap false size width height bytes)
     (same-itself (raw_rows width height bytes)) (mmr-bytes-same strict size width height bytes)
 
 collective-same : (d : SymbolInput) (width height : ℕ) (s : SymbolState Place) → Same (collective_bitmap d width height s) (collective_bitmap (leniently d) width height s)

@@ -4,7 +4,7 @@ use Rattle.std.specs.List.{range_with_len, flat_map}
 use Rattle.std.proofs.lemmas.Bool.{cond_both}
 use Rattle.std.proofs.lemmas.List.{length-append, length-take-le, length-drop}
 use Rattle.jbig2_base.specs.Grid.{Grid, same_colour}
-use Rattle.jbig2_page.specs.Calls.{Call, Pixel, Chunk, Line, CallsAreFew, ChunksFit, is_all, singles, with_whole, with_byte, whole_calls, row_of, line_calls, calls_of}
+use Rattle.jbig2_page.specs.Calls.{Call, Pixel, Chunk, Line, CallsAreFew, ChunksFit, is_all, singles, with_whole, with_byte, whole_calls, row_of_grid, line_calls, calls_of}
 use Rattle.jbig2_page.proofs.Runs.{length-row}
 
 -- from another number of the column
@@ -60,8 +60,8 @@ line-fits w x (Line ∷ calls) others fits more = line-fits w 0 calls others fit
 rows-fit : (g : Grid) (a n : ℕ) → ChunksFit g.width 0 (flat_map (line_calls g) (range_with_len a n))
 rows-fit g a zero = tt
 rows-fit g a (suc n) =
-    line-fits g.width 0 (whole_calls (length (row_of g a) / 8) (row_of g a)) (flat_map (line_calls g) (range_with_len (a + 1) n))
-    (bytes-fit (length (row_of g a) / 8) g.width 0 (row_of g a) (omega arith) (omega arith) (omega (arith, length-row g a))) (rows-fit g (a + 1) n)
+    line-fits g.width 0 (whole_calls (length (row_of_grid g a) / 8) (row_of_grid g a)) (flat_map (line_calls g) (range_with_len (a + 1) n))
+    (bytes-fit (length (row_of_grid g a) / 8) g.width 0 (row_of_grid g a) (omega arith) (omega arith) (omega (arith, length-row g a))) (rows-fit g (a + 1) n)
 
 pub chunks-fit : (g : Grid) → ChunksFit g.width 0 (calls_of g)
 unfolding calls_of
@@ -98,10 +98,10 @@ bytes-few (suc n) bits room =
 rows-few : (g : Grid) (a n : ℕ) → length (flat_map (line_calls g) (range_with_len a n)) ≤ g.width * n + n
 rows-few g a zero = omega arith
 rows-few g a (suc n) =
-    let calls : List Call = whole_calls (length (row_of g a) / 8) (row_of g a) in
+    let calls : List Call = whole_calls (length (row_of_grid g a) / 8) (row_of_grid g a) in
     let rest : List Call = flat_map (line_calls g) (range_with_len (a + 1) n) in
     let line : List Call = Line ∷ [] in
-    omega (arith, length-append (calls ++ line) rest, length-append calls line, bytes-few (length (row_of g a) / 8) (row_of g a) (omega arith), length-row g a, rows-few g (a + 1) n)
+    omega (arith, length-append (calls ++ line) rest, length-append calls line, bytes-few (length (row_of_grid g a) / 8) (row_of_grid g a) (omega arith), length-row g a, rows-few g (a + 1) n)
 
 pub calls-few : (g : Grid) → CallsAreFew g
 unfolding calls_of

@@ -15,7 +15,7 @@ use Rattle.jbig2_base.specs.declared.error.SegmentError.TheVariants.{InvalidRefe
 use Rattle.jbig2_framing.specs.Reading.{reading_of}
 use Rattle.jbig2_framing.specs.declared.reading.Reading.{Reading}
 use Rattle.jbig2_framing.specs.declared.reading.Reading.TheVariants.{Strict, Lenient}
-use Rattle.jbig2_page.specs.Calls.{Call, Chunk, Line, whole_calls, row_of, calls_of}
+use Rattle.jbig2_page.specs.Calls.{Call, Chunk, Line, whole_calls, row_of_grid, calls_of}
 use Rattle.jbig2_page.specs.Files.{page_in_file, book_at, pages_of, segments_at}
 use Rattle.jbig2_page.specs.Image.{first_page, first_size, first_image, image_of}
 use Rattle.jbig2_page.specs.Names.{globals_at}
@@ -83,7 +83,7 @@ unfolding globals_at segments_in segment_at header_at referred_at count_at type_
 row_3-reference = refl
 
 row_16 : calls_in true (headed 1 (page_header ++ (page_data ++ end_of_page))) ≡ Ok one_white
-unfolding calls_in book_at file_at segments_at file_header_at segments_in segment_at header_at referred_at count_at type_of page_in_file beginning_of information_at grid_of_page table pixel_at calls_of row_of whole_calls file_cut_off file_partial first_refused
+unfolding calls_in book_at file_at segments_at file_header_at segments_in segment_at header_at referred_at count_at type_of page_in_file beginning_of information_at grid_of_page table pixel_at calls_of row_of_grid whole_calls file_cut_off file_partial first_refused
 row_16 = refl
 
 row_16-unended : book_at Strict (headed 1 (page_header ++ page_data)) ≡ Err (Format InvalidEndOfPage)
@@ -91,7 +91,7 @@ unfolding book_at file_at segments_at file_header_at segments_in segment_at head
 row_16-unended = refl
 
 row_16-headers_first : calls_in true (headed 0 (page_header ++ (end_of_page ++ (end_of_file ++ page_data)))) ≡ Ok one_white
-unfolding calls_in book_at file_at segments_at file_header_at headers_in header_at referred_at count_at type_of page_in_file beginning_of information_at grid_of_page table pixel_at calls_of row_of whole_calls file_cut_off file_partial first_refused
+unfolding calls_in book_at file_at segments_at file_header_at headers_in header_at referred_at count_at type_of page_in_file beginning_of information_at grid_of_page table pixel_at calls_of row_of_grid whole_calls file_cut_off file_partial first_refused
 row_16-headers_first = refl
 
 row_R9_3-size : first_size (headed 1 (page_header ++ (page_data ++ end_of_page))) ≡ Ok (8, 1)

@@ -20,7 +20,7 @@ use Rattle.jbig2_page.specs.Page.{Drawing, ReadPage, drawing_of_page}
 use Rattle.jbig2_page.specs.declared.region.parsed_region.ParsedRegion.{ParsedRegion}
 use Rattle.jbig2_page.specs.declared.region.parsed_region.ParsedRegion.TheVariants.{Text, Halftone, Generic, Refinement, PageRefinement, Part}
 use Rattle.jbig2_page.specs.inner.ParsedRegions.{region_grid, info_of}
-use Rattle.jbig2_page.specs.inner.Prices.{counts_of, price_besides, price_of_info, words_of_info}
+use Rattle.jbig2_page.specs.inner.RegionPrices.{counts_of, price_besides, price_of_info, words_of_info}
 use Rattle.jbig2_page.proofs.Direct.{drawn-made}
 use Rattle.jbig2_page.proofs.DrawnPages.{grid-is}
 use Rattle.jbig2_page.proofs.Untouched.{pages_keep_their_size}

@@ -9,7 +9,7 @@ use Rattle.jbig2_base.specs.Grid.{Grid, pixel_at, bit_number, same_colour}
 use Rattle.jbig2_base.specs.Bits.{bit}
 use Rattle.jbig2_base.specs.Colour.{IsFirst}
 use Rattle.jbig2_base.proofs.BitLemmas.{bit-ones, bit-zero, bit_number-bit}
-use Rattle.jbig2_page.specs.Calls.{Call, Pixel, Chunk, Line, is_all, singles, with_whole, with_byte, whole_calls, row_of, line_calls, calls_of}
+use Rattle.jbig2_page.specs.Calls.{Call, Pixel, Chunk, Line, is_all, singles, with_whole, with_byte, whole_calls, row_of_grid, line_calls, calls_of}
 use Rattle.jbig2_page.specs.inner.RunViews.{run_of}
 
 -- a byte that is not all of one colour begins with a pixel
@@ -121,20 +121,20 @@ drop-range (suc k) a (suc n) h =
     let len : n - k ≡ suc n - suc k = omega arith in
     drop-range k (a + 1) n (omega arith) ∙ ap (λ (m : ℕ). range_with_len m (n - k)) from ∙ ap (λ (m : ℕ). range_with_len (a + suc k) m) len
 
-pub row-from : (g : Grid) (x y : ℕ) → x ≤ g.width → drop x (row_of g y) ≡ map (λ i. pixel_at g i y) (range_with_len x (g.width - x))
-unfolding row_of
+pub row-from : (g : Grid) (x y : ℕ) → x ≤ g.width → drop x (row_of_grid g y) ≡ map (λ i. pixel_at g i y) (range_with_len x (g.width - x))
+unfolding row_of_grid
 row-from g x y h =
     let zero_on : 0 + x ≡ x = omega arith in
     drop-map (λ i. pixel_at g i y) x (range_with_len 0 g.width)
     ∙ ap (λ (ns : List ℕ). map (λ i. pixel_at g i y) ns) (drop-range x 0 g.width h ∙ ap (λ (m : ℕ). range_with_len m (g.width - x)) zero_on)
 
-pub row-part : (g : Grid) (x y count : ℕ) → x + count ≤ g.width → take count (drop x (row_of g y)) ≡ map (λ i. pixel_at g i y) (range_with_len x count)
+pub row-part : (g : Grid) (x y count : ℕ) → x + count ≤ g.width → take count (drop x (row_of_grid g y)) ≡ map (λ i. pixel_at g i y) (range_with_len x count)
 row-part g x y count h =
     ap (λ (bs : List Bool). take count bs) (row-from g x y (omega arith))
     ∙ take-map-range_with_len (λ i. pixel_at g i y) x (g.width - x) count (omega arith)
 
-pub length-row : (g : Grid) (y : ℕ) → length (row_of g y) ≡ g.width
-unfolding row_of
+pub length-row : (g : Grid) (y : ℕ) → length (row_of_grid g y) ≡ g.width
+unfolding row_of_grid
 length-row g y = length-map-range_with_len (λ i. pixel_at g i y) 0 g.width
 
 own_colour : (black : Bool) → same_colour black black ≡ true
@@ -244,7 +244,7 @@ run-found (suc n) x len place black f many few after within before found =
     ∙ more)
     (cases_lt place (x + 8))
 
-pub run-to : (g : Grid) (x y place : ℕ) (black : Bool) → x ≤ g.width → IsFirst (λ i. pixel_at g i y) (not black) x g.width place → (place - x) / 8 ≡ run_of ((g.width - x) / 8) black (drop x (row_of g y))
+pub run-to : (g : Grid) (x y place : ℕ) (black : Bool) → x ≤ g.width → IsFirst (λ i. pixel_at g i y) (not black) x g.width place → (place - x) / 8 ≡ run_of ((g.width - x) / 8) black (drop x (row_of_grid g y))
 run-to g x y place black inside first =
     sym
     (ap (λ (bs : List Bool). run_of ((g.width - x) / 8) black bs) (row-from g x y inside)
@@ -264,7 +264,7 @@ bit-test true r e = eq-eqb r 1 e
 bit-test false r e = ne_eqb r 1 (λ one. absurd (omega arith))
 
 -- the first of some single pixels
-pub singles-first : (g : Grid) (x end y : ℕ) (black : Bool) → x < end → end ≤ g.width → black ≡ pixel_at g x y → singles (take (end - x) (drop x (row_of g y))) ≡ Pixel black ∷ singles (take (end - (x + 1)) (drop (x + 1) (row_of g y)))
+pub singles-first : (g : Grid) (x end y : ℕ) (black : Bool) → x < end → end ≤ g.width → black ≡ pixel_at g x y → singles (take (end - x) (drop x (row_of_grid g y))) ≡ Pixel black ∷ singles (take (end - (x + 1)) (drop (x + 1) (row_of_grid g y)))
 singles-first g x end y black inside within is =
     let count : end - x ≡ suc (end - (x + 1)) = omega arith in
     let others : List Call = singles (map (λ i. pixel_at g i y) (range_with_len (x + 1) (end - (x + 1)))) in
@@ -274,8 +274,8 @@ singles-first g x end y black inside within is =
     ∙ ap (λ (bs : List Bool). Pixel black ∷ singles bs) (sym (row-part g (x + 1) y (end - (x + 1)) (omega arith)))
 
 -- a row from its beginning
-pub line-start : (g : Grid) (y : ℕ) → whole_calls (length (row_of g y) / 8) (row_of g y) ≡ whole_calls ((g.width - 0) / 8) (row_of g y)
-line-start g y = ap (λ (n : ℕ). whole_calls (n / 8) (row_of g y)) (length-row g y ∙ (let e : g.width ≡ g.width - 0 = omega arith in e))
+pub line-start : (g : Grid) (y : ℕ) → whole_calls (length (row_of_grid g y) / 8) (row_of_grid g y) ≡ whole_calls ((g.width - 0) / 8) (row_of_grid g y)
+line-start g y = ap (λ (n : ℕ). whole_calls (n / 8) (row_of_grid g y)) (length-row g y ∙ (let e : g.width ≡ g.width - 0 = omega arith in e))
 
 -- what is left after a run
 pub run-first : (width x k : ℕ) (black : Bool) (row : List Bool) → length row ≡ width → x ≤ width → run_of ((width - x) / 8) black (drop x row) ≡ k → 0 < k → whole_calls ((width - x) / 8) (drop x row) ≡ Chunk black k ∷ whole_calls ((width - (x + 8 * k)) / 8) (drop (x + 8 * k) row)
@@ -309,24 +309,24 @@ rest-last width x row len few =
 
 -- The calls of a row from a column on, its end with them.
 abbrev pub left_calls : Grid → ℕ → ℕ → List Call
-left_calls g y x = whole_calls ((g.width - x) / 8) (drop x (row_of g y)) ++ Line ∷ []
+left_calls g y x = whole_calls ((g.width - x) / 8) (drop x (row_of_grid g y)) ++ Line ∷ []
 
 pub left-start : (g : Grid) (y : ℕ) → line_calls g y ≡ left_calls g y 0
 left-start g y = ap (λ (cs : List Call). cs ++ Line ∷ []) (line-start g y)
 
-pub left-run : (g : Grid) (y x k : ℕ) (black : Bool) → x ≤ g.width → run_of ((g.width - x) / 8) black (drop x (row_of g y)) ≡ k → 0 < k → left_calls g y x ≡ (Chunk black k ∷ []) ++ left_calls g y (x + 8 * k)
+pub left-run : (g : Grid) (y x k : ℕ) (black : Bool) → x ≤ g.width → run_of ((g.width - x) / 8) black (drop x (row_of_grid g y)) ≡ k → 0 < k → left_calls g y x ≡ (Chunk black k ∷ []) ++ left_calls g y (x + 8 * k)
 left-run g y x k black within e some =
-    ap (λ (cs : List Call). cs ++ Line ∷ []) (run-first g.width x k black (row_of g y) (length-row g y) within e some)
+    ap (λ (cs : List Call). cs ++ Line ∷ []) (run-first g.width x k black (row_of_grid g y) (length-row g y) within e some)
 
-pub left-byte : (g : Grid) (y x : ℕ) → x + 8 ≤ g.width → run_of ((g.width - x) / 8) true (drop x (row_of g y)) ≡ 0 → run_of ((g.width - x) / 8) false (drop x (row_of g y)) ≡ 0 → left_calls g y x ≡ singles (take (x + 8 - x) (drop x (row_of g y))) ++ left_calls g y (x + 8)
+pub left-byte : (g : Grid) (y x : ℕ) → x + 8 ≤ g.width → run_of ((g.width - x) / 8) true (drop x (row_of_grid g y)) ≡ 0 → run_of ((g.width - x) / 8) false (drop x (row_of_grid g y)) ≡ 0 → left_calls g y x ≡ singles (take (x + 8 - x) (drop x (row_of_grid g y))) ++ left_calls g y (x + 8)
 left-byte g y x room black white =
-    let row = row_of g y in
+    let row = row_of_grid g y in
     ap (λ (cs : List Call). cs ++ Line ∷ []) (byte-first g.width x row room black white)
     ∙ append_assoc (singles (take (x + 8 - x) (drop x row))) (whole_calls ((g.width - (x + 8)) / 8) (drop (x + 8) row)) (Line ∷ [])
 
-pub left-last : (g : Grid) (y x width : ℕ) → width ≡ g.width → width - x < 8 → left_calls g y x ≡ singles (take (width - x) (drop x (row_of g y))) ++ Line ∷ []
+pub left-last : (g : Grid) (y x width : ℕ) → width ≡ g.width → width - x < 8 → left_calls g y x ≡ singles (take (width - x) (drop x (row_of_grid g y))) ++ Line ∷ []
 left-last g y x width is few =
-    let row = row_of g y in
+    let row = row_of_grid g y in
     ap (λ (cs : List Call). cs ++ Line ∷ []) (rest-last g.width x row (length-row g y) (omega arith))
     ∙ ap (λ (w : ℕ). singles (take (w - x) (drop x row)) ++ Line ∷ []) (sym is)
 

@@ -6,7 +6,7 @@ use Rattle.std.proofs.lemmas.Bool.{cond_both, and_parts}
 use Rattle.std.proofs.lemmas.List.{append_assoc, append-nil, replicate-append-replicate, take-append-drop, length-take-le, length-drop}
 use Rattle.std.proofs.lemmas.List.Sums.{sum_by-append}
 use Rattle.jbig2_base.specs.Grid.{Grid, same_colour}
-use Rattle.jbig2_page.specs.Calls.{Call, Pixel, Chunk, Line, is_all, is_line, singles, with_whole, with_byte, whole_calls, row_of, line_calls, calls_of, rows_after, DrawsGrid}
+use Rattle.jbig2_page.specs.Calls.{Call, Pixel, Chunk, Line, is_all, is_line, singles, with_whole, with_byte, whole_calls, row_of_grid, line_calls, calls_of, rows_after, DrawsGrid}
 use Rattle.jbig2_page.proofs.Runs.{length-row, colour_is}
 
 rows-singles : (front bits : List Bool) (cs : List Call) → rows_after (Some front) (singles bits ++ cs) ≡ rows_after (Some (front ++ bits)) cs
@@ -63,19 +63,19 @@ rows-start (Pixel b ∷ ds) cs = refl
 rows-start (Chunk b n ∷ ds) cs = refl
 rows-start (Line ∷ ds) cs = refl
 
-rows-line : (g : Grid) (y : ℕ) (cs : List Call) → rows_after None (line_calls g y ++ cs) ≡ row_of g y ∷ rows_after None cs
+rows-line : (g : Grid) (y : ℕ) (cs : List Call) → rows_after None (line_calls g y ++ cs) ≡ row_of_grid g y ∷ rows_after None cs
 rows-line g y cs =
-    ap (λ (calls : List Call). rows_after None calls) (append_assoc (whole_calls (length (row_of g y) / 8) (row_of g y)) (Line ∷ []) cs)
-    ∙ rows-start (whole_calls (length (row_of g y) / 8) (row_of g y)) cs
-    ∙ rows-calls (length (row_of g y) / 8) [] (row_of g y) (Line ∷ cs) (omega arith)
+    ap (λ (calls : List Call). rows_after None calls) (append_assoc (whole_calls (length (row_of_grid g y) / 8) (row_of_grid g y)) (Line ∷ []) cs)
+    ∙ rows-start (whole_calls (length (row_of_grid g y) / 8) (row_of_grid g y)) cs
+    ∙ rows-calls (length (row_of_grid g y) / 8) [] (row_of_grid g y) (Line ∷ cs) (omega arith)
 
-rows-lines : (g : Grid) (a n : ℕ) → rows_after None (flat_map (line_calls g) (range_with_len a n)) ≡ map (row_of g) (range_with_len a n)
+rows-lines : (g : Grid) (a n : ℕ) → rows_after None (flat_map (line_calls g) (range_with_len a n)) ≡ map (row_of_grid g) (range_with_len a n)
 rows-lines g a zero = refl
-rows-lines g a (suc n) = rows-line g a (flat_map (line_calls g) (range_with_len (a + 1) n)) ∙ ap (λ (rs : List (List Bool)). row_of g a ∷ rs) (rows-lines g (a + 1) n)
+rows-lines g a (suc n) = rows-line g a (flat_map (line_calls g) (range_with_len (a + 1) n)) ∙ ap (λ (rs : List (List Bool)). row_of_grid g a ∷ rs) (rows-lines g (a + 1) n)
 
-widths-rows : (g : Grid) (a n : ℕ) → All (λ row. length row ≡ g.width) (map (row_of g) (range_with_len a n))
+widths-rows : (g : Grid) (a n : ℕ) → All (λ row. length row ≡ g.width) (map (row_of_grid g) (range_with_len a n))
 widths-rows g a zero = All-nil (λ row. length row ≡ g.width)
-widths-rows g a (suc n) = All-cons (λ row. length row ≡ g.width) (row_of g a) (map (row_of g) (range_with_len (a + 1) n)) (length-row g a) (widths-rows g (a + 1) n)
+widths-rows g a (suc n) = All-cons (λ row. length row ≡ g.width) (row_of_grid g a) (map (row_of_grid g) (range_with_len (a + 1) n)) (length-row g a) (widths-rows g (a + 1) n)
 
 count-append : (cs ds : List Call) → count_by is_line (cs ++ ds) ≡ count_by is_line cs + count_by is_line ds
 count-append cs ds = sum_by-append (λ c. cond (is_line c) 1 0) cs ds
@@ -113,11 +113,11 @@ count-calls (suc n) bits =
 count-lines : (g : Grid) (a n : ℕ) → count_by is_line (flat_map (line_calls g) (range_with_len a n)) ≡ n
 count-lines g a zero = refl
 count-lines g a (suc n) =
-    let cs = whole_calls (length (row_of g a) / 8) (row_of g a) in
+    let cs = whole_calls (length (row_of_grid g a) / 8) (row_of_grid g a) in
     let rest = flat_map (line_calls g) (range_with_len (a + 1) n) in
     let line : List Call = Line ∷ [] in
     let one : count_by is_line line ≡ 1 = refl in
-    omega (arith, count-append (line_calls g a) rest, count-append cs line, count-calls (length (row_of g a) / 8) (row_of g a), count-lines g (a + 1) n, one)
+    omega (arith, count-append (line_calls g a) rest, count-append cs line, count-calls (length (row_of_grid g a) / 8) (row_of_grid g a), count-lines g (a + 1) n, one)
 
 pub spells : (g : Grid) → DrawsGrid (calls_of g) g
 unfolding calls_of

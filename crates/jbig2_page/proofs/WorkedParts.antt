@@ -19,7 +19,7 @@ use Rattle.jbig2_region.specs.Raster.{so_far, with_next, after_pixel, after_ltp,
 use Rattle.jbig2_region.specs.Refinement.{common_colour, offset, refined_context, refined_grid, refined_region}
 use Rattle.jbig2_region.specs.{RefinementHeader.{refinement_header_at}, RefinementTemplates.{refinement_pixels_at}}
 use Rattle.jbig2_region.specs.RegionInfo.{region_info_at}
-use Rattle.jbig2_page.specs.Calls.{Call, Chunk, Line, singles, whole_calls, row_of, calls_of}
+use Rattle.jbig2_page.specs.Calls.{Call, Chunk, Line, singles, whole_calls, row_of_grid, calls_of}
 use Rattle.jbig2_page.specs.Names.{no_names}
 use Rattle.jbig2_page.specs.Page.{beginning_of, page_from, grid_of_page, immediate}
 use Rattle.jbig2_page.specs.Regions.{generic_at, refinement_at}
@@ -39,11 +39,11 @@ part = (0 ∷ 0 ∷ 0 ∷ 1 ∷ 38 ∷ 0 ∷ 1 ∷ 0 ∷ 0 ∷ 0 ∷ 32 ∷ []) 
 
 -- its first row is whole
 row_R17_1-part : calls_salvaged (page 0 eight two 0 ++ part) ≡ Ok (singles (true ∷ false ∷ true ∷ false ∷ false ∷ true ∷ false ∷ true ∷ []) ++ Line ∷ white)
-unfolding calls_salvaged page_from segments_in segment_at header_at referred_at count_at type_of beginning_of information_at grid_of_page table pixel_at calls_of row_of whole_calls generic_at immediate generic_header_at region_info_at adaptive_pixel_at rows_at generic_grid generic_region decoded_region first_pixels at_next after_pixel with_next after_ltp so_far context_at choice decision byte_in byte_at byte_in_if_empty shift_left renormd initial_registers likely_next unlikely_next rows state_of drawn_pixel first_refused whole_rows
+unfolding calls_salvaged page_from segments_in segment_at header_at referred_at count_at type_of beginning_of information_at grid_of_page table pixel_at calls_of row_of_grid whole_calls generic_at immediate generic_header_at region_info_at adaptive_pixel_at rows_at generic_grid generic_region decoded_region first_pixels at_next after_pixel with_next after_ltp so_far context_at choice decision byte_in byte_at byte_in_if_empty shift_left renormd initial_registers likely_next unlikely_next rows state_of drawn_pixel first_refused whole_rows
 row_R17_1-part = refl
 
 row_R17_1-lenient : calls_at false (page 0 eight two 0 ++ part) ≡ Ok (white ++ white)
-unfolding calls_at page_from segments_in segment_at header_at referred_at count_at type_of beginning_of information_at grid_of_page table pixel_at calls_of row_of whole_calls first_refused
+unfolding calls_at page_from segments_in segment_at header_at referred_at count_at type_of beginning_of information_at grid_of_page table pixel_at calls_of row_of_grid whole_calls first_refused
 row_R17_1-lenient = refl
 
 -- an 8 by 2 refinement of the page at template 1 that lacks its last bytes: its first row is whole, and below it the page
@@ -52,7 +52,7 @@ abbrev refined : List ℕ
 refined = (0 ∷ 0 ∷ 0 ∷ 1 ∷ 42 ∷ 0 ∷ 1 ∷ 0 ∷ 0 ∷ 0 ∷ 32 ∷ []) ++ eight ++ two ++ (replicate 8 0 ++ 4 ∷ 1 ∷ 0x0E ∷ 0x71 ∷ 0xE0 ∷ [])
 
 row_R17_1-refined : calls_salvaged (page 0 eight two 4 ++ refined) ≡ Ok (singles (false ∷ true ∷ true ∷ true ∷ false ∷ true ∷ false ∷ false ∷ []) ++ Line ∷ Chunk true 1 ∷ Line ∷ [])
-unfolding calls_salvaged page_from segments_in segment_at header_at referred_at count_at type_of beginning_of information_at grid_of_page table pixel_at calls_of row_of whole_calls region_info_at decoded_region first_pixels at_next after_pixel with_next after_ltp so_far choice decision byte_in byte_at byte_in_if_empty shift_left renormd initial_registers likely_next unlikely_next rows state_of drawn_pixel immediate refinement_at refinement_header_at refinement_pixels_at offset refined_grid refined_region refined_context common_colour first_refused whole_rows refined_part
+unfolding calls_salvaged page_from segments_in segment_at header_at referred_at count_at type_of beginning_of information_at grid_of_page table pixel_at calls_of row_of_grid whole_calls region_info_at decoded_region first_pixels at_next after_pixel with_next after_ltp so_far choice decision byte_in byte_at byte_in_if_empty shift_left renormd initial_registers likely_next unlikely_next rows state_of drawn_pixel immediate refinement_at refinement_header_at refinement_pixels_at offset refined_grid refined_region refined_context common_colour first_refused whole_rows refined_part
 row_R17_1-refined = refl
 
 -- an 8 by 2 generic region of MMR data that lacks its last bytes: its first row is whole
@@ -60,5 +60,5 @@ abbrev mmr : List ℕ
 mmr = (0 ∷ 0 ∷ 0 ∷ 1 ∷ 38 ∷ 0 ∷ 1 ∷ 0 ∷ 0 ∷ 0 ∷ 32 ∷ []) ++ eight ++ two ++ (replicate 8 0 ++ 4 ∷ 1 ∷ 0x26 ∷ 0xAB ∷ [])
 
 row_R17_1-mmr : calls_salvaged (page 0 eight two 4 ++ mmr) ≡ Ok (singles (true ∷ replicate 7 false) ++ Line ∷ Chunk true 1 ∷ Line ∷ [])
-unfolding calls_salvaged page_from segments_in segment_at header_at referred_at count_at type_of beginning_of information_at grid_of_page table pixel_at calls_of row_of whole_calls generic_at immediate generic_header_at region_info_at rows_at drawn_pixel first_refused mmr_rows rows_of rows_from ends_block black_at row_from next_step after_vertical after_runs after_pass b2_of b1_of is_change_from is_change least run_from read_code modes white_runs black_runs longer_runs
+unfolding calls_salvaged page_from segments_in segment_at header_at referred_at count_at type_of beginning_of information_at grid_of_page table pixel_at calls_of row_of_grid whole_calls generic_at immediate generic_header_at region_info_at rows_at drawn_pixel first_refused mmr_rows rows_of rows_from ends_block black_at row_from next_step after_vertical after_runs after_pass b2_of b1_of is_change_from is_change least run_from read_code modes white_runs black_runs longer_runs
 row_R17_1-mmr = refl

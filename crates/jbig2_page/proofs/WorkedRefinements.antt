@@ -18,7 +18,7 @@ use Rattle.jbig2_region.specs.Raster.{so_far, with_next, after_pixel, after_ltp,
 use Rattle.jbig2_region.specs.Refinement.{common_colour, offset, refined_context, refined_grid, refined_region}
 use Rattle.jbig2_region.specs.{RefinementHeader.{refinement_header_at}, RefinementTemplates.{refinement_pixels_at}}
 use Rattle.jbig2_region.specs.RegionInfo.{region_info_at}
-use Rattle.jbig2_page.specs.Calls.{Chunk, Pixel, Line, singles, whole_calls, row_of, calls_of}
+use Rattle.jbig2_page.specs.Calls.{Chunk, Pixel, Line, singles, whole_calls, row_of_grid, calls_of}
 use Rattle.jbig2_page.specs.Page.{beginning_of, page_from, grid_of_page, immediate, intermediate}
 use Rattle.jbig2_page.specs.Regions.{generic_at, refinement_at}
 use Rattle.jbig2_page.proofs.WorkedRows.{calls_at, page, one, eight, white, origin}
@@ -46,45 +46,45 @@ abbrev far : List ℕ
 far = 128 ∷ 0 ∷ 0 ∷ 0 ∷ []
 
 row_R6_1 : calls_at true (page 0 eight one 0 ++ alone 42 (refined_by eight origin 1)) ≡ Ok (Chunk true 1 ∷ Line ∷ [])
-unfolding calls_at page_from segments_in segment_at header_at referred_at count_at type_of beginning_of information_at grid_of_page table pixel_at calls_of row_of whole_calls region_info_at decoded_region first_pixels at_next after_pixel with_next after_ltp so_far choice decision byte_in byte_at byte_in_if_empty shift_left renormd initial_registers likely_next unlikely_next rows state_of drawn_pixel immediate intermediate refinement_at refinement_header_at refinement_pixels_at offset refined_grid refined_region refined_context common_colour first_refused
+unfolding calls_at page_from segments_in segment_at header_at referred_at count_at type_of beginning_of information_at grid_of_page table pixel_at calls_of row_of_grid whole_calls region_info_at decoded_region first_pixels at_next after_pixel with_next after_ltp so_far choice decision byte_in byte_at byte_in_if_empty shift_left renormd initial_registers likely_next unlikely_next rows state_of drawn_pixel immediate intermediate refinement_at refinement_header_at refinement_pixels_at offset refined_grid refined_region refined_context common_colour first_refused
 row_R6_1 = refl
 
 row_R6_1-predicted : calls_at true (page 0 eight one 0 ++ alone 42 (refined_by eight origin 3)) ≡ Ok white
-unfolding calls_at page_from segments_in segment_at header_at referred_at count_at type_of beginning_of information_at grid_of_page table pixel_at calls_of row_of whole_calls region_info_at decoded_region first_pixels at_next after_pixel with_next after_ltp so_far choice decision byte_in byte_at byte_in_if_empty shift_left renormd initial_registers likely_next unlikely_next rows state_of drawn_pixel immediate intermediate refinement_at refinement_header_at refinement_pixels_at offset refined_grid refined_region refined_context common_colour first_refused
+unfolding calls_at page_from segments_in segment_at header_at referred_at count_at type_of beginning_of information_at grid_of_page table pixel_at calls_of row_of_grid whole_calls region_info_at decoded_region first_pixels at_next after_pixel with_next after_ltp so_far choice decision byte_in byte_at byte_in_if_empty shift_left renormd initial_registers likely_next unlikely_next rows state_of drawn_pixel immediate intermediate refinement_at refinement_header_at refinement_pixels_at offset refined_grid refined_region refined_context common_colour first_refused
 row_R6_1-predicted = refl
 
 row_R6_2 : calls_at true (page 0 eight one 0 ++ region ++ referring (refined_by eight origin 1)) ≡ Ok (singles (replicate 7 true) ++ Pixel false ∷ Line ∷ [])
-unfolding calls_at page_from segments_in segment_at header_at referred_at count_at type_of beginning_of information_at grid_of_page table pixel_at calls_of row_of whole_calls region_info_at decoded_region first_pixels at_next after_pixel with_next after_ltp so_far choice decision byte_in byte_at byte_in_if_empty shift_left renormd initial_registers likely_next unlikely_next rows state_of drawn_pixel immediate intermediate refinement_at refinement_header_at refinement_pixels_at offset refined_grid refined_region refined_context common_colour generic_at generic_header_at adaptive_pixel_at rows_at generic_grid generic_region context_at first_refused
+unfolding calls_at page_from segments_in segment_at header_at referred_at count_at type_of beginning_of information_at grid_of_page table pixel_at calls_of row_of_grid whole_calls region_info_at decoded_region first_pixels at_next after_pixel with_next after_ltp so_far choice decision byte_in byte_at byte_in_if_empty shift_left renormd initial_registers likely_next unlikely_next rows state_of drawn_pixel immediate intermediate refinement_at refinement_header_at refinement_pixels_at offset refined_grid refined_region refined_context common_colour generic_at generic_header_at adaptive_pixel_at rows_at generic_grid generic_region context_at first_refused
 row_R6_2 = refl
 
 row_R6_2-wider_strict : calls_at true (page 0 eight one 0 ++ region ++ referring (refined_by nine origin 1)) ≡ Err (Region InvalidDimension)
-unfolding calls_at page_from segments_in segment_at header_at referred_at count_at type_of beginning_of information_at grid_of_page table pixel_at calls_of row_of whole_calls region_info_at decoded_region first_pixels at_next after_pixel with_next after_ltp so_far choice decision byte_in byte_at byte_in_if_empty shift_left renormd initial_registers likely_next unlikely_next rows state_of drawn_pixel immediate intermediate refinement_at refinement_header_at refinement_pixels_at offset refined_grid refined_region refined_context common_colour generic_at generic_header_at adaptive_pixel_at rows_at generic_grid generic_region context_at first_refused
+unfolding calls_at page_from segments_in segment_at header_at referred_at count_at type_of beginning_of information_at grid_of_page table pixel_at calls_of row_of_grid whole_calls region_info_at decoded_region first_pixels at_next after_pixel with_next after_ltp so_far choice decision byte_in byte_at byte_in_if_empty shift_left renormd initial_registers likely_next unlikely_next rows state_of drawn_pixel immediate intermediate refinement_at refinement_header_at refinement_pixels_at offset refined_grid refined_region refined_context common_colour generic_at generic_header_at adaptive_pixel_at rows_at generic_grid generic_region context_at first_refused
 row_R6_2-wider_strict = refl
 
 row_R6_2-wider_lenient : calls_at false (page 0 eight one 0 ++ region ++ referring (refined_by nine origin 1)) ≡ Ok white
-unfolding calls_at page_from segments_in segment_at header_at referred_at count_at type_of beginning_of information_at grid_of_page table pixel_at calls_of row_of whole_calls region_info_at decoded_region first_pixels at_next after_pixel with_next after_ltp so_far choice decision byte_in byte_at byte_in_if_empty shift_left renormd initial_registers likely_next unlikely_next rows state_of drawn_pixel immediate intermediate refinement_at refinement_header_at refinement_pixels_at offset refined_grid refined_region refined_context common_colour generic_at generic_header_at adaptive_pixel_at rows_at generic_grid generic_region context_at first_refused
+unfolding calls_at page_from segments_in segment_at header_at referred_at count_at type_of beginning_of information_at grid_of_page table pixel_at calls_of row_of_grid whole_calls region_info_at decoded_region first_pixels at_next after_pixel with_next after_ltp so_far choice decision byte_in byte_at byte_in_if_empty shift_left renormd initial_registers likely_next unlikely_next rows state_of drawn_pixel immediate intermediate refinement_at refinement_header_at refinement_pixels_at offset refined_grid refined_region refined_context common_colour generic_at generic_header_at adaptive_pixel_at rows_at generic_grid generic_region context_at first_refused
 row_R6_2-wider_lenient = refl
 
 row_R6_2-unnamed_strict : calls_at true (page 0 eight one 0 ++ referring (refined_by eight origin 1)) ≡ Err (Segment InvalidReference)
-unfolding calls_at page_from segments_in segment_at header_at referred_at count_at type_of beginning_of information_at grid_of_page table pixel_at calls_of row_of whole_calls region_info_at decoded_region first_pixels at_next after_pixel with_next after_ltp so_far choice decision byte_in byte_at byte_in_if_empty shift_left renormd initial_registers likely_next unlikely_next rows state_of drawn_pixel immediate intermediate refinement_at refinement_header_at refinement_pixels_at offset refined_grid refined_region refined_context common_colour first_refused
+unfolding calls_at page_from segments_in segment_at header_at referred_at count_at type_of beginning_of information_at grid_of_page table pixel_at calls_of row_of_grid whole_calls region_info_at decoded_region first_pixels at_next after_pixel with_next after_ltp so_far choice decision byte_in byte_at byte_in_if_empty shift_left renormd initial_registers likely_next unlikely_next rows state_of drawn_pixel immediate intermediate refinement_at refinement_header_at refinement_pixels_at offset refined_grid refined_region refined_context common_colour first_refused
 row_R6_2-unnamed_strict = refl
 
 row_R6_2-unnamed_lenient : calls_at false (page 0 eight one 0 ++ referring (refined_by eight origin 1)) ≡ Ok (Chunk true 1 ∷ Line ∷ [])
-unfolding calls_at page_from segments_in segment_at header_at referred_at count_at type_of beginning_of information_at grid_of_page table pixel_at calls_of row_of whole_calls region_info_at decoded_region first_pixels at_next after_pixel with_next after_ltp so_far choice decision byte_in byte_at byte_in_if_empty shift_left renormd initial_registers likely_next unlikely_next rows state_of drawn_pixel immediate intermediate refinement_at refinement_header_at refinement_pixels_at offset refined_grid refined_region refined_context common_colour first_refused
+unfolding calls_at page_from segments_in segment_at header_at referred_at count_at type_of beginning_of information_at grid_of_page table pixel_at calls_of row_of_grid whole_calls region_info_at decoded_region first_pixels at_next after_pixel with_next after_ltp so_far choice decision byte_in byte_at byte_in_if_empty shift_left renormd initial_registers likely_next unlikely_next rows state_of drawn_pixel immediate intermediate refinement_at refinement_header_at refinement_pixels_at offset refined_grid refined_region refined_context common_colour first_refused
 row_R6_2-unnamed_lenient = refl
 
 row_R6_3-far_strict : calls_at true (page 0 eight one 0 ++ alone 42 (refined_by eight far 1)) ≡ Err (Overflow ReferenceOffset)
-unfolding calls_at page_from segments_in segment_at header_at referred_at count_at type_of beginning_of information_at grid_of_page table pixel_at calls_of row_of whole_calls region_info_at decoded_region first_pixels at_next after_pixel with_next after_ltp so_far choice decision byte_in byte_at byte_in_if_empty shift_left renormd initial_registers likely_next unlikely_next rows state_of drawn_pixel immediate intermediate refinement_at refinement_header_at refinement_pixels_at offset refined_grid refined_region refined_context common_colour first_refused
+unfolding calls_at page_from segments_in segment_at header_at referred_at count_at type_of beginning_of information_at grid_of_page table pixel_at calls_of row_of_grid whole_calls region_info_at decoded_region first_pixels at_next after_pixel with_next after_ltp so_far choice decision byte_in byte_at byte_in_if_empty shift_left renormd initial_registers likely_next unlikely_next rows state_of drawn_pixel immediate intermediate refinement_at refinement_header_at refinement_pixels_at offset refined_grid refined_region refined_context common_colour first_refused
 row_R6_3-far_strict = refl
 
 row_R6_3-far_lenient : calls_at false (page 0 eight one 0 ++ alone 42 (refined_by eight far 1)) ≡ Ok white
-unfolding calls_at page_from segments_in segment_at header_at referred_at count_at type_of beginning_of information_at grid_of_page table pixel_at calls_of row_of whole_calls region_info_at decoded_region first_pixels at_next after_pixel with_next after_ltp so_far choice decision byte_in byte_at byte_in_if_empty shift_left renormd initial_registers likely_next unlikely_next rows state_of drawn_pixel immediate intermediate refinement_at refinement_header_at refinement_pixels_at offset refined_grid refined_region refined_context common_colour first_refused
+unfolding calls_at page_from segments_in segment_at header_at referred_at count_at type_of beginning_of information_at grid_of_page table pixel_at calls_of row_of_grid whole_calls region_info_at decoded_region first_pixels at_next after_pixel with_next after_ltp so_far choice decision byte_in byte_at byte_in_if_empty shift_left renormd initial_registers likely_next unlikely_next rows state_of drawn_pixel immediate intermediate refinement_at refinement_header_at refinement_pixels_at offset refined_grid refined_region refined_context common_colour first_refused
 row_R6_3-far_lenient = refl
 
 row_R6_3-alone_strict : calls_at true (page 0 eight one 0 ++ alone 40 (refined_by eight origin 1)) ≡ Err (Segment InvalidReference)
-unfolding calls_at page_from segments_in segment_at header_at referred_at count_at type_of beginning_of information_at grid_of_page table pixel_at calls_of row_of whole_calls region_info_at decoded_region first_pixels at_next after_pixel with_next after_ltp so_far choice decision byte_in byte_at byte_in_if_empty shift_left renormd initial_registers likely_next unlikely_next rows state_of drawn_pixel immediate intermediate refinement_at refinement_header_at refinement_pixels_at offset refined_grid refined_region refined_context common_colour first_refused
+unfolding calls_at page_from segments_in segment_at header_at referred_at count_at type_of beginning_of information_at grid_of_page table pixel_at calls_of row_of_grid whole_calls region_info_at decoded_region first_pixels at_next after_pixel with_next after_ltp so_far choice decision byte_in byte_at byte_in_if_empty shift_left renormd initial_registers likely_next unlikely_next rows state_of drawn_pixel immediate intermediate refinement_at refinement_header_at refinement_pixels_at offset refined_grid refined_region refined_context common_colour first_refused
 row_R6_3-alone_strict = refl
 
 row_R6_3-alone_lenient : calls_at false (page 0 eight one 0 ++ alone 40 (refined_by eight origin 1)) ≡ Ok white
-unfolding calls_at page_from segments_in segment_at header_at referred_at count_at type_of beginning_of information_at grid_of_page table pixel_at calls_of row_of whole_calls region_info_at decoded_region first_pixels at_next after_pixel with_next after_ltp so_far choice decision byte_in byte_at byte_in_if_empty shift_left renormd initial_registers likely_next unlikely_next rows state_of drawn_pixel immediate intermediate refinement_at refinement_header_at refinement_pixels_at offset refined_grid refined_region refined_context common_colour first_refused
+unfolding calls_at page_from segments_in segment_at header_at referred_at count_at type_of beginning_of information_at grid_of_page table pixel_at calls_of row_of_grid whole_calls region_info_at decoded_region first_pixels at_next after_pixel with_next after_ltp so_far choice decision byte_in byte_at byte_in_if_empty shift_left renormd initial_registers likely_next unlikely_next rows state_of drawn_pixel immediate intermediate refinement_at refinement_header_at refinement_pixels_at offset refined_grid refined_region refined_context common_colour first_refused
 row_R6_3-alone_lenient = refl

@@ -19,7 +19,7 @@ use Rattle.jbig2_region.specs.{Templates.{adaptive_pixel_at}, GenericHeader.{row
 use Rattle.jbig2_region.specs.Raster.{so_far, with_next, after_pixel, after_ltp, at_next, first_pixels, decoded_region}
 use Rattle.jbig2_region.specs.RegionInfo.{region_info_at}
 use Rattle.jbig2_framing.specs.Reading.{reading_of}
-use Rattle.jbig2_page.specs.Calls.{Call, Pixel, Chunk, Line, singles, whole_calls, row_of, calls_of}
+use Rattle.jbig2_page.specs.Calls.{Call, Pixel, Chunk, Line, singles, whole_calls, row_of_grid, calls_of}
 use Rattle.jbig2_page.specs.Names.{no_names}
 use Rattle.jbig2_page.specs.Page.{beginning_of, page_from, grid_of_page, immediate}
 use Rattle.jbig2_page.specs.Regions.{generic_at}
@@ -49,15 +49,15 @@ abbrev pub white : List Call
 white = Chunk false 1 ∷ Line ∷ []
 
 row_5 : calls_at true (page 0 eight one 0) ≡ Ok white
-unfolding calls_at page_from segments_in segment_at header_at referred_at count_at type_of beginning_of information_at grid_of_page table pixel_at calls_of row_of whole_calls first_refused
+unfolding calls_at page_from segments_in segment_at header_at referred_at count_at type_of beginning_of information_at grid_of_page table pixel_at calls_of row_of_grid whole_calls first_refused
 row_5 = refl
 
 row_5-black : calls_at false (page 0 eight one 4) ≡ Ok (Chunk true 1 ∷ Line ∷ [])
-unfolding calls_at page_from segments_in segment_at header_at referred_at count_at type_of beginning_of information_at grid_of_page table pixel_at calls_of row_of whole_calls first_refused
+unfolding calls_at page_from segments_in segment_at header_at referred_at count_at type_of beginning_of information_at grid_of_page table pixel_at calls_of row_of_grid whole_calls first_refused
 row_5-black = refl
 
 row_5-nine : calls_at true (page 0 (0 ∷ 0 ∷ 0 ∷ 9 ∷ []) one 0) ≡ Ok (Chunk false 1 ∷ Pixel false ∷ Line ∷ [])
-unfolding calls_at page_from segments_in segment_at header_at referred_at count_at type_of beginning_of information_at grid_of_page table pixel_at calls_of row_of whole_calls first_refused
+unfolding calls_at page_from segments_in segment_at header_at referred_at count_at type_of beginning_of information_at grid_of_page table pixel_at calls_of row_of_grid whole_calls first_refused
 row_5-nine = refl
 
 row_5-too_wide : calls_at true (page 0 (0 ∷ 1 ∷ 0 ∷ 0 ∷ []) one 0) ≡ Err (Overflow BitmapDimension)
@@ -73,7 +73,7 @@ unfolding calls_at page_from segments_in segment_at header_at referred_at count_
 row_6 = refl
 
 row_6-stripe : calls_at true (page 0 eight unknown 0 ++ stripe) ≡ Ok (white ++ white)
-unfolding calls_at page_from segments_in segment_at header_at referred_at count_at type_of beginning_of information_at grid_of_page table pixel_at calls_of row_of whole_calls first_refused
+unfolding calls_at page_from segments_in segment_at header_at referred_at count_at type_of beginning_of information_at grid_of_page table pixel_at calls_of row_of_grid whole_calls first_refused
 row_6-stripe = refl
 
 row_14-strict : calls_at true (page 0 eight one 0 ++ 0 ∷ 0 ∷ 0 ∷ 1 ∷ 38 ∷ []) ≡ Err (Parse UnexpectedEof)
@@ -81,7 +81,7 @@ unfolding calls_at page_from segments_in segment_at header_at referred_at count_
 row_14-strict = refl
 
 row_14-lenient : calls_at false (page 0 eight one 0 ++ 0 ∷ 0 ∷ 0 ∷ 1 ∷ 38 ∷ []) ≡ Ok white
-unfolding calls_at page_from segments_in segment_at header_at referred_at count_at type_of beginning_of information_at grid_of_page table pixel_at calls_of row_of whole_calls first_refused
+unfolding calls_at page_from segments_in segment_at header_at referred_at count_at type_of beginning_of information_at grid_of_page table pixel_at calls_of row_of_grid whole_calls first_refused
 row_14-lenient = refl
 
 -- an extension with number 1 whose data is this
@@ -89,23 +89,23 @@ abbrev extended : ℕ → List ℕ → List ℕ
 extended length bytes = 0 ∷ 0 ∷ 0 ∷ 1 ∷ 62 ∷ 0 ∷ 1 ∷ 0 ∷ 0 ∷ 0 ∷ length ∷ bytes
 
 row_R1_1-strict : calls_at true (page 0 eight one 0 ++ extended 4 (128 ∷ 0 ∷ 0 ∷ 0 ∷ [])) ≡ Err Unsupported
-unfolding calls_at page_from segments_in segment_at header_at referred_at count_at type_of beginning_of information_at grid_of_page table pixel_at calls_of row_of whole_calls first_refused
+unfolding calls_at page_from segments_in segment_at header_at referred_at count_at type_of beginning_of information_at grid_of_page table pixel_at calls_of row_of_grid whole_calls first_refused
 row_R1_1-strict = refl
 
 row_R1_1-lenient : calls_at false (page 0 eight one 0 ++ extended 4 (128 ∷ 0 ∷ 0 ∷ 0 ∷ [])) ≡ Ok white
-unfolding calls_at page_from segments_in segment_at header_at referred_at count_at type_of beginning_of information_at grid_of_page table pixel_at calls_of row_of whole_calls first_refused
+unfolding calls_at page_from segments_in segment_at header_at referred_at count_at type_of beginning_of information_at grid_of_page table pixel_at calls_of row_of_grid whole_calls first_refused
 row_R1_1-lenient = refl
 
 row_R1_1-short : calls_at true (page 0 eight one 0 ++ extended 3 (128 ∷ 0 ∷ 0 ∷ [])) ≡ Err (Parse UnexpectedEof)
-unfolding calls_at page_from segments_in segment_at header_at referred_at count_at type_of beginning_of information_at grid_of_page table pixel_at calls_of row_of whole_calls first_refused
+unfolding calls_at page_from segments_in segment_at header_at referred_at count_at type_of beginning_of information_at grid_of_page table pixel_at calls_of row_of_grid whole_calls first_refused
 row_R1_1-short = refl
 
 row_R1_1-short_lenient : calls_at false (page 0 eight one 0 ++ extended 3 (128 ∷ 0 ∷ 0 ∷ [])) ≡ Ok white
-unfolding calls_at page_from segments_in segment_at header_at referred_at count_at type_of beginning_of information_at grid_of_page table pixel_at calls_of row_of whole_calls first_refused
+unfolding calls_at page_from segments_in segment_at header_at referred_at count_at type_of beginning_of information_at grid_of_page table pixel_at calls_of row_of_grid whole_calls first_refused
 row_R1_1-short_lenient = refl
 
 row_R1_2 : calls_at true (page 5 eight unknown 0 ++ stripe) ≡ Ok (white ++ white)
-unfolding calls_at page_from segments_in segment_at header_at referred_at count_at type_of beginning_of information_at grid_of_page table pixel_at calls_of row_of whole_calls first_refused
+unfolding calls_at page_from segments_in segment_at header_at referred_at count_at type_of beginning_of information_at grid_of_page table pixel_at calls_of row_of_grid whole_calls first_refused
 row_R1_2 = refl
 
 -- a 1 by 1 generic region without coded bytes, with number 1, at this place and with these flags
@@ -116,17 +116,17 @@ abbrev pub origin : List ℕ
 origin = 0 ∷ 0 ∷ 0 ∷ 0 ∷ []
 
 row_7 : calls_at true (page 0 eight one 0 ++ dot_at origin 0) ≡ Ok (Pixel true ∷ (singles (replicate 7 false) ++ Line ∷ []))
-unfolding calls_at page_from segments_in segment_at header_at referred_at count_at type_of beginning_of information_at grid_of_page table pixel_at calls_of row_of whole_calls generic_at immediate generic_header_at region_info_at adaptive_pixel_at rows_at generic_grid generic_region decoded_region first_pixels at_next after_pixel with_next after_ltp so_far context_at choice decision byte_in byte_at byte_in_if_empty shift_left renormd initial_registers likely_next unlikely_next rows state_of drawn_pixel first_refused
+unfolding calls_at page_from segments_in segment_at header_at referred_at count_at type_of beginning_of information_at grid_of_page table pixel_at calls_of row_of_grid whole_calls generic_at immediate generic_header_at region_info_at adaptive_pixel_at rows_at generic_grid generic_region decoded_region first_pixels at_next after_pixel with_next after_ltp so_far context_at choice decision byte_in byte_at byte_in_if_empty shift_left renormd initial_registers likely_next unlikely_next rows state_of drawn_pixel first_refused
 row_7 = refl
 
 row_7-left_of_the_page : calls_at true (page 0 eight one 0 ++ dot_at unknown 0) ≡ Ok white
-unfolding calls_at page_from segments_in segment_at header_at referred_at count_at type_of beginning_of information_at grid_of_page table pixel_at calls_of row_of whole_calls generic_at immediate generic_header_at region_info_at adaptive_pixel_at rows_at generic_grid generic_region decoded_region first_pixels at_next after_pixel with_next after_ltp so_far context_at choice decision byte_in byte_at byte_in_if_empty shift_left renormd initial_registers likely_next unlikely_next rows state_of drawn_pixel first_refused
+unfolding calls_at page_from segments_in segment_at header_at referred_at count_at type_of beginning_of information_at grid_of_page table pixel_at calls_of row_of_grid whole_calls generic_at immediate generic_header_at region_info_at adaptive_pixel_at rows_at generic_grid generic_region decoded_region first_pixels at_next after_pixel with_next after_ltp so_far context_at choice decision byte_in byte_at byte_in_if_empty shift_left renormd initial_registers likely_next unlikely_next rows state_of drawn_pixel first_refused
 row_7-left_of_the_page = refl
 
 row_R2_1-xnor : calls_at true (page 0 eight one 4 ++ dot_at origin 3) ≡ Ok (Chunk true 1 ∷ Line ∷ [])
-unfolding calls_at page_from segments_in segment_at header_at referred_at count_at type_of beginning_of information_at grid_of_page table pixel_at calls_of row_of whole_calls generic_at immediate generic_header_at region_info_at adaptive_pixel_at rows_at generic_grid generic_region decoded_region first_pixels at_next after_pixel with_next after_ltp so_far context_at choice decision byte_in byte_at byte_in_if_empty shift_left renormd initial_registers likely_next unlikely_next rows state_of drawn_pixel first_refused
+unfolding calls_at page_from segments_in segment_at header_at referred_at count_at type_of beginning_of information_at grid_of_page table pixel_at calls_of row_of_grid whole_calls generic_at immediate generic_header_at region_info_at adaptive_pixel_at rows_at generic_grid generic_region decoded_region first_pixels at_next after_pixel with_next after_ltp so_far context_at choice decision byte_in byte_at byte_in_if_empty shift_left renormd initial_registers likely_next unlikely_next rows state_of drawn_pixel first_refused
 row_R2_1-xnor = refl
 
 row_R2_1-colour : calls_at false (page 0 eight one 0 ++ dot_at origin 8) ≡ Ok white
-unfolding calls_at page_from segments_in segment_at header_at referred_at count_at type_of beginning_of information_at grid_of_page table pixel_at calls_of row_of whole_calls generic_at immediate generic_header_at region_info_at adaptive_pixel_at rows_at generic_grid generic_region decoded_region first_pixels at_next after_pixel with_next after_ltp so_far context_at choice decision byte_in byte_at byte_in_if_empty shift_left renormd initial_registers likely_next unlikely_next rows state_of drawn_pixel first_refused
+unfolding calls_at page_from segments_in segment_at header_at referred_at count_at type_of beginning_of information_at grid_of_page table pixel_at calls_of row_of_grid whole_calls generic_at immediate generic_header_at region_info_at adaptive_pixel_at rows_at generic_grid generic_region decoded_region first_pixels at_next after_pixel with_next after_ltp so_far context_at choice decision byte_in byte_at byte_in_if_empty shift_left renormd initial_registers likely_next unlikely_next rows state_of drawn_pixel first_refused
 row_R2_1-colour = refl

@@ -30,7 +30,7 @@ use Rattle.jbig2_text.specs.TextHeader.{text_fields_at, text_flags_at, text_head
 use Rattle.jbig2_text.specs.TextRegion.{region_from, text_tables, text_result, text_decoded}
 use Rattle.jbig2_framing.specs.Reading.{reading_of}
 use Rattle.jbig2_framing.specs.declared.reading.Reading.TheVariants.{Salvage}
-use Rattle.jbig2_page.specs.Calls.{Call, Pixel, Line, singles, whole_calls, row_of, calls_of}
+use Rattle.jbig2_page.specs.Calls.{Call, Pixel, Line, singles, whole_calls, row_of_grid, calls_of}
 use Rattle.jbig2_page.specs.Names.{symbol_dictionary_at, with_symbols, globals_at, no_names}
 use Rattle.jbig2_page.specs.Page.{beginning_of, page_from, grid_of_page, immediate}
 use Rattle.jbig2_page.specs.Regions.{text_at}
@@ -52,38 +52,38 @@ abbrev dot : List Call
 dot = Pixel true ∷ (singles (replicate 7 false) ++ Line ∷ [])
 
 row_11 : calls_at true (page 0 eight one 0 ++ dictionary 1 0x80 ++ text 1) ≡ Ok dot
-unfolding calls_at page_from segments_in segment_at header_at referred_at count_at type_of beginning_of information_at grid_of_page table pixel_at calls_of row_of whole_calls with_symbols symbol_dictionary_at symbol_header_at symbol_flags_of symbols_decoded first_contexts symbol_tables table_for classes_from height_class collective_class widths_from next_width collective_bitmap raw_rows bit symbols_cut symbol_cut exports runs_from next_run exported_from ended_runs lines_a lines_b lines_d immediate text_at text_header_at region_info_at text_fields_at text_flags_at symbol_codes_from runcodes_at symbol_lengths_at short_lengths runs_at text_decoded text_result region_from text_tables text_region after_instances with_instance symbol_placed instance_symbol next_cursor strip_start strip_delta lines_f lines_h lines_k drawn_pixel prefix_code is_crowded weight shorter read_code least decoded_value bits_left bits_on first_refused
+unfolding calls_at page_from segments_in segment_at header_at referred_at count_at type_of beginning_of information_at grid_of_page table pixel_at calls_of row_of_grid whole_calls with_symbols symbol_dictionary_at symbol_header_at symbol_flags_of symbols_decoded first_contexts symbol_tables table_for classes_from height_class collective_class widths_from next_width collective_bitmap raw_rows bit symbols_cut symbol_cut exports runs_from next_run exported_from ended_runs lines_a lines_b lines_d immediate text_at text_header_at region_info_at text_fields_at text_flags_at symbol_codes_from runcodes_at symbol_lengths_at short_lengths runs_at text_decoded text_result region_from text_tables text_region after_instances with_instance symbol_placed instance_symbol next_cursor strip_start strip_delta lines_f lines_h lines_k drawn_pixel prefix_code is_crowded weight shorter read_code least decoded_value bits_left bits_on first_refused
 row_11 = refl
 
 row_12-strict : calls_at true (page 0 eight one 0 ++ dictionary 1 0x80 ++ text 2) ≡ Err (Parse UnexpectedEof)
-unfolding calls_at page_from segments_in segment_at header_at referred_at count_at type_of beginning_of information_at grid_of_page table pixel_at calls_of row_of whole_calls with_symbols symbol_dictionary_at symbol_header_at symbol_flags_of symbols_decoded first_contexts symbol_tables table_for classes_from height_class collective_class widths_from next_width collective_bitmap raw_rows bit symbols_cut symbol_cut exports runs_from next_run exported_from ended_runs lines_a lines_b lines_d immediate text_at text_header_at region_info_at text_fields_at text_flags_at symbol_codes_from runcodes_at symbol_lengths_at short_lengths runs_at text_decoded text_result region_from text_tables text_region after_instances with_instance symbol_placed instance_symbol next_cursor strip_start strip_delta lines_f lines_h lines_k drawn_pixel prefix_code is_crowded weight shorter read_code least decoded_value bits_left bits_on first_refused
+unfolding calls_at page_from segments_in segment_at header_at referred_at count_at type_of beginning_of information_at grid_of_page table pixel_at calls_of row_of_grid whole_calls with_symbols symbol_dictionary_at symbol_header_at symbol_flags_of symbols_decoded first_contexts symbol_tables table_for classes_from height_class collective_class widths_from next_width collective_bitmap raw_rows bit symbols_cut symbol_cut exports runs_from next_run exported_from ended_runs lines_a lines_b lines_d immediate text_at text_header_at region_info_at text_fields_at text_flags_at symbol_codes_from runcodes_at symbol_lengths_at short_lengths runs_at text_decoded text_result region_from text_tables text_region after_instances with_instance symbol_placed instance_symbol next_cursor strip_start strip_delta lines_f lines_h lines_k drawn_pixel prefix_code is_crowded weight shorter read_code least decoded_value bits_left bits_on first_refused
 row_12-strict = refl
 
 row_12-lenient : calls_at false (page 0 eight one 0 ++ dictionary 1 0x80 ++ text 2) ≡ Ok white
-unfolding calls_at page_from segments_in segment_at header_at referred_at count_at type_of beginning_of information_at grid_of_page table pixel_at calls_of row_of whole_calls with_symbols symbol_dictionary_at symbol_header_at symbol_flags_of symbols_decoded first_contexts symbol_tables table_for classes_from height_class collective_class widths_from next_width collective_bitmap raw_rows bit symbols_cut symbol_cut exports runs_from next_run exported_from ended_runs lines_a lines_b lines_d immediate text_at text_header_at region_info_at text_fields_at text_flags_at symbol_codes_from runcodes_at symbol_lengths_at short_lengths runs_at text_decoded text_result region_from text_tables text_region after_instances with_instance symbol_placed instance_symbol next_cursor strip_start strip_delta lines_f lines_h lines_k drawn_pixel prefix_code is_crowded weight shorter read_code least decoded_value bits_left bits_on first_refused
+unfolding calls_at page_from segments_in segment_at header_at referred_at count_at type_of beginning_of information_at grid_of_page table pixel_at calls_of row_of_grid whole_calls with_symbols symbol_dictionary_at symbol_header_at symbol_flags_of symbols_decoded first_contexts symbol_tables table_for classes_from height_class collective_class widths_from next_width collective_bitmap raw_rows bit symbols_cut symbol_cut exports runs_from next_run exported_from ended_runs lines_a lines_b lines_d immediate text_at text_header_at region_info_at text_fields_at text_flags_at symbol_codes_from runcodes_at symbol_lengths_at short_lengths runs_at text_decoded text_result region_from text_tables text_region after_instances with_instance symbol_placed instance_symbol next_cursor strip_start strip_delta lines_f lines_h lines_k drawn_pixel prefix_code is_crowded weight shorter read_code least decoded_value bits_left bits_on first_refused
 row_12-lenient = refl
 
 -- the first of two dictionaries of one number
 row_R13_3 : calls_at true (page 0 eight one 0 ++ dictionary 1 0x80 ++ dictionary 1 0 ++ text 1) ≡ Ok dot
-unfolding calls_at page_from segments_in segment_at header_at referred_at count_at type_of beginning_of information_at grid_of_page table pixel_at calls_of row_of whole_calls with_symbols symbol_dictionary_at symbol_header_at symbol_flags_of symbols_decoded first_contexts symbol_tables table_for classes_from height_class collective_class widths_from next_width collective_bitmap raw_rows bit symbols_cut symbol_cut exports runs_from next_run exported_from ended_runs lines_a lines_b lines_d immediate text_at text_header_at region_info_at text_fields_at text_flags_at symbol_codes_from runcodes_at symbol_lengths_at short_lengths runs_at text_decoded text_result region_from text_tables text_region after_instances with_instance symbol_placed instance_symbol next_cursor strip_start strip_delta lines_f lines_h lines_k drawn_pixel prefix_code is_crowded weight shorter read_code least decoded_value bits_left bits_on first_refused
+unfolding calls_at page_from segments_in segment_at header_at referred_at count_at type_of beginning_of information_at grid_of_page table pixel_at calls_of row_of_grid whole_calls with_symbols symbol_dictionary_at symbol_header_at symbol_flags_of symbols_decoded first_contexts symbol_tables table_for classes_from height_class collective_class widths_from next_width collective_bitmap raw_rows bit symbols_cut symbol_cut exports runs_from next_run exported_from ended_runs lines_a lines_b lines_d immediate text_at text_header_at region_info_at text_fields_at text_flags_at symbol_codes_from runcodes_at symbol_lengths_at short_lengths runs_at text_decoded text_result region_from text_tables text_region after_instances with_instance symbol_placed instance_symbol next_cursor strip_start strip_delta lines_f lines_h lines_k drawn_pixel prefix_code is_crowded weight shorter read_code least decoded_value bits_left bits_on first_refused
 row_R13_3 = refl
 
 -- a dictionary's error is never passed over
 row_R8_1-lenient : calls_at false (page 0 eight one 0 ++ dictionary 9 0x80) ≡ Err (Huffman InvalidSelection)
-unfolding calls_at page_from segments_in segment_at header_at referred_at count_at type_of beginning_of information_at grid_of_page table pixel_at calls_of row_of whole_calls with_symbols symbol_dictionary_at symbol_header_at symbol_flags_of symbols_decoded first_contexts symbol_tables table_for classes_from height_class collective_class widths_from next_width collective_bitmap raw_rows bit symbols_cut symbol_cut exports runs_from next_run exported_from ended_runs lines_a lines_b lines_d prefix_code is_crowded weight shorter read_code least decoded_value bits_left bits_on first_refused
+unfolding calls_at page_from segments_in segment_at header_at referred_at count_at type_of beginning_of information_at grid_of_page table pixel_at calls_of row_of_grid whole_calls with_symbols symbol_dictionary_at symbol_header_at symbol_flags_of symbols_decoded first_contexts symbol_tables table_for classes_from height_class collective_class widths_from next_width collective_bitmap raw_rows bit symbols_cut symbol_cut exports runs_from next_run exported_from ended_runs lines_a lines_b lines_d prefix_code is_crowded weight shorter read_code least decoded_value bits_left bits_on first_refused
 row_R8_1-lenient = refl
 
 -- a number that names nothing
 unnamed-strict : calls_at true (page 0 eight one 0 ++ text 1) ≡ Err (Segment InvalidReference)
-unfolding calls_at page_from segments_in segment_at header_at referred_at count_at type_of beginning_of information_at grid_of_page table pixel_at calls_of row_of whole_calls immediate text_at text_header_at region_info_at text_fields_at text_flags_at symbol_codes_from runcodes_at symbol_lengths_at short_lengths runs_at text_decoded text_result region_from text_tables text_region after_instances with_instance symbol_placed instance_symbol next_cursor strip_start strip_delta lines_f lines_h lines_k drawn_pixel prefix_code is_crowded weight shorter read_code least decoded_value bits_left bits_on first_refused
+unfolding calls_at page_from segments_in segment_at header_at referred_at count_at type_of beginning_of information_at grid_of_page table pixel_at calls_of row_of_grid whole_calls immediate text_at text_header_at region_info_at text_fields_at text_flags_at symbol_codes_from runcodes_at symbol_lengths_at short_lengths runs_at text_decoded text_result region_from text_tables text_region after_instances with_instance symbol_placed instance_symbol next_cursor strip_start strip_delta lines_f lines_h lines_k drawn_pixel prefix_code is_crowded weight shorter read_code least decoded_value bits_left bits_on first_refused
 unnamed-strict = refl
 
 row_R9_2 : calls_with true (dictionary 1 0x80) (page 0 eight one 0 ++ text 1) ≡ Ok dot
-unfolding calls_with globals_at page_from segments_in segment_at header_at referred_at count_at type_of beginning_of information_at grid_of_page table pixel_at calls_of row_of whole_calls with_symbols symbol_dictionary_at symbol_header_at symbol_flags_of symbols_decoded first_contexts symbol_tables table_for classes_from height_class collective_class widths_from next_width collective_bitmap raw_rows bit symbols_cut symbol_cut exports runs_from next_run exported_from ended_runs lines_a lines_b lines_d immediate text_at text_header_at region_info_at text_fields_at text_flags_at symbol_codes_from runcodes_at symbol_lengths_at short_lengths runs_at text_decoded text_result region_from text_tables text_region after_instances with_instance symbol_placed instance_symbol next_cursor strip_start strip_delta lines_f lines_h lines_k drawn_pixel prefix_code is_crowded weight shorter read_code least decoded_value bits_left bits_on first_refused
+unfolding calls_with globals_at page_from segments_in segment_at header_at referred_at count_at type_of beginning_of information_at grid_of_page table pixel_at calls_of row_of_grid whole_calls with_symbols symbol_dictionary_at symbol_header_at symbol_flags_of symbols_decoded first_contexts symbol_tables table_for classes_from height_class collective_class widths_from next_width collective_bitmap raw_rows bit symbols_cut symbol_cut exports runs_from next_run exported_from ended_runs lines_a lines_b lines_d immediate text_at text_header_at region_info_at text_fields_at text_flags_at symbol_codes_from runcodes_at symbol_lengths_at short_lengths runs_at text_decoded text_result region_from text_tables text_region after_instances with_instance symbol_placed instance_symbol next_cursor strip_start strip_delta lines_f lines_h lines_k drawn_pixel prefix_code is_crowded weight shorter read_code least decoded_value bits_left bits_on first_refused
 row_R9_2 = refl
 
 row_R9_2-own : calls_with true (dictionary 1 0) (page 0 eight one 0 ++ dictionary 1 0x80 ++ text 1) ≡ Ok dot
-unfolding calls_with globals_at page_from segments_in segment_at header_at referred_at count_at type_of beginning_of information_at grid_of_page table pixel_at calls_of row_of whole_calls with_symbols symbol_dictionary_at symbol_header_at symbol_flags_of symbols_decoded first_contexts symbol_tables table_for classes_from height_class collective_class widths_from next_width collective_bitmap raw_rows bit symbols_cut symbol_cut exports runs_from next_run exported_from ended_runs lines_a lines_b lines_d immediate text_at text_header_at region_info_at text_fields_at text_flags_at symbol_codes_from runcodes_at symbol_lengths_at short_lengths runs_at text_decoded text_result region_from text_tables text_region after_instances with_instance symbol_placed instance_symbol next_cursor strip_start strip_delta lines_f lines_h lines_k drawn_pixel prefix_code is_crowded weight shorter read_code least decoded_value bits_left bits_on first_refused
+unfolding calls_with globals_at page_from segments_in segment_at header_at referred_at count_at type_of beginning_of information_at grid_of_page table pixel_at calls_of row_of_grid whole_calls with_symbols symbol_dictionary_at symbol_header_at symbol_flags_of symbols_decoded first_contexts symbol_tables table_for classes_from height_class collective_class widths_from next_width collective_bitmap raw_rows bit symbols_cut symbol_cut exports runs_from next_run exported_from ended_runs lines_a lines_b lines_d immediate text_at text_header_at region_info_at text_fields_at text_flags_at symbol_codes_from runcodes_at symbol_lengths_at short_lengths runs_at text_decoded text_result region_from text_tables text_region after_instances with_instance symbol_placed instance_symbol next_cursor strip_start strip_delta lines_f lines_h lines_k drawn_pixel prefix_code is_crowded weight shorter read_code least decoded_value bits_left bits_on first_refused
 row_R9_2-own = refl
 
 -- ---- salvage: of a region that lacks a byte the first of two instances is whole
@@ -91,5 +91,5 @@ unfoldable calls_salvaged : List ℕ → Result (List Call) DecodeError
 calls_salvaged bytes = page_from Salvage no_names bytes >>= λ page. grid_of_page page >>= λ g. Ok (calls_of g)
 
 row_R17_1-text : calls_salvaged (page 0 eight one 0 ++ dictionary 1 0x80 ++ (0 ∷ 0 ∷ 0 ∷ 2 ∷ 6 ∷ 0x20 ∷ 1 ∷ 1 ∷ 0 ∷ 0 ∷ 0 ∷ 46 ∷ (eight ++ one ++ (replicate 9 0 ++ 0 ∷ 0x11 ∷ 0 ∷ 0 ∷ 0 ∷ 0 ∷ 0 ∷ 2 ∷ 1 ∷ (replicate 17 0 ++ 0 ∷ 4 ∷ []))))) ≡ Ok dot
-unfolding calls_salvaged page_from segments_in segment_at header_at referred_at count_at type_of beginning_of information_at grid_of_page table pixel_at calls_of row_of whole_calls with_symbols symbol_dictionary_at symbol_header_at symbol_flags_of symbols_decoded first_contexts symbol_tables table_for classes_from height_class collective_class widths_from next_width collective_bitmap raw_rows bit symbols_cut symbol_cut exports runs_from next_run exported_from ended_runs lines_a lines_b lines_d immediate text_at text_header_at region_info_at text_fields_at text_flags_at symbol_codes_from runcodes_at symbol_lengths_at short_lengths runs_at text_decoded text_result region_from text_tables text_region after_instances with_instance symbol_placed instance_symbol next_cursor strip_start strip_delta lines_f lines_h lines_k drawn_pixel prefix_code is_crowded weight shorter read_code least decoded_value bits_left bits_on first_refused whole_instances whole_by whole_from first_cursor
+unfolding calls_salvaged page_from segments_in segment_at header_at referred_at count_at type_of beginning_of information_at grid_of_page table pixel_at calls_of row_of_grid whole_calls with_symbols symbol_dictionary_at symbol_header_at symbol_flags_of symbols_decoded first_contexts symbol_tables table_for classes_from height_class collective_class widths_from next_width collective_bitmap raw_rows bit symbols_cut symbol_cut exports runs_from next_run exported_from ended_runs lines_a lines_b lines_d immediate text_at text_header_at region_info_at text_fields_at text_flags_at symbol_codes_from runcodes_at symbol_lengths_at short_lengths runs_at text_decoded text_result region_from text_tables text_region after_instances with_instance symbol_placed instance_symbol next_cursor strip_start strip_delta lines_f lines_h lines_k drawn_pixel prefix_code is_crowded weight shorter read_code least decoded_value bits_left bits_on first_refused whole_instances whole_by whole_from first_cursor
 row_R17_1-text = refl

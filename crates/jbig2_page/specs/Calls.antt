@@ -40,13 +40,13 @@ unfoldable pub whole_calls : ℕ → List Bool → List Call  -- the calls of pi
 whole_calls zero bits = singles bits
 whole_calls (suc n) bits = with_byte (take 8 bits) (whole_calls n (drop 8 bits))
 
-unfoldable pub row_of : Grid → ℕ → List Bool
-row_of g y = map (λ x. pixel_at g x y) (range_with_len 0 g.width)
+unfoldable pub row_of_grid : Grid → ℕ → List Bool
+row_of_grid g y = map (λ x. pixel_at g x y) (range_with_len 0 g.width)
 
 -- The calls of a row: each maximal run of whole bytes of one colour as a chunk, other pixels one by one, then a line
 -- call.
 abbrev pub line_calls : Grid → ℕ → List Call
-line_calls g y = whole_calls (length (row_of g y) / 8) (row_of g y) ++ Line ∷ []
+line_calls g y = whole_calls (length (row_of_grid g y) / 8) (row_of_grid g y) ++ Line ∷ []
 
 unfoldable pub calls_of : Grid → List Call
 calls_of g = flat_map (line_calls g) (range_with_len 0 g.height)
@@ -69,7 +69,7 @@ is_line _ = false
 pub record DrawsGrid (calls : List Call) (g : Grid) : Type 0 where
   pub lines : count_by is_line calls ≡ g.height
   pub widths : All (λ row. length row ≡ g.width) (rows_after None calls)
-  pub rows : rows_after None calls ≡ map (row_of g) (range_with_len 0 g.height)
+  pub rows : rows_after None calls ≡ map (row_of_grid g) (range_with_len 0 g.height)
 
 -- From this column on, each chunk begins at a multiple of eight, has at least one byte and ends within the width.
 abbrev pub ChunksFit : ℕ → ℕ → List Call → Type 0
@@ -101,9 +101,9 @@ module _ {S : Type 0} (d : Conduct S) where
   IsCountable s = d.refusals s < 2 ^ 64 - 1
 
   -- One call: a refused one leaves the picture as it was, and returns an error that it may be refused with.
-  abbrev pub Takes : Call → Result (Unit {0}) DecodeError → S → S → Type 0
-  Takes call (Ok u) old new = (d.picture new ≡ d.step (d.picture old) call) × (d.refusals new ≡ d.refusals old)
-  Takes call (Err e) old new =
+  abbrev pub TakesCall : Call → Result (Unit {0}) DecodeError → S → S → Type 0
+  TakesCall call (Ok u) old new = (d.picture new ≡ d.step (d.picture old) call) × (d.refusals new ≡ d.refusals old)
+  TakesCall call (Err e) old new =
       (d.picture new ≡ d.picture old) × (d.refusals new ≡ d.refusals old + 1) × d.refuses (d.picture old) call e
 
   abbrev pub Makes : List Call → S → S → Type 0  -- exactly these calls were made

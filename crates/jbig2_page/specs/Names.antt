@@ -105,12 +105,12 @@ with_patterns strict p own =
     pattern_dictionary_at strict p.bytes
     >>= λ patterns. Ok (record own { patterns = kept_under p.header.segment_number patterns own.patterns })
 
-abbrev pub code_at : List ℕ → Result (List Member) DecodeError  -- a custom table (7.4.13, B.2)
-code_at bytes = result_of (custom_table (start_of bytes))
+abbrev pub table_at : List ℕ → Result (List Member) DecodeError  -- a custom table (7.4.13, B.2)
+table_at bytes = result_of (custom_table (start_of bytes))
 
 unfoldable pub with_code : SegmentView → Names → Result Names DecodeError
 with_code p own =
-    code_at p.bytes >>= λ code. Ok (record own { codes = kept_under p.header.segment_number code own.codes })
+    table_at p.bytes >>= λ code. Ok (record own { codes = kept_under p.header.segment_number code own.codes })
 
 -- An extension (7.4.14): strict reading refuses one that a decoder must know.
 abbrev pub extension : Bool → List ℕ → Result (Unit {0}) DecodeError

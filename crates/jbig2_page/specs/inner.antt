@@ -3,7 +3,7 @@ pub mod ByPages
 pub mod KeptViews
 pub mod PageViews
 pub mod ParsedRegions
-pub mod Prices
+pub mod RegionPrices
 pub mod RunViews
 pub mod SegmentLists
 pub mod WholePages

@@ -23,7 +23,7 @@ use crate::drawing::canvas::Canvas;
 use crate::drawing::dictionaries::{extension, keep_patterns, keep_symbols, keep_table, unlisted};
 use crate::kept::Kept;
 use crate::kept::names::{KeptNames, Lookup};
-use crate::region::cut_off::is_partial;
+use crate::region::partial::is_partial;
 use crate::region::references::References;
 use crate::region::{RegionKind, parse_region};
 use jbig2_base::bitmap::Bitmap;
@@ -31,7 +31,7 @@ use jbig2_base::bitmap::steps::Work;
 use jbig2_base::error::{DecodeError, Result};
 use jbig2_framing::reading::Reading;
 use jbig2_framing::segment::{Segment, SegmentType};
-use jbig2_region::generic::DecodedRegion;
+use jbig2_region::decoded_region::DecodedRegion;
 use jbig2_steps::prices;
 use std::alloc::Allocator;
 use std::sync::ledger::Ledger;
@@ -165,7 +165,7 @@ impl<'a, A: Allocator + Clone> Drawer<'a, A> {
         ensures paid { Paid work.old work.new }
     {
         if self.reading.is_strict() || is_partial(segment) {
-            return self.take_segment(segment, canvas, work);
+            return self.try_or_leave_out(segment, canvas, work);
         }
         let before = canvas.passed_over.count;
         let fault = match self.strictly().try_segment(segment, canvas, work) {
@@ -175,7 +175,7 @@ impl<'a, A: Allocator + Clone> Drawer<'a, A> {
         if matches!(fault, DecodeError::OutOfMemory) {
             return Err(fault);
         }
-        match self.take_segment(segment, canvas, work) {
+        match self.try_or_leave_out(segment, canvas, work) {
             Ok(()) => {}
             Err(error) => return Err(error),
         }
@@ -184,7 +184,7 @@ impl<'a, A: Allocator + Clone> Drawer<'a, A> {
     }
 
     /// Draws one segment onto the page, or keeps what it holds. Salvage passes over one that fails.
-    fn take_segment<L: Ledger>(
+    fn try_or_leave_out<L: Ledger>(
         &self,
         segment: &Segment<'_, A>,
         canvas: &mut Canvas<A>,
@@ -362,7 +362,7 @@ impl<'a, A: Allocator + Clone> Drawer<'a, A> {
         ensures err { IfErr result (λ e. (e ≡ OutOfMemory) ⊎ (canvas.new ≡ canvas.old)) }
         ensures paid { Paid work.old work.new }
     {
-        match self.show_region(kind, segment, canvas, work) {
+        match self.try_region(kind, segment, canvas, work) {
             Ok(()) => Ok(()),
             Err(error) => self.pass_over(segment, error, canvas),
         }
@@ -370,7 +370,7 @@ impl<'a, A: Allocator + Clone> Drawer<'a, A> {
 
     /// Combines an immediate region with the page. A region that fills the whole page by itself is
     /// decoded directly into the page's bitmap.
-    fn show_region<L: Ledger>(
+    fn try_region<L: Ledger>(
         &self,
         kind: RegionKind,
         segment: &Segment<'_, A>,
@@ -390,7 +390,7 @@ impl<'a, A: Allocator + Clone> Drawer<'a, A> {
         let parsed = parse_region(&references, kind, false, segment, workspace, work)?;
         if is_white && parsed.makes_up(&canvas.bitmap) {
             canvas.untouched = false;
-            match parsed.decode_onto(&mut canvas.bitmap, &mut canvas.workspace, work) {
+            match parsed.decode_onto_page(&mut canvas.bitmap, &mut canvas.workspace, work) {
                 Ok(()) => return Ok(()),
                 Err(error) => {
                     canvas.untouched = !matches!(error, DecodeError::OutOfMemory);

@@ -6,10 +6,10 @@ ghost use Rattle.jbig2_page.specs.Page.{region_at};
 ghost use Rattle.jbig2_page.specs.inner.ParsedRegions.{IsDecodable, DecodesTo, drawing_of};
 ghost use Rattle.jbig2_steps.specs.Work.{Paid};
 
-pub(crate) mod cut_off;
 mod generic;
 mod halftone;
 pub(crate) mod parsed_region;
+pub(crate) mod partial;
 pub(crate) mod references;
 pub(crate) mod refinement;
 mod text;

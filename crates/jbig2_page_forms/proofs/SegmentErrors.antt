@@ -44,7 +44,7 @@ use Rattle.jbig2_text.specs.TextRegion.{text_decoded, text_result}
 use Rattle.jbig2_text.proofs.CausesOfHeaders.{text_header_cause}
 use Rattle.jbig2_text.proofs.CausesOfRegions.{text_region_cause}
 use Rattle.jbig2_page.specs.Causes.{BreaksExtension, BreaksPatternReference, BreaksReferred, BreaksRefinement}
-use Rattle.jbig2_page.specs.Names.{Names, code_at, extension, kept_by, pattern_dictionary_at, referred_by, symbol_dictionary_at, with_code, with_patterns, with_symbols}
+use Rattle.jbig2_page.specs.Names.{Names, table_at, extension, kept_by, pattern_dictionary_at, referred_by, symbol_dictionary_at, with_code, with_patterns, with_symbols}
 use Rattle.jbig2_page.specs.Page.{Drawing, immediate, intermediate, segment_by, with_names}
 use Rattle.jbig2_page.specs.Regions.{generic_at, halftone_at, is_partial, patterns_for, refinement_at, text_at, with_whole_instances, with_whole_rows}
 use Rattle.jbig2_page.proofs.SegmentCauses.{extension_cause, patterns_cause, referred_cause, refinement_cause}
@@ -193,7 +193,7 @@ kept-as strict shared types.PatternDictionary h bytes own =
     step P P (pattern_dictionary_at strict bytes) _ (a-pattern_dictionary strict bytes) (λ e no. no) (λ x is. tt)
 kept-as strict shared types.Tables h bytes own =
     let P : DecodeError → Type 0 = BreaksCustom (start_of bytes) in
-    step P P (code_at bytes) _ (table-step (start_of bytes) (custom_table (start_of bytes)) refl) (λ e no. no) (λ x is. tt)
+    step P P (table_at bytes) _ (table-step (start_of bytes) (custom_table (start_of bytes)) refl) (λ e no. no) (λ x is. tt)
 kept-as strict shared types.Extension h bytes own =
     let P : DecodeError → Type 0 = BreaksExtension strict bytes in
     let r = extension strict bytes in

@@ -9,7 +9,7 @@ use Rattle.jbig2_region.specs.RegionInfo.{PlacedRegion}
 use Rattle.jbig2_page.specs.Names.{Names, kept_by}
 use Rattle.jbig2_page.specs.Page.{Drawing, immediate, intermediate, or_passed_over, segment_by, with_drawn_region, with_names, with_region}
 use Rattle.jbig2_page.specs.Regions.{generic_at, halftone_at, refinement_at, text_at}
-use Rattle.jbig2_page_forms.specs.PagePixels.{region_in}
+use Rattle.jbig2_page_forms.specs.PagePixels.{region_of_segment}
 
 -- one with this header but for its type
 abbrev pub of_type : SegmentType → Header → List ℕ → SegmentView
@@ -28,7 +28,7 @@ pub record OfEachType (strict : Bool) (globals : Names) (d : Drawing) (P : Optio
   pub nothing : (p : SegmentView) → P None (with_names d (kept_by strict globals p d.names))
 
 module _ (strict : Bool) (globals : Names) (d : Drawing) (P : Option (Bool × Result PlacedRegion DecodeError) → Result Drawing DecodeError → Type 0) (of : OfEachType strict globals d P) where
-  by-type : (kind : SegmentType) (h : Header) (bytes : List ℕ) → P (region_in strict globals (of_type kind h bytes) d) (segment_by strict globals (of_type kind h bytes) d)
+  by-type : (kind : SegmentType) (h : Header) (bytes : List ℕ) → P (region_of_segment strict globals (of_type kind h bytes) d) (segment_by strict globals (of_type kind h bytes) d)
   unfolding immediate intermediate
   by-type types.IntermediateTextRegion h bytes = of.kept (of_type types.IntermediateTextRegion h bytes) (text_at strict d.names globals (of_type types.IntermediateTextRegion h bytes))
   by-type types.ImmediateTextRegion h bytes = of.drawn (of_type types.ImmediateTextRegion h bytes) (text_at strict d.names globals (of_type types.ImmediateTextRegion h bytes))
@@ -44,5 +44,5 @@ module _ (strict : Bool) (globals : Names) (d : Drawing) (P : Option (Bool × Re
   by-type types.ImmediateLosslessGenericRefinementRegion h bytes = of.drawn (of_type types.ImmediateLosslessGenericRefinementRegion h bytes) (refinement_at strict false d.grid d.regions (of_type types.ImmediateLosslessGenericRefinementRegion h bytes))
   by-type kind h bytes = of.nothing (of_type kind h bytes)
 
-  pub of-segment-type : (p : SegmentView) → P (region_in strict globals p d) (segment_by strict globals p d)
+  pub of-segment-type : (p : SegmentView) → P (region_of_segment strict globals p d) (segment_by strict globals p d)
   of-segment-type p = by-type p.header.segment_type p.header p.bytes

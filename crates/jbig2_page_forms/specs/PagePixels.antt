@@ -37,8 +37,8 @@ list_of_region (Err e) = []
 
 -- What a segment that is a region decodes to (7.3), where this was drawn before it, and whether it is an intermediate
 -- one, which is not drawn.
-abbrev pub region_in : Bool → Names → SegmentView → Drawing → Option (Bool × Result PlacedRegion DecodeError)
-region_in strict globals p d = on p.header.segment_type
+abbrev pub region_of_segment : Bool → Names → SegmentView → Drawing → Option (Bool × Result PlacedRegion DecodeError)
+region_of_segment strict globals p d = on p.header.segment_type
   where
     on : SegmentType → Option (Bool × Result PlacedRegion DecodeError)
     on types.IntermediateTextRegion = Some (true, text_at strict d.names globals p)
@@ -61,7 +61,7 @@ if_immediate (Some (true, region)) = []
 if_immediate None = []
 
 abbrev pub drawn_by : Bool → Names → SegmentView → Drawing → List PlacedRegion
-drawn_by strict globals p d = if_immediate (region_in strict globals p d)
+drawn_by strict globals p d = if_immediate (region_of_segment strict globals p d)
 
 abbrev pub after_ok : Result Drawing DecodeError → (Drawing → List PlacedRegion) → List PlacedRegion
 after_ok (Ok d) next = next d

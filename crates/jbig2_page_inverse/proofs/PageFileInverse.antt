@@ -21,11 +21,11 @@ use Rattle.jbig2_page.specs.Page.{IsSide, beginning_of, part_of_list}
 use Rattle.jbig2_inverses.specs.SegmentWriter.{AreSegments, information_bytes, segment_bytes}
 use Rattle.jbig2_inverses.proofs.FileInverse.{files_read_back, header-read}
 use Rattle.jbig2_inverses.proofs.SegmentInverse.{segments_read_back}
-use Rattle.jbig2_page_inverse.specs.PageWriter.{Choice, IsChoice, region_bytes, information, segment}
+use Rattle.jbig2_page_inverse.specs.PageWriter.{PageChoice, IsChoice, region_bytes, information, segment}
 use Rattle.jbig2_page_inverse.specs.PageFile.{IsFileOf, PageFilesReadBack, file_header, file_segments, page_file}
 use Rattle.jbig2_page_inverse.proofs.PageInverse.{beginning-is, data-short, first-written, grid-is, initial, never-cut, no-part-of, page-with, resolution-is, second-written, segment-written}
 
-module _ (reading : Reading) (c : Choice) (w h : ℕ) (pixels : ℕ → ℕ → Bool) (is : IsChoice c) (columns : IsSide w) (rows : IsSide h) where
+module _ (reading : Reading) (c : PageChoice) (w h : ℕ) (pixels : ℕ → ℕ → Bool) (is : IsChoice c) (columns : IsSide w) (rows : IsSide h) where
   abbrev segments : List SegmentView
   segments = file_segments c w h pixels
 

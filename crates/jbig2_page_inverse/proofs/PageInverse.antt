@@ -48,7 +48,7 @@ use Rattle.jbig2_inverses.proofs.RegionInverse.{entries-few}
 use Rattle.jbig2_inverses.proofs.GenericInverse.{generic_regions_read_back}
 use Rattle.jbig2_inverses.proofs.GenericSegmentInverse.{generic_segments_read_back, sides-fit}
 use Rattle.jbig2_inverses.proofs.SegmentInverse.{page_information_reads_back, segments_read_back}
-use Rattle.jbig2_page_inverse.specs.PageWriter.{Choice, IsChoice, region_with, coded_bytes, region_bytes, information, resolution_of, segment, page_bytes, PagesReadBack}
+use Rattle.jbig2_page_inverse.specs.PageWriter.{PageChoice, IsChoice, region_of_bytes, coded_bytes, region_bytes, information, resolution_of, segment, page_bytes, PagesReadBack}
 
 -- where the bytes were cut off changes no pixel
 grid-with-cut : (c : Option CutOff) (r : Result Drawing DecodeError) → ((r >>= λ d. Ok (with_cut_off c d)) >>= λ d. Ok d.grid) ≡ (r >>= λ d. Ok d.grid)
@@ -103,17 +103,17 @@ segment-written strict number page kind bytes few small known short = record {
   short = short;
 }
 
-entries-same : (c : Choice) (w h : ℕ) (pixels : ℕ → ℕ → Bool) (strict : Bool) (bytes : List ℕ)
-    → generic_entries (region_with c w h pixels strict bytes) pixels ≡ generic_entries (region_with c w h pixels false []) pixels
+entries-same : (c : PageChoice) (w h : ℕ) (pixels : ℕ → ℕ → Bool) (strict : Bool) (bytes : List ℕ)
+    → generic_entries (region_of_bytes c w h pixels strict bytes) pixels ≡ generic_entries (region_of_bytes c w h pixels false []) pixels
 unfolding generic_entries
 entries-same c w h pixels strict bytes = refl
 
-bytes-same : (c : Choice) (w h : ℕ) (pixels : ℕ → ℕ → Bool) (strict : Bool) (bytes : List ℕ)
-    → generic_bytes (region_with c w h pixels strict bytes) ≡ generic_bytes (region_with c w h pixels false bytes)
+bytes-same : (c : PageChoice) (w h : ℕ) (pixels : ℕ → ℕ → Bool) (strict : Bool) (bytes : List ℕ)
+    → generic_bytes (region_of_bytes c w h pixels strict bytes) ≡ generic_bytes (region_of_bytes c w h pixels false bytes)
 unfolding generic_bytes
 bytes-same c w h pixels strict bytes = refl
 
-module _ (reading : Reading) (globals : Names) (c : Choice) (w h : ℕ) (pixels : ℕ → ℕ → Bool) (is : IsChoice c) (columns : IsSide w) (rows : IsSide h) where
+module _ (reading : Reading) (globals : Names) (c : PageChoice) (w h : ℕ) (pixels : ℕ → ℕ → Bool) (is : IsChoice c) (columns : IsSide w) (rows : IsSide h) where
   abbrev pub strict : Bool
   strict = is_strict reading
 
@@ -121,7 +121,7 @@ module _ (reading : Reading) (globals : Names) (c : Choice) (w h : ℕ) (pixels 
   coded = coded_bytes c w h pixels
 
   abbrev header : GenericHeader
-  header = region_with c w h pixels strict coded
+  header = region_of_bytes c w h pixels strict coded
 
   abbrev pub info : PageInformation
   info = information c w h pixels
@@ -138,9 +138,9 @@ module _ (reading : Reading) (globals : Names) (c : Choice) (w h : ℕ) (pixels 
   result-is = by c.mmr refl
     where
       by : (m : Bool) → c.mmr ≡ m → generic_result header ≡ Ok (grid_of w h pixels)
-      by true e = generic_regions_read_back.mmr header pixels c.end_of_block e columns.0 rows.0 (cond-true c.mmr (mmr_bytes c.end_of_block w h pixels) (encoded_bytes (generic_entries (region_with c w h pixels false []) pixels)) e)
+      by true e = generic_regions_read_back.mmr header pixels c.end_of_block e columns.0 rows.0 (cond-true c.mmr (mmr_bytes c.end_of_block w h pixels) (encoded_bytes (generic_entries (region_of_bytes c w h pixels false []) pixels)) e)
       by false e = generic_regions_read_back.coded header pixels is.template e
-          (cond-false c.mmr (mmr_bytes c.end_of_block w h pixels) (encoded_bytes (generic_entries (region_with c w h pixels false []) pixels)) e ∙ ap encoded_bytes (sym (entries-same c w h pixels strict coded)))
+          (cond-false c.mmr (mmr_bytes c.end_of_block w h pixels) (encoded_bytes (generic_entries (region_of_bytes c w h pixels false []) pixels)) e ∙ ap encoded_bytes (sym (entries-same c w h pixels strict coded)))
 
   header-is : IsHeader header
   header-is = record {
@@ -244,7 +244,7 @@ without-fault reading globals p d e whole is = rw (whole, is, segment-any (is_st
 abbrev pub DrawNothing : Reading → Names → List SegmentView → Type 0
 DrawNothing reading globals more = (d : Drawing) → segments_drawn reading globals more d ≡ Ok d
 
-pub grid-is : (reading : Reading) (globals : Names) (c : Choice) (w h : ℕ) (pixels : ℕ → ℕ → Bool) (is : IsChoice c) (columns : IsSide w) (rows : IsSide h) (more : List SegmentView) (cut : Option CutOff) → DrawNothing reading globals more
+pub grid-is : (reading : Reading) (globals : Names) (c : PageChoice) (w h : ℕ) (pixels : ℕ → ℕ → Bool) (is : IsChoice c) (columns : IsSide w) (rows : IsSide h) (more : List SegmentView) (cut : Option CutOff) → DrawNothing reading globals more
     → grid_of_page (page-with reading globals c w h pixels is columns rows more cut) ≡ Ok (grid_of w h pixels)
 unfolding grid_of_page immediate
 grid-is reading globals c w h pixels is columns rows more cut nothing =
@@ -270,17 +270,17 @@ length-adaptive : (ps : List AdaptiveTemplatePixel) → length (flat_map adaptiv
 length-adaptive [] = refl
 length-adaptive (p ∷ ps) = let e = length-adaptive ps in omega (arith, e)
 
-length-region : (c : Choice) (w h : ℕ) (pixels : ℕ → ℕ → Bool) → length (region_bytes c w h pixels) ≡ 18 + 2 * length c.adaptive + length (coded_bytes c w h pixels)
+length-region : (c : PageChoice) (w h : ℕ) (pixels : ℕ → ℕ → Bool) → length (region_bytes c w h pixels) ≡ 18 + 2 * length c.adaptive + length (coded_bytes c w h pixels)
 unfolding generic_bytes info_bytes
 length-region c w h pixels =
     let size = length-append (flat_map adaptive_bytes c.adaptive) (coded_bytes c w h pixels) in
     let more = length-adaptive c.adaptive in
     omega (arith, size, more)
 
-pub by-mmr-short : (c : Choice) (w h : ℕ) (pixels : ℕ → ℕ → Bool) → c.mmr ≡ true → w ≤ max_side → h ≤ max_side → 8 * length (coded_bytes c w h pixels) ≤ 65535 * 458805 + 31
+pub by-mmr-short : (c : PageChoice) (w h : ℕ) (pixels : ℕ → ℕ → Bool) → c.mmr ≡ true → w ≤ max_side → h ≤ max_side → 8 * length (coded_bytes c w h pixels) ≤ 65535 * 458805 + 31
 unfolding coded_bytes
 by-mmr-short c w h pixels e columns rows =
-    let is = ap length (cond-true c.mmr (mmr_bytes c.end_of_block w h pixels) (encoded_bytes (generic_entries (region_with c w h pixels false []) pixels)) e) in
+    let is = ap length (cond-true c.mmr (mmr_bytes c.end_of_block w h pixels) (encoded_bytes (generic_entries (region_of_bytes c w h pixels false []) pixels)) e) in
     let few = bitmaps_are_short c.end_of_block w h pixels in
     let most = bits-short w h columns rows in
     omega (arith, is, few, most)
@@ -288,10 +288,10 @@ by-mmr-short c w h pixels e columns rows =
 area-few : (w h : ℕ) → w ≤ max_side → h ≤ max_side → w * h + h ≤ 65535 * 65536
 area-few w h columns rows = let most = mul-le h (w + 1) 65535 65536 rows (omega (arith, columns)) in omega (arith, most)
 
-pub by-coder-short : (c : Choice) (w h : ℕ) (pixels : ℕ → ℕ → Bool) → c.mmr ≡ false → w ≤ max_side → h ≤ max_side → 7 * length (coded_bytes c w h pixels) ≤ 6 * (65535 * 65536) + 40
+pub by-coder-short : (c : PageChoice) (w h : ℕ) (pixels : ℕ → ℕ → Bool) → c.mmr ≡ false → w ≤ max_side → h ≤ max_side → 7 * length (coded_bytes c w h pixels) ≤ 6 * (65535 * 65536) + 40
 unfolding coded_bytes generic_entries
 by-coder-short c w h pixels e columns rows =
-    let header = region_with c w h pixels false [] in
+    let header = region_of_bytes c w h pixels false [] in
     let entries = generic_entries header pixels in
     let is = ap length (cond-false c.mmr (mmr_bytes c.end_of_block w h pixels) (encoded_bytes entries) e) in
     let few = coded_data_is_short entries in
@@ -310,7 +310,7 @@ adaptive-few false false Template2 = omega arith
 adaptive-few false true Template3 = omega arith
 adaptive-few false false Template3 = omega arith
 
-pub data-short : (c : Choice) (w h : ℕ) (pixels : ℕ → ℕ → Bool) → IsChoice c → w ≤ max_side → h ≤ max_side → length (region_bytes c w h pixels) < 4294967295
+pub data-short : (c : PageChoice) (w h : ℕ) (pixels : ℕ → ℕ → Bool) → IsChoice c → w ≤ max_side → h ≤ max_side → length (region_bytes c w h pixels) < 4294967295
 data-short c w h pixels is columns rows =
     let size = length-region c w h pixels in
     let count = is.count in

@@ -9,7 +9,7 @@ use Rattle.jbig2_framing.specs.declared.segment.SegmentType.TheVariants as types
 use Rattle.jbig2_page.specs.Files.{ReadFile, book_at, pages_of}
 use Rattle.jbig2_page.specs.Page.{IsSide, ReadPage}
 use Rattle.jbig2_inverses.specs.FileWriter.{file_bytes}
-use Rattle.jbig2_page_inverse.specs.PageWriter.{Choice, IsChoice, ShowsBitmap, page_segments, segment}
+use Rattle.jbig2_page_inverse.specs.PageWriter.{PageChoice, IsChoice, ShowsBitmap, two_segments, segment}
 
 abbrev pub file_header : Bool → FileHeader  -- of one page, whose region may have twelve adaptive pixels
 file_header extended = record {
@@ -22,9 +22,9 @@ file_header extended = record {
 abbrev pub end_segments : List SegmentView  -- the end of the file is of no page
 end_segments = segment 2 1 types.EndOfPage [] ∷ segment 3 0 types.EndOfFile [] ∷ []
 
-module _ (c : Choice) (w h : ℕ) (pixels : ℕ → ℕ → Bool) where
+module _ (c : PageChoice) (w h : ℕ) (pixels : ℕ → ℕ → Bool) where
   abbrev pub file_segments : List SegmentView
-  file_segments = page_segments c w h pixels ++ end_segments
+  file_segments = two_segments c w h pixels ++ end_segments
 
   unfoldable pub page_file : List ℕ
   page_file = file_bytes (file_header c.extended) file_segments
@@ -39,5 +39,5 @@ module _ (c : Choice) (w h : ℕ) (pixels : ℕ → ℕ → Bool) where
 
 -- Each bitmap is a file, in each mode.
 abbrev pub PageFilesReadBack : Type 0
-PageFilesReadBack = (reading : Reading) (c : Choice) (w h : ℕ) (pixels : ℕ → ℕ → Bool)
+PageFilesReadBack = (reading : Reading) (c : PageChoice) (w h : ℕ) (pixels : ℕ → ℕ → Bool)
     → IsChoice c → IsSide w → IsSide h → IsFileOf c w h pixels reading (page_file c w h pixels)

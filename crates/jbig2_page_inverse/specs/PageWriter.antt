@@ -25,7 +25,7 @@ use Rattle.jbig2_inverses.specs.GenericSegmentWriter.{AreAdaptive, generic_bytes
 use Rattle.jbig2_inverses.specs.RegionWriter.{generic_entries}
 use Rattle.jbig2_inverses.specs.SegmentWriter.{IsResolution, information_bytes, segment_bytes}
 
-pub record Choice : Type 0 where  -- how a region is coded, and the page's resolution
+pub record PageChoice : Type 0 where  -- how a region is coded, and the page's resolution
   pub mmr : Bool
   pub end_of_block : Bool
   pub template : Template
@@ -35,7 +35,7 @@ pub record Choice : Type 0 where  -- how a region is coded, and the page's resol
   pub x_resolution : Option ℕ  -- pixels per metre along a row
   pub y_resolution : Option ℕ  -- and along a column
 
-pub record IsChoice (c : Choice) : Type 0 where  -- what segments can have (7.4.6, 7.4.8)
+pub record IsChoice (c : PageChoice) : Type 0 where  -- what segments can have (7.4.6, 7.4.8)
   pub template : FitsTemplate c.extended c.template
   pub extended : takes_extended c.mmr c.extended c.template ≡ c.extended
   pub count : length c.adaptive ≡ adaptive_pixel_count c.mmr c.extended c.template
@@ -56,9 +56,9 @@ segment number page kind bytes = record {
   bytes = bytes;
 }
 
-module _ (c : Choice) (w h : ℕ) (pixels : ℕ → ℕ → Bool) where
-  abbrev pub region_with : Bool → List ℕ → GenericHeader  -- the region at the page's corner, with these coded bytes
-  region_with strict bytes = record {
+module _ (c : PageChoice) (w h : ℕ) (pixels : ℕ → ℕ → Bool) where
+  abbrev pub region_of_bytes : Bool → List ℕ → GenericHeader  -- the region at the page's corner, with these coded bytes
+  region_of_bytes strict bytes = record {
     region_info = record { width = w; height = h; x_location = 0; y_location = 0; combination_operator = Or };
     mmr = c.mmr;
     template = c.template;
@@ -72,10 +72,10 @@ module _ (c : Choice) (w h : ℕ) (pixels : ℕ → ℕ → Bool) where
   unfoldable pub coded_bytes : List ℕ
   coded_bytes =
       if c.mmr then mmr_bytes c.end_of_block w h pixels
-      else encoded_bytes (generic_entries (region_with false []) pixels)
+      else encoded_bytes (generic_entries (region_of_bytes false []) pixels)
 
   abbrev pub region_bytes : List ℕ
-  region_bytes = generic_bytes (region_with false coded_bytes)
+  region_bytes = generic_bytes (region_of_bytes false coded_bytes)
 
   abbrev pub information : PageInformation  -- a white page of this size
   information = record {
@@ -95,13 +95,13 @@ module _ (c : Choice) (w h : ℕ) (pixels : ℕ → ℕ → Bool) where
     striping = record { is_striped = false; max_stripe_size = 0 };
   }
 
-  abbrev pub page_segments : List SegmentView
-  page_segments =
+  abbrev pub two_segments : List SegmentView
+  two_segments =
       segment 0 1 types.PageInformation (information_bytes information)
       ∷ segment 1 1 types.ImmediateGenericRegion region_bytes ∷ []
 
   unfoldable pub page_bytes : List ℕ
-  page_bytes = flat_map segment_bytes page_segments
+  page_bytes = flat_map segment_bytes two_segments
 
 -- The resolution that the first page information of these segments states (7.4.8.3, 7.4.8.4).
 abbrev pub resolution_of : List SegmentView → Result (Option ℕ × Option ℕ) DecodeError
@@ -111,14 +111,14 @@ resolution_of ps = do
   Ok (info.x_resolution, info.y_resolution)
 
 -- The page is drawn as this bitmap, and states the resolution.
-pub record ShowsBitmap (c : Choice) (w h : ℕ) (pixels : ℕ → ℕ → Bool) (page : ReadPage) : Type 0 where
+pub record ShowsBitmap (c : PageChoice) (w h : ℕ) (pixels : ℕ → ℕ → Bool) (page : ReadPage) : Type 0 where
   pub drawn : grid_of_page page ≡ Ok (grid_of w h pixels)
   pub resolution : resolution_of page.segments ≡ Ok (c.x_resolution, c.y_resolution)
 
 -- Each bitmap is a page, in each mode and with any globals. A segment states the length of its data in four bytes
 -- (7.2.7): no coding here takes more than that holds.
 abbrev pub PagesReadBack : Type 0
-PagesReadBack = (reading : Reading) (globals : Names) (c : Choice) (w h : ℕ) (pixels : ℕ → ℕ → Bool)
+PagesReadBack = (reading : Reading) (globals : Names) (c : PageChoice) (w h : ℕ) (pixels : ℕ → ℕ → Bool)
     → IsChoice c → IsSide w → IsSide h
     → (page : ReadPage) × (page_from reading globals (page_bytes c w h pixels) ≡ Ok page)
     × ShowsBitmap c w h pixels page

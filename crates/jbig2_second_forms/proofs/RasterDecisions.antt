@@ -4,7 +4,7 @@ use Rattle.std.proofs.lemmas.List.{length_push, get_or_append_left, get_or_at}
 use Rattle.jbig2_base.specs.Grid.{differ}
 use Rattle.jbig2_coder.specs.Coder.{Context, Decision, Registers, decision, fresh}
 use Rattle.jbig2_region.specs.Raster.{Coding, Region, so_far, with_next, after_ltp, at_next, after_pixel, first_pixels, decoded_region, no_pixels}
-use Rattle.jbig2_second_forms.specs.RasterDecisions.{Seen, with_ltp, at_row, with_colour, with_pixel, seen_after, answers, decision_in, RegionsAreOfDecisions}
+use Rattle.jbig2_second_forms.specs.RasterDecisions.{Seen, with_ltp, at_row, with_colour, with_decided_pixel, seen_after, answers, decision_in, RegionsAreOfDecisions}
 
 pub record Coder : Type 0 where
   pub registers : Registers
@@ -109,7 +109,7 @@ module _ (coding : Coding) (w h : ℕ) (bytes : List ℕ) (start : Coder) where
   }
 
   -- the context and the known colour are those of the pixels so far
-  pixel-follows : (n : ℕ) (seen : (ℕ → Bool) → Seen) (r : Region) → Follows seen r → length r.pixels ≡ n → Follows (λ f. with_pixel coding w h f n (seen f)) (after_pixel coding w h bytes r)
+  pixel-follows : (n : ℕ) (seen : (ℕ → Bool) → Seen) (r : Region) → Follows seen r → length r.pixels ≡ n → Follows (λ f. with_decided_pixel coding w h f n (seen f)) (after_pixel coding w h bytes r)
   unfolding after_pixel colour-follows
   pixel-follows n seen r is count =
       let g = so_far w h r.pixels in
@@ -120,7 +120,7 @@ module _ (coding : Coding) (w h : ℕ) (bytes : List ℕ) (start : Coder) where
         asked = made.asked;
         coder = made.coder ∙ ap (λ (m : ℕ). let q = with_next bytes r (k m) (o m) in let z : Coder = record { registers = q.registers; contexts = q.contexts } in z) (sym count);
         same = λ f begins.
-            ap (λ (s : Seen). with_pixel coding w h f n s) (is.same f (earlier (o n) (k n) f begins))
+            ap (λ (s : Seen). with_decided_pixel coding w h f n s) (is.same f (earlier (o n) (k n) f begins))
             ∙ sym (ap (λ (s : Seen). with_colour coding w h f (k n) (o n) s) (is.same f (earlier (o n) (k n) f begins)))
             ∙ made.same f begins
             ∙ ap (λ (m : ℕ). let q = with_next bytes r (k m) (o m) in let s : Seen = record { pixels = q.pixels; predicted = q.predicted; asked = made.asked } in s) (sym count);

@@ -35,14 +35,14 @@ module _ (coding : Coding) (w h : ℕ) (decisions : ℕ → Bool) where
   }
 
   -- pixel n, whose context and known colour the pixels before it give
-  abbrev pub with_pixel : ℕ → Seen → Seen
-  with_pixel n s =
+  abbrev pub with_decided_pixel : ℕ → Seen → Seen
+  with_decided_pixel n s =
       let g = so_far w h s.pixels in
       with_colour (coding.context g (n % w) (n / w)) (coding.known s.predicted g (n % w) (n / w)) s
 
   unfoldable pub seen_after : ℕ → Seen  -- after the first n pixels of the raster
   seen_after zero = record { pixels = []; predicted = false; asked = [] }
-  seen_after (suc n) = with_pixel n (at_row n (seen_after n))
+  seen_after (suc n) = with_decided_pixel n (at_row n (seen_after n))
 
 -- what the coder over these bytes answers, if it is asked in these contexts
 abbrev pub answers : List ℕ → Registers → List Context → List ℕ → List Bool

@@ -23,7 +23,7 @@ use Rattle.jbig2_text.specs.TextCoding.{in_band}
 use Rattle.jbig2_symbol.specs.Causes.{BreaksCollectiveBitmap, BreaksEmptyClass, BreaksSized, BreaksTallClass}
 use Rattle.jbig2_symbol.specs.ClassCauses.{BreaksHeightClass, ClassCauses, ClassesHaveCauses, IsNoSize}
 use Rattle.jbig2_symbol.specs.HeightClasses.{empty_class, height_class, size_in_word}
-use Rattle.jbig2_symbol.specs.SymbolBitmaps.{collective_bitmap, mmr_bytes, raw_rows, raw_stride, rows_of_size}
+use Rattle.jbig2_symbol.specs.SymbolBitmaps.{collective_bitmap, mmr_bitmap, raw_rows, raw_stride, rows_of_size}
 use Rattle.jbig2_symbol.specs.SymbolReading.{ClassReadings, SymbolInput, SymbolState, by_table, not_negative}
 use Rattle.jbig2_symbol.specs.inner.SymbolViews.{class_after, tall_class}
 use Rattle.jbig2_region.proofs.ResultCauses.{cause-if, cause-last, cause-more}
@@ -48,8 +48,8 @@ raw-cause strict size width height bytes none =
     cause-next P (wide_or_overflow width height) _ (wide-cause P width height (λ over. over)) (λ fits fits_is.
     cause-next P (bytes_at n bytes) _ (cause-bytes P n bytes (λ short. subst (λ (m : ℕ). length bytes < m) (sym same) short)) (λ rows rows_is. tt))
 
-mmr-cause : (strict : Bool) (size width height : ℕ) (bytes : List ℕ) → (size == 0) ≡ false → IfErr (mmr_bytes strict size width height bytes) (BreaksSized strict width height (Some (pos size)) bytes)
-unfolding mmr_bytes
+mmr-cause : (strict : Bool) (size width height : ℕ) (bytes : List ℕ) → (size == 0) ≡ false → IfErr (mmr_bitmap strict size width height bytes) (BreaksSized strict width height (Some (pos size)) bytes)
+unfolding mmr_bitmap
 mmr-cause strict size width height bytes some =
     let P : DecodeError → Type 0 = BreaksSized strict width height (Some (pos size)) bytes in
     let same_size : rows_length size width height ≡ size = cond-false (size == 0) (height * raw_stride width) size some in
@@ -61,7 +61,7 @@ mmr-cause strict size width height bytes some =
 
 rows-cause : (strict : Bool) (size width height : ℕ) (bytes : List ℕ) → IfErr (rows_of_size strict size width height bytes) (BreaksSized strict width height (Some (pos size)) bytes)
 rows-cause strict size width height bytes =
-    cause-if (BreaksSized strict width height (Some (pos size)) bytes) (size == 0) (raw_rows width height bytes) (mmr_bytes strict size width height bytes) (raw-cause strict size width height bytes) (mmr-cause strict size width height bytes)
+    cause-if (BreaksSized strict width height (Some (pos size)) bytes) (size == 0) (raw_rows width height bytes) (mmr_bitmap strict size width height bytes) (raw-cause strict size width height bytes) (mmr-cause strict size width height bytes)
 
 sized-cause : (d : SymbolInput) (width height : ℕ) (value : Option ℤ) (after : SymbolState Place)
     → IfErr (in_band (errors.Huffman UnexpectedOob) value >>= λ number. not_negative (errors.Overflow BitmapDimension) number >>= λ size. rows_of_size d.header.strict size width height (byte_boundary after.coding).bytes >>= λ rows. (let r : Result (Grid × SymbolState Place) DecodeError = Ok (rows.0, record after { coding = start_of rows.1 }) in r)) (BreaksSized d.header.strict width height value (byte_boundary after.coding).bytes)

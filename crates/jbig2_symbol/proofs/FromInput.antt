@@ -16,7 +16,7 @@ use Rattle.jbig2_text.proofs.FromInput.{AreFromInput, from_input-some_symbol, fr
 use Rattle.jbig2_text.proofs.RegionsFromInput.{from_input-in_band, by_coder-from_input, by_prefix_codes-from_input}
 use Rattle.jbig2_symbol.specs.Symbols.{exports, next_run, runs_from, dictionary_by, dictionary_from, symbols_decoded}
 use Rattle.jbig2_symbol.specs.HeightClasses.{classes_from, drawn_class, height_class, next_width, size_in_word, symbols_from, width_by, widths_from}
-use Rattle.jbig2_symbol.specs.SymbolBitmaps.{aggregate_params, by_instances, coded_aggregate, coded_instances, coded_symbol, collective_bitmap, instance_count, mmr_bytes, plain_id, prefixed_aggregate, prefixed_instances, put_together, raw_rows, refined_alone, some_instances, symbol_cut, symbols_cut}
+use Rattle.jbig2_symbol.specs.SymbolBitmaps.{aggregate_params, by_instances, coded_aggregate, coded_instances, coded_symbol, collective_bitmap, instance_count, mmr_bitmap, plain_id, prefixed_aggregate, prefixed_instances, put_together, raw_rows, refined_alone, some_instances, symbol_cut, symbols_cut}
 use Rattle.jbig2_symbol.specs.SymbolCoding.{classes_by_coder, classes_by_prefix_codes, coded_bitmap, coder_start, collective_class, prefix_codes_start, symbols_by_coder, symbols_by_prefix_codes}
 use Rattle.jbig2_symbol.specs.SymbolHeader.{SymbolHeader, coded_pixels_at, refined_pixels_at, selection_of, symbol_flags_of, symbol_header_at}
 use Rattle.jbig2_symbol.specs.SymbolReading.{BitmapContexts, ClassReadings, SymbolInput, SymbolReadings, SymbolState, by_procedure, by_table, first_contexts, not_negative, symbol_tables, table_for}
@@ -122,8 +122,8 @@ from_input-raw : (width height : ℕ) (bytes : List ℕ) → FromInput (raw_rows
 unfolding raw_rows
 from_input-raw width height bytes = search (from_input-next, from_input-refusal, from_input-bytes) depth 8
 
-from_input-mmr_bytes : (strict : Bool) (size width height : ℕ) (bytes : List ℕ) → FromInput (mmr_bytes strict size width height bytes)
-unfolding mmr_bytes
+from_input-mmr_bytes : (strict : Bool) (size width height : ℕ) (bytes : List ℕ) → FromInput (mmr_bitmap strict size width height bytes)
+unfolding mmr_bitmap
 from_input-mmr_bytes strict size width height bytes = search (from_input-next, from_input-refusal, from_input-bytes, from_input-mmr) depth 8
 
 from_input-collective : (d : SymbolInput) (width height : ℕ) (s : SymbolState Place) → FromInput (collective_bitmap d width height s)

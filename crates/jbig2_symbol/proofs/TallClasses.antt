@@ -14,7 +14,7 @@ use Rattle.jbig2_base.specs.declared.error.OverflowError.TheVariants.{BitmapDime
 use Rattle.jbig2_base.specs.declared.error.RegionError.TheVariants.{InvalidMmrData}
 use Rattle.jbig2_mmr.specs.T6.{DecodedRows, grid_of_rows, mmr_rows, rows_of}
 use Rattle.jbig2_symbol.specs.HeightClasses.{empty_class, widths_from}
-use Rattle.jbig2_symbol.specs.SymbolBitmaps.{collective_bitmap, mmr_bytes, rows_of_size, symbol_cut, symbols_cut}
+use Rattle.jbig2_symbol.specs.SymbolBitmaps.{collective_bitmap, mmr_bitmap, rows_of_size, symbol_cut, symbols_cut}
 use Rattle.jbig2_symbol.specs.SymbolCoding.{collective_class, symbols_by_prefix_codes}
 use Rattle.jbig2_symbol.specs.SymbolReading.{SymbolInput, SymbolState}
 use Rattle.jbig2_symbol.specs.inner.SymbolViews.{concat, bytes_of_rows, room_after, tall_class, with_no_value}
@@ -32,8 +32,8 @@ mmr-short strict w h bytes strictly some short = by-whole (rows_of w h bytes).wh
     by-whole true is = absurd (omega (arith, whole-rows w h bytes some is))
     by-whole false is = rw (strictly, is) refl
 
-pub mmr-refused : (strict : Bool) (size w h : ℕ) (bytes part rest : List ℕ) (white : Grid) → strict ≡ true → 0 < w → size < (h + 7) / 8 → bytes_at size bytes ≡ Ok (part, rest) → wide_or_overflow w h ≡ Ok white → with_no_value (mmr_bytes strict size w h bytes) ≡ Err (Region InvalidMmrData)
-unfolding mmr_bytes
+pub mmr-refused : (strict : Bool) (size w h : ℕ) (bytes part rest : List ℕ) (white : Grid) → strict ≡ true → 0 < w → size < (h + 7) / 8 → bytes_at size bytes ≡ Ok (part, rest) → wide_or_overflow w h ≡ Ok white → with_no_value (mmr_bitmap strict size w h bytes) ≡ Err (Region InvalidMmrData)
+unfolding mmr_bitmap
 mmr-refused strict size w h bytes part rest white strictly some short there fits =
     let many : length part ≡ size = bytes-many size bytes part rest there in
     rw (there, fits, mmr-short strict w h part strictly some (omega arith)) refl
@@ -42,8 +42,8 @@ no-columns : (w h : ℕ) (bytes : List ℕ) → w ≡ 0 → (rows_of w h bytes).
 unfolding rows_of
 no-columns w h bytes none = rw none refl
 
-pub mmr-passed : (strict : Bool) (size w h : ℕ) (bytes part rest : List ℕ) (white : Grid) → (strict ≡ false) ⊎ (w ≡ 0) → bytes_at size bytes ≡ Ok (part, rest) → wide_or_overflow w h ≡ Ok white → with_no_value (mmr_bytes strict size w h bytes) ≡ Ok tt
-unfolding mmr_bytes mmr_rows
+pub mmr-passed : (strict : Bool) (size w h : ℕ) (bytes part rest : List ℕ) (white : Grid) → (strict ≡ false) ⊎ (w ≡ 0) → bytes_at size bytes ≡ Ok (part, rest) → wide_or_overflow w h ≡ Ok white → with_no_value (mmr_bitmap strict size w h bytes) ≡ Ok tt
+unfolding mmr_bitmap mmr_rows
 mmr-passed strict size w h bytes part rest white (inl lenient) there fits = rw (there, fits, lenient) refl
 mmr-passed strict size w h bytes part rest white (inr none) there fits =
     let rows : DecodedRows = record { grid = grid_of_rows w h (rows_of w h part).rows; used = length part - length (rows_of w h part).left / 8 } in

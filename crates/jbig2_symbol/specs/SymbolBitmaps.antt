@@ -162,8 +162,8 @@ raw_rows width height bytes = do
   Ok (grid_of width height (raw_pixel rows (raw_stride width)), rest)
 
 -- or MMR data of this many bytes; both give the bytes after them
-unfoldable pub mmr_bytes : Bool → ℕ → ℕ → ℕ → List ℕ → Result (Grid × List ℕ) DecodeError
-mmr_bytes strict size width height bytes = do
+unfoldable pub mmr_bitmap : Bool → ℕ → ℕ → ℕ → List ℕ → Result (Grid × List ℕ) DecodeError
+mmr_bitmap strict size width height bytes = do
   (coded, rest) ← bytes_at size bytes
   fits ← wide_or_overflow width height
   rows ← mmr_rows strict width height coded
@@ -171,7 +171,7 @@ mmr_bytes strict size width height bytes = do
 
 abbrev pub rows_of_size : Bool → ℕ → ℕ → ℕ → List ℕ → Result (Grid × List ℕ) DecodeError
 rows_of_size strict size width height bytes =
-    if size == 0 then raw_rows width height bytes else mmr_bytes strict size width height bytes
+    if size == 0 then raw_rows width height bytes else mmr_bitmap strict size width height bytes
 
 -- The collective bitmap (6.5.9): its size, and then its rows from the next whole byte on. At size 0 they are not coded.
 unfoldable pub collective_bitmap : SymbolInput → ℕ → ℕ → SymbolState Place

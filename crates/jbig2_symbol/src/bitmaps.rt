@@ -7,7 +7,7 @@ ghost use Rattle.jbig2_base.specs.Counts.{WritesWithin};
 ghost use Rattle.jbig2_base.specs.Grid.{blank, wide_or_overflow};
 ghost use Rattle.jbig2_base.specs.inner.GridsBefore.{grid_before};
 ghost use Rattle.jbig2_steps.specs.Work.{Paid, price_of_bitmap};
-ghost use Rattle.jbig2_symbol.specs.SymbolBitmaps.{symbols_cut, raw_pixel, raw_stride, raw_rows, mmr_bytes, rows_of_size};
+ghost use Rattle.jbig2_symbol.specs.SymbolBitmaps.{symbols_cut, raw_pixel, raw_stride, raw_rows, mmr_bitmap, rows_of_size};
 ghost use Rattle.jbig2_symbol.specs.inner.SymbolViews.{bytes_of_rows, symbols_after, with_no_value};
 
 use crate::aggregates::SymbolSize;
@@ -98,7 +98,7 @@ fn read_raw_rows<A: Allocator, L: Ledger>(
 }
 
 /// Reads MMR data of `size` bytes (T.88, 6.5.9).
-#[tactic(auto, unfolding(crate::specs::SymbolBitmaps::mmr_bytes))]
+#[tactic(auto, unfolding(crate::specs::SymbolBitmaps::mmr_bitmap))]
 fn read_mmr_rows<A: Allocator, L: Ledger>(
     alloc: A,
     strict: bool,
@@ -107,7 +107,7 @@ fn read_mmr_rows<A: Allocator, L: Ledger>(
     reader: &mut Reader<'_>,
     work: &mut Work<L>,
 ) -> Result<Bitmap<A>>
-    ensures value { let meant = mmr_bytes strict size sides.width sides.height reader.old.bytes in
+    ensures value { let meant = mmr_bitmap strict size sides.width sides.height reader.old.bytes in
         Gives (λ bitmap. (bitmap, reader.new.bytes)) result meant }
     ensures place { OnOk result (reader.new ≡ start_of reader.new.bytes) }
     ensures paid { Paid work.old work.new }
@@ -145,7 +145,7 @@ pub fn read_rows<A: Allocator, L: Ledger>(
 
 /// Refuses MMR data of `size` bytes with the same errors as `read_mmr_rows`. It decodes only in
 /// strict mode, and only if the bytes are enough for all rows: each row takes at least one bit.
-#[tactic(auto, unfolding(crate::specs::SymbolBitmaps::mmr_bytes))]
+#[tactic(auto, unfolding(crate::specs::SymbolBitmaps::mmr_bitmap))]
 fn check_mmr_rows<A: Allocator, L: Ledger>(
     alloc: A,
     strict: bool,
@@ -154,7 +154,7 @@ fn check_mmr_rows<A: Allocator, L: Ledger>(
     reader: &mut Reader<'_>,
     work: &mut Work<L>,
 ) -> Result<()>
-    ensures value { let meant = mmr_bytes strict size sides.width sides.height reader.old.bytes in
+    ensures value { let meant = mmr_bitmap strict size sides.width sides.height reader.old.bytes in
         Gives (λ _. tt) result (with_no_value meant) }
     ensures paid { Paid work.old work.new }
 {

@@ -7,7 +7,7 @@ ghost use Rattle.jbig2_text.specs.Paying.{number_steps};
 ghost use Rattle.jbig2_symbol.specs.Causes.{BreaksEmptyClass};
 ghost use Rattle.jbig2_symbol.specs.ClassCauses.{BreaksHeightClass, ClassesHaveCauses};
 ghost use Rattle.jbig2_symbol.specs.HeightClasses.{drawn_class, empty_class, height_class, new_symbols, symbols_from};
-ghost use Rattle.jbig2_symbol.specs.inner.ClassWork.{HasRoom, PaidButClass, PaysClass};
+ghost use Rattle.jbig2_symbol.specs.inner.ClassWork.{HasRoomForSymbols, PaidButClass, PaysClass};
 ghost use Rattle.jbig2_symbol.specs.inner.SymbolViews.{concat, class_after, input_view, room_after};
 
 use crate::aggregates::SymbolSize;
@@ -54,7 +54,7 @@ fn read_symbols<R: ReadSymbols<A>, A: Allocator + Clone, L: Ledger>(
     readings: &mut R,
     work: &mut Work<L>,
 ) -> Result<()>
-    requires room { HasRoom input.now bitmaps.old.items }
+    requires room { HasRoomForSymbols input.now bitmaps.old.items }
     ensures value { let d = input_view input.now in
         let before = bitmaps.old.items in
         let state = R.state readings.old in
@@ -90,7 +90,7 @@ pub fn read_drawn_class<R: ReadSymbols<A>, A: Allocator + Clone, L: Ledger>(
     readings: &mut R,
     work: &mut Work<L>,
 ) -> Result<()>
-    requires room { HasRoom input.now bitmaps.old.items }
+    requires room { HasRoomForSymbols input.now bitmaps.old.items }
     ensures value { let d = input_view input.now in
         let before = bitmaps.old.items in
         let state = R.state readings.old in
@@ -113,7 +113,7 @@ fn read_height_class<R: ReadClasses<A>, A: Allocator + Clone, L: Ledger>(
     readings: &mut R,
     work: &mut Work<L>,
 ) -> Result<()>
-    requires room { HasRoom input.now symbols.old.bitmaps.items }
+    requires room { HasRoomForSymbols input.now symbols.old.bitmaps.items }
     requires few { symbols.old.empty < 4294967295 }
     ensures value { let d = input_view input.now in
         let before = symbols.old in

@@ -6,7 +6,7 @@ ghost use Rattle.jbig2_region.specs.inner.PixelArrays.{pixel_array};
 ghost use Rattle.jbig2_text.specs.inner.TextViews.{some_pixels};
 ghost use Rattle.jbig2_symbol.specs.SymbolHeader.{selection_of, other_selection_of, symbol_flags_of, coded_pixels_at, refined_pixels_at, symbol_header_at, max_new_symbols};
 ghost use Rattle.jbig2_symbol.specs.declared.header.HuffmanTableSelection.TheVariants.{TableB2, TableB3, TableB4, TableB5};
-ghost use Rattle.jbig2_symbol.specs.inner.HeaderViews.{coded_pixels, header_view, refined_pixels};
+ghost use Rattle.jbig2_symbol.specs.inner.HeaderViews.{code_pixels, header_view, refined_pixels};
 ghost use Rattle.jbig2_base.specs.Causes.{HasCause};
 ghost use Rattle.jbig2_symbol.specs.Causes.{BreaksSymbolHeader};
 
@@ -160,9 +160,9 @@ fn parse_coded_pixels(
     flags: &SymbolDictionaryFlags,
 ) -> Result<[AdaptiveTemplatePixel; 4]>
     ensures value { let meant = coded_pixels_at flags.now reader.old.bytes in
-        Returns (λ pixels. (coded_pixels flags.now pixels, reader.new.bytes)) result meant }
+        Returns (λ pixels. (code_pixels flags.now pixels, reader.new.bytes)) result meant }
     ensures unused { IfOk result
-        (λ pixels. pixels ≡ pixel_array 4 (coded_pixels flags.now pixels)) }
+        (λ pixels. pixels ≡ pixel_array 4 (code_pixels flags.now pixels)) }
 {
     if flags.use_huffman {
         return Ok([AdaptiveTemplatePixel { x: 0, y: 0 }; 4]);

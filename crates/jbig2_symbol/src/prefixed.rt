@@ -11,7 +11,7 @@ ghost use Rattle.jbig2_symbol.specs.Causes.{BreaksCollectiveBitmap, BreaksPrefix
 ghost use Rattle.jbig2_symbol.specs.SymbolBitmaps.{by_instances, collective_bitmap, plain_id, prefixed_aggregate, prefixed_instances};
 ghost use Rattle.jbig2_symbol.specs.SymbolCoding.{collective_class, prefix_codes_start};
 ghost use Rattle.jbig2_symbol.specs.SymbolReading.{SymbolState, by_table};
-ghost use Rattle.jbig2_symbol.specs.inner.ClassWork.{HasRoom, PaidButClass, PaysClass};
+ghost use Rattle.jbig2_symbol.specs.inner.ClassWork.{HasRoomForSymbols, PaidButClass, PaysClass};
 ghost use Rattle.jbig2_symbol.specs.inner.HeaderViews.{contexts_view};
 ghost use Rattle.jbig2_symbol.specs.inner.SymbolViews.{concat, input_view, prefixed_view, size_of_rows, tall_class};
 ghost use Rattle.jbig2_base.specs.Causes.{HasCauseOrNoMemory};
@@ -231,7 +231,7 @@ impl<'a, A: Allocator + Clone> PrefixedSymbols<'a, A> {
         bitmaps: &mut Vec<Bitmap<A>, A>,
         work: &mut Work<L>,
     ) -> Result<()>
-        requires { HasRoom input.now bitmaps.old.items }
+        requires { HasRoomForSymbols input.now bitmaps.old.items }
         ensures value { let d = input_view input.now in
             let before = bitmaps.old.items in
             let state = prefixed_view self.old in

@@ -5,7 +5,7 @@ ghost use Rattle.jbig2_steps.specs.Work.{PaidBut};
 ghost use Rattle.jbig2_text.specs.Paying.{number_steps};
 ghost use Rattle.jbig2_symbol.specs.ClassCauses.{ClassCauses, SymbolCauses};
 ghost use Rattle.jbig2_symbol.specs.SymbolReading.{ClassReadings, SymbolReadings};
-ghost use Rattle.jbig2_symbol.specs.inner.ClassWork.{HasRoom, PaidButClass, PaysClass};
+ghost use Rattle.jbig2_symbol.specs.inner.ClassWork.{HasRoomForSymbols, PaidButClass, PaysClass};
 ghost use Rattle.jbig2_symbol.specs.inner.SymbolViews.{concat, input_view};
 
 use crate::aggregates::SymbolSize;
@@ -92,7 +92,7 @@ pub trait ReadClasses<A: Allocator + Clone> {
         bitmaps: &mut Vec<Bitmap<A>, A>,
         work: &mut Work<L>,
     ) -> Result<()>
-        requires room { HasRoom input.now bitmaps.old.items }
+        requires room { HasRoomForSymbols input.now bitmaps.old.items }
         ensures value { let d = input_view input.now in
             let before = bitmaps.old.items in
             let s = state self.old in

@@ -9,7 +9,7 @@ use Rattle.jbig2_region.specs.Templates.{row_context}
 use Rattle.jbig2_inverses.specs.CoderStates.{Entry}
 use Rattle.jbig2_inverses.specs.RegionWriter.{entries_before, known_or, ltp_before, ltp_entries, pixel_entries, pixels_before, row_entries}
 use Rattle.jbig2_writer.specs.declared.settings.ArithmeticCoding.{ArithmeticCoding}
-use Rattle.jbig2_writer.specs.inner.Rows.{pixel_decisions, places, predicted_before, row_decisions, rows_decisions, typical_row}
+use Rattle.jbig2_writer.specs.inner.Rows.{decisions_of_pixels, places, predicted_before, decisions_of_row, decisions_of_rows, typical_row}
 use Rattle.jbig2_writer.proofs.ContextLemmas.{context-same, places-earlier}
 
 known-of : (t c : Bool) (e : Entry) → known_or (cond t (Some c) (cond false (Some false) None)) e ≡ cond t [] (e ∷ [])
@@ -97,8 +97,8 @@ module _ (s : ArithmeticCoding) (g : Grid) where
       cond-false (eqb (n % w) 0) coded [] (ne_eqb (n % w) 0 (λ e. omega (arith, e, at)))
 
   -- ---- a row, and all rows
-  row-so-far : (x y : ℕ) → x < w → entries (suc (y * w + x)) ≡ entries (y * w) ++ (opening y ++ cond (typical y) [] (pixel_decisions (places s.template) g y (suc x)))
-  unfolding pixel_decisions
+  row-so-far : (x y : ℕ) → x < w → entries (suc (y * w + x)) ≡ entries (y * w) ++ (opening y ++ cond (typical y) [] (decisions_of_pixels (places s.template) g y (suc x)))
+  unfolding decisions_of_pixels
   row-so-far zero y left =
       let n = y * w + 0 in
       let same : n ≡ y * w = omega arith in
@@ -109,7 +109,7 @@ module _ (s : ArithmeticCoding) (g : Grid) where
   row-so-far (suc x) y left =
       let n = y * w + suc x in
       let next : n ≡ suc (y * w + x) = omega arith in
-      let pixels : List Entry = pixel_decisions (places s.template) g y (suc x) in
+      let pixels : List Entry = decisions_of_pixels (places s.template) g y (suc x) in
       entries-next n
       ∙ ap (λ (m : ℕ). entries m ++ (row_of n ++ pixel_of n)) next
       ∙ ap (λ (xs : List Entry). xs ++ (row_of n ++ pixel_of n)) (row-so-far x y (omega (arith, left)))
@@ -117,19 +117,19 @@ module _ (s : ArithmeticCoding) (g : Grid) where
       ∙ ap (λ (xs : List Entry). (entries (y * w) ++ (opening y ++ cond (typical y) [] pixels)) ++ xs) (pixel-is (suc x) y left)
       ∙ pixel-joined (typical y) (entries (y * w)) (opening y) pixels (entry (suc x) y)
 
-  row-is : (y : ℕ) → row_decisions s g y (predicted_before s g y) ≡ opening y ++ cond (typical y) [] (pixel_decisions (places s.template) g y w)
-  unfolding row_decisions
+  row-is : (y : ℕ) → decisions_of_row s g y (predicted_before s g y) ≡ opening y ++ cond (typical y) [] (decisions_of_pixels (places s.template) g y w)
+  unfolding decisions_of_row
   row-is y = refl
 
-  pub rows-are : (y : ℕ) → 0 < w → rows_decisions s g y ≡ entries (y * w)
-  unfolding rows_decisions entries_before
+  pub rows-are : (y : ℕ) → 0 < w → decisions_of_rows s g y ≡ entries (y * w)
+  unfolding decisions_of_rows entries_before
   rows-are zero wide = ap entries (let e : 0 ≡ 0 * w = omega arith in e)
   rows-are (suc y) wide =
       let row : suc y * w ≡ y * w + w = omega arith in
       let whole : suc (y * w + (w - 1)) ≡ suc y * w = omega (arith, row, wide) in
       let all : w ≡ suc (w - 1) = omega (arith, wide) in
-      ap (λ (xs : List Entry). xs ++ row_decisions s g y (predicted_before s g y)) (rows-are y wide)
+      ap (λ (xs : List Entry). xs ++ decisions_of_row s g y (predicted_before s g y)) (rows-are y wide)
       ∙ ap (λ (xs : List Entry). entries (y * w) ++ xs) (row-is y)
-      ∙ ap (λ (n : ℕ). entries (y * w) ++ (opening y ++ cond (typical y) [] (pixel_decisions (places s.template) g y n))) all
+      ∙ ap (λ (n : ℕ). entries (y * w) ++ (opening y ++ cond (typical y) [] (decisions_of_pixels (places s.template) g y n))) all
       ∙ sym (row-so-far (w - 1) y (omega (arith, wide)))
       ∙ ap entries whole

@@ -21,7 +21,7 @@ use Rattle.jbig2_inverses.specs.SegmentWriter.{IsResolution, information_bytes, 
 use Rattle.jbig2_page.specs.Files.{book_at}
 use Rattle.jbig2_page.specs.Page.{IsSide, page_from}
 use Rattle.jbig2_page_inverse.specs.PageFile.{file_header, page_file}
-use Rattle.jbig2_page_inverse.specs.PageWriter.{IsChoice, coded_bytes, page_bytes, region_with}
+use Rattle.jbig2_page_inverse.specs.PageWriter.{IsChoice, coded_bytes, page_bytes, region_of_bytes}
 use Rattle.jbig2_page_inverse.proofs.PageFileInverse.{page_files_read_back}
 use Rattle.jbig2_page_inverse.proofs.PageInverse.{by-coder-short, by-mmr-short, pages_read_back}
 use Rattle.jbig2_writer.specs.declared.settings.Container.{Container}
@@ -30,8 +30,8 @@ use Rattle.jbig2_writer.specs.declared.settings.ArithmeticCoding.{ArithmeticCodi
 use Rattle.jbig2_writer.specs.declared.settings.RegionCoding.{RegionCoding}
 use Rattle.jbig2_writer.specs.declared.settings.RegionCoding.TheVariants.{Arithmetic, Mmr}
 use Rattle.jbig2_writer.specs.declared.settings.WriteSettings.{WriteSettings}
-use Rattle.jbig2_writer.specs.inner.Rows.{rows_decisions}
-use Rattle.jbig2_writer.specs.inner.Segments.{FitsResolution, file_of, information_of, page_information, region_data, segment_of, segments_in, segments_of}
+use Rattle.jbig2_writer.specs.inner.Rows.{decisions_of_rows}
+use Rattle.jbig2_writer.specs.inner.Segments.{FitsResolution, file_of, information_of, page_information, region_data, segment_of, container_bytes, segments_of}
 use Rattle.jbig2_writer.specs.Written.{IsReadIn, ReadsBack, adaptive_of, bytes_in, check_size, choice_of, choice_with, is_mmr, is_side, stated, template_of}
 use Rattle.jbig2_writer.specs.declared.error.WriteError.{WriteError}
 use Rattle.jbig2_writer.specs.declared.error.WriteError.TheVariants.{InvalidSides}
@@ -39,15 +39,15 @@ use Rattle.jbig2_writer.proofs.EntryLemmas.{rows-are}
 
 -- ---- the coded bytes
 entries-are : (a : ArithmeticCoding) (x y : Option ℕ) (g : Grid) → 0 < g.width
-    → rows_decisions a g g.height ≡ generic_entries (region_with (choice_with (Arithmetic a) x y) g.width g.height (pixel_at g) false []) (pixel_at g)
+    → decisions_of_rows a g g.height ≡ generic_entries (region_of_bytes (choice_with (Arithmetic a) x y) g.width g.height (pixel_at g) false []) (pixel_at g)
 unfolding generic_entries
 entries-are a x y g wide =
-    let header = region_with (choice_with (Arithmetic a) x y) g.width g.height (pixel_at g) false [] in
+    let header = region_of_bytes (choice_with (Arithmetic a) x y) g.width g.height (pixel_at g) false [] in
     let turned : g.height * g.width ≡ g.width * g.height = omega arith in
     rows-are a g g.height wide
     ∙ ap (λ (n : ℕ). entries_before (generic_coding header) g.width g.height (pixel_at g) (is_typical a.typical g.width (pixel_at g)) 0 n) turned
 
-arithmetic-coded : (a : ArithmeticCoding) (x y : Option ℕ) (g : Grid) → 1 ≤ g.width → encoded_bytes (rows_decisions a g g.height) ≡ coded_bytes (choice_with (Arithmetic a) x y) g.width g.height (pixel_at g)
+arithmetic-coded : (a : ArithmeticCoding) (x y : Option ℕ) (g : Grid) → 1 ≤ g.width → encoded_bytes (decisions_of_rows a g g.height) ≡ coded_bytes (choice_with (Arithmetic a) x y) g.width g.height (pixel_at g)
 unfolding coded_bytes
 arithmetic-coded a x y g some = ap encoded_bytes (entries-are a x y g (omega (arith, some)))
 
@@ -59,7 +59,7 @@ mmr-coded x y g = refl
 abbrev coded_with : (s : WriteSettings) (g : Grid) → RegionCoding → List ℕ
 coded_with s g coding = coded_bytes (choice_with coding (stated s.x_resolution) (stated s.y_resolution)) g.width g.height (pixel_at g)
 
-pub coded-by-arithmetic : (s : WriteSettings) (a : ArithmeticCoding) (g : Grid) → s.coding ≡ Arithmetic a → 1 ≤ g.width → encoded_bytes (rows_decisions a g g.height) ≡ coded_bytes (choice_of s) g.width g.height (pixel_at g)
+pub coded-by-arithmetic : (s : WriteSettings) (a : ArithmeticCoding) (g : Grid) → s.coding ≡ Arithmetic a → 1 ≤ g.width → encoded_bytes (decisions_of_rows a g g.height) ≡ coded_bytes (choice_of s) g.width g.height (pixel_at g)
 coded-by-arithmetic s a g is some = arithmetic-coded a (stated s.x_resolution) (stated s.y_resolution) g some ∙ ap (coded_with s g) (sym is)
 
 pub coded-by-mmr : (s : WriteSettings) (g : Grid) → s.coding ≡ Mmr → mmr_bytes true g.width g.height (pixel_at g) ≡ coded_bytes (choice_of s) g.width g.height (pixel_at g)
@@ -173,12 +173,12 @@ coded-parts : (s : WriteSettings) (g : Grid) (w h : ℕ) (made : ℕ → ℕ →
 coded-parts s g w h made coded slice is_w is_h is_slice is_coded = λ i. made (is_w i) (is_h i) ((is_slice ∙ is_coded) i)
 
 -- they are the page or the file
-pub page-made : (s : WriteSettings) (g : Grid) (w h : ℕ) (bytes coded slice : List ℕ) → w ≡ g.width → h ≡ g.height → bytes ≡ segments_in s.container s w h slice → slice ≡ coded → coded ≡ coded_bytes (choice_of s) g.width g.height (pixel_at g)
+pub page-made : (s : WriteSettings) (g : Grid) (w h : ℕ) (bytes coded slice : List ℕ) → w ≡ g.width → h ≡ g.height → bytes ≡ container_bytes s.container s w h slice → slice ≡ coded → coded ≡ coded_bytes (choice_of s) g.width g.height (pixel_at g)
     → bytes ≡ bytes_in s.container (choice_of s) g.width g.height (pixel_at g)
 page-made s g w h bytes coded slice is_w is_h is_bytes is_slice is_coded =
-    is_bytes ∙ coded-parts s g w h (segments_in s.container s) coded slice is_w is_h is_slice is_coded ∙ in_container s.container
+    is_bytes ∙ coded-parts s g w h (container_bytes s.container s) coded slice is_w is_h is_slice is_coded ∙ in_container s.container
   where
-    in_container : (container : Container) → segments_in container s g.width g.height (coded_bytes (choice_of s) g.width g.height (pixel_at g)) ≡ bytes_in container (choice_of s) g.width g.height (pixel_at g)
+    in_container : (container : Container) → container_bytes container s g.width g.height (coded_bytes (choice_of s) g.width g.height (pixel_at g)) ≡ bytes_in container (choice_of s) g.width g.height (pixel_at g)
     in_container EmbeddedPage =
         ap (λ (l : List ℕ). segment_of 0 48 1 (information_of s g.width g.height) ++ l) (sym (append-nil (segment_of 1 38 1 (region_data s g.width g.height (coded_bytes (choice_of s) g.width g.height (pixel_at g))))))
         ∙ sym (page-is s g.width g.height (pixel_at g))

@@ -17,8 +17,8 @@ use Rattle.jbig2_inverses.specs.CoderStates.{Entry}
 use Rattle.jbig2_inverses.specs.RegionWriter.{row_above, same_rows}
 use Rattle.jbig2_writer.specs.declared.neighbours.Neighbours.{Neighbours}
 use Rattle.jbig2_writer.specs.declared.settings.ArithmeticCoding.{ArithmeticCoding}
-use Rattle.jbig2_writer.specs.inner.Rows.{pixel_decisions, places, predicted_before, row_decisions, rows_decisions, typical_row}
-use Rattle.jbig2_writer.specs.inner.Windows.{GoesOn, IsNear, neighbour_pixels, neighbours_of}
+use Rattle.jbig2_writer.specs.inner.Rows.{decisions_of_pixels, places, predicted_before, decisions_of_row, decisions_of_rows, typical_row}
+use Rattle.jbig2_writer.specs.inner.Windows.{CodesOn, IsNarrow, neighbour_pixels, neighbours_of}
 use Rattle.jbig2_writer.proofs.WindowLemmas.{same-words}
 
 -- ---- typical rows
@@ -95,39 +95,39 @@ module _ (g : Grid) (y : ℕ) where
   row-same n all each = sym (rows-all g.width here above (λ i inside. each i (omega (arith, inside, all))))
 
 -- ---- the pixels of a row
-pub goes-nowhere : (s : CodingInContexts) (before after : List Entry) → before ≡ after → GoesOn s s before after
+pub goes-nowhere : (s : CodingInContexts) (before after : List Entry) → before ≡ after → CodesOn s s before after
 goes-nowhere s before after e = λ list has. subst (λ (more : List Entry). HasCoded s (list ++ more)) e has
 
-goes-further : (s t u : CodingInContexts) (before middle after : List Entry) (e : Entry) → GoesOn s t before middle → Codes t u (e ∷ []) → after ≡ middle ++ e ∷ [] → GoesOn s u before after
+goes-further : (s t u : CodingInContexts) (before middle after : List Entry) (e : Entry) → CodesOn s t before middle → Codes t u (e ∷ []) → after ≡ middle ++ e ∷ [] → CodesOn s u before after
 goes-further s t u before middle after e goes codes is = λ list has.
     subst (λ (all : List Entry). HasCoded u all) (append_assoc list middle (e ∷ []) ∙ ap (λ (more : List Entry). list ++ more) (sym is)) (codes (list ++ middle) (goes list has))
 
 pub group-more : (s t u : CodingInContexts) (n : Neighbours) (g : Grid) (x y offset k : ℕ) (b : Bool)
-    → GoesOn s t (pixel_decisions (neighbour_pixels n) g y x) (pixel_decisions (neighbour_pixels n) g y (x + offset)) → Codes t u ((k, b) ∷ [])
+    → CodesOn s t (decisions_of_pixels (neighbour_pixels n) g y x) (decisions_of_pixels (neighbour_pixels n) g y (x + offset)) → Codes t u ((k, b) ∷ [])
     → k ≡ context_at (neighbour_pixels n) g (x + offset) y → b ≡ pixel_at g (x + offset) y
-    → GoesOn s u (pixel_decisions (neighbour_pixels n) g y x) (pixel_decisions (neighbour_pixels n) g y (x + (offset + 1)))
-unfolding pixel_decisions
+    → CodesOn s u (decisions_of_pixels (neighbour_pixels n) g y x) (decisions_of_pixels (neighbour_pixels n) g y (x + (offset + 1)))
+unfolding decisions_of_pixels
 group-more s t u n g x y offset k b goes codes is_k is_b =
     let next : x + (offset + 1) ≡ suc (x + offset) = omega arith in
     let template : List AdaptiveTemplatePixel = neighbour_pixels n in
-    goes-further s t u (pixel_decisions template g y x) (pixel_decisions template g y (x + offset)) (pixel_decisions template g y (x + (offset + 1))) (k, b) goes codes
-    (ap (λ (m : ℕ). pixel_decisions template g y m) next ∙ (λ i. pixel_decisions template g y (x + offset) ++ (sym is_k i, sym is_b i) ∷ []))
+    goes-further s t u (decisions_of_pixels template g y x) (decisions_of_pixels template g y (x + offset)) (decisions_of_pixels template g y (x + (offset + 1))) (k, b) goes codes
+    (ap (λ (m : ℕ). decisions_of_pixels template g y m) next ∙ (λ i. decisions_of_pixels template g y (x + offset) ++ (sym is_k i, sym is_b i) ∷ []))
 
-pub pixels-none : (s : CodingInContexts) (template : List AdaptiveTemplatePixel) (g : Grid) (y n : ℕ) → n ≡ 0 → Codes s s (pixel_decisions template g y n)
-unfolding pixel_decisions
+pub pixels-none : (s : CodingInContexts) (template : List AdaptiveTemplatePixel) (g : Grid) (y n : ℕ) → n ≡ 0 → Codes s s (decisions_of_pixels template g y n)
+unfolding decisions_of_pixels
 pixels-none s template g y n e = λ list has. rw (e, append-nil list) has
 
-pub pixels-more : (s t u : CodingInContexts) (template : List AdaptiveTemplatePixel) (g : Grid) (y m x x' n : ℕ) → m ≡ x → x' ≡ n → Codes s t (pixel_decisions template g y m)
-    → GoesOn t u (pixel_decisions template g y x) (pixel_decisions template g y x') → Codes s u (pixel_decisions template g y n)
+pub pixels-more : (s t u : CodingInContexts) (template : List AdaptiveTemplatePixel) (g : Grid) (y m x x' n : ℕ) → m ≡ x → x' ≡ n → Codes s t (decisions_of_pixels template g y m)
+    → CodesOn t u (decisions_of_pixels template g y x) (decisions_of_pixels template g y x') → Codes s u (decisions_of_pixels template g y n)
 pixels-more s t u template g y m x x' n is_m is_n codes goes = λ list has.
-    subst (λ (k : ℕ). HasCoded u (list ++ pixel_decisions template g y k)) is_n
-    (goes list (subst (λ (k : ℕ). HasCoded t (list ++ pixel_decisions template g y k)) is_m (codes list has)))
+    subst (λ (k : ℕ). HasCoded u (list ++ decisions_of_pixels template g y k)) is_n
+    (goes list (subst (λ (k : ℕ). HasCoded t (list ++ decisions_of_pixels template g y k)) is_m (codes list has)))
 
-pub pixels-all : (s t : CodingInContexts) (template : List AdaptiveTemplatePixel) (g : Grid) (y m n : ℕ) → m ≡ n → Codes s t (pixel_decisions template g y m) → Codes s t (pixel_decisions template g y n)
-pixels-all s t template g y m n e codes = subst (λ (k : ℕ). Codes s t (pixel_decisions template g y k)) e codes
+pub pixels-all : (s t : CodingInContexts) (template : List AdaptiveTemplatePixel) (g : Grid) (y m n : ℕ) → m ≡ n → Codes s t (decisions_of_pixels template g y m) → Codes s t (decisions_of_pixels template g y n)
+pixels-all s t template g y m n e codes = subst (λ (k : ℕ). Codes s t (decisions_of_pixels template g y k)) e codes
 
 -- ---- a row
-pub near : (template : Template) → IsNear (neighbours_of template)
+pub near : (template : Template) → IsNarrow (neighbours_of template)
 near Template0 = record { left = omega arith; above_reach = omega arith; above_count = omega arith; top_reach = omega arith; top_count = omega arith; few = omega arith }
 near Template1 = record { left = omega arith; above_reach = omega arith; above_count = omega arith; top_reach = omega arith; top_count = omega arith; few = omega arith }
 near Template2 = record { left = omega arith; above_reach = omega arith; above_count = omega arith; top_reach = omega arith; top_count = omega arith; few = omega arith }
@@ -139,13 +139,13 @@ places-are Template1 = refl
 places-are Template2 = refl
 places-are Template3 = refl
 
-pub row-plain : (s : ArithmeticCoding) (g : Grid) (y : ℕ) (p : Bool) → s.typical ≡ false → row_decisions s g y p ≡ pixel_decisions (places s.template) g y g.width
-unfolding row_decisions
+pub row-plain : (s : ArithmeticCoding) (g : Grid) (y : ℕ) (p : Bool) → s.typical ≡ false → decisions_of_row s g y p ≡ decisions_of_pixels (places s.template) g y g.width
+unfolding decisions_of_row
 row-plain s g y p e = rw e refl
 
 row-coded : (s : ArithmeticCoding) (g : Grid) (y : ℕ) (p same : Bool) → s.typical ≡ true → same_rows g.width (λ x. pixel_at g x y) (row_above (pixel_at g) y) ≡ same
-    → row_decisions s g y p ≡ (row_context s.template, differ same p) ∷ cond same [] (pixel_decisions (places s.template) g y g.width)
-unfolding row_decisions
+    → decisions_of_row s g y p ≡ (row_context s.template, differ same p) ∷ cond same [] (decisions_of_pixels (places s.template) g y g.width)
+unfolding decisions_of_row
 row-coded s g y p same e f = rw (e, f) refl
 
 changes : (same p : Bool) → not (beq same p) ≡ differ same p
@@ -156,13 +156,13 @@ changes false false = refl
 
 -- the pixels of a row, in the places of its template
 at-places : (s t : CodingInContexts) (st : ArithmeticCoding) (g : Grid) (y : ℕ) (n : Neighbours) → n ≡ neighbours_of st.template
-    → Codes s t (pixel_decisions (neighbour_pixels n) g y g.width) → Codes s t (pixel_decisions (places st.template) g y g.width)
+    → Codes s t (decisions_of_pixels (neighbour_pixels n) g y g.width) → Codes s t (decisions_of_pixels (places st.template) g y g.width)
 at-places s t st g y n is_n codes =
-    subst (λ (template : List AdaptiveTemplatePixel). Codes s t (pixel_decisions template g y g.width)) (ap neighbour_pixels is_n ∙ places-are st.template) codes
+    subst (λ (template : List AdaptiveTemplatePixel). Codes s t (decisions_of_pixels template g y g.width)) (ap neighbour_pixels is_n ∙ places-are st.template) codes
 
 -- a row that takes no decision SLTP
 pub row-uncoded : (s t : CodingInContexts) (st : ArithmeticCoding) (g : Grid) (y : ℕ) (p : Bool) (n : Neighbours) → st.typical ≡ false → n ≡ neighbours_of st.template
-    → Codes s t (pixel_decisions (neighbour_pixels n) g y g.width) → Codes s t (row_decisions st g y p)
+    → Codes s t (decisions_of_pixels (neighbour_pixels n) g y g.width) → Codes s t (decisions_of_row st g y p)
 row-uncoded s t st g y p n e is_n codes = subst (λ (more : List Entry). Codes s t more) (sym (row-plain st g y p e)) (at-places s t st g y n is_n codes)
 
 -- the decision SLTP
@@ -171,31 +171,31 @@ sltp s t k k' p same same' is_k is codes = subst (λ (e : Entry). Codes s t (e �
 
 -- a typical row
 pub row-predicted : (s t : CodingInContexts) (st : ArithmeticCoding) (g : Grid) (y k : ℕ) (p same : Bool) → st.typical ≡ true → same ≡ same_rows g.width (λ x. pixel_at g x y) (row_above (pixel_at g) y) → same ≡ true
-    → k ≡ row_context st.template → Codes s t ((k, not (beq same p)) ∷ []) → Codes s t (row_decisions st g y p)
+    → k ≡ row_context st.template → Codes s t ((k, not (beq same p)) ∷ []) → Codes s t (decisions_of_row st g y p)
 row-predicted s t st g y k p same e is_same typical is_k codes =
     subst (λ (more : List Entry). Codes s t more) (sym (row-coded st g y p true e (sym is_same ∙ typical))) (sltp s t k (row_context st.template) p same true is_k typical codes)
 
 -- a row that is not typical
 pub row-read : (s t u : CodingInContexts) (st : ArithmeticCoding) (g : Grid) (y k : ℕ) (p same : Bool) (n : Neighbours) → st.typical ≡ true
     → same ≡ same_rows g.width (λ x. pixel_at g x y) (row_above (pixel_at g) y) → same ≡ false → k ≡ row_context st.template → n ≡ neighbours_of st.template
-    → Codes s t ((k, not (beq same p)) ∷ []) → Codes t u (pixel_decisions (neighbour_pixels n) g y g.width) → Codes s u (row_decisions st g y p)
+    → Codes s t ((k, not (beq same p)) ∷ []) → Codes t u (decisions_of_pixels (neighbour_pixels n) g y g.width) → Codes s u (decisions_of_row st g y p)
 row-read s t u st g y k p same n e is_same other is_k is_n opens codes =
     let first : Entry = (row_context st.template, differ false p) in
-    let pixels : List Entry = pixel_decisions (places st.template) g y g.width in
+    let pixels : List Entry = decisions_of_pixels (places st.template) g y g.width in
     subst (λ (more : List Entry). Codes s u more) (sym (row-coded st g y p false e (sym is_same ∙ other)))
     (λ list has.
     subst (λ (all : List Entry). HasCoded u all) (append_assoc list (first ∷ []) pixels)
     (at-places t u st g y n is_n codes (list ++ first ∷ []) (sltp s t k (row_context st.template) p same false is_k other opens list has)))
 
 -- ---- the rows
-pub rows-none : (encoder : CodingInContexts) (s : ArithmeticCoding) (g : Grid) → HasCoded encoder [] → HasCoded encoder (rows_decisions s g 0)
-unfolding rows_decisions
+pub rows-none : (encoder : CodingInContexts) (s : ArithmeticCoding) (g : Grid) → HasCoded encoder [] → HasCoded encoder (decisions_of_rows s g 0)
+unfolding decisions_of_rows
 rows-none encoder s g has = has
 
-pub rows-more : (old new : CodingInContexts) (s : ArithmeticCoding) (g : Grid) (y : ℕ) (p : Bool) → HasCoded old (rows_decisions s g y) → p ≡ predicted_before s g y → Codes old new (row_decisions s g y p) → HasCoded new (rows_decisions s g (y + 1))
-unfolding rows_decisions
+pub rows-more : (old new : CodingInContexts) (s : ArithmeticCoding) (g : Grid) (y : ℕ) (p : Bool) → HasCoded old (decisions_of_rows s g y) → p ≡ predicted_before s g y → Codes old new (decisions_of_row s g y p) → HasCoded new (decisions_of_rows s g (y + 1))
+unfolding decisions_of_rows
 rows-more old new s g y p has is_p codes =
-    rw add-one (subst (λ (b : Bool). HasCoded new (rows_decisions s g y ++ row_decisions s g y b)) is_p (codes (rows_decisions s g y) has))
+    rw add-one (subst (λ (b : Bool). HasCoded new (decisions_of_rows s g y ++ decisions_of_row s g y b)) is_p (codes (decisions_of_rows s g y) has))
 
 pub gives-bytes : {X : Type 0} (view : X → List ℕ) (r : Result X DecodeError) (meant : List ℕ) → Gives view r (Ok meant) → IfOk r (λ x. view x ≡ meant)
 gives-bytes view (Ok x) meant given = sym (ok-same given)

@@ -13,10 +13,10 @@ use Rattle.jbig2_region.proofs.ContextBits.{context-append, joined-lt, length-si
 use Rattle.jbig2_region.proofs.WindowLemmas.{pixel-inside, stretch-context}
 use Rattle.jbig2_writer.specs.declared.neighbours.Neighbours.{Neighbours}
 use Rattle.jbig2_writer.specs.declared.windows.Windows.{Windows}
-use Rattle.jbig2_writer.specs.inner.Windows.{IsNear, Shows, neighbour_pixels}
+use Rattle.jbig2_writer.specs.inner.Windows.{IsNarrow, AreWindows, neighbour_pixels}
 
-module _ (n : Neighbours) (near : IsNear n) where
-  module _ (g : Grid) (x y offset : ℕ) (w : Windows) (within : offset < 32) (shows : Shows g x y w) where
+module _ (n : Neighbours) (near : IsNarrow n) where
+  module _ (g : Grid) (x y offset : ℕ) (w : Windows) (within : offset < 32) (shows : AreWindows g x y w) where
     left-is : w.row / 2 ^ (56 - offset) % 2 ^ n.left ≡ context_at (side_by_side (negsuc 0) 0 n.left) g (x + offset) y
     left-is =
         side-context g (x + offset) y 0 n.left w.row (56 - offset) (negsuc 0) (λ i inside.
@@ -68,7 +68,7 @@ one-bit : (v word k : ℕ) → v ≡ word / 2 ^ k % 2 ^ 1 → eqb v 1 ≡ bit wo
 unfolding bit
 one-bit v word k e = rw e refl
 
-pub black-is : (g : Grid) (x y offset v : ℕ) (w : Windows) → offset < 32 → Shows g x y w → v ≡ w.row / 2 ^ (55 - offset) % 2 ^ 1 → eqb v 1 ≡ pixel_at g (x + offset) y
+pub black-is : (g : Grid) (x y offset v : ℕ) (w : Windows) → offset < 32 → AreWindows g x y w → v ≡ w.row / 2 ^ (55 - offset) % 2 ^ 1 → eqb v 1 ≡ pixel_at g (x + offset) y
 black-is g x y offset v w within shows e =
     let place : 55 - offset ≡ 63 - (8 + offset) = omega (arith, within) in
     let column : pos (x + (8 + offset)) -ℤ pos 8 ≡ pos (x + offset) = omega (arith, ints) in

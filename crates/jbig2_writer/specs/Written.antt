@@ -15,7 +15,7 @@ use Rattle.jbig2_page.specs.Names.{Names}
 use Rattle.jbig2_page.specs.Page.{ReadPage, page_from, grid_of_page}
 use Rattle.jbig2_inverses.specs.SegmentWriter.{number_or_0}
 use Rattle.jbig2_page_inverse.specs.PageFile.{page_file}
-use Rattle.jbig2_page_inverse.specs.PageWriter.{Choice, page_bytes, resolution_of}
+use Rattle.jbig2_page_inverse.specs.PageWriter.{PageChoice, page_bytes, resolution_of}
 use Rattle.jbig2_writer.specs.declared.error.WriteError.{WriteError}
 use Rattle.jbig2_writer.specs.declared.error.WriteError.TheVariants.{InvalidSides, OutOfMemory}
 use Rattle.jbig2_writer.specs.declared.settings.Container.{Container}
@@ -43,7 +43,7 @@ abbrev pub adaptive_of : RegionCoding → List AdaptiveTemplatePixel  -- at thei
 adaptive_of (Arithmetic a) = nominal_adaptive_pixels a.template
 adaptive_of Mmr = []
 
-abbrev pub choice_with : RegionCoding → Option ℕ → Option ℕ → Choice
+abbrev pub choice_with : RegionCoding → Option ℕ → Option ℕ → PageChoice
 choice_with coding x_resolution y_resolution = record {
   mmr = is_mmr coding;
   end_of_block = true;
@@ -55,7 +55,7 @@ choice_with coding x_resolution y_resolution = record {
   y_resolution = y_resolution;
 }
 
-abbrev pub choice_of : WriteSettings → Choice
+abbrev pub choice_of : WriteSettings → PageChoice
 choice_of s = choice_with s.coding (stated s.x_resolution) (stated s.y_resolution)
 
 abbrev pub most_loads : RegionCoding → ℕ → ℕ → ℕ  -- how many loads of pixels a bitmap of this size takes at most
@@ -69,7 +69,7 @@ abbrev pub check_size : ℕ → ℕ → Result (Unit {0}) WriteError
 check_size width height = if is_side width && is_side height then Ok tt else Err InvalidSides
 
 -- the bytes that hold these pixels, as an embedded page or as a file
-abbrev pub bytes_in : Container → Choice → ℕ → ℕ → (ℕ → ℕ → Bool) → List ℕ
+abbrev pub bytes_in : Container → PageChoice → ℕ → ℕ → (ℕ → ℕ → Bool) → List ℕ
 bytes_in EmbeddedPage c width height pixels = page_bytes c width height pixels
 bytes_in File c width height pixels = page_file c width height pixels
 
@@ -79,22 +79,22 @@ written s g =
     check_size g.width g.height >>= λ _. Ok (bytes_in s.container (choice_of s) g.width g.height (pixel_at g))
 
 -- The result of a call, seen by `view`, is what was meant, unless memory ran out.
-abbrev pub Gives : {X Y : Type 0} → (X → Y) → Result X WriteError → Result Y WriteError → Type 0
-Gives view (Ok x) meant = meant ≡ Ok (view x)
-Gives view (Err e) meant = (e ≡ OutOfMemory) ⊎ (meant ≡ Err e)
+abbrev pub GivesWritten : {X Y : Type 0} → (X → Y) → Result X WriteError → Result Y WriteError → Type 0
+GivesWritten view (Ok x) meant = meant ≡ Ok (view x)
+GivesWritten view (Err e) meant = (e ≡ OutOfMemory) ⊎ (meant ≡ Err e)
 
 -- The page is drawn as this grid, and states the resolution of the settings.
-abbrev pub Shows : WriteSettings → Grid → ReadPage → Type 0
-Shows s g page =
+abbrev pub ShowsPage : WriteSettings → Grid → ReadPage → Type 0
+ShowsPage s g page =
     (grid_of_page page ≡ Ok g) × (resolution_of page.segments ≡ Ok (stated s.x_resolution, stated s.y_resolution))
 
 -- In each mode the bytes are an embedded page, with any globals, or a file of one page, and it shows this.
 abbrev pub IsReadIn : Container → WriteSettings → List ℕ → Grid → Type 0
 IsReadIn EmbeddedPage s bytes g = (reading : Reading) (globals : Names)
-    → (page : ReadPage) × (page_from reading globals bytes ≡ Ok page) × Shows s g page
+    → (page : ReadPage) × (page_from reading globals bytes ≡ Ok page) × ShowsPage s g page
 IsReadIn File s bytes g = (reading : Reading)
     → (book : ReadFile) × (page : ReadPage) × (book_at reading bytes ≡ Ok book)
-    × (pages_of book ≡ page ∷ []) × Shows s g page
+    × (pages_of book ≡ page ∷ []) × ShowsPage s g page
 
 abbrev pub ReadsBack : WriteSettings → List ℕ → Grid → Type 0
 ReadsBack s bytes g = IsReadIn s.container s bytes g

@@ -1,7 +1,7 @@
 //! The bytes of a page, embedded (T.88, D.3) or in a file (D.1).
 ghost use Rattle.std.specs.Prelude.{◌≡◌, ◌+◌, ◌^◌, ◌<◌, ◌++◌, length, IfOk, OnOk};
 ghost use Rattle.jbig2_inverses.specs.SegmentWriter.{number_or_0};
-ghost use Rattle.jbig2_writer.specs.inner.Segments.{FitsResolution, file_of, segments_in, segments_of};
+ghost use Rattle.jbig2_writer.specs.inner.Segments.{FitsResolution, file_of, container_bytes, segments_of};
 
 use crate::segments::{push_file_header, push_information, push_region, push_segment};
 use crate::settings::{Container, WriteSettings};
@@ -82,7 +82,7 @@ pub fn bytes_of_page<A: Allocator + Clone>(
 ) -> Result<Vec<u8, A>, AllocError>
     requires { length coded.now + 26 < 2 ^ 32 }
     ensures bytes { IfOk result (λ v. v.items
-        ≡ segments_in settings.now.container settings.now width height coded.now) }
+        ≡ container_bytes settings.now.container settings.now width height coded.now) }
     ensures resolution { IfOk result (λ _. FitsResolution settings.now) }
 {
     let mut bytes = Vec::new(alloc.clone()?);

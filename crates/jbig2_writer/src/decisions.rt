@@ -4,8 +4,8 @@ ghost use Rattle.jbig2_base.specs.Grid.{max_side, pixel_at};
 ghost use Rattle.jbig2_base.specs.Bits.{bit};
 ghost use Rattle.jbig2_coder.specs.Encoder.{Codes, encoded_bytes};
 ghost use Rattle.jbig2_inverses.specs.RegionWriter.{row_above, same_rows};
-ghost use Rattle.jbig2_writer.specs.inner.Rows.{pixel_decisions, row_decisions, rows_decisions, typical_row};
-ghost use Rattle.jbig2_writer.specs.inner.Windows.{CodesGroup, IsNear, neighbour_pixels};
+ghost use Rattle.jbig2_writer.specs.inner.Rows.{decisions_of_pixels, decisions_of_row, decisions_of_rows, typical_row};
+ghost use Rattle.jbig2_writer.specs.inner.Windows.{CodesGroup, IsNarrow, neighbour_pixels};
 
 use crate::neighbours::{Neighbours, neighbours_of, row_context};
 use crate::settings::ArithmeticCoding;
@@ -62,7 +62,7 @@ fn push_each<A: Allocator + Clone>(
     windows: Windows,
     count: u32,
 ) -> Result<()>
-    requires near { IsNear neighbours }
+    requires near { IsNarrow neighbours }
     requires few { count ≤ 32 }
     ensures { OnOk result (CodesGroup neighbours windows count encoder.old encoder.new) }
 {
@@ -81,7 +81,7 @@ fn push_group<A: Allocator + Clone>(
     windows: Windows,
     count: u32,
 ) -> Result<()>
-    requires near { IsNear neighbours }
+    requires near { IsNarrow neighbours }
     requires few { count ≤ 32 }
     ensures { OnOk result (CodesGroup neighbours windows count encoder.old encoder.new) }
 {
@@ -105,10 +105,10 @@ fn push_pixels<A: Allocator + Clone, B: Allocator, L: Ledger>(
     y: u32,
     steps: &mut Steps<L>,
 ) -> Result<()>
-    requires near { IsNear neighbours }
+    requires near { IsNarrow neighbours }
     requires columns { bitmap.now.width ≤ max_side }
     ensures pixels { OnOk result (Codes encoder.old encoder.new
-        (pixel_decisions (neighbour_pixels neighbours) bitmap.now y bitmap.now.width)) }
+        (decisions_of_pixels (neighbour_pixels neighbours) bitmap.now y bitmap.now.width)) }
     ensures steps { steps.new ≡ record steps.old { loads = steps.new.loads } }
     ensures loads { steps.new.loads ≤ steps.old.loads + 3 * ((bitmap.now.width + 31) / 32) }
 {
@@ -133,7 +133,7 @@ fn push_row<A: Allocator + Clone, B: Allocator, L: Ledger>(
 ) -> Result<bool>
     requires columns { bitmap.now.width ≤ max_side }
     ensures row { OnOk result
-        (Codes encoder.old encoder.new (row_decisions coding.now bitmap.now y predicted)) }
+        (Codes encoder.old encoder.new (decisions_of_row coding.now bitmap.now y predicted)) }
     ensures typical { IfOk result (λ typical. typical ≡ typical_row coding.now bitmap.now y) }
     ensures steps { steps.new ≡ record steps.old { loads = steps.new.loads } }
     ensures loads { steps.new.loads ≤ steps.old.loads + 5 * ((bitmap.now.width + 31) / 32) }
@@ -161,7 +161,7 @@ pub fn coded_rows<A: Allocator + Clone, B: Allocator, L: Ledger>(
 ) -> Result<Vec<u8, A>>
     requires columns { bitmap.now.width ≤ max_side }
     ensures bytes { IfOk result (λ v. v.items
-        ≡ encoded_bytes (rows_decisions coding.now bitmap.now bitmap.now.height)) }
+        ≡ encoded_bytes (decisions_of_rows coding.now bitmap.now bitmap.now.height)) }
     ensures steps { steps.new ≡ record steps.old { loads = steps.new.loads } }
     ensures loads { steps.new.loads
         ≤ steps.old.loads + 5 * ((bitmap.now.width + 31) / 32 * bitmap.now.height) }

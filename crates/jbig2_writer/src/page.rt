@@ -4,7 +4,7 @@ ghost use Rattle.jbig2_base.specs.Grid.{max_side, pixel_at};
 ghost use Rattle.jbig2_page.specs.Image.{packed_size};
 ghost use Rattle.jbig2_page_inverse.specs.PageWriter.{coded_bytes};
 ghost use Rattle.jbig2_writer.specs.Packed.{packed_grid};
-ghost use Rattle.jbig2_writer.specs.Written.{Gives, ReadsBack, check_size, choice_of, is_side, most_loads, written};
+ghost use Rattle.jbig2_writer.specs.Written.{GivesWritten, ReadsBack, check_size, choice_of, is_side, most_loads, written};
 
 use crate::container::bytes_of_page;
 use crate::decisions::coded_rows;
@@ -69,7 +69,7 @@ pub fn write_page<A: Allocator + Clone, B: Allocator, L: Ledger>(
     settings: &WriteSettings,
     steps: &mut Steps<L>,
 ) -> Result<Vec<u8, A>, WriteError>
-    ensures bytes { Gives (λ v. v.items) result (written settings.now bitmap.now) }
+    ensures bytes { GivesWritten (λ v. v.items) result (written settings.now bitmap.now) }
     // The definition of a page, or of a file, reads back the bitmap and the resolution.
     ensures reads_back { IfOk result (λ v. ReadsBack settings.now v.items bitmap.now) }
     ensures steps { steps.new ≡ record steps.old { loads = steps.new.loads } }
@@ -97,7 +97,7 @@ pub fn write_packed<A: Allocator + Clone, L: Ledger>(
     steps: &mut Steps<L>,
 ) -> Result<Vec<u8, A>, WriteError>
     requires size { length rows.now ≡ packed_size width height }
-    ensures bytes { Gives (λ v. v.items) result
+    ensures bytes { GivesWritten (λ v. v.items) result
         (written settings.now (packed_grid width height rows.now)) }
     ensures reads_back { IfOk result
         (λ v. ReadsBack settings.now v.items (packed_grid width height rows.now)) }

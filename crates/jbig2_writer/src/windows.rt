@@ -10,7 +10,7 @@ ghost use Rattle.std.specs.Prelude.{◌≡◌, ℕ, ◌+◌, ◌-◌, ◌/◌, �
 ghost use Rattle.jbig2_base.specs.Grid.{Grid, pixel_at};
 ghost use Rattle.jbig2_region.specs.Generic.{context_at};
 ghost use Rattle.jbig2_region.specs.inner.Neighbours.{IsWindow};
-ghost use Rattle.jbig2_writer.specs.inner.Windows.{IsNear, Shows, neighbour_pixels};
+ghost use Rattle.jbig2_writer.specs.inner.Windows.{IsNarrow, AreWindows, neighbour_pixels};
 
 use crate::neighbours::{Neighbours, Stretch};
 use jbig2_base::bitmap::Bitmap;
@@ -56,7 +56,7 @@ pub fn windows_at<A: Allocator, L: Ledger>(
     steps: &mut Steps<L>,
 ) -> Windows
     requires aligned { x % 8 ≡ 0 }
-    ensures value { Shows bitmap.now x y result }
+    ensures value { AreWindows bitmap.now x y result }
     ensures steps { steps.new ≡ record steps.old { loads = steps.new.loads } }
     ensures loads { steps.new.loads ≤ steps.old.loads + 3 }
 {
@@ -93,9 +93,9 @@ impl Windows {
     /// The number of the context of the pixel `offset` columns right of the windows' column.
     #[inline(always)]
     pub fn context(self, neighbours: Neighbours, offset: u32) -> u16
-        requires near { IsNear neighbours }
+        requires near { IsNarrow neighbours }
         requires offset { offset < 32 }
-        ensures { (g : Grid) (x y : ℕ) → Shows g x y self
+        ensures { (g : Grid) (x y : ℕ) → AreWindows g x y self
             → result ≡ context_at (neighbour_pixels neighbours) g (x + offset) y }
     {
         let left = bits(self.row, 56 - offset, neighbours.left);
@@ -109,7 +109,7 @@ impl Windows {
     #[inline(always)]
     pub fn is_black(self, offset: u32) -> bool
         requires { offset < 32 }
-        ensures { (g : Grid) (x y : ℕ) → Shows g x y self → result ≡ pixel_at g (x + offset) y }
+        ensures { (g : Grid) (x y : ℕ) → AreWindows g x y self → result ≡ pixel_at g (x + offset) y }
     {
         bits(self.row, 55 - offset, 1) == 1
     }

@@ -4,7 +4,7 @@ ghost use Rattle.jbig2_base.specs.Results.{Gives};
 ghost use Rattle.jbig2_page.specs.Forms.{bytes_of_page, size_in};
 ghost use Rattle.jbig2_page.specs.Image.{image_of_page, packed_of_page, packed_size};
 ghost use Rattle.jbig2_page.specs.Returned.{IsReturned};
-ghost use Rattle.hayro_jbig2.specs.WorkLimit.{Takes};
+ghost use Rattle.hayro_jbig2.specs.WorkLimit.{TakesUnits};
 ghost use Rattle.jbig2_steps.specs.Work.{IsWithinLimit, Paid, price_of_bitmap, budget};
 
 use crate::page::Page;
@@ -36,9 +36,9 @@ impl<'a, A: Allocator + Clone> Page<'a, A> {
         ensures value { Gives (λ _. buf.new) result (image_of_page self.now) }
         ensures unchanged { OnErr result (buf.new ≡ buf.old) }
         ensures errors { IfErr result IsReturned }
-        ensures limit { Takes 0 work.old work.new }
+        ensures limit { TakesUnits 0 work.old work.new }
         ensures taken { let page = self.now.initial_page in
-            IfOk result (λ _. Takes (price_of_bitmap page.width page.height) work.old work.new) }
+            IfOk result (λ _. TakesUnits (price_of_bitmap page.width page.height) work.old work.new) }
     {
         self.read_counted::<Brand>(Form::Image, buf, work, Blank::new(7))
     }
@@ -59,9 +59,9 @@ impl<'a, A: Allocator + Clone> Page<'a, A> {
         ensures value { Gives (λ _. buf.new) result (bytes_of_page form self.now) }
         ensures unchanged { OnErr result (buf.new ≡ buf.old) }
         ensures errors { IfErr result IsReturned }
-        ensures limit { Takes 0 limit.old limit.new }
+        ensures limit { TakesUnits 0 limit.old limit.new }
         ensures taken { let page = self.now.initial_page in
-            IfOk result (λ _. Takes (price_of_bitmap page.width page.height) limit.old limit.new) }
+            IfOk result (λ _. TakesUnits (price_of_bitmap page.width page.height) limit.old limit.new) }
     {
         let mut work = limit.counter::<L>(blank);
         let read = self.content.read_into(form, buf, &mut work);
@@ -109,9 +109,9 @@ impl<'a, A: Allocator + Clone> Page<'a, A> {
         ensures value { Gives (λ _. buf.new) result (packed_of_page self.now) }
         ensures unchanged { OnErr result (buf.new ≡ buf.old) }
         ensures errors { IfErr result IsReturned }
-        ensures limit { Takes 0 work.old work.new }
+        ensures limit { TakesUnits 0 work.old work.new }
         ensures taken { let page = self.now.initial_page in
-            IfOk result (λ _. Takes (price_of_bitmap page.width page.height) work.old work.new) }
+            IfOk result (λ _. TakesUnits (price_of_bitmap page.width page.height) work.old work.new) }
     {
         self.read_counted::<Brand>(Form::Packed, buf, work, Blank::new(7))
     }

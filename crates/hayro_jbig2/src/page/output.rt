@@ -2,7 +2,7 @@
 ghost use Rattle.std.specs.Prelude.{◌≡◌, ◌+◌, ◌*◌, ◌≤◌, Ok, IfErr, IfOk};
 ghost use Rattle.jbig2_base.specs.Results.{Gives};
 ghost use Rattle.jbig2_page.specs.Calls.{Decodes, IsCountable};
-ghost use Rattle.hayro_jbig2.specs.Context.{HoldsPage, IsLeft, IsWithin, LeavesDrawn, LeavesOf};
+ghost use Rattle.hayro_jbig2.specs.Context.{HoldsPage, IsLeftBy, IsWithin, LeavesDrawn, LeavesOf};
 ghost use Rattle.jbig2_page.specs.Image.{packed_of_page};
 ghost use Rattle.jbig2_page.specs.Page.{drawing_of_page, grid_of_page};
 ghost use Rattle.jbig2_page.specs.Returned.{IsReturned};
@@ -96,7 +96,7 @@ impl<'a, A: Allocator + Clone> Page<'a, A> {
     ) -> Result<()>
         ensures drawing { Gives (λ _. context.new.drawing) result (drawing_of_page self.now) }
         ensures page { HoldsPage result context.new }
-        ensures left { IsLeft work.new context.old context.new }
+        ensures left { IsLeftBy work.new context.old context.new }
         ensures errors { IfErr result IsReturned }
         ensures limit { IsWithinLimit work.old work.new }
         ensures paid { Paid work.old work.new }
@@ -173,7 +173,7 @@ impl<'a, A: Allocator + Clone> Page<'a, A> {
         ensures calls { Decodes D.conduct (grid_of_page self.now) result decoder.old decoder.new }
         ensures drawing { IfOk result (λ _. drawing_of_page self.now ≡ Ok context.new.drawing) }
         ensures page { HoldsPage result context.new }
-        ensures left { IsLeft work.new context.old context.new }
+        ensures left { IsLeftBy work.new context.old context.new }
         ensures errors { D.conduct.refusals decoder.new ≡ D.conduct.refusals decoder.old
             → IfErr result IsReturned }
         ensures limit { IsWithinLimit work.old work.new }

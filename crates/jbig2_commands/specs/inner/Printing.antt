@@ -17,15 +17,15 @@ abbrev pub output_id : {O A : Type 0} → Output O A → GName
 output_id output = output.out.ghost_name
 
 -- all of the bytes are added, or nothing changes
-abbrev pub Pushes : Bool → Option (List ℕ) → Option (List ℕ) → List ℕ → Type 0
-Pushes true old new bytes = Appends old new bytes
-Pushes false old new bytes = Keeps old new
+abbrev pub AppendsIf : Bool → Option (List ℕ) → Option (List ℕ) → List ℕ → Type 0
+AppendsIf true old new bytes = Appends old new bytes
+AppendsIf false old new bytes = Keeps old new
 
 -- one more refusal is counted if a call was not taken
-abbrev pub Counts : Bool → Result (Unit {0}) DecodeError → ℕ → ℕ → Type 0
-Counts true (Ok u) old new = new ≡ old
-Counts false (Err e) old new = (new ≡ old + 1) × (e ≡ Unsupported)
-Counts _ _ old new = ⊥
+abbrev pub CountsRefusal : Bool → Result (Unit {0}) DecodeError → ℕ → ℕ → Type 0
+CountsRefusal true (Ok u) old new = new ≡ old
+CountsRefusal false (Err e) old new = (new ≡ old + 1) × (e ≡ Unsupported)
+CountsRefusal _ _ old new = ⊥
 
 -- what is known of an output, where a proof says that its bytes are known
 abbrev pub known_if : Bool → Option (List ℕ) → Option (List ℕ)
@@ -38,7 +38,7 @@ refusals_if true None count = 2 ^ 64 - 1
 refusals_if _ known count = count
 
 -- Decoding alone adds what was meant, as `Prints` has it, where no output fails.
-abbrev pub Adds : Result (List ℕ) DecodeError → Result (Unit {0}) DecodeError → Option (List ℕ) → Option (List ℕ) → Type 0
-Adds (Ok bytes) (Ok u) old new = Appends old new bytes
-Adds (Err e) (Ok u) old new = ⊥
-Adds meant (Err e) old new = ((e ≡ OutOfMemory) ⊎ (meant ≡ Err e)) × Keeps old new
+abbrev pub AddsMeant : Result (List ℕ) DecodeError → Result (Unit {0}) DecodeError → Option (List ℕ) → Option (List ℕ) → Type 0
+AddsMeant (Ok bytes) (Ok u) old new = Appends old new bytes
+AddsMeant (Err e) (Ok u) old new = ⊥
+AddsMeant meant (Err e) old new = ((e ≡ OutOfMemory) ⊎ (meant ≡ Err e)) × Keeps old new

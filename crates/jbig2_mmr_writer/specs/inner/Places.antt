@@ -32,7 +32,7 @@ horizontal_code g y p =
     }
 
 -- a mode of row y is added to the bits, and `next` is the state after it
-pub record Adds (g : Grid) (y : ℕ) (code : Code) (old new : List ℕ) (next : Place) : Type 0 where
+pub record AddsMode (g : Grid) (y : ℕ) (code : Code) (old new : List ℕ) (next : Place) : Type 0 where
   pub bits : new ≡ old ++ code.bits
   pub head : head_of next ≡ code.head
   pub place : IsPlace g y next

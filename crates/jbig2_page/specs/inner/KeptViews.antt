@@ -17,8 +17,8 @@ abbrev pub found_value : {X V : Type 0} → (X → V) → Option (Bor X) → Opt
 found_value view None = None
 found_value view (Some value) = Some (view value.now)
 
-abbrev pub symbols_view : {A : Type 0} → SymbolDictionary A → Symbols
-symbols_view d = symbol_views.dictionary_view d
+abbrev pub kept_symbols_view : {A : Type 0} → SymbolDictionary A → Symbols
+kept_symbols_view d = symbol_views.dictionary_view d
 
 abbrev pub patterns_view : {A : Type 0} → PatternDictionary A → Patterns
 patterns_view d = dictionary_view d

@@ -4,7 +4,7 @@ ghost use Rattle.std.specs.Prelude.{◌≡◌, ◌+◌, ◌*◌, ◌⊎◌, IfEr
 ghost use Rattle.jbig2_base.specs.Results.{Returns, Gives, refuse_if};
 ghost use Rattle.jbig2_framing.specs.inner.SegmentViews.{segment_view};
 ghost use Rattle.jbig2_page.specs.Names.{symbol_dictionary_at, with_symbols, pattern_dictionary_at, with_patterns, with_code, extension, Names};
-ghost use Rattle.jbig2_page.specs.inner.KeptViews.{patterns_view, symbols_view};
+ghost use Rattle.jbig2_page.specs.inner.KeptViews.{patterns_view, kept_symbols_view};
 ghost use Rattle.jbig2_page.specs.Causes.{BreaksExtension};
 ghost use Rattle.jbig2_base.specs.Causes.{HasCause};
 ghost use Rattle.jbig2_steps.specs.Work.{Paid, budget};
@@ -34,7 +34,7 @@ fn decode_symbols<A: Allocator + Clone, L: Ledger>(
     workspace: &Workspace<A>,
     work: &mut Work<L>,
 ) -> Result<SymbolDictionary<A>>
-    ensures value { Gives (λ d. symbols_view d) result
+    ensures value { Gives (λ d. kept_symbols_view d) result
         (symbol_dictionary_at lookup.now.strict lookup.now.own.now lookup.now.globals.now
         (segment_view segment.now)) }
     ensures paid { Paid work.old work.new }

@@ -6,7 +6,7 @@ ghost use Rattle.jbig2_page.specs.Names.{kept_of, kept_under, no_names};
 ghost use Rattle.jbig2_framing.specs.inner.SegmentViews.{segment_view};
 ghost use Rattle.jbig2_page.specs.Prices.{capped, names_count};
 ghost use Rattle.jbig2_page.specs.Regions.{patterns_for};
-ghost use Rattle.jbig2_page.specs.inner.KeptViews.{found_value, patterns_view, kept_values, symbols_view};
+ghost use Rattle.jbig2_page.specs.inner.KeptViews.{found_value, patterns_view, kept_values, kept_symbols_view};
 
 use crate::kept::{Kept, kept_of};
 use jbig2_base::error::Result;
@@ -36,12 +36,12 @@ impl<A: Allocator> Drop for KeptNames<A> {
 
 impl<A: Allocator> Model for KeptNames<A> {
     ghost use Rattle.jbig2_page.specs.Names.{Names};
-    ghost use Rattle.jbig2_page.specs.inner.KeptViews.{patterns_view, kept_values, symbols_view};
+    ghost use Rattle.jbig2_page.specs.inner.KeptViews.{patterns_view, kept_values, kept_symbols_view};
 
     ghost Value = { Names };
 
     ghost view = { λ n. record {
-      symbols = kept_values symbols_view n.symbols.items;
+      symbols = kept_values kept_symbols_view n.symbols.items;
       codes = n.tables.items;
       patterns = kept_values patterns_view n.patterns.items;
     } };
@@ -85,7 +85,7 @@ impl<A: Allocator> KeptNames<A> {
     ) -> Result<()>
         ensures { Gives (λ _. self.new) result
             (Ok (record self.old {
-              symbols = kept_under segment_number (symbols_view value) self.old.symbols;
+              symbols = kept_under segment_number (kept_symbols_view value) self.old.symbols;
             })) }
     {
         self.symbols.push(Kept {
@@ -124,7 +124,7 @@ impl<A: Allocator> KeptNames<A> {
     }
 
     fn symbols(&self) -> &[Kept<SymbolDictionary<A>>]
-        ensures { kept_values symbols_view result.now ≡ self.now.symbols }
+        ensures { kept_values kept_symbols_view result.now ≡ self.now.symbols }
     {
         &self.symbols
     }
@@ -153,7 +153,7 @@ pub(crate) struct Lookup<'a, A: Allocator> {
 
 impl<'a, A: Allocator> Lookup<'a, A> {
     pub(crate) fn symbols(&self, number: u32) -> Option<&'a SymbolDictionary<A>>
-        ensures { found_value symbols_view result
+        ensures { found_value kept_symbols_view result
             ≡ kept_of number self.now.own.now.symbols self.now.globals.now.symbols }
     {
         let own = self.own.symbols();

@@ -4,8 +4,8 @@ ghost use Rattle.jbig2_base.specs.Results.{Gives};
 ghost use Rattle.jbig2_base.specs.Causes.{HasCauseOrNoMemory};
 ghost use Rattle.jbig2_page.specs.Causes.{BreaksReferred};
 ghost use Rattle.jbig2_page.specs.Names.{with_dictionary, with_table, with_number, with_numbers, referred_by};
-ghost use Rattle.jbig2_page.specs.inner.KeptViews.{found_value, symbols_view};
-ghost use Rattle.jbig2_page.specs.inner.Prices.{PaysForSymbols};
+ghost use Rattle.jbig2_page.specs.inner.KeptViews.{found_value, kept_symbols_view};
+ghost use Rattle.jbig2_page.specs.inner.RegionPrices.{PaysForSymbols};
 ghost use Rattle.jbig2_steps.specs.Work.{Paid};
 
 use crate::kept::names::Lookup;
@@ -80,7 +80,7 @@ impl<'a, A: Allocator> ReferredSegments<'a, A> {
         work: &mut Work<L>,
     ) -> Result<()>
         ensures value { Gives (λ _. self.new) result
-            (with_dictionary (symbols_view dictionary.now) self.old) }
+            (with_dictionary (kept_symbols_view dictionary.now) self.old) }
         ensures paid { Paid work.old work.new }
         ensures taken { OnOk result
             (PaysForSymbols (length self.old.symbols) (length self.new.symbols) work.old work.new) }

@@ -2,7 +2,7 @@
 ghost use Rattle.std.specs.Prelude.{◌≡◌, ◌+◌, ◌-◌, ◌*◌, ◌/◌, ◌<◌, ◌≤◌, drop, take};
 ghost use Rattle.jbig2_base.specs.Grid.{Grid};
 ghost use Rattle.jbig2_base.specs.Bits.{bit};
-ghost use Rattle.jbig2_page.specs.Calls.{row_of, singles, line_calls, calls_of, IsCountable, Sends};
+ghost use Rattle.jbig2_page.specs.Calls.{row_of_grid, singles, line_calls, calls_of, IsCountable, Sends};
 ghost use Rattle.jbig2_page.specs.inner.RunViews.{bytes_of_run, run_of, IsColourOf, IsRunAt};
 ghost use Rattle.jbig2_steps.specs.Work.{CountsBeside, paid_words, sum_of_counts, price_of_bitmap};
 
@@ -22,7 +22,7 @@ fn byte_colour<A: Allocator, L: Ledger>(
     steps: &mut Steps<L>,
 ) -> Option<bool>
     requires { x + 8 ≤ bitmap.now.width }
-    ensures colour { IsColourOf (take 8 (drop x (row_of bitmap.now y))) result }
+    ensures colour { IsColourOf (take 8 (drop x (row_of_grid bitmap.now y))) result }
     ensures steps { sum_of_counts steps.new ≡ sum_of_counts steps.old + 1 }
 {
     let pixels = bitmap.load_pixels(x, y, 8, steps);
@@ -45,7 +45,7 @@ fn run<A: Allocator, L: Ledger>(
 ) -> u32
     requires { x ≤ bitmap.now.width }
     ensures value { result
-        ≡ run_of ((bitmap.now.width - x) / 8) black (drop x (row_of bitmap.now y)) }
+        ≡ run_of ((bitmap.now.width - x) / 8) black (drop x (row_of_grid bitmap.now y)) }
     ensures within { result ≤ (bitmap.now.width - x) / 8 }
     ensures steps { sum_of_counts steps.new ≤ sum_of_counts steps.old + result + 1 }
 {
@@ -63,7 +63,7 @@ fn run_at<A: Allocator, L: Ledger>(
     steps: &mut Steps<L>,
 ) -> Option<(bool, u32)>
     requires { x + 8 ≤ bitmap.now.width }
-    ensures run { IsRunAt ((bitmap.now.width - x) / 8) (drop x (row_of bitmap.now y)) result }
+    ensures run { IsRunAt ((bitmap.now.width - x) / 8) (drop x (row_of_grid bitmap.now y)) result }
     ensures steps { sum_of_counts steps.new ≤ sum_of_counts steps.old + bytes_of_run result + 2 }
 {
     match byte_colour(bitmap, x, y, steps) {
@@ -94,7 +94,7 @@ fn push_pixels<A: Allocator, D: Decoder, L: Ledger>(
     requires few { end - x ≤ 64 }
     requires inside { end ≤ bitmap.now.width }
     requires countable { IsCountable D.conduct decoder.old }
-    ensures calls { Sends D.conduct (singles (take (end - x) (drop x (row_of bitmap.now y)))) result
+    ensures calls { Sends D.conduct (singles (take (end - x) (drop x (row_of_grid bitmap.now y)))) result
         decoder.old decoder.new }
     ensures steps { sum_of_counts steps.new ≡ sum_of_counts steps.old + 1 }
 {

@@ -1,5 +1,5 @@
 //! `Decoder`: what a caller implements to get the pixels of a page.
-ghost use Rattle.jbig2_page.specs.Calls.{Pixel, Chunk, Line, Conduct, IsCountable, Takes};
+ghost use Rattle.jbig2_page.specs.Calls.{Pixel, Chunk, Line, Conduct, IsCountable, TakesCall};
 
 use jbig2_base::error::Result;
 
@@ -15,15 +15,15 @@ pub trait Decoder {
     /// One pixel.
     fn push_pixel(&mut self, black: bool) -> Result<()>
         requires { IsCountable conduct self.old }
-        ensures { Takes conduct (Pixel black) result self.old self.new };
+        ensures { TakesCall conduct (Pixel black) result self.old self.new };
 
     /// `chunk_count` times eight pixels of one colour, from a column that eight divides.
     fn push_pixel_chunk(&mut self, black: bool, chunk_count: u32) -> Result<()>
         requires { IsCountable conduct self.old }
-        ensures { Takes conduct (Chunk black chunk_count) result self.old self.new };
+        ensures { TakesCall conduct (Chunk black chunk_count) result self.old self.new };
 
     /// The row is complete.
     fn next_line(&mut self) -> Result<()>
         requires { IsCountable conduct self.old }
-        ensures { Takes conduct Line result self.old self.new };
+        ensures { TakesCall conduct Line result self.old self.new };
 }

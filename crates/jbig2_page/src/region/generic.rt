@@ -9,8 +9,8 @@ ghost use Rattle.jbig2_region.specs.WholeRows.{whole_generic_rows};
 ghost use Rattle.jbig2_region.specs.inner.GenericViews.{header_view};
 ghost use Rattle.jbig2_steps.specs.Work.{Paid};
 
-use crate::region::cut_off::is_partial;
 use crate::region::parsed_region::ParsedRegion;
+use crate::region::partial::is_partial;
 use crate::region::references::References;
 use crate::workspace::Workspace;
 use jbig2_base::bitmap::steps::Work;

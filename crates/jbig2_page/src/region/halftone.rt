@@ -13,8 +13,8 @@ ghost use Rattle.jbig2_halftone.specs.inner.HalftoneHeaderViews.{header_view};
 ghost use Rattle.jbig2_halftone.specs.inner.DictionaryViews.{dictionary_view};
 
 use crate::kept::names::Lookup;
-use crate::region::cut_off::{halftone_part, is_partial};
 use crate::region::parsed_region::ParsedRegion;
+use crate::region::partial::{halftone_part, is_partial};
 use crate::region::references::References;
 use crate::workspace::Workspace;
 use jbig2_base::bitmap::steps::Work;

@@ -6,7 +6,7 @@ ghost use Rattle.jbig2_base.specs.Grid.{blank};
 ghost use Rattle.jbig2_region.specs.inner.RegionViews.{region_view};
 ghost use Rattle.jbig2_page.specs.Page.{Drawing, with_drawn_region};
 ghost use Rattle.jbig2_page.specs.inner.ParsedRegions.{IsDecodable, placed_region, region_grid, info_of, initial_of};
-ghost use Rattle.jbig2_page.specs.inner.Prices.{counts_of, price_besides, price_of_info, words_of_info};
+ghost use Rattle.jbig2_page.specs.inner.RegionPrices.{counts_of, price_besides, price_of_info, words_of_info};
 ghost use Rattle.jbig2_steps.specs.Work.{Paid, price_of_bitmap, budget};
 ghost use Rattle.jbig2_text.specs.Paying.{PaidBeside};
 
@@ -173,13 +173,13 @@ impl<'a, 'n, 'r, A: Allocator + Clone> ParsedRegion<'a, 'n, 'r, A> {
         ensures paid { PaidBeside (words_of_info self.now) (counts_of self.now) work.old work.new }
     {
         let (alloc, tables) = (&workspace.alloc, &workspace.standard_tables);
-        let decoded = self.decode_by(alloc, tables, &mut workspace.contexts, bitmap, work);
+        let decoded = self.decode_kind(alloc, tables, &mut workspace.contexts, bitmap, work);
         workspace.contexts.truncate(MOST_CONTEXTS);
         decoded
     }
 
     /// Does the same with the parts of a workspace. More contexts may be left than `MOST_CONTEXTS`.
-    fn decode_by<L: Ledger>(
+    fn decode_kind<L: Ledger>(
         &self,
         alloc: &A,
         standard_tables: &StandardHuffmanTables<A>,

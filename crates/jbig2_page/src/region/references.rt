@@ -3,7 +3,7 @@
 use crate::kept::Kept;
 use crate::kept::names::Lookup;
 use jbig2_base::bitmap::Bitmap;
-use jbig2_region::generic::DecodedRegion;
+use jbig2_region::decoded_region::DecodedRegion;
 use std::alloc::Allocator;
 
 /// Where a region's numbers are looked up, and the page so far. A refinement without numbers

@@ -8,8 +8,8 @@ ghost use Rattle.jbig2_steps.specs.Work.{Paid};
 ghost use Rattle.jbig2_text.specs.inner.TextViews.{header_view};
 
 use crate::kept::referred::{ReferredSegments, gather_referred};
-use crate::region::cut_off::is_partial;
 use crate::region::parsed_region::ParsedRegion;
+use crate::region::partial::is_partial;
 use crate::region::references::References;
 use crate::workspace::Workspace;
 use jbig2_base::bitmap::steps::Work;

@@ -47,7 +47,7 @@ impl<'a, 'n, 'r, A: Allocator + Clone> ParsedRegion<'a, 'n, 'r, A> {
 
     /// Decodes a region that is the whole page into the page's own bitmap. After an error the bitmap is as it was,
     /// unless memory ran out.
-    pub(crate) fn decode_onto<L: Ledger>(
+    pub(crate) fn decode_onto_page<L: Ledger>(
         self,
         page: &mut Bitmap<A>,
         workspace: &mut Workspace<A>,

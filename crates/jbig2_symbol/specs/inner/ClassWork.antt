@@ -6,8 +6,8 @@ use Rattle.jbig2_symbol.specs.Paying.{PaidButSymbols, PaysSymbols}
 use Rattle.jbig2_symbol.specs.declared.input.SymbolInput.{SymbolInput as Input}
 
 -- there are no more new symbols than the header says
-abbrev pub HasRoom : {A : Type 0} → Input A → List Grid → Type 0
-HasRoom d new = length new ≤ d.header.now.num_new_symbols
+abbrev pub HasRoomForSymbols : {A : Type 0} → Input A → List Grid → Type 0
+HasRoomForSymbols d new = length new ≤ d.header.now.num_new_symbols
 
 -- whatever is read, at most five numbers for each symbol that may still come, and `more` besides
 abbrev pub PaidButClass : {A L : Type 0} → Input A → List Grid → ℕ → Work L → Work L → Type 0

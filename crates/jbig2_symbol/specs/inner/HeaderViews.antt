@@ -9,8 +9,8 @@ use Rattle.jbig2_symbol.specs.declared.header.SymbolDictionaryFlags.{SymbolDicti
 use Rattle.jbig2_symbol.specs.declared.header.SymbolDictionaryHeader.{SymbolDictionaryHeader}
 
 -- as many pixels of the code's arrays as these flags say
-abbrev pub coded_pixels : SymbolDictionaryFlags → List AdaptiveTemplatePixel → List AdaptiveTemplatePixel
-coded_pixels flags a = if flags.use_huffman then [] else four_pixels flags.template a
+abbrev pub code_pixels : SymbolDictionaryFlags → List AdaptiveTemplatePixel → List AdaptiveTemplatePixel
+code_pixels flags a = if flags.use_huffman then [] else four_pixels flags.template a
 
 abbrev pub refined_pixels : SymbolDictionaryFlags → List AdaptiveTemplatePixel → List AdaptiveTemplatePixel
 refined_pixels flags a = if flags.use_refagg then two_pixels flags.refinement_template a else []
@@ -18,7 +18,7 @@ refined_pixels flags a = if flags.use_refagg then two_pixels flags.refinement_te
 abbrev pub header_view : SymbolDictionaryHeader → SymbolHeader
 header_view h = record {
   flags = h.flags;
-  adaptive_template_pixels = coded_pixels h.flags h.adaptive_template_pixels;
+  adaptive_template_pixels = code_pixels h.flags h.adaptive_template_pixels;
   refinement_at_pixels = refined_pixels h.flags h.refinement_at_pixels;
   num_exported_symbols = h.num_exported_symbols;
   num_new_symbols = h.num_new_symbols;

@@ -12,10 +12,10 @@ use Rattle.jbig2_writer.specs.declared.settings.ArithmeticCoding.{ArithmeticCodi
 abbrev pub places : Template → List AdaptiveTemplatePixel  -- all pixels of a template with nominal adaptive pixels
 places template = template_pixels false template (nominal_adaptive_pixels template)
 
-unfoldable pub pixel_decisions : List AdaptiveTemplatePixel → Grid → ℕ → ℕ → List Entry  -- the first n pixels of row y
-pixel_decisions template g y zero = []
-pixel_decisions template g y (suc n) =
-    pixel_decisions template g y n ++ (context_at template g n y, pixel_at g n y) ∷ []
+unfoldable pub decisions_of_pixels : List AdaptiveTemplatePixel → Grid → ℕ → ℕ → List Entry  -- the first n pixels of row y
+decisions_of_pixels template g y zero = []
+decisions_of_pixels template g y (suc n) =
+    decisions_of_pixels template g y n ++ (context_at template g n y, pixel_at g n y) ∷ []
 
 module _ (s : ArithmeticCoding) (g : Grid) where
   abbrev pub typical_row : ℕ → Bool  -- whether row y is as the row above it, and typical prediction is on
@@ -25,11 +25,11 @@ module _ (s : ArithmeticCoding) (g : Grid) where
   predicted_before zero = false
   predicted_before (suc y) = typical_row y
 
-  unfoldable pub row_decisions : ℕ → Bool → List Entry  -- row y, after this LTP
-  row_decisions y predicted =
+  unfoldable pub decisions_of_row : ℕ → Bool → List Entry  -- row y, after this LTP
+  decisions_of_row y predicted =
       (if s.typical then (row_context s.template, differ (typical_row y) predicted) ∷ [] else [])
-      ++ (if typical_row y then [] else pixel_decisions (places s.template) g y g.width)
+      ++ (if typical_row y then [] else decisions_of_pixels (places s.template) g y g.width)
 
-  unfoldable pub rows_decisions : ℕ → List Entry  -- the first rows
-  rows_decisions zero = []
-  rows_decisions (suc y) = rows_decisions y ++ row_decisions y (predicted_before y)
+  unfoldable pub decisions_of_rows : ℕ → List Entry  -- the first rows
+  decisions_of_rows zero = []
+  decisions_of_rows (suc y) = decisions_of_rows y ++ decisions_of_row y (predicted_before y)

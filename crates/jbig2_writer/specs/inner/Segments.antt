@@ -5,7 +5,7 @@ use Rattle.jbig2_inverses.specs.FileWriter.{file_header_bytes}
 use Rattle.jbig2_inverses.specs.GenericSegmentWriter.{generic_bytes}
 use Rattle.jbig2_inverses.specs.SegmentWriter.{number_or_0}
 use Rattle.jbig2_page_inverse.specs.PageFile.{file_header}
-use Rattle.jbig2_page_inverse.specs.PageWriter.{region_with}
+use Rattle.jbig2_page_inverse.specs.PageWriter.{region_of_bytes}
 use Rattle.jbig2_writer.specs.declared.settings.Container.{Container}
 use Rattle.jbig2_writer.specs.declared.settings.Container.TheVariants.{EmbeddedPage, File}
 use Rattle.jbig2_writer.specs.declared.settings.WriteSettings.{WriteSettings}
@@ -30,7 +30,7 @@ information_of s width height =
     page_information width height (number_or_0 s.x_resolution) (number_or_0 s.y_resolution)
 
 abbrev pub region_data : WriteSettings → ℕ → ℕ → List ℕ → List ℕ  -- a generic region with these coded bytes (7.4.6)
-region_data s width height coded = generic_bytes (region_with (choice_of s) width height (λ _ _. false) false coded)
+region_data s width height coded = generic_bytes (region_of_bytes (choice_of s) width height (λ _ _. false) false coded)
 
 abbrev pub segments_of : WriteSettings → ℕ → ℕ → List ℕ → List ℕ  -- page information and the region with these coded bytes
 segments_of s width height coded =
@@ -41,6 +41,6 @@ file_of s width height coded =
     file_header_bytes (file_header false)
     ++ (segments_of s width height coded ++ (segment_of 2 49 1 [] ++ segment_of 3 51 0 []))
 
-abbrev pub segments_in : Container → WriteSettings → ℕ → ℕ → List ℕ → List ℕ  -- an embedded page or a file of them
-segments_in EmbeddedPage s width height coded = segments_of s width height coded
-segments_in File s width height coded = file_of s width height coded
+abbrev pub container_bytes : Container → WriteSettings → ℕ → ℕ → List ℕ → List ℕ  -- an embedded page or a file of them
+container_bytes EmbeddedPage s width height coded = segments_of s width height coded
+container_bytes File s width height coded = file_of s width height coded

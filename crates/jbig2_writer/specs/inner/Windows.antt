@@ -9,7 +9,7 @@ use Rattle.jbig2_region.specs.declared.template.Template.TheVariants.{Template0,
 use Rattle.jbig2_inverses.specs.CoderStates.{Entry}
 use Rattle.jbig2_writer.specs.declared.neighbours.Neighbours.{Neighbours}
 use Rattle.jbig2_writer.specs.declared.windows.Windows.{Windows}
-use Rattle.jbig2_writer.specs.inner.Rows.{pixel_decisions}
+use Rattle.jbig2_writer.specs.inner.Rows.{decisions_of_pixels}
 
 abbrev pub around : ℕ → ℕ → ℕ → ℕ → ℕ → Neighbours
 around left above_reach above_count top_reach top_count = record {
@@ -30,7 +30,7 @@ neighbour_pixels n =
     side_by_side (negsuc 0) 0 n.left ++ (side_by_side (pos n.above.reach) 1 n.above.count ++ side_by_side (pos n.top.reach) 2 n.top.count)
 
 -- small enough for the windows
-pub record IsNear (n : Neighbours) : Type 0 where
+pub record IsNarrow (n : Neighbours) : Type 0 where
   pub left : n.left ≤ 4
   pub above_reach : n.above.reach ≤ 3
   pub above_count : n.above.count ≤ 7
@@ -39,17 +39,17 @@ pub record IsNear (n : Neighbours) : Type 0 where
   pub few : n.left + (n.above.count + n.top.count) ≤ 16
 
 -- windows around column x of row y
-pub record Shows (g : Grid) (x y : ℕ) (w : Windows) : Type 0 where
+pub record AreWindows (g : Grid) (x y : ℕ) (w : Windows) : Type 0 where
   pub row : IsWindow g x (pos y -ℤ pos 0) 64 w.row
   pub above : IsWindow g x (pos y -ℤ pos 1) 64 w.above
   pub top : IsWindow g x (pos y -ℤ pos 2) 64 w.top
 
 -- wherever `old` has coded the first decisions at last, `new` has coded the second in their place
-abbrev pub GoesOn : CodingInContexts → CodingInContexts → List Entry → List Entry → Type 0
-GoesOn old new before after = (list : List Entry) → HasCoded old (list ++ before) → HasCoded new (list ++ after)
+abbrev pub CodesOn : CodingInContexts → CodingInContexts → List Entry → List Entry → Type 0
+CodesOn old new before after = (list : List Entry) → HasCoded old (list ++ before) → HasCoded new (list ++ after)
 
 -- `count` pixels are coded, from the windows' column on
 abbrev pub CodesGroup : Neighbours → Windows → ℕ → CodingInContexts → CodingInContexts → Type 0
 CodesGroup n w count old new =
-    (g : Grid) (x y : ℕ) → Shows g x y w
-    → GoesOn old new (pixel_decisions (neighbour_pixels n) g y x) (pixel_decisions (neighbour_pixels n) g y (x + count))
+    (g : Grid) (x y : ℕ) → AreWindows g x y w
+    → CodesOn old new (decisions_of_pixels (neighbour_pixels n) g y x) (decisions_of_pixels (neighbour_pixels n) g y (x + count))

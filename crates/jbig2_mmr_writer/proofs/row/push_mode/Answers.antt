@@ -2,7 +2,7 @@ use Rattle.std.proofs.Common.{not, ◌≡◌, ◌+◌, ◌*◌, ◌≤◌, arith
 use Rattle.std.proofs.lemmas.Result.{IfOk-weaker, on_err_weaker}
 use Rattle.jbig2_mmr_writer.proofs.ModeLemmas.{adds-pass, adds-runs, adds-vertical, loads-passed, loads-searched, loads-vertical, place-ordered, seen, starts-at}
 use Rattle.jbig2_mmr_writer.specs.inner.Entries.{word_of_entry}
-use Rattle.jbig2_mmr_writer.specs.inner.Places.{Adds, horizontal_code, next_code}
+use Rattle.jbig2_mmr_writer.specs.inner.Places.{AddsMode, horizontal_code, next_code}
 use Rattle.jbig2_mmr_writer.proofs.row.push_mode.Goals as goal
 
 pub returns-then-b2-a1-clause-mode : goal.returns-then-b2-a1-clause-mode
@@ -43,8 +43,8 @@ returns-clause-mode g c =
     let grid = c.args.bitmap.now in
     let looked = seen c.args.bitmap.now c.args.y c.args.above p c.width.result c.min-to.result c.find_b1-b1.result c.find_b2-b2.result c.width.ensures.value c.requires.place c.requires.column c.min-to.ensures c.find_b1-b1.ensures.value c.find_b2-b2.ensures.value in
     IfOk-weaker c.push_horizontal.result
-    (λ next. Adds grid c.args.y (horizontal_code grid c.args.y p) c.args.writer.now c.push_horizontal.new.writer next)
-    (λ next. Adds grid c.args.y (next_code grid c.args.y c.args.above p) c.args.writer.now c.push_horizontal.new.writer next)
+    (λ next. AddsMode grid c.args.y (horizontal_code grid c.args.y p) c.args.writer.now c.push_horizontal.new.writer next)
+    (λ next. AddsMode grid c.args.y (next_code grid c.args.y c.args.above p) c.args.writer.now c.push_horizontal.new.writer next)
     (λ next adds. adds-runs c.args.bitmap.now c.args.y c.args.above p c.width.result c.min-to.result c.find_b1-b1.result c.find_b2-b2.result next c.args.writer.now c.push_horizontal.new.writer looked
     (omega (arith, c.if-b2-a1.false)) (λ right left. omega (arith, right, left, c.if-abs_diff-le3.false, c.abs_diff.ensures)) adds)
     c.push_horizontal.ensures.mode

@@ -12,14 +12,14 @@ unfolding immediate
 returns-in-Ok-clause-value g c =
     let d : Drawing = c.args.canvas.now in
     let meant : Result Drawing DecodeError = with_drawn_region d (region_at (is_strict c.args.self.now.reading) c.args.self.now.globals.now c.args.kind false (segment_view c.args.segment.now) d) in
-    drawn-either (is_strict c.args.self.now.reading) (segment_view c.args.segment.now) d c.show_region.new.canvas meant c.in-Ok.ensures.value
+    drawn-either (is_strict c.args.self.now.reading) (segment_view c.args.segment.now) d c.try_region.new.canvas meant c.in-Ok.ensures.value
 
 pub returns-in-Err-clause-value : goal.returns-in-Err-clause-value
 unfolding immediate
 returns-in-Err-clause-value g c =
     let d : Drawing = c.args.canvas.now in
     let meant : Result Drawing DecodeError = with_drawn_region d (region_at (is_strict c.args.self.now.reading) c.args.self.now.globals.now c.args.kind false (segment_view c.args.segment.now) d) in
-    passed (is_strict c.args.self.now.reading) (segment_view c.args.segment.now) d c.show_region.new.canvas c.pass_over.new.canvas meant c.in-Err.error _
+    passed (is_strict c.args.self.now.reading) (segment_view c.args.segment.now) d c.try_region.new.canvas c.pass_over.new.canvas meant c.in-Err.error _
     c.in-Err.ensures.value c.in-Err.ensures.err c.pass_over.ensures.memory c.pass_over.ensures.value
 
 pub pass_over-requires : goal.pass_over-requires

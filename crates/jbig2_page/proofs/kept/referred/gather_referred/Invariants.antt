@@ -1,6 +1,6 @@
 use Rattle.std.proofs.Common.{◌≡◌, drop, length}
 use Rattle.jbig2_page.specs.Names.{with_numbers, referred_by}
-use Rattle.jbig2_page.specs.inner.Prices.{PaysForSymbols}
+use Rattle.jbig2_page.specs.inner.RegionPrices.{PaysForSymbols}
 use Rattle.jbig2_page.proofs.kept.referred.gather_referred.Given as goal
 
 abbrev pub invariant-loop-number : goal.invariant-loop-number

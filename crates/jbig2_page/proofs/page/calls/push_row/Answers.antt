@@ -1,6 +1,6 @@
 use Rattle.std.proofs.Common.{◌+◌, ◌-◌, ◌*◌, take, drop, List, [], ◌∷◌, Result, Ok, Err, refl, arith}
 use Rattle.jbig2_base.specs.declared.error.DecodeError.{DecodeError}
-use Rattle.jbig2_page.specs.Calls.{Call, Chunk, Line, row_of, singles, Conduct, Sends, Takes}
+use Rattle.jbig2_page.specs.Calls.{Call, Chunk, Line, row_of_grid, singles, Conduct, Sends, TakesCall}
 use Rattle.jbig2_page.proofs.Runs.{left_calls, left-byte, left-last, left-run, left-start}
 use Rattle.jbig2_page.proofs.Sending.{Half, goes_on, half_as, half_done, half_none, one_stops, stops_at}
 use Rattle.jbig2_page.proofs.page.calls.push_row.Goals as goal
@@ -41,7 +41,7 @@ pub loop-x-preserved : goal.loop-x-preserved
 loop-x-preserved g c = record {
   within = omega arith;
   sent =
-      goes_on g.D.Decoder.conduct (singles (take (c.loop-x.x + 8 - c.loop-x.x) (drop c.loop-x.x (row_of c.args.bitmap.now c.args.y)))) (left-byte c.args.bitmap.now c.args.y c.loop-x.x (omega arith) c.in_default.ensures.run.0 c.in_default.ensures.run.1)
+      goes_on g.D.Decoder.conduct (singles (take (c.loop-x.x + 8 - c.loop-x.x) (drop c.loop-x.x (row_of_grid c.args.bitmap.now c.args.y)))) (left-byte c.args.bitmap.now c.args.y c.loop-x.x (omega arith) c.in_default.ensures.run.0 c.in_default.ensures.run.1)
       c.loop-x.invariant.sent c.in-Ok-push_pixels.ensures.calls;
   steps = omega (arith, c.loop-x.invariant.steps, c.in_default.ensures.steps, c.in-Ok-push_pixels.ensures.steps);
 }
@@ -52,12 +52,12 @@ returns-in-Err-push_pixels-2-clause-calls g c =
     c.loop-x.invariant.sent c.in-Err-push_pixels-2.ensures.calls
 
 -- the last call, taken or refused
-last_call : {S : Type 0} (d : Conduct S) (all : List Call) (call : Call) (r : Result (Unit {0}) DecodeError) (old mid new : S) → Half d all (call ∷ []) old mid → Takes d call r mid new → Sends d all r old new
+last_call : {S : Type 0} (d : Conduct S) (all : List Call) (call : Call) (r : Result (Unit {0}) DecodeError) (old mid new : S) → Half d all (call ∷ []) old mid → TakesCall d call r mid new → Sends d all r old new
 last_call d all call (Ok u) old mid new h taken = half_done d all old new (goes_on d (call ∷ []) refl h taken)
 last_call d all call (Err e) old mid new h refused = stops_at d [] refl h (one_stops d call e mid new refused)
 
 pub returns-clause-calls : goal.returns-clause-calls
 returns-clause-calls g c =
     last_call g.D.Decoder.conduct _ Line c.next_line.result _ _ _
-    (goes_on g.D.Decoder.conduct (singles (take (c.width-width.result - c.loop-x.x) (drop c.loop-x.x (row_of c.args.bitmap.now c.args.y)))) (left-last c.args.bitmap.now c.args.y c.loop-x.x c.width-width.result c.width-width.ensures.value (omega arith)) c.loop-x.invariant.sent c.in-Ok-push_pixels-2.ensures.calls)
+    (goes_on g.D.Decoder.conduct (singles (take (c.width-width.result - c.loop-x.x) (drop c.loop-x.x (row_of_grid c.args.bitmap.now c.args.y)))) (left-last c.args.bitmap.now c.args.y c.loop-x.x c.width-width.result c.width-width.ensures.value (omega arith)) c.loop-x.invariant.sent c.in-Ok-push_pixels-2.ensures.calls)
     c.next_line.ensures

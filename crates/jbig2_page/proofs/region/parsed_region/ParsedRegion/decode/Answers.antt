@@ -1,7 +1,7 @@
 use Rattle.std.proofs.Common.{◌≡◌, ◌+◌, ◌*◌, ◌≤◌, ap, arith}
 use Rattle.jbig2_region.specs.RegionInfo.{PlacedRegion}
 use Rattle.jbig2_steps.specs.Work.{price_of_bitmap, budget}
-use Rattle.jbig2_page.specs.inner.Prices.{price_of_info}
+use Rattle.jbig2_page.specs.inner.RegionPrices.{price_of_info}
 use Rattle.jbig2_text.proofs.PayingLemmas.{made-worth}
 use Rattle.jbig2_page.proofs.Paying.{decoded-paid, info-words, made-alone, placed-price}
 use Rattle.jbig2_page.proofs.region.parsed_region.ParsedRegion.decode.Goals as goal

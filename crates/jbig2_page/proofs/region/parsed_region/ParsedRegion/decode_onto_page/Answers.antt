@@ -5,7 +5,7 @@ use Rattle.jbig2_region.specs.declared.region_info.RegionSegmentInfo.{RegionSegm
 use Rattle.jbig2_steps.specs.Work.{budget}
 use Rattle.jbig2_text.proofs.PayingLemmas.{made-worth}
 use Rattle.jbig2_page.proofs.Paying.{blank-memory, info-words, placed-paid}
-use Rattle.jbig2_page.proofs.region.parsed_region.ParsedRegion.decode_onto.Goals as goal
+use Rattle.jbig2_page.proofs.region.parsed_region.ParsedRegion.decode_onto_page.Goals as goal
 
 pub returns-in-Ok-clause-paid : goal.returns-in-Ok-clause-paid
 returns-in-Ok-clause-paid g c =

@@ -4,7 +4,7 @@ use Rattle.jbig2_region.specs.inner.RefinedViews.{header_view}
 use Rattle.jbig2_region.specs.inner.RegionViews.{region_view}
 use Rattle.jbig2_page.proofs.Direct.{part-placed}
 use Rattle.jbig2_page.proofs.RegionSizes.{refined_part-made}
-use Rattle.jbig2_page.proofs.region.cut_off.refined_part.Goals as goal
+use Rattle.jbig2_page.proofs.region.partial.refined_part.Goals as goal
 
 pub returns-in_err-region-clause-paid : goal.returns-in_err-region-clause-paid
 returns-in_err-region-clause-paid g c =

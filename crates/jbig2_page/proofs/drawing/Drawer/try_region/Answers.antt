@@ -14,8 +14,8 @@ use Rattle.jbig2_page.specs.inner.ParsedRegions.{placed_region, drawing_of, info
 use Rattle.jbig2_page.specs.inner.WholePages.{IsBlankPage, IsWhole}
 use Rattle.jbig2_page.proofs.Direct.{led, refused-too, shown-refused, whole-gives}
 use Rattle.jbig2_page.proofs.SeenRows.{cut-refused, cut-shown}
-use Rattle.jbig2_page.proofs.drawing.Drawer.show_region.Goals as goal
-use Rattle.jbig2_page.proofs.drawing.Drawer.show_region.Goals.{in-OutOfMemory, in_default}
+use Rattle.jbig2_page.proofs.drawing.Drawer.try_region.Goals as goal
+use Rattle.jbig2_page.proofs.drawing.Drawer.try_region.Goals.{in-OutOfMemory, in_default}
 
 pub returns-in_err-region-clause-value : goal.returns-in_err-region-clause-value
 returns-in_err-region-clause-value g c =
@@ -48,9 +48,9 @@ returns-in-Ok-clause-value g c =
     let leads : meant ≡ placed_region c.in_ok-parsed.parsed = led c.references-references.result (is_strict c.args.self.now.reading) c.args.self.now.globals.now c.args.kind false (segment_view c.args.segment.now) c.canvas.inside.bitmap c.deref.result.now c.canvas.inside.regions.items c.canvas.inside.names c.canvas.inside.untouched c.canvas.inside.passed_over d (placed_region c.in_ok-parsed.parsed) c.references-references.ensures.strict c.references-references.ensures.globals c.references-references.ensures.drawing c.deref.ensures.value c.canvas.view_is c.in_ok-parsed.ensures.value in
     let is_blank : IsBlankPage false c.canvas.inside.bitmap = subst (λ (p : Grid). IsBlankPage false p) (sym (ap (λ (b : Drawing). b.grid) c.canvas.view_is)) (c.is_white-is_white.ensures.blank c.if-is_white.true) in
     let whole : IsWhole (info_of c.in_ok-parsed.parsed) (initial_of c.in_ok-parsed.parsed) c.canvas.inside.bitmap = c.makes_up.ensures c.if-makes_up.true is_blank in
-    subst (λ (r : Result (Unit {0}) DecodeError). Gives (λ _. record inside { grid = c.decode_onto.new.page; untouched = false }) r (with_drawn_region d meant)) c.in-Ok.is
-    (subst (λ (b : Drawing). Gives (λ _. record inside { grid = c.decode_onto.new.page; untouched = false }) c.decode_onto.result (with_drawn_region b meant)) c.canvas.view_is
-    (whole-gives c.in_ok-parsed.parsed meant inside c.decode_onto.new.page c.decode_onto.result whole leads c.decode_onto.ensures.value))
+    subst (λ (r : Result (Unit {0}) DecodeError). Gives (λ _. record inside { grid = c.decode_onto_page.new.page; untouched = false }) r (with_drawn_region d meant)) c.in-Ok.is
+    (subst (λ (b : Drawing). Gives (λ _. record inside { grid = c.decode_onto_page.new.page; untouched = false }) c.decode_onto_page.result (with_drawn_region b meant)) c.canvas.view_is
+    (whole-gives c.in_ok-parsed.parsed meant inside c.decode_onto_page.new.page c.decode_onto_page.result whole leads c.decode_onto_page.ensures.value))
 
 pub returns-in-Err-clause-value : goal.returns-in-Err-clause-value
 returns-in-Err-clause-value g c =
@@ -60,9 +60,9 @@ returns-in-Err-clause-value g c =
     let leads : meant ≡ placed_region c.in_ok-parsed.parsed = led c.references-references.result (is_strict c.args.self.now.reading) c.args.self.now.globals.now c.args.kind false (segment_view c.args.segment.now) c.canvas.inside.bitmap c.deref.result.now c.canvas.inside.regions.items c.canvas.inside.names c.canvas.inside.untouched c.canvas.inside.passed_over d (placed_region c.in_ok-parsed.parsed) c.references-references.ensures.strict c.references-references.ensures.globals c.references-references.ensures.drawing c.deref.ensures.value c.canvas.view_is c.in_ok-parsed.ensures.value in
     let is_blank : IsBlankPage false c.canvas.inside.bitmap = subst (λ (p : Grid). IsBlankPage false p) (sym (ap (λ (b : Drawing). b.grid) c.canvas.view_is)) (c.is_white-is_white.ensures.blank c.if-is_white.true) in
     let whole : IsWhole (info_of c.in_ok-parsed.parsed) (initial_of c.in_ok-parsed.parsed) c.canvas.inside.bitmap = c.makes_up.ensures c.if-makes_up.true is_blank in
-    subst (λ (r : Result (Unit {0}) DecodeError). Gives (λ _. record inside { grid = c.decode_onto.new.page; untouched = false }) r (with_drawn_region d meant)) c.in-Err.is
-    (subst (λ (b : Drawing). Gives (λ _. record inside { grid = c.decode_onto.new.page; untouched = false }) c.decode_onto.result (with_drawn_region b meant)) c.canvas.view_is
-    (whole-gives c.in_ok-parsed.parsed meant inside c.decode_onto.new.page c.decode_onto.result whole leads c.decode_onto.ensures.value))
+    subst (λ (r : Result (Unit {0}) DecodeError). Gives (λ _. record inside { grid = c.decode_onto_page.new.page; untouched = false }) r (with_drawn_region d meant)) c.in-Err.is
+    (subst (λ (b : Drawing). Gives (λ _. record inside { grid = c.decode_onto_page.new.page; untouched = false }) c.decode_onto_page.result (with_drawn_region b meant)) c.canvas.view_is
+    (whole-gives c.in_ok-parsed.parsed meant inside c.decode_onto_page.new.page c.decode_onto_page.result whole leads c.decode_onto_page.ensures.value))
 
 -- after an error the page is as it was, and so it is untouched
 as-was : (inside d : Drawing) (page : Grid) (matches : Bool) (error : DecodeError) → inside ≡ d → d.untouched ≡ true → (error ≡ OutOfMemory) ⊎ (page ≡ inside.grid) → (error ≡ OutOfMemory → ⊥) → matches ≡ false → record inside { grid = page; untouched = not matches } ≡ d
@@ -77,7 +77,7 @@ returns-in-Err-clause-err g c = elim c.match-matches.branch [
   | in-OutOfMemory w ↦ inl w.in-OutOfMemory.is
   | in_default w ↦
       let inside : Drawing = record { grid = c.canvas.inside.bitmap; regions = kept_values region_view c.canvas.inside.regions.items; names = c.canvas.inside.names; untouched = c.canvas.inside.untouched; passed_over = c.canvas.inside.passed_over } in
-      inr (as-was inside c.args.canvas.now c.decode_onto.new.page c.match-matches.matches c.in-Err.error c.canvas.view_is (c.is_white-is_white.ensures.untouched c.if-is_white.true) c.in-Err.ensures.err w.in_default.not-OutOfMemory w.matches-is)
+      inr (as-was inside c.args.canvas.now c.decode_onto_page.new.page c.match-matches.matches c.in-Err.error c.canvas.view_is (c.is_white-is_white.ensures.untouched c.if-is_white.true) c.in-Err.ensures.err w.in_default.not-OutOfMemory w.matches-is)
 ]
 
 -- and blank
@@ -92,7 +92,7 @@ pub invariant_of-canvas-in-Err : goal.invariant_of-canvas-in-Err
 invariant_of-canvas-in-Err g c = elim c.match-matches.branch [
   | in-OutOfMemory w ↦ λ kept. never-kept c.match-matches.matches w.matches-is kept
   | in_default w ↦ λ kept.
-      blank-still c.canvas.inside.default_pixel c.match-matches.matches c.canvas.inside.untouched c.canvas.inside.bitmap c.decode_onto.new.page c.in-Err.error c.canvas.invariant
+      blank-still c.canvas.inside.default_pixel c.match-matches.matches c.canvas.inside.untouched c.canvas.inside.bitmap c.decode_onto_page.new.page c.in-Err.error c.canvas.invariant
       (ap (λ (d : Drawing). d.untouched) c.canvas.view_is ∙ c.is_white-is_white.ensures.untouched c.if-is_white.true) c.in-Err.ensures.err w.in_default.not-OutOfMemory
 ]
 

@@ -9,7 +9,7 @@ use Rattle.jbig2_page.proofs.Direct.{combined-pixels}
 use Rattle.jbig2_steps.proofs.WorkLemmas.{counts-worth}
 use Rattle.jbig2_text.proofs.PayingLemmas.{beside-worth}
 use Rattle.jbig2_base.proofs.Prices.{combined-paid}
-use Rattle.jbig2_page.proofs.region.parsed_region.ParsedRegion.decode_by.Goals as goal
+use Rattle.jbig2_page.proofs.region.parsed_region.ParsedRegion.decode_kind.Goals as goal
 
 pub returns-in_ok-alloc-in-Halftone-clause-paid : goal.returns-in_ok-alloc-in-Halftone-clause-paid
 returns-in_ok-alloc-in-Halftone-clause-paid g c = rw c.in-Halftone.is (let counted = counts-worth c.args.work.now c.decode_into-in-Halftone.new.steps _ c.decode_into-in-Halftone.ensures.paid in omega (arith, counted))

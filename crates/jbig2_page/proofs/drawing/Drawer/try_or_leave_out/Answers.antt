@@ -7,7 +7,7 @@ use Rattle.jbig2_base.specs.declared.error.DecodeError.{DecodeError}
 use Rattle.jbig2_base.specs.declared.error.DecodeError.TheVariants.{OutOfMemory}
 use Rattle.jbig2_framing.specs.declared.reading.Reading.{Reading}
 use Rattle.jbig2_page.specs.Page.{Drawing, or_left_out, segment_by}
-use Rattle.jbig2_page.proofs.drawing.Drawer.take_segment.Goals as goal
+use Rattle.jbig2_page.proofs.drawing.Drawer.try_or_leave_out.Goals as goal
 
 -- a segment that failed is left out
 left : (reading : Reading) (p : SegmentView) (d d1 d' : Drawing) (meant : Result Drawing DecodeError) (e : DecodeError) (result : Result (Unit {0}) DecodeError)

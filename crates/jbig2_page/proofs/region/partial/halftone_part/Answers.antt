@@ -8,7 +8,7 @@ use Rattle.jbig2_halftone.specs.inner.HalftoneHeaderViews.{header_view}
 use Rattle.jbig2_region.specs.inner.RegionViews.{region_view}
 use Rattle.jbig2_page.proofs.Direct.{part-fits-placed}
 use Rattle.jbig2_page.proofs.RegionSizes.{halftone_part-made, halftone_part-refused}
-use Rattle.jbig2_page.proofs.region.cut_off.halftone_part.Goals as goal
+use Rattle.jbig2_page.proofs.region.partial.halftone_part.Goals as goal
 
 pub returns-in_err-check_sides-clause-value : goal.returns-in_err-check_sides-clause-value
 returns-in_err-check_sides-clause-value g c =
