@@ -9,7 +9,7 @@ ghost use Rattle.jbig2_base.specs.declared.error.DecodeError.TheVariants.{OutOfM
 ghost use Rattle.jbig2_region.specs.inner.RegionViews.{region_view};
 ghost use Rattle.jbig2_page.specs.inner.KeptViews.{kept_values};
 ghost use Rattle.jbig2_page.specs.inner.ParsedRegions.{drawing_of};
-ghost use Rattle.jbig2_page.specs.Prices.{capped, drawn_count, price_of_segment, price_of_type};
+ghost use Rattle.jbig2_page.specs.Prices.{drawn_count};
 ghost use Rattle.jbig2_steps.specs.Work.{Paid, budget};
 ghost use Rattle.jbig2_steps.specs.declared.prices.TheConstants as prices;
 
@@ -23,6 +23,7 @@ use crate::drawing::canvas::Canvas;
 use crate::drawing::dictionaries::{extension, keep_patterns, keep_symbols, keep_table, unlisted};
 use crate::kept::Kept;
 use crate::kept::names::{KeptNames, Lookup};
+use crate::paying::pay_segment;
 use crate::region::partial::is_partial;
 use crate::region::references::References;
 use crate::region::{RegionKind, parse_region};
@@ -32,7 +33,6 @@ use jbig2_base::error::{DecodeError, Result};
 use jbig2_framing::reading::Reading;
 use jbig2_framing::segment::{Segment, SegmentType};
 use jbig2_region::decoded_region::DecodedRegion;
-use jbig2_steps::prices;
 use std::alloc::Allocator;
 use std::sync::ledger::Ledger;
 
@@ -48,64 +48,6 @@ fn ends_page(kind: SegmentType) -> bool
     ensures { result ≡ ends_page kind }
 {
     matches!(kind, SegmentType::EndOfPage | SegmentType::EndOfFile)
-}
-
-/// The work of the memory that a segment of this type asks for, whatever it holds.
-fn price_of_type(kind: SegmentType, length: usize) -> u64
-    ensures { result ≡ capped (price_of_type kind length) }
-{
-    match kind {
-        SegmentType::Tables => (length as u64).saturating_mul(prices::TABLE_BYTE),
-        SegmentType::SymbolDictionary => prices::SYMBOL_DICTIONARY,
-        SegmentType::IntermediateTextRegion
-        | SegmentType::ImmediateTextRegion
-        | SegmentType::ImmediateLosslessTextRegion
-        | SegmentType::PatternDictionary
-        | SegmentType::IntermediateHalftoneRegion
-        | SegmentType::ImmediateHalftoneRegion
-        | SegmentType::ImmediateLosslessHalftoneRegion
-        | SegmentType::IntermediateGenericRegion
-        | SegmentType::ImmediateGenericRegion
-        | SegmentType::ImmediateLosslessGenericRegion
-        | SegmentType::IntermediateGenericRefinementRegion
-        | SegmentType::ImmediateGenericRefinementRegion
-        | SegmentType::ImmediateLosslessGenericRefinementRegion
-        | SegmentType::PageInformation
-        | SegmentType::EndOfPage
-        | SegmentType::EndOfStripe
-        | SegmentType::EndOfFile
-        | SegmentType::Profiles
-        | SegmentType::ColourPalette
-        | SegmentType::Extension
-        | SegmentType::Reserved => 0,
-    }
-}
-
-/// The work of the numbers that a segment refers to, where `kept` is how many values a number may name.
-fn price_of_references(numbers: usize, kept: usize) -> u64
-    ensures { result ≡ capped (numbers * (kept + prices.REFERENCE)) }
-{
-    let each = (kept as u64).saturating_add(prices::REFERENCE);
-    (numbers as u64).saturating_mul(each)
-}
-
-/// Takes the work of a segment itself, where `kept` is how many values a number may name.
-pub(crate) fn pay_segment<A: Allocator, L: Ledger>(
-    segment: &Segment<'_, A>,
-    kept: usize,
-    work: &mut Work<L>,
-) -> Result<()>
-    ensures memory { IfErr result (λ e. e ≡ OutOfMemory) }
-    ensures paid { Paid work.old work.new }
-    ensures taken { IfOk result (λ _. budget work.new + 32 * prices.SEGMENT ≤ budget work.old) }
-    ensures price { let price = price_of_segment kept (segment_view segment.now) in
-        IfOk result (λ _. budget work.new + 32 * price ≡ budget work.old) }
-{
-    let numbers = segment.header.referred_to_segments.len();
-    let units = price_of_references(numbers, kept).saturating_add(prices::SEGMENT);
-    let kind = segment.header.segment_type;
-    work.pay(units.saturating_add(price_of_type(kind, segment.bytes.len())))?;
-    Ok(())
 }
 
 impl<'a, A: Allocator + Clone> Drawer<'a, A> {
