@@ -1,8 +1,8 @@
 //! The regions of a page, by kind (T.88, 7.4.3 and 7.4.5 to 7.4.7). A region is first parsed, with what it refers to,
 //! and then decoded.
-ghost use Rattle.std.specs.Prelude.{IfOk};
+ghost use Rattle.std.specs.Prelude.{◌≡◌, IfOk};
 ghost use Rattle.jbig2_framing.specs.inner.SegmentViews.{segment_view};
-ghost use Rattle.jbig2_page.specs.Page.{region_at};
+ghost use Rattle.jbig2_page.specs.Page.{is_immediate, region_at, region_type};
 ghost use Rattle.jbig2_page.specs.inner.ParsedRegions.{IsDecodable, DecodesTo, drawing_of};
 ghost use Rattle.jbig2_steps.specs.Work.{Paid};
 
@@ -24,7 +24,7 @@ use crate::region::text::parse_text;
 use crate::workspace::Workspace;
 use jbig2_base::bitmap::steps::Work;
 use jbig2_base::error::Result;
-use jbig2_framing::segment::Segment;
+use jbig2_framing::segment::{Segment, SegmentType};
 use std::alloc::Allocator;
 use std::sync::ledger::Ledger;
 
@@ -35,6 +35,23 @@ pub(crate) enum RegionKind {
     Halftone,
     Generic,
     GenericRefinement,
+}
+
+/// Whether segments of this type hold a region that is drawn at once.
+pub(crate) fn is_immediate_region(kind: SegmentType) -> bool
+    ensures { result ≡ is_immediate (region_type kind) }
+{
+    matches!(
+        kind,
+        SegmentType::ImmediateTextRegion
+            | SegmentType::ImmediateLosslessTextRegion
+            | SegmentType::ImmediateHalftoneRegion
+            | SegmentType::ImmediateLosslessHalftoneRegion
+            | SegmentType::ImmediateGenericRegion
+            | SegmentType::ImmediateLosslessGenericRegion
+            | SegmentType::ImmediateGenericRefinementRegion
+            | SegmentType::ImmediateLosslessGenericRefinementRegion
+    )
 }
 
 /// Parses the region that a segment holds: what is needed to decode it.

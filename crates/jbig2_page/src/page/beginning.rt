@@ -3,8 +3,9 @@ ghost use Rattle.std.specs.Prelude.{◌≡◌, ◌≤◌, IfOk, min};
 ghost use Rattle.jbig2_base.specs.Grid.{max_side};
 ghost use Rattle.jbig2_base.specs.Results.{Returns};
 ghost use Rattle.jbig2_framing.specs.inner.SegmentViews.{segment_view, segment_views};
-ghost use Rattle.jbig2_page.specs.Page.{beginning_of, end_of, is_immediate, info_at, region_height, region_type, regions_height, known_height};
+ghost use Rattle.jbig2_page.specs.Page.{beginning_of, end_of, info_at, region_height, regions_height, known_height};
 
+use crate::region::is_immediate_region;
 use jbig2_base::bitmap::MAX_DIMENSION;
 use jbig2_base::error::Result;
 use jbig2_base::reader::Reader;
@@ -14,22 +15,6 @@ use jbig2_framing::segment::{Segment, SegmentType};
 use jbig2_region::generic;
 use jbig2_region::region_info::{RegionSegmentInfo, parse_region_segment_info};
 use std::alloc::Allocator;
-
-pub(crate) fn is_immediate_region(kind: SegmentType) -> bool
-    ensures { result ≡ is_immediate (region_type kind) }
-{
-    matches!(
-        kind,
-        SegmentType::ImmediateTextRegion
-            | SegmentType::ImmediateLosslessTextRegion
-            | SegmentType::ImmediateHalftoneRegion
-            | SegmentType::ImmediateLosslessHalftoneRegion
-            | SegmentType::ImmediateGenericRegion
-            | SegmentType::ImmediateLosslessGenericRegion
-            | SegmentType::ImmediateGenericRefinementRegion
-            | SegmentType::ImmediateLosslessGenericRefinementRegion
-    )
-}
 
 /// The row below the lowest row of a region, at most 65535. The region's y is read as a signed number (T.88, 7.4.1).
 fn end_of(info: &RegionSegmentInfo) -> u32

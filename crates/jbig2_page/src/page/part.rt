@@ -5,7 +5,7 @@ ghost use Rattle.jbig2_framing.specs.inner.SegmentViews.{partial_view, segment_v
 ghost use Rattle.jbig2_page.specs.Files.{with_part};
 ghost use Rattle.jbig2_page.specs.Page.{drawn_part, part_of_list};
 
-use crate::page::beginning::is_immediate_region;
+use crate::region::is_immediate_region;
 use jbig2_base::error::Result;
 use jbig2_framing::reading::Reading;
 use jbig2_framing::segment::Segment;
