@@ -14,7 +14,7 @@ ghost use Rattle.jbig2_steps.specs.declared.prices.TheConstants as prices;
 use crate::drawing::dictionaries::{extension, keep_patterns, keep_symbols, keep_table, unlisted};
 use crate::drawing::passed_over::PassedOver;
 use crate::kept::names::KeptNames;
-use crate::paying::pay_segment;
+use crate::segment_price::pay_segment;
 use crate::workspace::Workspace;
 use jbig2_base::bitmap::steps::Work;
 use jbig2_base::error::{DecodeError, Result};

@@ -10,6 +10,6 @@ pub mod globals;
 mod kept;
 pub mod laws;
 pub mod page;
-mod paying;
 mod region;
+mod segment_price;
 mod workspace;
