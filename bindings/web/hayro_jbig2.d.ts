@@ -32,7 +32,10 @@ export interface PassedOver {
 export interface LeftOut {
   /** Of segments that pages share. */
   passedOver: PassedOver;
-  /** How many pages of the file can't begin, with the error of the first. Salvage leaves them out. */
+  /**
+   * How many pages of the file can't begin, with the error of the first. Salvage leaves them out. Where these are all,
+   * that error is thrown for page 0.
+   */
   pages: number;
   firstPage: Jbig2Error | null;
   /** The segment at which a list of segments ends early; its number is null where it isn't known. */

@@ -147,7 +147,7 @@ export class Decoder {
     const { inputs, giveBack } = this.#taken([dataOf(bytes)], 0);
     try {
       const file = this.#newShared("file", inputs[0], reading);
-      const draw = (page) => (checkIndex(page), this.#drawn("file", file, [BigInt(page)], reading));
+      const draw = (page) => (checkIndex(page), this.#drawnOfFile(file, page, reading));
       const opened = new OpenFile(draw, () => this.#leftOut("file", file), this.#closing(file, giveBack));
       opened.pageCount = Number(this.#run("hayro_jbig2_file_page_count", file));
       return opened;
@@ -183,7 +183,7 @@ export class Decoder {
    * NO_SUCH_PAGE. Bytes are an ArrayBuffer or a view of one; other values are refused by a TypeError.
    *
    * With `strict` the first fault is thrown. With `salvage`, for viewers of damaged files, whatever a lenient decoder
-   * refuses is left out.
+   * refuses is left out. Where that is each page of a file, page 0 is the error of the first.
    *
    * Where the page's `isComplete` is false, `passedOver` tells what it lacks. `leftOut` tells what else reading left
    * out: segments that pages share, as `passedOver`; how many `pages` of a file, with the error of the first as
@@ -204,7 +204,7 @@ export class Decoder {
     return this.#with(inputs, 0, ([stream, shared]) => {
       if (!isEmbedded) {
         const file = this.#newShared("file", stream, reading);
-        return this.#held(file, (file) => this.#drawn("file", file, [BigInt(page)], reading));
+        return this.#held(file, (file) => this.#drawnOfFile(file, page, reading));
       }
       if (globals === null) return this.#drawnPage(stream, null, reading);
       return this.#held(this.#newGlobals(shared, reading), (globals) => this.#drawnPage(stream, globals, reading));
@@ -280,6 +280,15 @@ export class Decoder {
       if (globals !== null) drawn.leftOut = joined(drawn.leftOut, this.#leftOut("globals", globals));
       return drawn;
     });
+  }
+
+  /** Draws a page of a file, and returns what `decode` does. Of pages that are all left out the first one's error is known. */
+  #drawnOfFile(file, page, reading) {
+    if (page === 0 && this.#run("hayro_jbig2_file_page_count", file) === 0n) {
+      const { firstPage } = this.#leftOut("file", file);
+      if (firstPage) throw firstPage;
+    }
+    return this.#drawn("file", file, [BigInt(page)], reading);
   }
 
   /** Draws a page of a handle, and returns what `decode` does. */

@@ -107,11 +107,29 @@ class Pages(unittest.TestCase):
         self.assertEqual(hayro_jbig2.sizes(data, salvage=True), [(1, 8, 1)])
         [page] = hayro_jbig2.pages(data, salvage=True)
         self.assertEqual((page.left_out.pages, page.left_out.first_page.variant), (2, "EmptyPage"))
-        # A page without a size is raised, as where the stream is embedded.
-        for stream in bytes.fromhex("974A42320D0A1A0A 03") + empty, empty:
-            with self.assertRaises(hayro_jbig2.FormatError) as caught:
-                hayro_jbig2.decode(stream, salvage=True)
-            self.assertEqual(caught.exception.variant, "EmptyPage")
+
+    def test_a_page_that_fails_has_its_own_error(self):
+        """Also where salvage leaves it out, as where its stream is embedded. A file that names no page has no such page."""
+        information = "00000000 30 00 01 00000013 0000000%d 0000000%d" + "00" * 11
+        end = "00000001 31 00 01 00000000"
+        for segments, of_file, embedded in (
+            ("", ["NoSuchPage"] * 3, ["MissingPageInfo"] * 3),
+            (end, ["MissingPageInfo"] * 3, ["MissingPageInfo"] * 3),
+            (information % (0, 1) + end, ["EmptyPage"] * 3, ["EmptyPage"] * 3),
+            (information % (8, 0) + end, ["EmptyPage"] * 3, ["EmptyPage"] * 3),
+            (
+                (information % (8, 1))[:-2],
+                ["UnexpectedEof", "NoSuchPage", "NoSuchPage"],
+                ["UnexpectedEof", "MissingPageInfo", "MissingPageInfo"],
+            ),
+        ):
+            stream = bytes.fromhex(segments)
+            for data, meant in (bytes.fromhex("974A42320D0A1A0A 03") + stream, of_file), (stream, embedded):
+                for how, variant in zip(({"strict": True}, {}, {"salvage": True}), meant):
+                    with self.subTest(data=data, how=how):
+                        with self.assertRaises(hayro_jbig2.Jbig2Error) as caught:
+                            hayro_jbig2.decode(data, **how)
+                        self.assertEqual(caught.exception.variant, variant)
 
     def test_a_fault_that_is_raised_keeps_no_file(self):
         data = bytes.fromhex("974A42320D0A1A0A 03 00000000 30 00 02 00000013 00000000 00000001") + bytes(11 + 1_000_000)

@@ -2,10 +2,12 @@
 //! of the rows R17 of `crates/jbig2_rows/README.md`.
 
 use hayro_jbig2::{
-    DecodeError, DecodeSettings, DecoderContext, File, Globals, LeftOut, Page, PassedOver, PassedSegment,
+    DecodeError, DecodeSettings, DecoderContext, File, Globals, Jbig2Decoder, Jbig2Error, LeftOut, Page, PassedOver,
+    PassedSegment,
 };
-use hayro_jbig2::{FormatError, HuffmanError, SegmentError};
+use hayro_jbig2::{FormatError, HuffmanError, ParseError, SegmentError};
 
+const STRICT: DecodeSettings = DecodeSettings { strict: true };
 const LENIENT: DecodeSettings = DecodeSettings { strict: false };
 const REFERENCE: DecodeError = DecodeError::Segment(SegmentError::InvalidReference);
 const SELECTION: DecodeError = DecodeError::Huffman(HuffmanError::InvalidSelection);
@@ -155,6 +157,49 @@ fn a_file_is_read_without_what_is_damaged() {
         assert_eq!(drawn(&page), (0x80, passed_over));
     }
     assert_eq!(File::salvaged(b"no file at all").map(|file| file.page_count()), Err(FormatError::InvalidHeader.into()));
+}
+
+/// A page that can't begin has its own error, also where salvage leaves it out, as where its stream is embedded. A file that
+/// names no page has no such page, and the call for its first page by a reader says that page information is missing.
+#[test]
+fn a_page_that_fails_has_its_own_error() {
+    let (missing, empty) = (Some(FormatError::MissingPageInfo.into()), Some(FormatError::EmptyPage.into()));
+    let cut = Some(DecodeError::Parse(ParseError::UnexpectedEof));
+    let no_height = PAGE.replace("00000001 0000000000000000000000", "00000000 0000000000000000000000");
+    let no_width = NO_PAGE.replace("30 00 02", "30 00 01");
+    for (segments, of_file, embedded) in [
+        (of(&[]), [None; 3], [missing; 3]),
+        (of(&[END]), [missing; 3], [missing; 3]),
+        (of(&[&no_width, END]), [empty; 3], [empty; 3]),
+        (of(&[&no_height, END]), [empty; 3], [empty; 3]),
+        (of(&[&PAGE[..PAGE.len() - 2]]), [cut, None, None], [cut, missing, missing]),
+    ] {
+        let data = [of(&[HEADER]), segments.clone()].concat();
+        let files = [File::new(&data, &STRICT), File::new(&data, &LENIENT), File::salvaged(&data)];
+        assert_eq!(files.map(fault_of_file), of_file);
+        let pages = [
+            Page::new_embedded(&segments, None, &STRICT),
+            Page::new_embedded(&segments, None, &LENIENT),
+            Page::salvaged_embedded(&segments, None),
+        ];
+        assert_eq!(pages.map(|page| page.err()), embedded);
+        let first = match Jbig2Decoder::new(&data[..]) {
+            Err(Jbig2Error::Decode(error)) => Some(error),
+            _ => None,
+        };
+        assert_eq!(first, of_file[1].or(missing));
+    }
+}
+
+/// Why a file has no page, where it names one.
+fn fault_of_file(file: Result<File<'_>, DecodeError>) -> Option<DecodeError> {
+    match file {
+        Ok(file) => {
+            assert!(file.page(0).is_none());
+            file.left_out().first_page
+        }
+        Err(error) => Some(error),
+    }
 }
 
 #[test]

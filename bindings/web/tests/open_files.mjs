@@ -66,6 +66,41 @@ function checkPages() {
   }
 }
 
+// Segments of page 1, and the errors of page 0 by each reading: of a file that has them, and where they are embedded.
+const INFORMATION = (width, height) => `00000000 30 00 01 00000013 0000000${width} 0000000${height} ${"00".repeat(11)}`;
+const END = "00000001 31 00 01 00000000";
+const [NONE, MISSING, EMPTY, CUT] = ["NO_SUCH_PAGE", "FORMAT_MISSING_PAGE_INFO", "FORMAT_EMPTY_PAGE", "PARSE_UNEXPECTED_EOF"];
+const PAGES_THAT_FAIL = [
+  ["", [NONE, NONE, NONE], [MISSING, MISSING, MISSING]],
+  [END, [MISSING, MISSING, MISSING], [MISSING, MISSING, MISSING]],
+  [INFORMATION(0, 1) + END, [EMPTY, EMPTY, EMPTY], [EMPTY, EMPTY, EMPTY]],
+  [INFORMATION(8, 0) + END, [EMPTY, EMPTY, EMPTY], [EMPTY, EMPTY, EMPTY]],
+  [INFORMATION(8, 1).slice(0, -2), [CUT, NONE, NONE], [CUT, MISSING, MISSING]],
+];
+
+/** A page that can't begin has its own error, also where salvage leaves it out. A file that names no page has no such page. */
+function checkPagesThatFail() {
+  const openAndDecode = (bytes, { page, ...options }) => {
+    const open = decoder.open(bytes, options);
+    try {
+      return open.decode(page);
+    } finally {
+      open.close();
+    }
+  };
+  for (const [segments, ofFile, embedded] of PAGES_THAT_FAIL) {
+    for (const [at, options] of [{ strict: true }, {}, { salvage: true }].entries()) {
+      const name = `${segments}, ${JSON.stringify(options)}`;
+      const [file, stream] = [hex(`974A42320D0A1A0A 03 ${segments}`), hex(segments)];
+      const found = [decoder.decode.bind(decoder), openAndDecode].map((decode) => thrown(() => decode(file, { page: 0, ...options })).error);
+      check(found.every((error) => error === ofFile[at]), `a file of ${name}: ${found}`);
+      check(thrown(() => decoder.decode(stream, options)).error === embedded[at], `a stream of ${name}`);
+      if (options.salvage) check(thrown(() => decoder.decode(file, { page: 1, ...options })).error === NONE, `page 1 of ${name}`);
+      check(decoder.held === 0, `${name}: memory is not given back`);
+    }
+  }
+}
+
 /** Two files at once, and a page between. */
 function checkSeveral() {
   const [one, other] = [decoder.open(file), decoder.open(fileOf(3))];
@@ -267,6 +302,7 @@ function checkLargeArrays() {
 }
 
 checkPages();
+checkPagesThatFail();
 checkSeveral();
 checkRefusals();
 checkGlobals();
