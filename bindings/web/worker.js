@@ -69,8 +69,7 @@ function saysEnd({ passedOver: { count, segment, error }, leftOut: { cutOff } })
 /** What a file lacks that none of its pages says, as texts. `told` says of each page whether it says the end. */
 function lackingOfFile({ pages, firstPage, cutOff }, told) {
   const lacks = pages ? [`${counted(pages, "page")} (${described(firstPage)})`] : [];
-  const isUntold = told.length > 0 && !told.includes(true);
-  return cutOff && isUntold ? [...lacks, `what comes from a segment on (${faultOf(cutOff)})`] : lacks;
+  return cutOff && !told.includes(true) ? [...lacks, `what comes from a segment on (${faultOf(cutOff)})`] : lacks;
 }
 
 /** Decodes a page and sends it to the page that shows it, or its error. Returns whether it says the end. */
@@ -117,7 +116,7 @@ async function showFile({ bytes, salvage, isLimited }) {
     const told = await showPages(kind, pages);
     const lacks = leftOut ? lackingOfFile(leftOut, told) : [];
     for (const fault of [...faults, ...lacks]) postMessage({ error: `left out of this file: ${fault}` });
-    if (pages.length === 0 && lacks.length === 0) postMessage({ error: "no JBIG2 page in this file" });
+    if (pages.length === 0 && !leftOut?.pages) postMessage({ error: "no JBIG2 page in this file" });
   } catch (error) {
     postMessage({ error: described(error) });
   }

@@ -152,8 +152,22 @@ class Command(unittest.TestCase):
             "974A42320D0A1A0A 03 00000001 30 00 01 00000013 00000008 00000001 0000000000000000000000"
             "00000002 00 00 01 0000000F 0009 00000001 00000001 5F80800040 00000003 31 00 01 00000000 000000"
         )
-        said = "-: page 0: invalid Huffman table selection\n-: the segments end early: unexpected end of input\n"
-        self.assertEqual(self.run_command("-", "page-{}.pbm", data=data), (1, "", said))
+        why, end = "invalid Huffman table selection\n", "-: the segments end early: unexpected end of input\n"
+        self.assertEqual(self.run_command("-", "page-{}.pbm", data=data), (1, "", f"-: page 0: {why}{end}"))
+        self.assertEqual(self.run_command("-", "page.pbm", data=data), (1, "", f"-: {why}{end}"))
+
+    def test_a_file_that_ends_early_is_told_where_no_page_begins(self):
+        """Its page information is cut off, or its only page has no width."""
+        empty = bytes.fromhex("00000000 30 00 01 00000013 00000000 00000001" + "00" * 11)
+        end = "-: the segments end early: segment 0: unexpected end of input\n"
+        for data, words, said in (
+            (HEADER + TEXT[:20], ("--strict",), "-: unexpected end of input\n"),
+            (HEADER + TEXT[:20], (), f"-: no such page\n{end}"),
+            (HEADER + TEXT[:20], ("--salvage",), f"-: no such page\n{end}"),
+            (HEADER + empty + TEXT[:20], ("--salvage",), f"-: page has zero width or height\n{end}"),
+        ):
+            for name in "page-{}.pbm", "page.pbm":
+                self.assertEqual(self.run_command("-", name, *words, data=data), (1, "", said))
 
     def test_a_file_without_pages(self):
         empty = bytes.fromhex("974A42320D0A1A0A 03")

@@ -180,6 +180,18 @@ class Incomplete(unittest.TestCase):
                 next(drawn)
             self.assertEqual(caught.filename, __file__)
 
+    def test_an_error_says_where_its_file_ends_early(self):
+        """The page information is cut off, so there is no page that could say it."""
+        for how in READINGS.values():
+            with self.assertRaises(hayro_jbig2.NoSuchPage) as caught:
+                hayro_jbig2.decode(HEADER + PAGE.read_bytes()[:-1], **how)
+            cut_off = caught.exception.cut_off
+            self.assertEqual((cut_off.segment_number, cut_off.error.variant), (0, "UnexpectedEof"))
+            self.assertEqual(pickle.loads(pickle.dumps(caught.exception)).cut_off, cut_off)
+            with self.assertRaises(hayro_jbig2.NoSuchPage) as caught:
+                hayro_jbig2.decode(BOOK, page=3, **how)
+            self.assertIsNone(caught.exception.cut_off)
+
     def test_a_whole_file_has_no_warning(self):
         for page in hayro_jbig2.pages(BOOK):
             self.assertEqual((page.is_complete, page.lacks, page.left_out.texts), (True, [], []))

@@ -35,14 +35,21 @@ def are_same(pages, meant, in_order):
     return len(pages) == len(meant) and all(map(is_same, pages, meant))
 
 
+def meant_of_file(lenient, strict):
+    """What a file is meant to show. Strict reading refuses one without pages where its segments end early, which is shown first."""
+    if isinstance(lenient, str):
+        return [lenient]
+    ends = [f"PARSE_UNEXPECTED_EOF: {strict})"] if strict else []
+    return lenient or [*ends, "no JBIG2 page in this file"]
+
+
 def meant_of(folder):
     """What each file of the folder is meant to show, by its name. An embedded page with globals can't be handed over alone."""
     answers = json.loads((folder / "answers.json").read_text())
     meant = {}
     for name, readings in answers["files"].items():
         if not (folder / name.replace(".page.", ".globals.")).exists() or ".page." not in name:
-            pages = readings["lenient"]
-            meant[name] = [pages] if isinstance(pages, str) else pages or ["no JBIG2 page in this file"]
+            meant[name] = meant_of_file(readings["lenient"], readings["strict"])
     return {**meant, **answers["pdf"]}
 
 

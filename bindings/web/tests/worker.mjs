@@ -81,6 +81,7 @@ async function checkLeftOut() {
     "file left out of this file: what comes from a segment on (segment 538976288, SEGMENT_INVALID_REFERENCE: segment refers to an invalid segment)";
   const dictionary = "000000020000010000000F00090000000100000001" + "5F80800040";
   const cut = "file left out of this file: what comes from a segment on (PARSE_UNEXPECTED_EOF: unexpected end of input)";
+  const inInformation = cut.replace("(PARSE", "(segment 1, PARSE");
   const cases = [
     ["", "file no JBIG2 page in this file"],
     [page(1, "00000000"), left],
@@ -90,6 +91,10 @@ async function checkLeftOut() {
     [page(1, "00000008") + region + end + junk, rest],
     [page(1, "00000008") + junk, ""],
     [page(1, "00000008") + region + junk, ""],
+    // Where no page begins, none says it: page information is cut off, or the only page has no width.
+    [page(1, "00000008").slice(0, -2), `${inInformation},file no JBIG2 page in this file`],
+    [page(1, "00000008").slice(0, -2), `${inInformation},file no JBIG2 page in this file`, false],
+    [page(1, "00000000") + end + "000000", `${left},${cut}`],
     // A page that fails says nothing of it: a dictionary wants a table which isn't there, and the rest is cut off.
     [page(1, "00000008") + dictionary + end + "000000", `1 HUFFMAN_INVALID_SELECTION: invalid Huffman table selection,${cut}`, false],
   ];

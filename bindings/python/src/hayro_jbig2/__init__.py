@@ -12,7 +12,7 @@ they can of damaged data. `encode` writes a picture as a page. `python -m hayro_
 
 The exceptions, which are in `hayro_jbig2.errors`, and here too:
 
-    Jbig2Error                  why there is no page: number, variant
+    Jbig2Error                  why there is no page: number, variant, cut_off
         DecodeError             a fault of the data
             ParseError          the bytes end too early
             FormatError         of the file or the page as a whole

@@ -10,6 +10,7 @@ from typing import TYPE_CHECKING, Any
 
 from . import Globals, Jbig2Error, LeftOut, Page, __version__, decode, sizes
 from ._decode import pages_or_faults
+from ._page import end_text
 
 if TYPE_CHECKING:
     from collections.abc import Iterable
@@ -155,6 +156,8 @@ def main() -> int:
         print(f"{words.globals}: {error}", file=sys.stderr)
     except Jbig2Error as error:
         print(f"{words.input}: {error}", file=sys.stderr)
+        if error.cut_off:
+            print(f"{words.input}: {end_text(error.cut_off)}", file=sys.stderr)
     except OSError as error:
         print(error, file=sys.stderr)
     except MemoryError:

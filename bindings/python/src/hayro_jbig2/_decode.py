@@ -112,7 +112,8 @@ def pages_or_faults(
         return
     with _library.File(content, _reading(strict, salvage), work_limit) as file:
         if not file.sizes:
-            raise _missing_page(file, 0)
+            # It raises why.
+            _page_of(file, 0, work_limit)
         for index in range(len(file.sizes)):
             try:
                 yield index, file.draw(index, work_limit), file.left_out
@@ -156,9 +157,13 @@ def _pages_of(file: _library.File, work_limit: WorkLimit, warn: bool) -> Iterato
 
 
 def _page_of(file: _library.File, index: int, work_limit: WorkLimit) -> Page:
-    if not 0 <= index < len(file.sizes):
-        raise _missing_page(file, index)
-    return file.draw(index, work_limit)
+    try:
+        if not 0 <= index < len(file.sizes):
+            raise _missing_page(file, index)
+        return file.draw(index, work_limit)
+    except Jbig2Error as error:
+        error.cut_off = file.left_out.cut_off
+        raise
 
 
 def _missing_page(file: _library.File, index: int) -> Jbig2Error:

@@ -66,7 +66,7 @@ class LeftOut:
         if self.pages:
             texts.append(f"pages of the file are left out, {self.pages} of them: {self.first_page}")
         if self.cut_off:
-            texts.append(f"the segments end early: {_described(self.cut_off)}")
+            texts.append(end_text(self.cut_off))
         return texts
 
     def joined(self, globals: LeftOut) -> LeftOut:
@@ -158,6 +158,11 @@ class Page:
         from PIL import Image
 
         return Image.frombytes("1", (self.width, self.height), bytes(self.rows), "raw", "1;I")
+
+
+def end_text(cut_off: PassedSegment) -> str:
+    """That a list of segments ends early, as messages have it."""
+    return f"the segments end early: {_described(cut_off)}"
 
 
 def _described(segment: PassedSegment) -> str:

@@ -6,9 +6,19 @@ docs/FORMAT.md says which rule of T.88 each stands for.
 
 from __future__ import annotations
 
+from typing import TYPE_CHECKING
+
+if TYPE_CHECKING:
+    from ._page import PassedSegment
+
 
 class Jbig2Error(Exception):
-    """Why there is no page. `number` is what the library returned, `variant` the name of the rule that is broken."""
+    """Why there is no page. `number` is what the library returned, `variant` the name of the rule that is broken.
+
+    Of a page of a file `cut_off` is the segment at which the file's list of segments ends early, if it does.
+    """
+
+    cut_off: PassedSegment | None = None
 
     def __init__(self, text: str, number: int, variant: str) -> None:
         super().__init__(text, number, variant)
