@@ -4,13 +4,14 @@ usage: testing/commands/errors [--write]
 
 An error's text is in specs/ErrorTexts.antt of that crate, its number in bindings/c/source/specs/Numbers.antt.txt. The comment of
 an error that no bytes cause ends with "never returned". With --write the texts are first written into the lists that
-written_errors.py names.
+written_errors.py names. In no other file may a text stand, unless quoted_texts.py names that file.
 """
 import re
 import sys
 from pathlib import Path
 from typing import NamedTuple
 
+from testing.commands.quoted_texts import misquoted
 from testing.commands.written_errors import COMMAND, HEADER, IN_C, IN_CRATE, OTHERS_FOR_C, TEXTS_FOR_C, TEXTS_IN_CRATES, written
 from testing.error_texts import DEFINITION, TEXTS, in_c, named
 
@@ -195,7 +196,9 @@ def main():
     wrong += [*of_constants(results), *of_never_returned(errors)]
     made = written(read)
     wrong += [f"{path} is not what `{COMMAND}` writes" for path, content in made.items() if read(path) != content]
-    print(*wrong, f"{len(errors)} errors, {len(made)} lists that are written, {len(wrong)} faults", sep="\n")
+    files, misquotes = misquoted(ROOT, made)
+    wrong += misquotes
+    print(*wrong, f"{len(errors)} errors, {len(made)} lists that are written, {files}, {len(wrong)} faults", sep="\n")
     return 1 if wrong else 0
 
 
