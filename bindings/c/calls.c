@@ -256,7 +256,6 @@ static void tells_want_of_memory(void) {
 
 static void has_texts(void) {
     CHECK(strcmp(hayro_jbig2_error_text(HAYRO_JBIG2_OK), "no error") == 0);
-    CHECK(strcmp(hayro_jbig2_error_text(HAYRO_JBIG2_OUT_OF_MEMORY), "out of memory") == 0);
     CHECK(strcmp(hayro_jbig2_error_text(HAYRO_JBIG2_NO_SUCH_PAGE), "no such page") == 0);
     CHECK(strcmp(hayro_jbig2_error_text(HAYRO_JBIG2_WORK_LIMIT), "the limit of work is reached") == 0);
     for (uint32_t answer = 0; answer <= HAYRO_JBIG2_OUT_OF_MEMORY; answer++)

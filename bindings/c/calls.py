@@ -10,6 +10,7 @@ import sys
 import tempfile
 
 from bindings import STRUCTURES, loaded
+from testing.error_texts import TEXTS, in_c
 
 HERE = os.path.dirname(os.path.abspath(__file__))
 CRATES = os.path.join(os.path.dirname(os.path.dirname(HERE)), "crates")
@@ -35,22 +36,15 @@ def text_of(*path):
         return file.read()
 
 
-def in_capitals(name):
-    return re.sub(r"(?<=[a-z])(?=[A-Z])", "_", name).upper()
-
-
 def compare_numbers(library):
     """The text that the library has for each number of the header, with that of the definitions, by the error's name; and
     the version. testing/commands/errors compares the other lists."""
     header = text_of(HERE, "hayro_jbig2.h")
     numbers = {name: int(number) for name, number in re.findall(r"^    HAYRO_JBIG2_(\w+) = (\d+)", header, re.M)}
-    definitions = text_of(CRATES, "jbig2_base", "specs", "ErrorTexts.antt")
-    texts = re.findall(r'^\w+_text (\w+)\.(\w+) = codes "(.*)"$', definitions, re.M)
-    check(len(texts) == len([number for number in numbers.values() if 0 < number < 100]), "the header has all errors")
-    for enum, variant, text in texts:
-        name = in_capitals(variant) if enum == "errors" else enum.upper() + "_" + in_capitals(variant)
-        said = library.hayro_jbig2_error_text(numbers.get(name, 99))
-        check(said == text.encode(), f"the text of HAYRO_JBIG2_{name} is {text}")
+    check(len(TEXTS) == len([number for number in numbers.values() if 0 < number < 100]), "the header has all errors")
+    for error, text in TEXTS.items():
+        said = library.hayro_jbig2_error_text(numbers.get(in_c(error), 99))
+        check(said == text.encode(), f"the text of {error} is {text}")
     parts = re.findall(r"^#define HAYRO_JBIG2_VERSION_\w+ (\d+)$", header, re.M)
     check(library.hayro_jbig2_version().decode() == ".".join(parts), "the version is that of its parts")
 
@@ -160,7 +154,7 @@ def try_incomplete_pages(example):
     whole = subprocess.run([example, file.name], stdout=subprocess.PIPE).stdout
     # In segment 13, the last one of page 2 before its end; and in the number of the first one after page 1.
     ends = [book.index(bytes.fromhex("31 00 02 00000000")) - 5, book.index(bytes.fromhex("31 00 01 00000000")) + 9]
-    reports = ["page 2 is incomplete: segment 13: unexpected end of input\n", ""]
+    reports = [f"page 2 is incomplete: segment 13: {TEXTS['Parse(UnexpectedEof)']}\n", ""]
     with tempfile.TemporaryDirectory() as folder:
         for number, (end, report) in enumerate(zip(ends, reports)):
             name = os.path.join(folder, f"{number}.jb2")
@@ -177,7 +171,7 @@ def try_faults(example):
     good, folder, missing = os.path.join(DATA, "t88-h1.jb2"), DATA, os.path.join(DATA, "no such file")
     reports = {
         (example,): (2, "usage: example FILE\n"),
-        (example, example): (1, f"error: {example}: invalid JBIG2 file header\n"),
+        (example, example): (1, f"error: {example}: {TEXTS['Format(InvalidHeader)']}\n"),
         (example, missing): (1, f"error: {missing}: No such file or directory\n"),
         (example, folder): (1, f"error: {folder}: Is a directory\n"),
     }

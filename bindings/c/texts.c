@@ -1,8 +1,8 @@
 /* The version, and the texts of hayro_jbig2.h's answers. bindings/c/test compares these with those of the Rattle library. */
 #include "hayro_jbig2.h"
 
+/* The texts of crates/jbig2_base/specs/ErrorTexts.antt, written by testing/commands/errors --write */
 static const char *const errors[] = {
-    [HAYRO_JBIG2_OK] = "no error",
     [HAYRO_JBIG2_PARSE_UNEXPECTED_EOF] = "unexpected end of input",
     [HAYRO_JBIG2_FORMAT_INVALID_HEADER] = "invalid JBIG2 file header",
     [HAYRO_JBIG2_FORMAT_RESERVED_BITS] = "reserved bits must be zero",
@@ -47,9 +47,11 @@ static const char *const errors[] = {
 };
 
 const char *hayro_jbig2_error_text(uint32_t answer) {
-    if (answer < sizeof errors / sizeof *errors)
+    if (answer != HAYRO_JBIG2_OK && answer < sizeof errors / sizeof *errors)
         return errors[answer];
     switch (answer) {
+    case HAYRO_JBIG2_OK:
+        return "no error";
     case HAYRO_JBIG2_OTHER_SIZE:
         return "buffer of another size than the page";
     case HAYRO_JBIG2_NO_SUCH_PAGE:

@@ -4,6 +4,7 @@ from __future__ import annotations
 import dataclasses
 from collections.abc import Callable
 
+from testing.error_texts import TEXTS
 from testing.jbig2_encoder.bitmap import Bitmap
 from testing.jbig2_encoder.document import Document, Page
 from testing.jbig2_encoder.fields import Change, changed_by
@@ -13,42 +14,43 @@ from .case import PICTURE, SEQUENTIAL, Case, Drawing, case_of, page_document
 # What is done to a file.
 Edit = Callable[[bytes], bytes]
 # The errors, as `jbig2-decode` prints them after `error: ` (docs/FORMAT.md says where each is answered).
-ENDS = "unexpected end of input"
-INVALID_HEADER = "invalid JBIG2 file header"
-RESERVED_BITS = "reserved bits must be zero"
-MISSING_PAGE_INFORMATION = "missing page information segment"
-UNKNOWN_PAGE_HEIGHT = "page height unknown with no stripe segments"
-EMPTY_PAGE = "page has zero width or height"
-PAGE_COUNT = "page count in file header doesn't match"
-END_OF_PAGE = "page without exactly one end of page segment"
-UNKNOWN_TYPE = "unknown or reserved segment type"
-REFERRED_COUNT = "invalid referred-to segment count"
-INVALID_REFERENCE = "segment refers to an invalid segment"
-UNKNOWN_LENGTH = "unknown segment length for this type"
-MISSING_END_MARKER = "missing end marker for unknown-length region"
-MISSING_PATTERNS = "missing required pattern dictionary"
-MISSING_PAGE = "segment not associated with a page"
-INVALID_CODE = "invalid Huffman code"
-INVALID_SELECTION = "invalid Huffman table selection"
-MISSING_TABLES = "not enough referred Huffman tables"
-OUT_OF_BAND = "unexpected out-of-band value"
-INVALID_OPERATOR = "invalid combination operator"
-INVALID_DIMENSION = "invalid dimension value"
-INVALID_MMR = "invalid MMR-encoded data"
-GRAY_VALUE = "gray-scale value exceeds pattern count"
-INVALID_PIXEL = "invalid adaptive template pixel location"
-EXPORTED_COUNT = "no symbols available"
-TOO_MANY_NEW = "symbol dictionary contains too many symbols"
-UNKNOWN_SYMBOL = "symbol ID out of range"
-INVALID_SYMBOL = "invalid symbol encountered"
-STRIP_DELTA = "strip delta overflow"
-TOO_MANY_INSTANCES = "too many symbol instances"
-BITMAP_SIZE = "overflow in bitmap dimension computation"
-GRID_SIZE = "overflow in grid dimension computation"
-PLACE = "overflow in placement coordinate computation"
-REFERENCE_PLACE = "overflow in reference offset computation"
-SYMBOL_COUNT = "too many symbols"
-UNSUPPORTED = "unsupported feature"
+ENDS = TEXTS["Parse(UnexpectedEof)"]
+INVALID_HEADER = TEXTS["Format(InvalidHeader)"]
+RESERVED_BITS = TEXTS["Format(ReservedBits)"]
+MISSING_PAGE_INFORMATION = TEXTS["Format(MissingPageInfo)"]
+UNKNOWN_PAGE_HEIGHT = TEXTS["Format(UnknownPageHeight)"]
+EMPTY_PAGE = TEXTS["Format(EmptyPage)"]
+PAGE_COUNT = TEXTS["Format(PageCountMismatch)"]
+END_OF_PAGE = TEXTS["Format(InvalidEndOfPage)"]
+UNKNOWN_TYPE = TEXTS["Segment(UnknownType)"]
+REFERRED_COUNT = TEXTS["Segment(InvalidReferredCount)"]
+INVALID_REFERENCE = TEXTS["Segment(InvalidReference)"]
+UNKNOWN_LENGTH = TEXTS["Segment(InvalidUnknownLength)"]
+MISSING_END_MARKER = TEXTS["Segment(MissingEndMarker)"]
+MISSING_PATTERNS = TEXTS["Segment(MissingPatternDictionary)"]
+MISSING_PAGE = TEXTS["Segment(MissingPageAssociation)"]
+INVALID_CODE = TEXTS["Huffman(InvalidCode)"]
+INVALID_SELECTION = TEXTS["Huffman(InvalidSelection)"]
+MISSING_TABLES = TEXTS["Huffman(MissingTables)"]
+PREFIX_OUT_OF_BAND = TEXTS["Huffman(UnexpectedOob)"]
+INVALID_OPERATOR = TEXTS["Region(InvalidCombinationOperator)"]
+INVALID_DIMENSION = TEXTS["Region(InvalidDimension)"]
+INVALID_MMR = TEXTS["Region(InvalidMmrData)"]
+GRAY_VALUE = TEXTS["Region(GrayScaleOutOfRange)"]
+INVALID_PIXEL = TEXTS["Template(InvalidAtPixel)"]
+EXPORTED_COUNT = TEXTS["Symbol(NoSymbols)"]
+TOO_MANY_NEW = TEXTS["Symbol(TooManySymbols)"]
+UNKNOWN_SYMBOL = TEXTS["Symbol(OutOfRange)"]
+CODER_OUT_OF_BAND = TEXTS["Symbol(UnexpectedOob)"]
+INVALID_SYMBOL = TEXTS["Symbol(Invalid)"]
+STRIP_DELTA = TEXTS["Symbol(InvalidStripDelta)"]
+TOO_MANY_INSTANCES = TEXTS["Symbol(TooManyInstances)"]
+BITMAP_SIZE = TEXTS["Overflow(BitmapDimension)"]
+GRID_SIZE = TEXTS["Overflow(GridDimension)"]
+PLACE = TEXTS["Overflow(PlacementCoordinate)"]
+REFERENCE_PLACE = TEXTS["Overflow(ReferenceOffset)"]
+SYMBOL_COUNT = TEXTS["Overflow(SymbolCount)"]
+UNSUPPORTED = TEXTS["Unsupported"]
 
 
 def setting(name: str, value: int | None, turn: int = 0) -> Change:

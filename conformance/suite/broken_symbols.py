@@ -112,14 +112,14 @@ def coded_numbers() -> Iterator[Case]:
     runs, data = "export runs are of the symbols (6.5.10)", "the data of a class is in the segment (6.5.9)"
     # A name, the rule, whether it is by prefix codes, the field with its value and turn, and the error.
     faults = (
-        ("height-out-of-band", of_class, False, ("IADH", None), errors.OUT_OF_BAND),
+        ("height-out-of-band", of_class, False, ("IADH", None), errors.CODER_OUT_OF_BAND),
         ("height-below-0", below_0, False, ("IADH", -1), errors.BITMAP_SIZE),
         ("width-below-0", below_0, False, ("IADW", -1), errors.BITMAP_SIZE),
         ("width-65536", limit, False, ("IADW", 65536), errors.BITMAP_SIZE),
         ("height-65536", limit, False, ("IADH", 65536), errors.BITMAP_SIZE),
         ("width-65536", data, True, ("IADW", 65536), errors.ENDS),
         ("size-past-the-end", data, True, ("size", 60000, 2), errors.ENDS),
-        ("export-out-of-band", runs, False, ("IAEX", None), errors.OUT_OF_BAND),
+        ("export-out-of-band", runs, False, ("IAEX", None), errors.PREFIX_OUT_OF_BAND),
         ("export-below-0", runs, False, ("IAEX", -1), errors.INVALID_CODE),
         ("export-past-the-end", runs, False, ("IAEX", 30, 1), errors.UNKNOWN_SYMBOL),
         ("export-past-the-end", runs, True, ("IAEX", 30, 1), errors.UNKNOWN_SYMBOL),
@@ -146,7 +146,7 @@ def refined_numbers() -> Iterator[Case]:
     yield case("instances-below-0", instances, False, ("IAAI", -1), errors.INVALID_SYMBOL)
     rule = "numbers of a symbol are not out of band (6.5.8.2)"
     for field in ("IAAI", "IARDX", "IARDY"):
-        yield case(f"{field.lower()}-out-of-band", rule, False, (field, None), errors.OUT_OF_BAND)
+        yield case(f"{field.lower()}-out-of-band", rule, False, (field, None), errors.CODER_OUT_OF_BAND)
 
 
 def text_case(
@@ -202,14 +202,14 @@ def text_numbers() -> Iterator[Case]:
     for field, turn in (("IADT", 0), ("IADT", 1), ("IAFS", 0)):
         rule = "this number is not out of band (6.4.5)"
         name = f"coder-{field.lower()}-{turn}-out-of-band"
-        yield text_case(name, rule, setting(field, None, turn), errors.OUT_OF_BAND)
+        yield text_case(name, rule, setting(field, None, turn), errors.CODER_OUT_OF_BAND)
     rule = "this number is not out of band (6.4.5)"
     strips = Settings(strip_log=1)
-    yield text_case("coder-iait-out-of-band", rule, setting("IAIT", None), errors.OUT_OF_BAND, settings=strips)
+    yield text_case("coder-iait-out-of-band", rule, setting("IAIT", None), errors.CODER_OUT_OF_BAND, settings=strips)
     refined = Settings(refined=True)
     for field in ("IARI", "IARDW", "IARDH", "IARDX", "IARDY"):
         name = f"coder-{field.lower()}-out-of-band"
-        yield text_case(name, rule, setting(field, None), errors.OUT_OF_BAND, settings=refined)
+        yield text_case(name, rule, setting(field, None), errors.CODER_OUT_OF_BAND, settings=refined)
     most = (1 << 31) - 1
     rule = "places are of 32 bits"
     for log in (1, 3):

@@ -8,6 +8,7 @@ import pathlib
 from conformance.runner.manifest import Entry, read_sample, Sample
 from conformance.runner.pictures import of_numbers
 from conformance.runner.segments import in_random_access
+from testing.error_texts import TEXTS
 from testing.jbig2_encoder.bitmap import Bitmap
 from testing.jbig2_encoder.framing import HEADER, file_header, page_information, region_information, segment
 from testing.jbig2_encoder.t6 import encoded
@@ -59,7 +60,7 @@ def written(folder: pathlib.Path) -> dict[str, Sample]:
     header, pieces = in_random_access(HEADER, [*parts, END_OF_FILE])
     two = file_header(2) + b"".join([*parts, *page_segments(RING, 3, 3, 2), END_OF_FILE])
     embedded = b"".join(segment(1 + at, part[4], part[11:]) for at, part in enumerate(parts[:2]))
-    end = "unexpected end of input"
+    end = TEXTS["Parse(UnexpectedEof)"]
     nothing = dataclasses.replace(entry("cut-off", CROSS, 9), picture="-", width=None, height=None)
     cut_off = dataclasses.replace(nothing, strict=end, lenient=end, rule="D.4", others="any")
     return {

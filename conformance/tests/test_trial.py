@@ -12,14 +12,16 @@ from conformance.runner.limits import MOST_OUTPUT, Limits, folder_in_memory
 from conformance.runner.pictures import plain
 from conformance.runner.trial import Verdict, tried
 from conformance.tests.small_suite import CROSS, RING, of_numbers, written
+from testing.error_texts import TEXTS
 
 # Python may take long to start, on a slow and busy computer.
 LIMITS, SHORT = Limits(seconds=60), Limits(seconds=1)
 # Seconds that nothing waits for to the end.
 LONG = 600
+END = TEXTS["Parse(UnexpectedEof)"]
 FAKE = f"""#!{sys.executable}
 import sys
-sys.exit("error: another" if "--strict" in sys.argv else "error: unexpected end of input")
+sys.exit("error: another" if "--strict" in sys.argv else {"error: " + END!r})
 """
 
 
@@ -113,8 +115,8 @@ class TrialTest(unittest.TestCase):
             program.chmod(0o700)
             fake = Decoder("fake", f"{program} {{in}}", strict="--strict")
             outcomes = [tried(fake, self.samples[name], LIMITS) for name in ("cut-off", "sequential")]
-        self.assertEqual(outcomes[0].fault, "strict: another, not unexpected end of input")
-        self.assertTrue(outcomes[1].fault.startswith("lenient: unexpected end of input, not picture; strict: another"))
+        self.assertEqual(outcomes[0].fault, f"strict: another, not {END}")
+        self.assertTrue(outcomes[1].fault.startswith(f"lenient: {END}, not picture; strict: another"))
 
     def test_a_fault_has_no_control_characters(self):
         command = f"{sys.executable} -c \"import sys; sys.exit('error: a\\tb\\x1b')\" {{in}}"

@@ -12,6 +12,7 @@ import tempfile
 import unittest
 
 from testing.commands.files import COLOURED, CUT_OFF, HEADER, ROOT, bitmap, example, file_of, page_segments, striped
+from testing.error_texts import TEXTS
 
 PROGRAM = os.environ.get("PROGRAM") or subprocess.run(
     [os.path.join(ROOT, "tools", "build", "program"), "jbig2-decode"], check=True, stdout=subprocess.PIPE, text=True
@@ -21,6 +22,11 @@ USAGE = b"usage: jbig2-decode [--strict] pages|embedded FILE | calls|pbm FILE IN
 UNREADABLE = b"error: cannot read file\n"
 NO_SUCH_PAGE = b"error: no such page\n"
 WHITE = b"push_pixel_chunk false 1\nnext_line\n"
+
+
+def line_of(error):
+    """What is printed of an error of these bytes, by its name."""
+    return f"error: {TEXTS[error]}\n".encode()
 
 
 def run(*words, **how):
@@ -102,10 +108,10 @@ class Output(Case):
         self.assert_ends(["embedded", page], (0, black, b""))
 
     def test_lenient_reading_passes_over_what_strict_reading_refuses(self):
-        for rest, fault in (CUT_OFF, b"unexpected end of input"), (COLOURED, b"unsupported feature"):
+        for rest, error in (CUT_OFF, "Parse(UnexpectedEof)"), (COLOURED, "Unsupported"):
             page = self.made(page_segments(8, 1, rest))
             self.assert_ends(["embedded", page], (0, WHITE, b""))
-            self.assert_ends(["--strict", "embedded", page], (1, b"", b"error: " + fault + b"\n"))
+            self.assert_ends(["--strict", "embedded", page], (1, b"", line_of(error)))
 
     def test_a_file_above_a_mebibyte(self):
         data, picture = striped(65535, 150)
@@ -172,7 +178,7 @@ class Faults(Case):
                 self.assert_ends([command, os.path.join(DATA, "t88-h1.jb2"), index], (1, b"", NO_SUCH_PAGE))
 
     def test_data_that_is_no_file(self):
-        no_header = b"error: invalid JBIG2 file header\n"
+        no_header = line_of("Format(InvalidHeader)")
         for data in b"", b"\x97JB2", b"P4\n8 1\n\0", page_segments(8, 1):
             for words in ["pages"], ["calls", "0"], ["pbm", "0"]:
                 command, *index = words
@@ -180,7 +186,7 @@ class Faults(Case):
                 self.assertEqual((status, out), (1, b""))
                 self.assertRegex(fault, rb"\Aerror: [^\n]+\n\Z")
         self.assert_ends(["pages", self.made(b"P4\n8 1\n\0 and so on")], (1, b"", no_header))
-        self.assert_ends(["embedded", self.made(b"")], (1, b"", b"error: missing page information segment\n"))
+        self.assert_ends(["embedded", self.made(b"")], (1, b"", line_of("Format(MissingPageInfo)")))
 
     def test_a_file_that_is_cut_off_anywhere(self):
         with open(os.path.join(DATA, "t88-h1.jb2"), "rb") as file:

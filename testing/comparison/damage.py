@@ -22,6 +22,7 @@ from testing.comparison.limited import MOST_OUTPUT, Runner
 from testing.comparison.root import ROOT
 from conformance.runner.limits import folder_in_memory
 from conformance.runner.segments import parts_of
+from testing.error_texts import TEXTS
 from testing.jbig2_encoder.pictures import pixels
 
 SIZE_OF_CORPUS = 400
@@ -29,7 +30,7 @@ EDGES = (b"\0", b"\x7f", b"\x80", b"\xff")
 NUMBERS = (0, 1, 255, 256, 65535, 65536, 1 << 20, (1 << 31) - 1, 1 << 31, (1 << 32) - 1)
 REPORT = 20000
 FAULT = re.compile(rb"error: [^\n]+\n")
-MEMORY = b"error: out of memory\n"
+MEMORY = f"error: {TEXTS['OutOfMemory']}"
 LARGE, MOST = 1 << 24, 65535 * 65535
 HEADING = re.compile(rb"P4\n(\d+) (\d+)\n")
 
@@ -177,7 +178,7 @@ class Tally:
     def line(self, first, following):
         seconds = time.monotonic() - self.began
         count = following - first
-        memory = self.answers[MEMORY.decode().strip()]
+        memory = self.answers[MEMORY]
         return (
             f"runs {first} to {following - 1}: {self.wrong} wrong, {self.stopped} stopped at large work, "
             f"{self.answers['drawn']} drawn, {memory} out of memory, "

@@ -21,7 +21,7 @@ import hayro_jbig2
 from testing.comparison.compare import coded, kept, settings
 from testing.comparison.made_up import altered, random_symbol
 from testing.comparison.model import salvage
-from testing.comparison.model.answers import Refused, TooMuch, Work
+from testing.comparison.model.answers import Fault, Refused, TooMuch, Work
 from testing.comparison.model.page import read_embedded, read_file
 from testing.comparison.small_documents import INTERMEDIATE, LOSSLESS, Author, random_bitmap, random_generic, random_refinement
 from testing.comparison.symbols import random_document
@@ -199,7 +199,7 @@ def random_cut(chance):
 
 def name_of(fault):
     """The name that the package has for a fault of the model."""
-    return fault.value[0].rstrip(")").split("(")[-1]
+    return fault.value.rstrip(")").split("(")[-1]
 
 
 def read_by_model(cut, index, reading, work):
@@ -214,7 +214,7 @@ def by_model(cut, index, reading):
     try:
         page = read_by_model(cut, index, reading, Work(400_000, 30_000_000))
     except Refused as refused:
-        return "NoSuchPage" if refused.fault.value[0].startswith("no ") else name_of(refused.fault)
+        return "NoSuchPage" if refused.fault is Fault.NO_SUCH_PAGE else name_of(refused.fault)
     known = [page.bitmap.width, page.bitmap.height, page.bitmap.packed()]
     for lacks in page.lacks, page.shared_lacks:
         known += [len(lacks), (lacks[0][0], name_of(lacks[0][1])) if lacks else None]

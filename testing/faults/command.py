@@ -8,8 +8,8 @@ of faults that were tried. The last line counts them. Status 0 means that all of
 
 - Memory: a row, and a page of the size of a scan, ask for at most the bytes that testing/faults/most-bytes.tsv states.
 - A refused request of a row: the row's own result, or `OutOfMemory` without a call. Then row 5's page is drawn in the same
-  context, and the row holds. A request before the row, while arguments are read and the context is made: `error: out of memory`.
-- A refused request of jbig2-decode: its usual output, or `error: out of memory`, status 1 and no output.
+  context, and the row holds. A request before the row, while arguments are read and the context is made: that error.
+- A refused request of jbig2-decode: its usual output, or that error, status 1 and no output.
 - A failed read: `error: cannot read file`, status 1. An interrupted read, and reads of one byte, change nothing.
 - A failed write: the output before it, and status 1. An interrupted write, and writes of one byte, change nothing.
 
@@ -22,12 +22,13 @@ import sys
 import tempfile
 import time
 
+from testing.error_texts import TEXTS
 from testing.faults.memory import table, write_pages, write_table
 from testing.faults.runs import Faults, built
 
 ROOT = os.path.dirname(os.path.dirname(os.path.dirname(os.path.realpath(__file__))))
 DATA = os.path.join(ROOT, "crates", "jbig2_decode", "data")
-OUT_OF_MEMORY = b"error: out of memory\n"
+OUT_OF_MEMORY = f"error: {TEXTS['OutOfMemory']}\n".encode()
 UNREADABLE = b"error: cannot read file\n"
 EXAMPLE = [["pages"], *([command, index] for command in ("calls", "pbm") for index in "0123")]
 

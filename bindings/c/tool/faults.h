@@ -47,7 +47,7 @@ void add_segments(struct faults *faults, const struct segment_list *list, size_t
 /* What was left out of a list of segments. */
 void add_left_out(struct faults *faults, const struct segment_list *list, const hayro_jbig2_left_out *left_out);
 
-/* "segment 7 (symbol dictionary): invalid Huffman code" */
+/* "segment 7 (symbol dictionary): ", and the text of the error. */
 void add_fault_text(struct text *text, const struct fault *fault);
 /* A line for each fault, after a place such as "scan.jb2: page 2: ". The last has the hint. */
 void add_fault_lines(struct text *text, const char *place, const struct faults *faults, const char *hint);

@@ -41,8 +41,8 @@ enum { SPACES = 0x20202020 };
 /* The bytes of a literal without its end. */
 #define BYTES(literal) (const uint8_t *)literal, sizeof literal - 1
 
-static const char ended[] = "the rest of the segments is left out: segment refers to an invalid segment";
-static const char passed[] = "a segment was passed over: invalid Huffman table selection";
+static const char ended[] = "the rest of the segments is left out: " TEXT_OF_SEGMENT_INVALID_REFERENCE;
+static const char passed[] = "a segment was passed over: " TEXT_OF_HUFFMAN_INVALID_SELECTION;
 
 /* Draws a page of a row, or has it refused where `row` is -1; the last message is the warning `why`, of this segment. */
 static void draws(bool is_file, const uint8_t *bytes, size_t length, int row, unsigned warnings, uint32_t segment,
@@ -72,19 +72,19 @@ static void draws_what_is_left(void) {
     draws(true, BYTES(FILE_HEADER "\3" PAGE BAD_SYMBOLS("\0") REGION), 0x80, 1, 1, passed);
     draws(true, BYTES(FILE_HEADER "\3" PAGE REGION JUNK), 0x80, 1, SPACES, ended);
     draws(true, BYTES(FILE_HEADER "\3" PAGE REGION PAGE_OF("\2", "\0\0\0\0")), 0x80, 1, NO_SEGMENT,
-          "a page is left out: page has zero width or height");
+          "a page is left out: " TEXT_OF_FORMAT_EMPTY_PAGE);
     draws(true, BYTES(FILE_HEADER "\3" PAGE REGION PAGE_OF("\2", "\0\0\0\0") PAGE_OF("\3", "\0\1\0\0")), 0x80, 1,
-          NO_SEGMENT, "2 pages are left out, the first as follows: page has zero width or height");
+          NO_SEGMENT, "2 pages are left out, the first as follows: " TEXT_OF_FORMAT_EMPTY_PAGE);
     draws(true,
           BYTES(FILE_HEADER "\3"
                             "\0\0\0\0\x30\0\2\0\0\0\1\0" PAGE REGION),
-          0x80, 1, NO_SEGMENT, "a page is left out: unexpected end of input");
+          0x80, 1, NO_SEGMENT, "a page is left out: " TEXT_OF_PARSE_UNEXPECTED_EOF);
 }
 
-static const char cut[] = "a segment is left out: unexpected end of input";
-static const char unknown[] = "a segment was passed over: unknown or reserved segment type";
-static const char unmarked[] = "the rest of the segments is left out: missing end marker for unknown-length region";
-static const char miscounted[] = "the rest of the segments is left out: invalid referred-to segment count";
+static const char cut[] = "a segment is left out: " TEXT_OF_PARSE_UNEXPECTED_EOF;
+static const char unknown[] = "a segment was passed over: " TEXT_OF_SEGMENT_UNKNOWN_TYPE;
+static const char unmarked[] = "the rest of the segments is left out: " TEXT_OF_SEGMENT_MISSING_END_MARKER;
+static const char miscounted[] = "the rest of the segments is left out: " TEXT_OF_SEGMENT_INVALID_REFERRED_COUNT;
 
 /* The number of a segment of another form is found after those of each form. */
 static void tells_which_segment_is_left_out(void) {
@@ -129,8 +129,8 @@ static void tells_of_each_cut(void) {
 
 /* A text region whose symbol is in globals that are not handed in; and one that refers to number 1 besides. */
 static void tells_of_symbols_that_are_not_there(void) {
-    static const char failed[] = "a segment was passed over: invalid Huffman code";
-    static const char lacking[] = "a segment was passed over: segment refers to an invalid segment";
+    static const char failed[] = "a segment was passed over: " TEXT_OF_HUFFMAN_INVALID_CODE;
+    static const char lacking[] = "a segment was passed over: " TEXT_OF_SEGMENT_INVALID_REFERENCE;
     draws(false, BYTES(PAGE TEXT("\x20\1")), 0x00, 1, 3, failed);
     draws(false, BYTES(PAGE GOOD_SYMBOLS TEXT("\x20\2")), 0x80, 0, 0, "");
     draws(false, BYTES(PAGE GOOD_SYMBOLS TEXT("\x40\1\2")), 0x80, 1, 3, lacking);
@@ -138,12 +138,12 @@ static void tells_of_symbols_that_are_not_there(void) {
 
 /* Rows of MMR data after a fault are white, and an extension that must be understood is skipped. */
 static void tells_of_what_is_forgiven(void) {
-    static const char rows[] = "a segment was passed over: invalid MMR-encoded data";
+    static const char rows[] = "a segment was passed over: " TEXT_OF_REGION_INVALID_MMR_DATA;
     draws(false, BYTES(PAGE MMR_FAULT REGION), 0x80, 1, 1, rows);
     draws(true, BYTES(FILE_HEADER "\3" PAGE MMR_FAULT REGION END_OF_PAGE), 0x80, 1, 1, rows);
-    draws(false, BYTES(PAGE REGION EXTENSION), 0x80, 1, 3, "a segment was passed over: unsupported feature");
+    draws(false, BYTES(PAGE REGION EXTENSION), 0x80, 1, 3, "a segment was passed over: " TEXT_OF_UNSUPPORTED);
     draws(false, BYTES(PAGE MMR_FAULT REGION EXTENSION), 0x80, 1, 1,
-          "2 segments were passed over, this one first: invalid MMR-encoded data");
+          "2 segments were passed over, this one first: " TEXT_OF_REGION_INVALID_MMR_DATA);
     setenv("HAYRO_JBIG2_READING", "lenient", 1);
     draws(false, BYTES(PAGE MMR_FAULT REGION), 0x80, 1, 1, rows);
     unsetenv("HAYRO_JBIG2_READING");
@@ -166,7 +166,7 @@ static void tells_which_page_is_cut_off(void) {
     CHECK(image != NULL && image->rows[0] == 0x00);
     /* Of the page. */
     CHECK(heard.count[SEVERITY_WARNING] == 2 && heard.segment == 4);
-    CHECK(strcmp(heard.text, "a segment was passed over: unexpected end of input") == 0);
+    CHECK(strcmp(heard.text, "a segment was passed over: " TEXT_OF_PARSE_UNEXPECTED_EOF) == 0);
     jbig2_release_page(context, image);
     CHECK(jbig2_page_out(context) == NULL && heard.count[SEVERITY_FATAL] == 0);
     jbig2_ctx_free(context);
@@ -176,12 +176,11 @@ static void tells_which_page_is_cut_off(void) {
 /* The same by lenient reading, which the environment asks for; another word asks for nothing. */
 static void reads_leniently_where_it_is_asked_to(void) {
     setenv("HAYRO_JBIG2_READING", "lenient", 1);
-    draws(false, BYTES(PAGE REGION JUNK), -1, 0, NO_SEGMENT,
-          "the page is refused: segment refers to an invalid segment");
+    draws(false, BYTES(PAGE REGION JUNK), -1, 0, NO_SEGMENT, "the page is refused: " TEXT_OF_SEGMENT_INVALID_REFERENCE);
     draws(false, BYTES(PAGE BAD_SYMBOLS("\1") REGION), -1, 0, NO_SEGMENT,
-          "the page is refused: invalid Huffman table selection");
+          "the page is refused: " TEXT_OF_HUFFMAN_INVALID_SELECTION);
     draws(true, BYTES(FILE_HEADER "\3" PAGE REGION JUNK), -1, 0, NO_SEGMENT,
-          "the page is refused: segment refers to an invalid segment");
+          "the page is refused: " TEXT_OF_SEGMENT_INVALID_REFERENCE);
     setenv("HAYRO_JBIG2_READING", "any", 1);
     draws(false, BYTES(PAGE REGION JUNK), 0x80, 1, SPACES, ended);
     unsetenv("HAYRO_JBIG2_READING");
@@ -231,7 +230,7 @@ static void tells_of_bad_globals(void) {
     draws_with_bad_globals(BYTES(BAD_SYMBOLS("\0")), passed, false);
     setenv("HAYRO_JBIG2_READING", "lenient", 1);
     draws_with_bad_globals(BYTES("\0\0\0\2\0\x20\2"),
-                           "the page's globals are refused: segment refers to an invalid segment", true);
+                           "the page's globals are refused: " TEXT_OF_SEGMENT_INVALID_REFERENCE, true);
     unsetenv("HAYRO_JBIG2_READING");
 }
 

@@ -25,6 +25,7 @@ from conformance.runner.manifest import Sample
 from conformance.runner.pdf import Image
 from conformance.runner.pictures import NoPicture, Picture, pictures_of
 from conformance.runner.samples import image_of_sample, rich_sample, samples_of
+from testing.error_texts import TEXTS
 from bindings.dropin.tests.peers import LENIENT, LIMITS, OURS, PEERS, SYSTEM, UNLIMITED, Library, Peer, pictures_by
 
 SOME_PEERS = [peer for peer in PEERS if peer.name in ("mutool draw", "gs")]
@@ -154,7 +155,7 @@ def faults_of_limit(sample: Sample, limit: int) -> list[str]:
         ended, pictures = page_by_program(image, pathlib.Path(name), ["-M", str(limit)])
     if ended.status == 0 and [picture.digest for picture in pictures] == [sample.entry.picture]:
         return []
-    if ended.status == 1 and not pictures and "out of memory" in ended.errors.decode(errors="replace"):
+    if ended.status == 1 and not pictures and TEXTS["OutOfMemory"] in ended.errors.decode(errors="replace"):
         return []
     return [f"limit of {limit} bytes: status {ended.status}, {len(pictures)} pages, {ended.message!r}"]
 
@@ -194,7 +195,7 @@ def faults_of_file(name: str, data: bytes) -> list[str]:
         return [f"{name}: crashed, {ended.message!r}"]
     if pictures != meant:
         return [f"{name}: {len(pictures)} pages, of which jbig2-decode draws {len(meant)}, or others"]
-    has_cut = b"a segment is left out: unexpected end of input" in salvaged.errors
+    has_cut = f"a segment is left out: {TEXTS['Parse(UnexpectedEof)']}".encode() in salvaged.errors
     if salvaged.has_crashed or not (is_limited or salvaged.is_late or is_part(meant, more, has_cut)):
         return [f"{name}: {len(more)} pages in salvage, which lack some of {len(meant)}, {salvaged.message!r}"]
     return [] if pictures or ended.errors else [f"{name}: no message"]

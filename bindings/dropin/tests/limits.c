@@ -54,7 +54,7 @@ static void tells_limits_from_memory(void) {
     CHECK(jbig2_data_in(context, book.at, book.length) == 0);
     memory.largest = 64;
     CHECK(jbig2_complete_page(context) == -1);
-    CHECK(strstr(heard.text, "out of memory") != NULL);
+    CHECK(strstr(heard.text, TEXT_OF_OUT_OF_MEMORY) != NULL);
     jbig2_ctx_free(context);
     CHECK(memory.held == 0);
 }

@@ -158,10 +158,10 @@ static void refuses(bool is_file, const void *bytes, size_t length, const char *
 }
 
 static void tells_what_it_refuses(void) {
-    refuses(false, "", 0, "missing page information segment");
-    refuses(false, stream.at, 10, "missing page information segment");
-    refuses(true, "", 0, "unexpected end of input");
-    refuses(true, "no file at all", 14, "invalid JBIG2 file header");
+    refuses(false, "", 0, TEXT_OF_FORMAT_MISSING_PAGE_INFO);
+    refuses(false, stream.at, 10, TEXT_OF_FORMAT_MISSING_PAGE_INFO);
+    refuses(true, "", 0, TEXT_OF_PARSE_UNEXPECTED_EOF);
+    refuses(true, "no file at all", 14, TEXT_OF_FORMAT_INVALID_HEADER);
     refuses(true, book.at, 13, "no such page");
 }
 
@@ -209,8 +209,8 @@ static void warns(bool is_file, const struct file *bytes, size_t cut_off, const 
 /* A segment that is cut off, in its data and in its header, and one of type 63. Ends of lines are no segment, nor is what
  * follows a file. */
 static void tells_what_is_left_out(void) {
-    static const char cut[] = "a segment is left out: unexpected end of input";
-    static const char page_cut[] = "a segment was passed over: unexpected end of input";
+    static const char cut[] = "a segment is left out: " TEXT_OF_PARSE_UNEXPECTED_EOF;
+    static const char page_cut[] = "a segment was passed over: " TEXT_OF_PARSE_UNEXPECTED_EOF;
     warns(false, &stream, 0, "", 0, "");
     warns(false, &stream, 0, "\n", 0, "");
     warns(false, &stream, 0, "\r\n", 0, "");
@@ -242,7 +242,7 @@ static void tells_what_is_left_out_before_the_rest(void) {
     take_in(context, more, sizeof more - 1, 4096);
     CHECK(jbig2_complete_page(context) == 0);
     CHECK(heard.count[SEVERITY_WARNING] == 2 * before + 1);
-    CHECK(heard.segment == 0x7C && strstr(heard.text, "invalid referred-to segment count") != NULL);
+    CHECK(heard.segment == 0x7C && strstr(heard.text, TEXT_OF_SEGMENT_INVALID_REFERRED_COUNT) != NULL);
     jbig2_ctx_free(context);
     jbig2_global_ctx_free(globals);
     CHECK(memory.held == 0);

@@ -3,6 +3,8 @@
 #define SUPPORT_H
 
 #include "abi.h"
+/* The texts of the decoder's errors, which bindings/dropin/test has testing/error_texts.py print. */
+#include "error_texts.h"
 
 #include <stdbool.h>
 

@@ -110,7 +110,7 @@ static void refuses_a_stream_with_a_hole(bool is_in_globals) {
     memory.largest = 1;
     uint8_t piece[8192] = {0};
     CHECK(jbig2_data_in(context, piece, sizeof piece) == -1);
-    CHECK(heard.count[SEVERITY_FATAL] == 1 && strstr(heard.text, "out of memory") != NULL);
+    CHECK(heard.count[SEVERITY_FATAL] == 1 && strstr(heard.text, TEXT_OF_OUT_OF_MEMORY) != NULL);
     memory.largest = 0;
     CHECK(jbig2_data_in(context, holed->at + half, holed->length - half) == 0);
     struct globals *globals = NULL;
@@ -121,7 +121,7 @@ static void refuses_a_stream_with_a_hole(bool is_in_globals) {
     }
     CHECK(jbig2_complete_page(context) == -1 && jbig2_complete_page(context) == -1);
     CHECK(jbig2_page_out(context) == NULL);
-    CHECK(heard.count[SEVERITY_FATAL] == 2 && strstr(heard.text, "out of memory") != NULL);
+    CHECK(heard.count[SEVERITY_FATAL] == 2 && strstr(heard.text, TEXT_OF_OUT_OF_MEMORY) != NULL);
     jbig2_ctx_free(context);
     jbig2_global_ctx_free(globals);
     CHECK(memory.held == 0);
@@ -226,7 +226,7 @@ static void refuses_pages_with_the_globals_of_no_context(void) {
     CHECK(jbig2_global_ctx_free(globals) == NULL);
     CHECK(jbig2_data_in(context, stream.at, stream.length) == 0);
     CHECK(jbig2_complete_page(context) == -1 && jbig2_page_out(context) == NULL);
-    CHECK(strstr(heard.text, "out of memory") != NULL);
+    CHECK(strstr(heard.text, TEXT_OF_OUT_OF_MEMORY) != NULL);
     jbig2_ctx_free(context);
     jbig2_ctx_free(other);
     CHECK(memory.held == 0);

@@ -19,9 +19,12 @@ from hayro_jbig2 import __main__ as command
 from hayro_jbig2 import _library
 from pages import EXAMPLE, GLOBALS, HEADER, PAGE, TEXT
 from test_limits import WIDE
+from testing.error_texts import TEXTS
 
 BOOK = EXAMPLE.read_bytes()
 PNG = b"\x89PNG\r\n\x1a\n"
+END, EMPTY_PAGE = TEXTS["Parse(UnexpectedEof)"], TEXTS["Format(EmptyPage)"]
+INVALID_REFERENCE, INVALID_SELECTION = TEXTS["Segment(InvalidReference)"], TEXTS["Huffman(InvalidSelection)"]
 
 
 def rows_of_png(data):
@@ -100,7 +103,7 @@ class Command(unittest.TestCase):
         page = PAGE.read_bytes()
         self.assertEqual(self.run_command("-", "page-{}.pbm", data=page), (0, "", ""))
         self.assertEqual((self.folder / "page-0.pbm").read_bytes(), hayro_jbig2.decode(page).to_pbm())
-        said = (1, "", "-: missing page information segment\n")
+        said = (1, "", f"-: {TEXTS['Format(MissingPageInfo)']}\n")
         for name in "page-{}.pbm", "page.pbm":
             self.assertEqual(self.run_command("-", name), said)
         self.assertIn("pikepdf", self.run_command("pdf", "page-{}.pbm")[2])
@@ -111,10 +114,10 @@ class Command(unittest.TestCase):
         self.assertEqual((width, height, rows), (37, 8, bytes(page.rows)))
 
     def test_what_a_page_lacks_is_said(self):
-        said = "text: page 0 is incomplete: segment 2: invalid Huffman code\n"
+        said = f"text: page 0 is incomplete: segment 2: {TEXTS['Huffman(InvalidCode)']}\n"
         self.assertEqual(self.run_command("text", "text.pbm"), (0, "", said))
         # The region is cut off, and refers to what isn't there: that counts once, also where salvage draws a part.
-        why = "segment 2: unexpected end of input\n"
+        why = f"segment 2: {END}\n"
         said = (0, "", f"-: page 0 is incomplete: {why}-: the segments end early: {why}")
         for data in TEXT[:-1], HEADER + TEXT[:-1]:
             for words in (), ("--salvage",):
@@ -123,7 +126,7 @@ class Command(unittest.TestCase):
         self.assertEqual(self.run_command("-", "text.pbm", "--globals", "globals", data=TEXT + b"\r\n"), (0, "", ""))
         status, _, message = self.run_command("-", "text.pbm", "--salvage", data=TEXT + b" " * 16)
         self.assertEqual(status, 0)
-        why = f"segment {0x20202020}: segment refers to an invalid segment\n"
+        why = f"segment {0x20202020}: {INVALID_REFERENCE}\n"
         self.assertIn(f"-: the segments end early: {why}", message)
         self.assertEqual(self.run_command("text", "other.pbm", "--strict")[0], 1)
         self.assertFalse((self.folder / "other.pbm").exists())
@@ -140,7 +143,7 @@ class Command(unittest.TestCase):
                 "0000001E 30 00 03 00000013 00000008 00000001 0400000000000000000000 00000020 31 00 03 00000000",
             )
         )
-        message = "-: page 1: invalid Huffman table selection\n"
+        message = f"-: page 1: {INVALID_SELECTION}\n"
         self.assertEqual(self.run_command("-", "page-{}.pbm", data=pages), (1, "", message))
         written = {path.name: path.read_bytes()[-1:] for path in self.folder.glob("page-*")}
         self.assertEqual(written, {"page-0.pbm": b"\0", "page-2.pbm": b"\0"})
@@ -152,19 +155,20 @@ class Command(unittest.TestCase):
             "974A42320D0A1A0A 03 00000001 30 00 01 00000013 00000008 00000001 0000000000000000000000"
             "00000002 00 00 01 0000000F 0009 00000001 00000001 5F80800040 00000003 31 00 01 00000000 000000"
         )
-        why, end = "invalid Huffman table selection\n", "-: the segments end early: unexpected end of input\n"
-        self.assertEqual(self.run_command("-", "page-{}.pbm", data=data), (1, "", f"-: page 0: {why}{end}"))
-        self.assertEqual(self.run_command("-", "page.pbm", data=data), (1, "", f"-: {why}{end}"))
+        end = f"-: the segments end early: {END}\n"
+        said = f"-: page 0: {INVALID_SELECTION}\n{end}"
+        self.assertEqual(self.run_command("-", "page-{}.pbm", data=data), (1, "", said))
+        self.assertEqual(self.run_command("-", "page.pbm", data=data), (1, "", f"-: {INVALID_SELECTION}\n{end}"))
 
     def test_a_file_that_ends_early_is_told_where_no_page_begins(self):
         """Its page information is cut off, or its only page has no width."""
         empty = bytes.fromhex("00000000 30 00 01 00000013 00000000 00000001" + "00" * 11)
-        end = "-: the segments end early: segment 0: unexpected end of input\n"
+        end = f"-: the segments end early: segment 0: {END}\n"
         for data, words, said in (
-            (HEADER + TEXT[:20], ("--strict",), "-: unexpected end of input\n"),
+            (HEADER + TEXT[:20], ("--strict",), f"-: {END}\n"),
             (HEADER + TEXT[:20], (), f"-: no such page\n{end}"),
             (HEADER + TEXT[:20], ("--salvage",), f"-: no such page\n{end}"),
-            (HEADER + empty + TEXT[:20], ("--salvage",), f"-: page has zero width or height\n{end}"),
+            (HEADER + empty + TEXT[:20], ("--salvage",), f"-: {EMPTY_PAGE}\n{end}"),
         ):
             for name in "page-{}.pbm", "page.pbm":
                 self.assertEqual(self.run_command("-", name, *words, data=data), (1, "", said))
@@ -176,8 +180,8 @@ class Command(unittest.TestCase):
         for data, words, said in (
             (empty, (), "no such page"),
             (empty, ("--salvage",), "no such page"),
-            (empty + page, (), "page has zero width or height"),
-            (empty + page, ("--salvage",), "page has zero width or height"),
+            (empty + page, (), EMPTY_PAGE),
+            (empty + page, ("--salvage",), EMPTY_PAGE),
         ):
             for name in "page-{}.pbm", "page.pbm":
                 self.assertEqual(self.run_command("-", name, *words, data=data), (1, "", f"-: {said}\n"))
@@ -185,7 +189,7 @@ class Command(unittest.TestCase):
     def test_a_page_that_is_left_out_is_none_that_is_written(self):
         page = "0000000%d 30 00 0%d 00000013 0000000%d 00000001" + "00" * 11
         data = bytes.fromhex("974A42320D0A1A0A 03" + page % (1, 1, 0) + page % (2, 2, 8))
-        said = "-: pages of the file are left out, 1 of them: page has zero width or height\n"
+        said = f"-: pages of the file are left out, 1 of them: {EMPTY_PAGE}\n"
         self.assertEqual(self.run_command("-", "page-{}.pbm", "--salvage", data=data), (1, "", said))
         self.assertEqual((self.folder / "page-0.pbm").read_bytes(), b"P4\n8 1\n\0")
         self.assertEqual(self.run_command("-", "page.pbm", "--salvage", data=data), (0, "", said))
@@ -224,15 +228,15 @@ class Command(unittest.TestCase):
 
     def test_a_fault_of_the_globals_names_them(self):
         (self.folder / "globals").write_bytes(GLOBALS + b" " * 16)
-        said = (1, "", "globals: segment refers to an invalid segment\n")
+        said = (1, "", f"globals: {INVALID_REFERENCE}\n")
         self.assertEqual(self.run_command("text", "text.pbm", "--globals", "globals"), said)
 
     def test_globals_and_pages_that_end_early_are_named(self):
         (self.folder / "globals").write_bytes(GLOBALS + b"\0\0\0")
-        end = "the segments end early: unexpected end of input\n"
+        end = f"the segments end early: {END}\n"
         words = "-", "text.pbm", "--globals", "globals"
         self.assertEqual(self.run_command(*words, data=TEXT), (0, "", f"globals: {end}"))
-        said = f"globals: {end}-: page 0 is incomplete: unexpected end of input\n-: {end}"
+        said = f"globals: {end}-: page 0 is incomplete: {END}\n-: {end}"
         self.assertEqual(self.run_command(*words, data=TEXT + b"\0\0\0"), (0, "", said))
 
     def test_faults(self):

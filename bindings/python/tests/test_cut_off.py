@@ -136,7 +136,7 @@ DROPPED = {
 def first_of(lacks):
     """The number and the name of the first fault that the model has."""
     number, fault = lacks[0]
-    return number, fault.value[0].rstrip(")").split("(")[-1]
+    return number, fault.value.rstrip(")").split("(")[-1]
 
 
 class CutOff(unittest.TestCase):

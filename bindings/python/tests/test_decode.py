@@ -14,6 +14,7 @@ import unittest
 import hayro_jbig2
 from hayro_jbig2 import errors
 from pages import EXAMPLE, GLOBALS, PAGE, PROGRAM, ROOT, TEXT, generic_page, run_program
+from testing.error_texts import TEXTS
 
 BOOK = EXAMPLE.read_bytes()
 
@@ -165,7 +166,7 @@ class Errors(unittest.TestCase):
         with self.assertRaises(hayro_jbig2.ParseError) as caught:
             hayro_jbig2.decode(BOOK[:9], page=0)
         self.assertEqual(caught.exception.variant, "UnexpectedEof")
-        self.assertEqual(str(caught.exception), "unexpected end of input")
+        self.assertEqual(str(caught.exception), TEXTS["Parse(UnexpectedEof)"])
         with self.assertRaises(hayro_jbig2.SegmentError) as caught:
             hayro_jbig2.decode(TEXT, globals=bytes.fromhex("00000002 00 20 02"))
         self.assertEqual(caught.exception.variant, "InvalidReference")

@@ -9,6 +9,7 @@ import warnings
 
 import hayro_jbig2
 from pages import EXAMPLE, GLOBALS, HEADER, PAGE, TEXT
+from testing.error_texts import TEXTS
 
 BOOK = EXAMPLE.read_bytes()
 # Regions of one black pixel, numbers 2 to 5.
@@ -77,7 +78,7 @@ class Incomplete(unittest.TestCase):
             page = self.decoded(TEXT + b"\0\0\0", globals=GLOBALS, **how)
             self.assertEqual((page.rows, page.passed_over.count), (b"\x80", 1))
             self.assertIsNone(page.passed_over.first.segment_number)
-            self.assertEqual(page.lacks, ["unexpected end of input"])
+            self.assertEqual(page.lacks, [TEXTS["Parse(UnexpectedEof)"]])
             for end in b"\n", b"\r\n":
                 page = hayro_jbig2.decode(TEXT + end, globals=GLOBALS + end, **how)
                 self.assertEqual((page.rows, page.left_out.cut_off), (b"\x80", None))
@@ -120,7 +121,7 @@ class Incomplete(unittest.TestCase):
             self.assertEqual(shared.left_out.passed_over.first.error.variant, "InvalidReference")
             page = hayro_jbig2.decode(TEXT, globals=shared, **how, warn=False)
             self.assertEqual((page.passed_over.count, page.is_complete), (0, False))
-            self.assertEqual(page.lacks, ["what pages share: segment 1: segment refers to an invalid segment"])
+            self.assertEqual(page.lacks, [f"what pages share: segment 1: {TEXTS['Segment(InvalidReference)']}"])
 
     def test_what_is_forgiven_counts(self):
         end = bytes.fromhex("00000009 31 00 01 00000000")
@@ -148,7 +149,7 @@ class Incomplete(unittest.TestCase):
         for how in READINGS.values():
             page = hayro_jbig2.decode(TEXT, globals=GLOBALS + more, **how, warn=False)
             self.assertEqual((page.rows, page.passed_over.count, page.is_complete), (b"\x80", 0, False))
-            self.assertEqual(page.lacks, ["what pages share: segment 3: unsupported feature"])
+            self.assertEqual(page.lacks, [f"what pages share: segment 3: {TEXTS['Unsupported']}"])
 
     def test_two_faults_of_one_kind_are_two(self):
         """A dictionary that lacks something, and a list that ends with the same error, in salvage."""
@@ -162,7 +163,7 @@ class Incomplete(unittest.TestCase):
             hayro_jbig2.decode(HEADER[:8] + b"\3" + segments, salvage=True, warn=False),
         ):
             self.assertEqual((page.passed_over.count, page.rows, page.is_complete), (0, b"\x80", False))
-            self.assertEqual(page.lacks, ["what pages share: segment 1: segment refers to an invalid segment"])
+            self.assertEqual(page.lacks, [f"what pages share: segment 1: {TEXTS['Segment(InvalidReference)']}"])
             cut_off = page.left_out.cut_off
             self.assertEqual((cut_off.segment_number, cut_off.error.variant), (0x20202020, "InvalidReference"))
 

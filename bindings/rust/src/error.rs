@@ -171,68 +171,8 @@ macro_rules! texts {
     };
 }
 
-texts!(ParseError {
-    UnexpectedEof => "unexpected end of input",
-});
-
-texts!(FormatError {
-    InvalidHeader => "invalid JBIG2 file header",
-    ReservedBits => "reserved bits must be zero",
-    MissingPageInfo => "missing page information segment",
-    UnknownPageHeight => "page height unknown with no stripe segments",
-    EmptyPage => "page has zero width or height",
-    PageCountMismatch => "page count in file header doesn't match",
-    InvalidEndOfPage => "page without exactly one end of page segment",
-});
-
-texts!(SegmentError {
-    UnknownType => "unknown or reserved segment type",
-    InvalidReferredCount => "invalid referred-to segment count",
-    InvalidReference => "segment refers to an invalid segment",
-    InvalidUnknownLength => "unknown segment length for this type",
-    MissingEndMarker => "missing end marker for unknown-length region",
-    MissingPatternDictionary => "missing required pattern dictionary",
-    MissingPageAssociation => "segment not associated with a page",
-});
-
-texts!(HuffmanError {
-    InvalidCode => "invalid Huffman code",
-    InvalidSelection => "invalid Huffman table selection",
-    MissingTables => "not enough referred Huffman tables",
-    UnexpectedOob => "unexpected out-of-band value",
-    ConflictingCodes => "conflicting Huffman codes",
-});
-
-texts!(RegionError {
-    InvalidCombinationOperator => "invalid combination operator",
-    InvalidDimension => "invalid dimension value",
-    InvalidMmrData => "invalid MMR-encoded data",
-    GrayScaleOutOfRange => "gray-scale value exceeds pattern count",
-});
-
-texts!(TemplateError {
-    Invalid => "invalid template value",
-    InvalidAtPixel => "invalid adaptive template pixel location",
-});
-
-texts!(SymbolError {
-    NoSymbols => "no symbols available",
-    TooManySymbols => "symbol dictionary contains too many symbols",
-    OutOfRange => "symbol ID out of range",
-    UnexpectedOob => "unexpected out-of-band value",
-    Invalid => "invalid symbol encountered",
-    InvalidStripDelta => "strip delta overflow",
-    TooManyInstances => "too many symbol instances",
-});
-
-texts!(OverflowError {
-    BitmapDimension => "overflow in bitmap dimension computation",
-    GridDimension => "overflow in grid dimension computation",
-    PlacementCoordinate => "overflow in placement coordinate computation",
-    ReferenceOffset => "overflow in reference offset computation",
-    Index => "overflow in index computation",
-    SymbolCount => "too many symbols",
-});
+// Below the macro, since it calls that.
+mod texts;
 
 /// What `DecodeError` has of each inner enum: its text and the conversion.
 macro_rules! inner_errors {
@@ -241,9 +181,9 @@ macro_rules! inner_errors {
             fn fmt(&self, f: &mut fmt::Formatter<'_>) -> fmt::Result {
                 match self {
                     $(Self::$variant(inner) => fmt::Display::fmt(inner, f),)*
-                    Self::Unsupported => f.write_str("unsupported feature"),
-                    Self::OutOfMemory => f.write_str("out of memory"),
-                    Self::WorkLimit => f.write_str("the limit of work is reached"),
+                    Self::Unsupported => f.write_str(texts::UNSUPPORTED),
+                    Self::OutOfMemory => f.write_str(texts::OUT_OF_MEMORY),
+                    Self::WorkLimit => f.write_str(texts::WORK_LIMIT),
                 }
             }
         }

@@ -12,6 +12,7 @@ import argparse
 import hashlib
 import json
 import pathlib
+import re
 import subprocess
 import sys
 import tempfile
@@ -60,10 +61,8 @@ DAMAGED = (
     + bytes.fromhex("00000002 26 00 01 0000001A 00000001 00000001 000000000000000000 00 03FFFDFF02FEFEFE")
     + b" " * 16
 )
-LACKS = (
-    "HUFFMAN_INVALID_SELECTION: invalid Huffman table selection",
-    "SEGMENT_INVALID_REFERENCE: segment refers to an invalid segment",
-)
+TEXTS = dict(re.findall(r'\["(\w+)", "([^"]*)"\]', (WEB / "errors.js").read_text("utf-8")))
+LACKS = [f"{error}: {TEXTS[error]}" for error in ("HUFFMAN_INVALID_SELECTION", "SEGMENT_INVALID_REFERENCE")]
 
 
 def shows_what_is_left(browser, folder):

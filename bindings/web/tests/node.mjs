@@ -6,6 +6,7 @@
 import { createHash } from "node:crypto";
 import { existsSync, readFileSync } from "node:fs";
 import { join } from "node:path";
+import { ERRORS } from "../errors.js";
 import { Decoder, Jbig2Error, isFile } from "../hayro_jbig2.js";
 import { Pdf, isPdf } from "../pdf.js";
 import { module } from "./module.mjs";
@@ -13,6 +14,7 @@ import { module } from "./module.mjs";
 const folder = process.argv[2];
 const answers = JSON.parse(readFileSync(join(folder, "answers.json"), "utf8"));
 const decoder = await Decoder.load(module);
+const { FORMAT_MISSING_PAGE_INFO, OUT_OF_MEMORY } = Object.fromEntries(Object.values(ERRORS));
 // The program has no limit.
 const workLimit = Infinity;
 let passed = 0;
@@ -119,7 +121,7 @@ function checkDamaged() {
     check(salvaged(hex(digits), options) === meant, `${digits} in salvage: ${salvaged(hex(digits), options)}`);
     check(decoder.held === 0, `${digits} in salvage: memory is not given back`);
   }
-  check(outcome(() => decoder.decode(new Uint8Array(0), { salvage: true })) === "missing page information segment", "no page");
+  check(outcome(() => decoder.decode(new Uint8Array(0), { salvage: true })) === FORMAT_MISSING_PAGE_INFO, "no page");
 }
 
 /** What lenient reading reads, salvage reads in the same way, unless its segments end early: see `cut_off.mjs`. */
@@ -133,7 +135,7 @@ function checkSame(name, bytes, pages) {
   }
 }
 
-/** Each amount of memory gives the page or "out of memory", and neither keeps any. */
+/** Each amount of memory gives the page or that error, and neither keeps any. */
 async function checkMemory(name) {
   const bytes = readFileSync(join(folder, name));
   const seen = new Set();
@@ -141,12 +143,12 @@ async function checkMemory(name) {
     const other = await Decoder.load(module, most);
     for (let page = 0; page < 3; page++) {
       const made = outcome(() => other.decode(bytes, { page }));
-      check(made === "out of memory" || isSame(made, answers.files[name].lenient[page]), `${name} with ${most} bytes`);
+      check(made === OUT_OF_MEMORY || isSame(made, answers.files[name].lenient[page]), `${name} with ${most} bytes`);
       check(other.held === 0, `${name} with ${most} bytes: memory is not given back`);
       seen.add(typeof made === "string" ? made : "a picture");
     }
   }
-  check(isSame([...seen], ["out of memory", "a picture"]), `${name}: want of memory, then pictures: ${[...seen]}`);
+  check(isSame([...seen], [OUT_OF_MEMORY, "a picture"]), `${name}: want of memory, then pictures: ${[...seen]}`);
 }
 
 for (const [name, { lenient, strict }] of Object.entries(answers.files)) {

@@ -5,10 +5,12 @@
  * usage: node bindings/web/tests/worker.mjs
  */
 import { readFileSync } from "node:fs";
+import { ERRORS } from "../errors.js";
 import { counts, fileOf, trap } from "./watched.mjs";
 import { module } from "./module.mjs";
 
 const PAGES = 300;
+const TEXTS = Object.fromEntries(Object.values(ERRORS));
 const example = readFileSync(new URL("../../../crates/jbig2_decode/data/t88-h1.jb2", import.meta.url));
 let messages = [];
 let done = () => {};
@@ -70,17 +72,19 @@ async function checkWords() {
   check(pagesOf(said).length === 3, `a file with the words of a PDF file: ${errorsOf(said)}`);
 }
 
+/** An error as the page tells it. */
+const told = (error) => `${error}: ${TEXTS[error]}`;
+
 /** Pages that can't begin are told, also where the file has no other ones; and segments that no page lacks. */
 async function checkLeftOut() {
   const page = (number, width) => `0000000${number}30000${number}00000013${width}00000001${"00".repeat(11)}`;
-  const left = "file left out of this file: 1 page (FORMAT_EMPTY_PAGE: page has zero width or height)";
+  const left = `file left out of this file: 1 page (${told("FORMAT_EMPTY_PAGE")})`;
   // A region without an operator, and bytes that are no segment.
   const region = `000000102600010000001A0000000100000001${"00".repeat(8)}050003FFFDFF02FEFEFE`;
   const [end, junk] = ["00000011310001" + "00".repeat(4), "20".repeat(16)];
-  const rest =
-    "file left out of this file: what comes from a segment on (segment 538976288, SEGMENT_INVALID_REFERENCE: segment refers to an invalid segment)";
+  const rest = `file left out of this file: what comes from a segment on (segment 538976288, ${told("SEGMENT_INVALID_REFERENCE")})`;
   const dictionary = "000000020000010000000F00090000000100000001" + "5F80800040";
-  const cut = "file left out of this file: what comes from a segment on (PARSE_UNEXPECTED_EOF: unexpected end of input)";
+  const cut = `file left out of this file: what comes from a segment on (${told("PARSE_UNEXPECTED_EOF")})`;
   const inInformation = cut.replace("(PARSE", "(segment 1, PARSE");
   const cases = [
     ["", "file no JBIG2 page in this file"],
@@ -96,7 +100,7 @@ async function checkLeftOut() {
     [page(1, "00000008").slice(0, -2), `${inInformation},file no JBIG2 page in this file`, false],
     [page(1, "00000000") + end + "000000", `${left},${cut}`],
     // A page that fails says nothing of it: a dictionary wants a table which isn't there, and the rest is cut off.
-    [page(1, "00000008") + dictionary + end + "000000", `1 HUFFMAN_INVALID_SELECTION: invalid Huffman table selection,${cut}`, false],
+    [page(1, "00000008") + dictionary + end + "000000", `1 ${told("HUFFMAN_INVALID_SELECTION")},${cut}`, false],
   ];
   for (const [pages, meant, salvage = true] of cases) {
     const said = await saidOf(Buffer.from(`974A42320D0A1A0A03${pages}`, "hex"), salvage);

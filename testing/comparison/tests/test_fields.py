@@ -10,6 +10,7 @@ import unittest.mock
 from testing.comparison.changes import Changes, values_for
 from testing.comparison.fields import Run, both_answers, compare_all, difference, made_runs, meant_by_model, options_of
 from testing.comparison.fields import written_runs
+from testing.comparison.model.answers import Fault
 from testing.comparison.model.page import page_of_file
 from testing.comparison.small_documents import small_document
 
@@ -68,9 +69,9 @@ class FieldsTest(unittest.TestCase):
         self.assertIn("strictly: drawn ", difference(Echo(turns_pixels=True), whole))
         place = next(place for place, field in enumerate(changes.seen) if field[0] == "number of pages")
         other = run_of(changes.written(place, 7))
-        self.assertEqual(other.meant[0], "page count in file header doesn't match")
+        self.assertEqual(other.meant[0], Fault.PAGE_COUNT_MISMATCH.text)
         self.assertIsNone(difference(Echo(), other))
-        self.assertIn("not page count in file header", difference(Echo(forgives=True), other))
+        self.assertIn(f"not {Fault.PAGE_COUNT_MISMATCH.text}", difference(Echo(forgives=True), other))
 
     def test_runs_are_written_and_compared_again(self):
         with tempfile.TemporaryDirectory() as folder, contextlib.redirect_stdout(io.StringIO()) as output:

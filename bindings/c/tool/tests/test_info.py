@@ -11,6 +11,7 @@ from conformance.runner.embedding import embedded_page, image_of
 from conformance.runner.manifest import PICTURE, read_manifest
 from conformance.runner.pdf import joined, pdf_of, stream_object
 from conformance.runner.segments import segments_of_file
+from testing.error_texts import TEXTS
 
 ENTRIES = read_manifest(SUITE / "manifest.tsv")
 
@@ -90,10 +91,10 @@ class Info(Case):
         [document] = self.listed(scan, status=INCOMPLETE)
         [fault] = document["pages"][1]["faults"]
         known = fault["segment"], fault["byte"], fault["error"], fault["text"]
-        self.assertEqual(known, (11, place, 26, "invalid adaptive template pixel location"))
+        self.assertEqual(known, (11, place, 26, TEXTS["Template(InvalidAtPixel)"]))
         table = self.run_here("info", scan).output.decode().splitlines()
         row = next(row for row, line in enumerate(table) if line.startswith("        11  immediate lossless generic"))
-        what = "segment 11 (immediate lossless generic region): invalid adaptive template pixel location"
+        what = f"segment 11 (immediate lossless generic region): {TEXTS['Template(InvalidAtPixel)']}"
         self.assertEqual(table[row + 1].strip(), f"^ FAULT at byte {place}: {what}")
 
     def test_a_fault_of_a_file_and_of_its_page_has_one_line_among_the_segments(self):
@@ -108,7 +109,7 @@ class Info(Case):
         self.assertEqual(len(document["segments"]), 11)
         [fault] = document["faults"]
         known = fault["segment"], fault["byte"], fault["text"]
-        self.assertEqual(known, (11, place, "invalid referred-to segment count"))
+        self.assertEqual(known, (11, place, TEXTS["Segment(InvalidReferredCount)"]))
         [document] = self.listed(scan, "--salvage", status=INCOMPLETE)
         self.assertEqual([page["state"] for page in document["pages"]], ["whole", "incomplete"])
 

@@ -29,11 +29,14 @@ from conformance.runner.embedding import file_of, embedded_page
 from conformance.runner.manifest import PICTURE, read_manifest, read_sample
 from conformance.runner.segments import header_at, with_data
 from test_output import slow_page
+from testing.error_texts import TEXTS
 
 ENTRIES = read_manifest(SUITE / "manifest.tsv")
 FILES = sorted({entry.name for entry in ENTRIES if not entry.is_embedded})
 REFUSED = [entry for entry in ENTRIES if entry.lenient not in (PICTURE, "-") and not entry.is_embedded]
 EMBEDDED = [entry for entry in ENTRIES if entry.is_embedded]
+# In patterns.
+END, INVALID_REFERENCE = (re.escape(TEXTS[error]) for error in ("Parse(UnexpectedEof)", "Segment(InvalidReference)"))
 
 
 def ends_of_segments(data):
@@ -145,7 +148,7 @@ class Faults(Case):
         """The segment that was passed over, with its name and error, and status 3; strict reading refuses the page."""
         scan = self.made(BOOK.replace(bytes.fromhex("000000360000002c000000040000000b00 08 03FF"),
                                       bytes.fromhex("000000360000002c000000040000000b00 08 0300")))
-        text = "segment 11 (immediate lossless generic region): invalid adaptive template pixel location"
+        text = f"segment 11 (immediate lossless generic region): {TEXTS['Template(InvalidAtPixel)']}"
         self.assert_ends(self.run_here(scan), INCOMPLETE, f"scan.jb2: page 2: incomplete: {text}")
         self.assertEqual(len(self.files()), 4)
         shown = picture_of_png((self.room / "scan-2.png").read_bytes())
@@ -236,11 +239,11 @@ class Incomplete(Case):
             while cut in ends:
                 cut += 1
             last, _ = header_at(stream, max(end for end in ends if end < cut))
-            fault = rf"segment {last.number} .*: unexpected end of input: cut off"
+            fault = rf"segment {last.number} .*: {END}: cut off"
             self.assert_lacks(stream[:cut], f"page 1: incomplete: {fault}")
 
     def test_a_cut_within_a_number(self):
-        text = r"page 1: incomplete: unexpected end of input: cut off in its header, of which 2 bytes are there"
+        text = rf"page 1: incomplete: {END}: cut off in its header, of which 2 bytes are there"
         shared = self.made(self.SHARED, "shared.jb2g")
         ended = self.assert_lacks(self.TEXT + b"\0\0", text, "-g", shared)
         self.assertEqual(pictures_of(ended.output)[0].rows, b"\x80")
@@ -248,7 +251,7 @@ class Incomplete(Case):
     def test_two_faults_of_one_kind(self):
         """A dictionary that pages share lacks something, and their list ends with the same error, in salvage."""
         lacking = bytes.fromhex("00000001 00 20 00 00") + self.SHARED[7:]
-        junk, text = b" " * 16, "segment refers to an invalid segment"
+        junk, text = b" " * 16, TEXTS["Segment(InvalidReference)"]
         faults = f"segment 1 (symbol dictionary): {text}", f"segment {0x20202020} (unknown type): {text}: what follows"
         shared = self.made(lacking + junk, "shared.jb2g")
         ended = run("-", "-f", "pbm", "--salvage", "-g", shared, input=self.TEXT)
@@ -265,7 +268,7 @@ class Incomplete(Case):
         self.assert_lacks(self.TEXT, r"page 1: incomplete: segment 2 \(immediate text region\): ")
         # One dictionary of two: the region is drawn.
         both = self.PAGE + bytes.fromhex("00000002 06 40 00 01") + self.DATA
-        text = r"page 1: incomplete: segment 2 \(immediate text region\): segment refers to an invalid segment$"
+        text = rf"page 1: incomplete: segment 2 \(immediate text region\): {INVALID_REFERENCE}$"
         ended = self.assert_lacks(both, text, "-g", self.made(self.SHARED, "shared.jb2g"))
         self.assertEqual(pictures_of(ended.output)[0].rows, b"\x80")
 
@@ -275,7 +278,7 @@ class Incomplete(Case):
         second = BOOK.index(bytes.fromhex("31 00 02 00000000")) - 4
         meant = decoded(EXAMPLE, 0)
         for cut in first + (second - first) // 2, second - 1:
-            fault = r"segment \d+ .*: unexpected end of input: cut off"
+            fault = rf"segment \d+ .*: {END}: cut off"
             ended = self.assert_lacks(BOOK[:cut], f"page 2: incomplete: {fault}")
             self.assertNotIn("page 1:", ended.errors)
             self.assertRegex(ended.errors, f"(?m)^standard input: {fault}")

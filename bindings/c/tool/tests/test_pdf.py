@@ -15,6 +15,7 @@ from conformance.runner.embedding import embedded_page, image_of
 from conformance.runner.manifest import read_manifest
 from conformance.runner.pdf import Image, joined, pdf_of, stream_object
 from conformance.runner.samples import image_of_sample, samples_of
+from testing.error_texts import TEXTS
 
 
 def needs(program):
@@ -180,10 +181,11 @@ class Pdf(Case):
         self.made(pdf_of([cut, first, cut_globals, bad_globals]), "scan.pdf")
         ended = self.run_here("scan.pdf", "-o", "out/")
         self.assertEqual(ended.status, NOT_DONE)
+        end = re.escape(TEXTS["Parse(UnexpectedEof)"])
         for text in (
-            r"page 1: incomplete: segment \d+ \(immediate lossless halftone region\): unexpected end of input: cut off,",
-            r"page 3: incomplete: globals: segment \d+ \(.*\): unexpected end of input: cut off",
-            r"page 4: globals: segment 0 \(symbol dictionary\): unexpected end of input",
+            rf"page 1: incomplete: segment \d+ \(immediate lossless halftone region\): {end}: cut off,",
+            rf"page 3: incomplete: globals: segment \d+ \(.*\): {end}: cut off",
+            rf"page 4: globals: segment 0 \(symbol dictionary\): {end}",
         ):
             self.assertRegex(ended.errors, f"scan.pdf: {text}")
         self.assertNotIn("page 2", ended.errors)

@@ -110,14 +110,27 @@ mod tests {
         assert_eq!(error_of(WORK_LIMIT), Some(WorkLimit));
     }
 
-    #[test]
-    fn the_texts_are_those_for_c() {
-        let texts = include_str!("../../../c/texts.c");
-        for error in ERRORS {
-            let line = format!("[{}] = \"{error}\",", name_in_c(&format!("{error:?}")));
-            assert!(texts.contains(&line), "{line}");
+    /// `format.InvalidHeader` for `Format(InvalidHeader)`.
+    fn name_in_definition(variants: &str) -> String {
+        match variants.trim_end_matches(')').split_once('(') {
+            Some((outer, inner)) => format!("{}.{inner}", outer.to_lowercase()),
+            None => format!("errors.{variants}"),
         }
-        let of_limit = format!("case {}:\n        return \"{WorkLimit}\";", name_in_c(&format!("{WorkLimit:?}")));
-        assert!(texts.contains(&of_limit), "{of_limit}");
+    }
+
+    #[test]
+    fn the_texts_are_those_of_the_definition() {
+        let definition = include_str!("../../../../crates/jbig2_base/specs/ErrorTexts.antt");
+        for error in ERRORS {
+            let line = format!(" {} = codes \"{error}\"", name_in_definition(&format!("{error:?}")));
+            assert!(definition.lines().any(|other| other.ends_with(&line)), "{line}");
+        }
+    }
+
+    #[test]
+    fn the_text_of_the_limit_is_that_for_c() {
+        let texts = include_str!("../../../c/texts.c");
+        let lines = format!("case {}:\n        return \"{WorkLimit}\";", name_in_c(&format!("{WorkLimit:?}")));
+        assert!(texts.contains(&lines), "{lines}");
     }
 }

@@ -3,7 +3,7 @@
 //! usage: with-image FILE, which is t88-h1.jb2
 
 use hayro_jbig2::integration::{Jbig2Decoder, register_decoding_hook};
-use hayro_jbig2::{DecodeSettings, File, Page};
+use hayro_jbig2::{DecodeSettings, File, Page, ParseError};
 use image::error::{DecodingError, ImageFormatHint};
 use image::{ColorType, ExtendedColorType, ImageDecoder, ImageError, hooks};
 use std::io::Cursor;
@@ -25,7 +25,7 @@ fn main() {
     let Err(ImageError::Decoding(DecodingError(ImageFormatHint::Name(name), error))) = cut_off else {
         panic!("{cut_off:?}");
     };
-    assert_eq!((name.as_str(), error.to_string().as_str()), ("JBIG2", "unexpected end of input"));
+    assert_eq!((name.as_str(), error.to_string()), ("JBIG2", ParseError::UnexpectedEof.to_string()));
 
     let mut image = vec![0; 64 * 56];
     assert_eq!(ImageDecoder::dimensions(&page), (64, 56));
