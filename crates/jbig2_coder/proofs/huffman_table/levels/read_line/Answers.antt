@@ -1,8 +1,10 @@
-use Rattle.std.proofs.Common.{◌≡◌, ℕ, ◌+◌, ◌-◌, ◌*◌, ◌/◌, ◌%◌, ◌^◌, ◌<◌, List, Some, drop, length, pos, false, refl, ap, ◌∙◌, arith}
+use Rattle.std.proofs.Common.{◌≡◌, ℕ, ◌+◌, ◌-◌, ◌*◌, ◌/◌, ◌%◌, ◌^◌, ◌<◌, List, Some, drop, length, pos, false, refl, ap, sym, ◌∙◌, arith}
 use Rattle.std.proofs.lemmas.Nat.{one_shl}
 use Rattle.jbig2_base.specs.Bits.{bits_left, bits_next, bits_on}
 use Rattle.jbig2_base.proofs.BitFieldLemmas.{bits-drop}
-use Rattle.jbig2_coder.proofs.PrefixReading.{ahead-found, ahead-next, ahead-refused, left-bits, peeked-bit}
+use Rattle.jbig2_coder.specs.declared.huffman_table.line.TableLine.{TableLine}
+use Rattle.jbig2_coder.specs.declared.huffman_table.levels.Level.{Level}
+use Rattle.jbig2_coder.proofs.PrefixReading.{IsAhead, ahead-found, ahead-next, ahead-refused, left-bits, peeked-bit}
 use Rattle.jbig2_coder.proofs.huffman_table.levels.read_line.Goals as goal
 
 pub loop-depth-init : goal.loop-depth-init

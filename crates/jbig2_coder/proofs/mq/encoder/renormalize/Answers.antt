@@ -1,4 +1,4 @@
-use Rattle.std.proofs.Common.{ℕ, ◌-◌, ◌≤◌, ◌∙◌, sym, ap, subst, arith}
+use Rattle.std.proofs.Common.{◌≡◌, ℕ, ◌-◌, ◌≤◌, ◌∙◌, sym, ap, subst, arith}
 use Rattle.std.specs.Int.Count.{count_leading_zeros}
 use Rattle.jbig2_coder.specs.inner.EncoderViews.{coding_of, writer_of}
 use Rattle.jbig2_coder.specs.declared.mq.encoder.Registers.{Registers}
